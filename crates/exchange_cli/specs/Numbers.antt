@@ -1,0 +1,20 @@
+-- Number texts.
+use Rattle.std.specs.Prelude.{ℕ, ◌+◌, ◌-◌, ◌*◌, List, [], ◌∷◌, Bool, false, not, ◌&&◌, ◌||◌, ◌==◌, nat_le, fold, Result, Ok, Err, if◌then◌else◌}
+use Rattle.std.specs.Char.{is_ascii_digit}
+use Rattle.std.specs.List.{list_all}
+use Rattle.exchange_core.specs.declared.refusal.Refusal.{Refusal}
+use Rattle.exchange_core.specs.declared.refusal.Refusal.TheVariants.{Syntax}
+use Rattle.exchange_cli.specs.Lines.{is_empty}
+
+-- `0`, or digits that do not begin with 0
+abbrev pub is_natural : List ℕ → Bool
+is_natural [] = false
+is_natural (d ∷ ds) = list_all is_ascii_digit (d ∷ ds) && (not (d == 48) || is_empty ds)
+
+abbrev pub natural_value : List ℕ → ℕ
+natural_value text = fold (λ n d. 10 * n + (d - 48)) 0 text
+
+-- the number of a text, where it is from low to high
+abbrev pub natural_in : ℕ → ℕ → List ℕ → Result ℕ Refusal
+natural_in low high text =
+    if is_natural text && (nat_le low (natural_value text) && nat_le (natural_value text) high) then Ok (natural_value text) else Err Syntax

@@ -1,0 +1,102 @@
+// The commands on the lines.
+ghost use Rattle.std.specs.Prelude.{◌≡◌, ◌≤◌, map, IfOk, OnOk};
+ghost use Rattle.exchange_core.specs.declared.limits.TheConstants.{MAX_ACCOUNT};
+ghost use Rattle.exchange_core.specs.Step.{IsWithin};
+ghost use Rattle.exchange_cli.specs.Commands.{command_of, command_of_fields, open_command, deposit_command, balance_command, is_not_built, account_in};
+
+use crate::lines::pieces;
+use crate::numbers::natural;
+use exchange_core::{Command, MAX_ACCOUNT, MAX_AMOUNT, Refusal};
+use std::alloc::{AllocError, Global};
+
+fn is_later_command(word: &[u8]) -> bool
+    ensures { result ≡ is_not_built word.now }
+{
+    word == b"withdraw".as_slice()
+        || word == b"cancel".as_slice()
+        || word == b"settle".as_slice()
+        || word == b"market".as_slice()
+        || word == b"buy".as_slice()
+        || word == b"sell".as_slice()
+        || word == b"clear".as_slice()
+}
+
+// The number of an account other than the house.
+fn account(field: &[u8]) -> Result<u32, Refusal>
+    ensures value { result ≡ account_in field.now }
+    ensures within { IfOk result (λ a. (1 ≤ a) × (a ≤ MAX_ACCOUNT)) }
+{
+    let number = natural(field, 1, u64::from(MAX_ACCOUNT))?;
+    Ok(number as u32)
+}
+
+fn open(fields: &[&[u8]]) -> Result<Command, Refusal>
+    ensures command { result ≡ open_command (map (λ f. f.now) fields.now) }
+    ensures within { IfOk result IsWithin }
+{
+    let [number] = fields else {
+        return Err(Refusal::Syntax);
+    };
+    Ok(Command::Open {
+        account: account(number)?,
+    })
+}
+
+fn deposit(fields: &[&[u8]]) -> Result<Command, Refusal>
+    ensures command { result ≡ deposit_command (map (λ f. f.now) fields.now) }
+    ensures within { IfOk result IsWithin }
+{
+    let [number, amount] = fields else {
+        return Err(Refusal::Syntax);
+    };
+    Ok(Command::Deposit {
+        account: account(number)?,
+        amount: natural(amount, 1, MAX_AMOUNT)?,
+    })
+}
+
+fn balance(fields: &[&[u8]]) -> Result<Command, Refusal>
+    ensures command { result ≡ balance_command (map (λ f. f.now) fields.now) }
+    ensures within { IfOk result IsWithin }
+{
+    let [number] = fields else {
+        return Err(Refusal::Syntax);
+    };
+    let number = natural(number, 0, u64::from(MAX_ACCOUNT))?;
+    Ok(Command::Balance {
+        account: number as u32,
+    })
+}
+
+// What the fields of a line say.
+fn command(fields: &[&[u8]]) -> Result<Command, Refusal>
+    ensures command { result ≡ command_of_fields (map (λ f. f.now) fields.now) }
+    ensures within { IfOk result IsWithin }
+{
+    let [word, fields @ ..] = fields else {
+        return Err(Refusal::Syntax);
+    };
+    if is_later_command(word) {
+        Err(Refusal::NotBuilt)
+    } else if *word == b"open".as_slice() {
+        open(fields)
+    } else if *word == b"deposit".as_slice() {
+        deposit(fields)
+    } else if *word == b"balance".as_slice() {
+        balance(fields)
+    } else {
+        Err(Refusal::Syntax)
+    }
+}
+
+// What a line that is not empty says: a command, or why it is refused.
+pub(crate) fn read_command(
+    alloc: Global,
+    line: &[u8],
+) -> Result<Result<Command, Refusal>, AllocError>
+    ensures command { IfOk result (λ said. said ≡ command_of line.now) }
+    ensures within { IfOk result (λ said. IfOk said IsWithin) }
+{
+    let fields = pieces(alloc, line, b',')?;
+    Ok(command(&fields))
+}

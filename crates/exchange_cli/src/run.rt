@@ -1,0 +1,165 @@
+// The top call, and the loop over the lines.
+ghost use Rattle.std.specs.Prelude.{◌≡◌, ◌≢◌, ◌⊎◌, ◌≤◌, ◌<◌, ◌+◌, [], ◌∷◌, Some, map, codes, length, IfOk, OnOk, OnErr, IfSome, IsSomeAnd, IsErrOf, string_bytes};
+ghost use Rattle.std.specs.Io.KnownBytes.{Appends};
+ghost use Rattle.port_io.specs.Faults.{Rose, raised};
+ghost use Rattle.port_io.specs.Writes.{AppendsFront};
+ghost use Rattle.exchange_core.specs.ExchangeState.{empty_exchange};
+ghost use Rattle.exchange_core.specs.Step.{IsWithin};
+ghost use Rattle.exchange_cli.specs.Output.{output, output_from, line_step, answered};
+ghost use Rattle.exchange_cli.specs.Words.{is_run};
+ghost use Rattle.exchange_cli.specs.declared.run.RunStop.TheVariants.{OutOfMemory, SinkFailed};
+
+use crate::commands::read_command;
+use crate::lines::{pieces, strip_return, without_last};
+use crate::status::Status;
+use crate::texts::print;
+use exchange_core::{Command, Exchange, Refusal, Reply};
+use port_io::{ReadStop, Sink, Source, WriteStop, read_all, write_all};
+use std::alloc::{AllocError, Global};
+
+/// At most so many bytes are read by `run`.
+pub const MAX_INPUT: usize = 16_777_216;
+
+// Why the lines were not all answered.
+#[derive(Clone, Copy, Debug, PartialEq, Eq)]
+enum RunStop {
+    SinkFailed,
+    OutOfMemory,
+}
+
+impl From<AllocError> for RunStop {
+    ghost from_gives = { λ _ e. e ≡ OutOfMemory };
+
+    fn from(_: AllocError) -> Self {
+        RunStop::OutOfMemory
+    }
+}
+
+impl From<WriteStop> for RunStop {
+    ghost from_gives = { λ _ e. e ≡ SinkFailed };
+
+    fn from(_: WriteStop) -> Self {
+        RunStop::SinkFailed
+    }
+}
+
+// The reply to what a line says.
+fn reply_to(exchange: &mut Exchange, said: &Result<Command, Refusal>) -> Result<Reply, AllocError>
+    requires { IfOk said.now IsWithin }
+    ensures { IfOk result (λ reply. (reply, exchange.new) ≡ answered exchange.old said.now) }
+{
+    match said {
+        Ok(command) => exchange.step(command),
+        Err(refusal) => Ok(Reply::refused(*refusal)),
+    }
+}
+
+// What is written for a line.
+fn answer(
+    alloc: Global,
+    exchange: &mut Exchange,
+    number: usize,
+    line: &[u8],
+) -> Result<String, AllocError>
+    ensures { IfOk result (λ text. (string_bytes text, exchange.new) ≡ line_step number exchange.old line.now) }
+{
+    if line.is_empty() {
+        return Ok(String::new(alloc));
+    }
+    let said = read_command(alloc, line)?;
+    let reply = reply_to(exchange, &said)?;
+    let mut text = print(alloc, number, &reply)?;
+    text.push('\n')?;
+    Ok(text)
+}
+
+// Answers the lines in order.
+fn answer_all<K: Sink>(alloc: Global, lines: &[&[u8]], sink: &mut K) -> Result<(), RunStop>
+    ensures ok { OnOk result (Appends (K.written sink.old) (K.written sink.new)
+        (output_from 1 empty_exchange (map (λ p. p.now) lines.now))) }
+    ensures front { OnErr result (AppendsFront (K.written sink.old) (K.written sink.new)
+        (output_from 1 empty_exchange (map (λ p. p.now) lines.now))) }
+    ensures fault { IsErrOf result RunStop.SinkFailed → Rose (K.faults sink.old) (K.faults sink.new) }
+    ensures later { K.faults sink.old ≤ K.faults sink.new }
+{
+    let mut exchange = Exchange::new(alloc);
+    for (index, line) in lines.iter().enumerate() {
+        let text = answer(alloc, &mut exchange, index + 1, strip_return(line))?;
+        write_all(sink, text.as_bytes())?;
+    }
+    Ok(())
+}
+
+// Answers all lines of an input.
+fn answer_input<K: Sink>(alloc: Global, input: &[u8], sink: &mut K) -> Result<(), RunStop>
+    ensures ok { OnOk result (Appends (K.written sink.old) (K.written sink.new) (output input.now)) }
+    ensures front { OnErr result (AppendsFront (K.written sink.old) (K.written sink.new) (output input.now)) }
+    ensures fault { IsErrOf result RunStop.SinkFailed → Rose (K.faults sink.old) (K.faults sink.new) }
+    ensures later { K.faults sink.old ≤ K.faults sink.new }
+{
+    let lines = pieces(alloc, input, b'\n')?;
+    answer_all(alloc, without_last(&lines), sink)
+}
+
+// Whether the words are the one word `run`.
+fn names_run(words: &[String]) -> bool
+    ensures { result ≡ is_run (map string_bytes words.now) }
+{
+    if let [word] = words {
+        return word.as_str() == "run";
+    }
+    false
+}
+
+/// Runs the program: reads the commands to their end, and writes a reply line for each.
+///
+/// The words are those after the program's name. Each reply line goes out by one `write_all`.
+pub fn exchange<S: Source, K: Sink>(
+    alloc: Global,
+    words: &[String],
+    source: &mut S,
+    sink: &mut K,
+) -> Status
+    // The words are the one word `run`.
+    ensures usage { result ≡ Status.Usage → map string_bytes words.now ≢ codes "run" ∷ [] }
+    ensures usage_else { map string_bytes words.now ≢ codes "run" ∷ [] → result ≡ Status.Usage }
+    ensures usage_untouched { result ≡ Status.Usage → (source.new ≡ source.old) × (sink.new ≡ sink.old) }
+
+    // The output is the defined output of all bytes that were left.
+    ensures done { result ≡ Status.Done → IfSome (S.left source.old) (λ input.
+        (S.left source.new ≡ Some []) × Appends (K.written sink.old) (K.written sink.new) (output input)) }
+    ensures front { (result ≡ Status.WriteFault) ⊎ (result ≡ Status.Memory) → IfSome (S.left source.old) (λ input.
+        AppendsFront (K.written sink.old) (K.written sink.new) (output input)) }
+
+    // Each other status has its cause.
+    ensures read_fault { result ≡ Status.ReadFault → Rose (S.faults source.old) (S.faults source.new) }
+    ensures read_fault_silent { result ≡ Status.ReadFault → sink.new ≡ sink.old }
+    ensures write_fault { result ≡ Status.WriteFault → Rose (K.faults sink.old) (K.faults sink.new) }
+    ensures too_long { result ≡ Status.TooLong → IfSome (S.left source.old) (λ input. MAX_INPUT < length input) }
+    ensures too_long_no_fault { result ≡ Status.TooLong → S.faults source.new ≡ S.faults source.old }
+    ensures too_long_silent { result ≡ Status.TooLong → sink.new ≡ sink.old }
+    ensures too_many { result ≡ Status.TooLong → raised (S.taken source.old) (MAX_INPUT + 1) ≤ S.taken source.new }
+    ensures within { (result ≡ Status.Done) ⊎ (result ≡ Status.WriteFault) →
+        IfSome (S.left source.old) (λ input. length input ≤ MAX_INPUT) }
+
+    // Within the limit and without a fault, the output is written, or there was no memory.
+    ensures complete { map string_bytes words.now ≡ codes "run" ∷ [] →
+        IsSomeAnd (S.left source.old) (λ input. length input ≤ MAX_INPUT) →
+        ¬ Rose (S.faults source.old) (S.faults source.new) → ¬ Rose (K.faults sink.old) (K.faults sink.new) →
+        (result ≡ Status.Done) ⊎ (result ≡ Status.Memory) }
+{
+    if !names_run(words) {
+        return Status::Usage;
+    }
+    let input = match read_all(alloc, source, MAX_INPUT) {
+        Ok(input) => input,
+        Err(ReadStop::ReadFault) => return Status::ReadFault,
+        Err(ReadStop::TooLong) => return Status::TooLong,
+        Err(ReadStop::Memory) => return Status::Memory,
+    };
+    match answer_input(alloc, &input, sink) {
+        Ok(()) => Status::Done,
+        Err(RunStop::SinkFailed) => Status::WriteFault,
+        Err(RunStop::OutOfMemory) => Status::Memory,
+    }
+}

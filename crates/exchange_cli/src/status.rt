@@ -1,0 +1,49 @@
+ghost use Rattle.std.specs.Prelude.{◌≡◌};
+ghost use Rattle.exchange_cli.specs.Status.{code_of, text_of};
+
+/// How a call of the program ended.
+#[derive(Clone, Copy, Debug, PartialEq, Eq)]
+pub enum Status {
+    /// The input was read to its end, and every reply was written.
+    Done,
+    /// The words are none that the program knows.
+    Usage,
+    /// A read failed; nothing was written.
+    ReadFault,
+    /// A write failed; a front of the output was written.
+    WriteFault,
+    /// The input is longer than the limit; nothing was written.
+    TooLong,
+    /// There was no memory; a front of the output was written.
+    Memory,
+}
+
+impl Status {
+    /// The exit status of the program.
+    pub fn code(self) -> u8
+        ensures { result ≡ code_of self }
+    {
+        match self {
+            Status::Done => 0,
+            Status::Usage => 2,
+            Status::ReadFault => 3,
+            Status::WriteFault => 4,
+            Status::TooLong => 5,
+            Status::Memory => 70,
+        }
+    }
+
+    /// What is written to standard error, without its line feed; nothing for `Done`.
+    pub fn text(self) -> &'static str
+        ensures { result.now ≡ text_of self }
+    {
+        match self {
+            Status::Done => "",
+            Status::Usage => "usage: exchange run, exchange check, or exchange demo SEED COUNT",
+            Status::ReadFault => "read fault",
+            Status::WriteFault => "write fault",
+            Status::TooLong => "input too long",
+            Status::Memory => "out of memory",
+        }
+    }
+}

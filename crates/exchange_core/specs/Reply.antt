@@ -1,0 +1,9 @@
+-- Replies to lines that are refused.
+use Rattle.exchange_core.specs.declared.refusal.Refusal.{Refusal}
+use Rattle.exchange_core.specs.declared.reply.Reply.{Reply}
+use Rattle.exchange_core.specs.declared.reply.Reply.TheVariants.{Refused}
+use Rattle.exchange_core.specs.Refusal.{number_of}
+
+-- the reply to a line that is refused as a whole
+abbrev pub refused_with : Refusal → Reply
+refused_with refusal = Refused (number_of refusal) 0

@@ -1,0 +1,10 @@
+// The limits of what a command may say and of what an exchange holds.
+
+/// The greatest number of an account. Account 0 is the house.
+pub const MAX_ACCOUNT: u32 = 999_999_999;
+
+/// The greatest amount of a deposit, in ticks.
+pub const MAX_AMOUNT: u64 = 1_000_000_000_000_000;
+
+/// At most so many accounts are open, the house apart.
+pub const MAX_ACCOUNTS: usize = 10_000;

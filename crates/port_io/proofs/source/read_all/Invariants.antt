@@ -1,0 +1,16 @@
+use Rattle.std.proofs.Common.{◌≡◌, ◌+◌, ◌-◌, ◌≤◌, length}
+use Rattle.std.specs.Io.KnownBytes.{Consumes}
+use Rattle.port_io.specs.Faults.{raised}
+use Rattle.port_io.proofs.source.read_all.Given as goal
+
+abbrev pub invariant-loop-buf : goal.invariant-loop-buf
+invariant-loop-buf g l =
+    let S = g.S.Source in
+    record {
+      gave : Consumes (S.left l.fn.source) (S.left l.source) l.bytes.items;
+      calm : S.faults l.source ≡ S.faults l.fn.source;
+      taken : raised (S.taken l.fn.source) (length l.bytes.items) ≤ S.taken l.source;
+    }
+
+abbrev pub decreases-loop-buf : goal.decreases-loop-buf
+decreases-loop-buf g l = l.limit + 1 - length l.bytes.items
