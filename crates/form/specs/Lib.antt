@@ -2,6 +2,7 @@ pub mod Vector
 pub mod Payoff
 pub mod Clearing
 pub mod Limits
+pub mod Balance
 pub mod Legs
 pub mod Measure
 pub mod Tree
