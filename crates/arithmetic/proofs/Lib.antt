@@ -1,0 +1,9 @@
+pub mod Integers
+pub mod Products
+pub mod Ring
+pub mod Quotients
+pub mod Comparisons
+pub mod GcdLaws
+pub mod Sums
+pub mod Parts
+pub mod Along

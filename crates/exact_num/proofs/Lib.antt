@@ -1,0 +1,8 @@
+mod Rows
+pub mod Values
+pub mod ProductValues
+pub mod Order
+pub mod Units
+pub mod Fractions
+pub mod Rationals
+pub mod Totals

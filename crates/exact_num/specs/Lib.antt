@@ -1,0 +1,3 @@
+pub mod Fraction
+pub mod CommonDenominator
+pub mod Fits

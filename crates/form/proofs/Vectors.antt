@@ -1,0 +1,24 @@
+-- A form and its option.
+use Rattle.std.proofs.Common.{◌≡◌, inl, inr, length, get_or, arith, pos, ap, sym, ◌∙◌}
+use Rattle.std.proofs.lemmas.Bool.{cases_lt}
+use Rattle.std.proofs.lemmas.List.{ext_get_or, get_or-take, length-take-le}
+use Rattle.form.specs.declared.forms.Form.{Form}
+use Rattle.form.specs.Payoff.{option_of, FormsAreOptions}
+
+-- the option has as many entries as the form counts
+pub length-option_of : (form : Form) → length (option_of form) ≡ form.count
+length-option_of form = length-take-le form.count form.entries (omega (arith, form.nine_entries, form.count_in_range.1))
+
+pub forms_are_options : FormsAreOptions
+forms_are_options a b e =
+    let counts : a.count ≡ b.count = sym (length-option_of a) ∙ ap length e ∙ length-option_of b in (
+      counts,
+      ext_get_or (pos 0) a.entries b.entries (a.nine_entries ∙ sym b.nine_entries)
+          (λ i lt. elim (cases_lt i a.count) [
+            | inl within ↦
+                sym (get_or-take a.count a.entries i (pos 0) within)
+                ∙ ap (λ v. get_or v i (pos 0)) e
+                ∙ get_or-take b.count b.entries i (pos 0) (omega arith)
+            | inr past ↦ a.zero_past_count i past ∙ sym (b.zero_past_count i (omega arith))
+          ]),
+    )

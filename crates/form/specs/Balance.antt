@@ -1,0 +1,33 @@
+-- Fills that sell of each bundle just what they buy of it.
+use Rattle.std.specs.Prelude.{◌≡◌, List, [], ◌∷◌, Bool, true, false, ◌&&◌, ℤ, pos}
+use Rattle.std.specs.Ordering.{int_eq}
+use Rattle.std.specs.List.{All}
+use Rattle.form.specs.Payoff.{BundleLeg, bundle_of}
+use Rattle.form.specs.Clearing.{Filled, buys_less_sells}
+
+-- whether two options are the same
+abbrev pub is_same_option : List ℤ → List ℤ → Bool
+is_same_option [] [] = true
+is_same_option [] (b ∷ v) = false
+is_same_option (a ∷ u) [] = false
+is_same_option (a ∷ u) (b ∷ v) = int_eq a b && is_same_option u v
+
+-- whether two bundles have the same legs
+abbrev pub is_same_bundle : List BundleLeg → List BundleLeg → Bool
+is_same_bundle [] [] = true
+is_same_bundle [] (leg ∷ legs) = false
+is_same_bundle (leg ∷ legs) [] = false
+is_same_bundle (a ∷ legs) (b ∷ others) =
+    int_eq a.count b.count && is_same_option a.option b.option && is_same_bundle legs others
+
+abbrev pub one_if : Bool → ℤ
+one_if true = pos 1
+one_if false = pos 0
+
+-- what is bought of the bundle less what is sold of it
+abbrev pub balance_of : List BundleLeg → List Filled → ℤ
+balance_of bundle fills = buys_less_sells (λ o. one_if (is_same_bundle (bundle_of o) bundle)) fills
+
+-- as much is bought as sold of the bundle of each order
+abbrev pub AreBalanced : List Filled → Type 0
+AreBalanced fills = All (λ (fill : Filled). balance_of (bundle_of fill.0) fills ≡ pos 0) fills

@@ -1,0 +1,11 @@
+pub mod Vector
+pub mod Payoff
+pub mod Clearing
+pub mod Limits
+pub mod Balance
+pub mod Legs
+pub mod Measure
+pub mod Tree
+pub mod Line
+pub mod Written
+pub mod Certificate

@@ -1,0 +1,13 @@
+//! Options on several underlyings, their orders and batches, and what a certified clearing of them means.
+#![tactic(auto)]
+
+pub mod forms;
+pub mod laws;
+pub mod limits;
+pub mod options;
+pub mod orders;
+
+pub use forms::Form;
+pub use limits::{MAX_ORDERS, MAX_PRICE, MAX_QUANTITY, MAX_STRIKE, MAX_UNDERLYINGS, MAX_WEIGHT};
+pub use options::{call, put};
+pub use orders::{Batch, Order, Orders, Side};

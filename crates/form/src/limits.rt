@@ -1,0 +1,19 @@
+//! The limits of the exchange that an order or a batch has to keep.
+
+/// The most underlyings of a market.
+pub const MAX_UNDERLYINGS: u8 = 8;
+
+/// The largest size of a weight.
+pub const MAX_WEIGHT: u16 = 1_000;
+
+/// The largest size of a strike, in whole prices.
+pub const MAX_STRIKE: u64 = 1_000_000_000;
+
+/// The highest limit price of an order, in ticks.
+pub const MAX_PRICE: u64 = 1_000_000_000_000;
+
+/// The largest quantity of an order.
+pub const MAX_QUANTITY: u32 = 1_000_000;
+
+/// The most orders of a batch.
+pub const MAX_ORDERS: usize = 256;

@@ -1,0 +1,104 @@
+-- Fills that balance each bundle owe nothing: bundle by bundle, the amounts of its orders cancel.
+use Rattle.std.proofs.Common.{◌≡◌, ℕ, zero, suc, ◌≤◌, Bool, true, false, ◌&&◌, List, [], ◌∷◌, length, get_or, filter, arith, ℤ, pos, ◌+ℤ◌, ◌*ℤ◌, All, refl, ap, sym, subst, ◌∙◌}
+use Rattle.std.proofs.lemmas.Int.{ints}
+use Rattle.std.proofs.lemmas.Bool.Decides.{Decides-int_eq}
+use Rattle.std.proofs.lemmas.List.Elements.{All-filter}
+use Rattle.std.proofs.lemmas.List.Filters.{length-filter_both}
+use Rattle.std.specs.Ordering.{int_eq}
+use mathlib.Core.Bool.{not}
+use Rattle.form.specs.Payoff.{BundleLeg, bundle_of, bundle_payoff}
+use Rattle.form.specs.Clearing.{Filled, bought, sold, buys_less_sells}
+use Rattle.form.specs.Balance.{is_same_option, is_same_bundle, one_if, balance_of, AreBalanced}
+use Rattle.market_laws.specs.Laws.{BalancedOwesNothing}
+use Rattle.arithmetic.proofs.Products.{products}
+use Rattle.arithmetic.proofs.Sums.{All-head, All-tail}
+use Rattle.market_laws.proofs.Legs.{signed}
+
+and_parts : (a b : Bool) → (a && b) ≡ true → (a ≡ true) × (b ≡ true)
+and_parts true b h = (refl, h)
+and_parts false b h = cc
+
+same_option_is : (u v : List ℤ) → is_same_option u v ≡ true → u ≡ v
+same_option_is [] [] h = refl
+same_option_is [] (b ∷ v) h = cc
+same_option_is (a ∷ u) [] h = cc
+same_option_is (a ∷ u) (b ∷ v) h =
+    let parts = and_parts (int_eq a b) (is_same_option u v) h in
+    let first : a ≡ b = (Decides-int_eq a b).0 parts.0 in
+    let rest : u ≡ v = same_option_is u v parts.1 in
+    cc
+
+pub option_is_same : (v : List ℤ) → is_same_option v v ≡ true
+option_is_same [] = refl
+option_is_same (a ∷ v) = rw ((Decides-int_eq a a).1 refl) (option_is_same v)
+
+pub same_bundle_is : (a b : List BundleLeg) → is_same_bundle a b ≡ true → a ≡ b
+same_bundle_is [] [] h = refl
+same_bundle_is [] (leg ∷ legs) h = cc
+same_bundle_is (leg ∷ legs) [] h = cc
+same_bundle_is (a ∷ legs) (b ∷ others) h =
+    let parts = and_parts (int_eq a.count b.count && is_same_option a.option b.option) (is_same_bundle legs others) h in
+    let here = and_parts (int_eq a.count b.count) (is_same_option a.option b.option) parts.0 in
+    let count : a.count ≡ b.count = (Decides-int_eq a.count b.count).0 here.0 in
+    let option : a.option ≡ b.option = same_option_is a.option b.option here.1 in
+    let rest : legs ≡ others = same_bundle_is legs others parts.1 in
+    let P : ℤ → List ℤ → List BundleLeg → Type 0 = λ c v ls. a ∷ legs ≡ record { count = c; option = v } ∷ ls in
+    subst (λ c. P c b.option others) count (subst (λ v. P a.count v others) option (subst (λ ls. P a.count a.option ls) rest refl))
+
+pub bundle_is_same : (a : List BundleLeg) → is_same_bundle a a ≡ true
+bundle_is_same [] = refl
+bundle_is_same (leg ∷ legs) = rw ((Decides-int_eq leg.count leg.count).1 refl, option_is_same leg.option) (bundle_is_same legs)
+
+-- whether a fill is of another bundle
+abbrev pub is_other : List BundleLeg → Filled → Bool
+is_other bundle fill = not (is_same_bundle (bundle_of fill.0) bundle)
+
+abbrev pub others : List BundleLeg → List Filled → List Filled
+others bundle fills = filter (is_other bundle) fills
+
+-- one fill more of a sum
+sum_first : (f : List BundleLeg → ℤ) (fill : Filled) (fills : List Filled)
+    → buys_less_sells (λ o. f (bundle_of o)) (fill ∷ fills) ≡ signed fill.0.side fill.1 (f (bundle_of fill.0)) +ℤ buys_less_sells (λ o. f (bundle_of o)) fills
+sum_first f fill fills = omega (arith, ints)
+
+filter_shorter : {A : Type 0} (p : A → Bool) (xs : List A) → length (filter p xs) ≤ length xs
+filter_shorter p xs = omega (arith, length-filter_both p (λ x. not (p x)) (λ x. refl) xs)
+
+-- the sum is f of the bundle times its balance, and the sum over the others
+set_apart : (f : List BundleLeg → ℤ) (bundle : List BundleLeg) (fills : List Filled)
+    → buys_less_sells (λ o. f (bundle_of o)) fills ≡ (f bundle *ℤ balance_of bundle fills) +ℤ buys_less_sells (λ o. f (bundle_of o)) (others bundle fills)
+set_apart f bundle [] = omega (arith, ints, products)
+set_apart f bundle (fill ∷ fills) = by_test (is_same_bundle (bundle_of fill.0) bundle) refl (set_apart f bundle fills)
+  where
+    here : ℤ
+    here = f (bundle_of fill.0)
+
+    by_test : (t : Bool) → is_same_bundle (bundle_of fill.0) bundle ≡ t
+        → buys_less_sells (λ o. f (bundle_of o)) fills ≡ (f bundle *ℤ balance_of bundle fills) +ℤ buys_less_sells (λ o. f (bundle_of o)) (others bundle fills)
+        → buys_less_sells (λ o. f (bundle_of o)) (fill ∷ fills) ≡ (f bundle *ℤ balance_of bundle (fill ∷ fills)) +ℤ buys_less_sells (λ o. f (bundle_of o)) (others bundle (fill ∷ fills))
+    by_test true e rest =
+        let is : here ≡ f bundle = ap f (same_bundle_is (bundle_of fill.0) bundle e) in
+        rw e (omega (arith, ints, products, rest, ap (λ (w : ℤ). w *ℤ pos (bought fill)) is, ap (λ (w : ℤ). w *ℤ pos (sold fill)) is))
+    by_test false e rest = rw e (omega (arith, ints, products, rest))
+
+owes_nothing : (k : ℕ) (fills : List Filled) → length fills ≤ k → AreBalanced fills → (f : List BundleLeg → ℤ) → buys_less_sells (λ o. f (bundle_of o)) fills ≡ pos 0
+owes_nothing k [] few balanced f = refl
+owes_nothing zero (fill ∷ fills) few balanced f = absurd (omega arith)
+owes_nothing (suc k) (fill ∷ fills) few balanced f =
+    let b = bundle_of fill.0 in
+    let rest = others b fills in
+    let P : Filled → Type 0 = λ g. balance_of (bundle_of g.0) (fill ∷ fills) ≡ pos 0 in
+    let Q : Filled → Type 0 = λ g. balance_of (bundle_of g.0) rest ≡ pos 0 in
+    let balance : balance_of b (fill ∷ fills) ≡ pos 0 = All-head P fill fills balanced in
+    let left : others b (fill ∷ fills) ≡ rest = rw (bundle_is_same b) refl in
+    let same : (g : List BundleLeg → ℤ) → buys_less_sells (λ o. g (bundle_of o)) (fill ∷ fills) ≡ buys_less_sells (λ o. g (bundle_of o)) rest =
+    λ g. set_apart g b (fill ∷ fills) ∙ apart g left balance in
+    let kept : All P rest = All-filter (is_other b) P fills (All-tail P fill fills balanced) in
+    same f ∙ owes_nothing k rest (omega (arith, few, filter_shorter (is_other b) fills)) (λ i d lt. sym (same (λ x. one_if (is_same_bundle x (bundle_of (get_or rest i d).0)))) ∙ kept i d lt) f
+  where
+    apart : (g : List BundleLeg → ℤ) {rest : List Filled} → others (bundle_of fill.0) (fill ∷ fills) ≡ rest → balance_of (bundle_of fill.0) (fill ∷ fills) ≡ pos 0
+        → (g (bundle_of fill.0) *ℤ balance_of (bundle_of fill.0) (fill ∷ fills)) +ℤ buys_less_sells (λ o. g (bundle_of o)) (others (bundle_of fill.0) (fill ∷ fills)) ≡ buys_less_sells (λ o. g (bundle_of o)) rest
+    apart g left balance = rw (left, balance) (omega (arith, ints))
+
+pub balanced_owes_nothing : BalancedOwesNothing
+balanced_owes_nothing fills balanced z = owes_nothing (length fills) fills (omega arith) balanced (λ bundle. bundle_payoff bundle z)

@@ -1,0 +1,14 @@
+pub mod Payoff
+pub mod Legs
+pub mod Rays
+pub mod Balance
+pub mod Cover
+pub mod Duality
+pub mod Scaled
+pub mod Tree
+pub mod Line
+pub mod Written
+pub mod Certificate
+pub mod Single
+pub mod More
+pub mod Examples
