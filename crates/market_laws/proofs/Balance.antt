@@ -8,29 +8,12 @@ use Rattle.std.specs.Ordering.{int_eq}
 use mathlib.Core.Bool.{not}
 use Rattle.form.specs.Payoff.{BundleLeg, bundle_of, bundle_payoff}
 use Rattle.form.specs.Clearing.{Filled, bought, sold, buys_less_sells}
+use Rattle.form.proofs.SameOption.{and_parts, same_option_is, option_is_same}
 use Rattle.form.specs.Balance.{is_same_option, is_same_bundle, one_if, balance_of, AreBalanced}
 use Rattle.market_laws.specs.Laws.{BalancedOwesNothing}
 use Rattle.arithmetic.proofs.Products.{products}
 use Rattle.arithmetic.proofs.Sums.{All-head, All-tail}
 use Rattle.market_laws.proofs.Legs.{signed}
-
-and_parts : (a b : Bool) → (a && b) ≡ true → (a ≡ true) × (b ≡ true)
-and_parts true b h = (refl, h)
-and_parts false b h = cc
-
-same_option_is : (u v : List ℤ) → is_same_option u v ≡ true → u ≡ v
-same_option_is [] [] h = refl
-same_option_is [] (b ∷ v) h = cc
-same_option_is (a ∷ u) [] h = cc
-same_option_is (a ∷ u) (b ∷ v) h =
-    let parts = and_parts (int_eq a b) (is_same_option u v) h in
-    let first : a ≡ b = (Decides-int_eq a b).0 parts.0 in
-    let rest : u ≡ v = same_option_is u v parts.1 in
-    cc
-
-pub option_is_same : (v : List ℤ) → is_same_option v v ≡ true
-option_is_same [] = refl
-option_is_same (a ∷ v) = rw ((Decides-int_eq a a).1 refl) (option_is_same v)
 
 pub same_bundle_is : (a b : List BundleLeg) → is_same_bundle a b ≡ true → a ≡ b
 same_bundle_is [] [] h = refl

@@ -1,0 +1,75 @@
+// The double auction.
+ghost use Rattle.std.specs.Prelude.{◌≡◌, ◌+◌, ◌^◌, ◌<◌, length, IfOk};
+ghost use Rattle.std.specs.List.{All};
+ghost use Rattle.each_match.specs.Offers.{Offer};
+ghost use Rattle.each_match.specs.Match.{crosses, traded, after_trade, after_buy, match_by_option};
+
+use crate::offers::by_rank;
+use form::{Batch, Order, Side};
+use std::alloc::{AllocError, Global};
+
+// Whether a buy and a sell are of one option, the buy's price above the sell's.
+#[tactic(auto, using(form::proofs::SameOption::forms_equal))]
+fn do_cross(buy: &Order, sell: &Order) -> bool
+    ensures { result ≡ crosses buy.now sell.now }
+{
+    buy.form == sell.form && sell.price < buy.price
+}
+
+// What a buy and a sell trade, where so much of each is filled already.
+fn amount(buy: &Order, sell: &Order, bought: u64, sold: u64) -> u64
+    ensures amount { result ≡ traded buy.now sell.now bought sold }
+    ensures buy_fits { bought + result < 2 ^ 64 }
+    ensures sell_fits { sold + result < 2 ^ 64 }
+{
+    if do_cross(buy, sell) {
+        let wanted = u64::from(buy.quantity).saturating_sub(bought);
+        wanted.min(u64::from(sell.quantity).saturating_sub(sold))
+    } else {
+        0
+    }
+}
+
+// Lets the orders at two places trade.
+fn trade(orders: &[Order], buy: usize, fills: &mut [u64], sell: usize)
+    requires fills { length fills.old ≡ length orders.now }
+    requires buy { buy < length orders.now }
+    requires sell { sell < length orders.now }
+    ensures { fills.new ≡ after_trade orders.now buy fills.old sell }
+{
+    let bought = fills[buy];
+    let sold = fills[sell];
+    let amount = amount(&orders[buy], &orders[sell], bought, sold);
+    fills[buy] = bought + amount;
+    fills[sell] = sold + amount;
+}
+
+// Lets a buy trade with the sells, one after another.
+fn trade_all(orders: &[Order], buy: &(u64, usize), fills: &mut [u64], sells: &[(u64, usize)])
+    requires fills { length fills.old ≡ length orders.now }
+    requires buy { buy.now.1 < length orders.now }
+    requires sells { All (λ (offer : Offer). offer.1 < length orders.now) sells.now }
+    ensures { fills.new ≡ after_buy orders.now sells.now fills.old buy.now }
+{
+    for sell in sells {
+        trade(orders, buy.1, fills, sell.1);
+    }
+}
+
+/// Matches the orders of each option by themselves, as a double auction: the best buy trades with the best sell while
+/// its limit price is above the sell's. At one price the earlier order comes first.
+///
+/// Answers the whole fills in the order of the batch. Of each option as much is bought as sold, so the fills owe
+/// nothing at any settlement.
+pub fn match_each(alloc: Global, batch: &Batch) -> Result<Vec<u64>, AllocError>
+    ensures fills { IfOk result (λ fills. fills.items ≡ match_by_option batch.now.orders) }
+{
+    let orders = batch.orders.as_slice();
+    let buys = by_rank(alloc, orders, Side::Buy)?;
+    let sells = by_rank(alloc, orders, Side::Sell)?;
+    let mut fills = vec![in alloc; 0u64; orders.len()]?;
+    for buy in &buys {
+        trade_all(orders, buy, &mut fills, &sells);
+    }
+    Ok(fills)
+}

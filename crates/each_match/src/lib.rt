@@ -1,0 +1,7 @@
+//! The match of each option by itself: a double auction of the buys and the sells of one option.
+#![tactic(auto)]
+
+mod auction;
+mod offers;
+
+pub use auction::match_each;
