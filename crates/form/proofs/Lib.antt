@@ -1,2 +1,4 @@
 pub mod Entries
 pub mod Vectors
+pub mod WholeSteps
+pub mod DotSteps
