@@ -1,4 +1,5 @@
 mod Rows
+pub mod DivisorSteps
 pub mod Values
 pub mod ProductValues
 pub mod Order
