@@ -1,15 +1,19 @@
--- Operands 0 and 1, and operands in the other order.
-use Rattle.std.proofs.Common.{◌≡◌, ℕ, ◌*◌, ◌/◌, ◌≤◌, true, ℤ, pos, ◌+ℤ◌, ◌*ℤ◌, unsigned_abs, arith, refl, ◌∙◌, ap, subst}
-use Rattle.std.specs.Prelude.{int_div, nat_le, Ok}
+-- Operands 0 and 1, equal operands, and operands in the other order.
+use Rattle.std.proofs.Common.{◌≡◌, ◌≢◌, ℕ, ◌*◌, ◌/◌, ◌≤◌, Bool, true, false, ◌&&◌, ℤ, pos, ◌+ℤ◌, ◌*ℤ◌, ◌≤ℤ◌, unsigned_abs, arith, refl, sym, ◌∙◌, ap, subst}
+use Rattle.std.specs.Prelude.{int_div, nat_le, Ok, Err, if◌then◌else◌}
 use Rattle.std.proofs.lemmas.Int.{ints}
 use Rattle.std.proofs.lemmas.Bool.Decides.{nat_tests}
-use Rattle.std.proofs.Math.IntN.{+ℤ_comm}
-use Rattle.std.proofs.Math.Nat.{zero-mul, zero-div, div-one, mul-one, div_self, mul_comm, mul-pos}
+use Rattle.std.proofs.Math.IntN.{+ℤ_comm, *ℤ_comm}
+use Rattle.std.proofs.Math.Bool.{and_comm}
+use Rattle.std.proofs.Math.Nat.{zero-mul as nat_zero-mul, zero-div as nat_zero-div, div-one as nat_div-one, mul-one, div_self, mul_comm, mul-pos}
 use Rattle.arithmetic.specs.Gcd.{gcd}
 use Rattle.arithmetic.proofs.GcdLaws.{gcd-one, gcd_comm, zero-gcd}
-use Rattle.exact_num.specs.Fraction.{Fraction, IsLowest, IsSameValue, over, whole, plain_sum}
-use Rattle.exact_num.specs.Fits.{size_fits, sum_divisor, sum_left, sum_right, sum_total, sum_common, sum_below, sum_value, sum_fits, add_of, product_above, product_below, product_value, product_fits, mul_of}
-use Rattle.exact_num.proofs.Values.{sum_is, sum_is_lowest}
+use Rattle.exact_num.specs.Fraction.{Fraction, IsLowest, IsSameValue, over, whole, negated, plain_sum}
+use Rattle.exact_num.specs.Fits.{size_fits, sum_divisor, sum_left, sum_right, sum_total, sum_common, sum_below, sum_value, sum_fits, add_of, product_above, product_below, product_value, product_fits, mul_of, sub_of, div_of, inverse}
+use Rattle.exact_num.specs.declared.misfit.Wide.{Wide}
+use Rattle.exact_num.proofs.Values.{sum_is, sum_is_lowest, whole_is_lowest, negated_is_lowest}
+use Rattle.exact_num.proofs.ProductValues.{inverse_is_lowest}
+use Rattle.arithmetic.proofs.Integers.{unsigned_abs-neg}
 use Rattle.exact_num.proofs.Order.{lowest_is_unique, same_value_trans}
 
 at_most_fits : (m n : ℕ) → m ≤ n → nat_le m n ≡ true
@@ -28,7 +32,7 @@ zero_left x = ap (λ (g : ℕ). x.numerator *ℤ pos (1 / g)) (zero_divisor x) �
 
 zero_right : (x : Fraction) → sum_right x (whole (pos 0)) ≡ pos 0
 unfolding sum_right
-zero_right x = ap pos (zero-mul _)
+zero_right x = ap pos (nat_zero-mul _)
 
 zero_total : (x : Fraction) → sum_total x (whole (pos 0)) ≡ x.numerator
 unfolding sum_total
@@ -40,7 +44,7 @@ zero_common x = ap (λ (g : ℕ). gcd (unsigned_abs (sum_total x (whole (pos 0))
 
 zero_below : (x : Fraction) → sum_below x (whole (pos 0)) ≡ x.denominator
 unfolding sum_below
-zero_below x = ap (λ (g : ℕ). x.denominator / g * (1 / sum_common x (whole (pos 0)))) (zero_divisor x) ∙ ap (λ (g : ℕ). x.denominator / 1 * (1 / g)) (zero_common x) ∙ mul-one _ ∙ div-one _
+zero_below x = ap (λ (g : ℕ). x.denominator / g * (1 / sum_common x (whole (pos 0)))) (zero_divisor x) ∙ ap (λ (g : ℕ). x.denominator / 1 * (1 / g)) (zero_common x) ∙ mul-one _ ∙ nat_div-one _
 
 -- a sum with 0 always fits
 pub add-zero : (limit : ℕ) (x : Fraction) → unsigned_abs x.numerator ≤ limit → x.denominator ≤ limit → add_of limit x (whole (pos 0)) ≡ Ok x
@@ -60,7 +64,7 @@ add-zero limit x p q =
 
 times_zero_above : (x : Fraction) → product_above x (whole (pos 0)) ≡ pos 0
 unfolding product_above
-times_zero_above x = ap (λ (n : ℕ). int_div x.numerator (pos (gcd (unsigned_abs x.numerator) 1)) *ℤ pos n) (zero-div _) ∙ omega (arith, ints)
+times_zero_above x = ap (λ (n : ℕ). int_div x.numerator (pos (gcd (unsigned_abs x.numerator) 1)) *ℤ pos n) (nat_zero-div _) ∙ omega (arith, ints)
 
 times_zero_below : (x : Fraction) → IsLowest x → product_below x (whole (pos 0)) ≡ 1
 unfolding product_below
@@ -85,7 +89,7 @@ times_one_above x = ap (λ (g : ℕ). int_div x.numerator (pos g) *ℤ pos (1 / 
 
 times_one_below : (x : Fraction) → product_below x (whole (pos 1)) ≡ x.denominator
 unfolding product_below
-times_one_below x = ap (λ (g : ℕ). x.denominator / g * (1 / gcd (unsigned_abs x.numerator) 1)) (one_gcd x.denominator) ∙ ap (λ (g : ℕ). x.denominator / 1 * (1 / g)) (gcd-one (unsigned_abs x.numerator)) ∙ mul-one _ ∙ div-one _
+times_one_below x = ap (λ (g : ℕ). x.denominator / g * (1 / gcd (unsigned_abs x.numerator) 1)) (one_gcd x.denominator) ∙ ap (λ (g : ℕ). x.denominator / 1 * (1 / g)) (gcd-one (unsigned_abs x.numerator)) ∙ mul-one _ ∙ nat_div-one _
 
 -- a product with 1 always fits
 pub mul-one_fits : (limit : ℕ) (x : Fraction) → unsigned_abs x.numerator ≤ limit → x.denominator ≤ limit → mul_of limit x (whole (pos 1)) ≡ Ok x
@@ -104,3 +108,103 @@ sum_value_comm x y p q =
     λ i. over (+ℤ_comm (y.numerator *ℤ pos x.denominator) (x.numerator *ℤ pos y.denominator) i) (mul_comm y.denominator x.denominator i) in
     lowest_is_unique _ _ (sum_is_lowest x y p q) (sum_is_lowest y x q p)
     (same_value_trans (sum_value x y) (plain_sum x y) (sum_value y x) (mul-pos p.positive q.positive) (sum_is x y) (subst (λ (f : Fraction). IsSameValue (sum_value y x) f) same (sum_is y x)))
+
+-- ---- operands in the other order
+sum_below_comm : (x y : Fraction) → IsLowest x → IsLowest y → sum_below x y ≡ sum_below y x
+unfolding sum_value
+sum_below_comm x y p q = ap (λ (f : Fraction). f.denominator) (sum_value_comm x y p q)
+
+sum_divisor_comm : (x y : Fraction) → sum_divisor x y ≡ sum_divisor y x
+unfolding sum_divisor
+sum_divisor_comm x y = gcd_comm x.denominator y.denominator
+
+sum_left_comm : (x y : Fraction) → sum_left x y ≡ sum_right y x
+unfolding sum_left sum_right
+sum_left_comm x y = ap (λ (g : ℕ). x.numerator *ℤ pos (y.denominator / g)) (sum_divisor_comm x y)
+
+sum_total_comm : (x y : Fraction) → sum_total x y ≡ sum_total y x
+unfolding sum_total
+sum_total_comm x y =
+    ap (λ (z : ℤ). z +ℤ sum_right x y) (sum_left_comm x y)
+    ∙ ap (λ (z : ℤ). sum_right y x +ℤ z) (sym (sum_left_comm y x))
+    ∙ +ℤ_comm (sum_right y x) (sum_left y x)
+
+pub sum_fits_comm : (limit : ℕ) (x y : Fraction) → IsLowest x → IsLowest y → sum_fits limit x y ≡ sum_fits limit y x
+unfolding sum_fits
+sum_fits_comm limit x y p q =
+    let l = sum_left_comm x y in
+    let r = sum_left_comm y x in
+    rw (l, sym r, sum_total_comm x y, sum_below_comm x y p q) (ap (λ (b : Bool). b && size_fits limit (sum_total y x) && nat_le (sum_below y x) limit) (and_comm (size_fits limit (sum_right y x)) (size_fits limit (sum_left y x))))
+
+ok_swapped : (b c : Bool) (v w s : Fraction) (m n : Wide) → b ≡ c → v ≡ w → (if b then Ok v else Err m) ≡ Ok s → (if c then Ok w else Err n) ≡ Ok s
+ok_swapped true true v w s m n e f h = ap Ok (sym f) ∙ h
+ok_swapped true false v w s m n e f h = cc
+ok_swapped false c v w s m n e f h = cc
+
+-- a sum that fits is also the sum of the operands in the other order
+pub add_comm_at_ok : (limit : ℕ) (x y s : Fraction) → IsLowest x → IsLowest y → add_of limit x y ≡ Ok s → add_of limit y x ≡ Ok s
+unfolding add_of
+add_comm_at_ok limit x y s p q h =
+    ok_swapped _ _ (sum_value x y) (sum_value y x) s _ _ (sum_fits_comm limit x y p q) (sum_value_comm x y p q) h
+
+product_above_comm : (x y : Fraction) → product_above x y ≡ product_above y x
+unfolding product_above
+product_above_comm x y = *ℤ_comm (int_div x.numerator (pos (gcd (unsigned_abs x.numerator) y.denominator))) (int_div y.numerator (pos (gcd (unsigned_abs y.numerator) x.denominator)))
+
+product_below_comm : (x y : Fraction) → product_below x y ≡ product_below y x
+unfolding product_below
+product_below_comm x y = mul_comm (x.denominator / gcd (unsigned_abs y.numerator) x.denominator) (y.denominator / gcd (unsigned_abs x.numerator) y.denominator)
+
+pub product_value_comm : (x y : Fraction) → product_value x y ≡ product_value y x
+unfolding product_value
+product_value_comm x y = λ i. over (product_above_comm x y i) (product_below_comm x y i)
+
+pub product_fits_comm : (limit : ℕ) (x y : Fraction) → product_fits limit x y ≡ product_fits limit y x
+unfolding product_fits
+product_fits_comm limit x y = rw (product_above_comm x y, product_below_comm x y) refl
+
+-- a product that fits is also the product of the operands in the other order
+pub mul_comm_at_ok : (limit : ℕ) (x y s : Fraction) → mul_of limit x y ≡ Ok s → mul_of limit y x ≡ Ok s
+unfolding mul_of
+mul_comm_at_ok limit x y s h = ok_swapped _ _ (product_value x y) (product_value y x) s _ _ (product_fits_comm limit x y) (product_value_comm x y) h
+
+-- ---- 0 and 1 on either side: each always fits
+pub zero-add : (limit : ℕ) (x : Fraction) → IsLowest x → unsigned_abs x.numerator ≤ limit → x.denominator ≤ limit → add_of limit (whole (pos 0)) x ≡ Ok x
+zero-add limit x low p q = add_comm_at_ok limit x (whole (pos 0)) x low (whole_is_lowest (pos 0)) (add-zero limit x p q)
+
+pub sub-zero : (limit : ℕ) (x : Fraction) → unsigned_abs x.numerator ≤ limit → x.denominator ≤ limit → sub_of limit x (whole (pos 0)) ≡ Ok x
+sub-zero limit x p q = add-zero limit x p q
+
+pub zero-sub : (limit : ℕ) (x : Fraction) → IsLowest x → unsigned_abs x.numerator ≤ limit → x.denominator ≤ limit → sub_of limit (whole (pos 0)) x ≡ Ok (negated x)
+zero-sub limit x low p q = zero-add limit (negated x) (negated_is_lowest x low) (rw (unsigned_abs-neg x.numerator) p) q
+
+pub zero-mul : (limit : ℕ) (x : Fraction) → IsLowest x → 1 ≤ limit → mul_of limit (whole (pos 0)) x ≡ Ok (whole (pos 0))
+zero-mul limit x p h = mul_comm_at_ok limit x (whole (pos 0)) (whole (pos 0)) (mul-zero limit x p h)
+
+pub one-mul : (limit : ℕ) (x : Fraction) → unsigned_abs x.numerator ≤ limit → x.denominator ≤ limit → mul_of limit (whole (pos 1)) x ≡ Ok x
+one-mul limit x p q = mul_comm_at_ok limit x (whole (pos 1)) x (mul-one_fits limit x p q)
+
+-- a quotient that is the product with the inverse
+quotient_at_ok : (limit : ℕ) (x y s : Fraction) → mul_of limit x (inverse y) ≡ Ok s → div_of limit x y ≡ Ok s
+unfolding mul_of div_of
+quotient_at_ok limit x y s h = ok_swapped _ _ _ _ s _ _ refl refl h
+
+pub zero-div : (limit : ℕ) (y : Fraction) → IsLowest y → y.numerator ≢ pos 0 → 1 ≤ limit → div_of limit (whole (pos 0)) y ≡ Ok (whole (pos 0))
+zero-div limit y low ne h = quotient_at_ok limit (whole (pos 0)) y (whole (pos 0)) (zero-mul limit (inverse y) (inverse_is_lowest y low ne) h)
+
+one_inverse : inverse (whole (pos 1)) ≡ whole (pos 1)
+unfolding inverse
+one_inverse = refl
+
+pub div-one : (limit : ℕ) (x : Fraction) → unsigned_abs x.numerator ≤ limit → x.denominator ≤ limit → div_of limit x (whole (pos 1)) ≡ Ok x
+div-one limit x p q = quotient_at_ok limit x (whole (pos 1)) x (ap (mul_of limit x) one_inverse ∙ mul-one_fits limit x p q)
+
+-- a number in lowest terms with the numerator 0 is 0
+pub zero_is : (x : Fraction) → IsLowest x → x.numerator ≡ pos 0 → x ≡ whole (pos 0)
+zero_is x low e =
+    let below : x.denominator ≡ 1 = sym (zero-gcd x.denominator) ∙ ap (λ (z : ℤ). gcd (unsigned_abs z) x.denominator) (sym e) ∙ low.coprime in
+    λ i. over (e i) (below i)
+
+-- a limit of at least 1, as a size
+pub limit_at_least_one : (limit : ℤ) → pos 1 ≤ℤ limit → 1 ≤ unsigned_abs limit
+limit_at_least_one limit h = omega (arith, ints)
