@@ -1,18 +1,18 @@
 -- Operands 0 and 1, equal operands, and operands in the other order.
-use Rattle.std.proofs.Common.{◌≡◌, ◌≢◌, ℕ, ◌*◌, ◌/◌, ◌≤◌, Bool, true, false, ◌&&◌, ℤ, pos, ◌+ℤ◌, ◌*ℤ◌, ◌≤ℤ◌, unsigned_abs, arith, refl, sym, ◌∙◌, ap, subst}
+use Rattle.std.proofs.Common.{◌≡◌, ◌≢◌, ℕ, zero, suc, ◌*◌, ◌/◌, ◌<◌, ◌≤◌, Bool, true, false, ◌&&◌, ℤ, pos, negsuc, neg_ℤ, ◌+ℤ◌, ◌*ℤ◌, ◌≤ℤ◌, unsigned_abs, arith, refl, sym, ◌∙◌, ap, subst}
 use Rattle.std.specs.Prelude.{int_div, nat_le, Ok, Err, if◌then◌else◌}
 use Rattle.std.proofs.lemmas.Int.{ints}
 use Rattle.std.proofs.lemmas.Bool.Decides.{nat_tests}
 use Rattle.std.proofs.Math.IntN.{+ℤ_comm, *ℤ_comm}
 use Rattle.std.proofs.Math.Bool.{and_comm}
-use Rattle.std.proofs.Math.Nat.{zero-mul as nat_zero-mul, zero-div as nat_zero-div, div-one as nat_div-one, mul-one, div_self, mul_comm, mul-pos}
+use Rattle.std.proofs.Math.Nat.{zero-mul as nat_zero-mul, zero-div as nat_zero-div, div-one as nat_div-one, mul-one, div_self as nat_div_self, mul_comm, mul-pos}
 use Rattle.arithmetic.specs.Gcd.{gcd}
-use Rattle.arithmetic.proofs.GcdLaws.{gcd-one, gcd_comm, zero-gcd}
+use Rattle.arithmetic.proofs.GcdLaws.{gcd-one, gcd_comm, zero-gcd, gcd_self}
 use Rattle.exact_num.specs.Fraction.{Fraction, IsLowest, IsSameValue, over, whole, negated, plain_sum}
-use Rattle.exact_num.specs.Fits.{size_fits, sum_divisor, sum_left, sum_right, sum_total, sum_common, sum_below, sum_value, sum_fits, add_of, product_above, product_below, product_value, product_fits, mul_of, sub_of, div_of, inverse}
+use Rattle.exact_num.specs.Fits.{size_fits, sum_divisor, sum_left, sum_right, sum_total, sum_common, sum_below, sum_value, sum_fits, add_of, product_above, product_below, product_value, product_fits, mul_of, sub_of, div_of, inverse, signed_by}
 use Rattle.exact_num.specs.declared.misfit.Wide.{Wide}
 use Rattle.exact_num.proofs.Values.{sum_is, sum_is_lowest, whole_is_lowest, negated_is_lowest}
-use Rattle.exact_num.proofs.ProductValues.{inverse_is_lowest}
+use Rattle.exact_num.proofs.ProductValues.{inverse_is_lowest, positive_size, unsigned_abs-signed_by}
 use Rattle.arithmetic.proofs.Integers.{unsigned_abs-neg}
 use Rattle.exact_num.proofs.Order.{lowest_is_unique, same_value_trans}
 
@@ -68,7 +68,7 @@ times_zero_above x = ap (λ (n : ℕ). int_div x.numerator (pos (gcd (unsigned_a
 
 times_zero_below : (x : Fraction) → IsLowest x → product_below x (whole (pos 0)) ≡ 1
 unfolding product_below
-times_zero_below x p = ap (λ (g : ℕ). x.denominator / g * (1 / gcd (unsigned_abs x.numerator) 1)) (zero-gcd x.denominator) ∙ ap (λ (g : ℕ). x.denominator / x.denominator * (1 / g)) (gcd-one _) ∙ mul-one _ ∙ div_self p.positive
+times_zero_below x p = ap (λ (g : ℕ). x.denominator / g * (1 / gcd (unsigned_abs x.numerator) 1)) (zero-gcd x.denominator) ∙ ap (λ (g : ℕ). x.denominator / x.denominator * (1 / g)) (gcd-one _) ∙ mul-one _ ∙ nat_div_self p.positive
 
 -- a product with 0 always fits
 pub mul-zero : (limit : ℕ) (x : Fraction) → IsLowest x → 1 ≤ limit → mul_of limit x (whole (pos 0)) ≡ Ok (whole (pos 0))
@@ -208,3 +208,91 @@ zero_is x low e =
 -- a limit of at least 1, as a size
 pub limit_at_least_one : (limit : ℤ) → pos 1 ≤ℤ limit → 1 ≤ unsigned_abs limit
 limit_at_least_one limit h = omega (arith, ints)
+
+-- ---- equal operands
+itself_divisor : (x : Fraction) → sum_divisor x (negated x) ≡ x.denominator
+unfolding sum_divisor
+itself_divisor x = gcd_self x.denominator
+
+over_itself : (x : Fraction) → IsLowest x → x.denominator / sum_divisor x (negated x) ≡ 1
+over_itself x low = ap (λ (g : ℕ). x.denominator / g) (itself_divisor x) ∙ nat_div_self low.positive
+
+itself_left : (x : Fraction) → IsLowest x → sum_left x (negated x) ≡ x.numerator
+unfolding sum_left
+itself_left x low = ap (λ (n : ℕ). x.numerator *ℤ pos n) (over_itself x low) ∙ omega (arith, ints)
+
+itself_right : (x : Fraction) → IsLowest x → sum_right x (negated x) ≡ neg_ℤ x.numerator
+unfolding sum_right
+itself_right x low = ap (λ (n : ℕ). neg_ℤ x.numerator *ℤ pos n) (over_itself x low) ∙ omega (arith, ints)
+
+itself_total : (x : Fraction) → IsLowest x → sum_total x (negated x) ≡ pos 0
+unfolding sum_total
+itself_total x low = rw (itself_left x low, itself_right x low) (omega (arith, ints))
+
+itself_common : (x : Fraction) → IsLowest x → sum_common x (negated x) ≡ x.denominator
+unfolding sum_common
+itself_common x low = rw (itself_total x low, itself_divisor x) (zero-gcd x.denominator)
+
+itself_below : (x : Fraction) → IsLowest x → sum_below x (negated x) ≡ 1
+unfolding sum_below
+itself_below x low = rw (over_itself x low, itself_common x low) (ap (λ (n : ℕ). 1 * n) (nat_div_self low.positive))
+
+zero_quotient : (n : ℕ) → int_div (pos 0) (pos n) ≡ pos 0
+zero_quotient n = ap pos (nat_zero-div n)
+
+pub sub_self : (limit : ℕ) (x : Fraction) → IsLowest x → 1 ≤ limit → unsigned_abs x.numerator ≤ limit → sub_of limit x x ≡ Ok (whole (pos 0))
+unfolding add_of sum_fits sum_value
+sub_self limit x low one p =
+    let l = itself_left x low in
+    let r = itself_right x low in
+    let t = itself_total x low in
+    let k = itself_common x low in
+    let b = itself_below x low in
+    let above_fits : size_fits limit x.numerator ≡ true = at_most_fits _ limit p in
+    let negated_fits : size_fits limit (neg_ℤ x.numerator) ≡ true = at_most_fits _ limit (rw (unsigned_abs-neg x.numerator) p) in
+    let zero_fits : size_fits limit (pos 0) ≡ true = at_most_fits 0 limit (omega arith) in
+    let below_fits : nat_le 1 limit ≡ true = at_most_fits 1 limit one in
+    rw (l, r, t, k, b, above_fits, negated_fits, zero_fits, below_fits, zero_quotient x.denominator) refl
+
+-- the two factors of a number over itself
+signs_cancel : (n : ℤ) (d : ℕ) → n ≢ pos 0 → 0 < d → int_div n (pos (unsigned_abs n)) *ℤ int_div (signed_by n (pos d)) (pos d) ≡ pos 1
+signs_cancel (pos zero) d ne h = absurd (ne refl)
+signs_cancel (pos (suc n)) d ne h =
+    let above : suc n / suc n ≡ 1 = nat_div_self (omega arith) in
+    let below : d / d ≡ 1 = nat_div_self h in
+    rw (above, below) refl
+signs_cancel (negsuc n) d ne h = turned n d h
+  where
+    turned : (n d : ℕ) → 0 < d → int_div (negsuc n) (pos (suc n)) *ℤ int_div (neg_ℤ (pos d)) (pos d) ≡ pos 1
+    turned n zero h = absurd (omega arith)
+    turned n (suc d) h =
+        let above : suc n / suc n ≡ 1 = nat_div_self (omega arith) in
+        let below : suc d / suc d ≡ 1 = nat_div_self (omega arith) in
+        rw (above, below) refl
+
+itself_inverse : (x : Fraction) → gcd (unsigned_abs (inverse x).numerator) x.denominator ≡ x.denominator
+unfolding inverse
+itself_inverse x = ap (λ (n : ℕ). gcd n x.denominator) (unsigned_abs-signed_by x.numerator (pos x.denominator)) ∙ gcd_self x.denominator
+
+itself_above : (x : Fraction) → IsLowest x → x.numerator ≢ pos 0 → product_above x (inverse x) ≡ pos 1
+unfolding product_above inverse
+itself_above x low ne =
+    ap (λ (g : ℕ). int_div x.numerator (pos g) *ℤ int_div (signed_by x.numerator (pos x.denominator)) (pos (gcd (unsigned_abs (signed_by x.numerator (pos x.denominator))) x.denominator))) (gcd_self (unsigned_abs x.numerator))
+    ∙ ap (λ (g : ℕ). int_div x.numerator (pos (unsigned_abs x.numerator)) *ℤ int_div (signed_by x.numerator (pos x.denominator)) (pos g)) (itself_inverse x)
+    ∙ signs_cancel x.numerator x.denominator ne low.positive
+
+itself_product_below : (x : Fraction) → IsLowest x → x.numerator ≢ pos 0 → product_below x (inverse x) ≡ 1
+unfolding product_below inverse
+itself_product_below x low ne =
+    ap (λ (g : ℕ). x.denominator / g * (unsigned_abs x.numerator / gcd (unsigned_abs x.numerator) (unsigned_abs x.numerator))) (itself_inverse x)
+    ∙ ap (λ (g : ℕ). x.denominator / x.denominator * (unsigned_abs x.numerator / g)) (gcd_self (unsigned_abs x.numerator))
+    ∙ ap (λ (n : ℕ). n * (unsigned_abs x.numerator / unsigned_abs x.numerator)) (nat_div_self low.positive)
+    ∙ ap (λ (n : ℕ). 1 * n) (nat_div_self (positive_size x.numerator ne))
+
+pub div_self : (limit : ℕ) (x : Fraction) → IsLowest x → x.numerator ≢ pos 0 → 1 ≤ limit → div_of limit x x ≡ Ok (whole (pos 1))
+unfolding div_of product_fits product_value
+div_self limit x low ne one =
+    let a = itself_above x low ne in
+    let b = itself_product_below x low ne in
+    let fits : nat_le 1 limit ≡ true = at_most_fits 1 limit one in
+    rw (a, b, fits) refl
