@@ -1,5 +1,5 @@
 -- One step of a payoff.
-use Rattle.std.proofs.Common.{◌≡◌, ℕ, zero, suc, negsuc, ◌+◌, ◌<◌, ◌≤◌, List, ◌∷◌, length, get_or, take, drop, map, add-one, arith, ℤ, pos, refl, Result, Ok, Err, ap, sym, ◌∙◌}
+use Rattle.std.proofs.Common.{◌≡◌, ℕ, suc, negsuc, ◌+◌, ◌<◌, ◌≤◌, List, [], ◌∷◌, length, get_or, take, drop, add-one, arith, ℤ, pos, ◌+ℤ◌, ◌*ℤ◌, refl, Result, Ok, Err, ap, sym, ◌∙◌}
 use Rattle.std.proofs.Math.Seq.{drop-cons}
 use Rattle.std.proofs.lemmas.List.{get_or-take, get_or-map, length-map, length-take-le, drop_all}
 use Rattle.arithmetic.proofs.Parts.{part_above}
@@ -7,14 +7,15 @@ use Rattle.exact_num.specs.Fraction.{Fraction, whole}
 use Rattle.std.proofs.lemmas.Int.{ints, int_max_is}
 use Rattle.std.specs.Int.{int_max}
 use Rattle.exact_num.specs.declared.misfit.Wide.{Wide}
-use Rattle.exact_num.specs.Fits.{after, meaning}
+use Rattle.exact_num.specs.Fits.{add_of, mul_of, after, meaning}
 use Rattle.form.specs.declared.forms.Form.{Form}
 use Rattle.form.specs.declared.states.State.{State}
-use Rattle.form.specs.Vector.{positive_part}
+use Rattle.form.specs.Vector.{dot, positive_part}
 use Rattle.form.specs.Payoff.{option_of}
 use Rattle.form.specs.States.{vector_of}
-use Rattle.form.specs.Steps.{plus_product, dot_from, or_zero}
-use Rattle.form.proofs.WholeSteps.{after_ok, after_err}
+use Rattle.form.specs.Steps.{plus_product, dot_from, or_zero, payoff_of, PayoffsAreExact}
+use Rattle.form.proofs.WholeSteps.{mul_whole_is, add_whole_is}
+use Rattle.form.proofs.After.{after_ok, after_err, after_value}
 use Rattle.form.proofs.Vectors.{length-option_of}
 
 pub length-vector_of : (state : State) → length (vector_of state) ≡ state.count
@@ -35,7 +36,7 @@ get_or-vector_of state i lt =
 pub dot_step : (limit : ℕ) (form : Form) (state : State) (i : ℕ) (total : Fraction) → form.count ≡ state.count → i < form.count
     → dot_from limit total (drop i (option_of form)) (drop i (vector_of state))
     ≡ after (plus_product limit total (whole (get_or form.entries i (pos 0))) (whole (get_or state.entries i (pos 0))))
-        (λ sum. dot_from limit sum (drop (i + 1) (option_of form)) (drop (i + 1) (vector_of state)))
+    (λ sum. dot_from limit sum (drop (i + 1) (option_of form)) (drop (i + 1) (vector_of state)))
 dot_step limit form state i total counts lt =
     let v = option_of form in
     let z = vector_of state in
@@ -72,3 +73,31 @@ or_zero_is t = ap whole (positive_is t)
     positive_is : (t : ℤ) → pos (positive_part t) ≡ int_max t (pos 0)
     positive_is (pos n) = omega (arith, ints, int_max_is (pos n) (pos 0))
     positive_is (negsuc n) = omega (arith, ints, int_max_is (negsuc n) (pos 0))
+
+plus_whole_is : (limit : ℕ) (t a b : ℤ) (s : Fraction) → plus_product limit (whole t) (whole a) (whole b) ≡ Ok s → s ≡ whole (t +ℤ (a *ℤ b))
+plus_whole_is limit t a b s h =
+    let f = after_value (mul_of limit (whole a) (whole b)) (λ p. add_of limit (whole t) p) s h in
+    let p : f.value ≡ whole (a *ℤ b) = mul_whole_is limit a b f.value f.first in
+    add_whole_is limit t (a *ℤ b) s (rw (← p) f.rest)
+
+-- where each step fits, the sum is the scalar product
+dot_is : (limit : ℕ) (t : ℤ) (v : List ℤ) (z : List ℕ) (s : Fraction) → dot_from limit (whole t) v z ≡ Ok s → s ≡ whole (t +ℤ dot v z)
+dot_is limit t [] z s h =
+    let e : whole t ≡ s = cc in
+    sym e ∙ ap whole (omega (arith, ints))
+dot_is limit t (a ∷ v) [] s h =
+    let e : whole t ≡ s = cc in
+    sym e ∙ ap whole (omega (arith, ints))
+dot_is limit t (a ∷ v) (x ∷ z) s h =
+    let f = after_value (plus_product limit (whole t) (whole a) (whole (pos x))) (λ sum. dot_from limit sum v z) s h in
+    let here : f.value ≡ whole (t +ℤ (a *ℤ pos x)) = plus_whole_is limit t a (pos x) f.value f.first in
+    dot_is limit (t +ℤ (a *ℤ pos x)) v z s (rw (← here) f.rest) ∙ ap whole (omega (arith, ints))
+
+pub payoffs_are_exact : PayoffsAreExact
+unfolding payoff_of
+payoffs_are_exact limit v z h is =
+    let f = after_value (dot_from limit (whole (pos 0)) v z) (λ sum. Ok (or_zero sum)) h is in
+    let sum : f.value ≡ whole (pos 0 +ℤ dot v z) = dot_is limit (pos 0) v z f.value f.first in
+    let e : or_zero f.value ≡ h = cc in
+    let zero : pos 0 +ℤ dot v z ≡ dot v z = omega (arith, ints) in
+    sym e ∙ ap or_zero sum ∙ ap (λ (d : ℤ). whole (pos (positive_part d))) zero

@@ -1,18 +1,20 @@
 -- Sums and products of whole numbers, as steps with a limit. Their later home is the crate of exact numbers.
-use Rattle.std.proofs.Common.{◌≡◌, ℕ, suc, ◌*◌, ◌/◌, ◌-◌, ◌^◌, ◌≤◌, Bool, true, false, Option, Some, None, option_and_then, FitsSigned, negsuc, ◌&&◌, ℤ, pos, ◌+ℤ◌, ◌*ℤ◌, unsigned_abs, if◌then◌else◌, Result, Ok, Err, arith, refl, ap, ◌∙◌}
+use Rattle.std.proofs.Common.{◌≡◌, ℕ, suc, ◌-◌, ◌^◌, ◌≤◌, Bool, true, false, Option, Some, None, option_and_then, FitsSigned, negsuc, ℤ, pos, ◌+ℤ◌, ◌*ℤ◌, unsigned_abs, if◌then◌else◌, Ok, Err, arith, refl}
 use Rattle.std.specs.Prelude.{int_div, nat_le}
 use Rattle.std.specs.Option.{SomeIff, ok_or}
 use mir.Syntax.{w128}
 use Rattle.std.proofs.lemmas.Int.{ints}
 use Rattle.std.proofs.lemmas.Bool.Decides.{nat_tests}
 use Rattle.std.proofs.Math.Bool.{and-true}
-use Rattle.std.proofs.Math.Nat.{mul-one, div-one}
-use Rattle.arithmetic.specs.Gcd.{gcd}
+use Rattle.arithmetic.proofs.Products.{products}
 use Rattle.arithmetic.proofs.GcdLaws.{gcd-one}
 use Rattle.exact_num.specs.declared.misfit.Operator.TheVariants.{Add, Mul}
 use Rattle.exact_num.specs.declared.misfit.Wide.{Wide}
-use Rattle.exact_num.specs.Fraction.{whole, over}
-use Rattle.exact_num.specs.Fits.{size_fits, misfit, after, meaning, sum_divisor, sum_left, sum_right, sum_total, sum_common, sum_below, sum_value, sum_fits, add_of, product_above, product_below, product_value, product_fits, mul_of}
+use Rattle.exact_num.specs.Fraction.{Fraction, whole}
+use Rattle.exact_num.specs.Fits.{size_fits, misfit, meaning, sum_divisor, sum_left, sum_right, sum_total, sum_common, sum_below, sum_value, sum_fits, add_of, product_above, product_below, product_value, product_fits, mul_of}
+use Rattle.exact_num.proofs.Values.{whole_is_lowest}
+use Rattle.exact_num.proofs.Order.{lowest_is_unique}
+use Rattle.exact_num.proofs.Exactness.{sums_are_exact, products_are_exact}
 
 within : (m n : ℕ) → m ≤ n → nat_le m n ≡ true
 within m n h = grind (arith, nat_tests)
@@ -95,9 +97,12 @@ checked_step None z w h = rw (too_large z h) refl
     too_large (pos n) h = not_true _ (λ t. h (record { sfits = omega (arith, at_most n (2 ^ 127 - 1) t) }))
     too_large (negsuc n) h = not_true _ (λ t. h (record { sfits = omega (arith, at_most (suc n) (2 ^ 127 - 1) t) }))
 
--- what follows a step, where a call answers its value or its misfit
-pub after_ok : {T A B : Type 0} (f : T → A) (next : A → Result B Wide) (r : Result T Wide) (step : Result A Wide) (t : T) → meaning f r ≡ step → r ≡ Ok t → after step next ≡ next (f t)
-after_ok f next r step t m is = rw (← m, is) refl
+pub mul_whole_is : (limit : ℕ) (a b : ℤ) (p : Fraction) → mul_of limit (whole a) (whole b) ≡ Ok p → p ≡ whole (a *ℤ b)
+mul_whole_is limit a b p h =
+    let exact = products_are_exact limit (whole a) (whole b) p (whole_is_lowest a) (whole_is_lowest b) h in
+    lowest_is_unique p (whole (a *ℤ b)) exact.lowest (whole_is_lowest (a *ℤ b)) (omega (arith, ints, exact.same))
 
-pub after_err : {T A B : Type 0} (f : T → A) (next : A → Result B Wide) (r : Result T Wide) (step : Result A Wide) (w : Wide) → meaning f r ≡ step → r ≡ Err w → after step next ≡ Err w
-after_err f next r step w m is = rw (← m, is) refl
+pub add_whole_is : (limit : ℕ) (a b : ℤ) (s : Fraction) → add_of limit (whole a) (whole b) ≡ Ok s → s ≡ whole (a +ℤ b)
+add_whole_is limit a b s h =
+    let exact = sums_are_exact limit (whole a) (whole b) s (whole_is_lowest a) (whole_is_lowest b) h in
+    lowest_is_unique s (whole (a +ℤ b)) exact.lowest (whole_is_lowest (a +ℤ b)) (omega (arith, ints, products, exact.same))

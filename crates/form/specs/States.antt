@@ -1,5 +1,5 @@
 -- States of the code.
-use Rattle.std.specs.Prelude.{ℕ, List, map, take, sum}
+use Rattle.std.specs.Prelude.{ℕ, List, map, take}
 use Rattle.form.specs.declared.states.State.{State}
 use Rattle.form.specs.Vector.{positive_part}
 

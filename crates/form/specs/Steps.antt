@@ -1,7 +1,7 @@
 -- Sums of products and payoffs step by step, each step with a limit.
-use Rattle.std.specs.Prelude.{ℕ, List, [], ◌∷◌, ℤ, pos, Result, Ok, Err, ◌≡◌}
+use Rattle.std.specs.Prelude.{ℕ, List, [], ◌∷◌, ℤ, pos, Result, Ok, ◌≡◌}
 use Rattle.exact_num.specs.declared.misfit.Wide.{Wide}
-use Rattle.exact_num.specs.Fraction.{Fraction, whole, negated}
+use Rattle.exact_num.specs.Fraction.{Fraction, whole}
 use Rattle.exact_num.specs.Fits.{add_of, sub_of, mul_of, after}
 use Rattle.form.specs.Vector.{positive_part, payoff}
 

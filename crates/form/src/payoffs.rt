@@ -7,10 +7,9 @@ ghost use Rattle.form.specs.Payoff.{option_of};
 ghost use Rattle.form.specs.States.{vector_of};
 ghost use Rattle.form.specs.Steps.{payoff_of, plus_product};
 
-use exact_num::{Operator, Wide};
-
 use crate::forms::Form;
 use crate::states::State;
+use exact_num::{Operator, Wide};
 
 /// What the option pays at the state `(t, s)`: t times its payoff at the prices `s / t`. `Wide` comes exactly where a
 /// product of two entries or their sum so far is above `2^127 - 1` in size. Takes no memory.

@@ -1,12 +1,8 @@
-use Rattle.std.proofs.Common.{◌≡◌, ◌-◌, ◌^◌, arith, rules, FitsSigned, to_z, of_z, Ok, refl, ap, sym, ◌∙◌, get_or, ℤ, pos}
+use Rattle.std.proofs.Common.{◌≡◌, ◌-◌, ◌^◌, rules, FitsSigned, to_z, of_z, Ok, refl, ap, sym, ◌∙◌, get_or, pos}
 use Rattle.std.proofs.lemmas.Int.{to_z-of_z}
 use Rattle.std.proofs.lemmas.Result.{err_from_is_err_and}
 use mir.Syntax.{w128, w64}
-use Rattle.exact_num.specs.Fraction.{whole}
-use Rattle.exact_num.specs.Fits.{after}
-use Rattle.form.specs.Payoff.{option_of}
-use Rattle.form.specs.States.{vector_of}
-use Rattle.form.specs.Steps.{payoff_of, or_zero}
+use Rattle.form.specs.Steps.{payoff_of}
 use Rattle.form.proofs.DotSteps.{turn_ok, turn_err, dot_end, or_zero_is}
 use Rattle.form.proofs.payoffs.payoff.Goals as goal
 

@@ -1,4 +1,4 @@
-use Rattle.std.proofs.Common.{◌≡◌, ◌-◌, ◌^◌, arith, rules, FitsSigned, to_z, of_z, ap, ◌∙◌, sym}
+use Rattle.std.proofs.Common.{◌≡◌, ◌-◌, ◌^◌, arith, to_z, of_z}
 use Rattle.std.proofs.lemmas.Int.{to_z-of_z}
 use mir.Syntax.{w128}
 use Rattle.form.proofs.WholeSteps.{add-wholes, checked_step}
