@@ -1,3 +1,4 @@
 pub mod Places
 pub mod Sorting
+pub mod Sums
 pub mod Trades

@@ -1,3 +1,6 @@
 pub mod Entries
 pub mod Vectors
 pub mod SameOption
+pub mod After
+pub mod WholeSteps
+pub mod DotSteps

@@ -1,5 +1,7 @@
 pub mod Vector
 pub mod Payoff
+pub mod States
+pub mod Steps
 pub mod Clearing
 pub mod Limits
 pub mod Balance

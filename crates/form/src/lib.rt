@@ -6,8 +6,12 @@ pub mod laws;
 pub mod limits;
 pub mod options;
 pub mod orders;
+pub mod payoffs;
+pub mod states;
 
 pub use forms::Form;
 pub use limits::{MAX_ORDERS, MAX_PRICE, MAX_QUANTITY, MAX_STRIKE, MAX_UNDERLYINGS, MAX_WEIGHT};
 pub use options::{call, put};
 pub use orders::{Batch, Order, Orders, Side};
+pub use payoffs::payoff;
+pub use states::State;

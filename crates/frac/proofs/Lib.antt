@@ -1,0 +1,5 @@
+pub mod Choices
+pub mod Turns
+pub mod Equality
+pub mod SumSteps
+pub mod ProductSteps
