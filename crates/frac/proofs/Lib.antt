@@ -3,3 +3,4 @@ pub mod Turns
 pub mod Equality
 pub mod SumSteps
 pub mod ProductSteps
+pub mod ShareSteps
