@@ -1,4 +1,7 @@
+pub mod MatchLaws
+pub mod Matched
 pub mod Places
+pub mod Sides
 pub mod Sorting
 pub mod Sums
 pub mod Trades

@@ -2,6 +2,7 @@
 #![tactic(auto)]
 
 mod auction;
+pub mod laws;
 mod offers;
 
 pub use auction::match_each;

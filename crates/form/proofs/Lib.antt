@@ -4,3 +4,4 @@ pub mod SameOption
 pub mod After
 pub mod WholeSteps
 pub mod DotSteps
+pub mod SameForm

@@ -11,3 +11,5 @@ pub mod Tree
 pub mod Line
 pub mod Written
 pub mod Certificate
+pub mod FormOf
+pub mod Padded
