@@ -4,9 +4,10 @@ use Rattle.std.specs.List.{zip}
 use Rattle.std.proofs.lemmas.List.Elements.{All-cons}
 use Rattle.std.proofs.lemmas.Int.{ints}
 use Rattle.arithmetic.proofs.Products.{products}
+use Rattle.arithmetic.proofs.Sums.{All-head, All-tail}
 use Rattle.form.specs.declared.orders.Order.{Order}
 use Rattle.form.specs.Balance.{is_same_bundle, one_if, balance_of}
-use Rattle.form.specs.Clearing.{Filled, net, premium, buys_less_sells, signed_sum, as_signed}
+use Rattle.form.specs.Clearing.{Filled, AreFills, net, premium, buys_less_sells}
 use Rattle.form.specs.Payoff.{BundleLeg, bundle_of, bundle_payoff}
 use Rattle.market_laws.proofs.Legs.{signed_sums_agree}
 use Rattle.each_match.specs.Match.{match_by_option}
@@ -47,3 +48,15 @@ match_covers n orders t s some size =
     let owed = match_owes_nothing orders (t ∷ s) in
     let m = matched orders in
     omega (arith, ints, products, owed)
+
+-- fills of orders whose quantities are at most a limit are at most that limit
+pub fills_small : (limit : ℕ) (orders : List Order) (fills : List ℕ) → AreFills orders fills 1 → All (λ (order : Order). order.quantity ≤ limit) orders → All (λ fill. fill ≤ limit) fills
+fills_small limit [] [] h small = λ k d lt. absurd (omega arith)
+fills_small limit [] (g ∷ fills) h small = absurd (omega (arith, h.1))
+fills_small limit (o ∷ orders) [] h small = absurd (omega (arith, h.1))
+fills_small limit (o ∷ orders) (g ∷ fills) h small =
+    let P : Filled → Type 0 = λ fill. fill.1 ≤ fill.0.quantity * 1 in
+    let Q : Order → Type 0 = λ order. order.quantity ≤ limit in
+    let first = All-head P (o, g) (zip orders fills) h.2 in
+    let bound = All-head Q o orders small in
+    All-cons (λ fill. fill ≤ limit) g fills (omega (arith, first, bound)) (fills_small limit orders fills (omega arith, omega (arith, h.1), All-tail P (o, g) (zip orders fills) h.2) (All-tail Q o orders small))

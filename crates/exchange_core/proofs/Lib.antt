@@ -1,3 +1,1 @@
-pub mod Balances
-pub mod KeptTotals
-pub mod Steps
+pub mod Surplus

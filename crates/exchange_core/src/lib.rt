@@ -1,17 +1,19 @@
-//! The exchange: accounts, the entries of their ledger, and one step for each command.
+//! The exchange: one step for each command, over the accounts of its ledger and the live orders of its market.
 #![tactic(auto)]
 
-mod accounts;
+mod clear;
 mod command;
-mod entry;
 mod exchange;
+mod fills;
 mod limits;
 mod refusal;
 mod reply;
+mod trade;
 
-pub use command::Command;
-pub use entry::{Cause, Entry};
+pub use cash_ledger::{MAX_ACCOUNT, MAX_AMOUNT};
+pub use command::{Command, Kind};
 pub use exchange::Exchange;
-pub use limits::{MAX_ACCOUNT, MAX_ACCOUNTS, MAX_AMOUNT};
+pub use fills::Fills;
+pub use limits::{MAX_ACCEPTED, MAX_BATCHES, MAX_BUDGET, MAX_MARKET};
 pub use refusal::Refusal;
 pub use reply::Reply;

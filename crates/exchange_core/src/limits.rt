@@ -1,10 +1,13 @@
-// The limits of what a command may say and of what an exchange holds.
+// The limits of what a command may say and of what an exchange takes in its life.
 
-/// The greatest number of an account. Account 0 is the house.
-pub const MAX_ACCOUNT: u32 = 999_999_999;
+/// The greatest number of a market.
+pub const MAX_MARKET: u32 = 999_999_999;
 
-/// The greatest amount of a deposit, in ticks.
-pub const MAX_AMOUNT: u64 = 1_000_000_000_000_000;
+/// The greatest work budget of a clear, in units.
+pub const MAX_BUDGET: u32 = 20_000;
 
-/// At most so many accounts are open, the house apart.
-pub const MAX_ACCOUNTS: usize = 10_000;
+/// So many orders are accepted in the life of an exchange.
+pub const MAX_ACCEPTED: u64 = 1_000_000;
+
+/// So many batches are cleared in the life of an exchange.
+pub const MAX_BATCHES: u32 = 2_000_000;

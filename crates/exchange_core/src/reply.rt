@@ -1,20 +1,27 @@
 ghost use Rattle.std.specs.Prelude.{◌≡◌};
-ghost use Rattle.exchange_core.specs.Refusal.{number_of};
 ghost use Rattle.exchange_core.specs.Reply.{refused_with};
 
-use crate::Refusal;
+use crate::{Fills, Refusal};
+use form::Batch;
 
-/// What a command line is answered. Balances are in ticks.
-#[derive(Clone, Copy, Debug, PartialEq, Eq)]
+/// What a command line is answered. Balances and amounts are in ticks.
+#[derive(Debug, Drop)]
 pub enum Reply {
     /// The account is open, with balance 0.
-    Opened {
-        account: u32,
-    },
+    Opened { account: u32 },
     /// The amount was added; the new balance.
-    Deposited {
-        account: u32,
-        balance: i128,
+    Deposited { account: u32, balance: i128 },
+    /// The market is listed.
+    Listed { market: u32, underlyings: u8 },
+    /// The order is live, under its number.
+    Placed { order: u64 },
+    /// The batch of this number was cleared: what was filled of its orders, and what the house keeps.
+    Cleared {
+        number: u32,
+        market: u32,
+        batch: Batch,
+        fills: Fills,
+        surplus: i128,
     },
     /// The balance of an account, and what of it is reserved for its live buys.
     Balance {
@@ -23,10 +30,7 @@ pub enum Reply {
         reserved: i128,
     },
     /// The line was refused, by the number of the refusal; `field` is 0 but where a field is out of its range.
-    Refused {
-        number: u32,
-        field: u8,
-    },
+    Refused { number: u32, field: u8 },
 }
 
 impl Reply {

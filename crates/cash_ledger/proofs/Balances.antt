@@ -1,0 +1,36 @@
+-- Balances as entries come, and how large they grow.
+use Rattle.std.proofs.Common.{◌≡◌, ℕ, ◌*◌, ℤ, pos, negsuc, ◌+ℤ◌, ◌≤ℤ◌, List, [], ◌∷◌, ◌++◌, true, false, if◌then◌else◌, nat_eq, length, FitsSigned, sym, ap, ap₂, ◌∙◌, arith}
+use Rattle.std.proofs.lemmas.Int.{ints, to_z-of_z}
+use Rattle.std.proofs.Math.IntN.{+ℤ_assoc, +ℤ_comm}
+use mir.Val.{to_z, of_z}
+use mir.Syntax.{w128}
+use Rattle.cash_ledger.specs.Entries.{share, balance_of, IsBounded, AreBounded}
+use Rattle.cash_ledger.specs.declared.entry.Entry.{Entry}
+
+pub balance_of-push : (account : ℕ) (entries : List Entry) (entry : Entry) → balance_of account (entries ++ entry ∷ []) ≡ balance_of account entries +ℤ share account entry
+balance_of-push account [] entry = +ℤ_comm (share account entry) (pos 0)
+balance_of-push account (e ∷ entries) entry =
+    ap (λ z. share account e +ℤ z) (balance_of-push account entries entry) ∙ sym (+ℤ_assoc (share account e) (balance_of account entries) (share account entry))
+
+pub AreBounded-push : (entries : List Entry) (entry : Entry) → AreBounded entries → IsBounded entry → AreBounded (entries ++ entry ∷ [])
+AreBounded-push [] entry all one = (one, tt)
+AreBounded-push (e ∷ entries) entry all one = (all.0, AreBounded-push entries entry all.1 one)
+
+share_bound : (account : ℕ) (entry : Entry) → IsBounded entry → (negsuc 8000999999999999999 ≤ℤ share account entry) × (share account entry ≤ℤ pos 8001000000000000000)
+share_bound account entry h =
+    elim (nat_eq account entry.account) as (λ b. (negsuc 8000999999999999999 ≤ℤ (if b then entry.amount else pos 0)) × ((if b then entry.amount else pos 0) ≤ℤ pos 8001000000000000000)) [
+      | true ↦ h
+      | false ↦ (omega (arith, ints), omega (arith, ints))
+    ]
+
+-- a balance is at most the limit for each entry
+pub balance_size : (account : ℕ) (entries : List Entry) → AreBounded entries → (pos 0 ≤ℤ (balance_of account entries +ℤ pos (8001000000000000000 * length entries))) × (balance_of account entries ≤ℤ pos (8001000000000000000 * length entries))
+balance_size account [] all = (omega (arith, ints), omega (arith, ints))
+balance_size account (e ∷ entries) all =
+    let s = share_bound account e all.0 in
+    let r = balance_size account entries all.1 in
+    (omega (arith, ints, s.0, s.1, r.0, r.1), omega (arith, ints, s.0, s.1, r.0, r.1))
+
+-- a balance and an amount that a call is told, and their sum as it is told again
+pub told_sum : (balance amount sum : ℤ) → FitsSigned w128 balance → FitsSigned w128 amount → FitsSigned w128 sum → sum ≡ to_z w128 (of_z w128 balance) +ℤ to_z w128 (of_z w128 amount) → to_z w128 (of_z w128 sum) ≡ balance +ℤ amount
+told_sum balance amount sum fits fits_amount fits_sum is = to_z-of_z w128 sum fits_sum ∙ is ∙ ap₂ (λ x y. x +ℤ y) (to_z-of_z w128 balance fits) (to_z-of_z w128 amount fits_amount)

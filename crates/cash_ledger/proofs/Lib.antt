@@ -1,0 +1,3 @@
+pub mod Balances
+pub mod BehindHouse
+pub mod KeptTotals
