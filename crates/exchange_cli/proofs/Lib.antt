@@ -1,2 +1,4 @@
 pub mod LastLine
+pub mod Pieces
+pub mod Weights
 pub mod Written

@@ -1,27 +1,35 @@
 -- What a line says: a command whose numbers are within the limits, or why the line is refused.
-use Rattle.std.specs.Prelude.{ℕ, List, [], ◌∷◌, Bool, ◌==◌, ◌||◌, if◌then◌else◌, codes, Result, Ok, Err}
-use Rattle.std.specs.List.{slice_split}
+use Rattle.std.specs.Prelude.{ℕ, ℤ, pos, List, [], ◌∷◌, ◌++◌, Bool, not, ◌==◌, ◌||◌, nat_le, if◌then◌else◌, codes, length, replicate, take, Result, Ok, Err}
+use Rattle.std.specs.List.{slice_split, list_any}
+use Rattle.std.specs.Ordering.{int_eq}
 use Rattle.std.specs.Str.{bytes_eq}
+use Rattle.cash_ledger.specs.declared.limits.TheConstants.{MAX_ACCOUNT, MAX_AMOUNT}
+use Rattle.form.specs.declared.limits.TheConstants.{MAX_STRIKE, MAX_WEIGHT, MAX_PRICE, MAX_QUANTITY}
+use Rattle.form.specs.declared.orders.Side.{Side}
+use Rattle.form.specs.declared.orders.Side.TheVariants.{Buy, Sell}
 use Rattle.exchange_core.specs.declared.command.Command.{Command}
-use Rattle.exchange_core.specs.declared.command.Command.TheVariants.{Open, Deposit, Balance}
-use Rattle.exchange_core.specs.declared.limits.TheConstants.{MAX_ACCOUNT, MAX_AMOUNT}
+use Rattle.exchange_core.specs.declared.command.Command.TheVariants.{Open, Deposit, Market, Trade, Clear, Balance}
+use Rattle.exchange_core.specs.declared.command.Kind.{Kind}
+use Rattle.exchange_core.specs.declared.command.Kind.TheVariants.{Call, Put}
+use Rattle.exchange_core.specs.declared.limits.TheConstants.{MAX_MARKET, MAX_BUDGET}
 use Rattle.exchange_core.specs.declared.refusal.Refusal.{Refusal}
 use Rattle.exchange_core.specs.declared.refusal.Refusal.TheVariants.{Syntax, NotBuilt}
-use Rattle.exchange_cli.specs.Numbers.{natural_in}
+use Rattle.exchange_cli.specs.declared.trades.Offer.{Offer}
+use Rattle.exchange_cli.specs.declared.trades.Terms.{Terms}
+use Rattle.exchange_cli.specs.Numbers.{natural_in, whole_within, accepted}
 
 -- the words whose commands are not built, whatever follows them
 abbrev pub is_not_built : List ℕ → Bool
-is_not_built word =
-    bytes_eq word (codes "withdraw") || (bytes_eq word (codes "cancel") || (bytes_eq word (codes "settle")
-    || (bytes_eq word (codes "market") || (bytes_eq word (codes "buy") || (bytes_eq word (codes "sell") || bytes_eq word (codes "clear"))))))
-
--- f at the value, or the refusal
-abbrev pub accepted : {A : Type 0} → Result A Refusal → (A → Result Command Refusal) → Result Command Refusal
-accepted (Ok a) f = f a
-accepted (Err refusal) f = Err refusal
+is_not_built word = bytes_eq word (codes "withdraw") || (bytes_eq word (codes "cancel") || bytes_eq word (codes "settle"))
 
 abbrev pub account_in : List ℕ → Result ℕ Refusal
 account_in field = natural_in 1 MAX_ACCOUNT field
+
+abbrev pub market_in : List ℕ → Result ℕ Refusal
+market_in field = natural_in 1 MAX_MARKET field
+
+abbrev pub kind_in : List ℕ → Result Kind Refusal
+kind_in field = if bytes_eq field (codes "call") then Ok Call else if bytes_eq field (codes "put") then Ok Put else Err Syntax
 
 -- open,ACCOUNT
 abbrev pub open_command : List (List ℕ) → Result Command Refusal
@@ -32,6 +40,54 @@ open_command fields = Err Syntax
 abbrev pub deposit_command : List (List ℕ) → Result Command Refusal
 deposit_command (account ∷ amount ∷ []) = accepted (account_in account) (λ a. accepted (natural_in 1 MAX_AMOUNT amount) (λ n. Ok (Deposit a n)))
 deposit_command fields = Err Syntax
+
+-- market,MARKET,N
+abbrev pub market_command : List (List ℕ) → Result Command Refusal
+market_command (market ∷ underlyings ∷ []) = accepted (market_in market) (λ m. accepted (natural_in 1 8 underlyings) (λ n. Ok (Market m n)))
+market_command fields = Err Syntax
+
+-- the whole numbers of fields
+abbrev pub weights_in : List (List ℕ) → Result (List ℤ) Refusal
+weights_in [] = Ok []
+weights_in (field ∷ fields) = accepted (whole_within MAX_WEIGHT field) (λ w. accepted (weights_in fields) (λ ws. Ok (w ∷ ws)))
+
+-- eight entries, which are 0 past the weights
+abbrev pub eight_of : List ℤ → List ℤ
+eight_of weights = take 8 (weights ++ replicate 8 (pos 0))
+
+-- some weight is not 0
+abbrev pub is_weighted : List ℤ → Bool
+is_weighted weights = list_any (λ w. not (int_eq w (pos 0))) weights
+
+-- at most 8 weights, not all of them 0: how many there are, and eight entries
+abbrev pub eight_weights : List (List ℕ) → Result (ℕ × List ℤ) Refusal
+eight_weights fields =
+    if nat_le (length fields) 8 then accepted (weights_in fields) (λ ws. if is_weighted ws then Ok (length ws, eight_of ws) else Err Syntax) else Err Syntax
+
+-- PRICE,QUANTITY,W1,..,Wn
+abbrev pub terms_in : List (List ℕ) → Result Terms Refusal
+terms_in (price ∷ quantity ∷ weights) =
+    accepted (natural_in 0 MAX_PRICE price) (λ p. accepted (natural_in 1 MAX_QUANTITY quantity) (λ q. accepted (eight_weights weights) (λ w.
+    Ok (record { price = p; quantity = q; count = w.0; weights = w.1 }))))
+terms_in fields = Err Syntax
+
+-- KIND,STRIKE and then the terms
+abbrev pub offer_in : List (List ℕ) → Result Offer Refusal
+offer_in (kind ∷ strike ∷ terms) =
+    accepted (kind_in kind) (λ k. accepted (whole_within MAX_STRIKE strike) (λ s. accepted (terms_in terms) (λ t. Ok (record { kind = k; strike = s; terms = t }))))
+offer_in fields = Err Syntax
+
+-- ACCOUNT,MARKET and then the offer, after the word of a side
+abbrev pub trade_command : Side → List (List ℕ) → Result Command Refusal
+trade_command side (account ∷ market ∷ offer) =
+    accepted (account_in account) (λ a. accepted (market_in market) (λ m. accepted (offer_in offer) (λ o.
+    Ok (Trade side a m o.kind o.strike o.terms.price o.terms.quantity o.terms.count o.terms.weights))))
+trade_command side fields = Err Syntax
+
+-- clear,MARKET,BUDGET
+abbrev pub clear_command : List (List ℕ) → Result Command Refusal
+clear_command (market ∷ budget ∷ []) = accepted (market_in market) (λ m. accepted (natural_in 1 MAX_BUDGET budget) (λ b. Ok (Clear m b)))
+clear_command fields = Err Syntax
 
 -- balance,ACCOUNT
 abbrev pub balance_command : List (List ℕ) → Result Command Refusal
@@ -45,6 +101,10 @@ command_of_fields (word ∷ fields) =
     if is_not_built word then Err NotBuilt
     else if bytes_eq word (codes "open") then open_command fields
     else if bytes_eq word (codes "deposit") then deposit_command fields
+    else if bytes_eq word (codes "market") then market_command fields
+    else if bytes_eq word (codes "buy") then trade_command Buy fields
+    else if bytes_eq word (codes "sell") then trade_command Sell fields
+    else if bytes_eq word (codes "clear") then clear_command fields
     else if bytes_eq word (codes "balance") then balance_command fields
     else Err Syntax
 

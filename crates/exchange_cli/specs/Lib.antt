@@ -5,4 +5,5 @@ pub mod Output
 pub mod Progress
 pub mod Status
 pub mod Texts
+pub mod Trades
 pub mod Words

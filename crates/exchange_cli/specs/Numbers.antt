@@ -1,5 +1,5 @@
 -- Number texts.
-use Rattle.std.specs.Prelude.{ℕ, ◌+◌, ◌-◌, ◌*◌, List, [], ◌∷◌, Bool, false, not, ◌&&◌, ◌||◌, ◌==◌, nat_le, fold, Result, Ok, Err, if◌then◌else◌}
+use Rattle.std.specs.Prelude.{ℕ, ℤ, pos, neg_ℤ, ◌+◌, ◌-◌, ◌*◌, List, [], ◌∷◌, Bool, false, not, ◌&&◌, ◌||◌, ◌==◌, nat_le, fold, Result, Ok, Err, if◌then◌else◌}
 use Rattle.std.specs.Char.{is_ascii_digit}
 use Rattle.std.specs.List.{list_all}
 use Rattle.exchange_core.specs.declared.refusal.Refusal.{Refusal}
@@ -18,3 +18,14 @@ natural_value text = fold (λ n d. 10 * n + (d - 48)) 0 text
 abbrev pub natural_in : ℕ → ℕ → List ℕ → Result ℕ Refusal
 natural_in low high text =
     if is_natural text && (nat_le low (natural_value text) && nat_le (natural_value text) high) then Ok (natural_value text) else Err Syntax
+
+-- f at the value, or the refusal
+abbrev pub accepted : {A B : Type 0} → Result A Refusal → (A → Result B Refusal) → Result B Refusal
+accepted (Ok a) f = f a
+accepted (Err refusal) f = Err refusal
+
+-- the whole number of a text, where its size is at most a bound: a natural number, or `-` before one that is not 0
+abbrev pub whole_within : ℕ → List ℕ → Result ℤ Refusal
+whole_within bound [] = Err Syntax
+whole_within bound (c ∷ cs) =
+    if c == 45 then accepted (natural_in 1 bound cs) (λ n. Ok (neg_ℤ (pos n))) else accepted (natural_in 0 bound (c ∷ cs)) (λ n. Ok (pos n))

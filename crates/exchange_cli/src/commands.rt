@@ -1,33 +1,51 @@
 // The commands on the lines.
 ghost use Rattle.std.specs.Prelude.{◌≡◌, ◌≤◌, map, IfOk, OnOk};
-ghost use Rattle.exchange_core.specs.declared.limits.TheConstants.{MAX_ACCOUNT};
-ghost use Rattle.exchange_core.specs.Step.{IsWithin};
-ghost use Rattle.exchange_cli.specs.Commands.{command_of, command_of_fields, open_command, deposit_command, balance_command, is_not_built, account_in};
+ghost use Rattle.cash_ledger.specs.declared.limits.TheConstants.{MAX_ACCOUNT};
+ghost use Rattle.exchange_core.specs.declared.limits.TheConstants.{MAX_MARKET};
+ghost use Rattle.exchange_core.specs.Within.{IsWithin};
+ghost use Rattle.exchange_cli.specs.Commands.{command_of, command_of_fields, open_command, deposit_command, market_command, clear_command, balance_command, is_not_built, account_in, market_in, kind_in};
 
 use crate::lines::pieces;
 use crate::numbers::natural;
-use exchange_core::{Command, MAX_ACCOUNT, MAX_AMOUNT, Refusal};
+use crate::trades::trade;
+use exchange_core::{Command, Kind, MAX_ACCOUNT, MAX_AMOUNT, MAX_BUDGET, MAX_MARKET, Refusal};
+use form::Side;
 use std::alloc::{AllocError, Global};
 
 fn is_later_command(word: &[u8]) -> bool
     ensures { result ≡ is_not_built word.now }
 {
-    word == b"withdraw".as_slice()
-        || word == b"cancel".as_slice()
-        || word == b"settle".as_slice()
-        || word == b"market".as_slice()
-        || word == b"buy".as_slice()
-        || word == b"sell".as_slice()
-        || word == b"clear".as_slice()
+    word == b"withdraw".as_slice() || word == b"cancel".as_slice() || word == b"settle".as_slice()
 }
 
 // The number of an account other than the house.
-fn account(field: &[u8]) -> Result<u32, Refusal>
+pub(crate) fn account(field: &[u8]) -> Result<u32, Refusal>
     ensures value { result ≡ account_in field.now }
     ensures within { IfOk result (λ a. (1 ≤ a) × (a ≤ MAX_ACCOUNT)) }
 {
     let number = natural(field, 1, u64::from(MAX_ACCOUNT))?;
     Ok(number as u32)
+}
+
+// The number of a market.
+pub(crate) fn market(field: &[u8]) -> Result<u32, Refusal>
+    ensures value { result ≡ market_in field.now }
+    ensures within { IfOk result (λ m. (1 ≤ m) × (m ≤ MAX_MARKET)) }
+{
+    let number = natural(field, 1, u64::from(MAX_MARKET))?;
+    Ok(number as u32)
+}
+
+pub(crate) fn kind(field: &[u8]) -> Result<Kind, Refusal>
+    ensures { result ≡ kind_in field.now }
+{
+    if field == b"call".as_slice() {
+        Ok(Kind::Call)
+    } else if field == b"put".as_slice() {
+        Ok(Kind::Put)
+    } else {
+        Err(Refusal::Syntax)
+    }
 }
 
 fn open(fields: &[&[u8]]) -> Result<Command, Refusal>
@@ -52,6 +70,36 @@ fn deposit(fields: &[&[u8]]) -> Result<Command, Refusal>
     Ok(Command::Deposit {
         account: account(number)?,
         amount: natural(amount, 1, MAX_AMOUNT)?,
+    })
+}
+
+fn list(fields: &[&[u8]]) -> Result<Command, Refusal>
+    ensures command { result ≡ market_command (map (λ f. f.now) fields.now) }
+    ensures within { IfOk result IsWithin }
+{
+    let [number, underlyings] = fields else {
+        return Err(Refusal::Syntax);
+    };
+    let market = market(number)?;
+    let underlyings = natural(underlyings, 1, 8)?;
+    Ok(Command::Market {
+        market,
+        underlyings: underlyings as u8,
+    })
+}
+
+fn clear(fields: &[&[u8]]) -> Result<Command, Refusal>
+    ensures command { result ≡ clear_command (map (λ f. f.now) fields.now) }
+    ensures within { IfOk result IsWithin }
+{
+    let [number, budget] = fields else {
+        return Err(Refusal::Syntax);
+    };
+    let market = market(number)?;
+    let budget = natural(budget, 1, u64::from(MAX_BUDGET))?;
+    Ok(Command::Clear {
+        market,
+        budget: budget as u32,
     })
 }
 
@@ -82,6 +130,14 @@ fn command(fields: &[&[u8]]) -> Result<Command, Refusal>
         open(fields)
     } else if *word == b"deposit".as_slice() {
         deposit(fields)
+    } else if *word == b"market".as_slice() {
+        list(fields)
+    } else if *word == b"buy".as_slice() {
+        trade(Side::Buy, fields)
+    } else if *word == b"sell".as_slice() {
+        trade(Side::Sell, fields)
+    } else if *word == b"clear".as_slice() {
+        clear(fields)
     } else if *word == b"balance".as_slice() {
         balance(fields)
     } else {

@@ -1,6 +1,7 @@
 //! The exchange program: command lines in, reply lines out.
 #![tactic(auto)]
 
+mod batches;
 mod commands;
 mod lines;
 mod numbers;
@@ -9,6 +10,7 @@ mod status;
 #[cfg(test)]
 mod tests;
 mod texts;
+mod trades;
 
 use port_io::{StdSink, StdSource};
 pub use run::{MAX_INPUT, exchange};

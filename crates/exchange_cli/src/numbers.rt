@@ -1,6 +1,6 @@
 // Number texts.
-ghost use Rattle.std.specs.Prelude.{◌≡◌, ◌≤◌, IfOk};
-ghost use Rattle.exchange_cli.specs.Numbers.{natural_in};
+ghost use Rattle.std.specs.Prelude.{◌≡◌, ◌≤◌, unsigned_abs, IfOk};
+ghost use Rattle.exchange_cli.specs.Numbers.{natural_in, whole_within};
 
 use exchange_core::Refusal;
 
@@ -28,4 +28,18 @@ pub(crate) fn natural(field: &[u8], low: u64, high: u64) -> Result<u64, Refusal>
     } else {
         Err(Refusal::Syntax)
     }
+}
+
+// The whole number of a field, where its size is at most a bound.
+pub(crate) fn whole(field: &[u8], bound: u64) -> Result<i64, Refusal>
+    requires { bound ≤ 1000000000000000 }
+    ensures value { result ≡ whole_within bound field.now }
+    ensures within { IfOk result (λ w. unsigned_abs w ≤ bound) }
+{
+    if let [b'-', digits @ ..] = field {
+        let size = natural(digits, 1, bound)?;
+        return Ok(-(size as i64));
+    }
+    let size = natural(field, 0, bound)?;
+    Ok(size as i64)
 }

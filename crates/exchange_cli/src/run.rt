@@ -4,7 +4,7 @@ ghost use Rattle.std.specs.Io.KnownBytes.{Appends};
 ghost use Rattle.port_io.specs.Faults.{Rose, raised};
 ghost use Rattle.port_io.specs.Writes.{AppendsFront};
 ghost use Rattle.exchange_core.specs.ExchangeState.{empty_exchange};
-ghost use Rattle.exchange_core.specs.Step.{IsWithin};
+ghost use Rattle.exchange_core.specs.Within.{IsWithin};
 ghost use Rattle.exchange_cli.specs.Output.{output, output_from, line_step, answered};
 ghost use Rattle.exchange_cli.specs.Words.{is_run};
 ghost use Rattle.exchange_cli.specs.declared.run.RunStop.TheVariants.{OutOfMemory, SinkFailed};

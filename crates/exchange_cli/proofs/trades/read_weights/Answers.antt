@@ -1,0 +1,23 @@
+use Rattle.std.proofs.Common.{◌≡◌, ◌≤◌, ℕ, ℤ, Bool, true, false, if◌then◌else◌, List, length, map, take, Result, Ok, Err, sym, ap, ◌∙◌, arith}
+use Rattle.std.proofs.lemmas.List.{length-map}
+use Rattle.exchange_core.specs.declared.refusal.Refusal.{Refusal}
+use Rattle.exchange_core.specs.declared.refusal.Refusal.TheVariants.{Syntax}
+use Rattle.exchange_cli.specs.Commands.{eight_weights, is_weighted, weights_in}
+use Rattle.exchange_cli.specs.Trades.{ReadsWeights}
+use Rattle.exchange_cli.proofs.Weights.{weights_are}
+use Rattle.exchange_cli.proofs.trades.read_weights.Goals as goal
+
+-- the answer of the test, where so many fields were read
+tested : (texts : List (List ℕ)) (n : ℕ) (entries : List ℤ) (weighted answer : Bool) → length texts ≡ n → n ≤ 8 → ReadsWeights (weights_in texts) (Ok entries) → weighted ≡ is_weighted (take n entries) → weighted ≡ answer
+    → (if answer then Ok (n, entries) else Err Syntax) ≡ eight_weights texts
+tested texts n entries weighted answer size few reads is told =
+    sym (λ i. if told i then Ok (size i, entries) else Err Syntax)
+    ∙ sym (weights_are texts entries weighted (omega (arith, size)) reads (is ∙ ap (λ m. is_weighted (take m entries)) (sym size)))
+
+pub returns-then-not-are_weighted-clause-weights : goal.returns-then-not-are_weighted-clause-weights
+returns-then-not-are_weighted-clause-weights c =
+    tested (map (λ f. f.now) c.args.fields.now) (length c.args.fields.now) c.in_ok-entries.entries c.are_weighted.result false (length-map c.args.fields.now (λ f. f.now)) (omega arith) c.in_ok-entries.ensures c.are_weighted.ensures c.if-not-are_weighted.true
+
+pub returns-clause-weights : goal.returns-clause-weights
+returns-clause-weights c =
+    tested (map (λ f. f.now) c.args.fields.now) (length c.args.fields.now) c.in_ok-entries.entries c.are_weighted.result true (length-map c.args.fields.now (λ f. f.now)) (omega arith) c.in_ok-entries.ensures c.are_weighted.ensures c.if-not-are_weighted.false
