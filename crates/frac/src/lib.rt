@@ -8,3 +8,6 @@ pub mod shares;
 pub use bits128::Frac128;
 pub use exact_num::gcd;
 pub use shares::{mul_div_ceil, mul_div_floor};
+
+#[cfg(test)]
+mod tests;
