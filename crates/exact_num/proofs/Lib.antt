@@ -9,3 +9,6 @@ pub mod Exactness
 pub mod Fractions
 pub mod Rationals
 pub mod Totals
+pub mod WholeNumbers
+pub mod After
+pub mod GreaterLimit
