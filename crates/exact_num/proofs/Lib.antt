@@ -1,5 +1,6 @@
 mod Rows
 pub mod DivisorSteps
+pub mod Answered
 pub mod Values
 pub mod ProductValues
 pub mod Order
