@@ -8,6 +8,7 @@ pub mod Differences
 pub mod Units
 pub mod Exactness
 pub mod Fractions
+pub mod Ratios
 pub mod Rationals
 pub mod Totals
 pub mod WholeNumbers

@@ -21,10 +21,18 @@ below_is : (a b : ℤ) → product_below (whole a) (whole b) ≡ 1
 unfolding product_below
 below_is a b = rw (gcd-one (unsigned_abs a), gcd-one (unsigned_abs b)) refl
 
+pub product_fits-wholes : (limit : ℕ) (a b : ℤ) → 1 ≤ limit → product_fits limit (whole a) (whole b) ≡ size_fits limit (a *ℤ b)
+unfolding product_fits
+product_fits-wholes limit a b one = rw (above_is a b, below_is a b, le-leb 1 limit one, and-true (size_fits limit (a *ℤ b))) refl
+
+pub product_value-wholes : (a b : ℤ) → product_value (whole a) (whole b) ≡ whole (a *ℤ b)
+unfolding product_value
+product_value-wholes a b = rw (above_is a b, below_is a b) refl
+
 pub mul-wholes : (limit : ℕ) (a b : ℤ) → 1 ≤ limit
     → mul_of limit (whole a) (whole b) ≡ (if size_fits limit (a *ℤ b) then Ok (whole (a *ℤ b)) else Err (misfit Mul (whole a) (whole b)))
-unfolding mul_of product_fits product_value
-mul-wholes limit a b one = rw (above_is a b, below_is a b, le-leb 1 limit one, and-true (size_fits limit (a *ℤ b))) refl
+unfolding mul_of
+mul-wholes limit a b one = rw (product_fits-wholes limit a b one, product_value-wholes a b) refl
 
 sum_left_is : (a b : ℤ) → sum_left (whole a) (whole b) ≡ a
 unfolding sum_left sum_divisor
@@ -46,22 +54,28 @@ sum_below_is : (a b : ℤ) → sum_below (whole a) (whole b) ≡ 1
 unfolding sum_below sum_divisor
 sum_below_is a b = rw (gcd-one 1, sum_common_is a b) refl
 
-pub add-wholes : (limit : ℕ) (a b : ℤ) → 1 ≤ limit → unsigned_abs a ≤ limit → unsigned_abs b ≤ limit
-    → add_of limit (whole a) (whole b) ≡ (if size_fits limit (a +ℤ b) then Ok (whole (a +ℤ b)) else Err (misfit Add (whole a) (whole b)))
-unfolding add_of sum_fits sum_value
-add-wholes limit a b one left right =
+pub sum_fits-wholes : (limit : ℕ) (a b : ℤ) → 1 ≤ limit → unsigned_abs a ≤ limit → unsigned_abs b ≤ limit → sum_fits limit (whole a) (whole b) ≡ size_fits limit (a +ℤ b)
+unfolding sum_fits
+sum_fits-wholes limit a b one left right =
     rw (
       sum_left_is a b,
       sum_right_is a b,
       sum_total_is a b,
-      sum_common_is a b,
       sum_below_is a b,
       le-leb (unsigned_abs a) limit left,
       le-leb (unsigned_abs b) limit right,
       le-leb 1 limit one,
       and-true (size_fits limit (a +ℤ b)),
-      int_div-one (a +ℤ b),
     ) refl
+
+pub sum_value-wholes : (a b : ℤ) → sum_value (whole a) (whole b) ≡ whole (a +ℤ b)
+unfolding sum_value
+sum_value-wholes a b = rw (sum_total_is a b, sum_common_is a b, sum_below_is a b, int_div-one (a +ℤ b)) refl
+
+pub add-wholes : (limit : ℕ) (a b : ℤ) → 1 ≤ limit → unsigned_abs a ≤ limit → unsigned_abs b ≤ limit
+    → add_of limit (whole a) (whole b) ≡ (if size_fits limit (a +ℤ b) then Ok (whole (a +ℤ b)) else Err (misfit Add (whole a) (whole b)))
+unfolding add_of
+add-wholes limit a b one left right = rw (sum_fits-wholes limit a b one left right, sum_value-wholes a b) refl
 
 -- a whole number within the limit is taken in
 pub whole_fits : (limit : ℕ) (v : ℤ) → unsigned_abs v ≤ limit → whole_of limit v ≡ Ok (whole v)

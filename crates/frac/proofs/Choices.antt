@@ -1,5 +1,9 @@
 -- What a value behind a test says of the test, and an answer of both.
-use Rattle.std.proofs.Common.{◌≡◌, Bool, true, false, refl, ap}
+use Rattle.std.proofs.Common.{◌≡◌, Bool, true, false, refl, sym, ap, ◌∙◌, ℕ, ◌≤◌, ℤ, unsigned_abs}
+use Rattle.std.proofs.lemmas.Bool.{leb-true}
+use Rattle.exact_num.specs.Fraction.{Fraction, over}
+use Rattle.exact_num.specs.Fits.{size_fits}
+use Rattle.frac.specs.Range.{within}
 use Rattle.std.specs.Prelude.{Option, Some, None, Ok, Err, if◌then◌else◌}
 use Rattle.exact_num.specs.declared.misfit.Wide.{Wide}
 
@@ -19,3 +23,15 @@ some_answers false w v m h = cc
 pub none_answers : {A : Type 0} (b : Bool) (v : A) (k m : Wide) → k ≡ m → None ≡ (if b then Some v else None) → Err k ≡ (if b then Ok v else Err m)
 none_answers true v k m e h = cc
 none_answers false v k m e h = ap Err e
+
+-- ---- a whole number within the limit, or none
+pub whole_stops : (limit : ℕ) (z : ℤ) (r : Option ℤ) (f : Option Fraction) → f ≡ (if size_fits limit z then Some (over z 1) else None) → r ≡ within limit z → r ≡ None → None ≡ f
+whole_stops limit z r f e h n =
+    let off : size_fits limit z ≡ false = chosen_none _ _ r h n in
+    sym (e ∙ rw off refl)
+
+pub whole_is : (limit : ℕ) (z w : ℤ) (r : Option ℤ) (f : Option Fraction) → f ≡ (if size_fits limit z then Some (over z 1) else None) → r ≡ within limit z → r ≡ Some w → (Some (over w 1) ≡ f) × (unsigned_abs w ≤ limit)
+whole_is limit z w r f e h s =
+    let c = chosen_some _ _ w r h s in
+    let on : size_fits limit z ≡ true = c.0 in
+    (sym (e ∙ rw (on, sym c.1) refl), rw c.1 (leb-true _ _ on))

@@ -1,6 +1,6 @@
 -- The steps of a sum.
 use Rattle.std.proofs.Common.{◌≡◌, ℕ, ◌*◌, ◌/◌, ◌≤◌, true, false, ◌&&◌, ℤ, pos, ◌*ℤ◌, ◌+ℤ◌, refl, ap, ◌∙◌}
-use Rattle.std.specs.Prelude.{Option, Some, None, unsigned_abs, nat_le, int_div}
+use Rattle.std.specs.Prelude.{Option, Some, None, unsigned_abs, nat_le, int_div, if◌then◌else◌}
 use Rattle.std.proofs.lemmas.Bool.{and_parts}
 use Rattle.std.proofs.Math.Nat.{le_trans, div-le_self}
 use Rattle.arithmetic.specs.Gcd.{gcd}
@@ -10,6 +10,7 @@ use Rattle.exact_num.specs.Fits.{size_fits, sum_divisor, sum_left, sum_right, su
 use Rattle.frac.specs.Range.{within, within_natural, total_within, sum_within}
 use Rattle.frac.proofs.Choices.{chosen_none, chosen_some}
 use Rattle.std.proofs.lemmas.Bool.{leb-true}
+use Rattle.exact_num.proofs.WholeNumbers.{sum_fits-wholes, sum_value-wholes}
 
 -- ---- the total: what the code's two numerators are
 pub record IsParts (limit : ℕ) (x y : Fraction) (left right : Option ℤ) : Type 0 where
@@ -109,3 +110,8 @@ pub sum_answers : (limit : ℕ) (x y : Fraction) (n : ℤ) (b : ℕ) → SumEnds
 sum_answers limit x y n b h =
     let fits : sum_fits limit x y ≡ true = h.fits in
     rw fits (ap Some h.value)
+
+-- ---- the sum of whole numbers
+pub wholes_sum : (limit : ℕ) (a b : ℤ) (d e : ℕ) → d ≡ 1 → e ≡ 1 → 1 ≤ limit → unsigned_abs a ≤ limit → unsigned_abs b ≤ limit
+    → sum_within limit (over a d) (over b e) ≡ (if size_fits limit (a +ℤ b) then Some (over (a +ℤ b) 1) else None)
+wholes_sum limit a b d e p q one left right = rw (p, q, sum_fits-wholes limit a b one left right, sum_value-wholes a b) refl
