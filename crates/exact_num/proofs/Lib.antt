@@ -1,4 +1,4 @@
-mod Rows
+pub mod WorkedOperators
 pub mod DivisorSteps
 pub mod Answered
 pub mod Values
