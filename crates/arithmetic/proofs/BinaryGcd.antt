@@ -1,12 +1,12 @@
 -- Steps of the binary method for the greatest common divisor.
-use Rattle.std.proofs.Common.{◌≡◌, ℕ, zero, suc, ◌+◌, ◌-◌, ◌*◌, ◌/◌, ◌%◌, ◌^◌, ◌<◌, ◌≤◌, min, max, inl, inr, refl, sym, ◌∙◌, ap, arith}
+use Rattle.std.proofs.Common.{◌≡◌, ℕ, zero, suc, ◌+◌, ◌-◌, ◌*◌, ◌/◌, ◌%◌, ◌^◌, ◌<◌, ◌≤◌, min, max, inl, inr, refl, sym, ◌∙◌, ap, subst, arith}
 use Rattle.std.specs.Int.{◌∣◌, Width, bit_at, trailing_zeros}
 use mir.Val.{bits}
 use Rattle.std.proofs.lemmas.Bool.{cases_lt}
 use Rattle.std.proofs.lemmas.Nat.{pow_pos, pow-add}
 use Rattle.std.proofs.lemmas.Nat.Bits.{bit_at-trailing_zeros}
 use Rattle.std.proofs.lemmas.Nat.Gcd.{IsGcd-from_sub, IsGcd-swap, le_of_dvd}
-use Rattle.std.proofs.Math.Nat.{div-add-mod, div-div-eq-div-mul, pow-suc, pow-succ', div-one, mul_comm, div-le_self, dvd-mul_left_of_dvd}
+use Rattle.std.proofs.Math.Nat.{mod-eq_of_lt, add-mod_right, mul-div_cancel, le_of_mul-le-mul_right, div-add-mod, div-div-eq-div-mul, pow-suc, pow-succ', div-one, mul_comm, div-le_self, dvd-mul_left_of_dvd}
 use Rattle.arithmetic.specs.Gcd.{gcd}
 use Rattle.arithmetic.proofs.GcdLaws.{gcd_is, gcd_unique, gcd_dvd_left, gcd_dvd_right, dvd_gcd, gcd_comm, gcd-one, gcd-mod, gcd-mul, dvd_of_coprime, coprime_of_dvd, coprime_of_mul}
 
@@ -44,6 +44,50 @@ pub odd_part : (w : Width) (n : ℕ) → 0 < n → n < 2 ^ bits w → IsOddPart 
 odd_part w n p q =
     let t = bit_at-trailing_zeros w n p q in
     record { within = t.0; odd = t.1; whole = twos_divide n _ t.2 }
+
+-- what a difference below 0 wraps to has the twos of the gap
+pub odd_part-wrapped : (w g k : ℕ) → 0 < g → g < 2 ^ w → IsOddPart w (2 ^ w - g) k → IsOddPart w g k
+odd_part-wrapped w g k p q h =
+    let o = (2 ^ w - g) / 2 ^ k in
+    let x = 2 ^ (w - k - 1) in
+    let d = x * 2 - o in
+    let parts : w ≡ (w - k - 1) + 1 + k = omega (arith, h.within) in
+    let power : 2 ^ w ≡ x * 2 * 2 ^ k = ap (λ n. 2 ^ n) parts ∙ pow-add 2 ((w - k - 1) + 1) k ∙ ap (λ n. n * 2 ^ k) (pow-add 2 (w - k - 1) 1) in
+    let less : o * 2 ^ k ≤ x * 2 * 2 ^ k = omega (arith, h.whole, power) in
+    let apart : o + d ≡ x * 2 = let le : o ≤ x * 2 = le_of_mul-le-mul_right less (pow_pos k) in omega arith in
+    let whole : d * 2 ^ k ≡ g = omega (arith, ap (λ n. n * 2 ^ k) apart, h.whole, power, q) in
+    let quotient : g / 2 ^ k ≡ d = ap (λ n. n / 2 ^ k) (sym whole) ∙ mul-div_cancel d (pow_pos k) in
+    let odd : d % 2 ≡ 1 = omega (arith, apart, h.odd) in
+    record { within = h.within; odd = rw quotient odd; whole = rw quotient whole }
+
+-- the twos of the gap of two numbers are those of their difference, wrapped
+pub odd_part-difference : (w : Width) (a b v : ℕ) → a < 2 ^ bits w → b < 2 ^ bits w → v ≡ (a + (2 ^ bits w - b)) % 2 ^ bits w → 0 < v → IsOddPart (bits w) (max a b - min a b) (trailing_zeros w v)
+odd_part-difference w a b v p q e above =
+    elim (cases_lt a b) [
+      | inl lt ↦
+          let gap : max a b - min a b ≡ b - a = omega arith in
+          let sum : a + (2 ^ bits w - b) ≡ 2 ^ bits w - (b - a) = omega arith in
+          let value : v ≡ 2 ^ bits w - (b - a) = e ∙ ap (λ n. n % 2 ^ bits w) sum ∙ mod-eq_of_lt (omega arith) in
+          let part = odd_part w v above (omega arith) in
+          rw gap (odd_part-wrapped (bits w) (b - a) _ (omega arith) (omega arith) (subst (λ n. IsOddPart (bits w) n (trailing_zeros w v)) value part))
+      | inr le ↦
+          let gap : max a b - min a b ≡ a - b = omega arith in
+          let sum : a + (2 ^ bits w - b) ≡ (a - b) + 2 ^ bits w = omega arith in
+          let value : v ≡ a - b = e ∙ ap (λ n. n % 2 ^ bits w) sum ∙ add-mod_right (a - b) (2 ^ bits w) ∙ mod-eq_of_lt (omega arith) in
+          rw gap (subst (λ n. IsOddPart (bits w) n (trailing_zeros w v)) value (odd_part w v above (omega arith)))
+    ]
+
+pub same_at_no_difference : (w a b : ℕ) → a < 2 ^ w → b < 2 ^ w → (a + (2 ^ w - b)) % 2 ^ w ≡ 0 → a ≡ b
+same_at_no_difference w a b p q e =
+    elim (cases_lt a b) [
+      | inl lt ↦
+          let value : (a + (2 ^ w - b)) % 2 ^ w ≡ a + (2 ^ w - b) = mod-eq_of_lt (omega arith) in
+          absurd (omega (arith, e, value))
+      | inr le ↦
+          let sum : a + (2 ^ w - b) ≡ (a - b) + 2 ^ w = omega arith in
+          let value : (a + (2 ^ w - b)) % 2 ^ w ≡ a - b = ap (λ n. n % 2 ^ w) sum ∙ add-mod_right (a - b) (2 ^ w) ∙ mod-eq_of_lt (omega arith) in
+          omega (arith, e, value)
+    ]
 
 -- ---- the lesser number and the gap
 pub gcd-min_max : (a b : ℕ) → gcd (min a b) (max a b) ≡ gcd a b

@@ -4,8 +4,8 @@ use Rattle.std.specs.Int.{Width, trailing_zeros}
 use mir.Val.{bits}
 use Rattle.std.proofs.Math.Nat.{mod-eq_of_lt}
 use Rattle.arithmetic.specs.Gcd.{gcd}
-use Rattle.arithmetic.proofs.GcdLaws.{gcd-zero, gcd-mod, gcd_comm}
-use Rattle.arithmetic.proofs.BinaryGcd.{odd_part, gcd-gap, gcd-min_max, gcd-odd_gap, gcd-odd_parts, gcd-le_left, odd_min, gap_falls}
+use Rattle.arithmetic.proofs.GcdLaws.{gcd-zero, zero-gcd, gcd_self, gcd-mod, gcd_comm}
+use Rattle.arithmetic.proofs.BinaryGcd.{odd_part, odd_part-difference, gcd-gap, gcd-min_max, gcd-odd_gap, gcd-odd_parts, gcd-le_left, odd_min, gap_falls}
 
 pub gap_is : (a b low high : ℕ) → low ≡ min a b → high ≡ max a b → gcd low (high - low) ≡ gcd a b
 gap_is a b low high p q = rw (p, q) (gcd-gap a b)
@@ -13,9 +13,9 @@ gap_is a b low high p q = rw (p, q) (gcd-gap a b)
 pub ordered_is : (a b low high : ℕ) → low ≡ min a b → high ≡ max a b → gcd low high ≡ gcd a b
 ordered_is a b low high p q = rw (p, q) (gcd-min_max a b)
 
--- no gap
-pub low_is : (a b low gap : ℕ) → gcd low gap ≡ gcd a b → gap ≡ 0 → low ≡ gcd a b
-low_is a b low gap h e = sym (gcd-zero low) ∙ ap (gcd low) (sym e) ∙ h
+-- equal numbers
+pub same_is : (a b : ℕ) → a ≡ b → a ≡ gcd a b
+same_is a b e = sym (ap (gcd a) (sym e) ∙ gcd_self a)
 
 -- the lesser number and the gap without its twos
 pub record IsNext (a b low next : ℕ) : Type 0 where
@@ -24,15 +24,15 @@ pub record IsNext (a b low next : ℕ) : Type 0 where
   pub value : gcd low next ≡ gcd a b
   pub falls : low + next < a + b
 
-pub next_is : (w : Width) (a b low high : ℕ) → low ≡ min a b → high ≡ max a b → a % 2 ≡ 1 → b % 2 ≡ 1 → 0 < high - low → high - low < 2 ^ bits w → IsNext a b low ((high - low) / 2 ^ trailing_zeros w (high - low))
-next_is w a b low high p q odd_a odd_b above below =
-    let part = odd_part w (high - low) above below in
-    let gap : high - low ≡ max a b - min a b = omega (arith, p, q) in
+pub next_is : (w : Width) (a b v low high : ℕ) → a < 2 ^ bits w → b < 2 ^ bits w → v ≡ (a + (2 ^ bits w - b)) % 2 ^ bits w → 0 < v → low ≡ min a b → high ≡ max a b → a % 2 ≡ 1 → b % 2 ≡ 1
+    → IsNext a b low ((high - low) / 2 ^ trailing_zeros w v)
+next_is w a b v low high fits_a fits_b is_v above p q odd_a odd_b =
+    let part = odd_part-difference w a b v fits_a fits_b is_v above in
     let odd : low % 2 ≡ 1 = rw p (odd_min a b odd_a odd_b) in
     record {
       left = odd;
-      right = part.odd;
-      value = rw (p, q) (gcd-odd_gap _ a b _ (odd_min a b odd_a odd_b) (rw (p, q) at part));
+      right = rw (p, q) part.odd;
+      value = rw (p, q) (gcd-odd_gap _ a b _ (odd_min a b odd_a odd_b) part);
       falls = rw (p, q) (gap_falls a b _ odd_a odd_b);
     }
 
@@ -47,3 +47,10 @@ twos_back w a b k p f q g e =
 -- one remainder
 pub remainder_is : (low high : ℕ) → gcd low (high % low) ≡ gcd low high
 remainder_is low high = sym (gcd-mod high low) ∙ gcd_comm high low
+
+-- the lesser number is 0, or divides the other
+pub high_is : (a b low high : ℕ) → low ≡ min a b → high ≡ max a b → low ≡ 0 → high ≡ gcd a b
+high_is a b low high p q z = sym (zero-gcd high) ∙ ap (λ n. gcd n high) (sym z) ∙ ordered_is a b low high p q
+
+pub low_is : (low high : ℕ) → high % low ≡ 0 → low ≡ gcd low high
+low_is low high z = sym (gcd-zero low) ∙ ap (gcd low) (sym z) ∙ remainder_is low high

@@ -4,3 +4,4 @@ pub mod Equality
 pub mod SumSteps
 pub mod ProductSteps
 pub mod ShareSteps
+pub mod WholeSteps

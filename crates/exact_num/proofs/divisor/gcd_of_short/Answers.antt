@@ -1,17 +1,16 @@
-use Rattle.std.proofs.Common.{◌*◌, ◌%◌, ◌^◌, ◌∙◌, ap, arith}
-use mir.Syntax.{w64}
-use mir.Val.{bits}
-use Rattle.arithmetic.proofs.BinaryGcd.{odd_part}
-use Rattle.exact_num.proofs.DivisorSteps.{twos_back}
+use Rattle.std.proofs.Common.{◌∙◌}
+use Rattle.exact_num.proofs.DivisorSteps.{ordered_is, high_is, low_is, remainder_is}
 use Rattle.exact_num.proofs.divisor.gcd_of_short.Goals as goal
 
-pub gcd_of_short_odd-requires-clause-left : goal.gcd_of_short_odd-requires-clause-left
-gcd_of_short_odd-requires-clause-left c = (odd_part w64 c.args.a c.requires.left (omega arith)).odd
+pub returns-then-low-eq0 : goal.returns-then-low-eq0
+returns-then-low-eq0 c = high_is _ _ _ _ c.min-low.ensures c.max-high.ensures c.if-low-eq0.true
 
-pub gcd_of_short_odd-requires-clause-right : goal.gcd_of_short_odd-requires-clause-right
-gcd_of_short_odd-requires-clause-right c = (odd_part w64 c.args.b c.requires.right (omega arith)).odd
+pub returns-then-high-low : goal.returns-then-high-low
+returns-then-high-low c = c.gcd_by_twos.ensures ∙ ordered_is _ _ _ _ c.min-low.ensures c.max-high.ensures
 
-pub returns : goal.returns
-returns c =
-    ap (λ n. (n * 2 ^ c.min.result) % 2 ^ bits w64) c.gcd_of_short_odd.ensures
-    ∙ twos_back w64 c.args.a c.args.b c.min.result c.requires.left (omega arith) c.requires.right (omega arith) c.min.ensures
+pub returns-then-rest-eq0 : goal.returns-then-rest-eq0
+returns-then-rest-eq0 c = low_is _ _ c.if-rest-eq0.true ∙ ordered_is _ _ _ _ c.min-low.ensures c.max-high.ensures
+
+pub returns-else-rest-eq0 : goal.returns-else-rest-eq0
+returns-else-rest-eq0 c =
+    c.gcd_by_twos-else-rest-eq0.ensures ∙ remainder_is c.min-low.result c.max-high.result ∙ ordered_is _ _ _ _ c.min-low.ensures c.max-high.ensures

@@ -1,6 +1,6 @@
 use Rattle.std.proofs.Common.{◌≡◌, ◌+◌, ◌%◌}
 use Rattle.arithmetic.specs.Gcd.{gcd}
-use Rattle.exact_num.proofs.divisor.gcd_of_short_odd.Given as goal
+use Rattle.exact_num.proofs.divisor.gcd_of_odd.Given as goal
 
 -- both stay odd, with their greatest common divisor
 abbrev pub invariant-loop-a : goal.invariant-loop-a
