@@ -3,6 +3,8 @@
 
 pub mod bits128;
 pub mod quotients;
+pub mod wholes;
 
 pub use bits128::Frac128;
 pub use exact_num::gcd;
+pub use wholes::whole;
