@@ -3,3 +3,5 @@ pub mod Turns
 pub mod Equality
 pub mod SumSteps
 pub mod ProductSteps
+pub mod ShareSteps
+pub mod WholeSteps

@@ -3,8 +3,10 @@
 
 pub mod bits128;
 pub mod quotients;
+pub mod shares;
 pub mod wholes;
 
 pub use bits128::Frac128;
 pub use exact_num::gcd;
+pub use shares::{mul_div_ceil, mul_div_floor};
 pub use wholes::whole;

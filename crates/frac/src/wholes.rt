@@ -4,9 +4,8 @@ ghost use Rattle.exact_num.specs.Fraction.{whole as whole_of};
 ghost use Rattle.frac.specs.Range.{limit};
 ghost use Rattle.frac.specs.Value.{fraction_of};
 
-use exact_num::Exact;
-
 use crate::bits128::Frac128;
+use exact_num::Exact;
 
 /// The whole number `v`, whose size is at most 2^127 - 1.
 pub fn whole(v: i128) -> Frac128
