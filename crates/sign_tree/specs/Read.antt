@@ -1,5 +1,5 @@
 -- Trees, fills and signs of the code as those of the model.
-use Rattle.std.specs.Prelude.{ℕ, zero, suc, List, map, ℤ, pos, negsuc}
+use Rattle.std.specs.Prelude.{zero, suc, ℤ, pos, negsuc}
 use Rattle.frac.specs.Value.{fraction_of}
 use Rattle.form.specs.Written.{WrittenNode, SplitNode, LeafNode, PlacedMultiplier}
 use Rattle.form.specs.Tree.{Sign, Unsigned, Plus, Minus}

@@ -1,6 +1,6 @@
 -- The walk over a written tree, each step with a limit. A tree is closed where the walk ends with the lists, and open where it
 -- fails before a step does not fit.
-use Rattle.std.specs.Prelude.{ℕ, zero, suc, ◌+◌, ◌-◌, ◌==◌, nat_le, nat_lt, Bool, true, false, ◌&&◌, not, if◌then◌else◌, List, [], ◌∷◌, length, map, take, drop, zip, get_or, replicate, slice_set, ℤ, pos, ◌*ℤ◌, Result, Ok, Err}
+use Rattle.std.specs.Prelude.{ℕ, zero, suc, ◌+◌, ◌-◌, ◌==◌, nat_le, nat_lt, Bool, true, false, ◌&&◌, not, if◌then◌else◌, List, [], ◌∷◌, length, map, take, drop, zip, get_or, replicate, slice_set, ℤ, pos, ◌*ℤ◌, Result, Ok}
 use Rattle.std.specs.Prelude.{int_lt, int_le}
 use Rattle.exact_num.specs.declared.misfit.Wide.{Wide}
 use Rattle.exact_num.specs.Fraction.{Fraction, whole}
@@ -24,6 +24,9 @@ abbrev pub exposure_of_side : Side → Exposure
 exposure_of_side Buy = Long
 exposure_of_side Sell = Short
 
+abbrev pub exposure_of_order : Order → Exposure
+exposure_of_order o = exposure_of_side o.side
+
 -- an order is one leg, long where it buys
 abbrev pub leg_of : Order × Fraction → FractionLeg
 leg_of p = record { exposure = exposure_of_side p.0.side; fill = p.1; option = option_of p.0.form }
@@ -40,11 +43,18 @@ is_unsigned Long Minus = false
 is_unsigned Short sign = false
 
 -- whether a long leg without a sign stands there, counted from 0
-abbrev pub splits_at : List FractionLeg → List Sign → ℕ → Bool
+abbrev pub splits_at : List Exposure → List Sign → ℕ → Bool
 splits_at [] signs i = false
-splits_at (leg ∷ legs) [] i = false
-splits_at (leg ∷ legs) (sign ∷ signs) zero = is_unsigned leg.exposure sign
-splits_at (leg ∷ legs) (sign ∷ signs) (suc i) = splits_at legs signs i
+splits_at (exposure ∷ exposures) [] i = false
+splits_at (exposure ∷ exposures) (sign ∷ signs) zero = is_unsigned exposure sign
+splits_at (exposure ∷ exposures) (sign ∷ signs) (suc i) = splits_at exposures signs i
+
+-- the same of a place, which counts from 1
+abbrev pub may_split : List Exposure → List Sign → ℕ → Bool
+may_split exposures signs place = nat_le 1 place && splits_at exposures signs (place - 1)
+
+abbrev pub exposures_of : List FractionLeg → List Exposure
+exposures_of legs = map (λ (leg : FractionLeg). leg.exposure) legs
 
 -- whether the multiplier of the leg is at most its fill, where the leg is short
 abbrev pub is_within : Exposure → Fraction → Fraction → Bool
@@ -118,9 +128,10 @@ walk limit n legs L [] [] [] = Ok true
 walk limit n legs L [] [] (m ∷ ms) = Ok false
 walk limit n legs L [] (signs ∷ pending) ms = Ok false
 walk limit n legs L (node ∷ nodes) [] ms = Ok false
-walk limit n legs L (SplitNode zero ∷ nodes) (signs ∷ pending) ms = Ok false
-walk limit n legs L (SplitNode (suc i) ∷ nodes) (signs ∷ pending) ms =
-    if splits_at legs signs i then walk limit n legs L nodes (slice_set signs i Plus ∷ slice_set signs i Minus ∷ pending) ms else Ok false
+walk limit n legs L (SplitNode place ∷ nodes) (signs ∷ pending) ms =
+    if may_split (exposures_of legs) signs place
+    then walk limit n legs L nodes (slice_set signs (place - 1) Plus ∷ slice_set signs (place - 1) Minus ∷ pending) ms
+    else Ok false
 walk limit n legs L (LeafNode count ∷ nodes) (signs ∷ pending) ms =
     if nat_le count (length ms)
     then after (leaf_closes limit n legs L signs (take count ms)) (λ closed. if closed then walk limit n legs L nodes pending (drop count ms) else Ok false)

@@ -7,14 +7,13 @@ ghost use Rattle.frac.specs.Value.{fraction_of};
 ghost use Rattle.frac.specs.Range.{limit};
 ghost use Rattle.form.specs.Payoff.{option_of};
 ghost use Rattle.sign_tree.specs.Read.{placed_of, sign_of};
-ghost use Rattle.sign_tree.specs.Walk.{add_term, add_terms, are_placed, carries_at, entries_close, entry_sum, exposure_of_side, first_at, fraction_legs, is_placed, is_unsigned, is_within, leaf_closes, left_after, less_liability, splits_at};
+ghost use Rattle.sign_tree.specs.Walk.{add_term, add_terms, are_placed, carries_at, entries_close, entry_sum, exposure_of_side, first_at, fraction_legs, is_placed, is_unsigned, is_within, leaf_closes, left_after};
 
+use crate::trees::Multiplier;
 use exact_num::{Exact, Wide};
 use form::sums::{less_product, plus_product};
 use form::{Order, Side};
-use frac::Frac128;
-
-use crate::trees::Multiplier;
+use frac::{Frac128, whole};
 
 /// Whether the order buys and has no sign.
 pub fn is_unsigned(order: &Order, sign: i8) -> bool
@@ -56,18 +55,35 @@ fn carries_at(orders: &[Order], fills: &[Frac128], signs: &[i8], i: usize, by: F
 }
 
 /// Whether the multiplier stands past the place `last`, at an order that may carry it, and is not below 0.
-fn is_placed(orders: &[Order], fills: &[Frac128], signs: &[i8], last: u32, multiplier: &Multiplier) -> bool
+fn is_placed(
+    orders: &[Order],
+    fills: &[Frac128],
+    signs: &[i8],
+    last: u32,
+    multiplier: &Multiplier,
+) -> bool
     requires fills { length fills.now ≡ length orders.now }
     requires signs { length signs.now ≡ length orders.now }
     ensures { result ≡ is_placed (fraction_legs orders.now (map fraction_of fills.now)) (map sign_of signs.now) last (placed_of multiplier.now) }
 {
     last < multiplier.place
         && multiplier.by.sign() >= 0
-        && carries_at(orders, fills, signs, multiplier.place as usize - 1, multiplier.by)
+        && carries_at(
+            orders,
+            fills,
+            signs,
+            multiplier.place as usize - 1,
+            multiplier.by,
+        )
 }
 
 /// Whether each multiplier of a leaf is placed, and their places rise.
-pub fn are_placed(orders: &[Order], fills: &[Frac128], signs: &[i8], multipliers: &[Multiplier]) -> bool
+pub fn are_placed(
+    orders: &[Order],
+    fills: &[Frac128],
+    signs: &[i8],
+    multipliers: &[Multiplier],
+) -> bool
     requires fills { length fills.now ≡ length orders.now }
     requires signs { length signs.now ≡ length orders.now }
     ensures { result ≡ are_placed (fraction_legs orders.now (map fraction_of fills.now)) (map sign_of signs.now) 0 (map placed_of multipliers.now) }
@@ -102,23 +118,119 @@ fn left_after(multipliers: &[Multiplier], place: usize) -> &[Multiplier]
     }
 }
 
-/// The whole number.
-fn taken(v: i64) -> Frac128
-    ensures { fraction_of result ≡ whole v }
-{
-    Frac128::from_whole(v.into()).unwrap()
-}
-
 /// The total and what the order adds to it, `x` being its entry.
-fn add_term(total: Frac128, side: Side, sign: i8, fill: Frac128, by: Frac128, x: i64) -> Result<Frac128, Wide>
+fn add_term(
+    total: Frac128,
+    side: Side,
+    sign: i8,
+    fill: Frac128,
+    by: Frac128,
+    x: i64,
+) -> Result<Frac128, Wide>
     ensures { meaning fraction_of result ≡ add_term limit (fraction_of total) (exposure_of_side side) (sign_of sign) (fraction_of fill) (fraction_of by) x }
 {
     match side {
-        Side::Buy if sign == 0 => plus_product(total, fill, taken(x.max(0))),
+        Side::Buy if sign == 0 => plus_product(total, fill, whole(x.max(0).into())),
         Side::Buy if sign > 0 => {
-            let sum = plus_product(total, fill, taken(x))?;
-            plus_product(sum, by, taken(x))
+            let sum = plus_product(total, fill, whole(x.into()))?;
+            plus_product(sum, by, whole(x.into()))
         }
-        _ => less_product(total, by, taken(x)),
+        _ => less_product(total, by, whole(x.into())),
     }
+}
+
+/// The terms that all orders add to the entry of a leaf.
+fn add_terms(
+    orders: &[Order],
+    fills: &[Frac128],
+    signs: &[i8],
+    multipliers: &[Multiplier],
+    i: usize,
+) -> Result<Frac128, Wide>
+    requires fills { length fills.now ≡ length orders.now }
+    requires signs { length signs.now ≡ length orders.now }
+    requires entry { i < 9 }
+    ensures { meaning fraction_of result ≡ add_terms limit i (whole (pos 0)) 1 (fraction_legs orders.now (map fraction_of fills.now)) (map sign_of signs.now) (map placed_of multipliers.now) }
+{
+    let mut total = Frac128::zero();
+    let mut rest = multipliers;
+    for j in 0..orders.len() {
+        let order = &orders[j];
+        let by = first_at(rest, j + 1);
+        total = add_term(
+            total,
+            order.side,
+            signs[j],
+            fills[j],
+            by,
+            order.form.entries[i],
+        )?;
+        rest = left_after(rest, j + 1);
+    }
+    Ok(total)
+}
+
+/// The entry's sum: the terms, and in entry 0 less the liability.
+fn entry_sum(
+    orders: &[Order],
+    fills: &[Frac128],
+    liability: &Frac128,
+    signs: &[i8],
+    multipliers: &[Multiplier],
+    i: usize,
+) -> Result<Frac128, Wide>
+    requires fills { length fills.now ≡ length orders.now }
+    requires signs { length signs.now ≡ length orders.now }
+    requires entry { i < 9 }
+    ensures { meaning fraction_of result ≡ entry_sum limit (fraction_legs orders.now (map fraction_of fills.now)) (fraction_of liability.now) (map sign_of signs.now) (map placed_of multipliers.now) i }
+{
+    let total = add_terms(orders, fills, signs, multipliers, i)?;
+    if i == 0 {
+        total.sub(*liability)
+    } else {
+        Ok(total)
+    }
+}
+
+/// Whether none of the first `count` entries is above 0.
+fn entries_close(
+    orders: &[Order],
+    fills: &[Frac128],
+    liability: &Frac128,
+    signs: &[i8],
+    multipliers: &[Multiplier],
+    count: usize,
+) -> Result<bool, Wide>
+    requires fills { length fills.now ≡ length orders.now }
+    requires signs { length signs.now ≡ length orders.now }
+    requires entries { count ≤ 9 }
+    ensures { result ≡ entries_close limit (fraction_legs orders.now (map fraction_of fills.now)) (fraction_of liability.now) (map sign_of signs.now) (map placed_of multipliers.now) 0 count }
+{
+    for i in 0..count {
+        let sum = entry_sum(orders, fills, liability, signs, multipliers, i)?;
+        if sum.sign() > 0 {
+            return Ok(false);
+        }
+    }
+    Ok(true)
+}
+
+/// Whether a leaf with these multipliers closes: they are placed, and none of the first `count` entries is above 0.
+pub fn leaf_closes(
+    orders: &[Order],
+    fills: &[Frac128],
+    liability: &Frac128,
+    signs: &[i8],
+    multipliers: &[Multiplier],
+    count: usize,
+) -> Result<bool, Wide>
+    requires fills { length fills.now ≡ length orders.now }
+    requires signs { length signs.now ≡ length orders.now }
+    requires entries { (1 ≤ count) × (count ≤ 9) }
+    ensures { result ≡ leaf_closes limit (count - 1) (fraction_legs orders.now (map fraction_of fills.now)) (fraction_of liability.now) (map sign_of signs.now) (map placed_of multipliers.now) }
+{
+    if !are_placed(orders, fills, signs, multipliers) {
+        return Ok(false);
+    }
+    entries_close(orders, fills, liability, signs, multipliers, count)
 }

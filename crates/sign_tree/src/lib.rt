@@ -5,5 +5,5 @@ pub mod closing;
 pub mod leaf;
 pub mod trees;
 
-// pub use closing::closes;
+pub use closing::closes;
 pub use trees::{Multiplier, Multipliers, Node, Nodes, SignTree, TreeVerdict};

@@ -1,9 +1,8 @@
 //! A tree of signs as it is written.
 
-use std::marker::Model;
-
 use exact_num::Wide;
 use frac::Frac128;
+use std::marker::Model;
 
 /// A node of a tree. The nodes of a tree stand in preorder: each before its plus side, and that before its minus side.
 #[derive(Clone, Copy, Debug, PartialEq, Eq)]

@@ -1,4 +1,4 @@
-use Rattle.std.proofs.Common.{◌≡◌, Bool, true, false, ◌&&◌, List, ◌∷◌, map, sym, ap, refl, ◌∙◌}
+use Rattle.std.proofs.Common.{map, ap, refl, ◌∙◌}
 use Rattle.frac.specs.Value.{fraction_of}
 use Rattle.sign_tree.specs.Read.{placed_of, sign_of}
 use Rattle.sign_tree.specs.Walk.{are_placed, fraction_legs}

@@ -1,4 +1,4 @@
-use Rattle.std.proofs.Common.{◌≡◌, rules, FitsSigned, to_z, of_z, get_or, pos, sym, ◌∙◌}
+use Rattle.std.proofs.Common.{rules, FitsSigned, get_or, pos, sym, ◌∙◌}
 use Rattle.std.proofs.lemmas.Int.{to_z-of_z}
 use mir.Syntax.{w8}
 use Rattle.sign_tree.proofs.LegLists.{carries_here, carries_past}
@@ -8,7 +8,7 @@ pub returns-then-i-orders : goal.returns-then-i-orders
 returns-then-i-orders c =
     sym (carries_past c.args.orders.now c.args.fills.now c.args.signs.now c.args.i _ (record { fills = c.requires.fills; signs = c.requires.signs }) c.if-i-orders.true)
 
-pub returns : goal.returns-else-i-orders
+pub returns : goal.returns
 returns c =
     let fits : FitsSigned w8 (get_or c.args.signs.now c.args.i (pos 0)) = search rules in
     let there = carries_here c.args.orders.now c.args.fills.now c.args.signs.now c.args.i c.index-orders-i.result c.index-fills-i.result _ _
