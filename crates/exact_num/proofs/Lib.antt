@@ -1,5 +1,6 @@
 mod Rows
 pub mod DivisorSteps
+pub mod Answered
 pub mod Values
 pub mod ProductValues
 pub mod Order
@@ -9,3 +10,6 @@ pub mod Exactness
 pub mod Fractions
 pub mod Rationals
 pub mod Totals
+pub mod WholeNumbers
+pub mod After
+pub mod GreaterLimit

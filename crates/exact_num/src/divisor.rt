@@ -23,11 +23,15 @@ pub fn gcd(a: u128, b: u128) -> u128
     gcd_with_short(low as u64, high)
 }
 
-// `low` is above 0, so a remainder of 64 bits is left of the other number.
+// A remainder first, where one number is much the larger.
 fn gcd_with_short(low: u64, high: u128) -> u128
-    requires { 0 < low }
+    requires left { 0 < low }
+    requires right { 0 < high }
     ensures { result ≡ gcd_of low high }
 {
+    if high <= SHORT && high >> 6 < low as u128 {
+        return gcd_of_short(low, high as u64) as u128;
+    }
     let rest = remainder(high, low);
     if rest == 0 {
         return low as u128;

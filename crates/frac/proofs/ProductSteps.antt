@@ -5,7 +5,8 @@ use Rattle.arithmetic.specs.Gcd.{gcd}
 use Rattle.exact_num.specs.Fraction.{Fraction, over}
 use Rattle.exact_num.specs.Fits.{size_fits, product_above, product_below, product_fits, product_value}
 use Rattle.frac.specs.Range.{within, within_natural, product_within}
-use Rattle.frac.proofs.Choices.{chosen_none, chosen_some, leb_at_most}
+use Rattle.frac.proofs.Choices.{chosen_none, chosen_some}
+use Rattle.std.proofs.lemmas.Bool.{leb-true}
 
 -- the factors without their common divisors, multiplied
 pub above_is : (x y : Fraction) (g h : ℕ) (a c : ℤ) → g ≡ gcd (unsigned_abs x.numerator) y.denominator → h ≡ gcd (unsigned_abs y.numerator) x.denominator
@@ -54,8 +55,8 @@ product_ends limit x y above w below b e s f n =
     record {
       fits = rw (first, second) refl;
       value = ap (λ (z : ℤ). over z b) one.1 ∙ ap (λ (i : ℕ). over (product_above x y) i) two.1;
-      above = rw one.1 (leb_at_most _ _ one.0);
-      below = rw two.1 (leb_at_most _ _ two.0);
+      above = rw one.1 (leb-true _ _ one.0);
+      below = rw two.1 (leb-true _ _ two.0);
     }
 
 pub product_answers : (limit : ℕ) (x y : Fraction) (w : ℤ) (b : ℕ) → ProductEnds limit x y w b → Some (over w b) ≡ product_within limit x y

@@ -8,7 +8,8 @@ use Rattle.arithmetic.proofs.Quotients.{unsigned_abs-int_div}
 use Rattle.exact_num.specs.Fraction.{Fraction, over}
 use Rattle.exact_num.specs.Fits.{size_fits, sum_divisor, sum_left, sum_right, sum_total, sum_common, sum_below, sum_fits, sum_value}
 use Rattle.frac.specs.Range.{within, within_natural, total_within, sum_within}
-use Rattle.frac.proofs.Choices.{chosen_none, chosen_some, leb_at_most}
+use Rattle.frac.proofs.Choices.{chosen_none, chosen_some}
+use Rattle.std.proofs.lemmas.Bool.{leb-true}
 
 -- ---- the total: what the code's two numerators are
 pub record IsParts (limit : ℕ) (x y : Fraction) (left right : Option ℤ) : Type 0 where
@@ -94,14 +95,14 @@ sum_ends limit x y t n shared below b p e en =
     let f = chosen_some _ _ b below p.is_below e in
     let second : nat_le (sum_below x y) limit ≡ true = f.0 in
     let front : (size_fits limit (sum_left x y) && size_fits limit (sum_right x y) && size_fits limit (sum_total x y)) ≡ true = p.front in
-    let size : unsigned_abs t ≤ limit = rw p.value (leb_at_most _ _ (and_parts (size_fits limit (sum_left x y) && size_fits limit (sum_right x y)) _ p.front).1) in
+    let size : unsigned_abs t ≤ limit = rw p.value (leb-true _ _ (and_parts (size_fits limit (sum_left x y) && size_fits limit (sum_right x y)) _ p.front).1) in
     record {
       fits = rw (front, second) refl;
       value =
           ap (λ (z : ℤ). over z b) (en ∙ ap (λ (z : ℤ). int_div z (pos shared)) p.value ∙ ap (λ (m : ℕ). int_div (sum_total x y) (pos m)) p.is_shared)
           ∙ ap (λ (m : ℕ). over (int_div (sum_total x y) (pos (sum_common x y))) m) f.1;
       above = rw (en, unsigned_abs-int_div t shared) (le_trans (div-le_self (unsigned_abs t) shared) size);
-      below = rw f.1 (leb_at_most _ _ f.0);
+      below = rw f.1 (leb-true _ _ f.0);
     }
 
 pub sum_answers : (limit : ℕ) (x y : Fraction) (n : ℤ) (b : ℕ) → SumEnds limit x y n b → Some (over n b) ≡ sum_within limit x y

@@ -10,3 +10,6 @@ pub use bits128::Frac128;
 pub use exact_num::gcd;
 pub use shares::{mul_div_ceil, mul_div_floor};
 pub use wholes::whole;
+
+#[cfg(test)]
+mod tests;

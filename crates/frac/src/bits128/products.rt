@@ -17,9 +17,12 @@ struct Factors {
     denominators: (u128, u128),
 }
 
+/// The two fractions without these divisors: their products are those of a product in lowest terms.
 fn crossed(x: Frac128, y: Frac128) -> Factors
-    ensures above { result.numerators.0 *ℤ result.numerators.1 ≡ product_above (fraction_of x) (fraction_of y) }
-    ensures below { result.denominators.0 * result.denominators.1 ≡ product_below (fraction_of x) (fraction_of y) }
+    ensures above { result.numerators.0 *ℤ result.numerators.1
+        ≡ product_above (fraction_of x) (fraction_of y) }
+    ensures below { result.denominators.0 * result.denominators.1
+        ≡ product_below (fraction_of x) (fraction_of y) }
 {
     let g = common(x.numerator, y.denominator);
     let h = common(y.numerator, x.denominator);

@@ -7,4 +7,4 @@ pub returns-then-rest-eq0 : goal.returns-then-rest-eq0
 returns-then-rest-eq0 c = low_is _ _ _ _ (ap (gcd c.args.low) c.remainder-rest.ensures ∙ remainder_is _ _) c.if-rest-eq0.true
 
 pub returns : goal.returns
-returns c = c.gcd_of_short.ensures ∙ ap (gcd c.args.low) c.remainder-rest.ensures ∙ remainder_is _ _
+returns c = c.gcd_of_short-2.ensures ∙ ap (gcd c.args.low) c.remainder-rest.ensures ∙ remainder_is _ _
