@@ -1,5 +1,5 @@
 pub mod Entries
 pub mod Vectors
-pub mod After
 pub mod WholeSteps
 pub mod DotSteps
+pub mod ListSteps

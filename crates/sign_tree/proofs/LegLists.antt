@@ -11,6 +11,7 @@ use Rattle.frac.specs.Value.{fraction_of}
 use Rattle.form.specs.declared.orders.Side.{Side}
 use Rattle.form.specs.declared.orders.Side.TheVariants.{Buy, Sell}
 use Rattle.form.specs.declared.orders.Order.{Order}
+use Rattle.form.proofs.ListSteps.{drop_map}
 use Rattle.sign_tree.specs.Read.{sign_of}
 use Rattle.form.specs.Legs.{Exposure}
 use Rattle.form.specs.Tree.{Sign, Unsigned}
@@ -64,29 +65,6 @@ splits_past [] ss i past = refl
 splits_past (p ∷ os) [] i past = refl
 splits_past (p ∷ os) (t ∷ ss) zero past = absurd (omega (arith, past))
 splits_past (p ∷ os) (t ∷ ss) (suc i) past = splits_past os ss i (omega (arith, past))
-
--- the item at i comes first, and then those after it
-pub drop_map : {A B : Type 0} (f : A → B) (xs : List A) (i : ℕ) (x : A) → i < length xs → x ≡ get_or xs i x → drop i (map f xs) ≡ f x ∷ drop (i + 1) (map f xs)
-drop_map f xs i x lt is = rw add-one (go xs i lt is)
-  where
-    go : (xs : List _) (i : ℕ) → i < length xs → x ≡ get_or xs i x → drop i (map f xs) ≡ f x ∷ drop (suc i) (map f xs)
-    go [] i lt is = absurd (omega arith)
-    go (y ∷ ys) zero lt is = rw is refl
-    go (y ∷ ys) (suc i) lt is = go ys i (omega arith) is
-
-pub legs_drop : (os : List Order) (fs : List Frac128) (ss : List ℤ) (i : ℕ) (o : Order) (f : Frac128) (s : ℤ) → AreAsMany os fs ss → StandAt os fs ss i o f s
-    → drop i (fraction_legs os (map fraction_of fs)) ≡ leg_of (o, fraction_of f) ∷ drop (i + 1) (fraction_legs os (map fraction_of fs))
-legs_drop os fs ss i o f s many at = rw add-one (go os fs i many.fills at.within at.order at.fill)
-  where
-    go : (os : List Order) (fs : List Frac128) (i : ℕ) → length fs ≡ length os → i < length os → o ≡ get_or os i o → f ≡ get_or fs i f
-        → drop i (fraction_legs os (map fraction_of fs)) ≡ leg_of (o, fraction_of f) ∷ drop (suc i) (fraction_legs os (map fraction_of fs))
-    go [] fs i len lt io jf = absurd (omega arith)
-    go (p ∷ os) [] i len lt io jf = absurd (omega arith)
-    go (p ∷ os) (g ∷ fs) zero len lt io jf = rw (io, jf) refl
-    go (p ∷ os) (g ∷ fs) (suc i) len lt io jf = go os fs i (omega arith) (omega arith) io jf
-
-pub signs_drop : (ss : List ℤ) (i : ℕ) (s : ℤ) → i < length ss → s ≡ get_or ss i (pos 0) → drop i (map sign_of ss) ≡ sign_of s ∷ drop (i + 1) (map sign_of ss)
-signs_drop ss i s lt is = drop_map sign_of ss i s lt (is ∙ get_or_default ss i (pos 0) s lt)
 
 -- a sign that is none is 0
 pub none_is : (side : Side) (s : ℤ) → is_unsigned (exposure_of_side side) (sign_of s) ≡ true → s ≡ pos 0

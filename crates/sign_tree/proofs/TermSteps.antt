@@ -9,7 +9,7 @@ use Rattle.frac.specs.Value.{fraction_of}
 use Rattle.form.specs.declared.orders.Order.{Order}
 use Rattle.form.specs.Tree.{Sign}
 use Rattle.form.specs.Written.{PlacedMultiplier}
-use Rattle.form.proofs.After.{after_ok, after_err}
+use Rattle.exact_num.proofs.After.{after_ok, after_err}
 use Rattle.form.proofs.Vectors.{entry_of_option}
 use Rattle.sign_tree.specs.Read.{sign_of}
 use Rattle.sign_tree.specs.Walk.{exposure_of_side, fraction_legs, first_at, left_after, add_term, add_terms}
