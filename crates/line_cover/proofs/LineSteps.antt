@@ -1,13 +1,11 @@
 -- The states of a line, one after another.
-use Rattle.std.proofs.Common.{◌≡◌, ℕ, suc, ◌+◌, ◌<◌, ◌≤◌, Bool, true, false, List, [], ◌∷◌, ◌++◌, length, get_or, drop, add-one, arith, Option, Some, None, Result, Ok, Err, refl, ap, sym, ◌∙◌, if◌then◌else◌}
+use Rattle.std.proofs.Common.{◌≡◌, ℕ, suc, ◌+◌, ◌<◌, false, List, ◌∷◌, length, get_or, drop, add-one, Option, Some, None, Ok, refl, ap, sym, ◌∙◌, if◌then◌else◌}
 use Rattle.std.proofs.Math.Seq.{drop-cons}
-use Rattle.std.proofs.lemmas.List.{drop_all}
 use Rattle.std.specs.List.{filter_map}
-use Rattle.exact_num.specs.declared.misfit.Wide.{Wide}
 use Rattle.exact_num.specs.Fraction.{Fraction}
 use Rattle.exact_num.specs.Fits.{after}
 use Rattle.form.specs.declared.orders.Order.{Order}
-use Rattle.line_cover.specs.Line.{breakpoint_of_order, holds_at, holds_at_break, holds_at_all}
+use Rattle.line_cover.specs.Line.{breakpoint_of_order, holds_at_break, holds_at_all}
 
 -- the breakpoint of the order at i comes first, if it has one, and then those after it
 pub breaks_step : (limit : ℕ) (fills : List (Order × Fraction)) (L : Fraction) (os : List Order) (i : ℕ) (o : Order) → i < length os → o ≡ get_or os i o

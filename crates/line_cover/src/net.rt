@@ -24,7 +24,12 @@ pub fn add_for_side(total: Frac128, side: Side, a: Frac128, b: Frac128) -> Resul
 }
 
 /// The total and what a fill of the order adds to the net at the state. Takes no memory.
-pub fn add_payoff(total: Frac128, order: &Order, fill: Frac128, state: &State) -> Result<Frac128, Wide>
+pub fn add_payoff(
+    total: Frac128,
+    order: &Order,
+    fill: Frac128,
+    state: &State,
+) -> Result<Frac128, Wide>
     requires { order.now.form.count ≡ state.now.count }
     ensures { meaning fraction_of result ≡ add_payoff limit (fraction_of total) (order.now, fraction_of fill) (vector_of state.now) }
 {
@@ -47,7 +52,12 @@ pub fn net(orders: &[Order], fills: &[Frac128], state: &State) -> Result<Frac128
 }
 
 /// The net less the liability times t. Takes no memory.
-pub fn excess(orders: &[Order], fills: &[Frac128], liability: &Frac128, state: &State) -> Result<Frac128, Wide>
+pub fn excess(
+    orders: &[Order],
+    fills: &[Frac128],
+    liability: &Frac128,
+    state: &State,
+) -> Result<Frac128, Wide>
     requires fills { length fills.now ≡ length orders.now }
     requires forms { All (λ o. o.form.count ≡ state.now.count) orders.now }
     ensures { meaning fraction_of result ≡ excess limit (zip orders.now (map fraction_of fills.now)) (fraction_of liability.now) (vector_of state.now) }

@@ -9,12 +9,11 @@ ghost use Rattle.form.specs.States.{vector_of};
 ghost use Rattle.line_cover.specs.Line.{breakpoint_of_order, holds_at, holds_at_all, holds_at_break, line_holds};
 ghost use Rattle.line_cover.specs.Verdict.{line_verdict};
 
+use crate::breakpoint::{breakpoint, price_state};
+use crate::net::excess;
 use exact_num::{Exact, Wide};
 use form::{Batch, Order, State};
 use frac::Frac128;
-
-use crate::breakpoint::{breakpoint, price_state};
-use crate::net::excess;
 
 /// Whether a line holds, or the first step that does not fit.
 #[derive(Clone, Copy, Debug, PartialEq, Eq)]
@@ -72,7 +71,12 @@ fn holds_at_breaks(orders: &[Order], fills: &[Frac128], liability: &Frac128) -> 
 }
 
 /// Whether it holds where the order's option bends, if it does.
-fn holds_at_break(orders: &[Order], fills: &[Frac128], liability: &Frac128, order: &Order) -> Result<bool, Wide>
+fn holds_at_break(
+    orders: &[Order],
+    fills: &[Frac128],
+    liability: &Frac128,
+    order: &Order,
+) -> Result<bool, Wide>
     requires fills { length fills.now ≡ length orders.now }
     requires forms { All (λ o. o.form.count ≡ 2) orders.now }
     requires form { order.now.form.count ≡ 2 }
@@ -85,7 +89,12 @@ fn holds_at_break(orders: &[Order], fills: &[Frac128], liability: &Frac128, orde
 }
 
 /// Whether the net is at most the liability times t at the state.
-fn holds_at(orders: &[Order], fills: &[Frac128], liability: &Frac128, state: &State) -> Result<bool, Wide>
+fn holds_at(
+    orders: &[Order],
+    fills: &[Frac128],
+    liability: &Frac128,
+    state: &State,
+) -> Result<bool, Wide>
     requires fills { length fills.now ≡ length orders.now }
     requires forms { All (λ o. o.form.count ≡ state.now.count) orders.now }
     ensures { result ≡ holds_at limit (zip orders.now (map fraction_of fills.now)) (fraction_of liability.now) (vector_of state.now) }

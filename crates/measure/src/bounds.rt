@@ -9,13 +9,12 @@ ghost use Rattle.form.specs.Limits.{HasItsForms};
 ghost use Rattle.measure.specs.Points.{point_of};
 ghost use Rattle.measure.specs.Sums.{add_gain, bound_of, gain_at};
 
+use crate::measures::Measure;
+use crate::prices::price_of;
 use exact_num::{Exact, Wide};
 use form::sums::plus_product;
 use form::{Batch, Order, Side};
 use frac::{Frac128, whole};
-
-use crate::measures::Measure;
-use crate::prices::price_of;
 
 /// The bound of the measure: the sum over orders of quantity times the positive part of limit less price for a buy, and
 /// of price less limit for a sell. An order counts whether it is filled or not. Each state has as many entries as the
@@ -26,8 +25,16 @@ pub fn bound(batch: &Batch, m: &Measure) -> Result<Frac128, Wide>
     requires states { All (λ point. point.state.count ≡ batch.now.underlyings + 1) m.now.points }
     ensures { meaning fraction_of result ≡ bound_of limit batch.now.orders (map point_of m.now.points) }
 {
+    sum(batch.orders.as_slice(), m)
+}
+
+/// The sum over these orders.
+fn sum(orders: &[Order], m: &Measure) -> Result<Frac128, Wide>
+    requires { All (λ order. All (λ point. point.state.count ≡ order.form.count) m.now.points) orders.now }
+    ensures { meaning fraction_of result ≡ bound_of limit orders.now (map point_of m.now.points) }
+{
     let mut total = Frac128::zero();
-    for order in batch.orders.as_slice() {
+    for order in orders {
         total = add_gain(total, m, order)?;
     }
     Ok(total)

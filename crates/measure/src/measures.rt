@@ -1,9 +1,8 @@
 //! Measures, and the test that a list of weighted states is one.
 
-use std::marker::Model;
-
 use form::State;
 use frac::Frac128;
+use std::marker::Model;
 
 /// A state and its weight.
 #[derive(Clone, Copy, Debug, PartialEq, Eq)]

@@ -1,4 +1,4 @@
-use Rattle.std.proofs.Common.{◌≡◌, ◌<◌, ◌≤◌, ◌/◌, Fits, w64, arith, rules, ap, sym, subst}
+use Rattle.std.proofs.Common.{◌<◌, ◌≤◌, ◌/◌, arith, rules}
 use Rattle.arithmetic.specs.Gcd.{gcd}
 use Rattle.arithmetic.proofs.GcdLaws.{gcd_pos_left, gcd_dvd_left, pos_of_quotient}
 use Rattle.arithmetic.proofs.BinaryGcd.{gcd-le_left}
