@@ -66,6 +66,21 @@ splits_past (p ∷ os) [] i past = refl
 splits_past (p ∷ os) (t ∷ ss) zero past = absurd (omega (arith, past))
 splits_past (p ∷ os) (t ∷ ss) (suc i) past = splits_past os ss i (omega (arith, past))
 
+-- the leg at i comes first, and then those after it
+pub legs_drop : (os : List Order) (fs : List Frac128) (ss : List ℤ) (i : ℕ) (o : Order) (f : Frac128) (s : ℤ) → AreAsMany os fs ss → StandAt os fs ss i o f s
+    → drop i (fraction_legs os (map fraction_of fs)) ≡ leg_of (o, fraction_of f) ∷ drop (i + 1) (fraction_legs os (map fraction_of fs))
+legs_drop os fs ss i o f s many at = rw add-one (go os fs i many.fills at.within at.order at.fill)
+  where
+    go : (os : List Order) (fs : List Frac128) (i : ℕ) → length fs ≡ length os → i < length os → o ≡ get_or os i o → f ≡ get_or fs i f
+        → drop i (fraction_legs os (map fraction_of fs)) ≡ leg_of (o, fraction_of f) ∷ drop (suc i) (fraction_legs os (map fraction_of fs))
+    go [] fs i len lt io jf = absurd (omega arith)
+    go (p ∷ os) [] i len lt io jf = absurd (omega arith)
+    go (p ∷ os) (g ∷ fs) zero len lt io jf = rw (io, jf) refl
+    go (p ∷ os) (g ∷ fs) (suc i) len lt io jf = go os fs i (omega arith) (omega arith) io jf
+
+pub signs_drop : (ss : List ℤ) (i : ℕ) (s : ℤ) → i < length ss → s ≡ get_or ss i (pos 0) → drop i (map sign_of ss) ≡ sign_of s ∷ drop (i + 1) (map sign_of ss)
+signs_drop ss i s lt is = drop_map sign_of ss i s lt (is ∙ get_or_default ss i (pos 0) s lt)
+
 -- a sign that is none is 0
 pub none_is : (side : Side) (s : ℤ) → is_unsigned (exposure_of_side side) (sign_of s) ≡ true → s ≡ pos 0
 none_is Buy (pos zero) h = refl
