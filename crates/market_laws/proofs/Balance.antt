@@ -18,7 +18,7 @@ and_parts : (a b : Bool) → (a && b) ≡ true → (a ≡ true) × (b ≡ true)
 and_parts true b h = (refl, h)
 and_parts false b h = cc
 
-same_option_is : (u v : List ℤ) → is_same_option u v ≡ true → u ≡ v
+pub same_option_is : (u v : List ℤ) → is_same_option u v ≡ true → u ≡ v
 same_option_is [] [] h = refl
 same_option_is [] (b ∷ v) h = cc
 same_option_is (a ∷ u) [] h = cc
