@@ -14,8 +14,8 @@ use Rattle.form.specs.Vector.{dot, positive_part}
 use Rattle.form.specs.Payoff.{option_of}
 use Rattle.form.specs.States.{vector_of}
 use Rattle.form.specs.Steps.{plus_product, dot_from, or_zero, payoff_of, PayoffsAreExact}
-use Rattle.form.proofs.WholeSteps.{mul_whole_is, add_whole_is}
-use Rattle.form.proofs.After.{after_ok, after_err, after_value}
+use Rattle.exact_num.proofs.WholeNumbers.{mul_whole_is, add_whole_is}
+use Rattle.exact_num.proofs.After.{after_ok, after_err, after_value}
 use Rattle.form.proofs.Vectors.{length-option_of}
 
 pub length-vector_of : (state : State) → length (vector_of state) ≡ state.count

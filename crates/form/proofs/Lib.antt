@@ -1,7 +1,7 @@
 pub mod Entries
 pub mod Vectors
 pub mod SameOption
-pub mod After
+pub mod SameForm
 pub mod WholeSteps
 pub mod DotSteps
-pub mod SameForm
+pub mod ListSteps

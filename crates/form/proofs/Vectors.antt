@@ -1,7 +1,7 @@
 -- A form and its option.
-use Rattle.std.proofs.Common.{◌≡◌, inl, inr, length, get_or, arith, pos, ap, sym, ◌∙◌}
+use Rattle.std.proofs.Common.{◌≡◌, ℕ, inl, inr, length, get_or, arith, pos, ap, sym, ◌∙◌}
 use Rattle.std.proofs.lemmas.Bool.{cases_lt}
-use Rattle.std.proofs.lemmas.List.{ext_get_or, get_or-take, length-take-le}
+use Rattle.std.proofs.lemmas.List.{ext_get_or, get_or-take, get_or_past, length-take-le}
 use Rattle.form.specs.declared.forms.Form.{Form}
 use Rattle.form.specs.Payoff.{option_of, FormsAreOptions}
 
@@ -22,3 +22,10 @@ forms_are_options a b e =
             | inr past ↦ a.zero_past_count i past ∙ sym (b.zero_past_count i (omega arith))
           ]),
     )
+
+-- past the entries that are counted there are only zeros
+pub entry_of_option : (form : Form) (i : ℕ) → get_or (option_of form) i (pos 0) ≡ get_or form.entries i (pos 0)
+entry_of_option form i = elim (cases_lt i form.count) [
+  | inl within ↦ get_or-take form.count form.entries i (pos 0) within
+  | inr past ↦ get_or_past (option_of form) i (pos 0) (omega (arith, length-option_of form)) ∙ sym (form.zero_past_count i past)
+]

@@ -15,7 +15,8 @@ use exact_num::{Operator, Wide};
 /// product of two entries or their sum so far is above `2^127 - 1` in size. Takes no memory.
 pub fn payoff(form: &Form, state: &State) -> Result<i128, Wide>
     requires { form.now.count ≡ state.now.count }
-    ensures { meaning whole result ≡ payoff_of (2 ^ 127 - 1) (option_of form.now) (vector_of state.now) }
+    ensures payoff { meaning whole result ≡ payoff_of (2 ^ 127 - 1) (option_of form.now) (vector_of state.now) }
+    ensures fits { IfOk result (λ h. unsigned_abs h ≤ 2 ^ 127 - 1) }
 {
     let mut total: i128 = 0;
     for i in 0..form.count as usize {

@@ -6,9 +6,9 @@ use Rattle.form.specs.Steps.{payoff_of}
 use Rattle.form.proofs.DotSteps.{turn_ok, turn_err, dot_end, or_zero_is}
 use Rattle.form.proofs.payoffs.payoff.Goals as goal
 
-pub returns-in_err-total : goal.returns-in_err-total
+pub returns-in_err-total-clause-payoff : goal.returns-in_err-total-clause-payoff
 unfolding payoff_of
-returns-in_err-total c =
+returns-in_err-total-clause-payoff c =
     let p = err_from_is_err_and c.from_residual.result c.from_residual.ensures.1 in
     let form = c.args.form.now in
     let state = c.args.state.now in
@@ -32,9 +32,9 @@ loop-i-preserved c =
     (to_z-of_z w64 _ fits) (to_z-of_z w128 _ fits') c.add_product.ensures.sum c.in_ok-total.was in
     rw same (c.in_ok-total.ensures.fits, c.loop-i.invariant.1 ∙ on)
 
-pub returns : goal.returns
+pub returns-clause-payoff : goal.returns-clause-payoff
 unfolding payoff_of
-returns c =
+returns-clause-payoff c =
     let fits : FitsSigned w128 c.max.result = search rules in
     rw (to_z-of_z w128 c.max.result fits, c.max.ensures.value, c.loop-i.invariant.1, dot_end (2 ^ 127 - 1) c.args.form.now c.args.state.now c.loop-i.i _ c.loop-i-test.false)
     (ap (λ x. Ok x) (sym (or_zero_is (to_z w128 c.loop-i.total-bits))))

@@ -1,7 +1,8 @@
 use Rattle.std.proofs.Common.{◌≡◌, ◌-◌, ◌^◌, arith, to_z, of_z}
 use Rattle.std.proofs.lemmas.Int.{to_z-of_z}
 use mir.Syntax.{w128}
-use Rattle.form.proofs.WholeSteps.{add-wholes, checked_step}
+use Rattle.exact_num.proofs.WholeNumbers.{add-wholes}
+use Rattle.form.proofs.WholeSteps.{checked_step}
 use Rattle.form.proofs.payoffs.whole_sum.Goals as goal
 
 pub returns-clause-sum : goal.returns-clause-sum

@@ -1,0 +1,3 @@
+pub mod FillSteps
+pub mod Shapes
+pub mod SameOption

@@ -1,0 +1,59 @@
+-- The shape of a batch and its outcome, and its fills.
+use Rattle.std.specs.Prelude.{ℕ, ◌≡◌, ◌+◌, ◌==◌, List, [], ◌∷◌, length, int_le, nat_lt, Bool, true, ◌&&◌, pos, ◌*ℤ◌}
+use Rattle.std.specs.List.{All}
+use Rattle.exact_num.specs.Fraction.{Fraction, whole}
+use Rattle.frac.specs.Value.{fraction_of}
+use Rattle.frac.specs.declared.bits128.Frac128.{Frac128}
+use Rattle.form.specs.declared.orders.Order.{Order}
+use Rattle.form.specs.declared.orders.Batch.{Batch}
+use Rattle.measure.specs.declared.measures.Weighted.{Weighted}
+use Rattle.cert_check.specs.declared.outcome.Cover.{Cover}
+use Rattle.cert_check.specs.declared.outcome.Cover.TheVariants.{Line, Tree}
+use Rattle.cert_check.specs.declared.outcome.Mark.{Mark}
+use Rattle.cert_check.specs.declared.outcome.Mark.TheVariants.{Optimal, Wide, Budget}
+use Rattle.cert_check.specs.declared.outcome.Outcome.{Outcome}
+
+-- whether each form, or each state, has so many entries
+abbrev pub forms_have : ℕ → List Order → Bool
+forms_have entries [] = true
+forms_have entries (o ∷ os) = o.form.count == entries && forms_have entries os
+
+abbrev pub states_have : ℕ → List Weighted → Bool
+states_have entries [] = true
+states_have entries (p ∷ ps) = p.state.count == entries && states_have entries ps
+
+-- a line is the cover of one underlying, and a tree of several
+abbrev pub cover_fits : ℕ → Cover → Bool
+cover_fits n Line = n == 1
+cover_fits n (Tree tree) = nat_lt 1 n
+
+abbrev pub mark_fits : ℕ → Mark → Bool
+mark_fits n (Optimal cover measure) = cover_fits n cover && states_have (n + 1) measure.points
+mark_fits n (Wide w) = true
+mark_fits n Budget = true
+
+-- whether there are as many fills as orders, and forms, states and cover are those of the batch's underlyings
+abbrev pub has_shape : Batch → Outcome → Bool
+has_shape batch outcome =
+    length outcome.fills == length batch.orders
+    && forms_have (batch.underlyings + 1) batch.orders
+    && mark_fits batch.underlyings outcome.mark
+
+-- whether the value of x is at most that of y
+abbrev pub is_at_most : Fraction → Fraction → Bool
+is_at_most x y = int_le (x.numerator *ℤ pos y.denominator) (y.numerator *ℤ pos x.denominator)
+
+-- whether a fill is from 0 to the order's quantity
+abbrev pub is_fill : Order → Fraction → Bool
+is_fill o f = int_le (pos 0) f.numerator && is_at_most f (whole (pos o.quantity))
+
+abbrev pub are_fills : List Order → List Frac128 → Bool
+are_fills [] fills = true
+are_fills (o ∷ os) [] = true
+are_fills (o ∷ os) (f ∷ fs) = is_fill o (fraction_of f) && are_fills os fs
+
+-- an outcome of that shape
+pub record IsShaped (batch : Batch) (outcome : Outcome) : Type 0 where
+  pub fills : length outcome.fills ≡ length batch.orders
+  pub forms : All (λ (order : Order). order.form.count ≡ batch.underlyings + 1) batch.orders
+  pub mark : mark_fits batch.underlyings outcome.mark ≡ true

@@ -1,0 +1,104 @@
+//! The verdict: the first condition that fails, or the first step that does not fit, or yes.
+
+ghost use Rattle.std.specs.Prelude.{◌≡◌, ◌≤◌, ◌+◌, length, map, true};
+ghost use Rattle.frac.specs.Range.{limit};
+ghost use Rattle.frac.specs.Value.{fraction_of};
+ghost use Rattle.form.specs.Limits.{HasItsForms};
+ghost use Rattle.measure.specs.Points.{point_of};
+ghost use Rattle.measure.specs.Sums.{has_unit_mass};
+ghost use Rattle.cert_check.specs.Events.{bound_condition, bound_holds, check, cover_holds, judge_mark, measure_condition, verdict_of, yes};
+ghost use Rattle.cert_check.specs.Shape.{IsShaped, mark_fits, states_have};
+
+use crate::cover::{mark_covers, surplus_holds};
+use crate::outcome::{Judgement, Mark, No, Outcome};
+use crate::shape::{are_fills, has_shape};
+use exact_num::Wide;
+use form::Batch;
+use frac::Frac128;
+use measure::{Measure, bound, is_measure};
+
+/// The judgement of an outcome. Yes where each condition holds: the shape of the batch, the fills from 0 to their
+/// quantities, the cover, and with the mark optimal the measure and its bound. `No` has the first condition that fails,
+/// `Wide` the first step that does not fit where no condition failed before. A yes shows that the fills cover the
+/// claimed surplus at every settlement and that it is not below 0; with the mark optimal also that no fractional fills
+/// cover more. The batch is on 1 to 8 underlyings, and there are as many signs as orders; what they held does not
+/// matter. Takes no memory.
+pub fn verdict(batch: &Batch, outcome: &Outcome, signs: &mut [i8]) -> Judgement
+    requires underlyings { (1 ≤ batch.now.underlyings) × (batch.now.underlyings ≤ 8) }
+    requires signs { length signs.old ≡ length batch.now.orders }
+    ensures { result ≡ verdict_of limit batch.now outcome.now }
+{
+    if !has_shape(batch, outcome) {
+        return Judgement::No(No::BatchShape);
+    }
+    if !are_fills(batch.orders.as_slice(), outcome.fills.as_slice()) {
+        return Judgement::No(No::Fill);
+    }
+    match cover_holds(batch, outcome, signs) {
+        Ok(true) => judge_mark(batch, &outcome.claim.surplus, &outcome.mark),
+        Ok(false) => Judgement::No(No::Cover),
+        Err(wide) => Judgement::Wide(wide),
+    }
+}
+
+/// Whether the surplus is what it should be and the liability is enough.
+fn cover_holds(batch: &Batch, outcome: &Outcome, signs: &mut [i8]) -> Result<bool, Wide>
+    requires forms { HasItsForms batch.now }
+    requires shape { IsShaped batch.now outcome.now }
+    requires signs { length signs.old ≡ length batch.now.orders }
+    ensures { result ≡ cover_holds limit batch.now outcome.now }
+{
+    let fills = outcome.fills.as_slice();
+    if !surplus_holds(batch.orders.as_slice(), fills, &outcome.claim)? {
+        return Ok(false);
+    }
+    mark_covers(batch, fills, &outcome.claim.liability, &outcome.mark, signs)
+}
+
+/// With the mark optimal, whether the measure proves the surplus.
+fn judge_mark(batch: &Batch, surplus: &Frac128, mark: &Mark) -> Judgement
+    requires forms { HasItsForms batch.now }
+    requires mark { mark_fits batch.now.underlyings mark.now ≡ true }
+    ensures { result ≡ judge_mark limit batch.now.orders (fraction_of surplus.now) mark.now }
+{
+    match mark {
+        Mark::Optimal { measure, .. } => judge_measure(batch, surplus, measure),
+        Mark::Wide(_) | Mark::Budget => Judgement::Yes,
+    }
+}
+
+/// Whether the measure is one, and its bound the surplus.
+fn judge_measure(batch: &Batch, surplus: &Frac128, measure: &Measure) -> Judgement
+    requires forms { HasItsForms batch.now }
+    requires states { states_have (batch.now.underlyings + 1) measure.now.points ≡ true }
+    ensures { result ≡ check measure_condition (has_unit_mass limit (map point_of measure.now.points)) (check bound_condition (bound_holds limit batch.now.orders (map point_of measure.now.points) (fraction_of surplus.now)) yes) }
+{
+    match is_measure(measure) {
+        Ok(true) => judge_bound(batch, surplus, measure),
+        Ok(false) => Judgement::No(No::Measure),
+        Err(wide) => Judgement::Wide(wide),
+    }
+}
+
+/// Whether the bound of the measure is the surplus.
+fn judge_bound(batch: &Batch, surplus: &Frac128, measure: &Measure) -> Judgement
+    requires forms { HasItsForms batch.now }
+    requires states { states_have (batch.now.underlyings + 1) measure.now.points ≡ true }
+    ensures { result ≡ check bound_condition (bound_holds limit batch.now.orders (map point_of measure.now.points) (fraction_of surplus.now)) yes }
+{
+    match bound_holds(batch, surplus, measure) {
+        Ok(true) => Judgement::Yes,
+        Ok(false) => Judgement::No(No::Bound),
+        Err(wide) => Judgement::Wide(wide),
+    }
+}
+
+/// The same, or the first step that does not fit.
+fn bound_holds(batch: &Batch, surplus: &Frac128, measure: &Measure) -> Result<bool, Wide>
+    requires forms { HasItsForms batch.now }
+    requires states { states_have (batch.now.underlyings + 1) measure.now.points ≡ true }
+    ensures { result ≡ bound_holds limit batch.now.orders (map point_of measure.now.points) (fraction_of surplus.now) }
+{
+    let bound = bound(batch, measure)?;
+    Ok(bound == *surplus)
+}

@@ -1,0 +1,89 @@
+//! The shape of a batch and its outcome.
+
+ghost use Rattle.std.specs.Prelude.{◌≡◌, ◌+◌, ◌≤◌, length};
+ghost use Rattle.frac.specs.Value.{fraction_of};
+ghost use Rattle.cert_check.specs.Shape.{are_fills, cover_fits, forms_have, has_shape, is_fill, mark_fits, states_have};
+
+use crate::outcome::{Cover, Mark, Outcome};
+use exact_num::Exact;
+use form::{Batch, Order};
+use frac::{Frac128, whole};
+use measure::Weighted;
+
+/// Whether there are as many fills as orders, and forms, states and cover are those of the batch's underlyings.
+pub fn has_shape(batch: &Batch, outcome: &Outcome) -> bool
+    ensures { result ≡ has_shape batch.now outcome.now }
+{
+    let entries = u16::from(batch.underlyings) + 1;
+    outcome.fills.as_slice().len() == batch.orders.as_slice().len()
+        && forms_have(entries, batch.orders.as_slice())
+        && mark_fits(batch.underlyings, &outcome.mark)
+}
+
+/// Whether each form has so many entries.
+fn forms_have(entries: u16, orders: &[Order]) -> bool
+    ensures { result ≡ forms_have entries orders.now }
+{
+    for order in orders {
+        if u16::from(order.form.count) != entries {
+            return false;
+        }
+    }
+    true
+}
+
+/// Whether each state has so many entries.
+fn states_have(entries: u16, points: &[Weighted]) -> bool
+    ensures { result ≡ states_have entries points.now }
+{
+    for point in points {
+        if u16::from(point.state.count) != entries {
+            return false;
+        }
+    }
+    true
+}
+
+/// Whether the cover and the states of the measure are those of so many underlyings.
+fn mark_fits(underlyings: u8, mark: &Mark) -> bool
+    ensures { result ≡ mark_fits underlyings mark.now }
+{
+    match mark {
+        Mark::Optimal { cover, measure } => {
+            cover_fits(underlyings, cover)
+                && states_have(u16::from(underlyings) + 1, measure.points.as_slice())
+        }
+        Mark::Wide(_) | Mark::Budget => true,
+    }
+}
+
+/// Whether a line is the cover of one underlying, and a tree of several.
+fn cover_fits(underlyings: u8, cover: &Cover) -> bool
+    ensures { result ≡ cover_fits underlyings cover.now }
+{
+    match cover {
+        Cover::Line => underlyings == 1,
+        Cover::Tree(_) => underlyings > 1,
+    }
+}
+
+/// Whether each fill is from 0 to its order's quantity.
+pub fn are_fills(orders: &[Order], fills: &[Frac128]) -> bool
+    requires { length fills.now ≡ length orders.now }
+    ensures { result ≡ are_fills orders.now fills.now }
+{
+    for i in 0..orders.len() {
+        let order = &orders[i];
+        if !is_fill(order, fills[i]) {
+            return false;
+        }
+    }
+    true
+}
+
+/// Whether the fill is from 0 to the order's quantity.
+fn is_fill(order: &Order, fill: Frac128) -> bool
+    ensures { result ≡ is_fill order.now (fraction_of fill) }
+{
+    fill.sign() >= 0 && fill <= whole(order.quantity.into())
+}

@@ -1,0 +1,2 @@
+pub mod NetSteps
+pub mod LineSteps

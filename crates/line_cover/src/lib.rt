@@ -1,0 +1,8 @@
+//! The cover of a market on one underlying: its net payoff at the prices where a payoff bends.
+#![tactic(auto)]
+
+pub mod breakpoint;
+pub mod net;
+pub mod verdict;
+
+pub use verdict::{LineVerdict, holds_on_line};

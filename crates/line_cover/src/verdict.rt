@@ -1,0 +1,104 @@
+//! The check of a line.
+
+ghost use Rattle.std.specs.Prelude.{◌≡◌, All, length, map, zip};
+ghost use Rattle.std.specs.List.{filter_map};
+ghost use Rattle.frac.specs.Range.{limit};
+ghost use Rattle.frac.specs.Value.{fraction_of};
+ghost use Rattle.form.specs.Limits.{HasItsForms};
+ghost use Rattle.form.specs.States.{vector_of};
+ghost use Rattle.line_cover.specs.Line.{breakpoint_of_order, holds_at, holds_at_all, holds_at_break, line_holds};
+ghost use Rattle.line_cover.specs.Verdict.{line_verdict};
+
+use crate::breakpoint::{breakpoint, price_state};
+use crate::net::excess;
+use exact_num::{Exact, Wide};
+use form::{Batch, Order, State};
+use frac::Frac128;
+
+/// Whether a line holds, or the first step that does not fit.
+#[derive(Clone, Copy, Debug, PartialEq, Eq)]
+pub enum LineVerdict {
+    Holds,
+    Fails,
+    Wide(Wide),
+}
+
+/// Whether the net payoff of the fills is at most the liability at every price. It is enough to look at the price 0, at
+/// each price above 0 where a payoff bends, and at the slope beyond the last, since the net is linear between them.
+/// `Holds` exactly where the net less `liability * t` is at most 0 at these states, `Fails` exactly where not, unless
+/// a step does not fit before; then `Wide` has the first such step. The batch is on one underlying, and there are as
+/// many fills as orders. Takes no memory. (Wang et al., EC 2021.)
+pub fn holds_on_line(batch: &Batch, fills: &[Frac128], liability: &Frac128) -> LineVerdict
+    requires forms { HasItsForms batch.now }
+    requires one { batch.now.underlyings ≡ 1 }
+    requires fills { length fills.now ≡ length batch.now.orders }
+    ensures { result ≡ line_verdict (line_holds limit (zip batch.now.orders (map fraction_of fills.now)) batch.now.orders (fraction_of liability.now)) }
+{
+    match line_holds(batch.orders.as_slice(), fills, liability) {
+        Ok(true) => LineVerdict::Holds,
+        Ok(false) => LineVerdict::Fails,
+        Err(wide) => LineVerdict::Wide(wide),
+    }
+}
+
+/// Whether the line holds at each of its states.
+fn line_holds(orders: &[Order], fills: &[Frac128], liability: &Frac128) -> Result<bool, Wide>
+    requires fills { length fills.now ≡ length orders.now }
+    requires forms { All (λ o. o.form.count ≡ 2) orders.now }
+    ensures { result ≡ line_holds limit (zip orders.now (map fraction_of fills.now)) orders.now (fraction_of liability.now) }
+{
+    if !holds_at(orders, fills, liability, &price_state(1, 0))? {
+        return Ok(false);
+    }
+    if !holds_at_breaks(orders, fills, liability)? {
+        return Ok(false);
+    }
+    holds_at(orders, fills, liability, &price_state(0, 1))
+}
+
+/// Whether it holds at the breakpoint of each order.
+fn holds_at_breaks(orders: &[Order], fills: &[Frac128], liability: &Frac128) -> Result<bool, Wide>
+    requires fills { length fills.now ≡ length orders.now }
+    requires forms { All (λ o. o.form.count ≡ 2) orders.now }
+    ensures { result ≡ holds_at_all limit (zip orders.now (map fraction_of fills.now)) (fraction_of liability.now) (filter_map breakpoint_of_order orders.now) }
+{
+    for order in orders {
+        if !holds_at_break(orders, fills, liability, order)? {
+            return Ok(false);
+        }
+    }
+    Ok(true)
+}
+
+/// Whether it holds where the order's option bends, if it does.
+fn holds_at_break(
+    orders: &[Order],
+    fills: &[Frac128],
+    liability: &Frac128,
+    order: &Order,
+) -> Result<bool, Wide>
+    requires fills { length fills.now ≡ length orders.now }
+    requires forms { All (λ o. o.form.count ≡ 2) orders.now }
+    requires form { order.now.form.count ≡ 2 }
+    ensures { result ≡ holds_at_break limit (zip orders.now (map fraction_of fills.now)) (fraction_of liability.now) (breakpoint_of_order order.now) }
+{
+    match breakpoint(&order.form) {
+        Some(state) => holds_at(orders, fills, liability, &state),
+        None => Ok(true),
+    }
+}
+
+/// Whether the net is at most the liability times t at the state.
+fn holds_at(
+    orders: &[Order],
+    fills: &[Frac128],
+    liability: &Frac128,
+    state: &State,
+) -> Result<bool, Wide>
+    requires fills { length fills.now ≡ length orders.now }
+    requires forms { All (λ o. o.form.count ≡ state.now.count) orders.now }
+    ensures { result ≡ holds_at limit (zip orders.now (map fraction_of fills.now)) (fraction_of liability.now) (vector_of state.now) }
+{
+    let excess = excess(orders, fills, liability, state)?;
+    Ok(excess.sign() <= 0)
+}

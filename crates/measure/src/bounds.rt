@@ -1,0 +1,65 @@
+//! The bound of a measure on every surplus.
+
+ghost use Rattle.std.specs.Prelude.{◌≡◌, ◌+◌, All, map, pos};
+ghost use Rattle.exact_num.specs.Fits.{meaning};
+ghost use Rattle.exact_num.specs.Fraction.{whole};
+ghost use Rattle.frac.specs.Range.{limit};
+ghost use Rattle.frac.specs.Value.{fraction_of};
+ghost use Rattle.form.specs.Limits.{HasItsForms};
+ghost use Rattle.measure.specs.Points.{point_of};
+ghost use Rattle.measure.specs.Sums.{add_gain, bound_of, gain_at};
+
+use crate::measures::Measure;
+use crate::prices::price_of;
+use exact_num::{Exact, Wide};
+use form::sums::plus_product;
+use form::{Batch, Order, Side};
+use frac::{Frac128, whole};
+
+/// The bound of the measure: the sum over orders of quantity times the positive part of limit less price for a buy, and
+/// of price less limit for a sell. An order counts whether it is filled or not. Each state has as many entries as the
+/// forms. `Wide` comes exactly where a step does not fit. Takes no memory. (The dual objective: Chvatal, Linear
+/// Programming, chapter 5.)
+pub fn bound(batch: &Batch, m: &Measure) -> Result<Frac128, Wide>
+    requires forms { HasItsForms batch.now }
+    requires states { All (λ point. point.state.count ≡ batch.now.underlyings + 1) m.now.points }
+    ensures { meaning fraction_of result ≡ bound_of limit batch.now.orders (map point_of m.now.points) }
+{
+    sum(batch.orders.as_slice(), m)
+}
+
+/// The sum over these orders.
+fn sum(orders: &[Order], m: &Measure) -> Result<Frac128, Wide>
+    requires { All (λ order. All (λ point. point.state.count ≡ order.form.count) m.now.points) orders.now }
+    ensures { meaning fraction_of result ≡ bound_of limit orders.now (map point_of m.now.points) }
+{
+    let mut total = Frac128::zero();
+    for order in orders {
+        total = add_gain(total, m, order)?;
+    }
+    Ok(total)
+}
+
+/// The total and the order's quantity times its gain, where it gains.
+fn add_gain(total: Frac128, m: &Measure, order: &Order) -> Result<Frac128, Wide>
+    requires { All (λ point. point.state.count ≡ order.now.form.count) m.now.points }
+    ensures { meaning fraction_of result ≡ add_gain limit (fraction_of total) (map point_of m.now.points) order.now }
+{
+    let price = price_of(&order.form, m)?;
+    let gain = gain_at(order.side, whole(order.price.into()), price)?;
+    if gain.sign() > 0 {
+        plus_product(total, whole(order.quantity.into()), gain)
+    } else {
+        Ok(total)
+    }
+}
+
+/// How far the limit is above the price for a buy, and below it for a sell.
+fn gain_at(side: Side, limit_price: Frac128, price: Frac128) -> Result<Frac128, Wide>
+    ensures { meaning fraction_of result ≡ gain_at limit side (fraction_of limit_price) (fraction_of price) }
+{
+    match side {
+        Side::Buy => limit_price.sub(price),
+        Side::Sell => price.sub(limit_price),
+    }
+}

@@ -1,0 +1,64 @@
+//! The test that weighted states are a measure.
+
+ghost use Rattle.std.specs.Prelude.{◌≡◌, map, pos};
+ghost use Rattle.exact_num.specs.Fits.{meaning};
+ghost use Rattle.exact_num.specs.Fraction.{whole};
+ghost use Rattle.frac.specs.Range.{limit};
+ghost use Rattle.frac.specs.Value.{fraction_of};
+ghost use Rattle.measure.specs.Points.{point_of};
+ghost use Rattle.measure.specs.Sums.{add_mass, add_masses, are_weights, has_unit_mass, is_weight};
+
+use crate::measures::{Measure, Weighted};
+use exact_num::{Exact, Wide};
+use form::sums::plus_product;
+use frac::{Frac128, whole};
+
+/// Whether no weight is below 0 and the sum of `weight * t` is 1. `Wide` comes exactly where a step of the sum does not
+/// fit and no weight is below 0. Takes no memory.
+pub fn is_measure(m: &Measure) -> Result<bool, Wide>
+    ensures { result ≡ has_unit_mass limit (map point_of m.now.points) }
+{
+    let points = m.points.as_slice();
+    if !are_weights(points) {
+        return Ok(false);
+    }
+    let sum = mass(points)?;
+    Ok(sum == Frac128::one())
+}
+
+/// Whether no weight is below 0.
+fn are_weights(points: &[Weighted]) -> bool
+    ensures { result ≡ are_weights (map point_of points.now) }
+{
+    for point in points {
+        if !is_weight(point) {
+            return false;
+        }
+    }
+    true
+}
+
+/// The sum of weight times t.
+fn mass(points: &[Weighted]) -> Result<Frac128, Wide>
+    ensures { meaning fraction_of result ≡ add_masses limit (whole (pos 0)) (map point_of points.now) }
+{
+    let mut total = Frac128::zero();
+    for point in points {
+        total = add_mass(total, point)?;
+    }
+    Ok(total)
+}
+
+/// Whether the weight is not below 0.
+fn is_weight(point: &Weighted) -> bool
+    ensures { result ≡ is_weight (point_of point.now) }
+{
+    point.weight.sign() >= 0
+}
+
+/// The total and weight times t of a point.
+fn add_mass(total: Frac128, point: &Weighted) -> Result<Frac128, Wide>
+    ensures { meaning fraction_of result ≡ add_mass limit (fraction_of total) (point_of point.now) }
+{
+    plus_product(total, point.weight, whole(point.state.entries[0]))
+}

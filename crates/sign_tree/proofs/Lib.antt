@@ -1,0 +1,5 @@
+pub mod LegLists
+pub mod TermSteps
+pub mod EntrySteps
+pub mod Sides
+pub mod Ends

@@ -1,0 +1,192 @@
+//! The walk over a tree.
+
+ghost use Rattle.std.specs.Prelude.{◌≡◌, ◌≤◌, ◌<◌, ◌-◌, ◌+◌, List, ◌∷◌, length, map, IfOk, MatchOption, EachIndex, false, pos, slice_index_or};
+ghost use Rattle.frac.specs.Range.{limit};
+ghost use Rattle.frac.specs.Value.{fraction_of};
+ghost use Rattle.form.specs.Limits.{HasItsForms};
+ghost use Rattle.form.specs.Tree.{Sign};
+ghost use Rattle.form.specs.Written.{LeafNode, SplitNode};
+ghost use Rattle.sign_tree.specs.Read.{node_of, placed_of, sign_of};
+ghost use Rattle.sign_tree.specs.Walk.{closes_of, exposure_of_order, fraction_legs, may_split, walk};
+ghost use Rattle.sign_tree.specs.Verdict.{IsSplit, goes_on, is_nothing, tree_verdict};
+
+use crate::leaf::{is_unsigned, leaf_closes};
+use crate::trees::{Multiplier, Node, SignTree, TreeVerdict};
+use exact_num::Wide;
+use form::{Batch, Order};
+use frac::Frac128;
+
+/// What is left of a tree to be walked.
+#[derive(Clone, Copy)]
+pub struct Left<'a> {
+    pub nodes: &'a [Node],
+    pub multipliers: &'a [Multiplier],
+}
+
+/// Why a walk ends before its subtree does.
+#[derive(Clone, Copy)]
+pub enum Stop {
+    Open,
+    Wide(Wide),
+}
+
+/// Whether the tree closes over the fills with the liability: every leaf of it shows that no state owes more. `Closed`
+/// exactly where it is well formed and each leaf closes, `Open` exactly where not, unless a step does not fit before;
+/// then `Wide` has the first such step. There are as many fills and signs as orders; what the signs held does not
+/// matter. The walk goes one call deeper for each split on its way, of which there are at most as many as buys. Takes
+/// no memory. (Farkas' lemma in its easy direction: Chvatal, Linear Programming, chapter 16.)
+pub fn closes(
+    batch: &Batch,
+    fills: &[Frac128],
+    liability: &Frac128,
+    tree: &SignTree,
+    signs: &mut [i8],
+) -> TreeVerdict
+    requires forms { HasItsForms batch.now }
+    requires fills { length fills.now ≡ length batch.now.orders }
+    requires signs { length signs.old ≡ length batch.now.orders }
+    ensures { result ≡ tree_verdict (closes_of limit batch.now.underlyings (fraction_legs batch.now.orders (map fraction_of fills.now)) (fraction_of liability.now) (map node_of tree.now.nodes) (map placed_of tree.now.multipliers)) }
+{
+    unsign(signs);
+    let left = Left {
+        nodes: tree.nodes.as_slice(),
+        multipliers: tree.multipliers.as_slice(),
+    };
+    let entries = batch.underlyings as usize + 1;
+    match subtree(
+        batch.orders.as_slice(),
+        fills,
+        liability,
+        entries,
+        signs,
+        left,
+    ) {
+        Ok(rest) => at_end(rest),
+        Err(Stop::Open) => TreeVerdict::Open,
+        Err(Stop::Wide(wide)) => TreeVerdict::Wide(wide),
+    }
+}
+
+/// Whether nothing is left after the whole tree.
+fn at_end(left: Left) -> TreeVerdict
+    ensures { result ≡ tree_verdict (Ok (is_nothing (map node_of left.entry.nodes.now) (map placed_of left.entry.multipliers.now))) }
+{
+    if left.nodes.is_empty() && left.multipliers.is_empty() {
+        TreeVerdict::Closed
+    } else {
+        TreeVerdict::Open
+    }
+}
+
+/// Takes every sign away.
+fn unsign(signs: &mut [i8])
+    ensures { EachIndex signs.new (λ k. slice_index_or signs.new k (pos 0) ≡ pos 0) }
+{
+    for sign in signs.iter_mut() {
+        *sign = 0;
+    }
+}
+
+/// Walks one subtree under these signs, which stand again as before where it closes, and answers what is left.
+#[cycle(walk)]
+fn subtree<'a>(
+    orders: &[Order],
+    fills: &[Frac128],
+    liability: &Frac128,
+    entries: usize,
+    signs: &mut [i8],
+    left: Left<'a>,
+) -> Result<Left<'a>, Stop>
+    requires fills { length fills.now ≡ length orders.now }
+    requires signs { length signs.old ≡ length orders.now }
+    requires entries { (1 ≤ entries) × (entries ≤ 9) }
+    ensures walks { (pending : List (List Sign)) → walk limit (entries - 1) (fraction_legs orders.now (map fraction_of fills.now)) (fraction_of liability.now) (map node_of left.entry.nodes.now) (map sign_of signs.old ∷ pending) (map placed_of left.entry.multipliers.now) ≡ goes_on (λ nodes ms. walk limit (entries - 1) (fraction_legs orders.now (map fraction_of fills.now)) (fraction_of liability.now) nodes pending ms) result }
+    ensures signs { IfOk result (λ rest. signs.new ≡ signs.old) }
+    ensures shorter { IfOk result (λ rest. length rest.nodes.now < length left.entry.nodes.now) }
+{
+    let Some((node, nodes)) = left.nodes.split_first() else {
+        return Err(Stop::Open);
+    };
+    let left = Left { nodes, ..left };
+    match *node {
+        Node::Leaf { count } => leaf(orders, fills, liability, entries, signs, count, left),
+        Node::Split { place } => split(orders, fills, liability, entries, signs, place, left),
+    }
+}
+
+/// Walks both sides of a split at the place, first with the plus sign and then with the minus sign.
+#[cycle(walk)]
+fn split<'a>(
+    orders: &[Order],
+    fills: &[Frac128],
+    liability: &Frac128,
+    entries: usize,
+    signs: &mut [i8],
+    place: u32,
+    left: Left<'a>,
+) -> Result<Left<'a>, Stop>
+    requires fills { length fills.now ≡ length orders.now }
+    requires signs { length signs.old ≡ length orders.now }
+    requires entries { (1 ≤ entries) × (entries ≤ 9) }
+    ensures walks { (pending : List (List Sign)) → walk limit (entries - 1) (fraction_legs orders.now (map fraction_of fills.now)) (fraction_of liability.now) (SplitNode place ∷ map node_of left.entry.nodes.now) (map sign_of signs.old ∷ pending) (map placed_of left.entry.multipliers.now) ≡ goes_on (λ nodes ms. walk limit (entries - 1) (fraction_legs orders.now (map fraction_of fills.now)) (fraction_of liability.now) nodes pending ms) result }
+    ensures signs { IfOk result (λ rest. signs.new ≡ signs.old) }
+    ensures shorter { IfOk result (λ rest. length rest.nodes.now < length left.entry.nodes.now) }
+{
+    let Some(i) = split_index(orders, signs, place) else {
+        return Err(Stop::Open);
+    };
+    signs[i] = 1;
+    let middle = subtree(orders, fills, liability, entries, signs, left)?;
+    signs[i] = -1;
+    let rest = subtree(orders, fills, liability, entries, signs, middle)?;
+    signs[i] = 0;
+    Ok(rest)
+}
+
+/// Takes the multipliers of a leaf, and answers what is left after it where it closes.
+fn leaf<'a>(
+    orders: &[Order],
+    fills: &[Frac128],
+    liability: &Frac128,
+    entries: usize,
+    signs: &[i8],
+    count: u32,
+    left: Left<'a>,
+) -> Result<Left<'a>, Stop>
+    requires fills { length fills.now ≡ length orders.now }
+    requires signs { length signs.now ≡ length orders.now }
+    requires entries { (1 ≤ entries) × (entries ≤ 9) }
+    ensures walks { (pending : List (List Sign)) → walk limit (entries - 1) (fraction_legs orders.now (map fraction_of fills.now)) (fraction_of liability.now) (LeafNode count ∷ map node_of left.entry.nodes.now) (map sign_of signs.now ∷ pending) (map placed_of left.entry.multipliers.now) ≡ goes_on (λ nodes ms. walk limit (entries - 1) (fraction_legs orders.now (map fraction_of fills.now)) (fraction_of liability.now) nodes pending ms) result }
+    ensures nodes { IfOk result (λ rest. rest.nodes.now ≡ left.entry.nodes.now) }
+{
+    let count = count as usize;
+    if count > left.multipliers.len() {
+        return Err(Stop::Open);
+    }
+    let (here, multipliers) = left.multipliers.split_at(count);
+    match leaf_closes(orders, fills, liability, signs, here, entries) {
+        Ok(true) => Ok(Left {
+            multipliers,
+            ..left
+        }),
+        Ok(false) => Err(Stop::Open),
+        Err(wide) => Err(Stop::Wide(wide)),
+    }
+}
+
+/// The index of the buy without a sign at the place, where there is one.
+fn split_index(orders: &[Order], signs: &[i8], place: u32) -> Option<usize>
+    requires { length signs.now ≡ length orders.now }
+    ensures { MatchOption result (may_split (map exposure_of_order orders.now) (map sign_of signs.now) place ≡ false) (IsSplit orders.now signs.now place) }
+{
+    let place = place as usize;
+    if place == 0 || place > orders.len() {
+        return None;
+    }
+    let i = place - 1;
+    if is_unsigned(&orders[i], signs[i]) {
+        Some(i)
+    } else {
+        None
+    }
+}
