@@ -35,7 +35,7 @@ above_test : (z : ℤ) → pos 0 <ℤ z → int_lt (pos 0) z ≡ true
 above_test z h = grind (arith, ints)
 
 -- the first entry below 0, and none before it
-first_out : (i : ℕ) (xs : List Fraction) (e : ℕ) → first_below i xs ≡ Some e → (k : ℕ) × (e ≡ i + k) × (k < length xs) × ((at xs k).numerator <ℤ pos 0) × ((j : ℕ) → j < k → pos 0 ≤ℤ (at xs j).numerator)
+pub first_out : (i : ℕ) (xs : List Fraction) (e : ℕ) → first_below i xs ≡ Some e → (k : ℕ) × (e ≡ i + k) × (k < length xs) × ((at xs k).numerator <ℤ pos 0) × ((j : ℕ) → j < k → pos 0 ≤ℤ (at xs j).numerator)
 unfolding first_below
 first_out i [] e h = cc
 first_out i (x ∷ xs) e h = step (is_below_zero x) refl h (first_out (i + 1) xs e)
@@ -216,6 +216,16 @@ least_out a (b ∷ qs) p h =
         ]
       ],
     )
+
+-- the row that leaves is there, and its entry in column e is above 0
+pub least_limits : (limit columns e : ℕ) (rows : List Row) (q : Ratio) (qs : List Ratio) → ((k j : ℕ) → IsLowest (at (entries_at rows k) j)) → ratios limit columns e 0 rows ≡ Ok (q ∷ qs)
+    → ((least q qs).place < length rows) × (pos 0 <ℤ (at (entries_at rows (least q qs).place) e).numerator)
+least_limits limit columns e rows q qs low h =
+    let a = ratios_out limit columns e 0 rows (q ∷ qs) low h in
+    let lows : (c : Ratio) → Has c (q ∷ qs) → IsLowest c.value = λ c w. (a.each_is c w).lowest in
+    let best = a.each_is (least q qs) (least_out q qs (lows q (inl refl)) (λ c w. lows c (inr w))).0 in
+    let is_row : (least q qs).place ≡ best.row = best.place ∙ omega arith in
+    (omega (arith, is_row, best.inside), subst (λ r. pos 0 <ℤ (at (entries_at rows r) e).numerator) (sym is_row) best.above)
 
 -- ---- what a turn says
 pub moved_out : (limit e : ℕ) (t u : Table) → turn limit e t ≡ moved u → (q : Ratio) × (qs : List Ratio) × (ratios limit t.columns e 0 t.rows ≡ Ok (q ∷ qs)) × (pivoted limit e (least q qs).place t ≡ Ok u)

@@ -8,20 +8,20 @@ use Rattle.table_run.specs.Program.{LinearProgram}
 use Rattle.table_run.specs.Run.{Ending, run, optimal, unbounded, misfit_at, out_of_budget}
 
 -- one row of a program in whole numbers: the coefficients and the right side
-pub record Limits : Type 0 where
+pub record Constraint : Type 0 where
   pub coefficients : List ℤ
   pub right_side : ℤ
 
-abbrev pub at_most : List ℤ → ℤ → Limits
+abbrev pub at_most : List ℤ → ℤ → Constraint
 at_most coefficients right_side = record { coefficients = coefficients; right_side = right_side }
 
-abbrev pub program_of : List ℤ → List Limits → LinearProgram
+abbrev pub program_of : List ℤ → List Constraint → LinearProgram
 program_of costs rows =
     record {
       variables = length costs;
       rows = length rows;
-      coefficients = flat_map (λ (r : Limits). map whole r.coefficients) rows;
-      right_sides = map (λ (r : Limits). whole r.right_side) rows;
+      coefficients = flat_map (λ (r : Constraint). map whole r.coefficients) rows;
+      right_sides = map (λ (r : Constraint). whole r.right_side) rows;
       costs = map whole costs;
     }
 
