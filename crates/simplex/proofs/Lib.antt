@@ -4,3 +4,6 @@ pub mod EntrySteps
 pub mod RatioSteps
 pub mod RowSteps
 pub mod TableSteps
+pub mod FillSteps
+pub mod RunSteps
+pub mod FirstSteps

@@ -3,3 +3,4 @@ pub mod Programs
 pub mod Rows
 pub mod Candidates
 pub mod Tables
+pub mod Answers

@@ -6,9 +6,12 @@
 pub mod budget;
 mod candidate;
 mod entries;
+mod fill;
+mod first;
 pub mod program;
 mod row;
 mod rows;
+mod run;
 pub mod solved;
 pub mod stop;
 mod table;

@@ -1,17 +1,21 @@
 //! The table of a run. Nothing outside this file knows how it is laid out.
-ghost use Rattle.std.specs.Prelude.{◌≡◌, ◌+◌, ◌<◌, false, IfSome, length, map, unsigned_abs, vec_len};
+ghost use Rattle.std.specs.Prelude.{◌≡◌, ◌+◌, ◌-◌, ◌*◌, ◌^◌, ◌<◌, false, IfOk, IfSome, length, map, unsigned_abs, vec_len};
 ghost use Rattle.std.specs.List.{All};
 ghost use Rattle.exact_num.specs.Fits.{written_back};
 ghost use Rattle.table_run.specs.Choice.{entering as entering_of};
 ghost use Rattle.table_run.specs.Pivot.{cleared, divided, pivoted, rows_after};
-ghost use Rattle.table_run.specs.Table.{entries_at};
+ghost use Rattle.table_run.specs.Table.{entries_at, first_table};
 ghost use Rattle.table_run.specs.Run.{turn as turn_of};
 ghost use Rattle.simplex.specs.Rows.{as_rows};
 
 use crate::entries::{clear_column, divide_entries, first_below_zero};
+use crate::fill::zeros;
+use crate::first::{first_objective, first_rows};
+use crate::program::Program;
 use crate::row::TableRow;
 use crate::rows::{leaving, pivot_rows};
 use exact_num::{Exact, Wide};
+use std::alloc::{AllocError, Global};
 
 /// The rows and the objective row, each with an entry for every column and its right side last,
 /// and room for the pivot row of a turn.
@@ -28,6 +32,29 @@ pub struct Table<N> {
 
 impl<N: Exact> Table<N> {
     ghost use Rattle.simplex.specs.Tables.{as_table, turn_answer, leaving_at, IsPivot};
+    ghost use Rattle.simplex.specs.Programs.{as_program};
+
+    /// The first table of a program: each row has its own slack as the basic variable.
+    pub fn new(alloc: Global, program: &Program<N>) -> Result<Table<N>, AllocError>
+        requires coefficients { vec_len program.now.a ≡ program.now.m * program.now.n }
+        requires right_sides { vec_len program.now.b ≡ program.now.m }
+        requires costs { vec_len program.now.c ≡ program.now.n }
+        requires columns { program.now.n + program.now.m < 2 ^ 64 - 1 }
+        ensures {
+            IfOk result (λ table. as_table N.fraction table ≡ first_table (as_program N.fraction program.now))
+        }
+    {
+        let columns = program.n + program.m;
+        let rows = first_rows(alloc, program)?;
+        let objective = first_objective(alloc, program)?;
+        let pivot = zeros(alloc, columns + 1)?;
+        Ok(Table {
+            columns,
+            rows,
+            objective,
+            pivot,
+        })
+    }
 
     /// The entering column: the smallest whose objective entry is below 0.
     pub fn entering(&self) -> Option<usize>
