@@ -7,3 +7,5 @@ pub mod TableSteps
 pub mod FillSteps
 pub mod RunSteps
 pub mod FirstSteps
+pub mod ReadSteps
+pub mod SolveSteps

@@ -1,9 +1,9 @@
 -- What the table of the code stands for, and what its calls answer.
-use Rattle.std.specs.Prelude.{ℕ, ◌<◌, length, map, pos, ◌<ℤ◌, Bool, true, false, Option, Result, Ok, Err}
+use Rattle.std.specs.Prelude.{ℕ, ◌<◌, length, map, pos, ◌<ℤ◌, Bool, true, false, nat_eq, if◌then◌else◌, Option, Result, Ok, Err}
 use Rattle.exact_num.specs.declared.misfit.Wide.{Wide}
-use Rattle.exact_num.specs.Fraction.{Fraction}
+use Rattle.exact_num.specs.Fraction.{Fraction, whole, negated}
 use Rattle.table_run.specs.Places.{at}
-use Rattle.table_run.specs.Table.{Table, entries_at}
+use Rattle.table_run.specs.Table.{Table, entries_at, where_basic}
 use Rattle.table_run.specs.Run.{Turn, moved, unlimited, stopped}
 use Rattle.simplex.specs.declared.table.Table.{Table as CodeTable}
 use Rattle.simplex.specs.Rows.{as_rows}
@@ -26,3 +26,7 @@ abbrev pub turn_answer : Result Bool Wide → Table → Turn
 turn_answer (Ok true) t = moved t
 turn_answer (Ok false) t = unlimited
 turn_answer (Err w) t = stopped w
+
+-- what a step of 1 in column e changes in variable j
+abbrev pub direction_entry : ℕ → Table → ℕ → Fraction
+direction_entry e t j = if nat_eq j e then whole (pos 1) else where_basic (λ row. negated (at row.entries e)) j t.rows

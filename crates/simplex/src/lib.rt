@@ -13,10 +13,12 @@ mod row;
 mod rows;
 mod run;
 pub mod solved;
+pub mod solver;
 pub mod stop;
 mod table;
 
 pub use budget::Budget;
 pub use program::Program;
 pub use solved::Solved;
+pub use solver::solve;
 pub use stop::Stop;

@@ -1,11 +1,11 @@
 //! The table of a run. Nothing outside this file knows how it is laid out.
-ghost use Rattle.std.specs.Prelude.{◌≡◌, ◌+◌, ◌-◌, ◌*◌, ◌^◌, ◌<◌, false, IfOk, IfSome, length, map, unsigned_abs, vec_len};
+ghost use Rattle.std.specs.Prelude.{◌≡◌, ◌+◌, ◌-◌, ◌*◌, ◌^◌, ◌<◌, false, ◌==◌, IfOk, IfSome, length, map, position, unsigned_abs, vec_len};
 ghost use Rattle.std.specs.List.{All};
 ghost use Rattle.exact_num.specs.Fits.{written_back};
 ghost use Rattle.table_run.specs.Choice.{entering as entering_of};
 ghost use Rattle.table_run.specs.Pivot.{cleared, divided, pivoted, rows_after};
-ghost use Rattle.table_run.specs.Table.{entries_at, first_table};
-ghost use Rattle.table_run.specs.Run.{turn as turn_of};
+ghost use Rattle.table_run.specs.Table.{entries_at, first_table, right_side, where_basic};
+ghost use Rattle.table_run.specs.Run.{direction, dual, reduced_costs, solution, turn as turn_of, value_of};
 ghost use Rattle.simplex.specs.Rows.{as_rows};
 
 use crate::entries::{clear_column, divide_entries, first_below_zero};
@@ -31,7 +31,7 @@ pub struct Table<N> {
 }
 
 impl<N: Exact> Table<N> {
-    ghost use Rattle.simplex.specs.Tables.{as_table, turn_answer, leaving_at, IsPivot};
+    ghost use Rattle.simplex.specs.Tables.{as_table, turn_answer, leaving_at, direction_entry, IsPivot};
     ghost use Rattle.simplex.specs.Programs.{as_program};
 
     /// The first table of a program: each row has its own slack as the basic variable.
@@ -149,5 +149,78 @@ impl<N: Exact> Table<N> {
                 Ok(true)
             }
         }
+    }
+
+    /// The place of the row where variable `j` is basic.
+    fn place_of(&self, j: usize) -> Option<usize>
+        ensures { result ≡ position (λ row. row.basic == j) self.now.rows.items }
+    {
+        self.rows.iter().position(|row| row.basic == j)
+    }
+
+    /// The value of variable `j`: the right side of the row where it is basic, else 0.
+    fn value_at(&self, j: usize) -> N
+        ensures {
+            N.fraction result
+            ≡ where_basic (λ row. right_side self.now.columns row.entries) j (as_table N.fraction self.now).rows
+        }
+    {
+        match self.place_of(j) {
+            None => N::zero(),
+            Some(i) => self.rows[i].entries[self.columns],
+        }
+    }
+
+    /// What a step of 1 in column `e` changes in variable `j`.
+    fn direction_at(&self, e: usize, j: usize) -> N
+        requires { e < self.now.columns }
+        ensures { N.fraction result ≡ direction_entry e (as_table N.fraction self.now) j }
+    {
+        if j == e {
+            return N::one();
+        }
+        match self.place_of(j) {
+            None => N::zero(),
+            Some(i) => self.rows[i].entries[e].neg(),
+        }
+    }
+
+    /// Writes the values of the variables into `x`.
+    pub fn write_solution(&self, x: &mut [N])
+        ensures { map N.fraction x.new ≡ solution (length x.old) (as_table N.fraction self.now) }
+    {
+        for j in 0..x.len() {
+            x[j] = self.value_at(j);
+        }
+    }
+
+    /// Writes the direction in which column `e` enters into `d`.
+    pub fn write_direction(&self, e: usize, d: &mut [N])
+        requires { e < self.now.columns }
+        ensures { map N.fraction d.new ≡ direction (length d.old) e (as_table N.fraction self.now) }
+    {
+        for j in 0..d.len() {
+            d[j] = self.direction_at(e, j);
+        }
+    }
+
+    /// Writes the reduced costs of `n` variables and the dual, a number for each row.
+    pub fn write_dual(&self, reduced: &mut [N], y: &mut [N])
+        requires { length reduced.old + length y.old ≡ self.now.columns }
+        ensures reduced { map N.fraction reduced.new ≡ reduced_costs (length reduced.old) (as_table N.fraction self.now) }
+        ensures dual {
+            map N.fraction y.new ≡ dual (length reduced.old) (length y.old) (as_table N.fraction self.now)
+        }
+    {
+        let (of_variables, others) = self.objective.as_slice().split_at(reduced.len());
+        reduced.copy_from_slice(of_variables);
+        y.copy_from_slice(&others[..y.len()]);
+    }
+
+    /// The objective's value.
+    pub fn value(&self) -> N
+        ensures { N.fraction result ≡ value_of (as_table N.fraction self.now) }
+    {
+        self.objective[self.columns]
     }
 }
