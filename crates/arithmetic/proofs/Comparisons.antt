@@ -1,5 +1,5 @@
 -- Comparisons of whole numbers.
-use Rattle.std.proofs.Common.{◌≡◌, ℕ, ◌<◌, ℤ, pos, ◌*ℤ◌, ◌<ℤ◌, ap, sym, ◌∙◌, ◌⊎◌, inl, inr, arith}
+use Rattle.std.proofs.Common.{◌≡◌, ℕ, ◌<◌, ℤ, pos, neg_ℤ, ◌+ℤ◌, ◌*ℤ◌, ◌<ℤ◌, ap, sym, ◌∙◌, ◌⊎◌, inl, inr, arith}
 use Rattle.std.specs.declared.cmp.Ordering.TheVariants.{Less, Equal, Greater}
 use Rattle.std.specs.Ordering.{int_cmp}
 use Rattle.std.proofs.lemmas.Int.{ints, by_lt_z}
@@ -28,5 +28,16 @@ int_cmp-mul p q n h =
       | inr w ↦ elim w [
         | inl l ↦ int_cmp_less _ _ (*ℤ_mono_lt p q n l h) ∙ sym (int_cmp_less p q l)
         | inr g ↦ int_cmp_greater _ _ (*ℤ_mono_lt q p n g h) ∙ sym (int_cmp_greater p q g)
+      ]
+    ]
+
+-- a difference has the sign of the comparison
+pub int_cmp-sub : (p q : ℤ) → int_cmp (p +ℤ neg_ℤ q) (pos 0) ≡ int_cmp p q
+int_cmp-sub p q =
+    elim (cases_whole p q) [
+      | inl e ↦ int_cmp_equal (p +ℤ neg_ℤ q) (pos 0) (omega (arith, ints, e)) ∙ sym (int_cmp_equal p q e)
+      | inr w ↦ elim w [
+        | inl l ↦ int_cmp_less (p +ℤ neg_ℤ q) (pos 0) (omega (arith, ints, l)) ∙ sym (int_cmp_less p q l)
+        | inr g ↦ int_cmp_greater (p +ℤ neg_ℤ q) (pos 0) (omega (arith, ints, g)) ∙ sym (int_cmp_greater p q g)
       ]
     ]

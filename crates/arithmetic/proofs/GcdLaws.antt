@@ -5,7 +5,7 @@ use Rattle.std.proofs.lemmas.Bool.{cases_lt}
 use Rattle.arithmetic.specs.Gcd.{gcd_within, gcd}
 use Rattle.std.specs.Int.{IsGcd, ◌∣◌}
 use Rattle.std.proofs.lemmas.Nat.Gcd.{IsGcd-from_zero, IsGcd-from_mod, IsGcd-swap, same_from_IsGcd, dvd_trans, dvd-zero}
-use Rattle.std.proofs.Math.Nat.{mod-lt, mod-eq_of_lt, mul-add-mod_self_left, div-add-mod, mul-add, mul-lt-mul_of_pos_left, mul_comm, mul_assoc, mul-zero, zero-mul, dvd-mul_left, div-mul_cancel, mul-div_cancel', eq-one_of_dvd-one, pos_of_dvd_of_pos, pos_of_ne-zero, mul-one, eq_of_mul-eq-mul_left, dvd-add, dvd-sub}
+use Rattle.std.proofs.Math.Nat.{mod-lt, mod-eq_of_lt, mul-add-mod_self_left, div-add-mod, mul-add, mul-lt-mul_of_pos_left, mul_comm, mul_assoc, mul-zero, zero-mul, dvd-mul_left, div-mul_cancel, mul-div_cancel', eq-one_of_dvd-one, pos_of_dvd_of_pos, pos_of_ne-zero, mul-one, eq_of_mul-eq-mul_left, dvd-add, dvd-sub, dvd_refl}
 
 gcd_within_is : (steps a b : ℕ) → b ≤ steps → IsGcd a b (gcd_within steps a b)
 unfolding gcd_within
@@ -47,6 +47,9 @@ gcd-one a = eq-one_of_dvd-one (gcd_dvd_right a 1)
 -- one step of Euclid
 pub gcd-mod : (a b : ℕ) → gcd a b ≡ gcd b (a % b)
 gcd-mod a b = gcd_unique a b _ (IsGcd-from_mod a b _ (gcd_is b (a % b)))
+
+pub gcd_self : (a : ℕ) → gcd a a ≡ a
+gcd_self a = gcd_unique a a a (dvd_refl a, dvd_refl a, λ d p q. p)
 
 pub gcd_pos_right : (a b : ℕ) → 0 < b → 0 < gcd a b
 gcd_pos_right a b h = pos_of_dvd_of_pos (gcd_dvd_right a b) h

@@ -1,5 +1,5 @@
 -- Laws of whole numbers that `omega (arith, ints)` does not find by itself.
-use Rattle.std.proofs.Common.{◌≡◌, ℕ, ◌+◌, ◌*◌, ◌<◌, ◌≤◌, arith, ℤ, pos, neg_ℤ, ◌+ℤ◌, ◌-ℤ◌, ◌*ℤ◌, ◌<ℤ◌, ◌≤ℤ◌, unsigned_abs, ap, sym, ◌∙◌}
+use Rattle.std.proofs.Common.{◌≡◌, ℕ, ◌+◌, ◌-◌, ◌*◌, ◌<◌, ◌≤◌, arith, ℤ, pos, neg_ℤ, ◌+ℤ◌, ◌-ℤ◌, ◌*ℤ◌, ◌<ℤ◌, ◌≤ℤ◌, unsigned_abs, ap, sym, ◌∙◌}
 use Rattle.std.proofs.lemmas.Int.{ints}
 use borrow.Author.Differences.{up, down, sum_is_lem, product_is, neg_is, le_out, below_in}
 use native.Mathlib.Nat.{mul-le-mul_left, le_of_mul-le-mul_left}
@@ -58,3 +58,10 @@ swap_factors z m n = *ℤ_assoc z (pos m) (pos n) ∙ ap (λ (k : ℕ). z *ℤ p
 -- ---- sizes
 pub unsigned_abs-neg : (z : ℤ) → unsigned_abs (neg_ℤ z) ≡ unsigned_abs z
 unsigned_abs-neg z = omega (arith, ints)
+
+-- ---- bounds
+pub le_pred : (m n : ℕ) → n < m → n ≤ m - 1
+le_pred m n h = omega arith
+
+pub le_pos : (m n : ℕ) → m ≤ n → pos m ≤ℤ pos n
+le_pos m n h = omega (arith, ints)

@@ -4,6 +4,7 @@ pub mod Ring
 pub mod Quotients
 pub mod Comparisons
 pub mod GcdLaws
+pub mod BinaryGcd
 pub mod Sums
 pub mod Parts
 pub mod Along

@@ -3,7 +3,7 @@ use Rattle.std.proofs.Common.{◌≡◌, ℕ, ◌*◌, ◌<◌, ℤ, pos, ◌*�
 use Rattle.std.specs.Int.{◌∣◌}
 use Rattle.std.specs.declared.cmp.Ordering.{Ordering}
 use Rattle.std.specs.declared.cmp.Ordering.TheVariants.{Less, Equal, Greater}
-use Rattle.std.specs.Ordering.{int_cmp, is_eq}
+use Rattle.std.specs.Ordering.{int_cmp, is_eq, ordering_reverse}
 use Rattle.std.specs.Cmp.{IsTotalOrder, IsEquivalence, IsPartialEquivalence, IsPartialOrder, partial_equiv_from_equiv, po}
 use Rattle.std.proofs.lemmas.Cmp.{int_cmp_total, eq_by_cmp_equiv}
 use Rattle.std.specs.Prelude.{Some}
@@ -21,8 +21,8 @@ cmp_scaled a e b d f h =
     ∙ ap (λ (z : ℤ). int_cmp z ((e *ℤ pos b) *ℤ pos d)) (swap_factors a f d)
     ∙ ap (λ (z : ℤ). int_cmp ((a *ℤ pos d) *ℤ pos f) z) (swap_factors e b d)
 
-less : (x y z : Fraction) → IsLowest x → IsLowest y → IsLowest z → fraction_cmp x y ≡ Less → fraction_cmp y z ≡ Less → fraction_cmp x z ≡ Less
-less x y z lx ly lz p q =
+pub cmp_less_trans : (x y z : Fraction) → IsLowest x → IsLowest y → IsLowest z → fraction_cmp x y ≡ Less → fraction_cmp y z ≡ Less → fraction_cmp x z ≡ Less
+cmp_less_trans x y z lx ly lz p q =
     let first : int_cmp ((x.numerator *ℤ pos y.denominator) *ℤ pos z.denominator) ((y.numerator *ℤ pos x.denominator) *ℤ pos z.denominator) ≡ Less = int_cmp-mul _ _ z.denominator lz.positive ∙ p in
     let second : int_cmp ((y.numerator *ℤ pos z.denominator) *ℤ pos x.denominator) ((z.numerator *ℤ pos y.denominator) *ℤ pos x.denominator) ≡ Less = int_cmp-mul _ _ x.denominator lx.positive ∙ q in
     let second' : int_cmp ((y.numerator *ℤ pos x.denominator) *ℤ pos z.denominator) ((z.numerator *ℤ pos y.denominator) *ℤ pos x.denominator) ≡ Less = ap (λ (w : ℤ). int_cmp w ((z.numerator *ℤ pos y.denominator) *ℤ pos x.denominator)) (swap_factors y.numerator x.denominator z.denominator) ∙ second in
@@ -40,7 +40,7 @@ pub values_in_order : {A : Type 0} (value : A → Fraction) → ((x : A) → IsL
 values_in_order {A} value low =
     record {
       antisymm = λ x y. int_cmp_total.antisymm ((value x).numerator *ℤ pos (value y).denominator) ((value y).numerator *ℤ pos (value x).denominator);
-      trans = λ x y z p q. less (value x) (value y) (value z) (low x) (low y) (low z) p q;
+      trans = λ x y z p q. cmp_less_trans (value x) (value y) (value z) (low x) (low y) (low z) p q;
       congr = λ x y z p. same (value x) (value y) (value z) (low x) (low y) (low z) p;
     }
 
@@ -67,6 +67,16 @@ values_partly_equal value low = partial_equiv_from_equiv (values_equal value low
 pub values_partly_ordered : {A : Type 0} (value : A → Fraction) → ((x : A) → IsLowest (value x)) → IsPartialOrder (λ (x y : A). is_eq (fraction_cmp (value x) (value y))) (λ (x y : A). Some (fraction_cmp (value x) (value y)))
 values_partly_ordered value low = po (values_in_order value low) (λ x y. refl)
 
+-- ---- equality and order by the comparison
+pub equal_is_same : (x y : Fraction) → IsLowest x → IsLowest y → fraction_cmp x y ≡ Equal → x ≡ y
+equal_is_same x y p q e = lowest_is_unique x y p q (equal_int_cmp _ _ e)
+
+pub same_is_equal : (x y : Fraction) → x ≡ y → fraction_cmp x y ≡ Equal
+same_is_equal x y e = int_cmp_equal _ _ (ap (λ (f : Fraction). f.numerator *ℤ pos y.denominator) e ∙ ap (λ (f : Fraction). y.numerator *ℤ pos f.denominator) (sym e))
+
+pub cmp_reversed : (x y : Fraction) → fraction_cmp x y ≡ ordering_reverse (fraction_cmp y x)
+cmp_reversed x y = int_cmp_total.antisymm (x.numerator *ℤ pos y.denominator) (y.numerator *ℤ pos x.denominator)
+
 -- ---- equality by the parts
 pub same_parts : (x y : Fraction) → IsLowest x → IsLowest y → is_eq (fraction_cmp x y) ≡ true → x ≡ y
 same_parts x y p q e = lowest_is_unique x y p q (equal_int_cmp _ _ (is_equal (fraction_cmp x y) e))
@@ -77,7 +87,7 @@ same_parts x y p q e = lowest_is_unique x y p q (equal_int_cmp _ _ (is_equal (fr
     is_equal Greater h = cc
 
 pub parts_same : (x y : Fraction) → x ≡ y → is_eq (fraction_cmp x y) ≡ true
-parts_same x y e = ap is_eq (int_cmp_equal _ _ (ap (λ (f : Fraction). f.numerator *ℤ pos y.denominator) e ∙ ap (λ (f : Fraction). y.numerator *ℤ pos f.denominator) (sym e)))
+parts_same x y e = ap is_eq (same_is_equal x y e)
 
 -- two fractions with the value of a third have the same value
 pub same_value_trans : (x y z : Fraction) → 0 < y.denominator → IsSameValue x y → IsSameValue z y → IsSameValue x z

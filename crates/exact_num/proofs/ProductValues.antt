@@ -75,7 +75,7 @@ pub unsigned_abs-signed_by : (n z : ℤ) → unsigned_abs (signed_by n z) ≡ un
 unsigned_abs-signed_by (pos n) z = refl
 unsigned_abs-signed_by (negsuc n) z = unsigned_abs-neg z
 
-positive_size : (n : ℤ) → n ≢ pos 0 → 0 < unsigned_abs n
+pub positive_size : (n : ℤ) → n ≢ pos 0 → 0 < unsigned_abs n
 positive_size (pos zero) h = absurd (h refl)
 positive_size (pos (suc n)) h = omega arith
 positive_size (negsuc n) h = omega arith

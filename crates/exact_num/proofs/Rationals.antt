@@ -15,7 +15,7 @@ use Rattle.exact_num.specs.Fraction.{Fraction, IsLowest, IsSameValue, AtMost, wh
 use Rattle.exact_num.specs.declared.misfit.Wide.{Wide}
 use Rattle.exact_num.specs.Fits.{add_of, sub_of, mul_of, div_of, sum_value, sum_fits, product_value, product_fits, inverse, signed_by}
 use Rattle.exact_num.proofs.Values.{whole_is_lowest, negated_is_lowest, sum_is, sum_is_lowest}
-use Rattle.exact_num.proofs.ProductValues.{product_is, product_is_lowest, inverse_is_lowest}
+use Rattle.exact_num.proofs.ProductValues.{positive_size, product_is, product_is_lowest, inverse_is_lowest}
 use Rattle.exact_num.proofs.Order.{lowest_is_unique}
 
 pub record Q : Type 0 where
@@ -418,11 +418,6 @@ at_most_trans x y z h k =
 -- ---- the inverse
 pub inv_Q : Q → Q
 inv_Q x = value (inverse x.fraction)
-
-positive_size : (n : ℤ) → n ≢ pos 0 → 0 < unsigned_abs n
-positive_size (pos zero) h = absurd (h refl)
-positive_size (pos (suc n)) h = omega arith
-positive_size (negsuc n) h = omega arith
 
 inv_Q_is : (x : Q) → x.fraction.numerator ≢ pos 0 → Is (inv_Q x) (signed_by x.fraction.numerator (pos x.fraction.denominator)) (unsigned_abs x.fraction.numerator)
 unfolding inv_Q inverse

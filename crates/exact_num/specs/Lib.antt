@@ -1,3 +1,4 @@
 pub mod Fraction
 pub mod CommonDenominator
 pub mod Fits
+pub mod Laws

@@ -1,10 +1,15 @@
-use Rattle.std.proofs.Common.{◌∙◌, sym, ap, ℕ}
+use Rattle.std.proofs.Common.{◌∙◌, sym, ap}
 use Rattle.arithmetic.specs.Gcd.{gcd}
-use Rattle.arithmetic.proofs.GcdLaws.{gcd-mod, gcd-zero}
+use Rattle.arithmetic.proofs.GcdLaws.{zero-gcd}
+use Rattle.exact_num.proofs.DivisorSteps.{ordered_is}
 use Rattle.exact_num.proofs.divisor.gcd.Goals as goal
 
-pub loop-y-preserved : goal.loop-y-preserved
-loop-y-preserved c = sym (gcd-mod c.loop-y.x c.loop-y.y) ∙ c.loop-y.invariant
+pub returns-then-low-gt-SHORT : goal.returns-then-low-gt-SHORT
+returns-then-low-gt-SHORT c = c.gcd_of_long.ensures ∙ ordered_is _ _ _ _ c.min-low.ensures c.max-high.ensures
+
+pub returns-then-low-eq0 : goal.returns-then-low-eq0
+returns-then-low-eq0 c =
+    sym (zero-gcd c.max-high.result) ∙ ap (λ n. gcd n c.max-high.result) (sym c.if-low-eq0.true) ∙ ordered_is _ _ _ _ c.min-low.ensures c.max-high.ensures
 
 pub returns : goal.returns
-returns c = sym (gcd-zero c.loop-y.x) ∙ ap (λ (n : ℕ). gcd c.loop-y.x n) (sym c.loop-y-test.false) ∙ c.loop-y.invariant
+returns c = c.gcd_with_short.ensures ∙ ordered_is _ _ _ _ c.min-low.ensures c.max-high.ensures

@@ -1,0 +1,85 @@
+-- Whole numbers as steps with a limit: taken in, added and multiplied.
+use Rattle.std.proofs.Common.{◌≡◌, ℕ, ◌≤◌, true, ℤ, pos, ◌+ℤ◌, ◌*ℤ◌, unsigned_abs, if◌then◌else◌, Ok, Err, arith, refl}
+use Rattle.std.specs.Prelude.{int_div, nat_le}
+use Rattle.std.proofs.lemmas.Int.{ints}
+use Rattle.std.proofs.lemmas.Bool.Decides.{nat_tests}
+use Rattle.std.proofs.Math.Bool.{and-true}
+use Rattle.arithmetic.proofs.Products.{products}
+use Rattle.arithmetic.proofs.GcdLaws.{gcd-one}
+use Rattle.exact_num.specs.declared.misfit.Operator.TheVariants.{Add, Mul}
+use Rattle.exact_num.specs.Fraction.{Fraction, whole}
+use Rattle.exact_num.specs.Fits.{size_fits, misfit, sum_divisor, sum_left, sum_right, sum_total, sum_common, sum_below, sum_value, sum_fits, add_of, product_above, product_below, product_value, product_fits, mul_of, whole_of}
+use Rattle.exact_num.proofs.Values.{whole_is_lowest}
+use Rattle.exact_num.proofs.Order.{lowest_is_unique}
+use Rattle.exact_num.proofs.Exactness.{sums_are_exact, products_are_exact}
+
+within : (m n : ℕ) → m ≤ n → nat_le m n ≡ true
+within m n h = grind (arith, nat_tests)
+
+by_one : (n : ℤ) → int_div n (pos 1) ≡ n
+by_one n = omega (arith, ints)
+
+above_is : (a b : ℤ) → product_above (whole a) (whole b) ≡ a *ℤ b
+unfolding product_above
+above_is a b = rw (gcd-one (unsigned_abs a), gcd-one (unsigned_abs b), by_one a, by_one b) refl
+
+below_is : (a b : ℤ) → product_below (whole a) (whole b) ≡ 1
+unfolding product_below
+below_is a b = rw (gcd-one (unsigned_abs a), gcd-one (unsigned_abs b)) refl
+
+pub mul-wholes : (limit : ℕ) (a b : ℤ) → 1 ≤ limit
+    → mul_of limit (whole a) (whole b) ≡ (if size_fits limit (a *ℤ b) then Ok (whole (a *ℤ b)) else Err (misfit Mul (whole a) (whole b)))
+unfolding mul_of product_fits product_value
+mul-wholes limit a b one = rw (above_is a b, below_is a b, within 1 limit one, and-true (size_fits limit (a *ℤ b))) refl
+
+sum_left_is : (a b : ℤ) → sum_left (whole a) (whole b) ≡ a
+unfolding sum_left sum_divisor
+sum_left_is a b = rw (gcd-one 1) (omega (arith, ints))
+
+sum_right_is : (a b : ℤ) → sum_right (whole a) (whole b) ≡ b
+unfolding sum_right sum_divisor
+sum_right_is a b = rw (gcd-one 1) (omega (arith, ints))
+
+sum_total_is : (a b : ℤ) → sum_total (whole a) (whole b) ≡ a +ℤ b
+unfolding sum_total
+sum_total_is a b = rw (sum_left_is a b, sum_right_is a b) refl
+
+sum_common_is : (a b : ℤ) → sum_common (whole a) (whole b) ≡ 1
+unfolding sum_common sum_divisor
+sum_common_is a b = rw (gcd-one 1) (gcd-one (unsigned_abs (sum_total (whole a) (whole b))))
+
+sum_below_is : (a b : ℤ) → sum_below (whole a) (whole b) ≡ 1
+unfolding sum_below sum_divisor
+sum_below_is a b = rw (gcd-one 1, sum_common_is a b) refl
+
+pub add-wholes : (limit : ℕ) (a b : ℤ) → 1 ≤ limit → unsigned_abs a ≤ limit → unsigned_abs b ≤ limit
+    → add_of limit (whole a) (whole b) ≡ (if size_fits limit (a +ℤ b) then Ok (whole (a +ℤ b)) else Err (misfit Add (whole a) (whole b)))
+unfolding add_of sum_fits sum_value
+add-wholes limit a b one left right =
+    rw (
+      sum_left_is a b,
+      sum_right_is a b,
+      sum_total_is a b,
+      sum_common_is a b,
+      sum_below_is a b,
+      within (unsigned_abs a) limit left,
+      within (unsigned_abs b) limit right,
+      within 1 limit one,
+      and-true (size_fits limit (a +ℤ b)),
+      by_one (a +ℤ b),
+    ) refl
+
+-- a whole number within the limit is taken in
+pub whole_fits : (limit : ℕ) (v : ℤ) → unsigned_abs v ≤ limit → whole_of limit v ≡ Ok (whole v)
+unfolding whole_of
+whole_fits limit v fits = rw (within (unsigned_abs v) limit fits) refl
+
+pub mul_whole_is : (limit : ℕ) (a b : ℤ) (p : Fraction) → mul_of limit (whole a) (whole b) ≡ Ok p → p ≡ whole (a *ℤ b)
+mul_whole_is limit a b p h =
+    let exact = products_are_exact limit (whole a) (whole b) p (whole_is_lowest a) (whole_is_lowest b) h in
+    lowest_is_unique p (whole (a *ℤ b)) exact.lowest (whole_is_lowest (a *ℤ b)) (omega (arith, ints, exact.same))
+
+pub add_whole_is : (limit : ℕ) (a b : ℤ) (s : Fraction) → add_of limit (whole a) (whole b) ≡ Ok s → s ≡ whole (a +ℤ b)
+add_whole_is limit a b s h =
+    let exact = sums_are_exact limit (whole a) (whole b) s (whole_is_lowest a) (whole_is_lowest b) h in
+    lowest_is_unique s (whole (a +ℤ b)) exact.lowest (whole_is_lowest (a +ℤ b)) (omega (arith, ints, products, exact.same))

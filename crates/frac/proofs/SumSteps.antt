@@ -1,0 +1,110 @@
+-- The steps of a sum.
+use Rattle.std.proofs.Common.{◌≡◌, ℕ, ◌*◌, ◌/◌, ◌≤◌, true, false, ◌&&◌, ℤ, pos, ◌*ℤ◌, ◌+ℤ◌, refl, ap, ◌∙◌}
+use Rattle.std.specs.Prelude.{Option, Some, None, unsigned_abs, nat_le, int_div}
+use Rattle.std.proofs.lemmas.Bool.{and_parts}
+use Rattle.std.proofs.Math.Nat.{le_trans, div-le_self}
+use Rattle.arithmetic.specs.Gcd.{gcd}
+use Rattle.arithmetic.proofs.Quotients.{unsigned_abs-int_div}
+use Rattle.exact_num.specs.Fraction.{Fraction, over}
+use Rattle.exact_num.specs.Fits.{size_fits, sum_divisor, sum_left, sum_right, sum_total, sum_common, sum_below, sum_fits, sum_value}
+use Rattle.frac.specs.Range.{within, within_natural, total_within, sum_within}
+use Rattle.frac.proofs.Choices.{chosen_none, chosen_some, leb_at_most}
+
+-- ---- the total: what the code's two numerators are
+pub record IsParts (limit : ℕ) (x y : Fraction) (left right : Option ℤ) : Type 0 where
+  pub is_left : left ≡ within limit (sum_left x y)
+  pub is_right : right ≡ within limit (sum_right x y)
+
+pub parts_of_sum : (limit : ℕ) (x y : Fraction) (g : ℕ) (left right : Option ℤ) → g ≡ sum_divisor x y
+    → left ≡ within limit (x.numerator *ℤ pos (y.denominator / g)) → right ≡ within limit (y.numerator *ℤ pos (x.denominator / g)) → IsParts limit x y left right
+unfolding sum_left sum_right
+parts_of_sum limit x y g left right eg el er =
+    record {
+      is_left = el ∙ ap (λ (m : ℕ). within limit (x.numerator *ℤ pos (y.denominator / m))) eg;
+      is_right = er ∙ ap (λ (m : ℕ). within limit (y.numerator *ℤ pos (x.denominator / m))) eg;
+    }
+
+pub left_stops : (limit : ℕ) (x y : Fraction) (g : ℕ) (left : Option ℤ) → g ≡ sum_divisor x y → left ≡ within limit (x.numerator *ℤ pos (y.denominator / g)) → left ≡ None → None ≡ total_within limit x y
+unfolding sum_left
+left_stops limit x y g left eg el n =
+    let e : size_fits limit (sum_left x y) ≡ false = chosen_none _ _ left (el ∙ ap (λ (m : ℕ). within limit (x.numerator *ℤ pos (y.denominator / m))) eg) n in
+    rw e refl
+
+pub right_stops : (limit : ℕ) (x y : Fraction) (left right : Option ℤ) (l : ℤ) → IsParts limit x y left right → left ≡ Some l → right ≡ None → None ≡ total_within limit x y
+right_stops limit x y left right l p s n =
+    let e : size_fits limit (sum_left x y) ≡ true = (chosen_some _ _ l left p.is_left s).0 in
+    let f : size_fits limit (sum_right x y) ≡ false = chosen_none _ _ right p.is_right n in
+    rw (e, f) refl
+
+pub total_ends : (limit : ℕ) (x y : Fraction) (left right : Option ℤ) (l r : ℤ) → IsParts limit x y left right → left ≡ Some l → right ≡ Some r → within limit (l +ℤ r) ≡ total_within limit x y
+unfolding sum_total
+total_ends limit x y left right l r p s t =
+    let e = chosen_some _ _ l left p.is_left s in
+    let f = chosen_some _ _ r right p.is_right t in
+    let first : size_fits limit (sum_left x y) ≡ true = e.0 in
+    let second : size_fits limit (sum_right x y) ≡ true = f.0 in
+    rw (first, second, e.1, f.1) refl
+
+-- ---- the sum
+pub above_stops : (limit : ℕ) (x y : Fraction) (above : Option ℤ) → above ≡ total_within limit x y → above ≡ None → None ≡ sum_within limit x y
+unfolding sum_fits
+above_stops limit x y above ea n =
+    let e : (size_fits limit (sum_left x y) && size_fits limit (sum_right x y) && size_fits limit (sum_total x y)) ≡ false = chosen_none _ _ above ea n in
+    rw e refl
+
+-- where the total t is in range, with the divisor that it shares and the denominator
+pub record IsTotal (limit : ℕ) (x y : Fraction) (t : ℤ) (shared : ℕ) (below : Option ℕ) : Type 0 where
+  pub front : (size_fits limit (sum_left x y) && size_fits limit (sum_right x y) && size_fits limit (sum_total x y)) ≡ true
+  pub value : t ≡ sum_total x y
+  pub is_shared : shared ≡ sum_common x y
+  pub is_below : below ≡ within_natural limit (sum_below x y)
+
+pub total_is : (limit : ℕ) (x y : Fraction) (g : ℕ) (above : Option ℤ) (t : ℤ) (shared b d : ℕ) (below : Option ℕ) → g ≡ sum_divisor x y → above ≡ total_within limit x y → above ≡ Some t
+    → shared ≡ gcd (unsigned_abs t) g → b ≡ x.denominator / g → d ≡ y.denominator / shared → below ≡ within_natural limit (b * d) → IsTotal limit x y t shared below
+unfolding sum_below sum_common
+total_is limit x y g above t shared b d below eg ea s es eb ed en =
+    let e = chosen_some _ _ t above ea s in
+    let same : shared ≡ sum_common x y = es ∙ ap (λ (z : ℤ). gcd (unsigned_abs z) g) e.1 ∙ ap (λ (m : ℕ). gcd (unsigned_abs (sum_total x y)) m) eg in
+    let left : b ≡ x.denominator / sum_divisor x y = eb ∙ ap (λ (m : ℕ). x.denominator / m) eg in
+    let right : d ≡ y.denominator / sum_common x y = ed ∙ ap (λ (m : ℕ). y.denominator / m) same in
+    record {
+      front = e.0;
+      value = e.1;
+      is_shared = same;
+      is_below = en ∙ ap (λ (m : ℕ). within_natural limit (m * d)) left ∙ ap (λ (m : ℕ). within_natural limit (x.denominator / sum_divisor x y * m)) right;
+    }
+
+pub below_stops : (limit : ℕ) (x y : Fraction) (t : ℤ) (shared : ℕ) (below : Option ℕ) → IsTotal limit x y t shared below → below ≡ None → None ≡ sum_within limit x y
+unfolding sum_fits
+below_stops limit x y t shared below p n =
+    let f : nat_le (sum_below x y) limit ≡ false = chosen_none _ _ below p.is_below n in
+    let front : (size_fits limit (sum_left x y) && size_fits limit (sum_right x y) && size_fits limit (sum_total x y)) ≡ true = p.front in
+    rw (front, f) refl
+
+-- what is known where all steps of a sum are in range
+pub record SumEnds (limit : ℕ) (x y : Fraction) (n : ℤ) (b : ℕ) : Type 0 where
+  pub fits : sum_fits limit x y ≡ true
+  pub value : over n b ≡ sum_value x y
+  pub above : unsigned_abs n ≤ limit
+  pub below : b ≤ limit
+
+pub sum_ends : (limit : ℕ) (x y : Fraction) (t n : ℤ) (shared : ℕ) (below : Option ℕ) (b : ℕ) → IsTotal limit x y t shared below → below ≡ Some b → n ≡ int_div t (pos shared) → SumEnds limit x y n b
+unfolding sum_fits sum_value
+sum_ends limit x y t n shared below b p e en =
+    let f = chosen_some _ _ b below p.is_below e in
+    let second : nat_le (sum_below x y) limit ≡ true = f.0 in
+    let front : (size_fits limit (sum_left x y) && size_fits limit (sum_right x y) && size_fits limit (sum_total x y)) ≡ true = p.front in
+    let size : unsigned_abs t ≤ limit = rw p.value (leb_at_most _ _ (and_parts (size_fits limit (sum_left x y) && size_fits limit (sum_right x y)) _ p.front).1) in
+    record {
+      fits = rw (front, second) refl;
+      value =
+          ap (λ (z : ℤ). over z b) (en ∙ ap (λ (z : ℤ). int_div z (pos shared)) p.value ∙ ap (λ (m : ℕ). int_div (sum_total x y) (pos m)) p.is_shared)
+          ∙ ap (λ (m : ℕ). over (int_div (sum_total x y) (pos (sum_common x y))) m) f.1;
+      above = rw (en, unsigned_abs-int_div t shared) (le_trans (div-le_self (unsigned_abs t) shared) size);
+      below = rw f.1 (leb_at_most _ _ f.0);
+    }
+
+pub sum_answers : (limit : ℕ) (x y : Fraction) (n : ℤ) (b : ℕ) → SumEnds limit x y n b → Some (over n b) ≡ sum_within limit x y
+sum_answers limit x y n b h =
+    let fits : sum_fits limit x y ≡ true = h.fits in
+    rw fits (ap Some h.value)

@@ -1,0 +1,25 @@
+-- Numbers within a limit, as options, and the operations with fractions within it.
+use Rattle.std.specs.Prelude.{ℕ, ◌-◌, ◌^◌, ◌&&◌, ℤ, Option, Some, None, nat_le, if◌then◌else◌}
+use Rattle.exact_num.specs.Fraction.{Fraction}
+use Rattle.exact_num.specs.Fits.{size_fits, sum_left, sum_right, sum_total, sum_fits, sum_value, product_fits, product_value}
+
+-- the largest size of a number of 128 bits
+abbrev pub limit : ℕ
+limit = 2 ^ 127 - 1
+
+abbrev pub within : ℕ → ℤ → Option ℤ
+within limit v = if size_fits limit v then Some v else None
+
+abbrev pub within_natural : ℕ → ℕ → Option ℕ
+within_natural limit n = if nat_le n limit then Some n else None
+
+-- the total of a sum, where its three quantities are within the limit
+abbrev pub total_within : ℕ → Fraction → Fraction → Option ℤ
+total_within limit x y =
+    if size_fits limit (sum_left x y) && size_fits limit (sum_right x y) && size_fits limit (sum_total x y) then Some (sum_total x y) else None
+
+abbrev pub sum_within : ℕ → Fraction → Fraction → Option Fraction
+sum_within limit x y = if sum_fits limit x y then Some (sum_value x y) else None
+
+abbrev pub product_within : ℕ → Fraction → Fraction → Option Fraction
+product_within limit x y = if product_fits limit x y then Some (product_value x y) else None

@@ -1,0 +1,168 @@
+//! Fractions whose numerator and denominator are at most 2^127 - 1 in size.
+ghost use Rattle.std.specs.Prelude.{◌≡◌, ◌≤◌, ◌<◌, ◌^◌, ◌-◌, pos, unsigned_abs, refl};
+ghost use Rattle.std.specs.Ordering.{is_eq, as_partial_cmp};
+ghost use Rattle.std.proofs.Common.{lit≤};
+ghost use Rattle.exact_num.specs.Fraction.{over, IsLowest, fraction_cmp};
+ghost use Rattle.exact_num.specs.Fits.{misfit as misfit_of};
+ghost use Rattle.exact_num.proofs.Order.{values_in_order, values_equal, values_partly_equal, values_partly_ordered};
+ghost use Rattle.arithmetic.proofs.Integers.{le_pred, le_pos};
+ghost use Rattle.frac.specs.Range.{limit};
+
+mod order;
+mod products;
+mod sizes;
+mod sums;
+
+use exact_num::{Exact, Operator, Wide};
+use order::order;
+use products::{inverted, product};
+use sizes::is_in_range;
+use std::cmp::Ordering;
+use sums::sum;
+
+/// A fraction in lowest terms, with a numerator of at most 2^127 - 1 in size and a denominator
+/// from 1 to 2^127 - 1. Its operations are those of `Exact`.
+#[derive(Clone, Copy, Debug)]
+pub struct Frac128 {
+    numerator: i128,
+    denominator: u128,
+    ghost lowest: { IsLowest (over numerator denominator) },
+    ghost above_fits: { unsigned_abs numerator < 2 ^ 127 },
+    ghost below_fits: { denominator < 2 ^ 127 },
+}
+
+impl PartialEq for Frac128 {
+    ghost eq = { λ x y. is_eq (fraction_cmp (over x.numerator x.denominator) (over y.numerator y.denominator)) };
+
+    ghost laws = { values_partly_equal (λ x. over x.numerator x.denominator) (λ x. x.lowest) };
+
+    fn eq(&self, other: &Frac128) -> bool {
+        self.numerator == other.numerator && self.denominator == other.denominator
+    }
+}
+
+impl Eq for Frac128 {
+    ghost laws = { values_equal (λ x. over x.numerator x.denominator) (λ x. x.lowest) };
+}
+
+impl Ord for Frac128 {
+    ghost cmp = { λ x y. fraction_cmp (over x.numerator x.denominator) (over y.numerator y.denominator) };
+
+    ghost total = { values_in_order (λ x. over x.numerator x.denominator) (λ x. x.lowest) };
+
+    ghost matches_partial_cmp = { λ x y. refl };
+
+    ghost matches_eq = { λ x y. refl };
+
+    fn cmp(&self, other: &Frac128) -> Ordering {
+        order(*self, *other)
+    }
+}
+
+impl PartialOrd for Frac128 {
+    ghost partial_cmp = { as_partial_cmp (λ x y. fraction_cmp (over x.numerator x.denominator) (over y.numerator y.denominator)) };
+
+    ghost laws = { values_partly_ordered (λ x. over x.numerator x.denominator) (λ x. x.lowest) };
+
+    fn partial_cmp(&self, other: &Frac128) -> Option<Ordering> {
+        Some(self.cmp(other))
+    }
+}
+
+impl Exact for Frac128 {
+    ghost fraction = { λ x. over x.numerator x.denominator };
+
+    ghost LIMIT = { pos limit };
+
+    const LIMIT: i128 = i128::MAX;
+
+    fn zero() -> Self {
+        Frac128 {
+            numerator: 0,
+            denominator: 1,
+        }
+    }
+
+    fn one() -> Self {
+        Frac128 {
+            numerator: 1,
+            denominator: 1,
+        }
+    }
+
+    fn from_whole(v: i128) -> Result<Self, Wide> {
+        if !is_in_range(v) {
+            return Err(Wide {
+                operator: Operator::Whole,
+                left: (v, 1),
+                right: (0, 1),
+            });
+        }
+        Ok(Frac128 {
+            numerator: v,
+            denominator: 1,
+        })
+    }
+
+    fn parts(self) -> (i128, i128) {
+        (self.numerator, self.denominator as i128)
+    }
+
+    fn add(self, other: Self) -> Result<Self, Wide> {
+        match sum(self, other) {
+            Some(value) => Ok(value),
+            None => Err(misfit(Operator::Add, self, other)),
+        }
+    }
+
+    fn sub(self, other: Self) -> Result<Self, Wide> {
+        self.add(other.neg())
+    }
+
+    fn mul(self, other: Self) -> Result<Self, Wide> {
+        match product(self, other) {
+            Some(value) => Ok(value),
+            None => Err(misfit(Operator::Mul, self, other)),
+        }
+    }
+
+    fn div(self, other: Self) -> Result<Self, Wide> {
+        match product(self, inverted(other)) {
+            Some(value) => Ok(value),
+            None => Err(misfit(Operator::Div, self, other)),
+        }
+    }
+
+    fn neg(self) -> Self {
+        Frac128 {
+            numerator: -self.numerator,
+            denominator: self.denominator,
+        }
+    }
+
+    fn sign(self) -> i8 {
+        self.numerator.signum() as i8
+    }
+
+    ghost limit_positive = { le_pos _ _ (lit≤ tt) };
+
+    ghost lowest = { λ x. x.lowest };
+
+    ghost numerator_fits = { λ x. le_pred _ _ x.above_fits };
+
+    ghost denominator_fits = { λ x. le_pred _ _ x.below_fits };
+
+    ghost by_value = { λ x y. refl };
+}
+
+/// The operation that does not fit, with its operands.
+#[cold]
+fn misfit(operator: Operator, left: Frac128, right: Frac128) -> Wide
+    ensures { result ≡ misfit_of operator (over left.numerator left.denominator) (over right.numerator right.denominator) }
+{
+    Wide {
+        operator,
+        left: left.parts(),
+        right: right.parts(),
+    }
+}

@@ -1,0 +1,48 @@
+//! Sums.
+ghost use Rattle.std.specs.Prelude.{◌≡◌, ◌<◌, ◌/◌, pos, ◌*ℤ◌};
+ghost use Rattle.std.specs.Option.{option_map};
+ghost use Rattle.exact_num.specs.Fits.{sum_divisor};
+ghost use Rattle.frac.specs.Range.{limit, within, total_within, sum_within};
+ghost use Rattle.frac.specs.Value.{fraction_of};
+
+use super::Frac128;
+use super::sizes::{
+    common, divisor, natural_product, natural_quotient, product_with, quotient, whole_sum,
+};
+
+/// The numerator of `x` over the least common denominator with `y`, where it is in range. `g` is
+/// the greatest common divisor of the denominators.
+fn numerator_over(x: Frac128, y: Frac128, g: u128) -> Option<i128>
+    requires { 0 < g }
+    ensures { result ≡ within limit (x.numerator *ℤ pos (y.denominator / g)) }
+{
+    product_with(x.numerator, natural_quotient(y.denominator, g))
+}
+
+/// The sum of the numerators over the least common denominator, where its steps are in range.
+fn total(x: Frac128, y: Frac128, g: u128) -> Option<i128>
+    requires divisor { g ≡ sum_divisor (fraction_of x) (fraction_of y) }
+    requires positive { 0 < g }
+    ensures { result ≡ total_within limit (fraction_of x) (fraction_of y) }
+{
+    let left = numerator_over(x, y, g)?;
+    let right = numerator_over(y, x, g)?;
+    whole_sum(left, right)
+}
+
+/// The sum in lowest terms, where each of its quantities is in range.
+pub fn sum(x: Frac128, y: Frac128) -> Option<Frac128>
+    ensures { option_map fraction_of result ≡ sum_within limit (fraction_of x) (fraction_of y) }
+{
+    let g = divisor(x.denominator, y.denominator);
+    let above = total(x, y, g)?;
+    let shared = common(above, g);
+    let below = natural_product(
+        natural_quotient(x.denominator, g),
+        natural_quotient(y.denominator, shared),
+    )?;
+    Some(Frac128 {
+        numerator: quotient(above, shared),
+        denominator: below,
+    })
+}
