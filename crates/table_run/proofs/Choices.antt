@@ -17,7 +17,8 @@ use Rattle.table_run.specs.Choice.{Ratio, first_below, entering, is_below_zero, 
 use Rattle.table_run.specs.Pivot.{pivoted}
 use Rattle.table_run.specs.Run.{turn, moved, unlimited, moved_or_stopped, on_ratios, leave}
 use Rattle.table_run.proofs.Pivot.{IsChoice}
-use Rattle.table_run.proofs.Entries.{IsTable, tab_of, after_out, by_first}
+use Rattle.table_run.proofs.Entries.{IsTable, tab_of, by_first}
+use Rattle.exact_num.proofs.After.{after_value}
 use Rattle.arithmetic.proofs.Comparisons.{equal_int_cmp}
 use Rattle.exact_num.proofs.Rationals.{at_most_antisymm, value_same, value_of_lowest, IsAbove0, IsBelow0}
 
@@ -93,10 +94,10 @@ ratio_out limit columns e entries o low h = step (is_above_zero (at entries e)) 
         → (((pos 0 <ℤ (at entries e).numerator) → ⊥) × (o ≡ None)) ⊎ ((q : Fraction) × (o ≡ Some q) × (pos 0 <ℤ (at entries e).numerator) × IsLowest q × (value q ≡ value (at entries columns) *Q inv_Q (value (at entries e))))
     step true t k =
         let above : pos 0 <ℤ (at entries e).numerator = test_above _ t in
-        let a = after_out (div_of limit (right_side columns entries) (at entries e)) (λ q. Ok (Some q)) o k in
-        let s = quotient_step limit (at entries columns) (at entries e) a.0 (low columns) (low e) (λ z. omega (arith, ints, above, z)) a.1 in
-        let is_o : Some a.0 ≡ o = cc in
-        inr (a.0, sym is_o, above, s.0, s.1)
+        let a = after_value (div_of limit (right_side columns entries) (at entries e)) (λ q. Ok (Some q)) o k in
+        let s = quotient_step limit (at entries columns) (at entries e) a.value (low columns) (low e) (λ z. omega (arith, ints, above, z)) a.first in
+        let is_o : Some a.value ≡ o = cc in
+        inr (a.value, sym is_o, above, s.0, s.1)
     step false t k = inl (λ above. let t' = above_test _ above in cc, cc)
 
 pub ratios_out : (limit columns e i : ℕ) (rows : List Row) (qs : List Ratio) → ((k j : ℕ) → IsLowest (at (entries_at rows k) j)) → ratios limit columns e i rows ≡ Ok qs → AreRatios columns e i rows qs
@@ -105,11 +106,11 @@ ratios_out limit columns e i [] qs low h =
     let q : [] ≡ qs = cc in
     subst (λ w. AreRatios columns e i [] w) q (record { each_is = λ q h. absurd h; each_has = λ k p. absurd (omega (arith, p)) })
 ratios_out limit columns e i (row ∷ rows) qs low h =
-    let a = after_out (ratio_in limit columns e row.entries) _ qs h in
-    let b = after_out (ratios limit columns e (i + 1) rows) _ qs a.2 in
-    let is_qs : joined i row.basic a.0 b.0 ≡ qs = cc in
-    let later = ratios_out limit columns e (i + 1) rows b.0 (λ k j. low (suc k) j) b.1 in
-    subst (λ w. AreRatios columns e i (row ∷ rows) w) is_qs (join a.0 b.0 later (ratio_out limit columns e row.entries a.0 (low 0) a.1))
+    let a = after_value (ratio_in limit columns e row.entries) _ qs h in
+    let b = after_value (ratios limit columns e (i + 1) rows) _ qs a.rest in
+    let is_qs : joined i row.basic a.value b.value ≡ qs = cc in
+    let later = ratios_out limit columns e (i + 1) rows b.value (λ k j. low (suc k) j) b.first in
+    subst (λ w. AreRatios columns e i (row ∷ rows) w) is_qs (join a.value b.value later (ratio_out limit columns e row.entries a.value (low 0) a.first))
   where
     shift : (q : Ratio) → IsRatio columns e (i + 1) rows q → IsRatio columns e i (row ∷ rows) q
     shift q r = record { row = suc r.row; place = r.place ∙ omega arith; inside = omega (arith, r.inside); basic = r.basic; above = r.above; lowest = r.lowest; is_value = r.is_value }

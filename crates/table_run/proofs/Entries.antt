@@ -8,6 +8,7 @@ use Rattle.std.proofs.lemmas.Bool.Decides.{nat_tests}
 use Rattle.exact_num.specs.declared.misfit.Wide.{Wide}
 use Rattle.exact_num.specs.Fraction.{Fraction, IsLowest, whole}
 use Rattle.exact_num.specs.Fits.{mul_of, sub_of, div_of, after}
+use Rattle.exact_num.proofs.After.{after_value}
 use Rattle.exact_num.proofs.Values.{whole_is_lowest}
 use Rattle.exact_num.proofs.Rationals.{◌+Q◌, ◌*Q◌, neg_Q, inv_Q, value, difference_step, product_step, quotient_step}
 use Rattle.table_run.specs.Places.{at}
@@ -28,10 +29,6 @@ pub record IsTable (m n : ℕ) (t : Table) : Type 0 where
   pub lowest_price : (j : ℕ) → IsLowest (at t.objective j)
 
 -- ---- what an answer Ok says of the steps before it
-pub after_out : {A B : Type 0} (r : Result A Wide) (next : A → Result B Wide) (s : B) → after r next ≡ Ok s → (a : A) × (r ≡ Ok a) × (next a ≡ Ok s)
-after_out (Ok a) next s h = (a, refl, h)
-after_out (Err w) next s h = cc
-
 pub by_first : (P : ℕ → Type 0) → P zero → ((j : ℕ) → P (suc j)) → (j : ℕ) → P j
 by_first P z s zero = z
 by_first P z s (suc j) = s j
@@ -40,39 +37,39 @@ each_out : (f : Fraction → Result Fraction Wide) (xs ys : List Fraction) → e
 unfolding each
 each_out f [] ys h = let e : [] ≡ ys = cc in (ap length (sym e), λ j p. absurd (omega (arith, p)))
 each_out f (x ∷ xs) ys h =
-    let a = after_out (f x) _ ys h in
-    let b = after_out (each f xs) _ ys a.2 in
-    let e : a.0 ∷ b.0 ≡ ys = cc in
-    let rest = each_out f xs b.0 b.1 in
+    let a = after_value (f x) _ ys h in
+    let b = after_value (each f xs) _ ys a.rest in
+    let e : a.value ∷ b.value ≡ ys = cc in
+    let rest = each_out f xs b.value b.first in
     subst (λ (zs : List Fraction). (length zs ≡ length (x ∷ xs)) × ((j : ℕ) → j < length (x ∷ xs) → f (at (x ∷ xs) j) ≡ Ok (at zs j))) e
-    (ap suc rest.0, by_first (λ j. j < length (x ∷ xs) → f (at (x ∷ xs) j) ≡ Ok (at (a.0 ∷ b.0) j)) (λ p. a.1) (λ j p. rest.1 j (omega (arith, p))))
+    (ap suc rest.0, by_first (λ j. j < length (x ∷ xs) → f (at (x ∷ xs) j) ≡ Ok (at (a.value ∷ b.value) j)) (λ p. a.first) (λ j p. rest.1 j (omega (arith, p))))
 
 pair_out : (f : Fraction → Fraction → Result Fraction Wide) (xs ps ys : List Fraction) → length xs ≡ length ps → each_pair f xs ps ≡ Ok ys → (length ys ≡ length xs) × ((j : ℕ) → j < length xs → f (at xs j) (at ps j) ≡ Ok (at ys j))
 unfolding each_pair
 pair_out f [] ps ys same h = let e : [] ≡ ys = cc in (ap length (sym e), λ j p. absurd (omega (arith, p)))
 pair_out f (x ∷ xs) [] ys same h = absurd (omega (arith, same))
 pair_out f (x ∷ xs) (q ∷ ps) ys same h =
-    let a = after_out (f x q) _ ys h in
-    let b = after_out (each_pair f xs ps) _ ys a.2 in
-    let e : a.0 ∷ b.0 ≡ ys = cc in
-    let rest = pair_out f xs ps b.0 (omega (arith, same)) b.1 in
+    let a = after_value (f x q) _ ys h in
+    let b = after_value (each_pair f xs ps) _ ys a.rest in
+    let e : a.value ∷ b.value ≡ ys = cc in
+    let rest = pair_out f xs ps b.value (omega (arith, same)) b.first in
     subst (λ (zs : List Fraction). (length zs ≡ length (x ∷ xs)) × ((j : ℕ) → j < length (x ∷ xs) → f (at (x ∷ xs) j) (at (q ∷ ps) j) ≡ Ok (at zs j))) e
-    (ap suc rest.0, by_first (λ j. j < length (x ∷ xs) → f (at (x ∷ xs) j) (at (q ∷ ps) j) ≡ Ok (at (a.0 ∷ b.0) j)) (λ p. a.1) (λ j p. rest.1 j (omega (arith, p))))
+    (ap suc rest.0, by_first (λ j. j < length (x ∷ xs) → f (at (x ∷ xs) j) (at (q ∷ ps) j) ≡ Ok (at (a.value ∷ b.value) j)) (λ p. a.first) (λ j p. rest.1 j (omega (arith, p))))
 
 turned_out : (limit e r : ℕ) (pivot : List Fraction) (i : ℕ) (rows us : List Row) → rows_after limit e r pivot i rows ≡ Ok us → (length us ≡ length rows) × ((k : ℕ) → k < length rows → row_after limit e r pivot (i + k) (row_of (basic_at rows k) (entries_at rows k)) ≡ Ok (row_of (basic_at us k) (entries_at us k)))
 unfolding rows_after
 turned_out limit e r pivot i [] us h = let q : [] ≡ us = cc in (ap length (sym q), λ j p. absurd (omega (arith, p)))
 turned_out limit e r pivot i (row ∷ rows) us h =
-    let a = after_out (row_after limit e r pivot i row) _ us h in
-    let b = after_out (rows_after limit e r pivot (i + 1) rows) _ us a.2 in
-    let q : a.0 ∷ b.0 ≡ us = cc in
-    let rest = turned_out limit e r pivot (i + 1) rows b.0 b.1 in
+    let a = after_value (row_after limit e r pivot i row) _ us h in
+    let b = after_value (rows_after limit e r pivot (i + 1) rows) _ us a.rest in
+    let q : a.value ∷ b.value ≡ us = cc in
+    let rest = turned_out limit e r pivot (i + 1) rows b.value b.first in
     let first : i + 0 ≡ i = omega arith in
     let next : (k : ℕ) → i + 1 + k ≡ i + suc k = λ k. omega arith in
     subst (λ (zs : List Row). (length zs ≡ length (row ∷ rows)) × ((k : ℕ) → k < length (row ∷ rows) → row_after limit e r pivot (i + k) (row_of (basic_at (row ∷ rows) k) (entries_at (row ∷ rows) k)) ≡ Ok (row_of (basic_at zs k) (entries_at zs k)))) q (
       ap suc rest.0,
-      by_first (λ k. k < length (row ∷ rows) → row_after limit e r pivot (i + k) (row_of (basic_at (row ∷ rows) k) (entries_at (row ∷ rows) k)) ≡ Ok (row_of (basic_at (a.0 ∷ b.0) k) (entries_at (a.0 ∷ b.0) k)))
-          (λ p. ap (λ k. row_after limit e r pivot k row) first ∙ a.1)
+      by_first (λ k. k < length (row ∷ rows) → row_after limit e r pivot (i + k) (row_of (basic_at (row ∷ rows) k) (entries_at (row ∷ rows) k)) ≡ Ok (row_of (basic_at (a.value ∷ b.value) k) (entries_at (a.value ∷ b.value) k)))
+          (λ p. ap (λ k. row_after limit e r pivot k row) first ∙ a.first)
           (λ k p. ap (λ h. row_after limit e r pivot h (row_of (basic_at rows k) (entries_at rows k))) (sym (next k)) ∙ rest.1 k (omega (arith, p))),
     )
 
@@ -83,9 +80,9 @@ row_after_out limit e r pivot i row u h = step (nat_eq i r) refl h
     step : (b : Bool) → nat_eq i r ≡ b → (if b then Ok (row_of e pivot) else after (cleared limit e pivot row.entries) (λ es. Ok (row_of row.basic es))) ≡ Ok u → (i ≡ r → u ≡ row_of e pivot) × ((i ≡ r → ⊥) → (u.basic ≡ row.basic) × (cleared limit e pivot row.entries ≡ Ok u.entries))
     step true t k = (λ same. cc, λ ne. absurd (ne (grind (arith, nat_tests))))
     step false t k =
-        let a = after_out (cleared limit e pivot row.entries) _ u k in
-        let q : row_of row.basic a.0 ≡ u = cc in
-        (λ same. absurd (grind (arith, nat_tests)), λ ne. (sym (ap (λ (w : Row). w.basic) q), a.1 ∙ ap Ok (ap (λ (w : Row). w.entries) q)))
+        let a = after_value (cleared limit e pivot row.entries) _ u k in
+        let q : row_of row.basic a.value ≡ u = cc in
+        (λ same. absurd (grind (arith, nat_tests)), λ ne. (sym (ap (λ (w : Row). w.basic) q), a.first ∙ ap Ok (ap (λ (w : Row). w.entries) q)))
 
 pub no_row : (rows : List Row) (k : ℕ) → length rows ≤ k → entries_at rows k ≡ []
 no_row [] k h = refl
@@ -102,9 +99,9 @@ lowest_all xs h j =
 
 less_step : (limit : ℕ) (f x p y : Fraction) → IsLowest f → IsLowest x → IsLowest p → less_product limit f x p ≡ Ok y → IsLowest y × (value y ≡ value x +Q neg_Q (value f *Q value p))
 less_step limit f x p y lf lx lp h =
-    let a = after_out (mul_of limit f p) (λ product. sub_of limit x product) y h in
-    let m = product_step limit f p a.0 lf lp a.1 in
-    let s = difference_step limit x a.0 y lx m.0 a.2 in
+    let a = after_value (mul_of limit f p) (λ product. sub_of limit x product) y h in
+    let m = product_step limit f p a.value lf lp a.first in
+    let s = difference_step limit x a.value y lx m.0 a.rest in
     (s.0, s.1 ∙ ap (λ w. value x +Q neg_Q w) m.1)
 
 -- a row or the objective that is cleared
@@ -170,8 +167,8 @@ turn_parts limit m n e r t pivot rows objective g low ne is_pivot_row are_rows i
 pub turn_out : (limit m n e r : ℕ) (t u : Table) → IsTable m n t → r < m → (at (entries_at t.rows r) e).numerator ≢ pos 0 → pivoted limit e r t ≡ Ok u → IsTable m n u × IsTurn m n e r (tab_of t) (tab_of u)
 unfolding pivoted
 turn_out limit m n e r t u g low ne h =
-    let a = after_out (divided limit e (entries_at t.rows r)) _ u h in
-    let b = after_out (rows_after limit e r a.0 0 t.rows) _ u a.2 in
-    let c = after_out (cleared limit e a.0 t.objective) _ u b.2 in
-    let is_u : record { columns = t.columns; rows = b.0; objective = c.0 } ≡ u = cc in
-    subst (λ (w : Table). IsTable m n w × IsTurn m n e r (tab_of t) (tab_of w)) is_u (turn_parts limit m n e r t a.0 b.0 c.0 g low ne a.1 b.1 c.1)
+    let a = after_value (divided limit e (entries_at t.rows r)) _ u h in
+    let b = after_value (rows_after limit e r a.value 0 t.rows) _ u a.rest in
+    let c = after_value (cleared limit e a.value t.objective) _ u b.rest in
+    let is_u : record { columns = t.columns; rows = b.value; objective = c.value } ≡ u = cc in
+    subst (λ (w : Table). IsTable m n w × IsTurn m n e r (tab_of t) (tab_of w)) is_u (turn_parts limit m n e r t a.value b.value c.value g low ne a.first b.first c.first)

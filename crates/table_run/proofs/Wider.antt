@@ -13,60 +13,10 @@ use Rattle.table_run.specs.Pivot.{each, each_pair, divided, less_product, cleare
 use Rattle.table_run.specs.Run.{Ending, unbounded, misfit_at, Turn, moved, unlimited, stopped, turn, on_entering, on_turn, read_off, direction, run_from, run}
 use Rattle.table_run.specs.Limits.{IsWithoutMisfit, SameWithGreaterLimit}
 use Rattle.table_run.specs.Turns.{table_after, BasicsDiffer}
-use Rattle.table_run.proofs.Entries.{after_out}
+use Rattle.exact_num.proofs.After.{after_value, after_more}
+use Rattle.exact_num.proofs.GreaterLimit.{add_more, mul_more, div_more}
 use Rattle.table_run.proofs.Choices.{moved_out, unlimited_out}
 use Rattle.table_run.proofs.Tables.{next_out, basics_differ_at}
-
--- ---- the tests of a step
-le_more : (n l l' : ℕ) → l ≤ l' → nat_le n l ≡ true → nat_le n l' ≡ true
-le_more n l l' h k = grind (arith, nat_tests)
-
-both : (a b : Bool) → (a && b) ≡ true → (a ≡ true) × (b ≡ true)
-both true true h = (refl, refl)
-both true false h = cc
-both false b h = cc
-
-and_more : (a b a' b' : Bool) → (a ≡ true → a' ≡ true) → (b ≡ true → b' ≡ true) → (a && b) ≡ true → (a' && b') ≡ true
-and_more a b a' b' f g h =
-    let w = both a b h in
-    let p = f w.0 in
-    let q = g w.1 in
-    rw (p, q) refl
-
-size_more : (l l' : ℕ) (v : ℤ) → l ≤ l' → size_fits l v ≡ true → size_fits l' v ≡ true
-size_more l l' v h k = le_more (unsigned_abs v) l l' h k
-
-sum_more : (l l' : ℕ) (x y : Fraction) → l ≤ l' → sum_fits l x y ≡ true → sum_fits l' x y ≡ true
-unfolding sum_fits
-sum_more l l' x y h =
-    and_more _ _ _ _ (and_more _ _ _ _ (and_more _ _ _ _ (size_more l l' (sum_left x y) h) (size_more l l' (sum_right x y) h)) (size_more l l' (sum_total x y) h)) (le_more (sum_below x y) l l' h)
-
-product_more : (l l' : ℕ) (x y : Fraction) → l ≤ l' → product_fits l x y ≡ true → product_fits l' x y ≡ true
-unfolding product_fits
-product_more l l' x y h = and_more _ _ _ _ (size_more l l' (product_above x y) h) (le_more (product_below x y) l l' h)
-
--- ---- the steps
-if_ok : {A : Type 0} (b b' : Bool) (a s : A) (w w' : Wide) → (b ≡ true → b' ≡ true) → (if b then Ok a else Err w) ≡ Ok s → (if b' then Ok a else Err w') ≡ Ok s
-if_ok true b' a s w w' f h = let t = f refl in rw t h
-if_ok false b' a s w w' f h = cc
-
-pub add_more : (l l' : ℕ) (x y s : Fraction) → l ≤ l' → add_of l x y ≡ Ok s → add_of l' x y ≡ Ok s
-unfolding add_of
-add_more l l' x y s h k = if_ok (sum_fits l x y) (sum_fits l' x y) (sum_value x y) s _ _ (sum_more l l' x y h) k
-
-pub mul_more : (l l' : ℕ) (x y s : Fraction) → l ≤ l' → mul_of l x y ≡ Ok s → mul_of l' x y ≡ Ok s
-unfolding mul_of
-mul_more l l' x y s h k = if_ok (product_fits l x y) (product_fits l' x y) (product_value x y) s _ _ (product_more l l' x y h) k
-
-pub div_more : (l l' : ℕ) (x y s : Fraction) → l ≤ l' → div_of l x y ≡ Ok s → div_of l' x y ≡ Ok s
-unfolding div_of
-div_more l l' x y s h k = if_ok (product_fits l x (inverse y)) (product_fits l' x (inverse y)) (product_value x (inverse y)) s _ _ (product_more l l' x (inverse y) h) k
-
-pub after_more : {A B : Type 0} (r r' : Result A Wide) (f f' : A → Result B Wide) (s : B) → ((a : A) → r ≡ Ok a → r' ≡ Ok a) → ((a : A) (b : B) → f a ≡ Ok b → f' a ≡ Ok b) → after r f ≡ Ok s → after r' f' ≡ Ok s
-after_more r r' f f' s h k e =
-    let w = after_out r f s e in
-    let p = h w.0 w.1 in
-    rw p (k w.0 s w.2)
 
 -- ---- the steps of a row, of the rows, and of a turn
 each_more : (f f' : Fraction → Result Fraction Wide) → ((x y : Fraction) → f x ≡ Ok y → f' x ≡ Ok y) → (xs ys : List Fraction) → each f xs ≡ Ok ys → each f' xs ≡ Ok ys
@@ -112,13 +62,13 @@ rows_after_more l l' e r pivot i (row ∷ rows) us h k =
 pivoted_more : (l l' e r : ℕ) (t u : Table) → l ≤ l' → pivoted l e r t ≡ Ok u → pivoted l' e r t ≡ Ok u
 unfolding pivoted
 pivoted_more l l' e r t u h k =
-    let a = after_out (divided l e (entries_at t.rows r)) _ u k in
-    let b = after_out (rows_after l e r a.0 0 t.rows) _ u a.2 in
-    let c = after_out (cleared l e a.0 t.objective) _ u b.2 in
-    let a' = divided_more l l' e (entries_at t.rows r) a.0 h a.1 in
-    let b' = rows_after_more l l' e r a.0 0 t.rows b.0 h b.1 in
-    let c' = cleared_more l l' e a.0 t.objective c.0 h c.1 in
-    rw (a', b', c') c.2
+    let a = after_value (divided l e (entries_at t.rows r)) _ u k in
+    let b = after_value (rows_after l e r a.value 0 t.rows) _ u a.rest in
+    let c = after_value (cleared l e a.value t.objective) _ u b.rest in
+    let a' = divided_more l l' e (entries_at t.rows r) a.value h a.first in
+    let b' = rows_after_more l l' e r a.value 0 t.rows b.value h b.first in
+    let c' = cleared_more l l' e a.value t.objective c.value h c.first in
+    rw (a', b', c') c.rest
 
 ratio_more : (l l' columns e : ℕ) (entries : List Fraction) (o : Option Fraction) → l ≤ l' → ratio_in l columns e entries ≡ Ok o → ratio_in l' columns e entries ≡ Ok o
 unfolding ratio_in
