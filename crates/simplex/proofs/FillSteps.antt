@@ -23,30 +23,3 @@ pub at-negated : {A : Type 0} (value : A → Fraction) (xs : List A) (i : ℕ) (
 at-negated value [] i x low at_x = absurd (omega arith)
 at-negated value (a ∷ xs) zero x low at_x = ap (λ y. negated (value y)) (sym at_x)
 at-negated value (a ∷ xs) (suc i) x low at_x = at-negated value xs i x (omega arith) at_x
-
-pub at-zeros : (n i : ℕ) → at (replicate n fraction_zero) i ≡ fraction_zero
-at-zeros zero i = refl
-at-zeros (suc n) zero = refl
-at-zeros (suc n) (suc i) = at-zeros n i
-
-pub length-unit : (n i : ℕ) → length (unit_row n i) ≡ n
-unfolding unit_row
-length-unit zero i = refl
-length-unit (suc n) zero = ap suc (length-replicate n _)
-length-unit (suc n) (suc i) = ap suc (length-unit n i)
-
-pub at-own : (n i k : ℕ) → i < n → k ≡ i → at (unit_row n i) k ≡ whole (pos 1)
-unfolding unit_row
-at-own zero i k low e = absurd (omega arith)
-at-own (suc n) zero zero low e = refl
-at-own (suc n) zero (suc k) low e = absurd (omega arith)
-at-own (suc n) (suc i) zero low e = absurd (omega arith)
-at-own (suc n) (suc i) (suc k) low e = at-own n i k (omega arith) (omega arith)
-
-pub at-other : (n i k : ℕ) → (k ≡ i → ⊥) → at (unit_row n i) k ≡ fraction_zero
-unfolding unit_row
-at-other zero i k ne = refl
-at-other (suc n) zero zero ne = absurd (ne refl)
-at-other (suc n) zero (suc k) ne = at-zeros n k
-at-other (suc n) (suc i) zero ne = refl
-at-other (suc n) (suc i) (suc k) ne = at-other n i k (λ e. ne (omega (arith, e)))

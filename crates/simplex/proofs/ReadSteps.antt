@@ -8,6 +8,7 @@ use Rattle.std.proofs.lemmas.Bool.Decides.{nat_tests}
 use Rattle.exact_num.specs.Fraction.{Fraction, whole, negated}
 use Rattle.table_run.specs.Places.{at, fraction_zero, listed}
 use Rattle.table_run.specs.Table.{Row, Table, where_basic}
+use Rattle.table_run.proofs.Ends.{listed_count, listed_at}
 use Rattle.simplex.specs.declared.row.TableRow.{TableRow}
 use Rattle.simplex.specs.Rows.{as_row, as_rows}
 use Rattle.simplex.specs.Tables.{direction_entry}
@@ -52,33 +53,21 @@ found_nowhere f value j rows h = nowhere f value j rows (past (nat_lt (position_
     past false e k = grind (arith, nat_tests)
 
 -- ---- a list written entry by entry
-pub length-listed : (f : ℕ → Fraction) (i n : ℕ) → length (listed f i n) ≡ n
-unfolding listed
-length-listed f i zero = refl
-length-listed f i (suc n) = ap suc (length-listed f (i + 1) n)
-
-listed_from : (f : ℕ → Fraction) (i n j : ℕ) → j < n → at (listed f i n) j ≡ f (i + j)
-unfolding listed
-listed_from f i zero j h = absurd (omega (arith, h))
-listed_from f i (suc n) zero h = let e : i + 0 ≡ i = omega arith in ap f (sym e)
-listed_from f i (suc n) (suc j) h = let e : i + 1 + j ≡ i + suc j = omega arith in listed_from f (i + 1) n j (omega (arith, h)) ∙ ap f e
-
 -- the entries before i are those of xs
 abbrev pub Written : {A : Type 0} → (A → Fraction) → List Fraction → ℕ → List A → Type 0
 Written value xs i row = take i (map value row) ≡ take i xs
 
 pub written_more : {A : Type 0} (value : A → Fraction) (f : ℕ → Fraction) (n i : ℕ) (row : List A) (y : A) → i < length row → length row ≡ n → value y ≡ f i → Written value (listed f 0 n) i row → Written value (listed f 0 n) (i + 1) (set row i y)
 written_more value f n i row y low width is_y h =
-    let zero : 0 + i ≡ i = omega arith in
-    let entry : value y ≡ at (listed f 0 n) i = is_y ∙ sym (listed_from f 0 n i (omega (arith, low, width)) ∙ ap f zero) in
+    let entry : value y ≡ at (listed f 0 n) i = is_y ∙ sym (listed_at f n i (omega (arith, low, width))) in
     done_more value row i y low
     ∙ ap (λ (l : List Fraction). l ++ (value y ∷ [])) h
     ∙ ap (λ (z : Fraction). take i (listed f 0 n) ++ (z ∷ [])) entry
-    ∙ sym (take_more (listed f 0 n) i fraction_zero (omega (arith, low, width, length-listed f 0 n)))
+    ∙ sym (take_more (listed f 0 n) i fraction_zero (omega (arith, low, width, listed_count f 0 n)))
 
 pub written_all : {A : Type 0} (value : A → Fraction) (f : ℕ → Fraction) (n i : ℕ) (row : List A) → length row ≤ i → length row ≡ n → Written value (listed f 0 n) i row → map value row ≡ listed f 0 n
 written_all value f n i row high width h =
-    sym (take_all i (map value row) (rw length-map high)) ∙ h ∙ take_all i (listed f 0 n) (omega (arith, high, width, length-listed f 0 n))
+    sym (take_all i (map value row) (rw length-map high)) ∙ h ∙ take_all i (listed f 0 n) (omega (arith, high, width, listed_count f 0 n))
 
 -- ---- one entry of a direction
 pub entry_own : (e j : ℕ) (t : Table) → j ≡ e → direction_entry e t j ≡ whole (pos 1)

@@ -25,14 +25,10 @@ use Rattle.simplex.specs.declared.stop.Stop.{Stop}
 use Rattle.simplex.specs.declared.stop.Stop.TheVariants.{Budget as OutOfBudget}
 use Rattle.simplex.specs.Stops.{stop_of}
 use Rattle.simplex.specs.Programs.{as_program}
+use Rattle.simplex.proofs.TableSteps.{lowest_entries}
 use Rattle.simplex.specs.Answers.{ending_of, solved_ending, IsAnswer, HoldsOf}
 
 -- ---- the program
-lowest_items : {A : Type 0} (value : A → Fraction) → ((a : A) → IsLowest (value a)) → (xs : List A) (j : ℕ) → IsLowest (at (map value xs) j)
-lowest_items value low [] j = whole_is_lowest (pos 0)
-lowest_items value low (x ∷ xs) zero = low x
-lowest_items value low (x ∷ xs) (suc j) = lowest_items value low xs j
-
 sign_items : {A : Type 0} (value : A → Fraction) (xs : List A) → All (λ b. IsNotBelowZero (value b)) xs → (j : ℕ) → IsNotBelowZero (at (map value xs) j)
 sign_items value [] h j = omega (arith, ints)
 sign_items value (x ∷ xs) h zero = h 0 x (omega arith)
@@ -44,9 +40,9 @@ count_items value xs n h = rw length-map (omega (arith, h, xs.ok))
 pub is_program : {A : Type 0} (value : A → Fraction) (p : Program A) → ((a : A) → IsLowest (value a)) → vec_len p.a ≡ p.m * p.n → vec_len p.b ≡ p.m → vec_len p.c ≡ p.n → All (λ b. IsNotBelowZero (value b)) p.b.items → IsProgram (as_program value p)
 is_program value p low a b c sign =
     record {
-      coefficients = record { count = count_items value p.a _ a; lowest = lowest_items value low p.a.items };
-      right_sides = record { count = count_items value p.b _ b; lowest = lowest_items value low p.b.items; sign = sign_items value p.b.items sign };
-      costs = record { count = count_items value p.c _ c; lowest = lowest_items value low p.c.items };
+      coefficients = record { count = count_items value p.a _ a; lowest = lowest_entries value low p.a.items };
+      right_sides = record { count = count_items value p.b _ b; lowest = lowest_entries value low p.b.items; sign = sign_items value p.b.items sign };
+      costs = record { count = count_items value p.c _ c; lowest = lowest_entries value low p.c.items };
     }
 
 -- ---- the run from the first table is that of the program

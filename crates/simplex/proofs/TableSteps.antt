@@ -23,7 +23,7 @@ entries_at-rows value [] r x low at_x = absurd (omega arith)
 entries_at-rows value (a ∷ rows) zero x low at_x = ap (λ row. map value row.entries.items) (sym at_x)
 entries_at-rows value (a ∷ rows) (suc r) x low at_x = entries_at-rows value rows r x (omega arith) at_x
 
-lowest_entries : {A : Type 0} (value : A → Fraction) → ((a : A) → IsLowest (value a)) → (xs : List A) (j : ℕ) → IsLowest (at (map value xs) j)
+pub lowest_entries : {A : Type 0} (value : A → Fraction) → ((a : A) → IsLowest (value a)) → (xs : List A) (j : ℕ) → IsLowest (at (map value xs) j)
 lowest_entries value low [] j = whole_is_lowest (pos 0)
 lowest_entries value low (x ∷ xs) zero = low x
 lowest_entries value low (x ∷ xs) (suc j) = lowest_entries value low xs j

@@ -42,30 +42,39 @@ unfolding rows_from
 count_from p i zero = refl
 count_from p i (suc left) = ap suc (count_from p (i + 1) left)
 
-length-unit : (n i : ℕ) → length (unit_row n i) ≡ n
+-- ---- rows of zeros, and rows of zeros with one 1
+pub length-unit : (n i : ℕ) → length (unit_row n i) ≡ n
 unfolding unit_row
 length-unit zero i = refl
 length-unit (suc n) zero = ap suc (length-replicate n _)
 length-unit (suc n) (suc i) = ap suc (length-unit n i)
 
-zeros : (n j : ℕ) → at (replicate n (whole (pos 0))) j ≡ whole (pos 0)
-zeros zero j = refl
-zeros (suc n) zero = refl
-zeros (suc n) (suc j) = zeros n j
+pub at-zeros : (n j : ℕ) → at (replicate n (whole (pos 0))) j ≡ whole (pos 0)
+at-zeros zero j = refl
+at-zeros (suc n) zero = refl
+at-zeros (suc n) (suc j) = at-zeros n j
 
-unit-suc : (i j : ℕ) → unit (suc i) (suc j) ≡ unit i j
-unit-suc i j = elim (ℕ_discrete i j) [
-  | yes e ↦ unit-same (suc i) (suc j) (ap suc e) ∙ sym (unit-same i j e)
-  | no ne ↦ unit-other (suc i) (suc j) (λ q. ne (omega (arith, q))) ∙ sym (unit-other i j ne)
-]
-
-unit_entry : (n i j : ℕ) → i < n → j < n → value (at (unit_row n i) j) ≡ unit i j
+pub at-own : (n i j : ℕ) → i < n → i ≡ j → at (unit_row n i) j ≡ whole (pos 1)
 unfolding unit_row
-unit_entry zero i j p q = absurd (omega (arith, p))
-unit_entry (suc n) zero zero p q = value_one ∙ sym (unit-same 0 0 refl)
-unit_entry (suc n) zero (suc j) p q = ap value (zeros n j) ∙ value_zero ∙ sym (unit-other 0 (suc j) (λ w. omega (arith, w)))
-unit_entry (suc n) (suc i) zero p q = value_zero ∙ sym (unit-other (suc i) 0 (λ w. omega (arith, w)))
-unit_entry (suc n) (suc i) (suc j) p q = unit_entry n i j (omega (arith, p)) (omega (arith, q)) ∙ sym (unit-suc i j)
+at-own zero i j low e = absurd (omega (arith, low))
+at-own (suc n) zero zero low e = refl
+at-own (suc n) zero (suc j) low e = absurd (omega (arith, e))
+at-own (suc n) (suc i) zero low e = absurd (omega (arith, e))
+at-own (suc n) (suc i) (suc j) low e = at-own n i j (omega (arith, low)) (omega (arith, e))
+
+pub at-other : (n i j : ℕ) → (i ≡ j → ⊥) → at (unit_row n i) j ≡ whole (pos 0)
+unfolding unit_row
+at-other zero i j ne = refl
+at-other (suc n) zero zero ne = absurd (ne refl)
+at-other (suc n) zero (suc j) ne = at-zeros n j
+at-other (suc n) (suc i) zero ne = refl
+at-other (suc n) (suc i) (suc j) ne = at-other n i j (λ e. ne (ap suc e))
+
+unit_entry : (n i j : ℕ) → i < n → value (at (unit_row n i) j) ≡ unit i j
+unit_entry n i j p = elim (ℕ_discrete i j) [
+  | yes e ↦ ap value (at-own n i j p e) ∙ value_one ∙ sym (unit-same i j e)
+  | no ne ↦ ap value (at-other n i j ne) ∙ value_zero ∙ sym (unit-other i j ne)
+]
 
 length-negated : (xs : List Fraction) → length (map negated xs) ≡ length xs
 length-negated [] = refl
@@ -81,7 +90,7 @@ lowest-zero : IsLowest (whole (pos 0))
 lowest-zero = whole_is_lowest (pos 0)
 
 lowest-zeros : (n j : ℕ) → IsLowest (at (replicate n (whole (pos 0))) j)
-lowest-zeros n j = subst IsLowest (sym (zeros n j)) lowest-zero
+lowest-zeros n j = subst IsLowest (sym (at-zeros n j)) lowest-zero
 
 lowest-unit : (n i j : ℕ) → IsLowest (at (unit_row n i) j)
 unfolding unit_row
@@ -135,7 +144,7 @@ entry_slack p g i k h l =
     ap (λ w. value (at w (p.variables + k))) (row_from p 0 p.rows i h ∙ ap (first_row p) e)
     ∙ ap (λ w. value (at (first_row p i) (w + k))) (sym (length-row p g i h))
     ∙ ap value (get_or-append-add (row p i) (ends p i) k (whole (pos 0)) ∙ get_or_append_left (unit_row p.rows i) (last p i) (whole (pos 0)) k (omega (arith, l, length-unit p.rows i)))
-    ∙ unit_entry p.rows i k h l
+    ∙ unit_entry p.rows i k h
 
 pub entry_right : (p : LinearProgram) → IsProgram p → (i : ℕ) → i < p.rows → value (at (entries_at (rows_from p 0 p.rows) i) (p.variables + p.rows)) ≡ value (at p.right_sides i)
 entry_right p g i h =
@@ -155,7 +164,7 @@ pub price_other : (p : LinearProgram) → IsProgram p → (k : ℕ) → value (a
 price_other p g k =
     let long : p.variables ≡ length (map negated p.costs) = sym (length-negated p.costs ∙ g.costs.count) in
     ap (λ w. value (at (map negated p.costs ++ replicate (p.rows + 1) (whole (pos 0))) (w + k))) long
-    ∙ ap value (get_or-append-add (map negated p.costs) (replicate (p.rows + 1) (whole (pos 0))) k (whole (pos 0)) ∙ zeros (p.rows + 1) k) ∙ value_zero
+    ∙ ap value (get_or-append-add (map negated p.costs) (replicate (p.rows + 1) (whole (pos 0))) k (whole (pos 0)) ∙ at-zeros (p.rows + 1) k) ∙ value_zero
 
 pub basic_first : (p : LinearProgram) (i : ℕ) → i < p.rows → basic_at (rows_from p 0 p.rows) i ≡ p.variables + i
 basic_first p i h = basic_from p 0 p.rows i h ∙ omega arith

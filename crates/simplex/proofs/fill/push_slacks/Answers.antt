@@ -1,6 +1,7 @@
 use Rattle.std.proofs.Common.{◌<◌, ◌≤◌, ◌∙◌, sym, ap, map, length, arith}
 use Rattle.table_run.specs.Table.{unit_row}
-use Rattle.simplex.proofs.FillSteps.{pushed, all_pushed, length-unit, at-own, at-other}
+use Rattle.table_run.proofs.FirstTable.{length-unit, at-own, at-other}
+use Rattle.simplex.proofs.FillSteps.{pushed, all_pushed}
 use Rattle.simplex.proofs.fill.push_slacks.Goals as goal
 use Rattle.simplex.proofs.fill.push_slacks.Goals.{then-k-own, else-k-own}
 
@@ -10,8 +11,8 @@ loop-k-preserved g c =
     let low : c.loop-k.k < length (unit_row c.args.count c.args.own) = omega (arith, length-unit c.args.count c.args.own, c.loop-k-test.true) in
     let more = pushed value c.loop-k.row.items c.push.new.self.items c.if-k-own.entry (map value c.args.row.now.items) (unit_row c.args.count c.args.own) c.loop-k.k c.loop-k.invariant c.in_ok-push.ensures.items low in
     elim c.if-k-own.branch [
-      | then-k-own w ↦ more (ap value w.entry-is ∙ w.one-entry.ensures ∙ sym (at-own c.args.count c.args.own c.loop-k.k (omega (arith, c.loop-k-test.true, w.if-k-own.true)) w.if-k-own.true))
-      | else-k-own w ↦ more (ap value w.entry-is ∙ w.zero-entry.ensures ∙ sym (at-other c.args.count c.args.own c.loop-k.k w.if-k-own.false))
+      | then-k-own w ↦ more (ap value w.entry-is ∙ w.one-entry.ensures ∙ sym (at-own c.args.count c.args.own c.loop-k.k (omega (arith, c.loop-k-test.true, w.if-k-own.true)) (sym w.if-k-own.true)))
+      | else-k-own w ↦ more (ap value w.entry-is ∙ w.zero-entry.ensures ∙ sym (at-other c.args.count c.args.own c.loop-k.k (λ e. w.if-k-own.false (sym e))))
     ]
 
 pub returns : goal.returns

@@ -1,6 +1,6 @@
 use Rattle.std.proofs.Common.{ap, length, arith}
 use Rattle.std.proofs.lemmas.List.{length-map, length-append}
-use Rattle.simplex.proofs.FillSteps.{length-unit}
+use Rattle.table_run.proofs.FirstTable.{length-unit}
 use Rattle.simplex.proofs.first.first_row.Goals as goal
 
 pub returns-clause-width : goal.returns-clause-width
