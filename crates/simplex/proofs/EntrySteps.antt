@@ -4,7 +4,7 @@ use Rattle.std.proofs.lemmas.List.{take-map, drop-map, take_more_set, map-append
 use Rattle.std.specs.Prelude.{Result, Ok, Err, Some, None, slice_index_or}
 use Rattle.exact_num.specs.declared.misfit.Wide.{Wide}
 use Rattle.exact_num.specs.Fraction.{Fraction}
-use Rattle.exact_num.specs.Fits.{after, meaning, written_back}
+use Rattle.exact_num.specs.Fits.{after, written_back}
 use Rattle.table_run.specs.Places.{at}
 use Rattle.table_run.specs.Choice.{first_below, is_below_zero}
 use Rattle.table_run.specs.Pivot.{each, each_pair}

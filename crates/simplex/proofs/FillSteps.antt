@@ -1,10 +1,9 @@
 -- One step of a loop that pushes entries.
-use Rattle.std.proofs.Common.{◌≡◌, ℕ, zero, suc, ◌+◌, ◌<◌, ◌≤◌, List, [], ◌∷◌, ◌++◌, length, map, take, replicate, refl, sym, ◌∙◌, ap, arith, append_assoc, pos}
-use Rattle.std.proofs.lemmas.List.{take_more, take_all, length-replicate, map-append}
+use Rattle.std.proofs.Common.{◌≡◌, ℕ, zero, suc, ◌+◌, ◌<◌, ◌≤◌, List, [], ◌∷◌, ◌++◌, length, map, take, sym, ◌∙◌, ap, arith, append_assoc}
+use Rattle.std.proofs.lemmas.List.{take_more, take_all, map-append}
 use Rattle.std.specs.Prelude.{slice_index_or}
-use Rattle.exact_num.specs.Fraction.{Fraction, whole, negated}
+use Rattle.exact_num.specs.Fraction.{Fraction, negated}
 use Rattle.table_run.specs.Places.{at, fraction_zero}
-use Rattle.table_run.specs.Table.{unit_row}
 
 -- x is entry i of xs, of which the first i stand at the end
 pub pushed : {A : Type 0} (value : A → Fraction) (old new : List A) (x : A) (start xs : List Fraction) (i : ℕ) → map value old ≡ start ++ take i xs → new ≡ old ++ (x ∷ []) → i < length xs → value x ≡ at xs i → map value new ≡ start ++ take (i + 1) xs

@@ -1,5 +1,5 @@
 -- The ratio test, row after row.
-use Rattle.std.proofs.Common.{◌≡◌, ℕ, zero, suc, ◌+◌, ◌<◌, ◌≤◌, List, [], ◌∷◌, length, map, drop, true, false, refl, sym, ◌∙◌, ap, arith, add-one}
+use Rattle.std.proofs.Common.{◌≡◌, ℕ, suc, ◌+◌, ◌<◌, ◌≤◌, List, [], length, map, drop, true, false, refl, sym, ◌∙◌, ap, add-one}
 use Rattle.std.proofs.lemmas.List.{drop_all, length-map}
 use Rattle.std.specs.Prelude.{Result, Ok, Err, Option, Some, None, slice_index_or}
 use Rattle.exact_num.specs.declared.misfit.Wide.{Wide}

@@ -1,6 +1,6 @@
 -- What is read off a table.
-use Rattle.std.proofs.Common.{◌≡◌, ℕ, zero, suc, ◌+◌, ◌<◌, ◌≤◌, List, [], ◌∷◌, ◌++◌, length, map, take, drop, set, true, false, Bool, nat_eq, refl, sym, ◌∙◌, ap, arith, pos}
-use Rattle.std.specs.Prelude.{Option, Some, None, if◌then◌else◌, cond, not, nat_lt, slice_index_or, position, ◌==◌}
+use Rattle.std.proofs.Common.{◌≡◌, ℕ, zero, suc, ◌+◌, ◌<◌, ◌≤◌, List, [], ◌∷◌, ◌++◌, length, map, take, set, true, false, Bool, nat_eq, refl, sym, ◌∙◌, ap, arith, pos}
+use Rattle.std.specs.Prelude.{Some, None, if◌then◌else◌, cond, not, nat_lt, slice_index_or, position, ◌==◌}
 use Rattle.std.specs.List.{position_or_len}
 use Rattle.std.proofs.lemmas.List.{take_all, take_more, length-map}
 use Rattle.std.proofs.lemmas.List.Quantifiers.{position-Some}

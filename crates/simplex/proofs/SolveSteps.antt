@@ -1,12 +1,11 @@
 -- From the run over the table to what the call answers.
-use Rattle.std.proofs.Common.{◌≡◌, ℕ, zero, suc, ◌+◌, ◌*◌, ◌<◌, List, [], ◌∷◌, length, map, refl, sym, ◌∙◌, ap, subst, arith, pos, vec_len, Vec, Global}
+use Rattle.std.proofs.Common.{◌≡◌, ℕ, zero, suc, ◌*◌, ◌<◌, List, [], ◌∷◌, length, map, sym, ◌∙◌, ap, subst, arith, vec_len, Vec, Global}
 use Rattle.std.specs.Prelude.{Result, Ok, Err}
 use Rattle.std.specs.List.{All}
 use Rattle.std.proofs.lemmas.Int.{ints}
 use Rattle.std.proofs.lemmas.List.{length-map}
 use Rattle.exact_num.specs.declared.misfit.Wide.{Wide}
 use Rattle.exact_num.specs.Fraction.{Fraction, IsLowest}
-use Rattle.exact_num.proofs.Values.{whole_is_lowest}
 use Rattle.table_run.specs.Places.{at}
 use Rattle.table_run.specs.Program.{LinearProgram}
 use Rattle.table_run.specs.Table.{Table, first_table}
@@ -21,7 +20,6 @@ use Rattle.simplex.specs.declared.stop.RunStop.{RunStop}
 use Rattle.simplex.specs.declared.stop.RunStop.TheVariants.{Wide as RunWide, Budget as RunBudget}
 use Rattle.simplex.specs.declared.solved.Solved.{Solved}
 use Rattle.simplex.specs.declared.solved.Solved.TheVariants.{Optimal, Unbounded}
-use Rattle.simplex.specs.declared.stop.Stop.{Stop}
 use Rattle.simplex.specs.declared.stop.Stop.TheVariants.{Budget as OutOfBudget}
 use Rattle.simplex.specs.Stops.{stop_of}
 use Rattle.simplex.specs.Programs.{as_program}

@@ -1,5 +1,5 @@
 -- The parts of a turn.
-use Rattle.std.proofs.Common.{◌≡◌, ◌≢◌, ℕ, zero, suc, ◌+◌, ◌<◌, ◌≤◌, List, [], ◌∷◌, length, map, take, refl, sym, ◌∙◌, ap, arith, pos, ◌<ℤ◌}
+use Rattle.std.proofs.Common.{◌≡◌, ◌≢◌, ℕ, zero, suc, ◌<◌, ◌≤◌, List, [], ◌∷◌, length, map, refl, sym, ap, arith, pos, ◌<ℤ◌}
 use Rattle.std.proofs.lemmas.Int.{ints}
 use Rattle.std.specs.Prelude.{Result, Ok, Err, Option, Some, None, IfSome, slice_index_or}
 use Rattle.exact_num.specs.declared.misfit.Wide.{Wide}
@@ -10,10 +10,10 @@ use Rattle.table_run.specs.Places.{at}
 use Rattle.table_run.specs.Table.{Row, Table, entries_at}
 use Rattle.table_run.specs.Choice.{Ratio, first_below, ratios, least}
 use Rattle.table_run.specs.Pivot.{each, divided, cleared, rows_after, pivoted}
-use Rattle.table_run.specs.Run.{Turn, unlimited, stopped, turn, leave, on_ratios, moved_or_stopped}
+use Rattle.table_run.specs.Run.{unlimited, stopped, turn, leave, on_ratios, moved_or_stopped}
 use Rattle.table_run.proofs.Choices.{first_out, least_limits}
 use Rattle.simplex.specs.declared.row.TableRow.{TableRow}
-use Rattle.simplex.specs.Rows.{as_row, as_rows}
+use Rattle.simplex.specs.Rows.{as_rows}
 use Rattle.simplex.specs.Candidates.{best_with, leaving_of}
 use Rattle.simplex.specs.Tables.{leaving_at}
 

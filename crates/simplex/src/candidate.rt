@@ -22,7 +22,13 @@ impl<N: Exact> Candidate<N> {
     {
         match self.ratio.cmp(&other.ratio) {
             Ordering::Less => self,
-            Ordering::Equal => { if self.basic < other.basic { self } else { other } }
+            Ordering::Equal => {
+                if self.basic < other.basic {
+                    self
+                } else {
+                    other
+                }
+            }
             Ordering::Greater => other,
         }
     }
@@ -35,10 +41,8 @@ pub fn with_ratio<N: Exact>(
     basic: usize,
     ratio: Option<N>,
 ) -> Option<Candidate<N>>
-    ensures {
-        option_map (as_ratio N.fraction) result
-        ≡ with_ratio_of (option_map (as_ratio N.fraction) best) place basic (option_map N.fraction ratio)
-    }
+    ensures { option_map (as_ratio N.fraction) result
+        ≡ with_ratio_of (option_map (as_ratio N.fraction) best) place basic (option_map N.fraction ratio) }
 {
     let Some(ratio) = ratio else { return best };
     let next = Candidate {

@@ -22,10 +22,8 @@ pub fn first_below_zero<N: Exact>(entries: &[N]) -> Option<usize>
 /// The entry over the divisor.
 fn quotient<N: Exact>(entry: N, divisor: N) -> Result<N, Wide>
     requires { (N.fraction divisor).numerator ≢ pos 0 }
-    ensures {
-        meaning N.fraction result
-        ≡ div_of (unsigned_abs N.LIMIT) (N.fraction entry) (N.fraction divisor)
-    }
+    ensures { meaning N.fraction result
+        ≡ div_of (unsigned_abs N.LIMIT) (N.fraction entry) (N.fraction divisor) }
 {
     if entry.sign() == 0 {
         Ok(entry)
@@ -38,10 +36,8 @@ fn quotient<N: Exact>(entry: N, divisor: N) -> Result<N, Wide>
 pub fn divide_entries<N: Exact>(pivot: &mut [N], entries: &[N], divisor: N) -> Result<(), Wide>
     requires width { length pivot.old ≡ length entries.now }
     requires divisor { (N.fraction divisor).numerator ≢ pos 0 }
-    ensures {
-        written_back result (map N.fraction pivot.new)
-        ≡ each (λ x. div_of (unsigned_abs N.LIMIT) x (N.fraction divisor)) (map N.fraction entries.now)
-    }
+    ensures { written_back result (map N.fraction pivot.new)
+        ≡ each (λ x. div_of (unsigned_abs N.LIMIT) x (N.fraction divisor)) (map N.fraction entries.now) }
 {
     for i in 0..pivot.len() {
         let entry = quotient(entries[i], divisor)?;
@@ -52,10 +48,8 @@ pub fn divide_entries<N: Exact>(pivot: &mut [N], entries: &[N], divisor: N) -> R
 
 /// Takes `factor` times the entry `pivot` of the pivot row from the entry.
 fn clear_entry<N: Exact>(entry: &mut N, factor: N, pivot: N) -> Result<(), Wide>
-    ensures {
-        written_back result (N.fraction entry.new)
-        ≡ less_product (unsigned_abs N.LIMIT) (N.fraction factor) (N.fraction entry.old) (N.fraction pivot)
-    }
+    ensures { written_back result (N.fraction entry.new)
+        ≡ less_product (unsigned_abs N.LIMIT) (N.fraction factor) (N.fraction entry.old) (N.fraction pivot) }
 {
     if pivot.sign() != 0 {
         let product = factor.mul(pivot)?;
@@ -67,11 +61,9 @@ fn clear_entry<N: Exact>(entry: &mut N, factor: N, pivot: N) -> Result<(), Wide>
 /// Takes `factor` times the pivot row from the entries, up to the first step that does not fit.
 fn clear_entries<N: Exact>(entries: &mut [N], pivot: &[N], factor: N) -> Result<(), Wide>
     requires { length entries.old ≡ length pivot.now }
-    ensures {
-        written_back result (map N.fraction entries.new)
+    ensures { written_back result (map N.fraction entries.new)
         ≡ each_pair (less_product (unsigned_abs N.LIMIT) (N.fraction factor))
-            (map N.fraction entries.old) (map N.fraction pivot.now)
-    }
+        (map N.fraction entries.old) (map N.fraction pivot.now) }
 {
     for i in 0..entries.len() {
         clear_entry(&mut entries[i], factor, pivot[i])?;
@@ -83,10 +75,8 @@ fn clear_entries<N: Exact>(entries: &mut [N], pivot: &[N], factor: N) -> Result<
 pub fn clear_column<N: Exact>(entries: &mut [N], pivot: &[N], e: usize) -> Result<(), Wide>
     requires width { length entries.old ≡ length pivot.now }
     requires column { e < length entries.old }
-    ensures {
-        written_back result (map N.fraction entries.new)
-        ≡ cleared (unsigned_abs N.LIMIT) e (map N.fraction pivot.now) (map N.fraction entries.old)
-    }
+    ensures { written_back result (map N.fraction entries.new)
+        ≡ cleared (unsigned_abs N.LIMIT) e (map N.fraction pivot.now) (map N.fraction entries.old) }
 {
     let factor = entries[e];
     if factor.sign() == 0 {

@@ -23,11 +23,9 @@ fn first_row<N: Exact>(
 ) -> Result<TableRow<N>, AllocError>
     requires width { length coefficients.now + m < 2 ^ 64 - 1 }
     requires row { i < m }
-    ensures row {
-        IfOk result (λ row. as_row N.fraction row
-            ≡ row_of (length coefficients.now + i)
-                (map N.fraction coefficients.now ++ unit_row m i ++ (N.fraction right_side ∷ [])))
-    }
+    ensures row { IfOk result (λ row. as_row N.fraction row
+        ≡ row_of (length coefficients.now + i)
+        (map N.fraction coefficients.now ++ unit_row m i ++ (N.fraction right_side ∷ []))) }
     ensures width { IfOk result (λ row. vec_len row.entries ≡ length coefficients.now + m + 1) }
 {
     let mut entries = Vec::with_capacity(alloc, coefficients.len() + m + 1)?;
@@ -41,17 +39,16 @@ fn first_row<N: Exact>(
 }
 
 /// The rows of the first table.
-pub fn first_rows<N: Exact>(alloc: Global, program: &Program<N>) -> Result<Vec<TableRow<N>>, AllocError>
+pub fn first_rows<N: Exact>(
+    alloc: Global,
+    program: &Program<N>,
+) -> Result<Vec<TableRow<N>>, AllocError>
     requires coefficients { vec_len program.now.a ≡ program.now.m * program.now.n }
     requires right_sides { vec_len program.now.b ≡ program.now.m }
     requires columns { program.now.n + program.now.m < 2 ^ 64 - 1 }
-    ensures rows {
-        IfOk result (λ rows. as_rows N.fraction rows.items
-            ≡ rows_from (as_program N.fraction program.now) 0 program.now.m)
-    }
-    ensures widths {
-        IfOk result (λ rows. All (λ row. vec_len row.entries ≡ program.now.n + program.now.m + 1) rows.items)
-    }
+    ensures rows { IfOk result (λ rows. as_rows N.fraction rows.items
+        ≡ rows_from (as_program N.fraction program.now) 0 program.now.m) }
+    ensures widths { IfOk result (λ rows. All (λ row. vec_len row.entries ≡ program.now.n + program.now.m + 1) rows.items) }
 {
     let mut rows = Vec::with_capacity(alloc, program.m)?;
     let mut left = program.a.as_slice();
@@ -68,10 +65,8 @@ pub fn first_rows<N: Exact>(alloc: Global, program: &Program<N>) -> Result<Vec<T
 pub fn first_objective<N: Exact>(alloc: Global, program: &Program<N>) -> Result<Vec<N>, AllocError>
     requires costs { vec_len program.now.c ≡ program.now.n }
     requires columns { program.now.n + program.now.m < 2 ^ 64 - 1 }
-    ensures objective {
-        IfOk result (λ row. map N.fraction row.items
-            ≡ map negated (map N.fraction program.now.c.items) ++ replicate (program.now.m + 1) fraction_zero)
-    }
+    ensures objective { IfOk result (λ row. map N.fraction row.items
+        ≡ map negated (map N.fraction program.now.c.items) ++ replicate (program.now.m + 1) fraction_zero) }
     ensures width { IfOk result (λ row. vec_len row ≡ program.now.n + program.now.m + 1) }
 {
     let mut row = Vec::with_capacity(alloc, program.n + program.m + 1)?;

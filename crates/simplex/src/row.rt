@@ -20,10 +20,8 @@ impl<N: Exact> TableRow<N> {
     pub fn ratio(&self, columns: usize, e: usize) -> Result<Option<N>, Wide>
         requires side { columns < vec_len self.now.entries }
         requires column { e < vec_len self.now.entries }
-        ensures {
-            meaning (option_map N.fraction) result
-            ≡ ratio_in (unsigned_abs N.LIMIT) columns e (map N.fraction self.now.entries.items)
-        }
+        ensures { meaning (option_map N.fraction) result
+            ≡ ratio_in (unsigned_abs N.LIMIT) columns e (map N.fraction self.now.entries.items) }
     {
         let entry = self.entries[e];
         let right_side = self.entries[columns];
@@ -39,11 +37,9 @@ impl<N: Exact> TableRow<N> {
     pub fn clear(&mut self, pivot: &[N], e: usize) -> Result<(), Wide>
         requires width { vec_len self.old.entries ≡ length pivot.now }
         requires column { e < length pivot.now }
-        ensures entries {
-            written_back result (map N.fraction self.new.entries.items)
+        ensures entries { written_back result (map N.fraction self.new.entries.items)
             ≡ cleared (unsigned_abs N.LIMIT) e
-                (map N.fraction pivot.now) (map N.fraction self.old.entries.items)
-        }
+            (map N.fraction pivot.now) (map N.fraction self.old.entries.items) }
         ensures basic { self.new.basic ≡ self.old.basic }
         ensures width { vec_len self.new.entries ≡ vec_len self.old.entries }
     {

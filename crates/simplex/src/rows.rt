@@ -12,7 +12,11 @@ use exact_num::{Exact, Wide};
 
 /// The place of the row that leaves where column `e` enters: of the rows of least ratio that with
 /// the smallest basic variable. None where no row limits the entering variable.
-pub fn leaving<N: Exact>(rows: &[TableRow<N>], columns: usize, e: usize) -> Result<Option<usize>, Wide>
+pub fn leaving<N: Exact>(
+    rows: &[TableRow<N>],
+    columns: usize,
+    e: usize,
+) -> Result<Option<usize>, Wide>
     requires side { All (λ row. columns < vec_len row.entries) rows.now }
     requires column { e < columns }
     ensures { result ≡ leaving_of (unsigned_abs N.LIMIT) columns e (as_rows N.fraction rows.now) }
@@ -30,13 +34,16 @@ pub fn leaving<N: Exact>(rows: &[TableRow<N>], columns: usize, e: usize) -> Resu
 }
 
 /// Row `r` becomes the pivot row, and each other row is cleared, up to the first step that does not fit.
-pub fn pivot_rows<N: Exact>(rows: &mut [TableRow<N>], pivot: &[N], e: usize, r: usize) -> Result<(), Wide>
+pub fn pivot_rows<N: Exact>(
+    rows: &mut [TableRow<N>],
+    pivot: &[N],
+    e: usize,
+    r: usize,
+) -> Result<(), Wide>
     requires widths { All (λ row. vec_len row.entries ≡ length pivot.now) rows.old }
     requires column { e < length pivot.now }
-    ensures rows {
-        written_back result (as_rows N.fraction rows.new)
-        ≡ rows_after (unsigned_abs N.LIMIT) e r (map N.fraction pivot.now) 0 (as_rows N.fraction rows.old)
-    }
+    ensures rows { written_back result (as_rows N.fraction rows.new)
+        ≡ rows_after (unsigned_abs N.LIMIT) e r (map N.fraction pivot.now) 0 (as_rows N.fraction rows.old) }
     ensures widths { All (λ row. vec_len row.entries ≡ length pivot.now) rows.new }
 {
     for i in 0..rows.len() {

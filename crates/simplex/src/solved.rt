@@ -12,5 +12,7 @@ pub enum Solved<N> {
         value: N,
     },
     /// The objective rises without an end along the direction from each feasible point.
-    Unbounded { direction: Vec<N> },
+    Unbounded {
+        direction: Vec<N>,
+    },
 }

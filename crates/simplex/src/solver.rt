@@ -20,13 +20,16 @@ use std::alloc::Global;
 
 /// The optimum, read off a table that has no entering column, in place of the entries of `x`, `y`
 /// and `reduced`.
-fn optimum<N: Exact>(table: &Table<N>, mut x: Vec<N>, mut y: Vec<N>, mut reduced: Vec<N>) -> Solved<N>
+fn optimum<N: Exact>(
+    table: &Table<N>,
+    mut x: Vec<N>,
+    mut y: Vec<N>,
+    mut reduced: Vec<N>,
+) -> Solved<N>
     requires reduced { vec_len reduced ≡ vec_len x }
     requires columns { vec_len x + vec_len y ≡ table.now.columns }
-    ensures {
-        (spent : ℕ) → solved_ending N.fraction result spent
-        ≡ read_off (vec_len x) (vec_len y) (as_table N.fraction table.now) spent
-    }
+    ensures { (spent : ℕ) → solved_ending N.fraction result spent
+        ≡ read_off (vec_len x) (vec_len y) (as_table N.fraction table.now) spent }
 {
     table.write_solution(x.as_mut_slice());
     table.write_dual(reduced.as_mut_slice(), y.as_mut_slice());
@@ -42,10 +45,8 @@ fn optimum<N: Exact>(table: &Table<N>, mut x: Vec<N>, mut y: Vec<N>, mut reduced
 /// The direction, read off a table where nothing limits column `e`, in place of the entries of `x`.
 fn without_limit<N: Exact>(table: &Table<N>, e: usize, mut x: Vec<N>) -> Solved<N>
     requires { e < table.now.columns }
-    ensures {
-        (spent : ℕ) → solved_ending N.fraction result spent
-        ≡ unbounded (direction (vec_len x) e (as_table N.fraction table.now)) spent
-    }
+    ensures { (spent : ℕ) → solved_ending N.fraction result spent
+        ≡ unbounded (direction (vec_len x) e (as_table N.fraction table.now)) spent }
 {
     table.write_direction(e, x.as_mut_slice());
     Solved::Unbounded { direction: x }
@@ -69,17 +70,13 @@ pub fn solve<N: Exact>(
     requires variables { program.now.n ≤ 100000 }
     requires rows { program.now.m ≤ 100000 }
     requires not_below_zero { All (λ b. IsNotBelowZero (N.fraction b)) program.now.b.items }
-    ensures run {
-        IsAnswer N.fraction
-            (run_of (unsigned_abs N.LIMIT) (as_program N.fraction program.now)
-                (budget.old.limit - budget.old.spent) budget.old.spent)
-            result budget.new.spent
-    }
+    ensures run { IsAnswer N.fraction
+        (run_of (unsigned_abs N.LIMIT) (as_program N.fraction program.now)
+        (budget.old.limit - budget.old.spent) budget.old.spent)
+        result budget.new.spent }
     ensures holds { HoldsOf N.fraction (as_program N.fraction program.now) result }
-    ensures enough {
-        result ≡ Err Stop.Budget
-        → budget.old.limit - budget.old.spent < bases_of (as_program N.fraction program.now)
-    }
+    ensures enough { result ≡ Err Stop.Budget
+        → budget.old.limit - budget.old.spent < bases_of (as_program N.fraction program.now) }
     ensures memory { result ≡ Err Stop.Memory → budget.new.spent ≡ budget.old.spent }
     ensures limit { budget.new.limit ≡ budget.old.limit }
 {

@@ -40,9 +40,7 @@ impl<N: Exact> Table<N> {
         requires right_sides { vec_len program.now.b ≡ program.now.m }
         requires costs { vec_len program.now.c ≡ program.now.n }
         requires columns { program.now.n + program.now.m < 2 ^ 64 - 1 }
-        ensures {
-            IfOk result (λ table. as_table N.fraction table ≡ first_table (as_program N.fraction program.now))
-        }
+        ensures { IfOk result (λ table. as_table N.fraction table ≡ first_table (as_program N.fraction program.now)) }
     {
         let columns = program.n + program.m;
         let rows = first_rows(alloc, program)?;
@@ -77,10 +75,8 @@ impl<N: Exact> Table<N> {
     fn divide_row(&mut self, e: usize, r: usize) -> Result<(), Wide>
         requires column { e < self.old.columns }
         requires pivot { IsPivot e r (as_table N.fraction self.old) }
-        ensures pivot {
-            written_back result (map N.fraction self.new.pivot.items)
-            ≡ divided (unsigned_abs N.LIMIT) e (entries_at (as_rows N.fraction self.old.rows.items) r)
-        }
+        ensures pivot { written_back result (map N.fraction self.new.pivot.items)
+            ≡ divided (unsigned_abs N.LIMIT) e (entries_at (as_rows N.fraction self.old.rows.items) r) }
         ensures table { as_table N.fraction self.new ≡ as_table N.fraction self.old }
     {
         let row = &self.rows[r];
@@ -91,11 +87,9 @@ impl<N: Exact> Table<N> {
     /// Row `r` becomes the pivot row, and the others are cleared.
     fn clear_rows(&mut self, e: usize, r: usize) -> Result<(), Wide>
         requires { e < self.old.columns }
-        ensures rows {
-            written_back result (as_rows N.fraction self.new.rows.items)
+        ensures rows { written_back result (as_rows N.fraction self.new.rows.items)
             ≡ rows_after (unsigned_abs N.LIMIT) e r
-                (map N.fraction self.old.pivot.items) 0 (as_rows N.fraction self.old.rows.items)
-        }
+            (map N.fraction self.old.pivot.items) 0 (as_rows N.fraction self.old.rows.items) }
         ensures columns { self.new.columns ≡ self.old.columns }
         ensures objective { self.new.objective.items ≡ self.old.objective.items }
         ensures pivot { self.new.pivot.items ≡ self.old.pivot.items }
@@ -106,11 +100,9 @@ impl<N: Exact> Table<N> {
     /// The objective row is cleared.
     fn clear_objective(&mut self, e: usize) -> Result<(), Wide>
         requires { e < self.old.columns }
-        ensures objective {
-            written_back result (map N.fraction self.new.objective.items)
+        ensures objective { written_back result (map N.fraction self.new.objective.items)
             ≡ cleared (unsigned_abs N.LIMIT) e
-                (map N.fraction self.old.pivot.items) (map N.fraction self.old.objective.items)
-        }
+            (map N.fraction self.old.pivot.items) (map N.fraction self.old.objective.items) }
         ensures columns { self.new.columns ≡ self.old.columns }
         ensures rows { self.new.rows.items ≡ self.old.rows.items }
     {
@@ -121,10 +113,8 @@ impl<N: Exact> Table<N> {
     fn pivot(&mut self, e: usize, r: usize) -> Result<(), Wide>
         requires column { e < self.old.columns }
         requires pivot { IsPivot e r (as_table N.fraction self.old) }
-        ensures table {
-            written_back result (as_table N.fraction self.new)
-            ≡ pivoted (unsigned_abs N.LIMIT) e r (as_table N.fraction self.old)
-        }
+        ensures table { written_back result (as_table N.fraction self.new)
+            ≡ pivoted (unsigned_abs N.LIMIT) e r (as_table N.fraction self.old) }
         ensures columns { self.new.columns ≡ self.old.columns }
     {
         self.divide_row(e, r)?;
@@ -135,10 +125,8 @@ impl<N: Exact> Table<N> {
     /// One turn: column `e` enters. True where a row left, false where nothing limits the column.
     pub fn turn(&mut self, e: usize) -> Result<bool, Wide>
         requires { e < self.old.columns }
-        ensures turn {
-            turn_answer result (as_table N.fraction self.new)
-            ≡ turn_of (unsigned_abs N.LIMIT) e (as_table N.fraction self.old)
-        }
+        ensures turn { turn_answer result (as_table N.fraction self.new)
+            ≡ turn_of (unsigned_abs N.LIMIT) e (as_table N.fraction self.old) }
         ensures kept { result ≡ Ok false → as_table N.fraction self.new ≡ as_table N.fraction self.old }
         ensures columns { self.new.columns ≡ self.old.columns }
     {
@@ -160,10 +148,8 @@ impl<N: Exact> Table<N> {
 
     /// The value of variable `j`: the right side of the row where it is basic, else 0.
     fn value_at(&self, j: usize) -> N
-        ensures {
-            N.fraction result
-            ≡ where_basic (λ row. right_side self.now.columns row.entries) j (as_table N.fraction self.now).rows
-        }
+        ensures { N.fraction result
+            ≡ where_basic (λ row. right_side self.now.columns row.entries) j (as_table N.fraction self.now).rows }
     {
         match self.place_of(j) {
             None => N::zero(),
@@ -208,9 +194,7 @@ impl<N: Exact> Table<N> {
     pub fn write_dual(&self, reduced: &mut [N], y: &mut [N])
         requires { length reduced.old + length y.old ≡ self.now.columns }
         ensures reduced { map N.fraction reduced.new ≡ reduced_costs (length reduced.old) (as_table N.fraction self.now) }
-        ensures dual {
-            map N.fraction y.new ≡ dual (length reduced.old) (length y.old) (as_table N.fraction self.now)
-        }
+        ensures dual { map N.fraction y.new ≡ dual (length reduced.old) (length y.old) (as_table N.fraction self.now) }
     {
         let (of_variables, others) = self.objective.as_slice().split_at(reduced.len());
         reduced.copy_from_slice(of_variables);

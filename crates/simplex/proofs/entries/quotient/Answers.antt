@@ -1,7 +1,4 @@
-use Rattle.std.proofs.Common.{◌∙◌, sym, ap}
-use Rattle.std.specs.Prelude.{Ok}
-use Rattle.exact_num.specs.Fraction.{Fraction}
-use Rattle.exact_num.specs.Fits.{div_of}
+use Rattle.std.proofs.Common.{sym}
 use Rattle.exact_num.proofs.Units.{limit_at_least_one, zero_is, zero-div}
 use Rattle.simplex.proofs.Signs.{sign_zero}
 use Rattle.simplex.proofs.entries.quotient.Goals as goal

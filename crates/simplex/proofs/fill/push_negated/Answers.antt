@@ -1,4 +1,4 @@
-use Rattle.std.proofs.Common.{◌∙◌, sym, map, length, arith, rules, ◌<◌}
+use Rattle.std.proofs.Common.{◌∙◌, sym, map, length, ◌<◌}
 use Rattle.std.proofs.lemmas.List.{length-map}
 use Rattle.exact_num.specs.Fraction.{negated}
 use Rattle.simplex.proofs.FillSteps.{pushed, at-negated}

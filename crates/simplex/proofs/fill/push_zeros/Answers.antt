@@ -1,4 +1,4 @@
-use Rattle.std.proofs.Common.{◌<◌, ◌∙◌, sym, map, length, replicate, arith}
+use Rattle.std.proofs.Common.{◌<◌, ◌∙◌, sym, map, length, replicate}
 use Rattle.std.proofs.lemmas.List.{length-replicate}
 use Rattle.table_run.specs.Places.{fraction_zero}
 use Rattle.table_run.proofs.FirstTable.{at-zeros}

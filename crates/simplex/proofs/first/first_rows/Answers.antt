@@ -1,4 +1,4 @@
-use Rattle.std.proofs.Common.{◌≡◌, ◌+◌, ◌*◌, ◌<◌, ◌∙◌, sym, ap, refl, arith, drop, take, length, vec_len}
+use Rattle.std.proofs.Common.{◌≡◌, ◌+◌, ◌*◌, ◌<◌, ◌∙◌, ap, refl, arith, drop, take, length, vec_len}
 use Rattle.std.proofs.lemmas.List.{drop-drop}
 use Rattle.simplex.specs.declared.row.TableRow.{TableRow}
 use Rattle.simplex.specs.Programs.{as_program}

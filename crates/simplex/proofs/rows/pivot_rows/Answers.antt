@@ -1,7 +1,7 @@
 use Rattle.std.proofs.Common.{◌≡◌, ◌∙◌, ap, arith, length, map, unsigned_abs, vec_len}
 use Rattle.std.proofs.lemmas.List.Elements.{All-set}
 use Rattle.std.proofs.lemmas.Result.{err_from_is_err_and}
-use Rattle.table_run.specs.Table.{Row, row_of}
+use Rattle.table_run.specs.Table.{row_of}
 use Rattle.table_run.specs.Pivot.{row_after}
 use Rattle.simplex.specs.declared.row.TableRow.{TableRow}
 use Rattle.simplex.specs.Rows.{as_row}

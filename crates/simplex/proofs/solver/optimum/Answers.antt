@@ -1,4 +1,4 @@
-use Rattle.std.proofs.Common.{◌≡◌, ℕ, ◌∙◌, sym, ap, arith, length, map, vec_len}
+use Rattle.std.proofs.Common.{ℕ, ◌∙◌, sym, ap, arith, length, map, vec_len}
 use Rattle.table_run.specs.Run.{read_off, optimal, solution, dual, reduced_costs}
 use Rattle.simplex.specs.Tables.{as_table}
 use Rattle.simplex.proofs.RowSteps.{slice_written}

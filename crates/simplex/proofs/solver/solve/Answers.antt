@@ -1,5 +1,5 @@
-use Rattle.std.proofs.Common.{◌≡◌, ℕ, ◌-◌, ◌+◌, ◌∙◌, sym, ap, subst, arith, unsigned_abs, vec_len}
-use Rattle.std.specs.Prelude.{Ok, Err}
+use Rattle.std.proofs.Common.{ℕ, ◌∙◌, sym, ap, arith, vec_len}
+use Rattle.std.specs.Prelude.{Ok}
 use Rattle.std.proofs.lemmas.Result.{err_from_is_err_and}
 use Rattle.table_run.specs.Table.{Table, first_table}
 use Rattle.table_run.specs.Run.{read_off, unbounded, direction}
@@ -38,10 +38,10 @@ returns-in-Optimal-clause-run g c =
     let ends = run_is _ (as_program g.N.Exact.fraction p) _ _ _ _ c.in_ok-table.ensures (c.run.ensures.run p.n p.m) in
     let was = ap (λ r. ending_of p.n p.m r spent t) (c.in_ok-run.was ∙ ap Ok c.in-Optimal.is) in
     sym (
-        c.optimum.ensures spent
-        ∙ ap (λ (k : ℕ). read_off k (vec_len c.in_ok-y.y) t spent) c.in_ok-x.ensures
-        ∙ ap (λ (k : ℕ). read_off p.n k t spent) c.in_ok-y.ensures
-        ∙ sym was ∙ ends
+    c.optimum.ensures spent
+    ∙ ap (λ (k : ℕ). read_off k (vec_len c.in_ok-y.y) t spent) c.in_ok-x.ensures
+    ∙ ap (λ (k : ℕ). read_off p.n k t spent) c.in_ok-y.ensures
+    ∙ sym was ∙ ends
     )
 
 pub returns-in-Optimal-clause-holds : goal.returns-in-Optimal-clause-holds
@@ -58,9 +58,9 @@ returns-clause-run g c =
     let ends = run_is _ (as_program g.N.Exact.fraction p) _ _ _ _ c.in_ok-table.ensures (c.run.ensures.run p.n p.m) in
     let was = ap (λ r. ending_of p.n p.m r spent t) (c.in_ok-run.was ∙ ap Ok c.in-Unbounded.is) in
     sym (
-        c.without_limit.ensures spent
-        ∙ ap (λ (k : ℕ). unbounded (direction k c.in-Unbounded.column t) spent) c.in_ok-x.ensures
-        ∙ sym was ∙ ends
+    c.without_limit.ensures spent
+    ∙ ap (λ (k : ℕ). unbounded (direction k c.in-Unbounded.column t) spent) c.in_ok-x.ensures
+    ∙ sym was ∙ ends
     )
 
 pub returns-clause-holds : goal.returns-clause-holds

@@ -1,7 +1,6 @@
 use Rattle.std.proofs.Common.{◌<◌, ◌∙◌, sym, ap, arith, length, vec_len}
 use Rattle.exact_num.specs.Fraction.{negated}
 use Rattle.table_run.specs.Places.{at}
-use Rattle.table_run.specs.Table.{Row}
 use Rattle.simplex.specs.declared.row.TableRow.{TableRow}
 use Rattle.simplex.specs.Tables.{as_table}
 use Rattle.simplex.proofs.EntrySteps.{at-map}
@@ -22,7 +21,7 @@ returns-in-Some g c =
     let low : c.args.e < length row.entries.items = omega (arith, width, row.entries.ok, c.requires) in
     c.neg.ensures
     ∙ sym (
-        entry_other c.args.e c.args.j (as_table value c.args.self.now) c.if-j-e.false
-        ∙ found_at (λ r. negated (at r.entries c.args.e)) value c.args.j c.args.self.now.rows.items c.in-Some.i row c.in-Some.ensures c.index.ensures
-        ∙ ap negated (at-map value row.entries.items c.args.e c.index-in-Some.result.now low c.index-in-Some.ensures)
+    entry_other c.args.e c.args.j (as_table value c.args.self.now) c.if-j-e.false
+    ∙ found_at (λ r. negated (at r.entries c.args.e)) value c.args.j c.args.self.now.rows.items c.in-Some.i row c.in-Some.ensures c.index.ensures
+    ∙ ap negated (at-map value row.entries.items c.args.e c.index-in-Some.result.now low c.index-in-Some.ensures)
     )

@@ -1,4 +1,4 @@
-use Rattle.std.proofs.Common.{◌≡◌, ◌<◌, ◌<ℤ◌, ◌∙◌, sym, ap, subst, arith, map, unsigned_abs, List, length, vec_len, pos}
+use Rattle.std.proofs.Common.{◌<◌, ◌<ℤ◌, ◌∙◌, sym, ap, subst, arith, map, unsigned_abs, List, length, vec_len, pos}
 use Rattle.std.proofs.lemmas.List.{length-map}
 use Rattle.exact_num.specs.Fraction.{Fraction}
 use Rattle.exact_num.specs.Fits.{div_of, written_back}

@@ -1,4 +1,4 @@
-use Rattle.std.proofs.Common.{◌≡◌, ◌≤◌, ◌∙◌, sym, ap, arith, map, take, length, List}
+use Rattle.std.proofs.Common.{◌≤◌, ◌∙◌, sym, ap, arith, map, take, length, List}
 use Rattle.std.proofs.lemmas.List.{take-map, length-map, length-take}
 use Rattle.table_run.specs.Choice.{entering, first_below}
 use Rattle.simplex.proofs.TableSteps.{entering_inside}

@@ -1,6 +1,5 @@
 use Rattle.std.proofs.Common.{◌+◌}
 use Rattle.table_run.specs.Table.{first_table}
-use Rattle.simplex.specs.Programs.{as_program}
 use Rattle.simplex.proofs.TableSteps.{table_of}
 use Rattle.simplex.proofs.table.Table.new.Goals as goal
 

@@ -1,8 +1,7 @@
-use Rattle.std.proofs.Common.{◌≡◌, ◌∙◌, sym, ap, map, unsigned_abs, List}
+use Rattle.std.proofs.Common.{◌∙◌, sym, ap, map, unsigned_abs, List}
 use Rattle.std.proofs.lemmas.Result.{err_from_is_err_and}
-use Rattle.exact_num.specs.Fraction.{Fraction}
 use Rattle.exact_num.specs.Fits.{written_back}
-use Rattle.table_run.specs.Table.{Table, Row}
+use Rattle.table_run.specs.Table.{Table}
 use Rattle.table_run.specs.Pivot.{rows_after, cleared}
 use Rattle.simplex.specs.Rows.{as_rows}
 use Rattle.simplex.specs.Tables.{as_table}
@@ -32,8 +31,8 @@ returns-clause-table g c =
     let rows = ap (rows_after limit c.args.e c.args.r (map value c.divide_row.new.self.pivot.items) 0) (sym same) ∙ sym c.clear_rows.ensures.rows ∙ ap (λ r. written_back r (as_rows value c.clear_rows.new.self.rows.items)) c.in_ok-clear_rows.was in
     let kept = ap (λ (t : Table). t.objective) c.divide_row.ensures.table in
     let objective = c.clear_objective.ensures.objective
-        ∙ ap (λ (xs : List g.row.N.Denot). cleared limit c.args.e (map value xs) (map value c.clear_rows.new.self.objective.items)) c.clear_rows.ensures.pivot
-        ∙ ap (λ (xs : List g.row.N.Denot). cleared limit c.args.e (map value c.divide_row.new.self.pivot.items) (map value xs)) c.clear_rows.ensures.objective
-        ∙ ap (cleared limit c.args.e (map value c.divide_row.new.self.pivot.items)) kept in
+    ∙ ap (λ (xs : List g.row.N.Denot). cleared limit c.args.e (map value xs) (map value c.clear_rows.new.self.objective.items)) c.clear_rows.ensures.pivot
+    ∙ ap (λ (xs : List g.row.N.Denot). cleared limit c.args.e (map value c.divide_row.new.self.pivot.items) (map value xs)) c.clear_rows.ensures.objective
+    ∙ ap (cleared limit c.args.e (map value c.divide_row.new.self.pivot.items)) kept in
     let columns = c.clear_objective.ensures.columns ∙ c.clear_rows.ensures.columns ∙ ap (λ (t : Table). t.columns) c.divide_row.ensures.table in
     pivot_ends limit c.args.e c.args.r (as_table value c.args.self.now) _ _ _ _ _ c.clear_objective.result pivot rows columns (ap (as_rows value) c.clear_objective.ensures.rows) objective

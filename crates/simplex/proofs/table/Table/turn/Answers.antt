@@ -1,9 +1,7 @@
-use Rattle.std.proofs.Common.{◌≡◌, ◌∙◌, sym, ap, true}
-use Rattle.std.specs.Prelude.{Ok, Err, Result}
+use Rattle.std.proofs.Common.{◌∙◌, sym, ap}
+use Rattle.std.specs.Prelude.{Ok}
 use Rattle.std.proofs.lemmas.Result.{err_from_is_err_and}
-use Rattle.exact_num.specs.declared.misfit.Wide.{Wide}
 use Rattle.exact_num.specs.Fits.{written_back}
-use Rattle.table_run.specs.Table.{Table}
 use Rattle.table_run.specs.Run.{moved_or_stopped}
 use Rattle.simplex.specs.Tables.{as_table}
 use Rattle.simplex.proofs.TableSteps.{turn_none, turn_stops, turn_pivots}

@@ -1,4 +1,4 @@
-use Rattle.std.proofs.Common.{◌∙◌, sym, ap, map, take, drop, length, List}
+use Rattle.std.proofs.Common.{◌∙◌, sym, ap, map, take, drop, length}
 use Rattle.std.proofs.lemmas.List.{take-map, drop-map}
 use Rattle.simplex.proofs.table.Table.write_dual.Goals as goal
 
