@@ -8,3 +8,4 @@ pub mod BinaryGcd
 pub mod Sums
 pub mod Parts
 pub mod Along
+pub mod Dots

@@ -18,3 +18,6 @@ int_div-mul_cancel (negsuc n) g h =
 pub unsigned_abs-int_div : (n : ℤ) (g : ℕ) → unsigned_abs (int_div n (pos g)) ≡ unsigned_abs n / g
 unsigned_abs-int_div (pos n) g = refl
 unsigned_abs-int_div (negsuc n) g = unsigned_abs-neg (pos (suc n / g))
+
+pub int_div-one : (n : ℤ) → int_div n (pos 1) ≡ n
+int_div-one n = omega (arith, ints)

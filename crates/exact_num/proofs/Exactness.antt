@@ -1,8 +1,7 @@
 -- What an operation answers is the exact value, in lowest terms and within the limit.
-use Rattle.std.proofs.Common.{◌≡◌, ◌≢◌, ℕ, suc, ◌*◌, ◌≤◌, [], ◌∷◌, Bool, true, false, ◌&&◌, ℤ, pos, negsuc, neg_ℤ, ◌*ℤ◌, unsigned_abs, arith, refl, ◌∙◌, ap, subst}
-use Rattle.std.specs.Prelude.{Ok, Err, nat_le, if◌then◌else◌}
-use Rattle.std.proofs.lemmas.Bool.{and_parts}
-use Rattle.std.proofs.lemmas.Bool.Decides.{nat_tests}
+use Rattle.std.proofs.Common.{◌≡◌, ◌≢◌, ℕ, suc, ◌*◌, ◌≤◌, [], ◌∷◌, true, ◌&&◌, ℤ, pos, negsuc, neg_ℤ, ◌*ℤ◌, unsigned_abs, arith, refl, ◌∙◌, ap, subst}
+use Rattle.std.specs.Prelude.{nat_le}
+use Rattle.std.proofs.lemmas.Bool.{and_parts, leb-true}
 use Rattle.std.proofs.lemmas.Int.{ints}
 use Rattle.std.proofs.Math.Nat.{div-le_self}
 use Rattle.arithmetic.proofs.Integers.{*ℤ_cancel}
@@ -12,27 +11,12 @@ use Rattle.arithmetic.proofs.Ring.{ring, V, ◌⊗◌}
 use Rattle.exact_num.specs.Fraction.{Fraction, IsSameValue, negated, plain_sum, plain_product}
 use Rattle.exact_num.specs.Fits.{size_fits, sum_left, sum_right, sum_total, sum_common, sum_below, sum_value, sum_fits, add_of, product_above, product_below, product_value, product_fits, mul_of, inverse, signed_by, div_of}
 use Rattle.exact_num.specs.Laws.{IsWithin, IsExactly, IsQuotient, SumsAreExact, DifferencesAreExact, ProductsAreExact, QuotientsAreExact, ZeroAlwaysFits, OneAlwaysFits, IsOrder}
-use Rattle.exact_num.specs.declared.misfit.Wide.{Wide}
 use Rattle.exact_num.proofs.Values.{sum_is, sum_is_lowest, negated_is_lowest}
 use Rattle.exact_num.proofs.ProductValues.{product_is, product_is_lowest, inverse_is_lowest, positive_size}
 use Rattle.exact_num.proofs.Order.{equal_is_same, same_is_equal, cmp_reversed, cmp_less_trans}
 use Rattle.exact_num.proofs.Differences.{cmp_of_difference}
 use Rattle.exact_num.proofs.Units as unit
-
-at_most : (m n : ℕ) → nat_le m n ≡ true → m ≤ n
-at_most m n e = grind (arith, nat_tests)
-
-fits : (m n : ℕ) → m ≤ n → nat_le m n ≡ true
-fits m n h = grind (arith, nat_tests)
-
--- an answer comes from its test, and is its value
-pub record IsAnswer (b : Bool) (a s : Fraction) : Type 0 where
-  pub passed : b ≡ true
-  pub value : a ≡ s
-
-pub answer_is : (b : Bool) (a s : Fraction) (w : Wide) → (if b then Ok a else Err w) ≡ Ok s → IsAnswer b a s
-answer_is true a s w h = record { passed = refl; value = cc }
-answer_is false a s w h = absurd cc
+use Rattle.exact_num.proofs.Answered.{answer_is}
 
 -- ---- sums
 sum_within : (limit : ℕ) (x y : Fraction) → sum_fits limit x y ≡ true → IsWithin limit (sum_value x y)
@@ -40,10 +24,10 @@ unfolding sum_fits sum_value
 sum_within limit x y h =
     let outer = and_parts (size_fits limit (sum_left x y) && size_fits limit (sum_right x y) && size_fits limit (sum_total x y)) (nat_le (sum_below x y) limit) h in
     let inner = and_parts (size_fits limit (sum_left x y) && size_fits limit (sum_right x y)) (size_fits limit (sum_total x y)) outer.0 in
-    let small : unsigned_abs (sum_total x y) ≤ limit = at_most _ _ inner.1 in
+    let small : unsigned_abs (sum_total x y) ≤ limit = leb-true _ _ inner.1 in
     record {
       above = rw (unsigned_abs-int_div (sum_total x y) (sum_common x y)) (omega (arith, small, div-le_self (unsigned_abs (sum_total x y)) (sum_common x y)));
-      below = at_most _ _ outer.1;
+      below = leb-true _ _ outer.1;
     }
 
 pub sums_are_exact : SumsAreExact
@@ -61,7 +45,7 @@ product_within : (limit : ℕ) (x y : Fraction) → product_fits limit x y ≡ t
 unfolding product_fits product_value
 product_within limit x y h =
     let parts = and_parts (size_fits limit (product_above x y)) (nat_le (product_below x y) limit) h in
-    record { above = at_most _ _ parts.0; below = at_most _ _ parts.1 }
+    record { above = leb-true _ _ parts.0; below = leb-true _ _ parts.1 }
 
 pub products_are_exact : ProductsAreExact
 unfolding mul_of

@@ -1,5 +1,6 @@
-mod Rows
+pub mod WorkedOperators
 pub mod DivisorSteps
+pub mod Answered
 pub mod Values
 pub mod ProductValues
 pub mod Order
@@ -7,6 +8,7 @@ pub mod Differences
 pub mod Units
 pub mod Exactness
 pub mod Fractions
+pub mod Ratios
 pub mod Rationals
 pub mod Totals
 pub mod WholeNumbers

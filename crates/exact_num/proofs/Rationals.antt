@@ -1,9 +1,8 @@
 -- The rationals: fractions in lowest terms, so that equal values are equal. They are a field in order.
-use Rattle.std.proofs.Common.{List, get_or, ◌≡◌, ℕ, zero, suc, ◌*◌, ◌/◌, ◌<◌, ℤ, pos, negsuc, ◌+ℤ◌, ◌*ℤ◌, ◌<ℤ◌, ◌≤ℤ◌, neg_ℤ, unsigned_abs, int_div, arith, refl, sym, ◌∙◌, ap, subst, [], ◌∷◌, lit<, ◌≢◌, Bool, true, false}
-use Rattle.std.specs.Prelude.{Ok, Err, if◌then◌else◌}
-use Rattle.std.proofs.Math.Nat.{ℕ_set, mul-pos, div-mul_cancel}
+use Rattle.std.proofs.Common.{List, get_or, ◌≡◌, ℕ, zero, suc, ◌*◌, ◌/◌, ◌<◌, ℤ, pos, negsuc, ◌+ℤ◌, ◌*ℤ◌, ◌<ℤ◌, ◌≤ℤ◌, neg_ℤ, unsigned_abs, int_div, arith, refl, sym, ◌∙◌, ap, subst, [], ◌∷◌, lit<, ◌≢◌}
+use Rattle.std.specs.Prelude.{Ok}
+use Rattle.std.proofs.Math.Nat.{mul-pos, div-mul_cancel}
 use Rattle.std.proofs.Math.Path.{to_path_p}
-use Rattle.std.proofs.Math.Bridge.{le_prop}
 use Rattle.std.proofs.lemmas.Int.{ints}
 use Rattle.arithmetic.specs.Gcd.{gcd}
 use Rattle.arithmetic.proofs.GcdLaws.{gcd_dvd_left, gcd_dvd_right, gcd_pos_right, coprime_of_div, pos_of_quotient}
@@ -12,18 +11,15 @@ use Rattle.arithmetic.proofs.Quotients.{int_div-mul_cancel, unsigned_abs-int_div
 use Rattle.arithmetic.proofs.Products.{products}
 use Rattle.arithmetic.proofs.Ring.{ring, V, K, ◌⊕◌, ◌⊗◌}
 use Rattle.exact_num.specs.Fraction.{Fraction, IsLowest, IsSameValue, AtMost, whole, negated, reduced, plain_sum, plain_product, plain_dot}
-use Rattle.exact_num.specs.declared.misfit.Wide.{Wide}
 use Rattle.exact_num.specs.Fits.{add_of, sub_of, mul_of, div_of, sum_value, sum_fits, product_value, product_fits, inverse, signed_by}
-use Rattle.exact_num.proofs.Values.{whole_is_lowest, negated_is_lowest, sum_is, sum_is_lowest}
+use Rattle.exact_num.proofs.Values.{lowest_prop, whole_is_lowest, negated_is_lowest, sum_is, sum_is_lowest}
 use Rattle.exact_num.proofs.ProductValues.{positive_size, product_is, product_is_lowest, inverse_is_lowest}
 use Rattle.exact_num.proofs.Order.{lowest_is_unique}
+use Rattle.exact_num.proofs.Answered.{answer_is}
 
 pub record Q : Type 0 where
   pub fraction : Fraction
   pub lowest : IsLowest fraction
-
-lowest_prop : (x : Fraction) → IsProp (IsLowest x)
-lowest_prop x p q = λ i. record { positive = le_prop p.positive q.positive i; coprime = ℕ_set _ _ p.coprime q.coprime i }
 
 pub same_fraction : (x y : Q) → x.fraction ≡ y.fraction → x ≡ y
 same_fraction x y e = λ i. record { fraction = e i; lowest = to_path_p (λ i. IsLowest (e i)) {a = x.lowest} {b = y.lowest} (lowest_prop _ _ _) i }
@@ -496,14 +492,10 @@ unfolding 1Q whole_Q
 value_one = refl
 
 -- ---- a step that fits has the exact value
-ok_is : {A : Type 0} (b : Bool) (a s : A) (w : Wide) → (if b then Ok a else Err w) ≡ Ok s → a ≡ s
-ok_is true a s w h = cc
-ok_is false a s w h = cc
-
 pub sum_step : (limit : ℕ) (x y s : Fraction) → IsLowest x → IsLowest y → add_of limit x y ≡ Ok s → IsLowest s × (value s ≡ value x +Q value y)
 unfolding add_of
 sum_step limit x y s p q h =
-    let e : sum_value x y ≡ s = ok_is (sum_fits limit x y) (sum_value x y) s _ h in
+    let e : sum_value x y ≡ s = (answer_is (sum_fits limit x y) (sum_value x y) s _ h).value in
     let low = sum_is_lowest x y p q in
     subst (λ (f : Fraction). IsLowest f × (value f ≡ value x +Q value y)) e
     (low, same_value _ _ low.positive (mul-pos p.positive q.positive) (sum_is x y) ∙ value_sum x y p.positive q.positive)
@@ -516,7 +508,7 @@ difference_step limit x y s p q h =
 pub product_step : (limit : ℕ) (x y s : Fraction) → IsLowest x → IsLowest y → mul_of limit x y ≡ Ok s → IsLowest s × (value s ≡ value x *Q value y)
 unfolding mul_of
 product_step limit x y s p q h =
-    let e : product_value x y ≡ s = ok_is (product_fits limit x y) (product_value x y) s _ h in
+    let e : product_value x y ≡ s = (answer_is (product_fits limit x y) (product_value x y) s _ h).value in
     let low = product_is_lowest x y p q in
     subst (λ (f : Fraction). IsLowest f × (value f ≡ value x *Q value y)) e
     (low, same_value _ _ low.positive (mul-pos p.positive q.positive) (product_is x y) ∙ value_product x y p.positive q.positive)
@@ -524,7 +516,7 @@ product_step limit x y s p q h =
 pub quotient_step : (limit : ℕ) (x y s : Fraction) → IsLowest x → IsLowest y → y.numerator ≢ pos 0 → div_of limit x y ≡ Ok s → IsLowest s × (value s ≡ value x *Q inv_Q (value y))
 unfolding div_of inv_Q
 quotient_step limit x y s p q ne h =
-    let e : product_value x (inverse y) ≡ s = ok_is (product_fits limit x (inverse y)) (product_value x (inverse y)) s _ h in
+    let e : product_value x (inverse y) ≡ s = (answer_is (product_fits limit x (inverse y)) (product_value x (inverse y)) s _ h).value in
     let inv = inverse_is_lowest y q ne in
     let low = product_is_lowest x (inverse y) p inv in
     subst (λ (f : Fraction). IsLowest f × (value f ≡ value x *Q value (inverse (value y).fraction))) e

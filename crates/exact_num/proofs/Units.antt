@@ -2,7 +2,6 @@
 use Rattle.std.proofs.Common.{◌≡◌, ◌≢◌, ℕ, zero, suc, ◌*◌, ◌/◌, ◌<◌, ◌≤◌, Bool, true, false, ◌&&◌, ℤ, pos, negsuc, neg_ℤ, ◌+ℤ◌, ◌*ℤ◌, ◌≤ℤ◌, unsigned_abs, arith, refl, sym, ◌∙◌, ap, subst}
 use Rattle.std.specs.Prelude.{int_div, nat_le, Ok, Err, if◌then◌else◌}
 use Rattle.std.proofs.lemmas.Int.{ints}
-use Rattle.std.proofs.lemmas.Bool.Decides.{nat_tests}
 use Rattle.std.proofs.Math.IntN.{+ℤ_comm, *ℤ_comm}
 use Rattle.std.proofs.Math.Bool.{and_comm}
 use Rattle.std.proofs.Math.Nat.{zero-mul as nat_zero-mul, zero-div as nat_zero-div, div-one as nat_div-one, mul-one, div_self as nat_div_self, mul_comm, mul-pos}
@@ -15,12 +14,8 @@ use Rattle.exact_num.proofs.Values.{sum_is, sum_is_lowest, whole_is_lowest, nega
 use Rattle.exact_num.proofs.ProductValues.{inverse_is_lowest, positive_size, unsigned_abs-signed_by}
 use Rattle.arithmetic.proofs.Integers.{unsigned_abs-neg}
 use Rattle.exact_num.proofs.Order.{lowest_is_unique, same_value_trans}
-
-at_most_fits : (m n : ℕ) → m ≤ n → nat_le m n ≡ true
-at_most_fits m n h = grind (arith, nat_tests)
-
-by_one : (n : ℤ) → int_div n (pos 1) ≡ n
-by_one n = omega (arith, ints)
+use Rattle.std.proofs.lemmas.Bool.{le-leb}
+use Rattle.arithmetic.proofs.Quotients.{int_div-one}
 
 zero_divisor : (x : Fraction) → sum_divisor x (whole (pos 0)) ≡ 1
 unfolding sum_divisor
@@ -57,10 +52,10 @@ add-zero limit x p q =
     let t = zero_total x in
     let k = zero_common x in
     let b = zero_below x in
-    let zero_fits : size_fits limit (pos 0) ≡ true = at_most_fits 0 limit (omega arith) in
-    let above_fits : size_fits limit x.numerator ≡ true = at_most_fits _ limit p in
-    let below_fits : nat_le x.denominator limit ≡ true = at_most_fits _ limit q in
-    rw (l, r, t, k, b, above_fits, zero_fits, below_fits, by_one) refl
+    let zero_fits : size_fits limit (pos 0) ≡ true = le-leb 0 limit (omega arith) in
+    let above_fits : size_fits limit x.numerator ≡ true = le-leb _ limit p in
+    let below_fits : nat_le x.denominator limit ≡ true = le-leb _ limit q in
+    rw (l, r, t, k, b, above_fits, zero_fits, below_fits, int_div-one) refl
 
 times_zero_above : (x : Fraction) → product_above x (whole (pos 0)) ≡ pos 0
 unfolding product_above
@@ -76,8 +71,8 @@ unfolding mul_of product_fits product_value
 mul-zero limit x p h =
     let a = times_zero_above x in
     let b = times_zero_below x p in
-    let zero_fits : size_fits limit (pos 0) ≡ true = at_most_fits 0 limit (omega arith) in
-    let one_fits : nat_le 1 limit ≡ true = at_most_fits 1 limit h in
+    let zero_fits : size_fits limit (pos 0) ≡ true = le-leb 0 limit (omega arith) in
+    let one_fits : nat_le 1 limit ≡ true = le-leb 1 limit h in
     rw (a, b, zero_fits, one_fits) refl
 
 one_gcd : (n : ℕ) → gcd 1 n ≡ 1
@@ -97,8 +92,8 @@ unfolding mul_of product_fits product_value
 mul-one_fits limit x p q =
     let a = times_one_above x in
     let b = times_one_below x in
-    let above_fits : size_fits limit x.numerator ≡ true = at_most_fits _ limit p in
-    let below_fits : nat_le x.denominator limit ≡ true = at_most_fits _ limit q in
+    let above_fits : size_fits limit x.numerator ≡ true = le-leb _ limit p in
+    let below_fits : nat_le x.denominator limit ≡ true = le-leb _ limit q in
     rw (a, b, above_fits, below_fits) refl
 
 -- the value of a sum does not depend on the order of its operands
@@ -248,10 +243,10 @@ sub_self limit x low one p =
     let t = itself_total x low in
     let k = itself_common x low in
     let b = itself_below x low in
-    let above_fits : size_fits limit x.numerator ≡ true = at_most_fits _ limit p in
-    let negated_fits : size_fits limit (neg_ℤ x.numerator) ≡ true = at_most_fits _ limit (rw (unsigned_abs-neg x.numerator) p) in
-    let zero_fits : size_fits limit (pos 0) ≡ true = at_most_fits 0 limit (omega arith) in
-    let below_fits : nat_le 1 limit ≡ true = at_most_fits 1 limit one in
+    let above_fits : size_fits limit x.numerator ≡ true = le-leb _ limit p in
+    let negated_fits : size_fits limit (neg_ℤ x.numerator) ≡ true = le-leb _ limit (rw (unsigned_abs-neg x.numerator) p) in
+    let zero_fits : size_fits limit (pos 0) ≡ true = le-leb 0 limit (omega arith) in
+    let below_fits : nat_le 1 limit ≡ true = le-leb 1 limit one in
     rw (l, r, t, k, b, above_fits, negated_fits, zero_fits, below_fits, zero_quotient x.denominator) refl
 
 -- the two factors of a number over itself
@@ -294,5 +289,5 @@ unfolding div_of product_fits product_value
 div_self limit x low ne one =
     let a = itself_above x low ne in
     let b = itself_product_below x low ne in
-    let fits : nat_le 1 limit ≡ true = at_most_fits 1 limit one in
+    let fits : nat_le 1 limit ≡ true = le-leb 1 limit one in
     rw (a, b, fits) refl

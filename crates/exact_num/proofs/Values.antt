@@ -10,6 +10,12 @@ use Rattle.arithmetic.proofs.Quotients.{int_div-mul_cancel, unsigned_abs-int_div
 use Rattle.arithmetic.proofs.Integers.{*ℤ_distr, *ℤ_assoc, unsigned_abs-neg}
 use Rattle.exact_num.specs.Fraction.{Fraction, IsLowest, IsSameValue, over, negated, plain_sum}
 use Rattle.exact_num.specs.Fits.{sum_divisor, sum_left, sum_right, sum_total, sum_common, sum_below, sum_value}
+use Rattle.std.proofs.Math.Nat.{ℕ_set}
+use Rattle.std.proofs.Math.Bridge.{le_prop}
+
+-- ---- a fraction is in lowest terms in one way
+pub lowest_prop : (x : Fraction) → IsProp (IsLowest x)
+lowest_prop x p q = λ i. record { positive = le_prop p.positive q.positive i; coprime = ℕ_set _ _ p.coprime q.coprime i }
 
 -- ---- whole numbers and negations
 pub whole_is_lowest : (n : ℤ) → IsLowest (over n 1)

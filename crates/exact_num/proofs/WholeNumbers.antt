@@ -1,8 +1,6 @@
 -- Whole numbers as steps with a limit: taken in, added and multiplied.
-use Rattle.std.proofs.Common.{◌≡◌, ℕ, ◌≤◌, true, ℤ, pos, ◌+ℤ◌, ◌*ℤ◌, unsigned_abs, if◌then◌else◌, Ok, Err, arith, refl}
-use Rattle.std.specs.Prelude.{int_div, nat_le}
+use Rattle.std.proofs.Common.{◌≡◌, ℕ, ◌≤◌, ℤ, ◌+ℤ◌, ◌*ℤ◌, unsigned_abs, if◌then◌else◌, Ok, Err, arith, refl}
 use Rattle.std.proofs.lemmas.Int.{ints}
-use Rattle.std.proofs.lemmas.Bool.Decides.{nat_tests}
 use Rattle.std.proofs.Math.Bool.{and-true}
 use Rattle.arithmetic.proofs.Products.{products}
 use Rattle.arithmetic.proofs.GcdLaws.{gcd-one}
@@ -12,25 +10,29 @@ use Rattle.exact_num.specs.Fits.{size_fits, misfit, sum_divisor, sum_left, sum_r
 use Rattle.exact_num.proofs.Values.{whole_is_lowest}
 use Rattle.exact_num.proofs.Order.{lowest_is_unique}
 use Rattle.exact_num.proofs.Exactness.{sums_are_exact, products_are_exact}
-
-within : (m n : ℕ) → m ≤ n → nat_le m n ≡ true
-within m n h = grind (arith, nat_tests)
-
-by_one : (n : ℤ) → int_div n (pos 1) ≡ n
-by_one n = omega (arith, ints)
+use Rattle.std.proofs.lemmas.Bool.{le-leb}
+use Rattle.arithmetic.proofs.Quotients.{int_div-one}
 
 above_is : (a b : ℤ) → product_above (whole a) (whole b) ≡ a *ℤ b
 unfolding product_above
-above_is a b = rw (gcd-one (unsigned_abs a), gcd-one (unsigned_abs b), by_one a, by_one b) refl
+above_is a b = rw (gcd-one (unsigned_abs a), gcd-one (unsigned_abs b), int_div-one a, int_div-one b) refl
 
 below_is : (a b : ℤ) → product_below (whole a) (whole b) ≡ 1
 unfolding product_below
 below_is a b = rw (gcd-one (unsigned_abs a), gcd-one (unsigned_abs b)) refl
 
+pub product_fits-wholes : (limit : ℕ) (a b : ℤ) → 1 ≤ limit → product_fits limit (whole a) (whole b) ≡ size_fits limit (a *ℤ b)
+unfolding product_fits
+product_fits-wholes limit a b one = rw (above_is a b, below_is a b, le-leb 1 limit one, and-true (size_fits limit (a *ℤ b))) refl
+
+pub product_value-wholes : (a b : ℤ) → product_value (whole a) (whole b) ≡ whole (a *ℤ b)
+unfolding product_value
+product_value-wholes a b = rw (above_is a b, below_is a b) refl
+
 pub mul-wholes : (limit : ℕ) (a b : ℤ) → 1 ≤ limit
     → mul_of limit (whole a) (whole b) ≡ (if size_fits limit (a *ℤ b) then Ok (whole (a *ℤ b)) else Err (misfit Mul (whole a) (whole b)))
-unfolding mul_of product_fits product_value
-mul-wholes limit a b one = rw (above_is a b, below_is a b, within 1 limit one, and-true (size_fits limit (a *ℤ b))) refl
+unfolding mul_of
+mul-wholes limit a b one = rw (product_fits-wholes limit a b one, product_value-wholes a b) refl
 
 sum_left_is : (a b : ℤ) → sum_left (whole a) (whole b) ≡ a
 unfolding sum_left sum_divisor
@@ -52,27 +54,33 @@ sum_below_is : (a b : ℤ) → sum_below (whole a) (whole b) ≡ 1
 unfolding sum_below sum_divisor
 sum_below_is a b = rw (gcd-one 1, sum_common_is a b) refl
 
-pub add-wholes : (limit : ℕ) (a b : ℤ) → 1 ≤ limit → unsigned_abs a ≤ limit → unsigned_abs b ≤ limit
-    → add_of limit (whole a) (whole b) ≡ (if size_fits limit (a +ℤ b) then Ok (whole (a +ℤ b)) else Err (misfit Add (whole a) (whole b)))
-unfolding add_of sum_fits sum_value
-add-wholes limit a b one left right =
+pub sum_fits-wholes : (limit : ℕ) (a b : ℤ) → 1 ≤ limit → unsigned_abs a ≤ limit → unsigned_abs b ≤ limit → sum_fits limit (whole a) (whole b) ≡ size_fits limit (a +ℤ b)
+unfolding sum_fits
+sum_fits-wholes limit a b one left right =
     rw (
       sum_left_is a b,
       sum_right_is a b,
       sum_total_is a b,
-      sum_common_is a b,
       sum_below_is a b,
-      within (unsigned_abs a) limit left,
-      within (unsigned_abs b) limit right,
-      within 1 limit one,
+      le-leb (unsigned_abs a) limit left,
+      le-leb (unsigned_abs b) limit right,
+      le-leb 1 limit one,
       and-true (size_fits limit (a +ℤ b)),
-      by_one (a +ℤ b),
     ) refl
+
+pub sum_value-wholes : (a b : ℤ) → sum_value (whole a) (whole b) ≡ whole (a +ℤ b)
+unfolding sum_value
+sum_value-wholes a b = rw (sum_total_is a b, sum_common_is a b, sum_below_is a b, int_div-one (a +ℤ b)) refl
+
+pub add-wholes : (limit : ℕ) (a b : ℤ) → 1 ≤ limit → unsigned_abs a ≤ limit → unsigned_abs b ≤ limit
+    → add_of limit (whole a) (whole b) ≡ (if size_fits limit (a +ℤ b) then Ok (whole (a +ℤ b)) else Err (misfit Add (whole a) (whole b)))
+unfolding add_of
+add-wholes limit a b one left right = rw (sum_fits-wholes limit a b one left right, sum_value-wholes a b) refl
 
 -- a whole number within the limit is taken in
 pub whole_fits : (limit : ℕ) (v : ℤ) → unsigned_abs v ≤ limit → whole_of limit v ≡ Ok (whole v)
 unfolding whole_of
-whole_fits limit v fits = rw (within (unsigned_abs v) limit fits) refl
+whole_fits limit v fits = rw (le-leb (unsigned_abs v) limit fits) refl
 
 pub mul_whole_is : (limit : ℕ) (a b : ℤ) (p : Fraction) → mul_of limit (whole a) (whole b) ≡ Ok p → p ≡ whole (a *ℤ b)
 mul_whole_is limit a b p h =

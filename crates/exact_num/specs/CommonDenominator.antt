@@ -32,6 +32,16 @@ signed_amounts_of fs = signed_amounts_over (common_denominator fs) fs
 abbrev pub IsRatio : Fraction → ℤ → ℕ → Type 0
 IsRatio f x F = f.numerator *ℤ pos F ≡ x *ℤ pos f.denominator
 
+-- f has a value, and is x / F; so a list of fractions, item by item
+abbrev pub IsPart : ℕ → Fraction → ℤ → Type 0
+IsPart F f x = IsDefined f × IsRatio f x F
+
+abbrev pub AreParts : ℕ → List Fraction → List ℤ → Type 0
+AreParts F [] [] = Unit {0}
+AreParts F [] (x ∷ xs) = ⊥
+AreParts F (f ∷ fs) [] = ⊥
+AreParts F (f ∷ fs) (x ∷ xs) = IsPart F f x × AreParts F fs xs
+
 -- each fraction of a list is its amount over the common denominator
 abbrev pub EachIsItsAmount : Type 0
 EachIsItsAmount = (fs : List Fraction) → All IsDefined fs → (1 ≤ common_denominator fs) × All (λ f. IsRatio f (amount_over (common_denominator fs) f) (common_denominator fs)) fs

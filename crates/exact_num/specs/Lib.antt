@@ -2,3 +2,4 @@ pub mod Fraction
 pub mod CommonDenominator
 pub mod Fits
 pub mod Laws
+pub mod Worked

@@ -1,7 +1,9 @@
 //! Laws of the definitions, each of them the contract of a function that does nothing. A type of
 //! exact numbers has them by its clauses, so generic code may use them of any.
 ghost use Rattle.exact_num.specs.CommonDenominator.{EachIsItsAmount};
-ghost use Rattle.exact_num.specs.Laws.{SumsAreExact, DifferencesAreExact, ProductsAreExact, QuotientsAreExact, ZeroAlwaysFits, OneAlwaysFits, IsOrder};
+ghost use Rattle.exact_num.specs.Laws.{SumsAreExact, DifferencesAreExact, ProductsAreExact};
+ghost use Rattle.exact_num.specs.Laws.{QuotientsAreExact, ZeroAlwaysFits, OneAlwaysFits, IsOrder};
+ghost use Rattle.exact_num.specs.Worked.{OperatorsAtTheLimit};
 
 /// A sum that fits is the exact sum, in lowest terms and within the limit.
 pub fn sums_are_exact()
@@ -38,6 +40,11 @@ pub fn one_always_fits()
 /// of its operands.
 pub fn order_is_of_values()
     ensures { IsOrder }
+{}
+
+/// Sums, products, a quotient and a whole number that just fit 128 bits, or just do not.
+pub fn operators_at_the_limit()
+    ensures { OperatorsAtTheLimit }
 {}
 
 /// Fractions over the product of their denominators are exact.

@@ -38,20 +38,24 @@ pub trait Exact: Copy + Ord {
 
     /// The sum, or `Wide`.
     fn add(self, other: Self) -> Result<Self, Wide>
-        ensures { meaning fraction result ≡ add_of (unsigned_abs LIMIT) (fraction self) (fraction other) };
+        ensures { meaning fraction result
+            ≡ add_of (unsigned_abs LIMIT) (fraction self) (fraction other) };
 
     /// The difference: the sum with the negated `other`, which a `Wide` names as that sum.
     fn sub(self, other: Self) -> Result<Self, Wide>
-        ensures { meaning fraction result ≡ sub_of (unsigned_abs LIMIT) (fraction self) (fraction other) };
+        ensures { meaning fraction result
+            ≡ sub_of (unsigned_abs LIMIT) (fraction self) (fraction other) };
 
     /// The product, or `Wide`.
     fn mul(self, other: Self) -> Result<Self, Wide>
-        ensures { meaning fraction result ≡ mul_of (unsigned_abs LIMIT) (fraction self) (fraction other) };
+        ensures { meaning fraction result
+            ≡ mul_of (unsigned_abs LIMIT) (fraction self) (fraction other) };
 
     /// The quotient by an `other` that is not 0, or `Wide`.
     fn div(self, other: Self) -> Result<Self, Wide>
         requires { (fraction other).numerator ≢ pos 0 }
-        ensures { meaning fraction result ≡ div_of (unsigned_abs LIMIT) (fraction self) (fraction other) };
+        ensures { meaning fraction result
+            ≡ div_of (unsigned_abs LIMIT) (fraction self) (fraction other) };
 
     /// The number with its sign turned.
     fn neg(self) -> Self
@@ -61,6 +65,7 @@ pub trait Exact: Copy + Ord {
     fn sign(self) -> i8
         ensures { result ≡ int_signum (fraction self).numerator };
 
+    // ---- the laws, on which generic code rests
     ghost limit_positive: { pos 1 ≤ℤ LIMIT };
 
     ghost lowest: { (x : Self) → IsLowest (fraction x) };
@@ -69,5 +74,9 @@ pub trait Exact: Copy + Ord {
 
     ghost denominator_fits: { (x : Self) → (fraction x).denominator ≤ unsigned_abs LIMIT };
 
+    // two values of one fraction are one value
+    ghost determined: { (x y : Self) → fraction x ≡ fraction y → x ≡ y };
+
+    // the order is that of the fractions
     ghost by_value: { (x y : Self) → Self.cmp x y ≡ fraction_cmp (fraction x) (fraction y) };
 }

@@ -1,7 +1,10 @@
 -- What a value behind a test says of the test, and an answer of both.
-use Rattle.std.proofs.Common.{◌≡◌, Bool, true, false, refl, ap, ℕ, ◌≤◌, arith}
-use Rattle.std.specs.Prelude.{Option, Some, None, Ok, Err, nat_le, if◌then◌else◌}
-use Rattle.std.proofs.lemmas.Bool.Decides.{nat_tests}
+use Rattle.std.proofs.Common.{◌≡◌, Bool, true, false, refl, sym, ap, ◌∙◌, ℕ, ◌≤◌, ℤ, unsigned_abs}
+use Rattle.std.proofs.lemmas.Bool.{leb-true}
+use Rattle.exact_num.specs.Fraction.{Fraction, over}
+use Rattle.exact_num.specs.Fits.{size_fits}
+use Rattle.frac.specs.Range.{within}
+use Rattle.std.specs.Prelude.{Option, Some, None, Ok, Err, if◌then◌else◌}
 use Rattle.exact_num.specs.declared.misfit.Wide.{Wide}
 
 pub chosen_none : {A : Type 0} (b : Bool) (v : A) (r : Option A) → r ≡ (if b then Some v else None) → r ≡ None → b ≡ false
@@ -12,9 +15,6 @@ pub chosen_some : {A : Type 0} (b : Bool) (v w : A) (r : Option A) → r ≡ (if
 chosen_some true v w r e n = (refl, cc)
 chosen_some false v w r e n = cc
 
-pub leb_at_most : (m n : ℕ) → nat_le m n ≡ true → m ≤ n
-leb_at_most m n e = grind (arith, nat_tests)
-
 -- an answer with an error where the test fails
 pub some_answers : {A : Type 0} (b : Bool) (w v : A) (m : Wide) → Some w ≡ (if b then Some v else None) → Ok w ≡ (if b then Ok v else Err m)
 some_answers true w v m h = cc
@@ -23,3 +23,15 @@ some_answers false w v m h = cc
 pub none_answers : {A : Type 0} (b : Bool) (v : A) (k m : Wide) → k ≡ m → None ≡ (if b then Some v else None) → Err k ≡ (if b then Ok v else Err m)
 none_answers true v k m e h = cc
 none_answers false v k m e h = ap Err e
+
+-- ---- a whole number within the limit, or none
+pub whole_stops : (limit : ℕ) (z : ℤ) (r : Option ℤ) (f : Option Fraction) → f ≡ (if size_fits limit z then Some (over z 1) else None) → r ≡ within limit z → r ≡ None → None ≡ f
+whole_stops limit z r f e h n =
+    let off : size_fits limit z ≡ false = chosen_none _ _ r h n in
+    sym (e ∙ rw off refl)
+
+pub whole_is : (limit : ℕ) (z w : ℤ) (r : Option ℤ) (f : Option Fraction) → f ≡ (if size_fits limit z then Some (over z 1) else None) → r ≡ within limit z → r ≡ Some w → (Some (over w 1) ≡ f) × (unsigned_abs w ≤ limit)
+whole_is limit z w r f e h s =
+    let c = chosen_some _ _ w r h s in
+    let on : size_fits limit z ≡ true = c.0 in
+    (sym (e ∙ rw (on, sym c.1) refl), rw c.1 (leb-true _ _ on))

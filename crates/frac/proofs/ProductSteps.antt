@@ -1,11 +1,13 @@
 -- The steps of a product.
 use Rattle.std.proofs.Common.{◌≡◌, ℕ, ◌*◌, ◌/◌, ◌≤◌, true, false, ℤ, pos, ◌*ℤ◌, refl, ap, ◌∙◌}
-use Rattle.std.specs.Prelude.{Option, Some, None, unsigned_abs, nat_le, int_div}
+use Rattle.std.specs.Prelude.{Option, Some, None, unsigned_abs, nat_le, int_div, if◌then◌else◌}
 use Rattle.arithmetic.specs.Gcd.{gcd}
 use Rattle.exact_num.specs.Fraction.{Fraction, over}
 use Rattle.exact_num.specs.Fits.{size_fits, product_above, product_below, product_fits, product_value}
 use Rattle.frac.specs.Range.{within, within_natural, product_within}
-use Rattle.frac.proofs.Choices.{chosen_none, chosen_some, leb_at_most}
+use Rattle.frac.proofs.Choices.{chosen_none, chosen_some}
+use Rattle.std.proofs.lemmas.Bool.{leb-true}
+use Rattle.exact_num.proofs.WholeNumbers.{product_fits-wholes, product_value-wholes}
 
 -- the factors without their common divisors, multiplied
 pub above_is : (x y : Fraction) (g h : ℕ) (a c : ℤ) → g ≡ gcd (unsigned_abs x.numerator) y.denominator → h ≡ gcd (unsigned_abs y.numerator) x.denominator
@@ -54,11 +56,16 @@ product_ends limit x y above w below b e s f n =
     record {
       fits = rw (first, second) refl;
       value = ap (λ (z : ℤ). over z b) one.1 ∙ ap (λ (i : ℕ). over (product_above x y) i) two.1;
-      above = rw one.1 (leb_at_most _ _ one.0);
-      below = rw two.1 (leb_at_most _ _ two.0);
+      above = rw one.1 (leb-true _ _ one.0);
+      below = rw two.1 (leb-true _ _ two.0);
     }
 
 pub product_answers : (limit : ℕ) (x y : Fraction) (w : ℤ) (b : ℕ) → ProductEnds limit x y w b → Some (over w b) ≡ product_within limit x y
 product_answers limit x y w b h =
     let fits : product_fits limit x y ≡ true = h.fits in
     rw fits (ap Some h.value)
+
+-- ---- the product of whole numbers
+pub wholes_product : (limit : ℕ) (a b : ℤ) (d e : ℕ) → d ≡ 1 → e ≡ 1 → 1 ≤ limit
+    → product_within limit (over a d) (over b e) ≡ (if size_fits limit (a *ℤ b) then Some (over (a *ℤ b) 1) else None)
+wholes_product limit a b d e p q one = rw (p, q, product_fits-wholes limit a b one, product_value-wholes a b) refl

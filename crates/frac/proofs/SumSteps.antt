@@ -1,6 +1,6 @@
 -- The steps of a sum.
 use Rattle.std.proofs.Common.{◌≡◌, ℕ, ◌*◌, ◌/◌, ◌≤◌, true, false, ◌&&◌, ℤ, pos, ◌*ℤ◌, ◌+ℤ◌, refl, ap, ◌∙◌}
-use Rattle.std.specs.Prelude.{Option, Some, None, unsigned_abs, nat_le, int_div}
+use Rattle.std.specs.Prelude.{Option, Some, None, unsigned_abs, nat_le, int_div, if◌then◌else◌}
 use Rattle.std.proofs.lemmas.Bool.{and_parts}
 use Rattle.std.proofs.Math.Nat.{le_trans, div-le_self}
 use Rattle.arithmetic.specs.Gcd.{gcd}
@@ -8,7 +8,9 @@ use Rattle.arithmetic.proofs.Quotients.{unsigned_abs-int_div}
 use Rattle.exact_num.specs.Fraction.{Fraction, over}
 use Rattle.exact_num.specs.Fits.{size_fits, sum_divisor, sum_left, sum_right, sum_total, sum_common, sum_below, sum_fits, sum_value}
 use Rattle.frac.specs.Range.{within, within_natural, total_within, sum_within}
-use Rattle.frac.proofs.Choices.{chosen_none, chosen_some, leb_at_most}
+use Rattle.frac.proofs.Choices.{chosen_none, chosen_some}
+use Rattle.std.proofs.lemmas.Bool.{leb-true}
+use Rattle.exact_num.proofs.WholeNumbers.{sum_fits-wholes, sum_value-wholes}
 
 -- ---- the total: what the code's two numerators are
 pub record IsParts (limit : ℕ) (x y : Fraction) (left right : Option ℤ) : Type 0 where
@@ -94,17 +96,22 @@ sum_ends limit x y t n shared below b p e en =
     let f = chosen_some _ _ b below p.is_below e in
     let second : nat_le (sum_below x y) limit ≡ true = f.0 in
     let front : (size_fits limit (sum_left x y) && size_fits limit (sum_right x y) && size_fits limit (sum_total x y)) ≡ true = p.front in
-    let size : unsigned_abs t ≤ limit = rw p.value (leb_at_most _ _ (and_parts (size_fits limit (sum_left x y) && size_fits limit (sum_right x y)) _ p.front).1) in
+    let size : unsigned_abs t ≤ limit = rw p.value (leb-true _ _ (and_parts (size_fits limit (sum_left x y) && size_fits limit (sum_right x y)) _ p.front).1) in
     record {
       fits = rw (front, second) refl;
       value =
           ap (λ (z : ℤ). over z b) (en ∙ ap (λ (z : ℤ). int_div z (pos shared)) p.value ∙ ap (λ (m : ℕ). int_div (sum_total x y) (pos m)) p.is_shared)
           ∙ ap (λ (m : ℕ). over (int_div (sum_total x y) (pos (sum_common x y))) m) f.1;
       above = rw (en, unsigned_abs-int_div t shared) (le_trans (div-le_self (unsigned_abs t) shared) size);
-      below = rw f.1 (leb_at_most _ _ f.0);
+      below = rw f.1 (leb-true _ _ f.0);
     }
 
 pub sum_answers : (limit : ℕ) (x y : Fraction) (n : ℤ) (b : ℕ) → SumEnds limit x y n b → Some (over n b) ≡ sum_within limit x y
 sum_answers limit x y n b h =
     let fits : sum_fits limit x y ≡ true = h.fits in
     rw fits (ap Some h.value)
+
+-- ---- the sum of whole numbers
+pub wholes_sum : (limit : ℕ) (a b : ℤ) (d e : ℕ) → d ≡ 1 → e ≡ 1 → 1 ≤ limit → unsigned_abs a ≤ limit → unsigned_abs b ≤ limit
+    → sum_within limit (over a d) (over b e) ≡ (if size_fits limit (a +ℤ b) then Some (over (a +ℤ b) 1) else None)
+wholes_sum limit a b d e p q one left right = rw (p, q, sum_fits-wholes limit a b one left right, sum_value-wholes a b) refl

@@ -1,17 +1,10 @@
 -- A whole number within the limit is taken in.
-use Rattle.std.proofs.Common.{◌≡◌, ℕ, ◌≤◌, true, ℤ, unsigned_abs, Result, Ok, Err, refl, sym, ap, ◌∙◌}
-use Rattle.std.specs.Prelude.{nat_le, IsOk}
-use Rattle.std.proofs.Common.{arith}
-use Rattle.std.proofs.lemmas.Bool.Decides.{nat_tests}
+use Rattle.std.proofs.Common.{◌≡◌, ℕ, ◌≤◌, ℤ, unsigned_abs, Result, Ok, Err, refl, sym, ap, ◌∙◌}
+use Rattle.std.specs.Prelude.{IsOk}
 use Rattle.exact_num.specs.declared.misfit.Wide.{Wide}
 use Rattle.exact_num.specs.Fraction.{Fraction, whole}
 use Rattle.exact_num.specs.Fits.{whole_of, meaning}
-
-whole_fits : (limit : ℕ) (v : ℤ) → unsigned_abs v ≤ limit → whole_of limit v ≡ Ok (whole v)
-unfolding whole_of
-whole_fits limit v fits =
-    let test : nat_le (unsigned_abs v) limit ≡ true = grind (arith, nat_tests) in
-    rw test refl
+use Rattle.exact_num.proofs.WholeNumbers.{whole_fits}
 
 pub taken_is_ok : {T : Type 0} (f : T → Fraction) (limit : ℕ) (v : ℤ) (r : Result T Wide) → unsigned_abs v ≤ limit → meaning f r ≡ whole_of limit v → IsOk r
 taken_is_ok f limit v r fits m = by_case r (m ∙ whole_fits limit v fits)

@@ -2,9 +2,9 @@
 ghost use Rattle.std.specs.Prelude.{◌≡◌, ◌≤◌, ◌<◌, ◌^◌, ◌-◌, pos, unsigned_abs, refl};
 ghost use Rattle.std.specs.Ordering.{is_eq, as_partial_cmp};
 ghost use Rattle.std.proofs.Common.{lit≤};
-ghost use Rattle.exact_num.specs.Fraction.{over, IsLowest, fraction_cmp};
-ghost use Rattle.exact_num.specs.Fits.{misfit as misfit_of};
-ghost use Rattle.exact_num.proofs.Order.{values_in_order, values_equal, values_partly_equal, values_partly_ordered};
+ghost use Rattle.exact_num.specs.Fraction.{over, IsLowest};
+ghost use Rattle.exact_num.proofs.Order.{values_in_order, values_equal};
+ghost use Rattle.exact_num.proofs.Order.{values_partly_equal, values_partly_ordered};
 ghost use Rattle.arithmetic.proofs.Integers.{le_pred, le_pos};
 ghost use Rattle.frac.specs.Range.{limit};
 
@@ -32,9 +32,11 @@ pub struct Frac128 {
 }
 
 impl PartialEq for Frac128 {
-    ghost eq = { λ x y. is_eq (fraction_cmp (over x.numerator x.denominator) (over y.numerator y.denominator)) };
+    ghost use Rattle.frac.specs.Value.{fraction_of, order_of};
 
-    ghost laws = { values_partly_equal (λ x. over x.numerator x.denominator) (λ x. x.lowest) };
+    ghost eq = { λ x y. is_eq (order_of x y) };
+
+    ghost laws = { values_partly_equal fraction_of (λ x. x.lowest) };
 
     fn eq(&self, other: &Frac128) -> bool {
         self.numerator == other.numerator && self.denominator == other.denominator
@@ -42,13 +44,17 @@ impl PartialEq for Frac128 {
 }
 
 impl Eq for Frac128 {
-    ghost laws = { values_equal (λ x. over x.numerator x.denominator) (λ x. x.lowest) };
+    ghost use Rattle.frac.specs.Value.{fraction_of};
+
+    ghost laws = { values_equal fraction_of (λ x. x.lowest) };
 }
 
 impl Ord for Frac128 {
-    ghost cmp = { λ x y. fraction_cmp (over x.numerator x.denominator) (over y.numerator y.denominator) };
+    ghost use Rattle.frac.specs.Value.{fraction_of, order_of};
 
-    ghost total = { values_in_order (λ x. over x.numerator x.denominator) (λ x. x.lowest) };
+    ghost cmp = { order_of };
+
+    ghost total = { values_in_order fraction_of (λ x. x.lowest) };
 
     ghost matches_partial_cmp = { λ x y. refl };
 
@@ -60,17 +66,38 @@ impl Ord for Frac128 {
 }
 
 impl PartialOrd for Frac128 {
-    ghost partial_cmp = { as_partial_cmp (λ x y. fraction_cmp (over x.numerator x.denominator) (over y.numerator y.denominator)) };
+    ghost use Rattle.frac.specs.Value.{fraction_of, order_of};
 
-    ghost laws = { values_partly_ordered (λ x. over x.numerator x.denominator) (λ x. x.lowest) };
+    ghost partial_cmp = { as_partial_cmp order_of };
+
+    ghost laws = { values_partly_ordered fraction_of (λ x. x.lowest) };
 
     fn partial_cmp(&self, other: &Frac128) -> Option<Ordering> {
         Some(self.cmp(other))
     }
 }
 
+impl Frac128 {
+    ghost use Rattle.exact_num.specs.Fits.{misfit as misfit_of};
+    ghost use Rattle.frac.specs.Value.{fraction_of};
+
+    /// The operation that does not fit, with its operands.
+    #[cold]
+    fn misfit(self, operator: Operator, other: Frac128) -> Wide
+        ensures { result ≡ misfit_of operator (fraction_of self) (fraction_of other) }
+    {
+        Wide {
+            operator,
+            left: self.parts(),
+            right: other.parts(),
+        }
+    }
+}
+
 impl Exact for Frac128 {
-    ghost fraction = { λ x. over x.numerator x.denominator };
+    ghost use Rattle.frac.specs.Value.{fraction_of, same_value};
+
+    ghost fraction = { fraction_of };
 
     ghost LIMIT = { pos limit };
 
@@ -111,7 +138,7 @@ impl Exact for Frac128 {
     fn add(self, other: Self) -> Result<Self, Wide> {
         match sum(self, other) {
             Some(value) => Ok(value),
-            None => Err(misfit(Operator::Add, self, other)),
+            None => Err(self.misfit(Operator::Add, other)),
         }
     }
 
@@ -122,14 +149,14 @@ impl Exact for Frac128 {
     fn mul(self, other: Self) -> Result<Self, Wide> {
         match product(self, other) {
             Some(value) => Ok(value),
-            None => Err(misfit(Operator::Mul, self, other)),
+            None => Err(self.misfit(Operator::Mul, other)),
         }
     }
 
     fn div(self, other: Self) -> Result<Self, Wide> {
         match product(self, inverted(other)) {
             Some(value) => Ok(value),
-            None => Err(misfit(Operator::Div, self, other)),
+            None => Err(self.misfit(Operator::Div, other)),
         }
     }
 
@@ -152,17 +179,7 @@ impl Exact for Frac128 {
 
     ghost denominator_fits = { λ x. le_pred _ _ x.below_fits };
 
-    ghost by_value = { λ x y. refl };
-}
+    ghost determined = { same_value };
 
-/// The operation that does not fit, with its operands.
-#[cold]
-fn misfit(operator: Operator, left: Frac128, right: Frac128) -> Wide
-    ensures { result ≡ misfit_of operator (over left.numerator left.denominator) (over right.numerator right.denominator) }
-{
-    Wide {
-        operator,
-        left: left.parts(),
-        right: right.parts(),
-    }
+    ghost by_value = { λ x y. refl };
 }

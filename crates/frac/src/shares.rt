@@ -82,7 +82,8 @@ fn sum(x: Division, y: Division, d: u128) -> Division
     requires left { x.rest < d }
     requires right { y.rest < d }
     requires sum_fits { x.quotient + y.quotient < 2 ^ 127 }
-    ensures value { result.quotient * d + result.rest ≡ (x.quotient * d + x.rest) + (y.quotient * d + y.rest) }
+    ensures value { result.quotient * d + result.rest
+        ≡ (x.quotient * d + x.rest) + (y.quotient * d + y.rest) }
     ensures rest { result.rest < d }
 {
     let rest = x.rest + y.rest;

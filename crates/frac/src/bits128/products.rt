@@ -17,9 +17,12 @@ struct Factors {
     denominators: (u128, u128),
 }
 
+/// The two fractions without these divisors: their products are those of a product in lowest terms.
 fn crossed(x: Frac128, y: Frac128) -> Factors
-    ensures above { result.numerators.0 *ℤ result.numerators.1 ≡ product_above (fraction_of x) (fraction_of y) }
-    ensures below { result.denominators.0 * result.denominators.1 ≡ product_below (fraction_of x) (fraction_of y) }
+    ensures above { result.numerators.0 *ℤ result.numerators.1
+        ≡ product_above (fraction_of x) (fraction_of y) }
+    ensures below { result.denominators.0 * result.denominators.1
+        ≡ product_below (fraction_of x) (fraction_of y) }
 {
     let g = common(x.numerator, y.denominator);
     let h = common(y.numerator, x.denominator);
@@ -32,10 +35,26 @@ fn crossed(x: Frac128, y: Frac128) -> Factors
     }
 }
 
+/// The product of two whole numbers.
+fn product_of_wholes(x: Frac128, y: Frac128) -> Option<Frac128>
+    requires left { x.denominator ≡ 1 }
+    requires right { y.denominator ≡ 1 }
+    ensures { option_map fraction_of result ≡ product_within limit (fraction_of x) (fraction_of y) }
+{
+    let above = whole_product(x.numerator, y.numerator)?;
+    Some(Frac128 {
+        numerator: above,
+        denominator: 1,
+    })
+}
+
 /// The product in lowest terms, where each of its quantities is in range.
 pub fn product(x: Frac128, y: Frac128) -> Option<Frac128>
     ensures { option_map fraction_of result ≡ product_within limit (fraction_of x) (fraction_of y) }
 {
+    if x.denominator == 1 && y.denominator == 1 {
+        return product_of_wholes(x, y);
+    }
     let factors = crossed(x, y);
     let above = whole_product(factors.numerators.0, factors.numerators.1)?;
     let below = natural_product(factors.denominators.0, factors.denominators.1)?;

@@ -30,10 +30,26 @@ fn total(x: Frac128, y: Frac128, g: u128) -> Option<i128>
     whole_sum(left, right)
 }
 
+/// The sum of two whole numbers.
+fn sum_of_wholes(x: Frac128, y: Frac128) -> Option<Frac128>
+    requires left { x.denominator ≡ 1 }
+    requires right { y.denominator ≡ 1 }
+    ensures { option_map fraction_of result ≡ sum_within limit (fraction_of x) (fraction_of y) }
+{
+    let above = whole_sum(x.numerator, y.numerator)?;
+    Some(Frac128 {
+        numerator: above,
+        denominator: 1,
+    })
+}
+
 /// The sum in lowest terms, where each of its quantities is in range.
 pub fn sum(x: Frac128, y: Frac128) -> Option<Frac128>
     ensures { option_map fraction_of result ≡ sum_within limit (fraction_of x) (fraction_of y) }
 {
+    if x.denominator == 1 && y.denominator == 1 {
+        return sum_of_wholes(x, y);
+    }
     let g = divisor(x.denominator, y.denominator);
     let above = total(x, y, g)?;
     let shared = common(above, g);

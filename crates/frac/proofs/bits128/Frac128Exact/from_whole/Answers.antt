@@ -2,8 +2,8 @@ use Rattle.std.proofs.Common.{◌≡◌, ◌∙◌, sym, to_z-of_z, lit<, true, 
 use Rattle.exact_num.specs.Fits.{whole_of, size_fits}
 use Rattle.exact_num.proofs.Values.{whole_is_lowest}
 use Rattle.frac.specs.Range.{limit}
-use Rattle.frac.proofs.Choices.{leb_at_most}
 use Rattle.frac.proofs.bits128.Frac128Exact.from_whole.Goals as goal
+use Rattle.std.proofs.lemmas.Bool.{leb-true}
 
 pub returns : goal.returns
 unfolding whole_of
@@ -23,4 +23,4 @@ pub invariant_of-result : goal.invariant_of-result
 invariant_of-result c =
     let e = simp (to_z-of_z c.ranges.v) at c.is_in_range.ensures in
     let fits : size_fits limit c.args.v ≡ true = sym e ∙ c.if-not-is_in_range.false in
-    record { lowest = whole_is_lowest _; above_fits = rw (to_z-of_z c.ranges.v) (omega (arith, leb_at_most _ _ fits)); below_fits = lit< tt }
+    record { lowest = whole_is_lowest _; above_fits = rw (to_z-of_z c.ranges.v) (omega (arith, leb-true _ _ fits)); below_fits = lit< tt }
