@@ -18,7 +18,8 @@ pub struct Candidate<N> {
 impl<N: Exact> Candidate<N> {
     /// The one of less ratio; of equal ones that of the smaller basic variable.
     fn lesser(self, other: Candidate<N>) -> Candidate<N>
-        ensures { as_ratio N.fraction result ≡ lesser_of (as_ratio N.fraction self) (as_ratio N.fraction other) }
+        ensures { as_ratio N.fraction result
+            ≡ lesser_of (as_ratio N.fraction self) (as_ratio N.fraction other) }
     {
         match self.ratio.cmp(&other.ratio) {
             Ordering::Less => self,
@@ -42,7 +43,8 @@ pub fn with_ratio<N: Exact>(
     ratio: Option<N>,
 ) -> Option<Candidate<N>>
     ensures { option_map (as_ratio N.fraction) result
-        ≡ with_ratio_of (option_map (as_ratio N.fraction) best) place basic (option_map N.fraction ratio) }
+        ≡ with_ratio_of (option_map (as_ratio N.fraction) best)
+        place basic (option_map N.fraction ratio) }
 {
     let Some(ratio) = ratio else { return best };
     let next = Candidate {

@@ -37,7 +37,8 @@ pub fn divide_entries<N: Exact>(pivot: &mut [N], entries: &[N], divisor: N) -> R
     requires width { length pivot.old ≡ length entries.now }
     requires divisor { (N.fraction divisor).numerator ≢ pos 0 }
     ensures { written_back result (map N.fraction pivot.new)
-        ≡ each (λ x. div_of (unsigned_abs N.LIMIT) x (N.fraction divisor)) (map N.fraction entries.now) }
+        ≡ each (λ x. div_of (unsigned_abs N.LIMIT) x (N.fraction divisor))
+        (map N.fraction entries.now) }
 {
     for i in 0..pivot.len() {
         let entry = quotient(entries[i], divisor)?;
@@ -49,7 +50,8 @@ pub fn divide_entries<N: Exact>(pivot: &mut [N], entries: &[N], divisor: N) -> R
 /// Takes `factor` times the entry `pivot` of the pivot row from the entry.
 fn clear_entry<N: Exact>(entry: &mut N, factor: N, pivot: N) -> Result<(), Wide>
     ensures { written_back result (N.fraction entry.new)
-        ≡ less_product (unsigned_abs N.LIMIT) (N.fraction factor) (N.fraction entry.old) (N.fraction pivot) }
+        ≡ less_product (unsigned_abs N.LIMIT)
+        (N.fraction factor) (N.fraction entry.old) (N.fraction pivot) }
 {
     if pivot.sign() != 0 {
         let product = factor.mul(pivot)?;

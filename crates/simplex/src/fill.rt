@@ -30,7 +30,8 @@ pub fn push_negated<N: Exact>(row: &mut Vec<N>, entries: &[N]) -> Result<(), All
 
 /// Adds `count` zeros.
 pub fn push_zeros<N: Exact>(row: &mut Vec<N>, count: usize) -> Result<(), AllocError>
-    ensures { OnOk result (map N.fraction row.new.items ≡ map N.fraction row.old.items ++ replicate count fraction_zero) }
+    ensures { OnOk result (map N.fraction row.new.items
+        ≡ map N.fraction row.old.items ++ replicate count fraction_zero) }
 {
     for _i in 0..count {
         row.push(N::zero())?;
@@ -40,7 +41,8 @@ pub fn push_zeros<N: Exact>(row: &mut Vec<N>, count: usize) -> Result<(), AllocE
 
 /// Adds an entry for each of `count` slacks: 1 for slack `own`, 0 for the others.
 pub fn push_slacks<N: Exact>(row: &mut Vec<N>, count: usize, own: usize) -> Result<(), AllocError>
-    ensures { OnOk result (map N.fraction row.new.items ≡ map N.fraction row.old.items ++ unit_row count own) }
+    ensures { OnOk result (map N.fraction row.new.items
+        ≡ map N.fraction row.old.items ++ unit_row count own) }
 {
     for k in 0..count {
         let entry = if k == own { N::one() } else { N::zero() };

@@ -48,7 +48,8 @@ pub fn first_rows<N: Exact>(
     requires columns { program.now.n + program.now.m < 2 ^ 64 - 1 }
     ensures rows { IfOk result (λ rows. as_rows N.fraction rows.items
         ≡ rows_from (as_program N.fraction program.now) 0 program.now.m) }
-    ensures widths { IfOk result (λ rows. All (λ row. vec_len row.entries ≡ program.now.n + program.now.m + 1) rows.items) }
+    ensures widths { IfOk result (λ rows.
+        All (λ row. vec_len row.entries ≡ program.now.n + program.now.m + 1) rows.items) }
 {
     let mut rows = Vec::with_capacity(alloc, program.m)?;
     let mut left = program.a.as_slice();
@@ -66,7 +67,8 @@ pub fn first_objective<N: Exact>(alloc: Global, program: &Program<N>) -> Result<
     requires costs { vec_len program.now.c ≡ program.now.n }
     requires columns { program.now.n + program.now.m < 2 ^ 64 - 1 }
     ensures objective { IfOk result (λ row. map N.fraction row.items
-        ≡ map negated (map N.fraction program.now.c.items) ++ replicate (program.now.m + 1) fraction_zero) }
+        ≡ map negated (map N.fraction program.now.c.items)
+        ++ replicate (program.now.m + 1) fraction_zero) }
     ensures width { IfOk result (λ row. vec_len row ≡ program.now.n + program.now.m + 1) }
 {
     let mut row = Vec::with_capacity(alloc, program.n + program.m + 1)?;

@@ -1,6 +1,6 @@
-//! The simplex method on a table with Bland's rule, over exact numbers (Chvatal, Linear Programming,
-//! chapters 2, 3 and 5). Each run is the run that the definition names, step by step: its optimum
-//! with the dual, its direction, or the first stop.
+//! The simplex method on a table with Bland's rule, over exact numbers (Chvatal, Linear
+//! Programming, chapters 2, 3 and 5). Each run is the run that the definition names, step by step:
+//! its optimum with the dual, its direction, or the first stop.
 #![tactic(auto)]
 
 pub mod budget;

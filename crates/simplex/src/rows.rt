@@ -1,5 +1,5 @@
 //! The rows of a table.
-ghost use Rattle.std.specs.Prelude.{◌≡◌, ◌<◌, length, map, pos, unsigned_abs, vec_len, position, nat_eq};
+ghost use Rattle.std.specs.Prelude.{◌≡◌, ◌<◌, length, map, unsigned_abs, vec_len};
 ghost use Rattle.std.specs.List.{All};
 ghost use Rattle.exact_num.specs.Fits.{written_back};
 ghost use Rattle.table_run.specs.Pivot.{rows_after};
@@ -33,7 +33,8 @@ pub fn leaving<N: Exact>(
     }
 }
 
-/// Row `r` becomes the pivot row, and each other row is cleared, up to the first step that does not fit.
+/// Row `r` becomes the pivot row, and each other row is cleared, up to the first step that does
+/// not fit.
 pub fn pivot_rows<N: Exact>(
     rows: &mut [TableRow<N>],
     pivot: &[N],
@@ -43,7 +44,8 @@ pub fn pivot_rows<N: Exact>(
     requires widths { All (λ row. vec_len row.entries ≡ length pivot.now) rows.old }
     requires column { e < length pivot.now }
     ensures rows { written_back result (as_rows N.fraction rows.new)
-        ≡ rows_after (unsigned_abs N.LIMIT) e r (map N.fraction pivot.now) 0 (as_rows N.fraction rows.old) }
+        ≡ rows_after (unsigned_abs N.LIMIT) e r (map N.fraction pivot.now) 0
+        (as_rows N.fraction rows.old) }
     ensures widths { All (λ row. vec_len row.entries ≡ length pivot.now) rows.new }
 {
     for i in 0..rows.len() {

@@ -23,7 +23,8 @@ pub fn run<N: Exact>(table: &mut Table<N>, budget: &mut Budget) -> Result<End, R
     ensures run { (n m : ℕ) → ending_of n m result budget.new.spent (as_table N.fraction table.new)
         ≡ run_from (unsigned_abs N.LIMIT) n m
         (budget.old.limit - budget.old.spent) budget.old.spent (as_table N.fraction table.old) }
-    ensures unit { (unit : _) (wide : _) → result ≡ Err (RunStop.Wide unit wide) → budget.new.spent ≡ unit }
+    ensures unit { (unit : _) (wide : _) → result ≡ Err (RunStop.Wide unit wide)
+        → budget.new.spent ≡ unit }
     ensures column { (e : _) → result ≡ Ok (End.Unbounded e) → e < table.new.columns }
     ensures columns { table.new.columns ≡ table.old.columns }
     ensures limit { budget.new.limit ≡ budget.old.limit }

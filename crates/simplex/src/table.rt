@@ -40,7 +40,8 @@ impl<N: Exact> Table<N> {
         requires right_sides { vec_len program.now.b ≡ program.now.m }
         requires costs { vec_len program.now.c ≡ program.now.n }
         requires columns { program.now.n + program.now.m < 2 ^ 64 - 1 }
-        ensures { IfOk result (λ table. as_table N.fraction table ≡ first_table (as_program N.fraction program.now)) }
+        ensures { IfOk result (λ table. as_table N.fraction table
+            ≡ first_table (as_program N.fraction program.now)) }
     {
         let columns = program.n + program.m;
         let rows = first_rows(alloc, program)?;
@@ -65,8 +66,10 @@ impl<N: Exact> Table<N> {
     /// The place of the row that leaves where column `e` enters, or None where nothing limits it.
     fn leaving(&self, e: usize) -> Result<Option<usize>, Wide>
         requires { e < self.now.columns }
-        ensures place { result ≡ leaving_at (unsigned_abs N.LIMIT) e (as_table N.fraction self.now) }
-        ensures pivot { (r : _) → result ≡ Ok (Some r) → IsPivot e r (as_table N.fraction self.now) }
+        ensures place { result
+            ≡ leaving_at (unsigned_abs N.LIMIT) e (as_table N.fraction self.now) }
+        ensures pivot { (r : _) → result ≡ Ok (Some r)
+            → IsPivot e r (as_table N.fraction self.now) }
     {
         leaving(self.rows.as_slice(), self.columns, e)
     }
@@ -76,7 +79,8 @@ impl<N: Exact> Table<N> {
         requires column { e < self.old.columns }
         requires pivot { IsPivot e r (as_table N.fraction self.old) }
         ensures pivot { written_back result (map N.fraction self.new.pivot.items)
-            ≡ divided (unsigned_abs N.LIMIT) e (entries_at (as_rows N.fraction self.old.rows.items) r) }
+            ≡ divided (unsigned_abs N.LIMIT) e
+            (entries_at (as_rows N.fraction self.old.rows.items) r) }
         ensures table { as_table N.fraction self.new ≡ as_table N.fraction self.old }
     {
         let row = &self.rows[r];
@@ -127,7 +131,8 @@ impl<N: Exact> Table<N> {
         requires { e < self.old.columns }
         ensures turn { turn_answer result (as_table N.fraction self.new)
             ≡ turn_of (unsigned_abs N.LIMIT) e (as_table N.fraction self.old) }
-        ensures kept { result ≡ Ok false → as_table N.fraction self.new ≡ as_table N.fraction self.old }
+        ensures kept { result ≡ Ok false
+            → as_table N.fraction self.new ≡ as_table N.fraction self.old }
         ensures columns { self.new.columns ≡ self.old.columns }
     {
         match self.leaving(e)? {
@@ -149,7 +154,8 @@ impl<N: Exact> Table<N> {
     /// The value of variable `j`: the right side of the row where it is basic, else 0.
     fn value_at(&self, j: usize) -> N
         ensures { N.fraction result
-            ≡ where_basic (λ row. right_side self.now.columns row.entries) j (as_table N.fraction self.now).rows }
+            ≡ where_basic (λ row. right_side self.now.columns row.entries) j
+            (as_table N.fraction self.now).rows }
     {
         match self.place_of(j) {
             None => N::zero(),
@@ -193,8 +199,10 @@ impl<N: Exact> Table<N> {
     /// Writes the reduced costs of `n` variables and the dual, a number for each row.
     pub fn write_dual(&self, reduced: &mut [N], y: &mut [N])
         requires { length reduced.old + length y.old ≡ self.now.columns }
-        ensures reduced { map N.fraction reduced.new ≡ reduced_costs (length reduced.old) (as_table N.fraction self.now) }
-        ensures dual { map N.fraction y.new ≡ dual (length reduced.old) (length y.old) (as_table N.fraction self.now) }
+        ensures reduced { map N.fraction reduced.new
+            ≡ reduced_costs (length reduced.old) (as_table N.fraction self.now) }
+        ensures dual { map N.fraction y.new
+            ≡ dual (length reduced.old) (length y.old) (as_table N.fraction self.now) }
     {
         let (of_variables, others) = self.objective.as_slice().split_at(reduced.len());
         reduced.copy_from_slice(of_variables);

@@ -13,7 +13,8 @@ pub fn runs_end_as_said()
     ensures { EndsAreAsSaid }
 {}
 
-/// A run spends a unit a turn, the last one too, and stops for want of units only where none is left.
+/// A run spends a unit a turn, the last one too, and stops for want of units only where none is
+/// left.
 pub fn units_are_counted()
     ensures { UnitsAreCounted }
 {}
