@@ -1,0 +1,11 @@
+pub mod Zeros
+pub mod Signs
+pub mod EntrySteps
+pub mod RatioSteps
+pub mod RowSteps
+pub mod TableSteps
+pub mod FillSteps
+pub mod RunSteps
+pub mod FirstSteps
+pub mod ReadSteps
+pub mod SolveSteps

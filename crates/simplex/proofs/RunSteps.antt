@@ -1,0 +1,48 @@
+-- One step of the run.
+use Rattle.std.proofs.Common.{◌≡◌, ℕ, zero, suc, ◌+◌, ◌-◌, ◌<◌, ◌≤◌, refl, sym, arith}
+use Rattle.std.specs.Prelude.{Some, None, Bool, true, false, nat_lt, if◌then◌else◌}
+use Rattle.std.proofs.lemmas.Bool.Decides.{nat_tests}
+use Rattle.exact_num.specs.declared.misfit.Wide.{Wide}
+use Rattle.table_run.specs.Table.{Table}
+use Rattle.table_run.specs.Choice.{entering}
+use Rattle.table_run.specs.Run.{misfit_at, out_of_budget, unbounded, read_off, direction, turn, moved, unlimited, stopped, run_from}
+
+pub run_ends : (limit n m left spent : ℕ) (t : Table) → entering t ≡ None → run_from limit n m left spent t ≡ read_off n m t spent
+unfolding run_from
+run_ends limit n m zero spent t h = rw h refl
+run_ends limit n m (suc left) spent t h = rw h refl
+
+pub run_is_out : (limit n m left spent : ℕ) (t : Table) (e : ℕ) → entering t ≡ Some e → left ≡ 0 → run_from limit n m left spent t ≡ out_of_budget spent
+unfolding run_from
+run_is_out limit n m zero spent t e h z = rw h refl
+run_is_out limit n m (suc left) spent t e h z = absurd (omega arith)
+
+pub run_moves : (limit n m left spent : ℕ) (t next : Table) (e : ℕ) → entering t ≡ Some e → turn limit e t ≡ moved next → 0 < left → run_from limit n m left spent t ≡ run_from limit n m (left - 1) (spent + 1) next
+unfolding run_from
+run_moves limit n m zero spent t next e h k p = absurd (omega arith)
+run_moves limit n m (suc left) spent t next e h k p = let less : suc left - 1 ≡ left = omega arith in rw (h, k, less) refl
+
+pub run_is_unbounded : (limit n m left spent : ℕ) (t : Table) (e : ℕ) → entering t ≡ Some e → turn limit e t ≡ unlimited → 0 < left → run_from limit n m left spent t ≡ unbounded (direction n e t) (spent + 1)
+unfolding run_from
+run_is_unbounded limit n m zero spent t e h k p = absurd (omega arith)
+run_is_unbounded limit n m (suc left) spent t e h k p = rw (h, k) refl
+
+pub run_misfits : (limit n m left spent : ℕ) (t : Table) (e : ℕ) (w : Wide) → entering t ≡ Some e → turn limit e t ≡ stopped w → 0 < left → run_from limit n m left spent t ≡ misfit_at (spent + 1) w
+unfolding run_from
+run_misfits limit n m zero spent t e w h k p = absurd (omega arith)
+run_misfits limit n m (suc left) spent t e w h k p = rw (h, k) refl
+
+-- ---- what a spend says
+pub spent_one : (r : Bool) (old limit new : ℕ) → r ≡ nat_lt old limit → new ≡ (if r then old + 1 else old) → r ≡ true → (old < limit) × (new ≡ old + 1)
+spent_one true old limit new a s e = (ltb_below old limit (sym a), s)
+  where
+    ltb_below : (m n : ℕ) → nat_lt m n ≡ true → m < n
+    ltb_below m n h = grind (arith, nat_tests)
+spent_one false old limit new a s e = cc
+
+pub spent_none : (r : Bool) (old limit new : ℕ) → r ≡ nat_lt old limit → new ≡ (if r then old + 1 else old) → r ≡ false → (limit ≤ old) × (new ≡ old)
+spent_none true old limit new a s e = cc
+spent_none false old limit new a s e = (not_below old limit (sym a), s)
+  where
+    not_below : (m n : ℕ) → nat_lt m n ≡ false → n ≤ m
+    not_below m n h = grind (arith, nat_tests)

@@ -1,0 +1,27 @@
+use Rattle.std.proofs.Common.{◌<◌, ◌∙◌, sym, ap, arith, length, vec_len}
+use Rattle.exact_num.specs.Fraction.{negated}
+use Rattle.table_run.specs.Places.{at}
+use Rattle.simplex.specs.declared.row.TableRow.{TableRow}
+use Rattle.simplex.specs.Tables.{as_table}
+use Rattle.simplex.proofs.EntrySteps.{at-map}
+use Rattle.simplex.proofs.ReadSteps.{found_place, found_at, found_nowhere, entry_other}
+use Rattle.simplex.proofs.table.Table.direction_at.Goals as goal
+
+pub returns-in-None : goal.returns-in-None
+returns-in-None g c =
+    c.zero.ensures
+    ∙ sym (entry_other c.args.e c.args.j (as_table g.N.Exact.fraction c.args.self.now) c.if-j-e.false ∙ found_nowhere _ g.N.Exact.fraction c.args.j c.args.self.now.rows.items c.in-None.ensures)
+
+pub returns-in-Some : goal.returns-in-Some
+returns-in-Some g c =
+    let value = g.N.Exact.fraction in
+    let row = c.index.result.now in
+    let place = found_place c.args.j c.args.self.now.rows.items c.in-Some.i row c.in-Some.ensures in
+    let width = ap (λ (x : TableRow g.row.N.Denot). vec_len x.entries) c.index.ensures ∙ c.args.self.now.widths c.in-Some.i row place in
+    let low : c.args.e < length row.entries.items = omega (arith, width, row.entries.ok, c.requires) in
+    c.neg.ensures
+    ∙ sym (
+    entry_other c.args.e c.args.j (as_table value c.args.self.now) c.if-j-e.false
+    ∙ found_at (λ r. negated (at r.entries c.args.e)) value c.args.j c.args.self.now.rows.items c.in-Some.i row c.in-Some.ensures c.index.ensures
+    ∙ ap negated (at-map value row.entries.items c.args.e c.index-in-Some.result.now low c.index-in-Some.ensures)
+    )

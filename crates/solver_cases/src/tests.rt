@@ -1,0 +1,139 @@
+//! Each case, from the text of its program to the text of its end.
+ghost use Rattle.std.specs.Prelude.{IsTrue};
+ghost use Rattle.std.specs.List.{All};
+ghost use Rattle.table_run.specs.Optimum.{IsNotBelowZero};
+
+use crate::cases::CASES;
+use anyhow::{Context, Result, ensure};
+use exact_num::{Exact, Operator};
+use frac::Frac128;
+use simplex::{Budget, Program, Solved, Stop, solve};
+use std::alloc::{AllocError, Global};
+
+fn number(text: &str) -> Result<Frac128> {
+    let (above, below) = match text.split_once('/') {
+        Some((above, below)) => (above.parse::<i128>()?, below.parse::<i128>()?),
+        None => (text.parse::<i128>()?, 1),
+    };
+    let above = Frac128::from_whole(above).ok().context("a numerator")?;
+    let below = Frac128::from_whole(below).ok().context("a denominator")?;
+    ensure!(below.sign() != 0, "a denominator of 0");
+    above.div(below).ok().context("a fraction")
+}
+
+fn numbers(alloc: Global, text: &str) -> Result<Vec<Frac128>> {
+    let mut all = Vec::new(alloc);
+    for word in text.split_whitespace() {
+        all.push(number(word)?)?;
+    }
+    Ok(all)
+}
+
+fn none_below_zero<N: Exact>(numbers: &[N]) -> bool
+    ensures { IsTrue result → All (λ b. IsNotBelowZero (N.fraction b)) numbers.now }
+{
+    for x in numbers {
+        if x.sign() < 0 {
+            return false;
+        }
+    }
+    true
+}
+
+fn print_number(text: &mut String, x: Frac128) -> Result<(), AllocError> {
+    let (above, below) = x.parts();
+    if below == 1 {
+        write!(text, " {above}")
+    } else {
+        write!(text, " {above}/{below}")
+    }
+}
+
+fn print_numbers(text: &mut String, numbers: &[Frac128]) -> Result<(), AllocError> {
+    for x in numbers {
+        print_number(text, *x)?;
+    }
+    Ok(())
+}
+
+fn name_of(operator: Operator) -> &'static str {
+    match operator {
+        Operator::Add => "add",
+        Operator::Mul => "mul",
+        Operator::Div => "div",
+        Operator::Whole => "whole",
+    }
+}
+
+fn print_operand(text: &mut String, (above, below): (i128, i128)) -> Result<(), AllocError> {
+    if below == 1 {
+        write!(text, " {above}")
+    } else {
+        write!(text, " {above}/{below}")
+    }
+}
+
+fn print_end(text: &mut String, end: &Result<Solved<Frac128>, Stop>) -> Result<(), AllocError> {
+    match end {
+        Ok(Solved::Optimal {
+            x,
+            y,
+            reduced,
+            value,
+        }) => {
+            text.push_str(" optimal")?;
+            print_numbers(text, x.as_slice())?;
+            text.push_str(" |")?;
+            print_numbers(text, y.as_slice())?;
+            text.push_str(" |")?;
+            print_numbers(text, reduced.as_slice())?;
+            text.push_str(" |")?;
+            print_number(text, *value)
+        }
+        Ok(Solved::Unbounded { direction }) => {
+            text.push_str(" unbounded")?;
+            print_numbers(text, direction.as_slice())
+        }
+        Err(Stop::Wide { unit: _, wide }) => {
+            write!(text, " {}", name_of(wide.operator))?;
+            print_operand(text, wide.left)?;
+            print_operand(text, wide.right)
+        }
+        Err(Stop::Budget) => text.push_str(" budget"),
+        Err(Stop::Memory) => text.push_str(" memory"),
+    }
+}
+
+// Solves the program of the text, and prints the units spent and the end.
+fn solved(alloc: Global, text: &str) -> Result<String> {
+    let mut parts = text.split('|');
+    let mut sizes = parts.next().context("the sizes")?.split_whitespace();
+    let units = sizes.next().context("the units")?.parse::<u32>()?;
+    let n = sizes.next().context("the variables")?.parse::<usize>()?;
+    let m = sizes.next().context("the rows")?.parse::<usize>()?;
+    let a = numbers(alloc, parts.next().context("the coefficients")?)?;
+    let b = numbers(alloc, parts.next().context("the right sides")?)?;
+    let c = numbers(alloc, parts.next().context("the costs")?)?;
+    ensure!(n <= 1000 && m <= 1000, "too many numbers");
+    ensure!(a.len() == m * n, "the coefficients");
+    ensure!(b.len() == m, "the right sides");
+    ensure!(c.len() == n, "the costs");
+    let signs = none_below_zero(b.as_slice());
+    ensure!(signs, "a right side below 0");
+    let mut budget = Budget::new(units);
+    let program = Program { n, m, a, b, c };
+    let end = solve(alloc, &program, &mut budget);
+    let spent = budget.spent;
+    let mut answer = format!(in alloc; "{spent}")?;
+    print_end(&mut answer, &end)?;
+    Ok(answer)
+}
+
+#[test]
+fn each_case_ends_as_it_says(rt: HostRuntime) -> Result<()> {
+    for (name, program, end) in CASES {
+        let found = solved(rt.alloc(), program)?;
+        assert_eq!(rt; found.as_str(), end, "{name}");
+    }
+    Ok(())
+}

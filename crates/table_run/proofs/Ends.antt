@@ -1,0 +1,105 @@
+-- What holds at the end of a run: the table there, and what is read off.
+use Rattle.std.proofs.Common.{◌≡◌, ℕ, zero, suc, ◌+◌, ◌<◌, List, [], ◌∷◌, length, arith, refl, sym, ◌∙◌, ap, subst, pos, Bool, true, false, nat_eq, inl, inr}
+use Rattle.std.specs.Prelude.{Option, Some, None, if◌then◌else◌}
+use Rattle.std.proofs.lemmas.List.{get_or_past}
+use Rattle.std.proofs.Math.Decide.{ℕ_discrete}
+use Rattle.std.proofs.lemmas.Bool.{cases_lt}
+use Rattle.std.proofs.lemmas.Bool.Decides.{nat_tests}
+use Rattle.exact_num.specs.declared.misfit.Wide.{Wide}
+use Rattle.exact_num.specs.Fraction.{Fraction, IsLowest, whole}
+use Rattle.exact_num.proofs.Values.{whole_is_lowest}
+use Rattle.exact_num.proofs.Rationals.{Q, ◌+Q◌, ◌*Q◌, value, value_zero, add_0, zero_add_Q, zero_mul_Q, one_mul_Q, one_not_zero}
+use Rattle.exact_num.proofs.Totals.{total, total-zero, total-front, unit, unit-same, unit-other}
+use Rattle.table_run.specs.Places.{at, listed}
+use Rattle.table_run.specs.Table.{Row, Table, entries_at, where_basic, basic_at}
+use Rattle.table_run.specs.Choice.{entering}
+use Rattle.table_run.specs.Run.{Ending, unbounded, misfit_at, out_of_budget, Turn, moved, unlimited, stopped, turn, on_turn, on_entering, run_from, read_off, direction}
+use Rattle.table_run.proofs.Pivot.{Tab, IsGood}
+
+-- ---- a property of tables that each turn keeps, and what it makes of the end
+pub run_keeps : (P : Table → Type 0) (E : Ending → Type 0) (limit n m : ℕ)
+    → ((t u : Table) (e : ℕ) → P t → entering t ≡ Some e → turn limit e t ≡ moved u → P u)
+    → ((t : Table) (spent : ℕ) → P t → entering t ≡ None → E (read_off n m t spent))
+    → ((t : Table) (e spent : ℕ) → P t → entering t ≡ Some e → turn limit e t ≡ unlimited → E (unbounded (direction n e t) spent))
+    → ((spent : ℕ) (w : Wide) → E (misfit_at spent w))
+    → ((spent : ℕ) → E (out_of_budget spent))
+    → (left spent : ℕ) (t : Table) → P t → E (run_from limit n m left spent t)
+unfolding run_from
+run_keeps P E limit n m kept ends rays stops outs zero spent t p = step (entering t) refl
+  where
+    step : (o : Option ℕ) → entering t ≡ o → E (on_entering o (read_off n m t spent) (λ e. out_of_budget spent))
+    step None h = ends t spent p h
+    step (Some e) h = outs spent
+run_keeps P E limit n m kept ends rays stops outs (suc left) spent t p = step (entering t) refl (λ u q. run_keeps P E limit n m kept ends rays stops outs left (spent + 1) u q)
+  where
+    act : (e : ℕ) → entering t ≡ Some e → ((u : Table) → P u → E (run_from limit n m left (spent + 1) u)) → (w : Turn) → turn limit e t ≡ w → E (on_turn w (λ next. run_from limit n m left (spent + 1) next) (unbounded (direction n e t) (spent + 1)) (λ w. misfit_at (spent + 1) w))
+    act e h later (moved u) k = later u (kept t u e p h k)
+    act e h later unlimited k = rays t e (spent + 1) p h k
+    act e h later (stopped w) k = stops (spent + 1) w
+
+    step : (o : Option ℕ) → entering t ≡ o → ((u : Table) → P u → E (run_from limit n m left (spent + 1) u)) → E (on_entering o (read_off n m t spent) (λ e. on_turn (turn limit e t) (λ next. run_from limit n m left (spent + 1) next) (unbounded (direction n e t) (spent + 1)) (λ w. misfit_at (spent + 1) w)))
+    step None h later = ends t spent p h
+    step (Some e) h later = act e h later (turn limit e t) refl
+
+-- ---- lists of values
+pub listed_count : (f : ℕ → Fraction) (i n : ℕ) → length (listed f i n) ≡ n
+unfolding listed
+listed_count f i zero = refl
+listed_count f i (suc n) = ap suc (listed_count f (i + 1) n)
+
+listed_from : (f : ℕ → Fraction) (i n j : ℕ) → j < n → at (listed f i n) j ≡ f (i + j)
+unfolding listed
+listed_from f i zero j h = absurd (omega (arith, h))
+listed_from f i (suc n) zero h = let e : i + 0 ≡ i = omega arith in ap f (sym e)
+listed_from f i (suc n) (suc j) h = let e : i + 1 + j ≡ i + suc j = omega arith in listed_from f (i + 1) n j (omega (arith, h)) ∙ ap f e
+
+pub listed_at : (f : ℕ → Fraction) (n j : ℕ) → j < n → at (listed f 0 n) j ≡ f j
+listed_at f n j h = let e : 0 + j ≡ j = omega arith in listed_from f 0 n j h ∙ ap f e
+
+-- what holds of the items of a list and of 0
+pub holds_at : (P : Fraction → Type 0) (xs : List Fraction) → P (whole (pos 0)) → ((j : ℕ) → j < length xs → P (at xs j)) → (j : ℕ) → P (at xs j)
+holds_at P xs z h j = elim (cases_lt j (length xs)) [
+  | inl p ↦ h j p
+  | inr p ↦ subst P (sym (get_or_past xs j (whole (pos 0)) p)) z
+]
+
+-- ---- what is read off at a basic variable
+pub where_basic_lowest : (f : Row → Fraction) (j : ℕ) (rows : List Row) → ((i : ℕ) → i < length rows → IsLowest (f (record { basic = basic_at rows i; entries = entries_at rows i }))) → IsLowest (where_basic f j rows)
+unfolding where_basic
+where_basic_lowest f j [] h = whole_is_lowest (pos 0)
+where_basic_lowest f j (row ∷ rows) h = step (nat_eq row.basic j) (where_basic_lowest f j rows (λ i p. h (suc i) (omega (arith, p))))
+  where
+    step : (b : Bool) → IsLowest (where_basic f j rows) → IsLowest (if b then f row else where_basic f j rows)
+    step true later = h 0 (omega arith)
+    step false later = later
+
+-- where the basic variables differ, it is the sum over the rows
+pub where_basic_is : (f : Row → Fraction) (v : ℕ → Q) (j : ℕ) (rows : List Row)
+    → ((i : ℕ) → i < length rows → value (f (record { basic = basic_at rows i; entries = entries_at rows i })) ≡ v i)
+    → ((i k : ℕ) → i < length rows → k < length rows → basic_at rows i ≡ basic_at rows k → i ≡ k)
+    → value (where_basic f j rows) ≡ total (length rows) (λ i. unit (basic_at rows i) j *Q v i)
+unfolding where_basic total
+where_basic_is f v j [] h apart = value_zero
+where_basic_is f v j (row ∷ rows) h apart =
+    step (nat_eq row.basic j) refl (where_basic_is f (λ i. v (suc i)) j rows (λ i p. h (suc i) (omega (arith, p))) (λ i k p q e. let s : suc i ≡ suc k = apart (suc i) (suc k) (omega (arith, p)) (omega (arith, q)) e in omega (arith, s)))
+    ∙ sym (total-front (length rows) (λ i. unit (basic_at (row ∷ rows) i) j *Q v i))
+  where
+    rest : Q
+    rest = total (length rows) (λ i. unit (basic_at rows i) j *Q v (suc i))
+
+    step : (b : Bool) → nat_eq row.basic j ≡ b → value (where_basic f j rows) ≡ total (length rows) (λ i. unit (basic_at rows i) j *Q v (suc i)) → value (if b then f row else where_basic f j rows) ≡ unit row.basic j *Q v 0 +Q total (length rows) (λ i. unit (basic_at rows i) j *Q v (suc i))
+    step true t later =
+        let same : row.basic ≡ j = grind (arith, nat_tests) in
+        h 0 (omega arith) ∙ sym (ap (λ w. w *Q v 0) (unit-same row.basic j same) ∙ one_mul_Q (v 0)) ∙ sym (add_0 _)
+        ∙ ap (λ w. unit row.basic j *Q v 0 +Q w) (sym (total-zero (length rows) _ (λ i p. ap (λ w. w *Q v (suc i)) (unit-other (basic_at rows i) j (λ e. let s : 0 ≡ suc i = apart 0 (suc i) (omega arith) (omega (arith, p)) (same ∙ sym e) in omega (arith, s))) ∙ zero_mul_Q _)))
+    step false t later =
+        let ne : row.basic ≡ j → ⊥ = λ e. grind (arith, nat_tests) in
+        later ∙ sym (zero_add_Q _) ∙ ap (λ w. w +Q total (length rows) (λ i. unit (basic_at rows i) j *Q v (suc i))) (sym (ap (λ w. w *Q v 0) (unit-other row.basic j ne) ∙ zero_mul_Q (v 0)))
+
+-- the basic variables of a good table differ
+pub apart_of_good : (m n : ℕ) (T : Tab) → IsGood m n T → (i k : ℕ) → i < m → k < m → T.basic i ≡ T.basic k → i ≡ k
+apart_of_good m n T g i k p q e =
+    elim (ℕ_discrete i k) [
+      | yes same ↦ same
+      | no ne ↦ absurd (one_not_zero (sym (unit-same i i refl) ∙ sym (g.unit_columns i i p p) ∙ ap (λ w. T.entry i w) e ∙ g.unit_columns i k p q ∙ unit-other i k ne))
+    ]

@@ -1,0 +1,14 @@
+pub mod Pivot
+pub mod Entries
+pub mod Choices
+pub mod FirstTable
+pub mod Ends
+pub mod Optima
+pub mod Bland
+pub mod Tables
+pub mod Wider
+pub mod Counting
+pub mod Suffice
+pub mod Ended
+pub mod Counted
+pub mod WorkedPrograms

@@ -1,0 +1,12 @@
+pub mod Places
+pub mod Program
+pub mod Table
+pub mod Choice
+pub mod Pivot
+pub mod Run
+pub mod Units
+pub mod Optimum
+pub mod Turns
+pub mod Choose
+pub mod Limits
+pub mod Worked

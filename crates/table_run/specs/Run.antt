@@ -1,0 +1,93 @@
+-- The run of a program: turn after turn, to an end or the first stop.
+use Rattle.std.specs.Prelude.{ℕ, zero, suc, ◌+◌, List, [], ◌∷◌, take, drop, pos, if◌then◌else◌, nat_eq, Option, Some, None, Result, Ok, Err}
+use Rattle.exact_num.specs.declared.misfit.Wide.{Wide}
+use Rattle.exact_num.specs.Fraction.{Fraction, whole, negated}
+use Rattle.table_run.specs.Places.{at, listed}
+use Rattle.table_run.specs.Program.{LinearProgram}
+use Rattle.table_run.specs.Table.{Table, right_side, where_basic, first_table, unit_row, rows_from}
+use Rattle.table_run.specs.Choice.{Ratio, entering, ratios, least, first_below, ratio_in}
+use Rattle.table_run.specs.Pivot.{pivoted, each, each_pair, divided, cleared, rows_after}
+
+-- how a run ends, with the units spent
+pub data Ending : Type 0 where
+  optimal : (x y reduced : List Fraction) (value : Fraction) (spent : ℕ) → Ending
+  unbounded : (direction : List Fraction) (spent : ℕ) → Ending
+  misfit_at : (spent : ℕ) (wide : Wide) → Ending
+  out_of_budget : (spent : ℕ) → Ending
+
+-- ---- what is read off at the end, of n variables and m rows
+-- the right side of the row where a variable is basic, and 0 for the others
+abbrev pub solution : ℕ → Table → List Fraction
+solution n t = listed (λ j. where_basic (λ row. right_side t.columns row.entries) j t.rows) 0 n
+
+-- the objective entries of the slacks and of the variables, and the objective's right side
+abbrev pub dual : ℕ → ℕ → Table → List Fraction
+dual n m t = take m (drop n t.objective)
+
+abbrev pub reduced_costs : ℕ → Table → List Fraction
+reduced_costs n t = take n t.objective
+
+abbrev pub value_of : Table → Fraction
+value_of t = right_side t.columns t.objective
+
+unfoldable pub read_off : ℕ → ℕ → Table → ℕ → Ending
+read_off n m t spent = optimal (solution n t) (dual n m t) (reduced_costs n t) (value_of t) spent
+
+-- 1 at the entering column, and what its row then asks of each basic variable
+unfoldable pub direction : ℕ → ℕ → Table → List Fraction
+direction n e t =
+    listed (λ j. if nat_eq j e then whole (pos 1) else where_basic (λ row. negated (at row.entries e)) j t.rows) 0 n
+
+-- ---- one turn
+-- what one turn with the entering column e does, the unit being spent
+pub data Turn : Type 0 where
+  moved : (table : Table) → Turn
+  unlimited : Turn
+  stopped : (wide : Wide) → Turn
+
+abbrev pub moved_or_stopped : Result Table Wide → Turn
+moved_or_stopped (Ok next) = moved next
+moved_or_stopped (Err w) = stopped w
+
+-- the row of the least ratio leaves; with no ratio nothing limits the entering variable
+abbrev pub leave : ℕ → ℕ → Table → List Ratio → Turn
+leave limit e t [] = unlimited
+leave limit e t (q ∷ qs) = moved_or_stopped (pivoted limit e (least q qs).place t)
+
+abbrev pub on_ratios : Result (List Ratio) Wide → (List Ratio → Turn) → Turn
+on_ratios (Ok qs) next = next qs
+on_ratios (Err w) next = stopped w
+
+unfoldable pub turn : ℕ → ℕ → Table → Turn
+turn limit e t = on_ratios (ratios limit t.columns e 0 t.rows) (λ qs. leave limit e t qs)
+
+-- ---- turn after turn
+-- what follows where no column enters, and where one does
+abbrev pub on_entering : Option ℕ → Ending → (ℕ → Ending) → Ending
+on_entering None ended next = ended
+on_entering (Some e) ended next = next e
+
+-- what follows a turn
+abbrev pub on_turn : Turn → (Table → Ending) → Ending → (Wide → Ending) → Ending
+on_turn (moved next) go end wide = go next
+on_turn unlimited go end wide = end
+on_turn (stopped w) go end wide = wide w
+
+-- the run from a table on, with `left` units left and `spent` units spent
+unfoldable pub run_from : ℕ → ℕ → ℕ → ℕ → ℕ → Table → Ending
+run_from limit n m zero spent t = on_entering (entering t) (read_off n m t spent) (λ e. out_of_budget spent)
+run_from limit n m (suc left) spent t =
+    on_entering (entering t) (read_off n m t spent)
+    (λ e. on_turn (turn limit e t)
+    (λ next. run_from limit n m left (spent + 1) next)
+    (unbounded (direction n e t) (spent + 1))
+    (λ w. misfit_at (spent + 1) w))
+
+-- the run of a program with `left` units left and `spent` units spent before
+unfoldable pub run : ℕ → LinearProgram → ℕ → ℕ → Ending
+run limit p left spent = run_from limit p.variables p.rows left spent (first_table p)
+
+-- opens the definitions of the run, for a proof that computes with numerals
+unfoldable pub table_run : Unit {0}
+unfolding listed where_basic unit_row rows_from first_table first_below entering ratio_in ratios least each each_pair divided cleared rows_after pivoted read_off direction turn run_from run
+table_run = tt

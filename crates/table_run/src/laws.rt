@@ -1,0 +1,55 @@
+//! What the definition of the run implies.
+ghost use Rattle.table_run.specs.Choose.{UnitsSuffice};
+ghost use Rattle.table_run.specs.Limits.{RunsEnd, SameWithGreaterLimit};
+ghost use Rattle.table_run.specs.Optimum.{EndsAreAsSaid};
+ghost use Rattle.table_run.specs.Turns.{BasicsDiffer};
+ghost use Rattle.table_run.specs.Units.{UnitsAreCounted};
+ghost use Rattle.table_run.specs.Worked.{ButterflyByTwoSells, ButterflyOutOfBudget, CoverTooDear, EmptyBatch, EqualPricesStay, LowerStrikeCovers, OneOptionMatched, SurplusTooWide, TooWide, WithoutEnd};
+
+/// Where a run ends with an optimum, that is feasible and has a feasible dual of the same value;
+/// where it ends with a direction, the objective rises along it without an end. Whatever the limit.
+/// (Chvatal, Linear Programming, chapter 5.)
+pub fn runs_end_as_said()
+    ensures { EndsAreAsSaid }
+{}
+
+/// A run spends a unit a turn, the last one too, and stops for want of units only where none is
+/// left.
+pub fn units_are_counted()
+    ensures { UnitsAreCounted }
+{}
+
+/// The tables of a run without a limit have pairwise different sets of basic variables: Bland's
+/// rule does not cycle. (Chvatal, Linear Programming, chapter 3.)
+pub fn basics_differ()
+    ensures { BasicsDiffer }
+{}
+
+/// A run that ends for want of units had fewer than there are ways to choose its basic variables.
+pub fn units_suffice()
+    ensures { UnitsSuffice }
+{}
+
+/// Without a limit each run ends with an optimum or a direction: some limit is enough.
+pub fn runs_end()
+    ensures { RunsEnd }
+{}
+
+/// A run without a misfit is the same with each greater limit.
+pub fn same_with_greater_limit()
+    ensures { SameWithGreaterLimit }
+{}
+
+/// The definitions compute how the runs of the worked programs end.
+pub fn worked_programs_end()
+    ensures too_wide { TooWide }
+    ensures without_end { WithoutEnd }
+    ensures one_option_matched { OneOptionMatched }
+    ensures empty_batch { EmptyBatch }
+    ensures equal_prices_stay { EqualPricesStay }
+    ensures lower_strike_covers { LowerStrikeCovers }
+    ensures butterfly_by_two_sells { ButterflyByTwoSells }
+    ensures cover_too_dear { CoverTooDear }
+    ensures surplus_too_wide { SurplusTooWide }
+    ensures butterfly_out_of_budget { ButterflyOutOfBudget }
+{}
