@@ -3,3 +3,4 @@ pub mod Vectors
 pub mod WholeSteps
 pub mod DotSteps
 pub mod ListSteps
+pub mod StepRatios
