@@ -5,3 +5,4 @@ pub mod SameForm
 pub mod WholeSteps
 pub mod DotSteps
 pub mod ListSteps
+pub mod StepRatios

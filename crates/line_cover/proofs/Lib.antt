@@ -1,2 +1,3 @@
 pub mod NetSteps
 pub mod LineSteps
+pub mod Sound

@@ -1,3 +1,4 @@
 pub mod Net
 pub mod Line
 pub mod Verdict
+pub mod Laws

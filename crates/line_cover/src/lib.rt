@@ -2,6 +2,7 @@
 #![tactic(auto)]
 
 pub mod breakpoint;
+pub mod laws;
 pub mod net;
 pub mod verdict;
 

@@ -1,1 +1,2 @@
 pub mod PointSteps
+pub mod Sound

@@ -2,6 +2,7 @@
 #![tactic(auto)]
 
 pub mod bounds;
+pub mod laws;
 pub mod mass;
 pub mod measures;
 pub mod prices;

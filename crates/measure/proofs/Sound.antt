@@ -1,0 +1,175 @@
+-- The sums over a measure are the model's, over the product of the weights' denominators.
+use Rattle.std.proofs.Common.{◌≡◌, ℕ, ◌+◌, ◌*◌, ◌≤◌, Bool, true, false, ◌&&◌, List, [], ◌∷◌, map, arith, ℤ, pos, neg_ℤ, ◌+ℤ◌, ◌-ℤ◌, ◌*ℤ◌, ◌≤ℤ◌, All, Result, Ok, Err, refl, ap, sym, subst, ◌∙◌, if◌then◌else◌}
+use Rattle.std.specs.Prelude.{int_lt, int_le}
+use Rattle.std.specs.Int.{◌∣◌}
+use Rattle.std.specs.Ordering.{is_eq}
+use Rattle.std.specs.Int.Signed.{le_z_yes}
+use Rattle.std.proofs.lemmas.Float.{T_from_true}
+use Rattle.std.proofs.lemmas.Int.{ints}
+use Rattle.std.proofs.lemmas.List.Elements.{All-nil, All-cons}
+use Rattle.arithmetic.proofs.Products.{products}
+use Rattle.arithmetic.proofs.Parts.{part_above, part_below}
+use Rattle.arithmetic.proofs.Sums.{All-head, All-tail}
+use Rattle.exact_num.specs.declared.misfit.Wide.{Wide}
+use Rattle.exact_num.specs.Fraction.{Fraction, IsLowest, whole, negated, fraction_cmp}
+use Rattle.exact_num.specs.CommonDenominator.{common_denominator, amount_over, IsRatio}
+use Rattle.exact_num.specs.Fits.{add_of, mul_of, after}
+use Rattle.exact_num.proofs.After.{after_value}
+use Rattle.exact_num.proofs.Values.{whole_is_lowest}
+use Rattle.exact_num.proofs.Order.{same_parts}
+use Rattle.exact_num.proofs.Fractions.{divides, amount_is_exact}
+use Rattle.form.specs.declared.orders.Side.{Side}
+use Rattle.form.specs.declared.orders.Side.TheVariants.{Buy, Sell}
+use Rattle.form.specs.declared.orders.Order.{Order}
+use Rattle.form.specs.Payoff.{option_of, bundle_of, bundle_payoff, scale_of, positive_part}
+use Rattle.form.specs.Measure.{mass_of, price_of as model_price, gain, gain_of, bound_of as model_bound}
+use Rattle.form.specs.Certificate.{Point, fraction_weight, points_over, IsWeight, HasUnitMass}
+use Rattle.form.specs.Steps.{plus_product, payoff_of}
+use Rattle.form.proofs.DotSteps.{payoffs_are_exact}
+use Rattle.form.proofs.StepRatios.{Stands, plus_stands, sum_stands, negated_stands, whole_stands, whole_product_stands, bundle_pays, above, not_above}
+use Rattle.measure.specs.Sums.{is_weight, are_weights, add_mass, add_masses, is_same, has_unit_mass, add_price, add_prices, price_of, gain_at, add_gain, add_gains, bound_of}
+use Rattle.measure.specs.Laws.{MassesAreExact, PricesAreExact, BoundsAreExact}
+
+and_parts : (a b : Bool) → (a && b) ≡ true → (a ≡ true) × (b ≡ true)
+and_parts true b h = (refl, h)
+and_parts false b h = cc
+
+weights_are : (points : List Point) → All IsLowest (map fraction_weight points) → are_weights points ≡ true → All IsWeight points
+weights_are [] low h = All-nil IsWeight
+weights_are (point ∷ points) low h =
+    let parts = and_parts (is_weight point) (are_weights points) h in
+    All-cons IsWeight point points
+    ((All-head IsLowest point.1 (map fraction_weight points) low).positive, le_z_yes {a = pos 0} {b = point.1.numerator} (T_from_true (is_weight point) parts.0))
+    (weights_are points (All-tail IsLowest point.1 (map fraction_weight points) low) parts.1)
+
+weight_stands : (W : ℕ) (point : Point) (points : List Point) → All IsLowest (map fraction_weight (point ∷ points)) → All (λ f. f.denominator ∣ W) (map fraction_weight (point ∷ points)) → Stands point.1 (amount_over W point.1) W
+weight_stands W point points low div = record {
+  lowest = All-head IsLowest point.1 (map fraction_weight points) low;
+  ratio = amount_is_exact W point.1 (All-head (λ f. f.denominator ∣ W) point.1 (map fraction_weight points) div);
+}
+
+masses_stand : (limit W : ℕ) (points : List Point) (total s : Fraction) (x : ℤ) → All IsLowest (map fraction_weight points) → All (λ f. f.denominator ∣ W) (map fraction_weight points) → Stands total x W
+    → add_masses limit total points ≡ Ok s → Stands s (x +ℤ mass_of (points_over W points)) W
+masses_stand limit W [] total s x low div st h =
+    let e : total ≡ s = cc in
+    let n : x ≡ x +ℤ pos 0 = omega (arith, ints) in
+    subst (λ t. Stands t (x +ℤ pos 0) W) e (subst (λ w. Stands total w W) n st)
+masses_stand limit W (point ∷ points) total s x low div st h =
+    let first = after_value (add_mass limit total point) (λ sum. add_masses limit sum points) s h in
+    let t = pos (scale_of point.0) in
+    let here = plus_stands limit total point.1 first.value t x (amount_over W point.1) W st (weight_stands W point points low div) first.first in
+    let rest = masses_stand limit W points first.value s (x +ℤ (amount_over W point.1 *ℤ t)) (All-tail IsLowest point.1 (map fraction_weight points) low) (All-tail (λ f. f.denominator ∣ W) point.1 (map fraction_weight points) div) here first.rest in
+    let e : (x +ℤ (amount_over W point.1 *ℤ t)) +ℤ mass_of (points_over W points) ≡ x +ℤ ((amount_over W point.1 *ℤ t) +ℤ mass_of (points_over W points)) = omega (arith, ints) in
+    subst (λ w. Stands s w W) e rest
+
+zero_stands : (W : ℕ) → Stands (whole (pos 0)) (pos 0) W
+zero_stands W = record { lowest = whole_is_lowest (pos 0); ratio = omega (arith, ints) }
+
+pub masses_are_exact : MassesAreExact
+masses_are_exact limit points low h = by_test (are_weights points) refl
+  where
+    by_test : (t : Bool) → are_weights points ≡ t → HasUnitMass points
+    by_test false e =
+        let no : has_unit_mass limit points ≡ Ok false = rw e refl in
+        cc
+    by_test true e =
+        let W = common_denominator (map fraction_weight points) in
+        let yes : after (add_masses limit (whole (pos 0)) points) (λ sum. Ok (is_same sum (whole (pos 1)))) ≡ Ok true = rw e at h in
+        let sum = after_value (add_masses limit (whole (pos 0)) points) (λ sum. Ok (is_same sum (whole (pos 1)))) true yes in
+        let st = masses_stand limit W points (whole (pos 0)) sum.value (pos 0) low (divides (map fraction_weight points)) (zero_stands W) sum.first in
+        let test : is_eq (fraction_cmp sum.value (whole (pos 1))) ≡ true = cc in
+        let one : sum.value ≡ whole (pos 1) = same_parts sum.value (whole (pos 1)) st.lowest (whole_is_lowest (pos 1)) test in
+        let ratio = subst (λ f. IsRatio f (pos 0 +ℤ mass_of (points_over W points)) W) one st.ratio in
+        record { weights = weights_are points low e; mass = omega (arith, ints, ratio) }
+
+prices_stand : (limit W : ℕ) (o : Order) (points : List Point) (total s : Fraction) (x : ℤ) → All IsLowest (map fraction_weight points) → All (λ f. f.denominator ∣ W) (map fraction_weight points) → Stands total x W
+    → add_prices limit total (option_of o.form) points ≡ Ok s → Stands s (x +ℤ model_price (bundle_of o) (points_over W points)) W
+prices_stand limit W o [] total s x low div st h =
+    let e : total ≡ s = cc in
+    let n : x ≡ x +ℤ pos 0 = omega (arith, ints) in
+    subst (λ t. Stands t (x +ℤ pos 0) W) e (subst (λ w. Stands total w W) n st)
+prices_stand limit W o (point ∷ points) total s x low div st h =
+    let v = option_of o.form in
+    let first = after_value (add_price limit v total point) (λ sum. add_prices limit sum v points) s h in
+    let pays = after_value (payoff_of limit v point.0) (λ p. plus_product limit total point.1 p) first.value first.first in
+    let is = payoffs_are_exact limit v point.0 pays.value pays.first ∙ ap whole (sym (bundle_pays o point.0)) in
+    let p = bundle_payoff (bundle_of o) point.0 in
+    let here = plus_stands limit total point.1 first.value p x (amount_over W point.1) W st (weight_stands W point points low div) (rw (← is) pays.rest) in
+    let rest = prices_stand limit W o points first.value s (x +ℤ (amount_over W point.1 *ℤ p)) (All-tail IsLowest point.1 (map fraction_weight points) low) (All-tail (λ f. f.denominator ∣ W) point.1 (map fraction_weight points) div) here first.rest in
+    let e : (x +ℤ (amount_over W point.1 *ℤ p)) +ℤ model_price (bundle_of o) (points_over W points) ≡ x +ℤ ((amount_over W point.1 *ℤ p) +ℤ model_price (bundle_of o) (points_over W points)) = omega (arith, ints) in
+    subst (λ w. Stands s w W) e rest
+
+price_stands : (limit : ℕ) (o : Order) (points : List Point) (price : Fraction) → All IsLowest (map fraction_weight points) → price_of limit (option_of o.form) points ≡ Ok price
+    → (let W = common_denominator (map fraction_weight points) in Stands price (model_price (bundle_of o) (points_over W points)) W)
+price_stands limit o points price low h =
+    let W = common_denominator (map fraction_weight points) in
+    let st = prices_stand limit W o points (whole (pos 0)) price (pos 0) low (divides (map fraction_weight points)) (zero_stands W) h in
+    let e : pos 0 +ℤ model_price (bundle_of o) (points_over W points) ≡ model_price (bundle_of o) (points_over W points) = omega (arith, ints) in
+    subst (λ w. Stands price w W) e st
+
+pub prices_are_exact : PricesAreExact
+prices_are_exact limit o points price low h = (price_stands limit o points price low h).ratio
+
+-- how far the limit is from the price on the order's side
+abbrev pub distance : Side → ℤ → ℤ → ℤ
+distance Buy bid price = bid -ℤ price
+distance Sell ask price = price -ℤ ask
+
+gain_stands : (limit W : ℕ) (side : Side) (bid price g : Fraction) (x y : ℤ) → Stands bid x W → Stands price y W → gain_at limit side bid price ≡ Ok g → Stands g (distance side x y) W
+gain_stands limit W Buy bid price g x y sb sp h = sum_stands limit bid (negated price) g x (neg_ℤ y) W sb (negated_stands price y W sp) h
+gain_stands limit W Sell bid price g x y sb sp h = sum_stands limit price (negated bid) g y (neg_ℤ x) W sp (negated_stands bid x W sb) h
+
+gain_is_part : (side : Side) (x y : ℤ) → gain side x y ≡ positive_part (distance side x y)
+gain_is_part Buy x y = refl
+gain_is_part Sell x y = refl
+
+quantity_gains : (limit W q : ℕ) (total g s : Fraction) (x d : ℤ) → Stands total x W → Stands g d W
+    → (if int_lt (pos 0) g.numerator then plus_product limit total (whole (pos q)) g else Ok total) ≡ Ok s → Stands s (x +ℤ pos (q * positive_part d)) W
+quantity_gains limit W q total g s x d st sg h = by_test (int_lt (pos 0) g.numerator) refl
+  where
+    by_test : (t : Bool) → int_lt (pos 0) g.numerator ≡ t → Stands s (x +ℤ pos (q * positive_part d)) W
+    by_test true e =
+        let plus : plus_product limit total (whole (pos q)) g ≡ Ok s = rw e at h in
+        let f = after_value (mul_of limit (whole (pos q)) g) (λ p. add_of limit total p) s plus in
+        let here = sum_stands limit total f.value s x (d *ℤ pos q) W st (whole_product_stands limit g f.value (pos q) d W sg f.first) f.rest in
+        let part = part_above d (above g d W sg e) in
+        let same : x +ℤ (d *ℤ pos q) ≡ x +ℤ pos (q * positive_part d) = omega (arith, ints, products, ap (λ (w : ℤ). w *ℤ pos q) part) in
+        subst (λ w. Stands s w W) same here
+    by_test false e =
+        let none : Ok total ≡ Ok s = rw e at h in
+        let stays : total ≡ s = cc in
+        let part : positive_part d ≡ 0 = part_below d (not_above g d W sg e) in
+        let same : x ≡ x +ℤ pos (q * positive_part d) = rw part (omega (arith, ints)) in
+        subst (λ t. Stands t (x +ℤ pos (q * positive_part d)) W) stays (subst (λ w. Stands total w W) same st)
+
+order_gains : (limit W : ℕ) (points : List Point) (o : Order) (total s : Fraction) (x : ℤ) → All IsLowest (map fraction_weight points) → W ≡ common_denominator (map fraction_weight points) → Stands total x W
+    → add_gain limit total points o ≡ Ok s → Stands s (x +ℤ pos (o.quantity * gain_of (points_over W points) W o)) W
+order_gains limit W points o total s x low is_W st h =
+    let price = after_value (price_of limit (option_of o.form) points) (λ price. after (gain_at limit o.side (whole (pos o.price)) price) (λ g. if int_lt (pos 0) g.numerator then plus_product limit total (whole (pos o.quantity)) g else Ok total)) s h in
+    let gained = after_value (gain_at limit o.side (whole (pos o.price)) price.value) (λ g. if int_lt (pos 0) g.numerator then plus_product limit total (whole (pos o.quantity)) g else Ok total) s price.rest in
+    let p = model_price (bundle_of o) (points_over W points) in
+    let sp : Stands price.value p W = subst (λ w. Stands price.value (model_price (bundle_of o) (points_over w points)) w) (sym is_W) (price_stands limit o points price.value low price.first) in
+    let sg = gain_stands limit W o.side (whole (pos o.price)) price.value gained.value (pos o.price *ℤ pos W) p (whole_stands (pos o.price) W) sp gained.first in
+    let d = distance o.side (pos (o.price * W)) p in
+    let part : gain_of (points_over W points) W o ≡ positive_part d = gain_is_part o.side (pos (o.price * W)) p in
+    rw part (quantity_gains limit W o.quantity total gained.value s x d st sg gained.rest)
+
+gains_stand : (limit W : ℕ) (points : List Point) (os : List Order) (total s : Fraction) (x : ℤ) → All IsLowest (map fraction_weight points) → W ≡ common_denominator (map fraction_weight points) → Stands total x W
+    → add_gains limit total points os ≡ Ok s → Stands s (x +ℤ pos (model_bound os (points_over W points) W)) W
+gains_stand limit W points [] total s x low is_W st h =
+    let e : total ≡ s = cc in
+    let n : x ≡ x +ℤ pos 0 = omega (arith, ints) in
+    subst (λ t. Stands t (x +ℤ pos 0) W) e (subst (λ w. Stands total w W) n st)
+gains_stand limit W points (o ∷ os) total s x low is_W st h =
+    let first = after_value (add_gain limit total points o) (λ sum. add_gains limit sum points os) s h in
+    let q = o.quantity * gain_of (points_over W points) W o in
+    let rest = gains_stand limit W points os first.value s (x +ℤ pos q) low is_W (order_gains limit W points o total first.value x low is_W st first.first) first.rest in
+    let e : (x +ℤ pos q) +ℤ pos (model_bound os (points_over W points) W) ≡ x +ℤ pos (q + model_bound os (points_over W points) W) = omega (arith, ints) in
+    subst (λ w. Stands s w W) e rest
+
+pub bounds_are_exact : BoundsAreExact
+bounds_are_exact limit orders points bound low h =
+    let W = common_denominator (map fraction_weight points) in
+    let st = gains_stand limit W points orders (whole (pos 0)) bound (pos 0) low refl (zero_stands W) h in
+    let e : pos 0 +ℤ pos (model_bound orders (points_over W points) W) ≡ pos (model_bound orders (points_over W points) W) = omega (arith, ints) in
+    subst (λ w. IsRatio bound w W) e st.ratio
