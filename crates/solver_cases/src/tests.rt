@@ -75,12 +75,14 @@ fn print_operand(text: &mut String, (above, below): (i128, i128)) -> Result<(), 
 
 fn print_end(text: &mut String, end: &Result<Solved<Frac128>, Stop>) -> Result<(), AllocError> {
     match end {
-        Ok(Solved::Optimal {
-            x,
-            y,
-            reduced,
-            value,
-        }) => {
+        Ok(
+            Solved::Optimal {
+                x,
+                y,
+                reduced,
+                value,
+            },
+        ) => {
             text.push_str(" optimal")?;
             print_numbers(text, x.as_slice())?;
             text.push_str(" |")?;
