@@ -1,18 +1,18 @@
 -- The laws of the match.
-use Rattle.std.proofs.Common.{◌≡◌, ℕ, zero, suc, ◌*◌, ◌≤◌, ◌<◌, List, [], ◌∷◌, length, get_or, ℤ, pos, ◌+ℤ◌, ◌-ℤ◌, ◌*ℤ◌, ◌≤ℤ◌, All, refl, sym, ap, subst, ◌∙◌, arith}
+use Rattle.std.proofs.Common.{◌≡◌, ℕ, ◌*◌, ◌≤◌, List, [], ◌∷◌, get_or, ℤ, pos, ◌≤ℤ◌, All, sym, subst, ◌∙◌, arith}
 use Rattle.std.specs.List.{zip}
 use Rattle.std.proofs.lemmas.List.Elements.{All-cons}
 use Rattle.std.proofs.lemmas.Int.{ints}
 use Rattle.arithmetic.proofs.Products.{products}
 use Rattle.arithmetic.proofs.Sums.{All-head, All-tail}
 use Rattle.form.specs.declared.orders.Order.{Order}
-use Rattle.form.specs.Balance.{is_same_bundle, one_if, balance_of}
-use Rattle.form.specs.Clearing.{Filled, AreFills, net, premium, buys_less_sells}
+use Rattle.form.specs.Balance.{is_same_bundle, one_if}
+use Rattle.form.specs.Clearing.{Filled, AreFills, buys_less_sells}
 use Rattle.form.specs.Payoff.{BundleLeg, bundle_of, bundle_payoff}
 use Rattle.market_laws.proofs.Legs.{signed_sums_agree}
 use Rattle.each_match.specs.Match.{match_by_option}
 use Rattle.each_match.specs.Laws.{matched, MatchIsWithin, MatchIsBalanced, MatchOwesNothing, MatchEarns, MatchCovers}
-use Rattle.each_match.proofs.Matched.{IsWithin, IsWithin-length, IsMatched, by_bundle, matched_by_option}
+use Rattle.each_match.proofs.Matched.{IsWithin, IsWithin-length, by_bundle, matched_by_option}
 use Rattle.each_match.proofs.Sums.{total}
 
 total_is : (f : Order → ℤ) (orders : List Order) (fills : List ℕ) → total f orders fills ≡ buys_less_sells f (zip orders fills)

@@ -1,5 +1,5 @@
 -- Each offer is that of an order on its side.
-use Rattle.std.proofs.Common.{◌≡◌, ℕ, zero, suc, ◌+◌, ◌-◌, ◌≤◌, List, [], ◌∷◌, Bool, true, false, if◌then◌else◌, Some, refl, sym, ap, ◌∙◌, arith}
+use Rattle.std.proofs.Common.{◌≡◌, ℕ, suc, ◌+◌, ◌-◌, ◌≤◌, List, [], ◌∷◌, Bool, true, false, if◌then◌else◌, Some, refl, ap, ◌∙◌, arith}
 use Rattle.std.specs.List.{slice_get}
 use Rattle.form.specs.declared.orders.Order.{Order}
 use Rattle.form.specs.declared.orders.Side.{Side}

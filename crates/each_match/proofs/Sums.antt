@@ -1,5 +1,5 @@
 -- How a trade changes the sums over the fills.
-use Rattle.std.proofs.Common.{◌≡◌, ℕ, zero, suc, ◌+◌, ◌-◌, ◌*◌, ◌≤◌, ◌<◌, min, List, [], ◌∷◌, true, false, Bool, length, map, slice_index, slice_set, Option, None, Some, ℤ, pos, ◌+ℤ◌, ◌*ℤ◌, ◌≤ℤ◌, refl, sym, ap, subst, ◌∙◌, arith}
+use Rattle.std.proofs.Common.{◌≡◌, ℕ, zero, suc, ◌+◌, List, [], ◌∷◌, length, slice_index, slice_set, Some, ℤ, pos, ◌+ℤ◌, ◌*ℤ◌, ap, arith}
 use Rattle.std.specs.List.{zip, slice_get}
 use Rattle.std.proofs.lemmas.Int.{ints}
 use Rattle.arithmetic.proofs.Products.{products}

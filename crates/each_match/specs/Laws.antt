@@ -1,5 +1,5 @@
 -- What the match of each option by itself implies.
-use Rattle.std.specs.Prelude.{ℕ, ◌≡◌, List, ℤ, pos, ◌≤ℤ◌}
+use Rattle.std.specs.Prelude.{ℕ, ◌≡◌, List, pos, ◌≤ℤ◌}
 use Rattle.std.specs.List.{zip}
 use Rattle.exact_num.specs.Fraction.{whole}
 use Rattle.form.specs.declared.orders.Order.{Order}

@@ -121,9 +121,19 @@ mod tests {
             for (place, row) in rows.iter().enumerate() {
                 let (side, form, price, quantity, _) = *row;
                 let id = place as u64;
-                orders.push(Order { id, account: 1, side, form, price, quantity })?;
+                orders.push(Order {
+                    id,
+                    account: 1,
+                    side,
+                    form,
+                    price,
+                    quantity,
+                })?;
             }
-            let batch = Batch { underlyings: 1, orders: Orders::from_vec(orders) };
+            let batch = Batch {
+                underlyings: 1,
+                orders: Orders::from_vec(orders),
+            };
             let fills = match_each(alloc, &batch)?;
             for (fill, row) in fills.iter().zip(rows) {
                 assert_eq!(rt; *fill, row.4);

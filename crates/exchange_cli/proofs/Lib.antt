@@ -1,3 +1,4 @@
+pub mod Covered
 pub mod LastLine
 pub mod Pieces
 pub mod Weights

@@ -6,6 +6,7 @@ ghost use Rattle.port_io.specs.Writes.{AppendsFront};
 ghost use Rattle.exchange_core.specs.ExchangeState.{empty_exchange};
 ghost use Rattle.exchange_core.specs.Within.{IsWithin};
 ghost use Rattle.exchange_cli.specs.Output.{output, output_from, line_step, answered};
+ghost use Rattle.exchange_cli.specs.Replies.{RepliesAreCovered};
 ghost use Rattle.exchange_cli.specs.Words.{is_run};
 ghost use Rattle.exchange_cli.specs.declared.run.RunStop.TheVariants.{OutOfMemory, SinkFailed};
 
@@ -130,6 +131,9 @@ pub fn exchange<S: Source, K: Sink>(
         (S.left source.new ≡ Some []) × Appends (K.written sink.old) (K.written sink.new) (output input)) }
     ensures front { (result ≡ Status.WriteFault) ⊎ (result ≡ Status.Memory) → IfSome (S.left source.old) (λ input.
         AppendsFront (K.written sink.old) (K.written sink.new) (output input)) }
+
+    // Each batch that a reply to these bytes clears covers its surplus at every settlement, and the surplus is not below 0.
+    ensures covered { IfSome (S.left source.old) RepliesAreCovered }
 
     // Each other status has its cause.
     ensures read_fault { result ≡ Status.ReadFault → Rose (S.faults source.old) (S.faults source.new) }

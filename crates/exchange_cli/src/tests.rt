@@ -38,10 +38,13 @@ fn inputs_give_their_replies(rt: HostRuntime) -> Result<(), Fail> {
     let not_built = "{\"line\":1,\"number\":90,\"reason\":\"NotBuilt\",\"reply\":\"refused\"}\n";
     let opened = "{\"account\":7,\"line\":1,\"reply\":\"opened\"}\n";
     let third = "{\"account\":7,\"line\":3,\"reply\":\"opened\"}\n";
+    let twice =
+        "{\"account\":7,\"line\":1,\"reply\":\"opened\"}\n{\"line\":3,\"number\":90,\"reason\":\"NotBuilt\",\"reply\":\"refused\"}\n";
     let cases = [
         ("", ""),
         ("\n\r\n", ""),
         ("open,7", opened),
+        ("open,7\n\nopen,7\n", twice),
         ("open,7\r\n", opened),
         ("\n\r\nopen,7", third),
         ("open,07\n", syntax),
@@ -59,6 +62,16 @@ fn inputs_give_their_replies(rt: HostRuntime) -> Result<(), Fail> {
         ("balance,7\n", not_built),
         ("settle,\"\n", not_built),
         ("withdraw\n", not_built),
+        ("market,1,9\n", syntax),
+        ("market,1,2\n", not_built),
+        ("buy,7,1,call,10,7,1,1\n", not_built),
+        ("buy,7,1,call,10,7,1,0\n", syntax),
+        ("buy,7,1,calls,10,7,1,1\n", syntax),
+        ("sell,7,1,put,1000000001,7,1,1\n", syntax),
+        ("sell,7,1,put,10,7,1\n", syntax),
+        ("sell,7,1,put,10,7,1,1,1,1,1,1,1,1,1,1\n", syntax),
+        ("clear,1,0\n", syntax),
+        ("clear,1,1\n", not_built),
     ];
     for (input, output) in cases {
         let mut source = MemSource::new(input.as_bytes().to_vec(alloc)?, 3, Vec::new(alloc));
@@ -67,6 +80,24 @@ fn inputs_give_their_replies(rt: HostRuntime) -> Result<(), Fail> {
         assert_eq!(rt; status, Status::Done, "at {input}");
         assert_eq!(rt; sink.written(), output.as_bytes(), "at {input}");
     }
+    Ok(())
+}
+
+// A market holds 256 live orders.
+#[test]
+fn one_order_too_many_is_refused(rt: HostRuntime) -> Result<(), Fail> {
+    let alloc = rt.alloc();
+    let mut input = String::from_str(alloc, "open,1\nmarket,1,1\n")?;
+    for _ in 0..257u32 {
+        input.push_str("buy,1,1,call,10,7,1,1\n")?;
+    }
+    let mut source = SureSource::new(input.as_bytes().to_vec(alloc)?);
+    let mut sink = MemSink::new(alloc, 1_000_000, 1_000_000, Vec::new(alloc))?;
+    let status = exchange(alloc, &words(alloc, &["run"])?, &mut source, &mut sink);
+    assert_eq!(rt; status, Status::Done);
+    let last =
+        "{\"line\":258,\"order\":256,\"reply\":\"placed\"}\n{\"line\":259,\"number\":90,\"reason\":\"NotBuilt\",\"reply\":\"refused\"}\n";
+    assert!(rt; sink.written().ends_with(last.as_bytes()));
     Ok(())
 }
 

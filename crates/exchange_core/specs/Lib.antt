@@ -1,3 +1,4 @@
+pub mod Covered
 pub mod ExchangeState
 pub mod Kept
 pub mod Orders

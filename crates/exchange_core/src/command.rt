@@ -11,11 +11,19 @@ pub enum Kind {
 #[derive(Clone, Copy, Debug, PartialEq, Eq)]
 pub enum Command {
     /// Opens an account.
-    Open { account: u32 },
+    Open {
+        account: u32,
+    },
     /// Adds an amount, in ticks, to an account.
-    Deposit { account: u32, amount: u64 },
+    Deposit {
+        account: u32,
+        amount: u64,
+    },
     /// Lists a market on this number of underlyings.
-    Market { market: u32, underlyings: u8 },
+    Market {
+        market: u32,
+        underlyings: u8,
+    },
     /// Places an order for an option with this strike, in whole prices, and the first `count` of the weights, at a limit
     /// price in ticks for one option.
     Trade {
@@ -30,7 +38,12 @@ pub enum Command {
         weights: [i16; 8],
     },
     /// Clears the live orders of a market, with a work budget in units.
-    Clear { market: u32, budget: u32 },
+    Clear {
+        market: u32,
+        budget: u32,
+    },
     /// Asks for the balance of an account, or of the house, which is account 0.
-    Balance { account: u32 },
+    Balance {
+        account: u32,
+    },
 }

@@ -5,6 +5,7 @@ mod clear;
 mod command;
 mod exchange;
 mod fills;
+pub mod laws;
 mod limits;
 mod refusal;
 mod reply;

@@ -8,13 +8,23 @@ use form::Batch;
 #[derive(Debug, Drop)]
 pub enum Reply {
     /// The account is open, with balance 0.
-    Opened { account: u32 },
+    Opened {
+        account: u32,
+    },
     /// The amount was added; the new balance.
-    Deposited { account: u32, balance: i128 },
+    Deposited {
+        account: u32,
+        balance: i128,
+    },
     /// The market is listed.
-    Listed { market: u32, underlyings: u8 },
+    Listed {
+        market: u32,
+        underlyings: u8,
+    },
     /// The order is live, under its number.
-    Placed { order: u64 },
+    Placed {
+        order: u64,
+    },
     /// The batch of this number was cleared: what was filled of its orders, and what the house keeps.
     Cleared {
         number: u32,
@@ -30,7 +40,10 @@ pub enum Reply {
         reserved: i128,
     },
     /// The line was refused, by the number of the refusal; `field` is 0 but where a field is out of its range.
-    Refused { number: u32, field: u8 },
+    Refused {
+        number: u32,
+        field: u8,
+    },
 }
 
 impl Reply {

@@ -13,7 +13,7 @@ returns c =
     let is_earned = to_z_pos w128 earned.result (omega (arith, earned.ensures.small)) in
     let fits : FitsSigned w128 (pos paid.result -ℤ pos earned.result) = omega (arith, ints, paid.ensures.small, earned.ensures.small) in
     rw (is_paid, is_earned) (
-        to_z-of_z w128 (pos paid.result -ℤ pos earned.result) fits
-        ∙ ap₂ (λ a b. pos a -ℤ pos b) paid.ensures.total earned.ensures.total
-        ∙ sym (premium_is (zip c.args.orders.now c.args.fills.now))
+    to_z-of_z w128 (pos paid.result -ℤ pos earned.result) fits
+    ∙ ap₂ (λ a b. pos a -ℤ pos b) paid.ensures.total earned.ensures.total
+    ∙ sym (premium_is (zip c.args.orders.now c.args.fills.now))
     )

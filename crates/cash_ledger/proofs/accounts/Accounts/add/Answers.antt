@@ -1,4 +1,4 @@
-use Rattle.std.proofs.Common.{◌≡◌, ℕ, List, pos, [], ◌∷◌, ◌++◌, nat_eq, ap, ◌∙◌}
+use Rattle.std.proofs.Common.{ℕ, List, pos, [], ◌∷◌, ◌++◌, nat_eq, ap, ◌∙◌}
 use Rattle.std.specs.Map.{keys_of, lookup}
 use Rattle.indexmap.proofs.CallerLemmas.{insert_entry-new}
 use Rattle.cash_ledger.proofs.BehindHouse.{none_behind, keys_push}

@@ -1,4 +1,4 @@
-use Rattle.std.proofs.Common.{◌≡◌, ℕ, List, ◌∷◌, nat_eq, sym, ap, ◌∙◌, IsSome, subst}
+use Rattle.std.proofs.Common.{ℕ, List, ◌∷◌, nat_eq, sym, ap, ◌∙◌, IsSome, subst}
 use Rattle.std.specs.Map.{keys_of, lookup}
 use Rattle.indexmap.proofs.CallerLemmas.{keys-insert_entry-present}
 use Rattle.cash_ledger.proofs.BehindHouse.{lookup_behind}

@@ -1,4 +1,4 @@
-use Rattle.std.proofs.Common.{rules, ◌+ℤ◌, ◌<◌, [], ◌∷◌, ◌++◌, length, arith, sym, ap, ◌∙◌, FitsSigned, ◌^◌, cond, nat_eq, Some}
+use Rattle.std.proofs.Common.{rules, ◌<◌, length, arith, sym, ap, ◌∙◌, FitsSigned, ◌^◌, cond, nat_eq, Some}
 use Rattle.std.specs.Map.{lookup}
 use Rattle.std.proofs.lemmas.Int.{ints, to_z-of_z}
 use mir.Syntax.{w128}
