@@ -1,5 +1,5 @@
 -- Every cleared batch of a step covers its surplus.
-use Rattle.std.proofs.Common.{ℕ, Bool, true, false, not, ◌||◌, ◌+◌, List, [], ◌∷◌, ◌++◌, take, pos, Some, if◌then◌else◌}
+use Rattle.std.proofs.Common.{Bool, true, false, not, ◌||◌, ◌+◌, [], ◌∷◌, ◌++◌, take, pos, Some, if◌then◌else◌}
 use Rattle.std.specs.Prelude.{nat_le, nat_eq}
 use Rattle.std.specs.List.{zip}
 use Rattle.cash_ledger.specs.declared.entry.Cause.TheVariants as cause
@@ -9,7 +9,6 @@ use Rattle.form.specs.Clearing.{premium}
 use Rattle.form.specs.FormOf.{form_of}
 use Rattle.each_match.specs.Match.{match_by_option}
 use Rattle.each_match.proofs.MatchLaws.{match_is_within, match_earns, match_covers}
-use Rattle.exchange_core.specs.declared.command.Command.{Command}
 use Rattle.exchange_core.specs.declared.command.Command.TheVariants.{Open, Deposit, Market, Trade, Clear, Balance}
 use Rattle.exchange_core.specs.declared.limits.TheConstants.{MAX_BATCHES}
 use Rattle.exchange_core.specs.declared.refusal.Refusal.TheVariants.{NotBuilt}
@@ -21,7 +20,7 @@ use Rattle.exchange_core.specs.Covered.{AreCovered, IsCovered, StepIsCovered}
 use Rattle.exchange_core.specs.ExchangeState.{ExchangeState, is_market}
 use Rattle.exchange_core.specs.Orders.{option_by, live_order}
 use Rattle.exchange_core.specs.Premiums.{premium_entries}
-use Rattle.exchange_core.specs.Step.{step, refused, is_not_placed}
+use Rattle.exchange_core.specs.Step.{refused, is_not_placed}
 
 -- a refusal clears nothing
 unless_refused : (b : Bool) (state next : ExchangeState) (reply : Reply) → IsCovered reply → IsCovered ((if b then refused state NotBuilt else (reply, next)).0)

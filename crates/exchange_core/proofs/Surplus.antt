@@ -1,7 +1,5 @@
 -- The surplus is what buyers pay less what sellers get.
-use Rattle.std.proofs.Common.{◌≡◌, ℕ, ◌+◌, ◌*◌, ◌≤◌, List, [], ◌∷◌, ℤ, pos, ◌-ℤ◌, refl, sym, ap, ap₂, ◌∙◌, arith}
-use Rattle.std.proofs.lemmas.Int.{ints}
-use Rattle.arithmetic.proofs.Products.{products}
+use Rattle.std.proofs.Common.{◌≡◌, ℕ, List, [], ◌∷◌, pos, ◌-ℤ◌, refl, ap, ap₂, ◌∙◌, arith}
 use Rattle.arithmetic.proofs.Sums.{weigh_pos}
 use Rattle.arithmetic.specs.Sums.{weigh}
 use Rattle.form.specs.Clearing.{Filled, bought, sold, premium}

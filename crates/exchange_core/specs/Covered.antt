@@ -3,7 +3,7 @@ use Rattle.std.specs.Prelude.{ℕ, ℤ, pos, ◌≤ℤ◌, List, ⊤}
 use Rattle.std.specs.List.{zip}
 use Rattle.exact_num.specs.Fraction.{whole}
 use Rattle.form.specs.declared.orders.Order.{Order}
-use Rattle.form.specs.Clearing.{AreFills, Covers, premium}
+use Rattle.form.specs.Clearing.{AreFills, Covers}
 use Rattle.exchange_core.specs.declared.command.Command.{Command}
 use Rattle.exchange_core.specs.declared.reply.Reply.{Reply}
 use Rattle.exchange_core.specs.declared.reply.Reply.TheVariants.{Opened, Deposited, Listed, Placed, Cleared, Balance, Refused}

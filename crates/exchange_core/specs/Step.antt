@@ -1,14 +1,12 @@
 -- One step of the exchange: the reply to a command, and the state after it.
-use Rattle.std.specs.Prelude.{ℕ, ℤ, pos, ◌+◌, [], ◌∷◌, ◌++◌, List, take, Bool, not, nat_eq, nat_le, nat_lt, ◌||◌, if◌then◌else◌, length, Some, None, is_some}
+use Rattle.std.specs.Prelude.{ℕ, pos, ◌+◌, [], ◌∷◌, ◌++◌, take, Bool, not, nat_eq, nat_le, nat_lt, ◌||◌, if◌then◌else◌, length, Some, is_some}
 use Rattle.std.specs.List.{zip}
-use Rattle.cash_ledger.specs.declared.entry.Cause.{Cause}
 use Rattle.cash_ledger.specs.declared.entry.Cause.TheVariants as cause
 use Rattle.cash_ledger.specs.declared.limits.TheConstants.{MAX_ACCOUNTS}
 use Rattle.cash_ledger.specs.Entries.{balance_of}
 use Rattle.cash_ledger.specs.Ledger.{is_open}
 use Rattle.each_match.specs.Match.{match_by_option}
 use Rattle.form.specs.declared.limits.TheConstants.{MAX_ORDERS}
-use Rattle.form.specs.declared.orders.Order.{Order}
 use Rattle.form.specs.Clearing.{premium}
 use Rattle.form.specs.FormOf.{form_of}
 use Rattle.exchange_core.specs.declared.command.Command.{Command}

@@ -36,11 +36,11 @@ equal_tests false false f g = refl
 pub forms_equal : (a b : Form) → (nat_eq a.count b.count && pointwise int_eq a.entries b.entries) ≡ is_same_option (option_of a) (option_of b)
 forms_equal a b = equal_tests _ _
     (λ h.
-        let parts = and_parts (nat_eq a.count b.count) (pointwise int_eq a.entries b.entries) h in
-        let counts : a.count ≡ b.count = grind (arith, nat_tests, parts.0) in
-        let same : option_of a ≡ option_of b = (λ i. take (counts i) ((pointwise_decides Decides-int_eq a.entries b.entries).0 parts.1 i)) in
-        ap (is_same_option (option_of a)) (sym same) ∙ option_is_same (option_of a))
+    let parts = and_parts (nat_eq a.count b.count) (pointwise int_eq a.entries b.entries) h in
+    let counts : a.count ≡ b.count = grind (arith, nat_tests, parts.0) in
+    let same : option_of a ≡ option_of b = (λ i. take (counts i) ((pointwise_decides Decides-int_eq a.entries b.entries).0 parts.1 i)) in
+    ap (is_same_option (option_of a)) (sym same) ∙ option_is_same (option_of a))
     (λ h.
-        let same = forms_are_options a b (same_option_is (option_of a) (option_of b) h) in
-        let counts : nat_eq a.count b.count ≡ true = let e = same.0 in grind (arith, nat_tests) in
-        rw counts ((pointwise_decides Decides-int_eq a.entries b.entries).1 same.1))
+    let same = forms_are_options a b (same_option_is (option_of a) (option_of b) h) in
+    let counts : nat_eq a.count b.count ≡ true = let e = same.0 in grind (arith, nat_tests) in
+    rw counts ((pointwise_decides Decides-int_eq a.entries b.entries).1 same.1))

@@ -1,5 +1,5 @@
-use Rattle.std.proofs.Common.{rules, ap, ◌∙◌, string_bytes}
-use Rattle.exchange_cli.specs.Texts.{with_piece, order_text}
+use Rattle.std.proofs.Common.{rules, string_bytes}
+use Rattle.exchange_cli.specs.Texts.{order_text}
 use Rattle.exchange_cli.proofs.Pieces.{piece_appended}
 use Rattle.exchange_cli.proofs.batches.print_orders.Goals as goal
 

@@ -1,8 +1,8 @@
-use Rattle.std.proofs.Common.{rules, ◌≡◌, ℕ, ℤ, List, drop, ◌<◌, ◌+◌, ◌++◌, [], ◌∷◌, length, map, take, get_or, slice_set, FitsSigned, Ok, Err, sym, ap, ◌∙◌, add-one, arith}
+use Rattle.std.proofs.Common.{rules, ◌≡◌, ℕ, ℤ, List, drop, ◌<◌, ◌+◌, ◌++◌, [], ◌∷◌, length, map, take, slice_set, FitsSigned, sym, ap, ◌∙◌, add-one, arith}
 use Rattle.std.proofs.Math.Seq.{take-suc-set}
 use Rattle.std.proofs.lemmas.Int.{ints, to_z-of_z}
 use mir.Syntax.{w16}
-use Rattle.std.proofs.lemmas.List.{get_or-map, length-map, take_more}
+use Rattle.std.proofs.lemmas.List.{get_or-map, length-map}
 use Rattle.exchange_cli.specs.Commands.{weights_in}
 use Rattle.exchange_cli.proofs.Weights.{behind, weight_read, weight_refused, zeros_left, all_read, same_refusal}
 use Rattle.exchange_cli.proofs.trades.read_entries.Goals as goal

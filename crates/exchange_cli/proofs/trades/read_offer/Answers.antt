@@ -1,4 +1,4 @@
-use Rattle.std.proofs.Common.{length, map, arith}
+use Rattle.std.proofs.Common.{map, arith}
 use Rattle.std.proofs.lemmas.List.{length-map}
 use Rattle.exchange_cli.proofs.Weights.{short_offer}
 use Rattle.exchange_cli.proofs.trades.read_offer.Goals as goal

@@ -1,4 +1,4 @@
-use Rattle.std.proofs.Common.{◌≡◌, FitsSigned, ◌<◌, ◌^◌, pos, ◌-ℤ◌, sym, ap, ap₂, ◌∙◌, arith}
+use Rattle.std.proofs.Common.{FitsSigned, pos, ◌-ℤ◌, sym, ap₂, ◌∙◌, arith}
 use Rattle.std.proofs.lemmas.Int.{ints, to_z_pos, to_z-of_z}
 use Rattle.std.specs.List.{zip}
 use mir.Syntax.{w128}
