@@ -132,11 +132,12 @@ pub fn exchange<S: Source, K: Sink>(
     ensures front { (result ≡ Status.WriteFault) ⊎ (result ≡ Status.Memory) → IfSome (S.left source.old) (λ input.
         AppendsFront (K.written sink.old) (K.written sink.new) (output input)) }
 
-    // Each batch that a reply to these bytes clears covers its surplus at every settlement, and the surplus is not below 0.
+    // It is the text of the replies, and each batch that one of them clears covers its surplus at every settlement.
     ensures covered { IfSome (S.left source.old) RepliesAreCovered }
 
     // Each other status has its cause.
     ensures read_fault { result ≡ Status.ReadFault → Rose (S.faults source.old) (S.faults source.new) }
+    ensures read_fault_in_time { result ≡ Status.ReadFault → S.taken source.new ≤ S.taken source.old + MAX_INPUT }
     ensures read_fault_silent { result ≡ Status.ReadFault → sink.new ≡ sink.old }
     ensures write_fault { result ≡ Status.WriteFault → Rose (K.faults sink.old) (K.faults sink.new) }
     ensures too_long { result ≡ Status.TooLong → IfSome (S.left source.old) (λ input. MAX_INPUT < length input) }

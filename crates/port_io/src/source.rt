@@ -60,7 +60,8 @@ impl From<AllocError> for ReadStop {
 /// Reads all bytes that are left, of which there may be `limit`.
 ///
 /// Answers `TooLong` where more bytes were left and no fault came before these were read, and
-/// `ReadFault` only where the count of faults rose. Either may have taken bytes of the source.
+/// `ReadFault` only where the count of faults rose, before more bytes than `limit` were taken. Either may have taken bytes
+/// of the source.
 pub fn read_all<S: Source>(alloc: Global, source: &mut S, limit: usize) -> Result<Vec<u8>, ReadStop>
     requires { limit ≤ 268435456 }
     ensures all { IfOk result (λ bytes. IfSome (S.left source.old) (λ left.
@@ -69,6 +70,7 @@ pub fn read_all<S: Source>(alloc: Global, source: &mut S, limit: usize) -> Resul
     ensures calm { OnOk result (S.faults source.new ≡ S.faults source.old) }
 
     ensures fault { IsErrOf result ReadStop.ReadFault → Rose (S.faults source.old) (S.faults source.new) }
+    ensures in_time { IsErrOf result ReadStop.ReadFault → S.taken source.new ≤ S.taken source.old + limit }
     ensures too_long { IsErrOf result ReadStop.TooLong →
         IfSome (S.left source.old) (λ left. limit < length left) }
     ensures no_fault_before { IsErrOf result ReadStop.TooLong → S.faults source.new ≡ S.faults source.old }

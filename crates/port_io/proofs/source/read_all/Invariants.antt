@@ -10,6 +10,7 @@ invariant-loop-buf g l =
       gave : Consumes (S.left l.fn.source) (S.left l.source) l.bytes.items;
       calm : S.faults l.source ≡ S.faults l.fn.source;
       taken : raised (S.taken l.fn.source) (length l.bytes.items) ≤ S.taken l.source;
+      few : S.taken l.source ≤ S.taken l.fn.source + length l.bytes.items;
     }
 
 abbrev pub decreases-loop-buf : goal.decreases-loop-buf
