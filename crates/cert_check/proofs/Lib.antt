@@ -1,3 +1,4 @@
 pub mod FillSteps
 pub mod Shapes
 pub mod SameOption
+pub mod Yes
