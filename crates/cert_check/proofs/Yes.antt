@@ -1,16 +1,15 @@
 -- What a yes shows.
-use Rattle.std.proofs.Common.{◌≡◌, ℕ, ◌+◌, ◌*◌, ◌≤◌, ◌==◌, Bool, true, false, ◌&&◌, List, [], ◌∷◌, length, map, zip, arith, ℤ, pos, neg_ℤ, ◌+ℤ◌, ◌-ℤ◌, ◌*ℤ◌, ◌≤ℤ◌, All, Result, Ok, Err, refl, ap, sym, subst, ◌∙◌, eqb-true}
+use Rattle.std.proofs.Common.{◌≡◌, ℕ, ◌+◌, ◌==◌, Bool, true, false, ◌&&◌, List, [], ◌∷◌, length, map, zip, arith, ℤ, pos, neg_ℤ, ◌+ℤ◌, ◌-ℤ◌, ◌*ℤ◌, ◌≤ℤ◌, All, Result, Ok, Err, refl, ap, sym, subst, ◌∙◌, eqb-true}
 use Rattle.std.specs.Prelude.{int_le}
 use Rattle.std.specs.Int.{◌∣◌}
 use Rattle.std.specs.Int.Signed.{le_z_yes}
-use Rattle.std.specs.Ordering.{is_eq}
 use Rattle.std.proofs.lemmas.Float.{T_from_true}
 use Rattle.std.proofs.lemmas.Int.{ints}
 use Rattle.std.proofs.lemmas.List.{length-map}
 use Rattle.std.proofs.lemmas.List.Elements.{All-nil, All-cons}
 use Rattle.arithmetic.proofs.Sums.{All-head, All-tail}
 use Rattle.exact_num.specs.declared.misfit.Wide.{Wide}
-use Rattle.exact_num.specs.Fraction.{Fraction, IsLowest, whole, negated, fraction_cmp}
+use Rattle.exact_num.specs.Fraction.{Fraction, IsLowest, whole, negated}
 use Rattle.exact_num.specs.CommonDenominator.{common_denominator, amount_over, IsRatio}
 use Rattle.exact_num.specs.Fits.{sub_of, after}
 use Rattle.exact_num.proofs.After.{after_value}
@@ -23,7 +22,7 @@ use Rattle.form.specs.declared.orders.Order.{Order}
 use Rattle.form.specs.declared.orders.Batch.{Batch}
 use Rattle.form.specs.Payoff.{IsState}
 use Rattle.form.specs.Clearing.{for_side, signed_premium}
-use Rattle.form.specs.Certificate.{Point, IsFill, AreFractionFills, signed_over, IsPremiumLessLiability, fraction_weight, IsFractionMeasure, MeasureProves}
+use Rattle.form.specs.Certificate.{Point, IsFill, AreFractionFills, signed_over, IsPremiumLessLiability, fraction_weight, FillsCover, MeasureProves}
 use Rattle.form.proofs.DotSteps.{length-vector_of}
 use Rattle.form.proofs.StepRatios.{Stands, sum_stands, negated_stands}
 use Rattle.market_laws.proofs.Certificate.{line_certificate_covers, cover_and_measure_are_optimal}
@@ -34,7 +33,7 @@ use Rattle.measure.specs.declared.measures.Weighted.{Weighted}
 use Rattle.measure.specs.declared.measures.Measure.{Measure}
 use Rattle.measure.specs.Points.{point_of}
 use Rattle.measure.specs.Sums.{is_same, has_unit_mass, bound_of}
-use Rattle.measure.proofs.Sound.{masses_are_exact, bounds_are_exact}
+use Rattle.measure.proofs.Sound.{masses_are_exact, bounds_are_exact, bound_is_lowest}
 use Rattle.cert_check.specs.declared.outcome.Cover.{Cover}
 use Rattle.cert_check.specs.declared.outcome.Cover.TheVariants.{Line}
 use Rattle.cert_check.specs.declared.outcome.Mark.TheVariants.{Optimal}
@@ -44,9 +43,9 @@ use Rattle.cert_check.specs.declared.outcome.Judgement.{Judgement}
 use Rattle.cert_check.specs.declared.outcome.Judgement.TheVariants.{Yes}
 use Rattle.cert_check.specs.Shape.{states_have, cover_fits, mark_fits, has_shape, is_fill, are_fills, is_at_most}
 use Rattle.cert_check.specs.Cover.{add_premiums, surplus_holds, mark_covers}
-use Rattle.cert_check.specs.Events.{check, bound_holds, judge_mark, cover_holds, verdict_of, measure_condition, bound_condition, yes}
-use Rattle.cert_check.specs.Laws.{YesHasItsMeasure, IsProved, YesOnLineProves}
-use Rattle.cert_check.proofs.Shapes.{and_parts, states_all, shaped}
+use Rattle.cert_check.specs.Events.{check, bound_holds, judge_mark, cover_holds, verdict_of, measure_condition, bound_condition}
+use Rattle.cert_check.specs.Laws.{YesHasItsMeasure, YesOnLineProves}
+use Rattle.cert_check.proofs.Shapes.{and_parts, shaped}
 
 -- a yes has passed each condition
 check_yes : (k : No) (r : Result Bool Wide) (next : Judgement) → check k r next ≡ Yes → (r ≡ Ok true) × (next ≡ Yes)
@@ -138,3 +137,58 @@ states_are n (p ∷ ps) h =
 weights_lowest : (points : List Weighted) → All IsLowest (map fraction_weight (map point_of points))
 weights_lowest [] = All-nil IsLowest
 weights_lowest (p ∷ ps) = All-cons IsLowest (fraction_of p.weight) (map fraction_weight (map point_of ps)) p.weight.lowest (weights_lowest ps)
+
+-- what a yes with the mark optimal has passed besides
+record Marked (batch : Batch) (outcome : Outcome) (cover : Cover) (measure : Measure) : Type 0 where
+  fits : cover_fits batch.underlyings cover ≡ true
+  states : states_have (batch.underlyings + 1) measure.points ≡ true
+  mass : has_unit_mass limit (map point_of measure.points) ≡ Ok true
+  bound : bound_holds limit batch.orders (map point_of measure.points) (fraction_of outcome.claim.surplus) ≡ Ok true
+
+marked : (batch : Batch) (outcome : Outcome) (cover : Cover) (measure : Measure) → outcome.mark ≡ Optimal cover measure → Passed batch outcome → Marked batch outcome cover measure
+marked batch outcome cover measure is p =
+    let S = fraction_of outcome.claim.surplus in
+    let fits : mark_fits batch.underlyings (Optimal cover measure) ≡ true = ap (mark_fits batch.underlyings) (sym is) ∙ (shaped batch outcome p.shape).mark in
+    let parts = and_parts (cover_fits batch.underlyings cover) (states_have (batch.underlyings + 1) measure.points) fits in
+    let judged : judge_mark limit batch.orders S (Optimal cover measure) ≡ Yes = ap (judge_mark limit batch.orders S) (sym is) ∙ p.mark in
+    let mass = check_yes measure_condition (has_unit_mass limit (map point_of measure.points)) _ judged in
+    let bound = check_yes bound_condition (bound_holds limit batch.orders (map point_of measure.points) S) _ mass.1 in
+    record { fits = parts.0; states = parts.1; mass = mass.0; bound = bound.0 }
+
+proves : (batch : Batch) (S : Frac128) (measure : Measure) → bound_holds limit batch.orders (map point_of measure.points) (fraction_of S) ≡ Ok true → MeasureProves batch.orders (map point_of measure.points) (fraction_of S)
+proves batch S measure h =
+    let points = map point_of measure.points in
+    let b = after_value (bound_of limit batch.orders points) (λ bound. Ok (is_same bound (fraction_of S))) true h in
+    let test : is_same b.value (fraction_of S) ≡ true = cc (b.rest) in
+    let low = bound_is_lowest limit batch.orders points b.value (weights_lowest measure.points) b.first in
+    subst (MeasureProves batch.orders points) (same_is b.value (fraction_of S) low S.lowest test) (bounds_are_exact limit batch.orders points b.value (weights_lowest measure.points) b.first)
+
+pub yes_has_its_measure : YesHasItsMeasure
+yes_has_its_measure batch outcome cover measure is h =
+    let m = marked batch outcome cover measure is (passed batch outcome h) in (
+      record { states = states_are batch.underlyings measure.points m.states; unit = masses_are_exact limit (map point_of measure.points) (weights_lowest measure.points) m.mass },
+      proves batch outcome.claim.surplus measure m.bound,
+    )
+
+pub yes_on_line_proves : YesOnLineProves
+yes_on_line_proves batch outcome measure is h =
+    let p = passed batch outcome h in
+    let m = marked batch outcome Line measure is p in
+    let shape = shaped batch outcome p.shape in
+    let fs = map fraction_of outcome.fills in
+    let L = fraction_of outcome.claim.liability in
+    let S = fraction_of outcome.claim.surplus in
+    let low = lowest_of outcome.fills in
+    let parts = both (surplus_holds limit (zip batch.orders fs) L S) (mark_covers limit batch.underlyings batch.orders fs L outcome.mark) p.cover in
+    let line : line_holds limit (zip batch.orders fs) batch.orders L ≡ Ok true = ap (mark_covers limit batch.underlyings batch.orders fs L) (sym is) ∙ parts.1 in
+    let surplus = surplus_is batch.orders fs L S low outcome.claim.liability.lowest outcome.claim.surplus.lowest parts.0 in
+    let are = are_fraction_fills batch.orders outcome.fills shape.fills p.fills in
+    let closes = lines_that_hold_close limit batch.orders fs L are.0 low outcome.claim.liability.lowest line in
+    let one : batch.underlyings ≡ 1 = eqb-true batch.underlyings 1 m.fits in
+    let covers : FillsCover batch.underlyings batch.orders fs S = subst (λ n. FillsCover n batch.orders fs S) (sym one) (line_certificate_covers batch.orders fs L S are outcome.claim.liability.lowest.positive closes surplus.0) in
+    let proof = yes_has_its_measure batch outcome Line measure is h in
+    record {
+      covers = covers;
+      not_below_zero = surplus.1;
+      greatest = cover_and_measure_are_optimal batch.underlyings batch.orders fs S (map point_of measure.points) covers proof.0 proof.1;
+    }

@@ -1,5 +1,5 @@
 -- What a yes shows.
-use Rattle.std.specs.Prelude.{ℕ, ◌≡◌, List, map, pos, ◌≤ℤ◌}
+use Rattle.std.specs.Prelude.{◌≡◌, map, pos, ◌≤ℤ◌}
 use Rattle.frac.specs.Range.{limit}
 use Rattle.frac.specs.Value.{fraction_of}
 use Rattle.form.specs.declared.orders.Batch.{Batch}
