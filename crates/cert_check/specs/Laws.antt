@@ -9,7 +9,8 @@ use Rattle.measure.specs.declared.measures.Measure.{Measure}
 use Rattle.measure.specs.Points.{point_of}
 use Rattle.cert_check.specs.declared.outcome.Cover.{Cover}
 use Rattle.cert_check.specs.declared.outcome.Cover.TheVariants.{Line}
-use Rattle.cert_check.specs.declared.outcome.Mark.TheVariants.{Optimal}
+use Rattle.cert_check.specs.declared.outcome.Mark.{Mark}
+use Rattle.cert_check.specs.declared.outcome.Mark.TheVariants.{Optimal, Wide, Budget}
 use Rattle.cert_check.specs.declared.outcome.Outcome.{Outcome}
 use Rattle.cert_check.specs.declared.outcome.Judgement.TheVariants.{Yes}
 use Rattle.cert_check.specs.Events.{verdict_of}
@@ -34,3 +35,19 @@ abbrev pub YesOnLineProves : Type 0
 YesOnLineProves =
     (batch : Batch) (outcome : Outcome) (measure : Measure)
     → outcome.mark ≡ Optimal Line measure → verdict_of limit batch outcome ≡ Yes → IsProved batch outcome
+
+-- the fills cover the claimed surplus, which is not below 0
+pub record IsCovered (batch : Batch) (outcome : Outcome) : Type 0 where
+  pub covers : FillsCover batch.underlyings batch.orders (map fraction_of outcome.fills) (fraction_of outcome.claim.surplus)
+  pub not_below_zero : pos 0 ≤ℤ (fraction_of outcome.claim.surplus).numerator
+
+-- a mark that says why the run stopped
+abbrev pub IsFallback : Mark → Type 0
+IsFallback (Optimal cover measure) = ⊥
+IsFallback (Wide w) = Unit {0}
+IsFallback Budget = Unit {0}
+
+-- a yes on such a mark shows that the fills cover
+abbrev pub YesOnFallbackCovers : Type 0
+YesOnFallbackCovers =
+    (batch : Batch) (outcome : Outcome) → IsFallback outcome.mark → verdict_of limit batch outcome ≡ Yes → IsCovered batch outcome
