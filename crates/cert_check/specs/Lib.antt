@@ -1,3 +1,4 @@
 pub mod Shape
 pub mod Cover
 pub mod Events
+pub mod Laws

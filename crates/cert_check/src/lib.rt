@@ -4,6 +4,7 @@
 pub mod balance;
 pub mod cover;
 pub mod judging;
+pub mod laws;
 pub mod outcome;
 pub mod shape;
 

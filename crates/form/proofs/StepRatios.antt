@@ -1,5 +1,5 @@
 -- Steps that fit, over one denominator.
-use Rattle.std.proofs.Common.{◌≡◌, ℕ, ◌*◌, ◌≤◌, true, false, List, ◌≤ℤ◌, ◌<ℤ◌, ℤ, pos, neg_ℤ, ◌+ℤ◌, ◌-ℤ◌, ◌*ℤ◌, Result, Ok, arith, ap, sym, ◌∙◌}
+use Rattle.std.proofs.Common.{◌≡◌, ℕ, ◌*◌, ◌≤◌, true, false, List, ◌≤ℤ◌, ◌<ℤ◌, ℤ, pos, neg_ℤ, ◌+ℤ◌, ◌*ℤ◌, Ok, arith, ap}
 use Rattle.std.specs.Prelude.{int_lt}
 use Rattle.std.specs.Int.Signed.{lt_z_yes, lt_z_no}
 use Rattle.std.proofs.lemmas.Float.{T_from_true}
@@ -7,7 +7,7 @@ use mathlib.Core.Bool.{not}
 use Rattle.std.proofs.lemmas.Int.{ints}
 use Rattle.arithmetic.proofs.Integers.{*ℤ_cancel, *ℤ_cancel_le, *ℤ_mono}
 use Rattle.arithmetic.proofs.Products.{products}
-use Rattle.exact_num.specs.Fraction.{Fraction, IsDefined, IsLowest, whole, negated}
+use Rattle.exact_num.specs.Fraction.{Fraction, IsLowest, whole, negated}
 use Rattle.exact_num.specs.CommonDenominator.{IsRatio}
 use Rattle.exact_num.specs.Fits.{add_of, sub_of, mul_of}
 use Rattle.exact_num.proofs.After.{after_value}

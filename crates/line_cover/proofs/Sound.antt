@@ -1,5 +1,5 @@
 -- A line whose check holds is covered.
-use Rattle.std.proofs.Common.{◌≡◌, ℕ, zero, suc, ◌*◌, ◌/◌, ◌≤◌, Bool, true, false, List, [], ◌∷◌, length, map, zip, nat_abs, get_or, arith, ℤ, pos, negsuc, neg_ℤ, ◌+ℤ◌, ◌*ℤ◌, ◌≤ℤ◌, ◌<ℤ◌, All, Option, Some, None, Result, Ok, Err, refl, ap, sym, subst, ◌∙◌, if◌then◌else◌}
+use Rattle.std.proofs.Common.{◌≡◌, ℕ, zero, suc, ◌*◌, ◌/◌, ◌≤◌, Bool, true, false, List, [], ◌∷◌, zip, nat_abs, arith, ℤ, pos, negsuc, neg_ℤ, ◌+ℤ◌, ◌*ℤ◌, ◌≤ℤ◌, ◌<ℤ◌, All, Option, Some, None, Result, Ok, Err, refl, ap, sym, subst, ◌∙◌}
 use Rattle.std.specs.Prelude.{int_lt}
 use Rattle.std.specs.Int.{◌∣◌}
 use Rattle.std.specs.List.{filter_map}
@@ -16,18 +16,17 @@ use Rattle.arithmetic.proofs.Integers.{*ℤ_cancel_le, *ℤ_mono}
 use Rattle.arithmetic.proofs.Products.{products}
 use Rattle.arithmetic.proofs.Sums.{All-head, All-tail}
 use Rattle.exact_num.specs.declared.misfit.Wide.{Wide}
-use Rattle.exact_num.specs.Fraction.{Fraction, IsLowest, IsDefined, whole}
+use Rattle.exact_num.specs.Fraction.{Fraction, IsLowest, whole}
 use Rattle.exact_num.specs.CommonDenominator.{common_denominator, amount_over}
-use Rattle.exact_num.specs.Fits.{after}
 use Rattle.exact_num.proofs.After.{after_value}
 use Rattle.exact_num.proofs.Values.{whole_is_lowest}
-use Rattle.exact_num.proofs.Fractions.{divides, common_positive, amount_is_exact}
+use Rattle.exact_num.proofs.Fractions.{divides, amount_is_exact}
 use Rattle.form.specs.declared.orders.Side.{Side}
 use Rattle.form.specs.declared.orders.Side.TheVariants.{Buy, Sell}
 use Rattle.form.specs.declared.orders.Order.{Order}
 use Rattle.form.specs.Vector.{strike_entry}
 use Rattle.form.specs.Payoff.{BundleLeg, option_of, payoff, bundle_of, bundle_payoff, scale_of}
-use Rattle.form.specs.Clearing.{SignedFill, for_side, signed_net}
+use Rattle.form.specs.Clearing.{for_side, signed_net}
 use Rattle.form.specs.Line.{weight_entry, HoldsAtPrice, HoldsAtBreak, HoldsAtBreaks}
 use Rattle.form.specs.Certificate.{signed_over}
 use Rattle.form.specs.Steps.{payoff_of, less_product}
@@ -35,7 +34,7 @@ use Rattle.form.proofs.DotSteps.{payoffs_are_exact}
 use Rattle.form.proofs.StepRatios.{Stands, plus_stands, less_stands}
 use Rattle.market_laws.proofs.Line.{holds_at_multiples}
 use Rattle.line_cover.specs.Net.{add_for_side, add_payoff, add_payoffs, excess}
-use Rattle.line_cover.specs.Line.{bends, lowest_state, breakpoint_of_order, and_then, holds_at, holds_at_break, holds_at_all, line_holds}
+use Rattle.line_cover.specs.Line.{bends, lowest_state, breakpoint_of_order, and_then, holds_at, holds_at_break, holds_at_all}
 use Rattle.line_cover.specs.Laws.{LinesThatHoldClose}
 
 -- an order's bundle pays what its option pays

@@ -67,7 +67,7 @@ amount_is_natural : (F : ℕ) (f : Fraction) → pos 0 ≤ℤ f.numerator → am
 amount_is_natural F f low =
     sym (part_above (amount_over F f) (omega (arith, ints, *ℤ_mono (F / f.denominator) (pos 0) f.numerator low)))
 
-signed_is : (F : ℕ) (orders : List Order) (fills : List Fraction) → All IsFill (zip orders fills) → length fills ≡ length orders → signed_over F orders fills ≡ as_signed (filled_over F orders fills)
+pub signed_is : (F : ℕ) (orders : List Order) (fills : List Fraction) → All IsFill (zip orders fills) → length fills ≡ length orders → signed_over F orders fills ≡ as_signed (filled_over F orders fills)
 signed_is F [] fills h len = refl
 signed_is F (o ∷ os) [] h len = absurd (omega arith)
 signed_is F (o ∷ os) (f ∷ fs) h len =

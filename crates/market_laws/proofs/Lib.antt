@@ -10,5 +10,4 @@ pub mod Line
 pub mod Written
 pub mod Certificate
 pub mod Single
-pub mod More
 pub mod Examples

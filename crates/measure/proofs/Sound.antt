@@ -1,6 +1,6 @@
 -- The sums over a measure are the model's, over the product of the weights' denominators.
-use Rattle.std.proofs.Common.{◌≡◌, ℕ, ◌+◌, ◌*◌, ◌≤◌, Bool, true, false, ◌&&◌, List, [], ◌∷◌, map, arith, ℤ, pos, neg_ℤ, ◌+ℤ◌, ◌-ℤ◌, ◌*ℤ◌, ◌≤ℤ◌, All, Result, Ok, Err, refl, ap, sym, subst, ◌∙◌, if◌then◌else◌}
-use Rattle.std.specs.Prelude.{int_lt, int_le}
+use Rattle.std.proofs.Common.{◌≡◌, ℕ, ◌+◌, ◌*◌, Bool, true, false, ◌&&◌, List, [], ◌∷◌, map, arith, ℤ, pos, neg_ℤ, ◌+ℤ◌, ◌-ℤ◌, ◌*ℤ◌, All, Ok, refl, ap, sym, subst, ◌∙◌, if◌then◌else◌}
+use Rattle.std.specs.Prelude.{int_lt}
 use Rattle.std.specs.Int.{◌∣◌}
 use Rattle.std.specs.Ordering.{is_eq}
 use Rattle.std.specs.Int.Signed.{le_z_yes}
@@ -10,7 +10,6 @@ use Rattle.std.proofs.lemmas.List.Elements.{All-nil, All-cons}
 use Rattle.arithmetic.proofs.Products.{products}
 use Rattle.arithmetic.proofs.Parts.{part_above, part_below}
 use Rattle.arithmetic.proofs.Sums.{All-head, All-tail}
-use Rattle.exact_num.specs.declared.misfit.Wide.{Wide}
 use Rattle.exact_num.specs.Fraction.{Fraction, IsLowest, whole, negated, fraction_cmp}
 use Rattle.exact_num.specs.CommonDenominator.{common_denominator, amount_over, IsRatio}
 use Rattle.exact_num.specs.Fits.{add_of, mul_of, after}
@@ -173,3 +172,8 @@ bounds_are_exact limit orders points bound low h =
     let st = gains_stand limit W points orders (whole (pos 0)) bound (pos 0) low refl (zero_stands W) h in
     let e : pos 0 +ℤ pos (model_bound orders (points_over W points) W) ≡ pos (model_bound orders (points_over W points) W) = omega (arith, ints) in
     subst (λ w. IsRatio bound w W) e st.ratio
+
+-- a bound stands in lowest terms
+pub bound_is_lowest : (limit : ℕ) (orders : List Order) (points : List Point) (bound : Fraction) → All IsLowest (map fraction_weight points) → bound_of limit orders points ≡ Ok bound → IsLowest bound
+bound_is_lowest limit orders points bound low h =
+    (gains_stand limit (common_denominator (map fraction_weight points)) points orders (whole (pos 0)) bound (pos 0) low refl (zero_stands (common_denominator (map fraction_weight points))) h).lowest

@@ -1,0 +1,154 @@
+-- Without a mark: what the fallback check shows.
+use Rattle.std.proofs.Common.{◌≡◌, ℕ, Bool, true, false, List, [], ◌∷◌, map, zip, arith, ℤ, pos, neg_ℤ, ◌≤ℤ◌, ◌+ℤ◌, ◌*ℤ◌, All, Ok, refl, ap, sym, subst, ◌∙◌}
+use Rattle.std.specs.Int.{◌∣◌}
+use Rattle.std.proofs.lemmas.Int.{ints}
+use Rattle.std.proofs.lemmas.List.Elements.{All-nil, All-cons}
+use Rattle.std.proofs.Math.Bool.{and-true}
+use Rattle.arithmetic.proofs.Products.{products}
+use Rattle.arithmetic.proofs.Sums.{All-head, All-tail}
+use Rattle.exact_num.specs.Fraction.{Fraction, IsLowest, whole, negated}
+use Rattle.exact_num.specs.CommonDenominator.{common_denominator, amount_over, amounts_of, IsRatio}
+use Rattle.exact_num.proofs.After.{after_value}
+use Rattle.exact_num.proofs.Values.{whole_is_lowest}
+use Rattle.exact_num.proofs.Fractions.{divides, amount_is_exact}
+use Rattle.frac.specs.Range.{limit}
+use Rattle.form.specs.declared.orders.Side.{Side}
+use Rattle.form.specs.declared.orders.Side.TheVariants.{Buy, Sell}
+use Rattle.form.specs.declared.orders.Order.{Order}
+use Rattle.form.specs.Payoff.{option_of, bundle_of}
+use Rattle.form.specs.Clearing.{Filled, SignedFill, for_side, signed_sum}
+use Rattle.form.specs.Balance.{is_same_option, is_same_bundle, one_if, balance_of, AreBalanced}
+use Rattle.form.specs.Certificate.{AreFractionFills, IsPremiumLessLiability, signed_over}
+use Rattle.form.proofs.StepRatios.{Stands, sum_stands, negated_stands}
+use Rattle.market_laws.proofs.Legs.{signed_sums_agree}
+use Rattle.market_laws.proofs.Certificate.{signed_is, balanced_fills_cover}
+use Rattle.line_cover.proofs.Sound.{zero_stands, both}
+use Rattle.measure.specs.Sums.{is_same}
+use Rattle.cert_check.specs.declared.outcome.Mark.{Mark}
+use Rattle.cert_check.specs.declared.outcome.Mark.TheVariants.{Optimal, Wide as WideMark, Budget}
+use Rattle.frac.specs.Value.{fraction_of}
+use Rattle.cert_check.specs.Cover.{add_fill, add_same, add_all_same, balances_at, balances_all, fallback_holds, surplus_holds, mark_covers}
+use Rattle.cert_check.specs.Laws.{IsFallback, IsCovered, YesOnFallbackCovers}
+use Rattle.cert_check.proofs.Shapes.{shaped}
+use Rattle.cert_check.proofs.Yes.{same_is, passed, lowest_of, surplus_is, are_fraction_fills}
+
+-- 1 where the order is of the option
+abbrev pub counts_for : List ℤ → Order → ℤ
+counts_for v o = one_if (is_same_option (option_of o.form) v)
+
+fill_stands : (side : Side) (total f s : Fraction) (x y : ℤ) (D : ℕ) → Stands total x D → Stands f y D → add_fill limit total side f ≡ Ok s → Stands s (x +ℤ for_side side (pos 1 *ℤ y)) D
+fill_stands Buy total f s x y D st sf h =
+    let e : x +ℤ y ≡ x +ℤ (pos 1 *ℤ y) = omega (arith, ints, products) in
+    subst (λ w. Stands s w D) e (sum_stands limit total f s x y D st sf h)
+fill_stands Sell total f s x y D st sf h =
+    let e : x +ℤ neg_ℤ y ≡ x +ℤ neg_ℤ (pos 1 *ℤ y) = omega (arith, ints, products) in
+    subst (λ w. Stands s w D) e (sum_stands limit total (negated f) s x (neg_ℤ y) D st (negated_stands f y D sf) h)
+
+nothing : (side : Side) (x y : ℤ) → x ≡ x +ℤ for_side side (pos 0 *ℤ y)
+nothing Buy x y = omega (arith, ints, products)
+nothing Sell x y = omega (arith, ints, products)
+
+same_stands : (v : List ℤ) (o : Order) (total f s : Fraction) (x y : ℤ) (D : ℕ) → Stands total x D → Stands f y D → add_same limit v total (o, f) ≡ Ok s → Stands s (x +ℤ for_side o.side (counts_for v o *ℤ y)) D
+same_stands v o total f s x y D st sf h = by_test (is_same_option (option_of o.form) v) refl
+  where
+    by_test : (t : Bool) → is_same_option (option_of o.form) v ≡ t → Stands s (x +ℤ for_side o.side (counts_for v o *ℤ y)) D
+    by_test true e = rw e (fill_stands o.side total f s x y D st sf (rw e at h))
+    by_test false e =
+        let none : Ok total ≡ Ok s = rw e at h in
+        let stays : total ≡ s = cc in
+        rw e (subst (λ w. Stands s w D) (nothing o.side x y) (subst (λ t. Stands t x D) stays st))
+
+all_same_stand : (v : List ℤ) (D : ℕ) (os : List Order) (fs : List Fraction) (total s : Fraction) (x : ℤ) → All IsLowest fs → All (λ f. f.denominator ∣ D) fs → Stands total x D
+    → add_all_same limit v total (zip os fs) ≡ Ok s → Stands s (x +ℤ signed_sum (counts_for v) (signed_over D os fs)) D
+all_same_stand v D [] fs total s x low div st h =
+    let e : total ≡ s = cc in
+    let n : x ≡ x +ℤ pos 0 = omega (arith, ints) in
+    subst (λ t. Stands t (x +ℤ pos 0) D) e (subst (λ w. Stands total w D) n st)
+all_same_stand v D (o ∷ os) [] total s x low div st h =
+    let e : total ≡ s = cc in
+    let n : x ≡ x +ℤ pos 0 = omega (arith, ints) in
+    subst (λ t. Stands t (x +ℤ pos 0) D) e (subst (λ w. Stands total w D) n st)
+all_same_stand v D (o ∷ os) (f ∷ fs) total s x low div st h =
+    let first = after_value (add_same limit v total (o, f)) (λ sum. add_all_same limit v sum (zip os fs)) s h in
+    let amount = amount_over D f in
+    let sf : Stands f amount D = record { lowest = All-head IsLowest f fs low; ratio = amount_is_exact D f (All-head (λ g. g.denominator ∣ D) f fs div) } in
+    let here = same_stands v o total f first.value x amount D st sf first.first in
+    let rest = all_same_stand v D os fs first.value s (x +ℤ for_side o.side (counts_for v o *ℤ amount)) (All-tail IsLowest f fs low) (All-tail (λ g. g.denominator ∣ D) f fs div) here first.rest in
+    let e : (x +ℤ for_side o.side (counts_for v o *ℤ amount)) +ℤ signed_sum (counts_for v) (signed_over D os fs) ≡ x +ℤ (for_side o.side (counts_for v o *ℤ amount) +ℤ signed_sum (counts_for v) (signed_over D os fs)) = omega (arith, ints) in
+    subst (λ w. Stands s w D) e rest
+
+-- the same bundle is the same option
+same_bundle : (a b : Order) → is_same_bundle (bundle_of a) (bundle_of b) ≡ is_same_option (option_of a.form) (option_of b.form)
+unfolding bundle_of
+same_bundle a b = and-true (is_same_option (option_of a.form) (option_of b.form))
+
+buys_less_sells_same : (f g : Order → ℤ) → ((o : Order) → f o ≡ g o) → (fills : List SignedFill) → signed_sum f fills ≡ signed_sum g fills
+buys_less_sells_same f g same [] = refl
+buys_less_sells_same f g same (fill ∷ fills) = rw (same fill.0) (ap (λ w. for_side fill.0.side (g fill.0 *ℤ fill.1) +ℤ w) (buys_less_sells_same f g same fills))
+
+balance_here : (os : List Order) (fs : List Fraction) (o : Order) → AreFractionFills os fs → All IsLowest fs → balances_at limit (zip os fs) (option_of o.form) ≡ Ok true → balance_of (bundle_of o) (zip os (amounts_of fs)) ≡ pos 0
+balance_here os fs o are low h =
+    let D = common_denominator fs in
+    let v = option_of o.form in
+    let sum = after_value (add_all_same limit v (whole (pos 0)) (zip os fs)) (λ sum. Ok (is_same sum (whole (pos 0)))) true h in
+    let st = all_same_stand v D os fs (whole (pos 0)) sum.value (pos 0) low (divides fs) (zero_stands D) sum.first in
+    let test : is_same sum.value (whole (pos 0)) ≡ true = cc (sum.rest) in
+    let zero : sum.value ≡ whole (pos 0) = same_is sum.value (whole (pos 0)) st.lowest (whole_is_lowest (pos 0)) test in
+    let ratio = subst (λ f. IsRatio f (pos 0 +ℤ signed_sum (counts_for v) (signed_over D os fs)) D) zero st.ratio in
+    let none : signed_sum (counts_for v) (signed_over D os fs) ≡ pos 0 = omega (arith, ints, ratio) in
+    let same = buys_less_sells_same (λ a. one_if (is_same_bundle (bundle_of a) (bundle_of o))) (counts_for v) (λ a. ap one_if (same_bundle a o)) (signed_over D os fs) in
+    sym (signed_sums_agree (λ a. one_if (is_same_bundle (bundle_of a) (bundle_of o))) (zip os (amounts_of fs)))
+    ∙ ap (signed_sum (λ a. one_if (is_same_bundle (bundle_of a) (bundle_of o)))) (sym (signed_is D os fs are.1 are.0))
+    ∙ same ∙ none
+
+all_balance : (os : List Order) (fs : List Fraction) (rest : List Order) (g : List ℕ) → AreFractionFills os fs → All IsLowest fs → balances_all limit (zip os fs) rest ≡ Ok true
+    → All (λ (fill : Filled). balance_of (bundle_of fill.0) (zip os (amounts_of fs)) ≡ pos 0) (zip rest g)
+all_balance os fs [] g are low h = All-nil (λ (fill : Filled). balance_of (bundle_of fill.0) (zip os (amounts_of fs)) ≡ pos 0)
+all_balance os fs (o ∷ rest) [] are low h = All-nil (λ (fill : Filled). balance_of (bundle_of fill.0) (zip os (amounts_of fs)) ≡ pos 0)
+all_balance os fs (o ∷ rest) (a ∷ g) are low h =
+    let parts = both (balances_at limit (zip os fs) (option_of o.form)) (balances_all limit (zip os fs) rest) h in
+    All-cons (λ (fill : Filled). balance_of (bundle_of fill.0) (zip os (amounts_of fs)) ≡ pos 0) (o, a) (zip rest g) (balance_here os fs o are low parts.0) (all_balance os fs rest g are low parts.1)
+
+-- the liability is 0 and the fills are balanced
+pub fallback_is : (os : List Order) (fs : List Fraction) (L : Fraction) → AreFractionFills os fs → All IsLowest fs → IsLowest L → fallback_holds limit (zip os fs) os L ≡ Ok true
+    → (L ≡ whole (pos 0)) × AreBalanced (zip os (amounts_of fs))
+fallback_is os fs L are low lowest_L h = by_test (is_same L (whole (pos 0))) refl
+  where
+    by_test : (t : Bool) → is_same L (whole (pos 0)) ≡ t → (L ≡ whole (pos 0)) × AreBalanced (zip os (amounts_of fs))
+    by_test false e =
+        let no : fallback_holds limit (zip os fs) os L ≡ Ok false = rw e refl in
+        cc
+    by_test true e =
+        let all : balances_all limit (zip os fs) os ≡ Ok true = rw e at h in
+        (same_is L (whole (pos 0)) lowest_L (whole_is_lowest (pos 0)) e, all_balance os fs os (amounts_of fs) are low all)
+
+pub yes_on_fallback_covers : YesOnFallbackCovers
+yes_on_fallback_covers batch outcome unmarked h = by_mark outcome.mark refl unmarked
+  where
+    fs : List Fraction
+    fs = map fraction_of outcome.fills
+
+    L : Fraction
+    L = fraction_of outcome.claim.liability
+
+    S : Fraction
+    S = fraction_of outcome.claim.surplus
+
+    covered : fallback_holds limit (zip batch.orders fs) batch.orders L ≡ Ok true → IsPremiumLessLiability batch.orders fs L S × (pos 0 ≤ℤ S.numerator) → AreFractionFills batch.orders fs → IsCovered batch outcome
+    covered holds surplus are =
+        let fallback = fallback_is batch.orders fs L are (lowest_of outcome.fills) outcome.claim.liability.lowest holds in
+        let premium = subst (λ l. IsPremiumLessLiability batch.orders fs l S) fallback.0 surplus.0 in
+        record { covers = balanced_fills_cover batch.underlyings batch.orders fs S are fallback.1 premium; not_below_zero = surplus.1 }
+
+    by_mark : (m : Mark) → outcome.mark ≡ m → IsFallback m → IsCovered batch outcome
+    by_mark (Optimal cover measure) is none = absurd none
+    by_mark (WideMark w) is some =
+        let p = passed batch outcome h in
+        let parts = both (surplus_holds limit (zip batch.orders fs) L S) (mark_covers limit batch.underlyings batch.orders fs L outcome.mark) p.cover in
+        covered (ap (mark_covers limit batch.underlyings batch.orders fs L) (sym is) ∙ parts.1) (surplus_is batch.orders fs L S (lowest_of outcome.fills) outcome.claim.liability.lowest outcome.claim.surplus.lowest parts.0)
+        (are_fraction_fills batch.orders outcome.fills (shaped batch outcome p.shape).fills p.fills)
+    by_mark Budget is some =
+        let p = passed batch outcome h in
+        let parts = both (surplus_holds limit (zip batch.orders fs) L S) (mark_covers limit batch.underlyings batch.orders fs L outcome.mark) p.cover in
+        covered (ap (mark_covers limit batch.underlyings batch.orders fs L) (sym is) ∙ parts.1) (surplus_is batch.orders fs L S (lowest_of outcome.fills) outcome.claim.liability.lowest outcome.claim.surplus.lowest parts.0)
+        (are_fraction_fills batch.orders outcome.fills (shaped batch outcome p.shape).fills p.fills)
