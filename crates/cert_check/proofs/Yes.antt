@@ -190,5 +190,5 @@ yes_on_line_proves batch outcome measure is h =
     record {
       covers = covers;
       not_below_zero = surplus.1;
-      greatest = cover_and_measure_are_optimal batch.underlyings batch.orders fs S (map point_of measure.points) covers proof.0 proof.1;
+      greatest = cover_and_measure_are_optimal batch.underlyings batch.orders fs S (map point_of measure.points) outcome.claim.surplus.lowest.positive covers proof.0 proof.1;
     }

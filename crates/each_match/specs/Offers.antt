@@ -40,6 +40,6 @@ abbrev pub ranked : List Offer → List Offer
 ranked [] = []
 ranked (x ∷ xs) = placed x (ranked xs)
 
--- the buys by falling price and then by place; the sells by rising price and then by place
+-- within the limits the buys by falling price and then by place; the sells by rising price and then by place
 abbrev pub ranked_offers : Side → List Order → List Offer
 ranked_offers side orders = ranked (offers_from side 0 orders)

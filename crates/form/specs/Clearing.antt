@@ -58,7 +58,8 @@ Covers n fills F S =
 -- S is the greatest surplus that fills of the orders cover
 abbrev pub IsGreatest : ℕ → List Order → Fraction → Type 0
 IsGreatest n orders S =
-    ((g : List ℕ) × (F : ℕ) × AreFills orders g F × Covers n (zip orders g) F S)
+    IsDefined S
+    × ((g : List ℕ) × (F : ℕ) × AreFills orders g F × Covers n (zip orders g) F S)
     × ((g : List ℕ) (F : ℕ) (R : Fraction)
     → IsDefined R → AreFills orders g F → Covers n (zip orders g) F R → AtMost R S)
 

@@ -175,9 +175,9 @@ is_measure n points m =
     (common_positive (map fraction_weight points) (weights_defined points m.unit.weights), points_are n W points m.states m.unit.weights, m.unit.mass)
 
 pub cover_and_measure_are_optimal : CoverAndMeasureAreOptimal
-cover_and_measure_are_optimal n orders fills S points cover measure proves =
+cover_and_measure_are_optimal n orders fills S points has_value cover measure proves =
     let W = common_denominator (map fraction_weight points) in
-    proved_is_greatest n orders (amounts_of fills) (common_denominator fills) S (points_over W points) W (are_fills orders fills cover.are_fills) cover.covers (is_measure n points measure) proves
+    proved_is_greatest n orders (amounts_of fills) (common_denominator fills) S (points_over W points) W has_value (are_fills orders fills cover.are_fills) cover.covers (is_measure n points measure) proves
 
 pub balanced_fills_cover : BalancedFillsCover
 balanced_fills_cover n orders fills S is balanced surplus =

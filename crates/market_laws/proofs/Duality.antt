@@ -151,7 +151,8 @@ greatest_nat u⁺ u⁻ v⁺ v⁻ e d W bound one h k =
     le_of_mul-le-mul_left l one
 
 pub proved_is_greatest : ProvedIsGreatest
-proved_is_greatest n orders g F S points W fills h m proves = (
+proved_is_greatest n orders g F S points W has_value fills h m proves = (
+  has_value,
   (g, F, fills, h),
   λ g' F' R defined fills' h'.
       let e = S.denominator in

@@ -45,7 +45,7 @@ WeakDuality =
 abbrev pub ProvedIsGreatest : Type 0
 ProvedIsGreatest =
     (n : ℕ) (orders : List Order) (g : List ℕ) (F : ℕ) (S : Fraction) (points : List WeightedState) (W : ℕ)
-    → AreFills orders g F → Covers n (zip orders g) F S
+    → IsDefined S → AreFills orders g F → Covers n (zip orders g) F S
     → IsMeasure n points W → Proves orders points W S
     → IsGreatest n orders S
 
@@ -124,6 +124,6 @@ LineCertificateCovers =
 abbrev pub CoverAndMeasureAreOptimal : Type 0
 CoverAndMeasureAreOptimal =
     (n : ℕ) (orders : List Order) (fills : List Fraction) (S : Fraction) (points : List Point)
-    → FillsCover n orders fills S
+    → IsDefined S → FillsCover n orders fills S
     → IsFractionMeasure n points → MeasureProves orders points S
     → IsGreatest n orders S
