@@ -1,5 +1,4 @@
 pub mod FillSteps
 pub mod Shapes
-pub mod SameOption
 pub mod Yes
 pub mod Fallback

@@ -75,6 +75,7 @@ fn add_same(total: Frac128, form: &Form, order: &Order, fill: Frac128) -> Result
 }
 
 /// Whether the two forms are the same option.
+#[tactic(auto, using(form::proofs::SameOption::forms_equal))]
 fn is_same_option(a: &Form, b: &Form) -> bool
     ensures { result ≡ is_same_option (option_of a.now) (option_of b.now) }
 {
