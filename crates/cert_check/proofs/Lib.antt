@@ -2,3 +2,4 @@ pub mod FillSteps
 pub mod Shapes
 pub mod Yes
 pub mod Fallback
+pub mod Optimal

@@ -5,10 +5,11 @@ use Rattle.frac.specs.Value.{fraction_of}
 use Rattle.form.specs.declared.orders.Batch.{Batch}
 use Rattle.form.specs.Clearing.{IsGreatest}
 use Rattle.form.specs.Certificate.{FillsCover, IsFractionMeasure, MeasureProves}
+use Rattle.sign_tree.specs.declared.trees.SignTree.{SignTree}
 use Rattle.measure.specs.declared.measures.Measure.{Measure}
 use Rattle.measure.specs.Points.{point_of}
 use Rattle.cert_check.specs.declared.outcome.Cover.{Cover}
-use Rattle.cert_check.specs.declared.outcome.Cover.TheVariants.{Line}
+use Rattle.cert_check.specs.declared.outcome.Cover.TheVariants.{Line, Tree}
 use Rattle.cert_check.specs.declared.outcome.Mark.{Mark}
 use Rattle.cert_check.specs.declared.outcome.Mark.TheVariants.{Optimal, Wide, Budget}
 use Rattle.cert_check.specs.declared.outcome.Outcome.{Outcome}
@@ -36,6 +37,18 @@ YesOnLineProves =
     (batch : Batch) (outcome : Outcome) (measure : Measure)
     → outcome.mark ≡ Optimal Line measure → verdict_of limit batch outcome ≡ Yes → IsProved batch outcome
 
+-- so does a yes on the mark optimal with a tree
+abbrev pub YesOnTreeProves : Type 0
+YesOnTreeProves =
+    (batch : Batch) (outcome : Outcome) (tree : SignTree) (measure : Measure)
+    → outcome.mark ≡ Optimal (Tree tree) measure → verdict_of limit batch outcome ≡ Yes → IsProved batch outcome
+
+-- and so with either cover
+abbrev pub YesOnOptimalProves : Type 0
+YesOnOptimalProves =
+    (batch : Batch) (outcome : Outcome) (cover : Cover) (measure : Measure)
+    → outcome.mark ≡ Optimal cover measure → verdict_of limit batch outcome ≡ Yes → IsProved batch outcome
+
 -- the fills cover the claimed surplus, which is not below 0
 pub record IsCovered (batch : Batch) (outcome : Outcome) : Type 0 where
   pub covers : FillsCover batch.underlyings batch.orders (map fraction_of outcome.fills) (fraction_of outcome.claim.surplus)
@@ -51,3 +64,7 @@ IsFallback Budget = Unit {0}
 abbrev pub YesOnFallbackCovers : Type 0
 YesOnFallbackCovers =
     (batch : Batch) (outcome : Outcome) → IsFallback outcome.mark → verdict_of limit batch outcome ≡ Yes → IsCovered batch outcome
+
+-- whatever the mark, a yes shows that
+abbrev pub YesCovers : Type 0
+YesCovers = (batch : Batch) (outcome : Outcome) → verdict_of limit batch outcome ≡ Yes → IsCovered batch outcome

@@ -3,3 +3,6 @@ pub mod TermSteps
 pub mod EntrySteps
 pub mod Sides
 pub mod Ends
+pub mod LeafSums
+pub mod LeafForms
+pub mod Sound

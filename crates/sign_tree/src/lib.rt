@@ -2,6 +2,7 @@
 #![tactic(auto)]
 
 pub mod closing;
+pub mod laws;
 pub mod leaf;
 pub mod trees;
 
