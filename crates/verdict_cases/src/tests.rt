@@ -1,5 +1,5 @@
 //! Each case, from the text of its batch and outcome to its judgement.
-ghost use Rattle.std.specs.Prelude.{◌≡◌, ◌<◌, ◌+◌};
+ghost use Rattle.std.specs.Prelude.{◌<◌, ◌+◌};
 
 use crate::cases::CASES;
 use anyhow::{Context, Result, bail, ensure};
