@@ -6,3 +6,9 @@ pub mod WholeSteps
 pub mod DotSteps
 pub mod ListSteps
 pub mod StepRatios
+pub mod Divisors
+pub mod LowestStates
+pub mod Multiples
+pub mod StateOf
+pub mod Directions
+pub mod WorkedStates

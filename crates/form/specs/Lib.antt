@@ -1,6 +1,7 @@
 pub mod Vector
 pub mod Payoff
 pub mod States
+pub mod StateOf
 pub mod Steps
 pub mod Clearing
 pub mod Limits
@@ -13,3 +14,5 @@ pub mod Written
 pub mod Certificate
 pub mod FormOf
 pub mod Padded
+pub mod Primitive
+pub mod Worked

@@ -1,5 +1,5 @@
 -- A list that is filled up with zeros to nine entries.
-use Rattle.std.proofs.Common.{◌≡◌, ℕ, ◌+◌, ◌-◌, ◌≤◌, ◌<◌, ◌++◌, min, max, List, length, take, replicate, get_or, ℤ, pos, inl, inr, ap, sym, ◌∙◌, length-append, arith}
+use Rattle.std.proofs.Common.{◌≡◌, ℕ, ◌-◌, ◌≤◌, ◌++◌, min, max, List, length, take, replicate, get_or, ℤ, pos, inl, inr, ◌∙◌, length-append, arith}
 use Rattle.std.proofs.lemmas.Bool.{cases_lt}
 use Rattle.std.proofs.lemmas.List.{get_or-take, get_or-replicate, get_or_past, length-take-le}
 use Rattle.std.proofs.Math.Seq.{get_or-append_right}

@@ -7,6 +7,7 @@ pub mod limits;
 pub mod options;
 pub mod orders;
 pub mod payoffs;
+pub mod primitives;
 pub mod states;
 pub mod sums;
 
@@ -15,4 +16,5 @@ pub use limits::{MAX_ORDERS, MAX_PRICE, MAX_QUANTITY, MAX_STRIKE, MAX_UNDERLYING
 pub use options::{call, put};
 pub use orders::{Batch, Order, Orders, Side};
 pub use payoffs::payoff;
+pub use primitives::primitive;
 pub use states::State;

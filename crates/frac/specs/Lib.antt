@@ -1,2 +1,3 @@
 pub mod Range
 pub mod Value
+pub mod ValueOf

@@ -92,6 +92,19 @@ impl Frac128 {
             right: other.parts(),
         }
     }
+
+    /// The same value in 128 bits. Takes no memory.
+    pub fn of<N: Exact>(value: N) -> Frac128
+        ensures { fraction_of result ≡ N.fraction value }
+    {
+        // A limit of 128 bits lets no part be -2^127.
+        prove!(N::LIMIT <= i128::MAX);
+        let (numerator, denominator) = value.parts();
+        Frac128 {
+            numerator,
+            denominator: denominator as u128,
+        }
+    }
 }
 
 impl Exact for Frac128 {

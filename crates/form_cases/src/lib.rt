@@ -1,0 +1,7 @@
+//! Payoffs, primitive states and premiums, with their values from outside.
+#![tactic(auto)]
+
+#[cfg(test)]
+mod cases;
+#[cfg(test)]
+mod tests;

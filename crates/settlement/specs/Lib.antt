@@ -1,0 +1,2 @@
+pub mod Premium
+pub mod Worked

@@ -1,0 +1,20 @@
+//! Laws of premiums: each is the contract of a function that does nothing.
+
+ghost use Rattle.settlement.specs.Premium.{PremiumsAreRounded, WholePremiumsAreProducts};
+ghost use Rattle.settlement.specs.Worked.{PremiumsByHand};
+
+/// A buyer's premium is the least whole number of ticks that is not below fill times price, and a seller's the greatest
+/// that is not above it.
+pub fn premiums_are_rounded()
+    ensures { PremiumsAreRounded }
+{}
+
+/// The premium of a whole fill is fill times price, on both sides.
+pub fn whole_premiums_are_products()
+    ensures { WholePremiumsAreProducts }
+{}
+
+/// The premiums of a batch that fills a butterfly, and their rounding on the other side.
+pub fn premiums_by_hand()
+    ensures { PremiumsByHand }
+{}
