@@ -1,36 +1,36 @@
--- Without a mark: what the fallback check shows.
-use Rattle.std.proofs.Common.{◌≡◌, ℕ, Bool, true, false, List, [], ◌∷◌, map, zip, arith, ℤ, pos, neg_ℤ, ◌≤ℤ◌, ◌+ℤ◌, ◌*ℤ◌, All, Ok, refl, ap, sym, subst, ◌∙◌}
+-- Without a cover: whether as much is bought as sold of each option, summed step by step.
+use Rattle.std.proofs.Common.{◌≡◌, ℕ, Bool, true, false, List, [], ◌∷◌, length, zip, arith, inl, inr, ℤ, pos, neg_ℤ, ◌+ℤ◌, ◌*ℤ◌, All, Ok, refl, ap, sym, subst, ◌∙◌}
 use Rattle.std.specs.Int.{◌∣◌}
 use Rattle.std.proofs.lemmas.Int.{ints}
+use Rattle.std.proofs.lemmas.List.{length-map}
 use Rattle.std.proofs.lemmas.List.Elements.{All-nil, All-cons}
 use Rattle.std.proofs.Math.Bool.{and-true}
+use Rattle.arithmetic.specs.Sums.{positive_part}
 use Rattle.arithmetic.proofs.Products.{products}
 use Rattle.arithmetic.proofs.Sums.{All-head, All-tail}
 use Rattle.exact_num.specs.Fraction.{Fraction, IsLowest, whole, negated}
 use Rattle.exact_num.specs.CommonDenominator.{common_denominator, amount_over, amounts_of, IsRatio}
 use Rattle.exact_num.proofs.After.{after_value}
 use Rattle.exact_num.proofs.Values.{whole_is_lowest}
-use Rattle.exact_num.proofs.Fractions.{divides, amount_is_exact}
+use Rattle.exact_num.proofs.Order.{parts_same}
+use Rattle.exact_num.proofs.Fractions.{divides, amount_is_exact, common_positive}
 use Rattle.frac.specs.Range.{limit}
 use Rattle.form.specs.declared.orders.Side.{Side}
 use Rattle.form.specs.declared.orders.Side.TheVariants.{Buy, Sell}
 use Rattle.form.specs.declared.orders.Order.{Order}
 use Rattle.form.specs.Payoff.{option_of, bundle_of}
 use Rattle.form.specs.Clearing.{Filled, SignedFill, for_side, signed_sum}
-use Rattle.form.specs.Balance.{is_same_option, is_same_bundle, one_if, balance_of, AreBalanced}
-use Rattle.form.specs.Certificate.{AreFractionFills, IsPremiumLessLiability, signed_over}
+use Rattle.form.specs.Balance.{is_same_option, is_same_bundle, one_if, balance_of}
+use Rattle.form.specs.Certificate.{AreFractionFills, signed_over}
 use Rattle.form.proofs.StepRatios.{Stands, sum_stands, negated_stands}
 use Rattle.market_laws.proofs.Legs.{signed_sums_agree}
-use Rattle.market_laws.proofs.Certificate.{signed_is, balanced_fills_cover}
-use Rattle.line_cover.proofs.Sound.{zero_stands, both}
+use Rattle.market_laws.proofs.Certificate.{signed_is}
+use Rattle.line_cover.proofs.Sound.{zero_stands, both, not_both}
 use Rattle.measure.specs.Sums.{is_same}
-use Rattle.cert_check.specs.declared.outcome.Mark.{Mark}
-use Rattle.cert_check.specs.declared.outcome.Mark.TheVariants.{Optimal, Wide as WideMark, Budget}
-use Rattle.frac.specs.Value.{fraction_of}
-use Rattle.cert_check.specs.Cover.{add_fill, add_same, add_all_same, balances_at, balances_all, fallback_holds, surplus_holds, mark_covers}
-use Rattle.cert_check.specs.Laws.{IsFallback, IsCovered, YesOnFallbackCovers}
-use Rattle.cert_check.proofs.Shapes.{shaped}
-use Rattle.cert_check.proofs.Yes.{same_is, passed, lowest_of, surplus_is, are_fraction_fills}
+use Rattle.measure.proofs.Sound.{ratio_is_same}
+use Rattle.cert_check.specs.Cover.{add_fill, add_same, add_all_same, balances_at, balances_all, fallback_holds}
+use Rattle.cert_check.specs.Conditions.{OwesNothing}
+use Rattle.cert_check.proofs.Surplus.{same_is}
 
 -- 1 where the order is of the option
 abbrev pub counts_for : List ℤ → Order → ℤ
@@ -86,35 +86,75 @@ buys_less_sells_same : (f g : Order → ℤ) → ((o : Order) → f o ≡ g o) �
 buys_less_sells_same f g same [] = refl
 buys_less_sells_same f g same (fill ∷ fills) = rw (same fill.0) (ap (λ w. for_side fill.0.side (g fill.0 *ℤ fill.1) +ℤ w) (buys_less_sells_same f g same fills))
 
-balance_here : (os : List Order) (fs : List Fraction) (o : Order) → AreFractionFills os fs → All IsLowest fs → balances_at limit (zip os fs) (option_of o.form) ≡ Ok true → balance_of (bundle_of o) (zip os (amounts_of fs)) ≡ pos 0
-balance_here os fs o are low h =
+-- the balance of an order's option, from the sum over its denominator
+balance_is : (os : List Order) (fs : List Fraction) (o : Order) → AreFractionFills os fs
+    → balance_of (bundle_of o) (zip os (amounts_of fs)) ≡ signed_sum (counts_for (option_of o.form)) (signed_over (common_denominator fs) os fs)
+balance_is os fs o are =
+    let D = common_denominator fs in
+    let counts = λ (a : Order). one_if (is_same_bundle (bundle_of a) (bundle_of o)) in
+    sym (signed_sums_agree counts (zip os (amounts_of fs)))
+    ∙ ap (signed_sum counts) (sym (signed_is D os fs are.1 are.0))
+    ∙ buys_less_sells_same counts (counts_for (option_of o.form)) (λ a. ap one_if (same_bundle a o)) (signed_over D os fs)
+
+-- the sum of the test, which stands for the balance
+record BalanceSum (os : List Order) (fs : List Fraction) (o : Order) (is : Bool) : Type 0 where
+  sum : Fraction
+  test : is_same sum (whole (pos 0)) ≡ is
+  stands : Stands sum (balance_of (bundle_of o) (zip os (amounts_of fs))) (common_denominator fs)
+
+balance_sum : (os : List Order) (fs : List Fraction) (o : Order) (is : Bool) → AreFractionFills os fs → All IsLowest fs → balances_at limit (zip os fs) (option_of o.form) ≡ Ok is → BalanceSum os fs o is
+balance_sum os fs o is are low h =
     let D = common_denominator fs in
     let v = option_of o.form in
-    let sum = after_value (add_all_same limit v (whole (pos 0)) (zip os fs)) (λ sum. Ok (is_same sum (whole (pos 0)))) true h in
+    let sum = after_value (add_all_same limit v (whole (pos 0)) (zip os fs)) (λ sum. Ok (is_same sum (whole (pos 0)))) is h in
     let st = all_same_stand v D os fs (whole (pos 0)) sum.value (pos 0) low (divides fs) (zero_stands D) sum.first in
-    let test : is_same sum.value (whole (pos 0)) ≡ true = cc (sum.rest) in
-    let zero : sum.value ≡ whole (pos 0) = same_is sum.value (whole (pos 0)) st.lowest (whole_is_lowest (pos 0)) test in
-    let ratio = subst (λ f. IsRatio f (pos 0 +ℤ signed_sum (counts_for v) (signed_over D os fs)) D) zero st.ratio in
-    let none : signed_sum (counts_for v) (signed_over D os fs) ≡ pos 0 = omega (arith, ints, ratio) in
-    let same = buys_less_sells_same (λ a. one_if (is_same_bundle (bundle_of a) (bundle_of o))) (counts_for v) (λ a. ap one_if (same_bundle a o)) (signed_over D os fs) in
-    sym (signed_sums_agree (λ a. one_if (is_same_bundle (bundle_of a) (bundle_of o))) (zip os (amounts_of fs)))
-    ∙ ap (signed_sum (λ a. one_if (is_same_bundle (bundle_of a) (bundle_of o)))) (sym (signed_is D os fs are.1 are.0))
-    ∙ same ∙ none
+    let test : is_same sum.value (whole (pos 0)) ≡ is = cc (sum.rest) in
+    let e : pos 0 +ℤ signed_sum (counts_for v) (signed_over D os fs) ≡ signed_sum (counts_for v) (signed_over D os fs) = omega (arith, ints) in
+    record { sum = sum.value; test = test; stands = subst (λ x. Stands sum.value x D) (e ∙ sym (balance_is os fs o are)) st }
+
+balance_here : (os : List Order) (fs : List Fraction) (o : Order) → AreFractionFills os fs → All IsLowest fs → balances_at limit (zip os fs) (option_of o.form) ≡ Ok true → balance_of (bundle_of o) (zip os (amounts_of fs)) ≡ pos 0
+balance_here os fs o are low h =
+    let s = balance_sum os fs o true are low h in
+    let zero : s.sum ≡ whole (pos 0) = same_is s.sum (whole (pos 0)) s.stands.lowest (whole_is_lowest (pos 0)) s.test in
+    let ratio = subst (λ f. IsRatio f (balance_of (bundle_of o) (zip os (amounts_of fs))) (common_denominator fs)) zero s.stands.ratio in
+    omega (arith, ints, ratio)
+
+no_balance_here : (os : List Order) (fs : List Fraction) (o : Order) → AreFractionFills os fs → All IsLowest fs → balances_at limit (zip os fs) (option_of o.form) ≡ Ok false → ¬ (balance_of (bundle_of o) (zip os (amounts_of fs)) ≡ pos 0)
+no_balance_here os fs o are low h zero =
+    let D = common_denominator fs in
+    let s = balance_sum os fs o false are low h in
+    let ratio : IsRatio s.sum (pos 0) D = subst (λ x. IsRatio s.sum x D) zero s.stands.ratio in
+    let same = ratio_is_same s.sum (whole (pos 0)) (pos 0) D (common_positive fs (λ k d lt. (low k d lt).positive)) ratio (omega (arith, ints)) in
+    let test = s.test in
+    cc (same, test)
+
+-- as much is bought as sold of the option of the fill
+abbrev IsBalanced : List Order → List Fraction → Filled → Type 0
+IsBalanced os fs fill = balance_of (bundle_of fill.0) (zip os (amounts_of fs)) ≡ pos 0
 
 all_balance : (os : List Order) (fs : List Fraction) (rest : List Order) (g : List ℕ) → AreFractionFills os fs → All IsLowest fs → balances_all limit (zip os fs) rest ≡ Ok true
-    → All (λ (fill : Filled). balance_of (bundle_of fill.0) (zip os (amounts_of fs)) ≡ pos 0) (zip rest g)
-all_balance os fs [] g are low h = All-nil (λ (fill : Filled). balance_of (bundle_of fill.0) (zip os (amounts_of fs)) ≡ pos 0)
-all_balance os fs (o ∷ rest) [] are low h = All-nil (λ (fill : Filled). balance_of (bundle_of fill.0) (zip os (amounts_of fs)) ≡ pos 0)
+    → All (IsBalanced os fs) (zip rest g)
+all_balance os fs [] g are low h = All-nil (IsBalanced os fs)
+all_balance os fs (o ∷ rest) [] are low h = All-nil (IsBalanced os fs)
 all_balance os fs (o ∷ rest) (a ∷ g) are low h =
     let parts = both (balances_at limit (zip os fs) (option_of o.form)) (balances_all limit (zip os fs) rest) h in
-    All-cons (λ (fill : Filled). balance_of (bundle_of fill.0) (zip os (amounts_of fs)) ≡ pos 0) (o, a) (zip rest g) (balance_here os fs o are low parts.0) (all_balance os fs rest g are low parts.1)
+    All-cons (IsBalanced os fs) (o, a) (zip rest g) (balance_here os fs o are low parts.0) (all_balance os fs rest g are low parts.1)
 
--- the liability is 0 and the fills are balanced
+not_all_balance : (os : List Order) (fs : List Fraction) (rest : List Order) (g : List ℕ) → length g ≡ length rest → AreFractionFills os fs → All IsLowest fs → balances_all limit (zip os fs) rest ≡ Ok false
+    → ¬ (All (IsBalanced os fs) (zip rest g))
+not_all_balance os fs [] g len are low h all = cc
+not_all_balance os fs (o ∷ rest) [] len are low h all = absurd (omega arith)
+not_all_balance os fs (o ∷ rest) (a ∷ g) len are low h all =
+    elim (not_both (balances_at limit (zip os fs) (option_of o.form)) (balances_all limit (zip os fs) rest) h) [
+      | inl here ↦ no_balance_here os fs o are low here (All-head (IsBalanced os fs) (o, a) (zip rest g) all)
+      | inr there ↦ not_all_balance os fs rest g (omega arith) are low there.1 (All-tail (IsBalanced os fs) (o, a) (zip rest g) all)
+    ]
+
 pub fallback_is : (os : List Order) (fs : List Fraction) (L : Fraction) → AreFractionFills os fs → All IsLowest fs → IsLowest L → fallback_holds limit (zip os fs) os L ≡ Ok true
-    → (L ≡ whole (pos 0)) × AreBalanced (zip os (amounts_of fs))
+    → OwesNothing os fs L
 fallback_is os fs L are low lowest_L h = by_test (is_same L (whole (pos 0))) refl
   where
-    by_test : (t : Bool) → is_same L (whole (pos 0)) ≡ t → (L ≡ whole (pos 0)) × AreBalanced (zip os (amounts_of fs))
+    by_test : (t : Bool) → is_same L (whole (pos 0)) ≡ t → OwesNothing os fs L
     by_test false e =
         let no : fallback_holds limit (zip os fs) os L ≡ Ok false = rw e refl in
         cc
@@ -122,33 +162,9 @@ fallback_is os fs L are low lowest_L h = by_test (is_same L (whole (pos 0))) ref
         let all : balances_all limit (zip os fs) os ≡ Ok true = rw e at h in
         (same_is L (whole (pos 0)) lowest_L (whole_is_lowest (pos 0)) e, all_balance os fs os (amounts_of fs) are low all)
 
-pub yes_on_fallback_covers : YesOnFallbackCovers
-yes_on_fallback_covers batch outcome unmarked h = by_mark outcome.mark refl unmarked
-  where
-    fs : List Fraction
-    fs = map fraction_of outcome.fills
-
-    L : Fraction
-    L = fraction_of outcome.claim.liability
-
-    S : Fraction
-    S = fraction_of outcome.claim.surplus
-
-    covered : fallback_holds limit (zip batch.orders fs) batch.orders L ≡ Ok true → IsPremiumLessLiability batch.orders fs L S × (pos 0 ≤ℤ S.numerator) → AreFractionFills batch.orders fs → IsCovered batch outcome
-    covered holds surplus are =
-        let fallback = fallback_is batch.orders fs L are (lowest_of outcome.fills) outcome.claim.liability.lowest holds in
-        let premium = subst (λ l. IsPremiumLessLiability batch.orders fs l S) fallback.0 surplus.0 in
-        record { covers = balanced_fills_cover batch.underlyings batch.orders fs S are fallback.1 premium; not_below_zero = surplus.1 }
-
-    by_mark : (m : Mark) → outcome.mark ≡ m → IsFallback m → IsCovered batch outcome
-    by_mark (Optimal cover measure) is none = absurd none
-    by_mark (WideMark w) is some =
-        let p = passed batch outcome h in
-        let parts = both (surplus_holds limit (zip batch.orders fs) L S) (mark_covers limit batch.underlyings batch.orders fs L outcome.mark) p.cover in
-        covered (ap (mark_covers limit batch.underlyings batch.orders fs L) (sym is) ∙ parts.1) (surplus_is batch.orders fs L S (lowest_of outcome.fills) outcome.claim.liability.lowest outcome.claim.surplus.lowest parts.0)
-        (are_fraction_fills batch.orders outcome.fills (shaped batch outcome p.shape).fills p.fills)
-    by_mark Budget is some =
-        let p = passed batch outcome h in
-        let parts = both (surplus_holds limit (zip batch.orders fs) L S) (mark_covers limit batch.underlyings batch.orders fs L outcome.mark) p.cover in
-        covered (ap (mark_covers limit batch.underlyings batch.orders fs L) (sym is) ∙ parts.1) (surplus_is batch.orders fs L S (lowest_of outcome.fills) outcome.claim.liability.lowest outcome.claim.surplus.lowest parts.0)
-        (are_fraction_fills batch.orders outcome.fills (shaped batch outcome p.shape).fills p.fills)
+pub fallback_is_not : (os : List Order) (fs : List Fraction) (L : Fraction) → AreFractionFills os fs → All IsLowest fs → fallback_holds limit (zip os fs) os L ≡ Ok false
+    → ¬ (OwesNothing os fs L)
+fallback_is_not os fs L are low h owes =
+    let e : is_same L (whole (pos 0)) ≡ true = parts_same L (whole (pos 0)) owes.0 in
+    let some : balances_all limit (zip os fs) os ≡ Ok false = rw e at h in
+    not_all_balance os fs os (amounts_of fs) (length-map fs (λ (f : Fraction). positive_part (amount_over (common_denominator fs) f)) ∙ are.0) are low some owes.1

@@ -1,5 +1,7 @@
-pub mod FillSteps
 pub mod Shapes
-pub mod Yes
+pub mod Surplus
 pub mod Fallback
-pub mod Optimal
+pub mod Decided
+pub mod Certified
+pub mod Yes
+pub mod WorkedVerdicts

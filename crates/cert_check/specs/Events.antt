@@ -26,6 +26,9 @@ check condition (Ok true) next = next
 check condition (Ok false) next = Refused condition
 check condition (Err w) next = Wide w
 
+abbrev pub cover_condition : No
+cover_condition = no.Cover
+
 abbrev pub measure_condition : No
 measure_condition = no.Measure
 

@@ -1,4 +1,6 @@
 pub mod Shape
 pub mod Cover
 pub mod Events
+pub mod Conditions
 pub mod Laws
+pub mod Worked

@@ -1,6 +1,5 @@
 -- The shape of a batch and its outcome, and its fills.
-use Rattle.std.specs.Prelude.{ℕ, ◌≡◌, ◌+◌, ◌==◌, List, [], ◌∷◌, length, int_le, nat_lt, Bool, true, ◌&&◌, pos, ◌*ℤ◌}
-use Rattle.std.specs.List.{All}
+use Rattle.std.specs.Prelude.{ℕ, ◌+◌, ◌==◌, List, [], ◌∷◌, length, int_le, nat_lt, Bool, true, ◌&&◌, pos, ◌*ℤ◌}
 use Rattle.exact_num.specs.Fraction.{Fraction, whole}
 use Rattle.frac.specs.Value.{fraction_of}
 use Rattle.frac.specs.declared.bits128.Frac128.{Frac128}
@@ -51,9 +50,3 @@ abbrev pub are_fills : List Order → List Frac128 → Bool
 are_fills [] fills = true
 are_fills (o ∷ os) [] = true
 are_fills (o ∷ os) (f ∷ fs) = is_fill o (fraction_of f) && are_fills os fs
-
--- an outcome of that shape
-pub record IsShaped (batch : Batch) (outcome : Outcome) : Type 0 where
-  pub fills : length outcome.fills ≡ length batch.orders
-  pub forms : All (λ (order : Order). order.form.count ≡ batch.underlyings + 1) batch.orders
-  pub mark : mark_fits batch.underlyings outcome.mark ≡ true

@@ -1,13 +1,15 @@
 //! The verdict: the first condition that fails, or the first step that does not fit, or yes.
 
-ghost use Rattle.std.specs.Prelude.{◌≡◌, ◌≤◌, ◌+◌, length, map, true};
+ghost use Rattle.std.specs.Prelude.{◌≡◌, ◌≤◌, ◌+◌, All, length, map, true};
 ghost use Rattle.frac.specs.Range.{limit};
 ghost use Rattle.frac.specs.Value.{fraction_of};
 ghost use Rattle.form.specs.Limits.{HasItsForms};
 ghost use Rattle.measure.specs.Points.{point_of};
 ghost use Rattle.measure.specs.Sums.{has_unit_mass};
-ghost use Rattle.cert_check.specs.Events.{bound_condition, bound_holds, check, cover_holds, judge_mark, measure_condition, verdict_of, yes};
-ghost use Rattle.cert_check.specs.Shape.{IsShaped, mark_fits, states_have};
+ghost use Rattle.cert_check.specs.Conditions.{IfNo, IfOptimal, IsFirstUnmet, Meets, OnYes, conditions};
+ghost use Rattle.cert_check.specs.Events.{bound_condition, bound_holds, check, cover_condition, cover_holds, judge_mark, measure_condition, verdict_of, yes};
+ghost use Rattle.cert_check.specs.Laws.{IsCovered, IsMeasured, IsProved};
+ghost use Rattle.cert_check.specs.Shape.{mark_fits, states_have};
 
 use crate::cover::{mark_covers, surplus_holds};
 use crate::outcome::{Judgement, Mark, No, Outcome};
@@ -21,12 +23,21 @@ use measure::{Measure, bound, is_measure};
 /// quantities, the cover, and with the mark optimal the measure and its bound. `No` has the first condition that fails,
 /// `Wide` the first step that does not fit where no condition failed before. A yes shows that the fills cover the
 /// claimed surplus at every settlement and that it is not below 0; with the mark optimal also that no fractional fills
-/// cover more. The batch is on 1 to 8 underlyings, and there are as many signs as orders; what they held does not
-/// matter. Takes no memory.
+/// cover more. A no shows that its condition does not hold, and that each before it does. The batch is on 1 to 8
+/// underlyings, and there are as many signs as orders; what they held does not matter. Takes no memory.
 pub fn verdict(batch: &Batch, outcome: &Outcome, signs: &mut [i8]) -> Judgement
     requires underlyings { (1 ≤ batch.now.underlyings) × (batch.now.underlyings ≤ 8) }
     requires signs { length signs.old ≡ length batch.now.orders }
-    ensures { result ≡ verdict_of limit batch.now outcome.now }
+
+    // The first event in the order of the conditions, over sums of 127 bits.
+    ensures steps { result ≡ verdict_of limit batch.now outcome.now }
+
+    ensures met { OnYes result (All (Meets batch.now outcome.now) conditions) }
+    ensures unmet { IfNo result (IsFirstUnmet batch.now outcome.now) }
+
+    ensures covers { OnYes result (IsCovered batch.now outcome.now) }
+    ensures measured { OnYes result (IfOptimal outcome.now.mark (λ cover measure. IsMeasured batch.now outcome.now measure)) }
+    ensures proved { OnYes result (IfOptimal outcome.now.mark (λ cover measure. IsProved batch.now outcome.now)) }
 {
     if !has_shape(batch, outcome) {
         return Judgement::No(No::BatchShape);
@@ -34,6 +45,17 @@ pub fn verdict(batch: &Batch, outcome: &Outcome, signs: &mut [i8]) -> Judgement
     if !are_fills(batch.orders.as_slice(), outcome.fills.as_slice()) {
         return Judgement::No(No::Fill);
     }
+    judge_cover(batch, outcome, signs)
+}
+
+/// Whether the cover holds, and then what the mark asks.
+fn judge_cover(batch: &Batch, outcome: &Outcome, signs: &mut [i8]) -> Judgement
+    requires forms { HasItsForms batch.now }
+    requires fills { length outcome.now.fills ≡ length batch.now.orders }
+    requires mark { mark_fits batch.now.underlyings outcome.now.mark ≡ true }
+    requires signs { length signs.old ≡ length batch.now.orders }
+    ensures { result ≡ check cover_condition (cover_holds limit batch.now outcome.now) (judge_mark limit batch.now.orders (fraction_of outcome.now.claim.surplus) outcome.now.mark) }
+{
     match cover_holds(batch, outcome, signs) {
         Ok(true) => judge_mark(batch, &outcome.claim.surplus, &outcome.mark),
         Ok(false) => Judgement::No(No::Cover),
@@ -44,7 +66,8 @@ pub fn verdict(batch: &Batch, outcome: &Outcome, signs: &mut [i8]) -> Judgement
 /// Whether the surplus is what it should be and the liability is enough.
 fn cover_holds(batch: &Batch, outcome: &Outcome, signs: &mut [i8]) -> Result<bool, Wide>
     requires forms { HasItsForms batch.now }
-    requires shape { IsShaped batch.now outcome.now }
+    requires fills { length outcome.now.fills ≡ length batch.now.orders }
+    requires mark { mark_fits batch.now.underlyings outcome.now.mark ≡ true }
     requires signs { length signs.old ≡ length batch.now.orders }
     ensures { result ≡ cover_holds limit batch.now outcome.now }
 {

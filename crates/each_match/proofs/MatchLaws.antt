@@ -15,7 +15,7 @@ use Rattle.each_match.specs.Laws.{matched, MatchIsWithin, MatchIsBalanced, Match
 use Rattle.each_match.proofs.Matched.{IsWithin, IsWithin-length, by_bundle, matched_by_option}
 use Rattle.each_match.proofs.Sums.{total}
 
-total_is : (f : Order → ℤ) (orders : List Order) (fills : List ℕ) → total f orders fills ≡ buys_less_sells f (zip orders fills)
+pub total_is : (f : Order → ℤ) (orders : List Order) (fills : List ℕ) → total f orders fills ≡ buys_less_sells f (zip orders fills)
 total_is f orders fills = signed_sums_agree f (zip orders fills)
 
 each_within : (orders : List Order) (fills : List ℕ) → IsWithin orders fills → All (λ (fill : Filled). fill.1 ≤ fill.0.quantity * 1) (zip orders fills)

@@ -17,6 +17,7 @@ use Rattle.each_match.specs.Match.{crosses, traded, traded_at, after_trade, afte
 use Rattle.each_match.specs.Offers.{Offer, ranked_offers}
 use Rattle.each_match.proofs.Sides.{Each, IsOffered, ranked_are_offered}
 use Rattle.each_match.proofs.Sums.{total, total-more}
+use Rattle.each_match.proofs.Trades.{places_differ}
 
 -- one fill for each order, none past its quantity
 unfoldable pub IsWithin : List Order → List ℕ → Type 0
@@ -62,11 +63,11 @@ pub record IsMatched (orders : List Order) (fills : List ℕ) : Type 0 where
   pub balanced : (f : List BundleLeg → ℤ) → total (by_bundle f) orders fills ≡ pos 0
   pub earns : pos 0 ≤ℤ total (λ o. pos o.price) orders fills
 
-same_bundle : (buy sell : Order) → crosses buy sell ≡ true → bundle_of buy ≡ bundle_of sell
+pub same_bundle : (buy sell : Order) → crosses buy sell ≡ true → bundle_of buy ≡ bundle_of sell
 unfolding bundle_of
 same_bundle buy sell h = ap one (same_option_is (option_of buy.form) (option_of sell.form) (and_parts (is_same_option (option_of buy.form) (option_of sell.form)) (nat_lt sell.price buy.price) h).0)
 
-price_above : (buy sell : Order) → crosses buy sell ≡ true → sell.price < buy.price
+pub price_above : (buy sell : Order) → crosses buy sell ≡ true → sell.price < buy.price
 price_above buy sell h = let p = (and_parts (is_same_option (option_of buy.form) (option_of sell.form)) (nat_lt sell.price buy.price) h).1 in grind (arith, nat_tests)
 
 -- a trade is no more than is left of either order
@@ -101,17 +102,11 @@ module _ (orders : List Order) (fills : List ℕ) (buy sell : ℕ) (b s : Order)
   abbrev amount : ℕ
   amount = traded b s (slice_index fills buy) (slice_index fills sell)
 
-  apart : buy ≡ sell → ⊥
-  apart same =
-      let one : b ≡ s = let e : Some b ≡ Some s = sym at_buy ∙ ap (slice_get orders) same ∙ at_sell in cc in
-      let sides : Buy ≡ Sell = sym buys ∙ ap (λ (o : Order). o.side) one ∙ sells in
-      cc
-
   abbrev half : List ℕ
   half = slice_set fills buy (slice_index fills buy + amount)
 
   other_kept : slice_index half sell ≡ slice_index fills sell
-  other_kept = let ne : sell ≡ buy → ⊥ = λ e. apart (sym e) in rw get_or-set_other refl
+  other_kept = let ne : sell ≡ buy → ⊥ = λ e. places_differ orders buy sell b s at_buy at_sell buys sells (sym e) in rw get_or-set_other refl
 
   traded_is : after_trade orders buy fills sell ≡ slice_set half sell (slice_index half sell + amount)
   traded_is =
@@ -156,7 +151,7 @@ none_matched orders = record {
   earns = let e = none_total (λ o. pos o.price) orders in omega (arith, ints, e);
 }
 
-offered_at : (orders : List Order) (place : ℕ) (order : Order) → slice_get orders (place - 0) ≡ Some order → slice_get orders place ≡ Some order
+pub offered_at : (orders : List Order) (place : ℕ) (order : Order) → slice_get orders (place - 0) ≡ Some order → slice_get orders place ≡ Some order
 offered_at orders place order at = let e : place ≡ place - 0 = omega arith in ap (slice_get orders) e ∙ at
 
 buy_keeps : (orders : List Order) (buy : Offer) (sells : List Offer) (fills : List ℕ) → IsOffered Buy 0 orders buy → Each (IsOffered Sell 0 orders) sells → IsMatched orders fills → IsMatched orders (after_buy orders sells fills buy)

@@ -36,6 +36,7 @@ pub record IsOffered (side : Side) (place : ℕ) (orders : List Order) (offer : 
   pub behind : place ≤ offer.1
   pub stands : slice_get orders (offer.1 - place) ≡ Some order
   pub on_side : order.side ≡ side
+  pub ranks : offer.0 ≡ rank_of side order.price
 
 side_is : (a b : Side) → is_on a b ≡ true → b ≡ a
 side_is Buy Buy h = refl
@@ -43,12 +44,17 @@ side_is Buy Sell h = cc
 side_is Sell Buy h = cc
 side_is Sell Sell h = refl
 
+pub is_on-itself : (side : Side) → is_on side side ≡ true
+is_on-itself Buy = refl
+is_on-itself Sell = refl
+
 later : (side : Side) (place : ℕ) (order : Order) (orders : List Order) (offer : Offer) → IsOffered side (place + 1) orders offer → IsOffered side place (order ∷ orders) offer
 later side place order orders offer h = record {
   order = h.order;
   behind = omega (arith, h.behind);
   stands = let e : offer.1 - place ≡ suc (offer.1 - (place + 1)) = omega (arith, h.behind) in ap (slice_get (order ∷ orders)) e ∙ h.stands;
   on_side = h.on_side;
+  ranks = h.ranks;
 }
 
 are_offered : (side : Side) (place : ℕ) (orders : List Order) → Each (IsOffered side place orders) (offers_from side place orders)
@@ -62,6 +68,7 @@ are_offered side place (order ∷ orders) =
       behind = omega arith;
       stands = let e : place - place ≡ 0 = omega arith in ap (slice_get (order ∷ orders)) e;
       on_side = side_is side order.side on;
+      ranks = refl;
     } in
     let Goal : Bool → Type 0 = λ b. is_on side order.side ≡ b → Each P (if b then (rank_of side order.price, place) ∷ offers_from side (place + 1) orders else offers_from side (place + 1) orders) in
     (elim (is_on side order.side) as Goal [ true ↦ λ on. (first on, rest) | false ↦ λ _. rest ]) refl

@@ -1,14 +1,18 @@
 -- A sorted list of offers is the ranked one: offers of equal rank and place are equal, so there is one order.
-use Rattle.std.proofs.Common.{◌≡◌, ℕ, suc, ◌+◌, ◌≤◌, ◌<◌, ◌==◌, List, [], ◌∷◌, Bool, true, false, cond, ◌&&◌, length, get_or, refl, sym, ap, subst, ◌∙◌, arith}
+use Rattle.std.proofs.Common.{◌≡◌, ℕ, zero, suc, ◌+◌, ◌≤◌, ◌<◌, ◌==◌, List, [], ◌∷◌, Bool, true, false, cond, if◌then◌else◌, ◌&&◌, ◌⊎◌, inl, inr, length, get_or, Some, refl, sym, ap, subst, ◌∙◌, arith}
+use Rattle.std.proofs.lemmas.Bool.{cases_lt}
 use Rattle.std.proofs.lemmas.Bool.Decides.{nat_tests}
 use Rattle.std.proofs.lemmas.Grind.{common_steps}
 use Rattle.std.proofs.lemmas.List.Sorted.{sum_by-IsPermutation, sorted_far}
 use Rattle.std.proofs.lemmas.List.Sums.{sum_by-cons}
 use Rattle.std.specs.Cmp.{IsStrictWeakOrder}
-use Rattle.std.specs.List.{sum_by}
+use Rattle.std.specs.List.{sum_by, slice_get}
 use Rattle.std.specs.List.Sorted.{IsPermutation, IsSortedBy}
 use Rattle.std.specs.Ordering.{is_lt, nat_cmp, ordering_then}
-use Rattle.each_match.specs.Offers.{Offer, comes_first, placed, ranked}
+use Rattle.form.specs.declared.orders.Order.{Order}
+use Rattle.form.specs.declared.orders.Side.{Side}
+use Rattle.each_match.specs.Offers.{Offer, rank_of, is_on, offers_from, comes_first, placed, ranked, ranked_offers}
+use Rattle.each_match.proofs.Sides.{is_on-itself}
 
 -- how the sort compares offers
 abbrev pub is_less : Offer → Offer → Bool
@@ -61,7 +65,7 @@ one_when true = 1
 one_when false = 0
 
 -- how often an offer stands in a list
-times : Offer → List Offer → ℕ
+pub times : Offer → List Offer → ℕ
 times c [] = 0
 times c (x ∷ xs) = one_when (same c x) + times c xs
 
@@ -79,7 +83,7 @@ NoneBefore : Offer → List Offer → Type 0
 NoneBefore x [] = Unit {0}
 NoneBefore x (y ∷ ys) = (comes_first y x ≡ false) × NoneBefore x ys
 
-Rises : List Offer → Type 0
+pub Rises : List Offer → Type 0
 Rises [] = Unit {0}
 Rises (x ∷ xs) = NoneBefore x xs × Rises xs
 
@@ -107,7 +111,7 @@ Rises-placed x (y ∷ ys) h =
       | false ↦ λ later. (NoneBefore-placed y x ys later h.0, Rises-placed x ys h.1)
     ]) refl
 
-Rises-ranked : (xs : List Offer) → Rises (ranked xs)
+pub Rises-ranked : (xs : List Offer) → Rises (ranked xs)
 unfolding Rises
 Rises-ranked [] = tt
 Rises-ranked (x ∷ xs) = Rises-placed x (ranked xs) (Rises-ranked xs)
@@ -178,3 +182,51 @@ rises (x ∷ xs) h = (
 
 pub sorted_is_ranked : (xs ys : List Offer) → IsPermutation xs ys → IsSortedBy is_less ys → ys ≡ ranked xs
 sorted_is_ranked xs ys moved sorted = one_order ys (ranked xs) (rises ys sorted) (Rises-ranked xs) (λ c. times-permutation c xs ys moved ∙ sym (times-ranked c xs))
+
+-- ---- what is left of a ranked list
+pub Rises-rest : (x : Offer) (xs : List Offer) → Rises (x ∷ xs) → Rises xs
+unfolding Rises
+Rises-rest x xs h = h.1
+
+pub times-none : (c : Offer) → times c [] ≡ 0
+unfolding times
+times-none c = refl
+
+behind : (c x : Offer) → comes_first c x ≡ false → x.0 ≤ c.0
+behind c x h = grind (arith, common_steps, nat_tests)
+
+-- an offer of a lower rank than the first is not among them
+pub passed : (c x : Offer) (xs : List Offer) → Rises (x ∷ xs) → c.0 < x.0 → times c (x ∷ xs) ≡ 0
+unfolding Rises NoneBefore
+passed c x xs h lower = elim (cases_lt 0 (times c (x ∷ xs))) [
+  | inl some ↦ absurd (omega (arith, behind c x (standing c x (x ∷ xs) (not_first_itself x, h.0) (omega (arith, some)))))
+  | inr none ↦ omega (arith, none)
+]
+
+-- what is not behind the first is the first, or not among them
+pub first_or_passed : (c x : Offer) (xs : List Offer) → times c xs ≡ 0 → (c ≡ x) ⊎ (times c (x ∷ xs) ≡ 0)
+unfolding times
+first_or_passed c x xs none =
+    let P : Bool → Type 0 = λ t. same c x ≡ t → (c ≡ x) ⊎ (one_when t + times c xs ≡ 0) in
+    (elim (same c x) as P [ true ↦ λ is. inl (same_is c x is) | false ↦ λ _. inr (omega (arith, none)) ]) refl
+
+-- the offer of each order on a side is among them
+offered_from : (side : Side) (c : Offer) (place i : ℕ) (orders : List Order) (o : Order) → slice_get orders i ≡ Some o → o.side ≡ side → c.0 ≡ rank_of side o.price → c.1 ≡ place + i → 1 ≤ times c (offers_from side place orders)
+unfolding times same
+offered_from side c place i [] o at on rank stands = cc
+offered_from side c place zero (p ∷ orders) o at on rank stands =
+    let is : p ≡ o = cc in
+    let here : is_on side p.side ≡ true = ap (λ (q : Order). is_on side q.side) is ∙ ap (is_on side) on ∙ is_on-itself side in
+    let found : same c (rank_of side p.price, place) ≡ true = let e : c.0 ≡ rank_of side p.price = rank ∙ ap (λ (q : Order). rank_of side q.price) (sym is) in grind (arith, common_steps, nat_tests) in
+    rw (here, found) (omega arith)
+offered_from side c place (suc i) (p ∷ orders) o at on rank stands =
+    let later = offered_from side c (place + 1) i orders o at on rank (omega (arith, stands)) in
+    elim (is_on side p.side) as (λ b. 1 ≤ times c (if b then (rank_of side p.price, place) ∷ offers_from side (place + 1) orders else offers_from side (place + 1) orders)) [
+      | true ↦ omega (arith, later)
+      | false ↦ later
+    ]
+
+pub offered : (side : Side) (place : ℕ) (orders : List Order) (o : Order) → slice_get orders place ≡ Some o → o.side ≡ side → 1 ≤ times (rank_of side o.price, place) (ranked_offers side orders)
+offered side place orders o at on =
+    let c : Offer = (rank_of side o.price, place) in
+    omega (arith, times-ranked c (offers_from side 0 orders), offered_from side c 0 place orders o at on refl (omega arith))

@@ -1,10 +1,14 @@
 -- What the match of each option by itself implies.
-use Rattle.std.specs.Prelude.{ℕ, ◌≡◌, List, pos, ◌≤ℤ◌}
-use Rattle.std.specs.List.{zip}
+use Rattle.std.specs.Prelude.{ℕ, ◌≡◌, ◌<◌, ◌≤◌, List, pos, ◌*ℤ◌, ◌≤ℤ◌}
+use Rattle.std.specs.List.{zip, All}
 use Rattle.exact_num.specs.Fraction.{whole}
+use Rattle.form.specs.declared.limits.TheConstants.{MAX_PRICE}
 use Rattle.form.specs.declared.orders.Order.{Order}
+use Rattle.form.specs.declared.orders.Side.{Side}
+use Rattle.form.specs.declared.orders.Side.TheVariants.{Buy, Sell}
 use Rattle.form.specs.Balance.{AreBalanced}
 use Rattle.form.specs.Clearing.{Filled, AreFills, net, premium, Covers}
+use Rattle.form.specs.Payoff.{BundleLeg, bundle_of}
 use Rattle.each_match.specs.Match.{match_by_option}
 
 -- the orders with their matched fills
@@ -30,3 +34,34 @@ MatchEarns = (orders : List Order) → pos 0 ≤ℤ premium (matched orders)
 -- the match covers its premium at every settlement
 abbrev pub MatchCovers : Type 0
 MatchCovers = (n : ℕ) (orders : List Order) → Covers n (matched orders) 1 (whole (premium (matched orders)))
+
+-- no limit of an order is past the greatest price, so that buys rank by falling price
+abbrev pub ArePricesWithin : List Order → Type 0
+ArePricesWithin orders = All (λ (order : Order). order.price ≤ MAX_PRICE) orders
+
+-- a limit is better than a price: a buyer would pay more, a seller would take less
+abbrev pub IsBetter : Side → ℕ → ℕ → Type 0
+IsBetter Buy limit price = price < limit
+IsBetter Sell limit price = limit < price
+
+-- an order whose limit is better than the price is filled whole, and one whose limit is worse is not filled
+abbrev pub IsFilledAt : ℕ → Filled → Type 0
+IsFilledAt price fill =
+    (IsBetter fill.0.side fill.0.price price → fill.1 ≡ fill.0.quantity)
+    × (IsBetter fill.0.side price fill.0.price → fill.1 ≡ 0)
+
+-- one price for each option parts its orders
+abbrev pub MatchHasPrices : Type 0
+MatchHasPrices =
+    (orders : List Order) → ArePricesWithin orders
+    → (price : List BundleLeg → ℕ) × All (λ (fill : Filled). IsFilledAt (price (bundle_of fill.0)) fill) (matched orders)
+
+-- no fills g over F of the orders that sell of each option just what they buy of it earn more than the fills m
+abbrev pub IsBestBalanced : List Order → List ℕ → Type 0
+IsBestBalanced orders m =
+    (g : List ℕ) (F : ℕ) → AreFills orders g F → AreBalanced (zip orders g)
+    → premium (zip orders g) ≤ℤ (premium (zip orders m) *ℤ pos F)
+
+-- so the match is the best of the fills that balance each option
+abbrev pub MatchIsTheBest : Type 0
+MatchIsTheBest = (orders : List Order) → ArePricesWithin orders → IsBestBalanced orders (match_by_option orders)

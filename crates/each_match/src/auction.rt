@@ -3,6 +3,7 @@ ghost use Rattle.std.specs.Prelude.{◌≡◌, ◌+◌, ◌^◌, ◌<◌, ◌≤
 ghost use Rattle.std.specs.List.{All, zip};
 ghost use Rattle.form.specs.Balance.{AreBalanced};
 ghost use Rattle.form.specs.Clearing.{AreFills, net, premium};
+ghost use Rattle.each_match.specs.Laws.{ArePricesWithin, IsBestBalanced};
 ghost use Rattle.each_match.specs.Offers.{Offer};
 ghost use Rattle.each_match.specs.Match.{crosses, traded, after_trade, after_buy, match_by_option};
 
@@ -75,13 +76,16 @@ fn matched(alloc: Global, orders: &[Order]) -> Result<Vec<u64>, AllocError>
 /// its limit price is above the sell's. At one price the earlier order comes first.
 ///
 /// Answers the whole fills in the order of the batch. Of each option as much is bought as sold, so the fills owe
-/// nothing at any settlement.
+/// nothing at any settlement. Where no limit price is above `MAX_PRICE`, as in a batch within the limits, no other
+/// fills that balance each option by itself, fractions included, have a greater premium (in ticks, what buyers pay
+/// less what sellers get).
 pub fn match_each(alloc: Global, batch: &Batch) -> Result<Vec<u64>, AllocError>
     ensures fills { IfOk result (λ fills. fills.items ≡ match_by_option batch.now.orders) }
     ensures within { IfOk result (λ fills. AreFills batch.now.orders fills.items 1) }
     ensures balanced { IfOk result (λ fills. AreBalanced (zip batch.now.orders fills.items)) }
     ensures owes_nothing { IfOk result (λ fills. (z : List ℕ) → net (zip batch.now.orders fills.items) z ≡ pos 0) }
     ensures earns { IfOk result (λ fills. pos 0 ≤ℤ premium (zip batch.now.orders fills.items)) }
+    ensures best { ArePricesWithin batch.now.orders → IfOk result (λ fills. IsBestBalanced batch.now.orders fills.items) }
 {
     matched(alloc, batch.orders.as_slice())
 }

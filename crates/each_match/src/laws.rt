@@ -1,6 +1,6 @@
 //! Laws over the definition of the match: each is the contract of a function that does nothing.
 
-ghost use Rattle.each_match.specs.Laws.{MatchIsWithin, MatchIsBalanced, MatchOwesNothing, MatchEarns, MatchCovers};
+ghost use Rattle.each_match.specs.Laws.{MatchIsWithin, MatchIsBalanced, MatchOwesNothing, MatchEarns, MatchCovers, MatchHasPrices, MatchIsTheBest};
 
 /// No order is filled past its quantity.
 pub fn match_is_within()
@@ -25,4 +25,20 @@ pub fn match_earns()
 /// The match covers its premium at every settlement.
 pub fn match_covers()
     ensures { MatchCovers }
+{}
+
+/// Each option has one price, in ticks, that parts its orders: those with a better limit are filled whole, and those
+/// with a worse one are not filled. A buy's limit is better above the price, a sell's below it. No limit of the orders
+/// may be above `MAX_PRICE`, as none is within the limits of the exchange.
+pub fn match_has_prices()
+    ensures { MatchHasPrices }
+{}
+
+/// No fills that balance each option by itself, fractions of orders included, earn more than the match. No limit of
+/// the orders may be above `MAX_PRICE`.
+///
+/// Source: weak duality of the double auction. Balanced fills earn what their orders gain at the prices of
+/// [`match_has_prices`], and no fills gain more there than the match.
+pub fn match_is_the_best()
+    ensures { MatchIsTheBest }
 {}

@@ -1,3 +1,8 @@
 pub mod NetSteps
 pub mod LineSteps
+pub mod PlaceSteps
+pub mod Inserted
+pub mod LineStates
 pub mod Sound
+pub mod Enough
+mod WorkedLines

@@ -1,46 +1,40 @@
--- A line whose check holds is covered.
-use Rattle.std.proofs.Common.{◌≡◌, ℕ, zero, suc, ◌*◌, ◌/◌, ◌≤◌, Bool, true, false, List, [], ◌∷◌, zip, nat_abs, arith, ℤ, pos, negsuc, neg_ℤ, ◌+ℤ◌, ◌*ℤ◌, ◌≤ℤ◌, ◌<ℤ◌, All, Option, Some, None, Result, Ok, Err, refl, ap, sym, subst, ◌∙◌}
-use Rattle.std.specs.Prelude.{int_lt}
+-- A line whose check holds is covered, and one whose check fails is not.
+use Rattle.std.proofs.Common.{◌≡◌, ℕ, ◌≤◌, ◌⊎◌, inl, inr, Bool, true, false, List, [], ◌∷◌, length, map, zip, arith, ℤ, pos, neg_ℤ, ◌+ℤ◌, ◌*ℤ◌, ◌<ℤ◌, All, Result, Ok, Err, refl, ap, sym, subst, ◌∙◌}
+use Rattle.std.specs.Prelude.{int_lt, ◌↔◌}
 use Rattle.std.specs.Int.{◌∣◌}
 use Rattle.std.specs.List.{filter_map}
-use Rattle.std.specs.Int.Signed.{lt_z_no}
+use Rattle.std.specs.Int.Signed.{lt_z_yes}
 use Rattle.std.proofs.lemmas.Float.{T_from_true}
-use Rattle.std.proofs.lemmas.Bool.Decides.{nat_tests}
 use Rattle.std.proofs.lemmas.Int.{ints}
-use Rattle.std.proofs.lemmas.List.Elements.{All-nil, All-cons}
-use native.Mathlib.Nat.{mul-div_cancel'}
+use Rattle.std.proofs.lemmas.List.Elements.{All-nil, All-cons, All-weaker}
+use Rattle.std.proofs.lemmas.List.{length-map}
 use mathlib.Core.Bool.{not}
-use Rattle.arithmetic.specs.Gcd.{gcd}
-use Rattle.arithmetic.proofs.GcdLaws.{gcd_pos_left, gcd_dvd_left, gcd_dvd_right}
-use Rattle.arithmetic.proofs.Integers.{*ℤ_cancel_le, *ℤ_mono}
+use Rattle.arithmetic.proofs.Integers.{*ℤ_cancel_lt, *ℤ_mono_lt}
 use Rattle.arithmetic.proofs.Products.{products}
 use Rattle.arithmetic.proofs.Sums.{All-head, All-tail}
 use Rattle.exact_num.specs.declared.misfit.Wide.{Wide}
-use Rattle.exact_num.specs.Fraction.{Fraction, IsLowest, whole}
-use Rattle.exact_num.specs.CommonDenominator.{common_denominator, amount_over}
+use Rattle.exact_num.specs.Fraction.{Fraction, IsDefined, IsLowest, whole}
+use Rattle.exact_num.specs.CommonDenominator.{common_denominator, amount_over, signed_amounts_over}
 use Rattle.exact_num.proofs.After.{after_value}
 use Rattle.exact_num.proofs.Values.{whole_is_lowest}
-use Rattle.exact_num.proofs.Fractions.{divides, amount_is_exact}
+use Rattle.exact_num.proofs.Fractions.{common_positive, divides, amount_is_exact}
+use Rattle.frac.specs.declared.bits128.Frac128.{Frac128}
+use Rattle.frac.specs.Value.{fraction_of}
 use Rattle.form.specs.declared.orders.Side.{Side}
 use Rattle.form.specs.declared.orders.Side.TheVariants.{Buy, Sell}
 use Rattle.form.specs.declared.orders.Order.{Order}
-use Rattle.form.specs.Vector.{strike_entry}
-use Rattle.form.specs.Payoff.{BundleLeg, option_of, payoff, bundle_of, bundle_payoff, scale_of}
+use Rattle.form.specs.Payoff.{option_of, bundle_of, bundle_payoff, scale_of}
 use Rattle.form.specs.Clearing.{for_side, signed_net}
-use Rattle.form.specs.Line.{weight_entry, HoldsAtPrice, HoldsAtBreak, HoldsAtBreaks}
+use Rattle.form.specs.Line.{HoldsAtBreaks}
 use Rattle.form.specs.Certificate.{signed_over}
 use Rattle.form.specs.Steps.{payoff_of, less_product}
 use Rattle.form.proofs.DotSteps.{payoffs_are_exact}
-use Rattle.form.proofs.StepRatios.{Stands, plus_stands, less_stands}
-use Rattle.market_laws.proofs.Line.{holds_at_multiples}
+use Rattle.form.proofs.StepRatios.{Stands, plus_stands, less_stands, bundle_pays, not_above}
 use Rattle.line_cover.specs.Net.{add_for_side, add_payoff, add_payoffs, excess}
-use Rattle.line_cover.specs.Line.{bends, lowest_state, breakpoint_of_order, and_then, holds_at, holds_at_break, holds_at_all}
-use Rattle.line_cover.specs.Laws.{LinesThatHoldClose}
-
--- an order's bundle pays what its option pays
-pub bundle_pays : (o : Order) (z : List ℕ) → bundle_payoff (bundle_of o) z ≡ pos (payoff (option_of o.form) z)
-unfolding bundle_of
-bundle_pays o z = omega (arith, ints)
+use Rattle.line_cover.specs.Line.{breakpoint_of_order, and_then, holds_at, holds_at_all}
+use Rattle.line_cover.specs.Breakpoints.{first_state, last_state, HoldsAtState}
+use Rattle.line_cover.specs.Laws.{LinesThatHoldClose, LinesThatFailDoNotClose}
+use Rattle.line_cover.proofs.LineStates.{breaks_are, orders_of_fills}
 
 pub side_stands : (limit : ℕ) (side : Side) (total f s : Fraction) (k x y : ℤ) (D : ℕ) → Stands total x D → Stands f y D → add_for_side limit total side f (whole k) ≡ Ok s → Stands s (x +ℤ for_side side (k *ℤ y)) D
 side_stands limit Buy total f s k x y D st sf h =
@@ -74,102 +68,112 @@ net_stands limit D (o ∷ os) (f ∷ fs) z total s x low div st h =
 pub zero_stands : (D : ℕ) → Stands (whole (pos 0)) (pos 0) D
 zero_stands D = record { lowest = whole_is_lowest (pos 0); ratio = omega (arith, ints) }
 
--- a number that is not above 0 stands for one that is not
-pub not_above : (e : Fraction) (y : ℤ) (D : ℕ) → Stands e y D → not (int_lt (pos 0) e.numerator) ≡ true → y ≤ℤ pos 0
-not_above e y D st test =
-    let low : e.numerator ≤ℤ pos 0 = lt_z_no {a = pos 0} {b = e.numerator} (T_from_true (not (int_lt (pos 0) e.numerator)) test) in
-    *ℤ_cancel_le e.denominator y (pos 0) st.lowest.positive (omega (arith, ints, *ℤ_mono D e.numerator (pos 0) low, st.ratio))
+-- a number above 0 stands for one above 0
+is_above : (e : Fraction) (y : ℤ) (D : ℕ) → 1 ≤ D → Stands e y D → int_lt (pos 0) e.numerator ≡ true → pos 0 <ℤ y
+is_above e y D one st test =
+    let high : pos 0 <ℤ e.numerator = lt_z_yes {a = pos 0} {b = e.numerator} (T_from_true (int_lt (pos 0) e.numerator) test) in
+    *ℤ_cancel_lt (pos 0) y e.denominator (omega (arith, ints, *ℤ_mono_lt (pos 0) e.numerator D high one, st.ratio))
 
 pub both : (first second : Result Bool Wide) → and_then first second ≡ Ok true → (first ≡ Ok true) × (second ≡ Ok true)
 both (Ok true) second h = (refl, h)
 both (Ok false) second h = cc
 both (Err w) second h = cc
 
--- the check at a state
-holds_here : (limit : ℕ) (os : List Order) (fs : List Fraction) (L : Fraction) (z : List ℕ) → All IsLowest (L ∷ fs)
-    → (let D = common_denominator (L ∷ fs) in holds_at limit (zip os fs) L z ≡ Ok true → signed_net (signed_over D os fs) z ≤ℤ (amount_over D L *ℤ pos (scale_of z)))
-holds_here limit os fs L z low h =
+pub not_both : (first second : Result Bool Wide) → and_then first second ≡ Ok false → (first ≡ Ok false) ⊎ ((first ≡ Ok true) × (second ≡ Ok false))
+not_both (Ok true) second h = inr (refl, h)
+not_both (Ok false) second h = inl refl
+not_both (Err w) second h = cc
+
+turned : (t answer : Bool) → not t ≡ answer → t ≡ not answer
+turned true answer h = ap not h
+turned false answer h = ap not h
+
+-- what the check at a state computes
+record Excess (os : List Order) (fs : List Fraction) (L : Fraction) (z : List ℕ) (answer : Bool) : Type 0 where
+  value : Fraction
+  stands : (let D = common_denominator (L ∷ fs) in Stands value (signed_net (signed_over D os fs) z +ℤ neg_ℤ (amount_over D L *ℤ pos (scale_of z))) D)
+  test : int_lt (pos 0) value.numerator ≡ not answer
+
+excess_at : (limit : ℕ) (os : List Order) (fs : List Fraction) (L : Fraction) (z : List ℕ) (answer : Bool) → All IsLowest (L ∷ fs)
+    → holds_at limit (zip os fs) L z ≡ Ok answer → Excess os fs L z answer
+excess_at limit os fs L z answer low h =
     let D = common_denominator (L ∷ fs) in
     let div = divides (L ∷ fs) in
-    let outer = after_value (excess limit (zip os fs) L z) (λ e. Ok (not (int_lt (pos 0) e.numerator))) true h in
+    let outer = after_value (excess limit (zip os fs) L z) (λ e. Ok (not (int_lt (pos 0) e.numerator))) answer h in
     let inner = after_value (add_payoffs limit (whole (pos 0)) (zip os fs) z) (λ net. less_product limit net L (whole (pos (scale_of z)))) outer.value outer.first in
     let sl : Stands L (amount_over D L) D = record { lowest = All-head IsLowest L fs low; ratio = amount_is_exact D L (All-head (λ g. g.denominator ∣ D) L fs div) } in
     let net = net_stands limit D os fs z (whole (pos 0)) inner.value (pos 0) (All-tail IsLowest L fs low) (All-tail (λ g. g.denominator ∣ D) L fs div) (zero_stands D) inner.first in
     let e = less_stands limit inner.value L outer.value (pos (scale_of z)) (pos 0 +ℤ signed_net (signed_over D os fs) z) (amount_over D L) D net sl inner.rest in
-    let test : not (int_lt (pos 0) outer.value.numerator) ≡ true = cc in
-    omega (arith, ints, not_above outer.value _ D e test)
+    let same : (pos 0 +ℤ signed_net (signed_over D os fs) z) +ℤ neg_ℤ (amount_over D L *ℤ pos (scale_of z)) ≡ signed_net (signed_over D os fs) z +ℤ neg_ℤ (amount_over D L *ℤ pos (scale_of z)) = omega (arith, ints) in
+    let answers : not (int_lt (pos 0) outer.value.numerator) ≡ answer = cc in
+    record { value = outer.value; stands = subst (λ y. Stands outer.value y D) same e; test = turned (int_lt (pos 0) outer.value.numerator) answer answers }
 
--- opposite signs are a bend
-bends_of : (a b : ℤ) → (a *ℤ b) <ℤ pos 0 → bends a b ≡ true
-bends_of (pos a) (pos b) h = absurd (omega (arith, ints))
-bends_of (negsuc a) (negsuc b) h = absurd (omega (arith, ints))
-bends_of (pos zero) (negsuc b) h = absurd (omega (arith, ints))
-bends_of (negsuc a) (pos zero) h = absurd (omega (arith, ints))
-bends_of (pos (suc a)) (negsuc b) h = grind (arith, nat_tests)
-bends_of (negsuc a) (pos (suc b)) h = grind (arith, nat_tests)
+-- the fills and the liability over their common denominator
+abbrev Holds : List Order → List Fraction → Fraction → List ℕ → Type 0
+Holds os fs L = let D = common_denominator (L ∷ fs) in HoldsAtState (signed_over D os fs) (amount_over D L)
 
-size_above : (a b : ℤ) → (a *ℤ b) <ℤ pos 0 → 1 ≤ nat_abs b
-size_above a (pos zero) h = absurd (omega (arith, ints))
-size_above a (pos (suc n)) h = omega arith
-size_above a (negsuc n) h = omega arith
+holds_here : (limit : ℕ) (os : List Order) (fs : List Fraction) (L : Fraction) (z : List ℕ) → All IsLowest (L ∷ fs)
+    → holds_at limit (zip os fs) L z ≡ Ok true → Holds os fs L z
+holds_here limit os fs L z low h =
+    let e = excess_at limit os fs L z true low h in
+    omega (arith, ints, not_above e.value _ (common_denominator (L ∷ fs)) e.stands e.test)
 
--- the check where an order's option bends
-break_holds : (limit : ℕ) (os : List Order) (fs : List Fraction) (L : Fraction) (o : Order) (amount : ℤ) → All IsLowest (L ∷ fs)
-    → holds_at_break limit (zip os fs) L (breakpoint_of_order o) ≡ Ok true
-    → (let D = common_denominator (L ∷ fs) in HoldsAtBreaks (signed_over D os fs) (amount_over D L) (o, amount))
-unfolding bundle_of
-break_holds limit os fs L o amount low h =
-    All-cons P (record { count = pos 1; option = v }) [] here (All-nil P)
-  where
-    D : ℕ
-    D = common_denominator (L ∷ fs)
+fails_here : (limit : ℕ) (os : List Order) (fs : List Fraction) (L : Fraction) (z : List ℕ) → All IsLowest (L ∷ fs)
+    → holds_at limit (zip os fs) L z ≡ Ok false → Holds os fs L z → ⊥
+fails_here limit os fs L z low h held =
+    let e = excess_at limit os fs L z false low h in
+    omega (arith, ints, is_above e.value _ (common_denominator (L ∷ fs)) (common_positive (L ∷ fs) (All-weaker IsLowest IsDefined (λ f is. is.positive) (L ∷ fs) low)) e.stands e.test)
 
-    v : List ℤ
-    v = option_of o.form
+-- the check at states, one after another
+all_hold : (limit : ℕ) (os : List Order) (fs : List Fraction) (L : Fraction) (zs : List (List ℕ)) → All IsLowest (L ∷ fs)
+    → holds_at_all limit (zip os fs) L zs ≡ Ok true → All (Holds os fs L) zs
+all_hold limit os fs L [] low h = All-nil (Holds os fs L)
+all_hold limit os fs L (z ∷ zs) low h =
+    let parts = both (holds_at limit (zip os fs) L z) (holds_at_all limit (zip os fs) L zs) h in
+    All-cons (Holds os fs L) z zs (holds_here limit os fs L z low parts.0) (all_hold limit os fs L zs low parts.1)
 
-    P : BundleLeg → Type 0
-    P leg = HoldsAtBreak (signed_over D os fs) (amount_over D L) leg.option
+some_fails : (limit : ℕ) (os : List Order) (fs : List Fraction) (L : Fraction) (zs : List (List ℕ)) → All IsLowest (L ∷ fs)
+    → holds_at_all limit (zip os fs) L zs ≡ Ok false → All (Holds os fs L) zs → ⊥
+some_fails limit os fs L [] low h held = cc
+some_fails limit os fs L (z ∷ zs) low h held =
+    elim (not_both (holds_at limit (zip os fs) L z) (holds_at_all limit (zip os fs) L zs) h) [
+      | inl first ↦ fails_here limit os fs L z low first (All-head (Holds os fs L) z zs held)
+      | inr rest ↦ some_fails limit os fs L zs low rest.1 (All-tail (Holds os fs L) z zs held)
+    ]
 
-    here : (strike_entry v *ℤ weight_entry v) <ℤ pos 0 → HoldsAtPrice (signed_over D os fs) (amount_over D L) (nat_abs (weight_entry v)) (nat_abs (strike_entry v))
-    here signs =
-        let t = nat_abs (weight_entry v) in
-        let s = nat_abs (strike_entry v) in
-        let g = gcd t s in
-        let some : breakpoint_of_order o ≡ Some (lowest_state t s) = rw (bends_of (strike_entry v) (weight_entry v) signs) refl in
-        let at : holds_at limit (zip os fs) L (lowest_state t s) ≡ Ok true = rw some at h in
-        let one : 1 ≤ g = gcd_pos_left t s (size_above (strike_entry v) (weight_entry v) signs) in
-        let scaled = (holds_at_multiples (signed_over D os fs) (amount_over D L) g (t / g) (s / g) one).1 (holds_here limit os fs L (lowest_state t s) low at) in
-        subst (λ w. HoldsAtPrice (signed_over D os fs) (amount_over D L) w s) (mul-div_cancel' g (gcd_dvd_left t s))
-        (subst (λ w. HoldsAtPrice (signed_over D os fs) (amount_over D L) (g * (t / g)) w) (mul-div_cancel' g (gcd_dvd_right t s)) scaled)
-
--- the check at the first breakpoint, if there is one, and at the others
-first_break : (limit : ℕ) (fills : List (Order × Fraction)) (L : Fraction) (o : Order) (rest : List Order)
-    → holds_at_all limit fills L (filter_map breakpoint_of_order (o ∷ rest)) ≡ Ok true
-    → (holds_at_break limit fills L (breakpoint_of_order o) ≡ Ok true) × (holds_at_all limit fills L (filter_map breakpoint_of_order rest) ≡ Ok true)
-first_break limit fills L o rest h = by_break (breakpoint_of_order o) refl
-  where
-    by_break : (b : Option (List ℕ)) → breakpoint_of_order o ≡ b
-        → (holds_at_break limit fills L (breakpoint_of_order o) ≡ Ok true) × (holds_at_all limit fills L (filter_map breakpoint_of_order rest) ≡ Ok true)
-    by_break None e = rw e (refl, rw e at h)
-    by_break (Some z) e =
-        let parts = both (holds_at limit fills L z) (holds_at_all limit fills L (filter_map breakpoint_of_order rest)) (rw e at h) in
-        rw e (parts.0, parts.1)
-
-breaks_hold : (limit : ℕ) (os : List Order) (fs : List Fraction) (L : Fraction) (rest : List Order) (others : List Fraction) → All IsLowest (L ∷ fs)
-    → holds_at_all limit (zip os fs) L (filter_map breakpoint_of_order rest) ≡ Ok true
-    → (let D = common_denominator (L ∷ fs) in All (HoldsAtBreaks (signed_over D os fs) (amount_over D L)) (signed_over D rest others))
-breaks_hold limit os fs L [] others low h = All-nil (HoldsAtBreaks (signed_over (common_denominator (L ∷ fs)) os fs) (amount_over (common_denominator (L ∷ fs)) L))
-breaks_hold limit os fs L (o ∷ rest) [] low h = All-nil (HoldsAtBreaks (signed_over (common_denominator (L ∷ fs)) os fs) (amount_over (common_denominator (L ∷ fs)) L))
-breaks_hold limit os fs L (o ∷ rest) (f ∷ others) low h =
+-- the breakpoints of the orders of fills
+breaks_of_fills : (os : List Order) (fs : List Fraction) (L : Fraction) → length fs ≡ length os
+    → (let D = common_denominator (L ∷ fs) in All (Holds os fs L) (filter_map breakpoint_of_order os) ↔ All (HoldsAtBreaks (signed_over D os fs) (amount_over D L)) (signed_over D os fs))
+breaks_of_fills os fs L len =
     let D = common_denominator (L ∷ fs) in
-    let parts = first_break limit (zip os fs) L o rest h in
-    All-cons (HoldsAtBreaks (signed_over D os fs) (amount_over D L)) (o, amount_over D f) (signed_over D rest others)
-    (break_holds limit os fs L o (amount_over D f) low parts.0)
-    (breaks_hold limit os fs L rest others low parts.1)
+    subst (λ orders. All (Holds os fs L) (filter_map breakpoint_of_order orders) ↔ All (HoldsAtBreaks (signed_over D os fs) (amount_over D L)) (signed_over D os fs))
+    (orders_of_fills os (signed_amounts_over D fs) (length-map fs (amount_over D) ∙ len))
+    (breaks_are (signed_over D os fs) (amount_over D L) (signed_over D os fs))
 
 pub lines_that_hold_close : LinesThatHoldClose
 lines_that_hold_close limit os fs L len low lowest h =
     let all = All-cons IsLowest L fs lowest low in
-    let first = both (holds_at limit (zip os fs) L (1 ∷ 0 ∷ [])) _ h in
-    let next = both (holds_at_all limit (zip os fs) L (filter_map breakpoint_of_order os)) _ first.1 in
-    (holds_here limit os fs L (1 ∷ 0 ∷ []) all first.0, holds_here limit os fs L (0 ∷ 1 ∷ []) all next.1, breaks_hold limit os fs L os fs all next.0)
+    let first = both (holds_at limit (zip os fs) L first_state) _ h in
+    let next = both (holds_at_all limit (zip os fs) L (filter_map breakpoint_of_order os)) _ first.1 in (
+      holds_here limit os fs L first_state all first.0,
+      holds_here limit os fs L last_state all next.1,
+      (breaks_of_fills os fs L len).0 (all_hold limit os fs L (filter_map breakpoint_of_order os) all next.0),
+    )
+
+pub lines_that_fail_do_not_close : LinesThatFailDoNotClose
+lines_that_fail_do_not_close limit os fs L len low lowest h closes =
+    let all = All-cons IsLowest L fs lowest low in
+    let breaks = filter_map breakpoint_of_order os in
+    elim (not_both (holds_at limit (zip os fs) L first_state) _ h) [
+      | inl first ↦ fails_here limit os fs L first_state all first closes.0
+      | inr rest ↦
+          elim (not_both (holds_at_all limit (zip os fs) L breaks) _ rest.1) [
+            | inl next ↦ some_fails limit os fs L breaks all next ((breaks_of_fills os fs L len).1 closes.2)
+            | inr last ↦ fails_here limit os fs L last_state all last.1 closes.1
+          ]
+    ]
+
+-- the numbers of the code are in lowest terms
+pub lowest_of : (fs : List Frac128) → All IsLowest (map fraction_of fs)
+lowest_of [] = All-nil IsLowest
+lowest_of (f ∷ fs) = All-cons IsLowest (fraction_of f) (map fraction_of fs) f.lowest (lowest_of fs)

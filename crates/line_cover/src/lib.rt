@@ -4,6 +4,9 @@
 pub mod breakpoint;
 pub mod laws;
 pub mod net;
+pub mod price;
+pub mod states;
 pub mod verdict;
 
+pub use states::breakpoints;
 pub use verdict::{LineVerdict, holds_on_line};

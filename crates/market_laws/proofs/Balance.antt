@@ -83,5 +83,9 @@ owes_nothing (suc k) (fill ∷ fills) few balanced f =
         → (g (bundle_of fill.0) *ℤ balance_of (bundle_of fill.0) (fill ∷ fills)) +ℤ buys_less_sells (λ o. g (bundle_of o)) (others (bundle_of fill.0) (fill ∷ fills)) ≡ buys_less_sells (λ o. g (bundle_of o)) rest
     apart g left balance = rw (left, balance) (omega (arith, ints))
 
+-- any sum that goes by the bundle alone is 0
+pub balanced_sum_is_zero : (fills : List Filled) → AreBalanced fills → (f : List BundleLeg → ℤ) → buys_less_sells (λ o. f (bundle_of o)) fills ≡ pos 0
+balanced_sum_is_zero fills balanced f = owes_nothing (length fills) fills (omega arith) balanced f
+
 pub balanced_owes_nothing : BalancedOwesNothing
-balanced_owes_nothing fills balanced z = owes_nothing (length fills) fills (omega arith) balanced (λ bundle. bundle_payoff bundle z)
+balanced_owes_nothing fills balanced z = balanced_sum_is_zero fills balanced (λ bundle. bundle_payoff bundle z)

@@ -1,2 +1,3 @@
-pub mod PointSteps
+pub mod SumSteps
 pub mod Sound
+pub mod Duality

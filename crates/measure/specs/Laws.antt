@@ -1,28 +1,49 @@
 -- What the checks of a measure show.
-use Rattle.std.specs.Prelude.{ℕ, ◌≡◌, List, map, true, Ok}
+use Rattle.std.specs.Prelude.{ℕ, ◌≡◌, List, map, ℤ, true, false, Ok}
 use Rattle.std.specs.List.{All}
-use Rattle.exact_num.specs.Fraction.{Fraction, IsLowest}
+use Rattle.exact_num.specs.Fraction.{Fraction, IsDefined, IsLowest, IsSameValue, AtMost}
 use Rattle.exact_num.specs.CommonDenominator.{common_denominator, IsRatio}
 use Rattle.form.specs.declared.orders.Order.{Order}
-use Rattle.form.specs.Payoff.{option_of, bundle_of}
+use Rattle.form.specs.Payoff.{one}
 use Rattle.form.specs.Measure.{price_of as model_price}
-use Rattle.form.specs.Certificate.{Point, fraction_weight, points_over, HasUnitMass, MeasureProves}
+use Rattle.form.specs.Certificate.{FillsCover, Point, fraction_weight, points_over, HasUnitMass, IsFractionMeasure, MeasureProves}
 use Rattle.measure.specs.Sums.{has_unit_mass, price_of, bound_of}
 
--- weights that pass have unit mass
+-- the points give the option this price
+abbrev pub IsPrice : List ℤ → List Point → Fraction → Type 0
+IsPrice v points price =
+    let W = common_denominator (map fraction_weight points) in
+    IsRatio price (model_price (one v) (points_over W points)) W
+
+-- no fractional fills of the orders cover a surplus above the bound
+abbrev pub NoCoverIsAbove : ℕ → List Order → Fraction → Type 0
+NoCoverIsAbove n orders bound =
+    (fills : List Fraction) (S : Fraction) → IsDefined S → FillsCover n orders fills S → AtMost S bound
+
+-- points that pass have unit mass, and points that do not pass have not
 abbrev pub MassesAreExact : Type 0
 MassesAreExact =
     (limit : ℕ) (points : List Point) → All IsLowest (map fraction_weight points)
-    → has_unit_mass limit points ≡ Ok true → HasUnitMass points
+    → (has_unit_mass limit points ≡ Ok true → HasUnitMass points)
+    × (has_unit_mass limit points ≡ Ok false → ¬ (HasUnitMass points))
 
--- a price is the model's, and a bound is what the measure proves; a weight may be below 0
+-- a price is the model's; a weight may be below 0
 abbrev pub PricesAreExact : Type 0
 PricesAreExact =
-    (limit : ℕ) (o : Order) (points : List Point) (price : Fraction) → All IsLowest (map fraction_weight points)
-    → price_of limit (option_of o.form) points ≡ Ok price
-    → (let W = common_denominator (map fraction_weight points) in IsRatio price (model_price (bundle_of o) (points_over W points)) W)
+    (limit : ℕ) (v : List ℤ) (points : List Point) (price : Fraction) → All IsLowest (map fraction_weight points)
+    → price_of limit v points ≡ Ok price → IsPrice v points price
 
+-- a bound is what the measure proves, and nothing else is; a weight may be below 0
 abbrev pub BoundsAreExact : Type 0
 BoundsAreExact =
     (limit : ℕ) (orders : List Order) (points : List Point) (bound : Fraction) → All IsLowest (map fraction_weight points)
-    → bound_of limit orders points ≡ Ok bound → MeasureProves orders points bound
+    → bound_of limit orders points ≡ Ok bound
+    → MeasureProves orders points bound
+    × ((S : Fraction) → MeasureProves orders points S → IsSameValue S bound)
+
+-- the bound of a measure is at least each surplus that fills cover
+abbrev pub NoCoverIsAboveTheBound : Type 0
+NoCoverIsAboveTheBound =
+    (limit n : ℕ) (orders : List Order) (points : List Point) (bound : Fraction) → All IsLowest (map fraction_weight points)
+    → IsFractionMeasure n points → bound_of limit orders points ≡ Ok bound
+    → NoCoverIsAbove n orders bound

@@ -1,11 +1,13 @@
 //! The bound of a measure on every surplus.
 
-ghost use Rattle.std.specs.Prelude.{◌≡◌, ◌+◌, All, map, pos};
+ghost use Rattle.std.specs.Prelude.{◌≡◌, ◌+◌, All, IfOk, map, pos};
 ghost use Rattle.exact_num.specs.Fits.{meaning};
 ghost use Rattle.exact_num.specs.Fraction.{whole};
 ghost use Rattle.frac.specs.Range.{limit};
 ghost use Rattle.frac.specs.Value.{fraction_of};
+ghost use Rattle.form.specs.Certificate.{IsFractionMeasure, MeasureProves};
 ghost use Rattle.form.specs.Limits.{HasItsForms};
+ghost use Rattle.measure.specs.Laws.{NoCoverIsAbove};
 ghost use Rattle.measure.specs.Points.{point_of};
 ghost use Rattle.measure.specs.Sums.{add_gain, bound_of, gain_at};
 
@@ -17,13 +19,16 @@ use form::{Batch, Order, Side};
 use frac::{Frac128, whole};
 
 /// The bound of the measure: the sum over orders of quantity times the positive part of limit less price for a buy, and
-/// of price less limit for a sell. An order counts whether it is filled or not. Each state has as many entries as the
-/// forms. `Wide` comes exactly where a step does not fit. Takes no memory. (The dual objective: Chvatal, Linear
-/// Programming, chapter 5.)
+/// of price less limit for a sell. An order counts whether it is filled or not. Where the points are a measure of the
+/// batch's underlyings, no fills of the batch cover a surplus above it. Each state has as many entries as the forms.
+/// `Wide` comes exactly where a step does not fit. Takes no memory. (The dual objective and weak duality: Chvatal,
+/// Linear Programming, chapter 5.)
 pub fn bound(batch: &Batch, m: &Measure) -> Result<Frac128, Wide>
     requires forms { HasItsForms batch.now }
     requires states { All (λ point. point.state.count ≡ batch.now.underlyings + 1) m.now.points }
-    ensures { meaning fraction_of result ≡ bound_of limit batch.now.orders (map point_of m.now.points) }
+    ensures steps { meaning fraction_of result ≡ bound_of limit batch.now.orders (map point_of m.now.points) }
+    ensures exact { IfOk result (λ bound. MeasureProves batch.now.orders (map point_of m.now.points) (fraction_of bound)) }
+    ensures duality { IfOk result (λ bound. IsFractionMeasure batch.now.underlyings (map point_of m.now.points) → NoCoverIsAbove batch.now.underlyings batch.now.orders (fraction_of bound)) }
 {
     sum(batch.orders.as_slice(), m)
 }

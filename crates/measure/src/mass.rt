@@ -1,10 +1,11 @@
 //! The test that weighted states are a measure.
 
-ghost use Rattle.std.specs.Prelude.{◌≡◌, map, pos};
+ghost use Rattle.std.specs.Prelude.{◌≡◌, map, pos, true, false};
 ghost use Rattle.exact_num.specs.Fits.{meaning};
 ghost use Rattle.exact_num.specs.Fraction.{whole};
 ghost use Rattle.frac.specs.Range.{limit};
 ghost use Rattle.frac.specs.Value.{fraction_of};
+ghost use Rattle.form.specs.Certificate.{HasUnitMass};
 ghost use Rattle.measure.specs.Points.{point_of};
 ghost use Rattle.measure.specs.Sums.{add_mass, add_masses, are_weights, has_unit_mass, is_weight};
 
@@ -13,10 +14,12 @@ use exact_num::{Exact, Wide};
 use form::sums::plus_product;
 use frac::{Frac128, whole};
 
-/// Whether no weight is below 0 and the sum of `weight * t` is 1. `Wide` comes exactly where a step of the sum does not
-/// fit and no weight is below 0. Takes no memory.
+/// Whether no weight is below 0 and the sum of `weight * t` is 1: true shows that it is so, and false that it is not.
+/// `Wide` comes exactly where a step of the sum does not fit and no weight is below 0. Takes no memory.
 pub fn is_measure(m: &Measure) -> Result<bool, Wide>
-    ensures { result ≡ has_unit_mass limit (map point_of m.now.points) }
+    ensures steps { result ≡ has_unit_mass limit (map point_of m.now.points) }
+    ensures holds { result ≡ Ok true → HasUnitMass (map point_of m.now.points) }
+    ensures fails { result ≡ Ok false → ¬ (HasUnitMass (map point_of m.now.points)) }
 {
     let points = m.points.as_slice();
     if !are_weights(points) {

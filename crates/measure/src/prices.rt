@@ -1,10 +1,11 @@
 //! The price that a measure gives an option.
 
-ghost use Rattle.std.specs.Prelude.{◌≡◌, All, map};
+ghost use Rattle.std.specs.Prelude.{◌≡◌, All, IfOk, map};
 ghost use Rattle.exact_num.specs.Fits.{meaning};
 ghost use Rattle.frac.specs.Range.{limit};
 ghost use Rattle.frac.specs.Value.{fraction_of};
 ghost use Rattle.form.specs.Payoff.{option_of};
+ghost use Rattle.measure.specs.Laws.{IsPrice};
 ghost use Rattle.measure.specs.Points.{point_of};
 ghost use Rattle.measure.specs.Sums.{add_price, price_of};
 
@@ -18,7 +19,8 @@ use frac::{Frac128, whole};
 /// exactly where a step does not fit. Takes no memory.
 pub fn price_of(form: &Form, m: &Measure) -> Result<Frac128, Wide>
     requires { All (λ point. point.state.count ≡ form.now.count) m.now.points }
-    ensures { meaning fraction_of result ≡ price_of limit (option_of form.now) (map point_of m.now.points) }
+    ensures steps { meaning fraction_of result ≡ price_of limit (option_of form.now) (map point_of m.now.points) }
+    ensures exact { IfOk result (λ price. IsPrice (option_of form.now) (map point_of m.now.points) (fraction_of price)) }
 {
     sum(form, m.points.as_slice())
 }

@@ -1,5 +1,5 @@
 -- How the whole walk ends.
-use Rattle.std.proofs.Common.{◌≡◌, ℕ, ◌<◌, Bool, List, [], ◌∷◌, length, map, get_or, ℤ, pos, Result, Ok, refl, sym, ◌∙◌}
+use Rattle.std.proofs.Common.{◌≡◌, ℕ, ◌<◌, Bool, List, [], ◌∷◌, length, map, get_or, ℤ, pos, Result, Ok, Err, refl, sym, ◌∙◌}
 use Rattle.std.proofs.lemmas.List.{length-map}
 use Rattle.exact_num.specs.declared.misfit.Wide.{Wide}
 use Rattle.frac.specs.declared.bits128.Frac128.{Frac128}
@@ -13,13 +13,21 @@ use Rattle.sign_tree.proofs.Sides.{legs_are_of}
 use Rattle.exact_num.specs.Fraction.{Fraction}
 use Rattle.form.specs.Written.{WrittenNode, PlacedMultiplier}
 use Rattle.sign_tree.specs.Walk.{FractionLeg, walk, closes_of}
-use Rattle.sign_tree.specs.Verdict.{is_nothing}
+use Rattle.sign_tree.specs.declared.closing.Left.{Left}
+use Rattle.sign_tree.specs.declared.closing.Stop.{Stop}
+use Rattle.sign_tree.specs.declared.closing.Stop.TheVariants.{Open as OpenStop, Wide as WideStop}
+use Rattle.sign_tree.specs.Verdict.{goes_on, is_nothing}
 
 -- with no subtree to come the walk is closed where nothing is left, and else open
 pub walk_ends : (limit n : ℕ) (legs : List FractionLeg) (L : Fraction) (nodes : List WrittenNode) (ms : List PlacedMultiplier) → walk limit n legs L nodes [] ms ≡ Ok (is_nothing nodes ms)
 walk_ends limit n legs L [] [] = refl
 walk_ends limit n legs L [] (m ∷ ms) = refl
 walk_ends limit n legs L (node ∷ nodes) ms = refl
+
+pub ends_so : (limit n : ℕ) (legs : List FractionLeg) (L : Fraction) (walked : Result Left Stop) → goes_on (λ nodes ms. walk limit n legs L nodes [] ms) walked ≡ goes_on (λ nodes ms. Ok (is_nothing nodes ms)) walked
+ends_so limit n legs L (Ok left) = walk_ends limit n legs L (map node_of left.nodes.now) (map placed_of left.multipliers.now)
+ends_so limit n legs L (Err OpenStop) = refl
+ends_so limit n legs L (Err (WideStop w)) = refl
 
 -- the walk with no sign is the whole one
 pub closes_is : (limit k n : ℕ) (os' os : List Order) (fs : List Frac128) (L : Fraction) (ns' ns : List Node) (ms' ms : List Multiplier) (ss : List ℤ) (x : Result Bool Wide)

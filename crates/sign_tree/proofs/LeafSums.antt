@@ -153,24 +153,24 @@ terms_stand limit D i total s t place (leg ∷ legs) (sign ∷ signs) ms legs_ar
     let e : (t +ℤ here) +ℤ entry_over D i (place + 1) legs signs ms ≡ t +ℤ (here +ℤ entry_over D i (place + 1) legs signs ms) = omega (arith, ints) in
     subst (λ w. Stands s w D) e same
 
--- an entry whose sum is not above 0 is at most the liability
-entry_within : (limit D i : ℕ) (legs : List FractionLeg) (L : Fraction) (signs : List Sign) (ms : List PlacedMultiplier) (s : Fraction)
+-- the sum of an entry stands for what it is above the liability
+pub entry_stands : (limit D i : ℕ) (legs : List FractionLeg) (L : Fraction) (signs : List Sign) (ms : List PlacedMultiplier) (s : Fraction)
     → All (LegHasAmount D) legs → All (MultiplierHasAmount D) ms → RiseFrom 1 ms → Stands L (amount_over D L) D
-    → entry_sum limit legs L signs ms i ≡ Ok s → int_lt (pos 0) s.numerator ≡ false
-    → entry_over D i 1 legs signs ms ≤ℤ liability_at (amount_over D L) i
-entry_within limit D i legs L signs ms s legs_are ms_are rise sl h test =
+    → entry_sum limit legs L signs ms i ≡ Ok s → Stands s (entry_over D i 1 legs signs ms +ℤ neg_ℤ (liability_at (amount_over D L) i)) D
+entry_stands limit D i legs L signs ms s legs_are ms_are rise sl h =
     let first = after_value (add_terms limit i (whole (pos 0)) 1 legs signs ms) (less_liability limit L i) s h in
     let sum = terms_stand limit D i (whole (pos 0)) first.value (pos 0) 1 legs signs ms legs_are ms_are rise (zero_stands D) first.first in
     at i (entry_over D i 1 legs signs ms) first.value sum first.rest
   where
-    at : (k : ℕ) (x : ℤ) (total : Fraction) → Stands total (pos 0 +ℤ x) D → less_liability limit L k total ≡ Ok s → x ≤ℤ liability_at (amount_over D L) k
+    at : (k : ℕ) (x : ℤ) (total : Fraction) → Stands total (pos 0 +ℤ x) D → less_liability limit L k total ≡ Ok s → Stands s (x +ℤ neg_ℤ (liability_at (amount_over D L) k)) D
     at zero x total st e =
         let st2 = sum_stands limit total (negated L) s (pos 0 +ℤ x) (neg_ℤ (amount_over D L)) D st (negated_stands L (amount_over D L) D sl) e in
-        omega (arith, ints, not_above s _ D st2 test)
+        let n : (pos 0 +ℤ x) +ℤ neg_ℤ (amount_over D L) ≡ x +ℤ neg_ℤ (amount_over D L) = omega (arith, ints) in
+        subst (λ w. Stands s w D) n st2
     at (suc k) x total st e =
         let same : total ≡ s = cc in
-        let st2 = subst (λ f. Stands f (pos 0 +ℤ x) D) same st in
-        omega (arith, ints, not_above s _ D st2 test)
+        let n : pos 0 +ℤ x ≡ x +ℤ neg_ℤ (pos 0) = omega (arith, ints) in
+        subst (λ w. Stands s w D) n (subst (λ f. Stands f (pos 0 +ℤ x) D) same st)
 
 -- a test that goes on, and what holds where it does
 pub then_holds : (test : Bool) (rest : Result Bool Wide) → (if test then rest else Ok false) ≡ Ok true → (test ≡ true) × (rest ≡ Ok true)
@@ -193,6 +193,6 @@ entries_within limit D legs L signs ms i (suc left) legs_are ms_are rise sl h j 
       | inl lt ↦ entries_within limit D legs L signs ms (i + 1) left legs_are ms_are rise sl tests.1 j (omega arith) (omega arith)
       | inr le ↦
           let same : i ≡ j = omega arith in
-          subst (λ k. entry_over D k 1 legs signs ms ≤ℤ liability_at (amount_over D L) k) same
-          (entry_within limit D i legs L signs ms first.value legs_are ms_are rise sl first.first tests.0)
+          let stands = entry_stands limit D i legs L signs ms first.value legs_are ms_are rise sl first.first in
+          subst (λ k. entry_over D k 1 legs signs ms ≤ℤ liability_at (amount_over D L) k) same (omega (arith, ints, not_above first.value _ D stands tests.0))
     ]

@@ -1,8 +1,15 @@
 pub mod LegLists
 pub mod TermSteps
+pub mod ZeroTerms
 pub mod EntrySteps
 pub mod Sides
 pub mod Ends
 pub mod LeafSums
 pub mod LeafForms
+pub mod OverCommon
 pub mod Sound
+pub mod TakenForms
+pub mod TakenSums
+pub mod Refuted
+pub mod Decided
+pub mod WorkedTrees

@@ -1,11 +1,14 @@
 //! The walk over a tree.
 
 ghost use Rattle.std.specs.Prelude.{◌≡◌, ◌≤◌, ◌<◌, ◌-◌, ◌+◌, List, ◌∷◌, length, map, IfOk, MatchOption, EachIndex, false, pos, slice_index_or};
+ghost use Rattle.std.specs.List.{All};
 ghost use Rattle.frac.specs.Range.{limit};
 ghost use Rattle.frac.specs.Value.{fraction_of};
 ghost use Rattle.form.specs.Limits.{HasItsForms};
 ghost use Rattle.form.specs.Tree.{Sign};
 ghost use Rattle.form.specs.Written.{LeafNode, SplitNode};
+ghost use Rattle.sign_tree.specs.declared.trees.TreeVerdict.TheVariants.{Closed, Open};
+ghost use Rattle.sign_tree.specs.Laws.{IsClosedOver, IsEnough, IsNotBelowZero};
 ghost use Rattle.sign_tree.specs.Read.{node_of, placed_of, sign_of};
 ghost use Rattle.sign_tree.specs.Walk.{closes_of, exposure_of_order, fraction_legs, may_split, walk};
 ghost use Rattle.sign_tree.specs.Verdict.{IsSplit, goes_on, is_nothing, tree_verdict};
@@ -30,10 +33,10 @@ pub enum Stop {
     Wide(Wide),
 }
 
-/// Whether the tree closes over the fills with the liability: every leaf of it shows that no state owes more. `Closed`
-/// exactly where it is well formed and each leaf closes, `Open` exactly where not, unless a step does not fit before;
-/// then `Wide` has the first such step. There are as many fills and signs as orders; what the signs held does not
-/// matter. The walk goes one call deeper for each split on its way, of which there are at most as many as buys. Takes
+/// Whether the tree closes over the fills with the liability: every leaf of it shows that no state owes more. Where no
+/// fill is below 0, `Closed` shows that it is well formed and each leaf closes, so that the liability is enough, and
+/// `Open` that it is not so; `Wide` has the first step that does not fit, where nothing failed before. There are as many fills and signs as orders; what the
+/// signs held does not matter. The walk goes one call deeper for each split on its way, of which there are at most as many as buys. Takes
 /// no memory. (Farkas' lemma in its easy direction: Chvatal, Linear Programming, chapter 16.)
 pub fn closes(
     batch: &Batch,
@@ -45,7 +48,10 @@ pub fn closes(
     requires forms { HasItsForms batch.now }
     requires fills { length fills.now ≡ length batch.now.orders }
     requires signs { length signs.old ≡ length batch.now.orders }
-    ensures { result ≡ tree_verdict (closes_of limit batch.now.underlyings (fraction_legs batch.now.orders (map fraction_of fills.now)) (fraction_of liability.now) (map node_of tree.now.nodes) (map placed_of tree.now.multipliers)) }
+    ensures walked { result ≡ tree_verdict (closes_of limit batch.now.underlyings (fraction_legs batch.now.orders (map fraction_of fills.now)) (fraction_of liability.now) (map node_of tree.now.nodes) (map placed_of tree.now.multipliers)) }
+    ensures closed { All IsNotBelowZero (map fraction_of fills.now) → result ≡ Closed → IsClosedOver batch.now fills.now liability.now tree.now }
+    ensures enough { All IsNotBelowZero (map fraction_of fills.now) → result ≡ Closed → IsEnough batch.now fills.now liability.now tree.now }
+    ensures refuted { All IsNotBelowZero (map fraction_of fills.now) → result ≡ Open → IsClosedOver batch.now fills.now liability.now tree.now → ⊥ }
 {
     unsign(signs);
     let left = Left {
@@ -53,15 +59,22 @@ pub fn closes(
         multipliers: tree.multipliers.as_slice(),
     };
     let entries = batch.underlyings as usize + 1;
-    match subtree(
+    verdict_of(subtree(
         batch.orders.as_slice(),
         fills,
         liability,
         entries,
         signs,
         left,
-    ) {
-        Ok(rest) => at_end(rest),
+    ))
+}
+
+/// The verdict at the end of the whole walk.
+fn verdict_of(walked: Result<Left, Stop>) -> TreeVerdict
+    ensures { result ≡ tree_verdict (goes_on (λ nodes ms. Ok (is_nothing nodes ms)) walked.entry) }
+{
+    match walked {
+        Ok(left) => at_end(left),
         Err(Stop::Open) => TreeVerdict::Open,
         Err(Stop::Wide(wide)) => TreeVerdict::Wide(wide),
     }

@@ -1,11 +1,11 @@
 //! The check of one leaf: its multipliers stand where they may, and no entry of its sum is above 0.
 
-ghost use Rattle.std.specs.Prelude.{◌≡◌, ◌≤◌, ◌<◌, ◌-◌, ◌^◌, ◌&&◌, length, map, not, pos, ℤ};
-ghost use Rattle.exact_num.specs.Fits.{meaning};
+ghost use Rattle.std.specs.Prelude.{◌≡◌, ◌≤◌, ◌<◌, ◌-◌, ◌^◌, ◌&&◌, length, map, not, pos, ℤ, true, Ok};
+ghost use Rattle.exact_num.specs.Fits.{meaning, mul_of};
 ghost use Rattle.exact_num.specs.Fraction.{whole};
 ghost use Rattle.frac.specs.Value.{fraction_of};
 ghost use Rattle.frac.specs.Range.{limit};
-ghost use Rattle.form.specs.Payoff.{option_of};
+ghost use Rattle.form.specs.Steps.{less_product, plus_product};
 ghost use Rattle.sign_tree.specs.Read.{placed_of, sign_of};
 ghost use Rattle.sign_tree.specs.Walk.{add_term, add_terms, are_placed, carries_at, entries_close, entry_sum, exposure_of_side, first_at, fraction_legs, is_placed, is_unsigned, is_within, leaf_closes, left_after};
 
@@ -118,6 +118,33 @@ fn left_after(multipliers: &[Multiplier], place: usize) -> &[Multiplier]
     }
 }
 
+/// Whether a factor is 0: then the product is 0, and always fits.
+fn is_nothing(a: Frac128, x: i64) -> bool
+    ensures { result ≡ true → mul_of limit (fraction_of a) (whole x) ≡ Ok (whole (pos 0)) }
+{
+    x == 0 || a.sign() == 0
+}
+
+/// The total and the product, or the total alone where the product is nothing.
+fn plus_times(total: Frac128, a: Frac128, x: i64) -> Result<Frac128, Wide>
+    ensures { meaning fraction_of result ≡ plus_product limit (fraction_of total) (fraction_of a) (whole x) }
+{
+    if is_nothing(a, x) {
+        return Ok(total);
+    }
+    plus_product(total, a, whole(x.into()))
+}
+
+/// The total less the product, or the total alone where the product is nothing.
+fn less_times(total: Frac128, a: Frac128, x: i64) -> Result<Frac128, Wide>
+    ensures { meaning fraction_of result ≡ less_product limit (fraction_of total) (fraction_of a) (whole x) }
+{
+    if is_nothing(a, x) {
+        return Ok(total);
+    }
+    less_product(total, a, whole(x.into()))
+}
+
 /// The total and what the order adds to it, `x` being its entry.
 fn add_term(
     total: Frac128,
@@ -130,12 +157,12 @@ fn add_term(
     ensures { meaning fraction_of result ≡ add_term limit (fraction_of total) (exposure_of_side side) (sign_of sign) (fraction_of fill) (fraction_of by) x }
 {
     match side {
-        Side::Buy if sign == 0 => plus_product(total, fill, whole(x.max(0).into())),
+        Side::Buy if sign == 0 => plus_times(total, fill, x.max(0)),
         Side::Buy if sign > 0 => {
-            let sum = plus_product(total, fill, whole(x.into()))?;
-            plus_product(sum, by, whole(x.into()))
+            let sum = plus_times(total, fill, x)?;
+            plus_times(sum, by, x)
         }
-        _ => less_product(total, by, whole(x.into())),
+        _ => less_times(total, by, x),
     }
 }
 

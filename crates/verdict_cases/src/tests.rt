@@ -3,32 +3,13 @@ ghost use Rattle.std.specs.Prelude.{◌<◌, ◌+◌};
 
 use crate::cases::CASES;
 use anyhow::{Context, Result, bail, ensure};
+use case_texts::{number, numbers};
 use cert_check::{Claim, Cover, Fills, Judgement, Mark, No, Outcome, verdict};
-use exact_num::{Exact, Operator, Wide};
+use exact_num::{Operator, Wide};
 use form::{Batch, Order, Orders, Side, State, call};
-use frac::Frac128;
 use measure::{Measure, Points, Weighted};
 use sign_tree::{Multiplier, Multipliers, Node, Nodes, SignTree};
 use std::alloc::Global;
-
-fn number(text: &str) -> Result<Frac128> {
-    let (above, below) = match text.split_once('/') {
-        Some((above, below)) => (above.parse::<i128>()?, below.parse::<i128>()?),
-        None => (text.parse::<i128>()?, 1),
-    };
-    let above = Frac128::from_whole(above).ok().context("a numerator")?;
-    let below = Frac128::from_whole(below).ok().context("a denominator")?;
-    ensure!(below.sign() != 0, "a denominator of 0");
-    above.div(below).ok().context("a fraction")
-}
-
-fn numbers(alloc: Global, text: &str) -> Result<Vec<Frac128>> {
-    let mut all = Vec::new(alloc);
-    for word in text.split_whitespace() {
-        all.push(number(word)?)?;
-    }
-    Ok(all)
-}
 
 fn side(word: &str) -> Result<Side> {
     match word {

@@ -1,4 +1,4 @@
-use Rattle.cert_check.proofs.Optimal.{yes_covers}
+use Rattle.cert_check.proofs.Yes.{yes_covers}
 use Rattle.cert_check.proofs.laws.yes_covers.Goals as goal
 
 pub returns : goal.returns

@@ -1,4 +1,4 @@
-use Rattle.cert_check.proofs.Optimal.{yes_on_optimal_proves}
+use Rattle.cert_check.proofs.Yes.{yes_on_optimal_proves}
 use Rattle.cert_check.proofs.laws.yes_on_optimal_proves.Goals as goal
 
 pub returns : goal.returns

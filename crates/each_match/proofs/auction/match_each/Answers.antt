@@ -5,6 +5,8 @@ use Rattle.form.specs.Balance.{AreBalanced}
 use Rattle.form.specs.Clearing.{AreFills, net, premium}
 use Rattle.each_match.specs.Match.{match_by_option}
 use Rattle.each_match.proofs.MatchLaws.{match_is_within, match_is_balanced, match_owes_nothing, match_earns}
+use Rattle.each_match.proofs.Prices.{match_is_the_best}
+use Rattle.each_match.specs.Laws.{IsBestBalanced}
 use Rattle.each_match.proofs.auction.match_each.Goals as goal
 
 pub returns-clause-within : goal.returns-clause-within
@@ -26,3 +28,8 @@ pub returns-clause-earns : goal.returns-clause-earns
 returns-clause-earns c =
     let orders = c.args.batch.now.orders in
     IfOk-weaker c.matched.result _ _ (λ fills is. subst (λ g. pos 0 ≤ℤ premium (zip orders g)) (sym (is ∙ ap match_by_option c.as_slice.ensures)) (match_earns orders)) c.matched.ensures
+
+pub returns-clause-best : goal.returns-clause-best
+returns-clause-best c = λ prices.
+    let orders = c.args.batch.now.orders in
+    IfOk-weaker c.matched.result _ _ (λ fills is. subst (IsBestBalanced orders) (sym (is ∙ ap match_by_option c.as_slice.ensures)) (match_is_the_best orders prices)) c.matched.ensures

@@ -1,0 +1,115 @@
+//! The states of a market on one underlying.
+
+ghost use Rattle.std.specs.Prelude.{◌≡◌, All, IfOk, OnOk, length, map, not};
+ghost use Rattle.std.specs.List.{filter_map, position};
+ghost use Rattle.form.specs.Limits.{HasItsForms};
+ghost use Rattle.form.specs.States.{vector_of};
+ghost use Rattle.line_cover.specs.Breakpoints.{in_rising_price, insert, is_below, line_states};
+ghost use Rattle.line_cover.specs.Line.{breakpoint_of_order};
+ghost use Rattle.line_cover.specs.Prices.{price_vector};
+
+use crate::breakpoint::breakpoint;
+use crate::price::{Price, price_state};
+use form::{Batch, Order, State};
+use std::alloc::{AllocError, Global};
+
+/// The states at which a liability has to be enough, so that it is enough at every settlement: the price 0, each
+/// price above 0 where the payoff of an order bends, once and in rising price, and the slope beyond the last. Prices
+/// are in lowest terms. The batch is on one underlying.
+pub fn breakpoints(alloc: Global, batch: &Batch) -> Result<Vec<State>, AllocError>
+    requires forms { HasItsForms batch.now }
+    requires one { batch.now.underlyings ≡ 1 }
+    ensures states { IfOk result (λ states. map vector_of states.items ≡ line_states batch.now.orders) }
+    ensures counts { IfOk result (λ states. All (λ state. state.count ≡ 2) states.items) }
+{
+    let mut states = Vec::new(alloc);
+    states.push(price_state(1, 0))?;
+    for price in &rising_breakpoints(alloc, batch.orders.as_slice())? {
+        states.push(price.state())?;
+    }
+    states.push(price_state(0, 1))?;
+    Ok(states)
+}
+
+/// The prices where the payoffs of the orders bend, each once and in rising order.
+fn rising_breakpoints(alloc: Global, orders: &[Order]) -> Result<Vec<Price>, AllocError>
+    requires { All (λ o. o.form.count ≡ 2) orders.now }
+    ensures { IfOk result (λ prices. map price_vector prices.items ≡ in_rising_price (filter_map breakpoint_of_order orders.now)) }
+{
+    let mut prices = Vec::new(alloc);
+    for order in orders {
+        if let Some(price) = breakpoint(&order.form) {
+            insert(&mut prices, price)?;
+        }
+    }
+    Ok(prices)
+}
+
+/// Puts a price into its place among rising ones, unless it is there.
+fn insert(prices: &mut Vec<Price>, price: Price) -> Result<(), AllocError>
+    ensures { OnOk result (map price_vector prices.new.items ≡ insert (map price_vector prices.old.items) (price_vector price)) }
+{
+    let place = first_not_below(prices, &price).unwrap_or(prices.len());
+    if place == prices.len() || price.is_below(&prices[place]) {
+        prices.insert(place, price)?;
+    }
+    Ok(())
+}
+
+/// The place of the first price that is not below this one.
+fn first_not_below(prices: &[Price], price: &Price) -> Option<usize>
+    ensures { result ≡ position (λ other. not (is_below (price_vector other) (price_vector price.now))) prices.now }
+{
+    prices.iter().position(|other| !other.is_below(price))
+}
+
+#[cfg(test)]
+mod tests {
+    use super::*;
+    use form::{Form, Orders, Side};
+    use std::test::Fail;
+
+    // An order for the option with this strike's entry and this weight.
+    fn order(strike: i64, weight: i64) -> Order
+        ensures { result.form.count ≡ 2 }
+    {
+        Order {
+            id: 1,
+            account: 1,
+            side: Side::Buy,
+            form: Form {
+                count: 2,
+                entries: [strike, weight, 0, 0, 0, 0, 0, 0, 0],
+            },
+            price: 1,
+            quantity: 1,
+        }
+    }
+
+    fn are(states: &[State], wanted: &[(i128, i128)]) -> bool {
+        states.len() == wanted.len()
+            && states.iter().zip(wanted).all(|(state, (t, s))| state.entries[0] == *t
+                && state.entries[1] == *s)
+    }
+
+    // A batch of three calls, and one where two options bend at one price and one at none above 0.
+    #[test]
+    fn states_rise_from_the_price_zero(rt: HostRuntime) -> Result<(), Fail> {
+        let alloc = rt.alloc();
+        let three_calls = [order(-10, 1), order(-5, 1), order(-12, 1)];
+        let batch = Batch {
+            underlyings: 1,
+            orders: Orders::from_vec(Vec::from_slice(alloc, &three_calls)?),
+        };
+        let states = breakpoints(alloc, &batch)?;
+        assert!(rt; are(&states, &[(1, 0), (1, 5), (1, 10), (1, 12), (0, 1)]));
+        let shared_break = [order(-10, 4), order(5, -2), order(3, 1), order(-7, 3)];
+        let batch = Batch {
+            underlyings: 1,
+            orders: Orders::from_vec(Vec::from_slice(alloc, &shared_break)?),
+        };
+        let states = breakpoints(alloc, &batch)?;
+        assert!(rt; are(&states, &[(1, 0), (3, 7), (2, 5), (0, 1)]));
+        Ok(())
+    }
+}
