@@ -6,7 +6,7 @@
 pub mod budget;
 mod candidate;
 mod entries;
-mod fill;
+pub mod fill;
 mod first;
 pub mod program;
 mod row;

@@ -1,76 +1,17 @@
 //! Each case, from the text of its program to the text of its end.
-ghost use Rattle.std.specs.Prelude.{IsTrue};
-ghost use Rattle.std.specs.List.{All};
-ghost use Rattle.table_run.specs.Optimum.{IsNotBelowZero};
-
 use crate::cases::CASES;
 use anyhow::{Context, Result, ensure};
-use exact_num::{Exact, Operator};
+use case_texts::{is_none_below_zero, numbers, print_number, print_wide};
+use exact_num::Exact;
 use frac::Frac128;
 use simplex::{Budget, Program, Solved, Stop, solve};
 use std::alloc::{AllocError, Global};
 
-fn number(text: &str) -> Result<Frac128> {
-    let (above, below) = match text.split_once('/') {
-        Some((above, below)) => (above.parse::<i128>()?, below.parse::<i128>()?),
-        None => (text.parse::<i128>()?, 1),
-    };
-    let above = Frac128::from_whole(above).ok().context("a numerator")?;
-    let below = Frac128::from_whole(below).ok().context("a denominator")?;
-    ensure!(below.sign() != 0, "a denominator of 0");
-    above.div(below).ok().context("a fraction")
-}
-
-fn numbers(alloc: Global, text: &str) -> Result<Vec<Frac128>> {
-    let mut all = Vec::new(alloc);
-    for word in text.split_whitespace() {
-        all.push(number(word)?)?;
-    }
-    Ok(all)
-}
-
-fn none_below_zero<N: Exact>(numbers: &[N]) -> bool
-    ensures { IsTrue result → All (λ b. IsNotBelowZero (N.fraction b)) numbers.now }
-{
-    for x in numbers {
-        if x.sign() < 0 {
-            return false;
-        }
-    }
-    true
-}
-
-fn print_number(text: &mut String, x: Frac128) -> Result<(), AllocError> {
-    let (above, below) = x.parts();
-    if below == 1 {
-        write!(text, " {above}")
-    } else {
-        write!(text, " {above}/{below}")
-    }
-}
-
 fn print_numbers(text: &mut String, numbers: &[Frac128]) -> Result<(), AllocError> {
     for x in numbers {
-        print_number(text, *x)?;
+        print_number(text, x.parts())?;
     }
     Ok(())
-}
-
-fn name_of(operator: Operator) -> &'static str {
-    match operator {
-        Operator::Add => "add",
-        Operator::Mul => "mul",
-        Operator::Div => "div",
-        Operator::Whole => "whole",
-    }
-}
-
-fn print_operand(text: &mut String, (above, below): (i128, i128)) -> Result<(), AllocError> {
-    if below == 1 {
-        write!(text, " {above}")
-    } else {
-        write!(text, " {above}/{below}")
-    }
 }
 
 fn print_end(text: &mut String, end: &Result<Solved<Frac128>, Stop>) -> Result<(), AllocError> {
@@ -90,17 +31,13 @@ fn print_end(text: &mut String, end: &Result<Solved<Frac128>, Stop>) -> Result<(
             text.push_str(" |")?;
             print_numbers(text, reduced.as_slice())?;
             text.push_str(" |")?;
-            print_number(text, *value)
+            print_number(text, value.parts())
         }
         Ok(Solved::Unbounded { direction }) => {
             text.push_str(" unbounded")?;
             print_numbers(text, direction.as_slice())
         }
-        Err(Stop::Wide { unit: _, wide }) => {
-            write!(text, " {}", name_of(wide.operator))?;
-            print_operand(text, wide.left)?;
-            print_operand(text, wide.right)
-        }
+        Err(Stop::Wide { unit: _, wide }) => print_wide(text, wide),
         Err(Stop::Budget) => text.push_str(" budget"),
         Err(Stop::Memory) => text.push_str(" memory"),
     }
@@ -120,7 +57,7 @@ fn solved(alloc: Global, text: &str) -> Result<String> {
     ensure!(a.len() == m * n, "the coefficients");
     ensure!(b.len() == m, "the right sides");
     ensure!(c.len() == n, "the costs");
-    let signs = none_below_zero(b.as_slice());
+    let signs = is_none_below_zero(b.as_slice());
     ensure!(signs, "a right side below 0");
     let mut budget = Budget::new(units);
     let program = Program { n, m, a, b, c };

@@ -228,6 +228,7 @@ optimum_is p t g k h =
       x_sign = xs;
       y_sign = ys;
       reduced_sign = reads;
+      value_lowest = k.table.lowest_price t.columns;
       holds = λ i q.
           let sum = lone_sum (total n (λ j. value (at (row p i) j) *Q z j)) (z (n + i)) (value (at p.right_sides i)) (subst (λ w. (total n (λ j. value (at (row p i) j) *Q z j) +Q z (n + i)) +Q value (at p.right_sides i) *Q w ≡ 0Q) last (sym (first_row_at p g i q z) ∙ solves i q)) in
           value_at_most (plain_dot (row p i) x) (at p.right_sides i) (dot_below (row p i) x n (lowest-row p g i) xs) (g.right_sides.lowest i).positive

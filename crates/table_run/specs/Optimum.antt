@@ -30,6 +30,7 @@ pub record IsOptimum (p : LinearProgram) (x y reduced : List Fraction) (value : 
   pub x_sign : AreNotBelowZero p.variables x
   pub y_sign : AreNotBelowZero p.rows y
   pub reduced_sign : AreNotBelowZero p.variables reduced
+  pub value_lowest : IsLowest value
   pub holds : (i : ℕ) → i < p.rows → AtMost (plain_dot (row p i) x) (at p.right_sides i)
   pub reduced_is : (j : ℕ) → j < p.variables
       → IsSameValue (at reduced j) (plain_sum (plain_dot (column p j) y) (negated (at p.costs j)))

@@ -1,0 +1,11 @@
+pub mod Surplus
+pub mod Values
+pub mod Proved
+pub mod Wholes
+pub mod Outcomes
+pub mod Judged
+pub mod Fitting
+pub mod Yes
+pub mod RunSizes
+pub mod RunValues
+pub mod Marked

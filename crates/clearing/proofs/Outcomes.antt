@@ -1,0 +1,195 @@
+-- Each outcome meets every condition of a certificate.
+use Rattle.std.proofs.Common.{◌≡◌, refl, ℕ, ◌≤◌, ◌+◌, Bool, true, false, ◌&&◌, if◌then◌else◌, List, [], ◌∷◌, length, map, get_or, pos, ◌≤ℤ◌, All, ap, ap₂, sym, ◌∙◌, subst, arith}
+use Rattle.std.specs.List.{zip, sum}
+use Rattle.std.specs.Prelude.{nat_le, nat_lt}
+use Rattle.std.proofs.lemmas.Bool.{and_parts, le-leb, lt-ltb}
+use Rattle.std.proofs.lemmas.List.{length-map}
+use Rattle.std.proofs.lemmas.List.Elements.{All-nil, All-cons, All-weaker}
+use Rattle.std.proofs.lemmas.Int.{ints}
+use Rattle.arithmetic.proofs.Sums.{All-head, All-tail}
+use Rattle.exact_num.specs.declared.misfit.Wide.{Wide as Misfit}
+use Rattle.exact_num.specs.Fraction.{Fraction, whole}
+use Rattle.frac.specs.Range.{limit as largest}
+use Rattle.frac.specs.Value.{fraction_of}
+use Rattle.form.specs.declared.limits.TheConstants.{MAX_PRICE, MAX_QUANTITY}
+use Rattle.form.specs.declared.orders.Order.{Order}
+use Rattle.form.specs.declared.orders.Batch.{Batch}
+use Rattle.form.specs.Clearing.{AreOn, premium}
+use Rattle.form.specs.Certificate.{Point, fraction_weight, AreFractionFills, IsPremiumLessLiability}
+use Rattle.form.specs.Limits.{IsOrderWithin, IsWithinLimits}
+use Rattle.form.specs.Payoff.{BundleLeg, IsState, bundle_of, option_of}
+use Rattle.form.proofs.Vectors.{length-option_of}
+use Rattle.form.specs.States.{vector_of}
+use Rattle.form.specs.StateOf.{state_of, is_state, made_or_first, nine_vector}
+use Rattle.measure.specs.declared.measures.Measure.{Measure}
+use Rattle.measure.specs.Points.{point_of}
+use Rattle.cert_check.specs.declared.outcome.Cover.{Cover}
+use Rattle.cert_check.specs.declared.outcome.Cover.TheVariants.{Line}
+use Rattle.cert_check.specs.declared.outcome.Mark.{Mark}
+use Rattle.cert_check.specs.declared.outcome.Mark.TheVariants.{Wide, Budget}
+use Rattle.cert_check.specs.declared.outcome.No.{No}
+use Rattle.cert_check.specs.declared.outcome.No.TheVariants as no
+use Rattle.cert_check.specs.declared.outcome.Outcome.{Outcome}
+use Rattle.cert_check.specs.Conditions.{IfOptimal, OwesNothing, IsEnough, Meets, conditions}
+use Rattle.cert_check.proofs.Certified.{conditions_cover, conditions_measure, conditions_prove}
+use Rattle.each_match.specs.Match.{match_by_option}
+use Rattle.each_match.specs.Laws.{matched}
+use Rattle.each_match.proofs.MatchLaws.{match_is_within, match_is_balanced, match_earns, fills_small}
+use Rattle.joint_program.specs.Reading.{Reading}
+use Rattle.joint_laws.specs.Certified.{IsGreatestByLine}
+use Rattle.joint_laws.specs.Verdict.{IsOutcomeOf, IsNotRefused}
+use Rattle.joint_laws.proofs.Verdict.{line_readings_are_not_refused}
+use Rattle.rounds.proofs.Cleared.{cleared_is_greatest}
+use Rattle.rounds.specs.Run.{JointEnd, cleared, stopped_at, out_of_units, without_optimum, joint_run}
+use Rattle.clearing.specs.Outcome.{weighted_of, measure_of, proved, fallback, is_value, are_values, has_values, outcome_at, outcome_of}
+use Rattle.clearing.specs.Laws.{IsOnOne, OutcomesMeetAll, OutcomesAreWithin, OutcomesAreCovered, OutcomesAreMeasured, OptimalIsGreatest}
+use Rattle.clearing.proofs.Surplus.{premium_small}
+use Rattle.clearing.proofs.Values.{fraction_is, fractions_are}
+use Rattle.clearing.proofs.Wholes.{wholes, whole_is, wholes_are, owes_nothing, premium_is_left, fills_are}
+
+-- each order of a batch within the limits is on its underlyings
+pub are_on : (batch : Batch) → IsWithinLimits batch → AreOn batch.underlyings batch.orders
+unfolding bundle_of
+are_on batch within k d lt =
+    let leg : BundleLeg = record { count = pos 1; option = option_of (get_or batch.orders k d).form } in
+    let P : BundleLeg → Type 0 = λ leg. (leg.count ≡ pos 0 → ⊥) × (length leg.option ≡ batch.underlyings + 1) in
+    let counted : pos 1 ≡ pos 0 → ⊥ = λ e. absurd (omega (arith, ints)) in
+    let entries = length-option_of (get_or batch.orders k d).form ∙ within.has_forms.forms k d lt in
+    (omega arith, omega arith, All-cons P leg [] (counted, entries) (All-nil P))
+
+-- ---- the fallback
+-- its numbers as fractions
+pub record IsFallback (orders : List Order) (outcome : Outcome) : Type 0 where
+  pub fills : map fraction_of outcome.fills ≡ wholes (match_by_option orders)
+  pub liability : fraction_of outcome.claim.liability ≡ whole (pos 0)
+  pub surplus : fraction_of outcome.claim.surplus ≡ whole (premium (matched orders))
+
+pub amounts_small : (orders : List Order) → All IsOrderWithin orders → All (λ amount. amount ≤ MAX_QUANTITY) (match_by_option orders)
+amounts_small orders within =
+    fills_small MAX_QUANTITY orders (match_by_option orders) (match_is_within orders) (All-weaker IsOrderWithin (λ (order : Order). order.quantity ≤ MAX_QUANTITY) (λ order each. each.quantity) orders within)
+
+pub is_fallback : (batch : Batch) (mark : Mark) (units : ℕ) → IsWithinLimits batch → IsFallback batch.orders (fallback batch.orders mark units)
+unfolding fallback
+is_fallback batch mark units within =
+    let orders = batch.orders in
+    let amounts = match_by_option orders in
+    let small = amounts_small orders within.orders_within in
+    let prices = All-weaker IsOrderWithin (λ (order : Order). order.price ≤ MAX_PRICE) (λ order each. each.price) orders within.orders_within in
+    let most = premium_small orders amounts within.orders_fit prices small in
+    record {
+      fills = wholes_are amounts small;
+      liability = whole_is (pos 0) (omega arith);
+      surplus = whole_is (premium (zip orders amounts)) (omega (arith, most));
+    }
+
+fallback_meets : (batch : Batch) (outcome : Outcome) → IsWithinLimits batch → IsFallback batch.orders outcome → ((P : Cover → Measure → Type 0) → IfOptimal outcome.mark P)
+    → (OwesNothing batch.orders (map fraction_of outcome.fills) (fraction_of outcome.claim.liability) → IsEnough batch.underlyings batch.orders (map fraction_of outcome.fills) (fraction_of outcome.claim.liability) outcome.mark)
+    → (condition : No) → Meets batch outcome condition
+fallback_meets batch outcome within f unmarked enough no.BatchShape =
+    let are = fills_are batch.orders (match_by_option batch.orders) (match_is_within batch.orders) in
+    record {
+      orders = are_on batch within;
+      fills = sym (length-map outcome.fills fraction_of) ∙ ap length f.fills ∙ are.0;
+      mark = unmarked _;
+    }
+fallback_meets batch outcome within f unmarked enough no.Fill =
+    subst (AreFractionFills batch.orders) (sym f.fills) (fills_are batch.orders (match_by_option batch.orders) (match_is_within batch.orders))
+fallback_meets batch outcome within f unmarked enough no.Cover =
+    let orders = batch.orders in
+    let amounts = match_by_option orders in
+    let L = fraction_of outcome.claim.liability in
+    let zero = whole (pos 0) in
+    let left = subst (λ fills. IsPremiumLessLiability orders fills L (fraction_of outcome.claim.surplus)) (sym f.fills)
+    (subst (λ (l : Fraction). IsPremiumLessLiability orders (wholes amounts) l (fraction_of outcome.claim.surplus)) (sym f.liability)
+    (subst (λ (S : Fraction). IsPremiumLessLiability orders (wholes amounts) zero S) (sym f.surplus) (premium_is_left orders amounts))) in
+    let owes = subst (λ fills. OwesNothing orders fills L) (sym f.fills)
+    (subst (λ (l : Fraction). OwesNothing orders (wholes amounts) l) (sym f.liability) (owes_nothing orders amounts (match_is_balanced orders))) in
+    let low : pos 0 ≤ℤ (fraction_of outcome.claim.surplus).numerator = subst (λ (S : Fraction). pos 0 ≤ℤ S.numerator) (sym f.surplus) (match_earns orders) in
+    (record { left = left; not_below_zero = low }, enough owes)
+fallback_meets batch outcome within f unmarked enough no.Measure = unmarked _
+fallback_meets batch outcome within f unmarked enough no.Bound = unmarked _
+
+pub wide_meets : (batch : Batch) (w : Misfit) (units : ℕ) → IsWithinLimits batch → (condition : No) → Meets batch (fallback batch.orders (Wide w) units) condition
+unfolding fallback
+wide_meets batch w units within = fallback_meets batch (fallback batch.orders (Wide w) units) within (is_fallback batch (Wide w) units within) (λ P. tt) (λ owes. owes)
+
+pub budget_meets : (batch : Batch) (units : ℕ) → IsWithinLimits batch → (condition : No) → Meets batch (fallback batch.orders Budget units) condition
+unfolding fallback
+budget_meets batch units within = fallback_meets batch (fallback batch.orders Budget units) within (is_fallback batch Budget units within) (λ P. tt) (λ owes. owes)
+
+-- ---- what a run clears
+-- a state of the model is that of the code
+made_vector : (z : List ℕ) (b : Bool) (e : is_state z ≡ b) → b ≡ true → vector_of (made_or_first z b e) ≡ z
+made_vector z true e t = nine_vector z
+made_vector z false e t = cc
+
+vector_is : (n : ℕ) (z : List ℕ) → 1 ≤ n → n ≤ 8 → IsState n z → vector_of (state_of z) ≡ z
+unfolding state_of
+vector_is n z some few is =
+    let least : nat_le 2 (length z) ≡ true = le-leb 2 (length z) (omega (arith, is.0)) in
+    let most : nat_le (length z) 9 ≡ true = le-leb (length z) 9 (omega (arith, is.0)) in
+    let above : nat_lt 0 (sum z) ≡ true = lt-ltb 0 (sum z) is.1 in
+    made_vector z (is_state z) refl (rw (least, most, above) refl)
+
+points_are : (points : List Point) → All (λ (point : Point). IsState 1 point.0) points → are_values (map fraction_weight points) ≡ true → map point_of (map weighted_of points) ≡ points
+points_are [] states test = refl
+points_are (p ∷ points) states test =
+    let P : Point → Type 0 = λ point. IsState 1 point.0 in
+    let parts = and_parts (is_value p.1) (are_values (map fraction_weight points)) test in
+    let state = vector_is 1 p.0 (omega arith) (omega arith) (All-head P p points states) in
+    ap₂ (λ (x : Point) (xs : List Point). x ∷ xs) (ap₂ (λ (z : List ℕ) (w : Fraction). (z, w)) state (fraction_is p.1 parts.0)) (points_are points (All-tail P p points states) parts.1)
+
+pub claims_the_reading : (orders : List Order) (r : Reading) (units : ℕ) → IsGreatestByLine orders r → has_values r ≡ true → IsOutcomeOf r (proved r units) Line (measure_of r.measure)
+unfolding proved
+claims_the_reading orders r units greatest test =
+    let parts = and_parts (is_value r.liability && is_value r.surplus) (are_values r.fills && are_values (map fraction_weight r.measure)) test in
+    let claim = and_parts (is_value r.liability) (is_value r.surplus) parts.0 in
+    let lists = and_parts (are_values r.fills) (are_values (map fraction_weight r.measure)) parts.1 in
+    record {
+      fills = fractions_are r.fills lists.0;
+      liability = fraction_is r.liability claim.0;
+      surplus = fraction_is r.surplus claim.1;
+      mark = refl;
+      points = points_are r.measure greatest.by_measure.measure.states lists.1;
+    }
+
+pub proved_is_not_refused : (batch : Batch) (r : Reading) (units : ℕ) → IsOnOne batch → IsGreatestByLine batch.orders r → has_values r ≡ true → IsNotRefused batch (proved r units)
+proved_is_not_refused batch r units on greatest test =
+    line_readings_are_not_refused batch (proved r units) (measure_of r.measure) r on.1 (are_on batch on.0) greatest (claims_the_reading batch.orders r units greatest test)
+
+-- ---- each outcome
+abbrev MeetsAll : Batch → Outcome → Type 0
+MeetsAll batch outcome = All (Meets batch outcome) conditions
+
+all_met : (batch : Batch) (outcome : Outcome) → ((condition : No) → Meets batch outcome condition) → MeetsAll batch outcome
+all_met batch outcome each k d lt = each (get_or conditions k d)
+
+at_cleared : (batch : Batch) (units spent : ℕ) (r : Reading) (test : Bool) → has_values r ≡ test → IsOnOne batch → IsGreatestByLine batch.orders r → MeetsAll batch (if test then proved r spent else fallback batch.orders Budget units)
+at_cleared batch units spent r true is on greatest = (proved_is_not_refused batch r spent on greatest is).meets
+at_cleared batch units spent r false is on greatest = all_met batch _ (budget_meets batch units on.0)
+
+at_end : (batch : Batch) (units : ℕ) (end : JointEnd) → IsOnOne batch → joint_run largest largest units 0 batch.orders ≡ end → MeetsAll batch (outcome_at batch.orders units end)
+at_end batch units (cleared r spent) on is =
+    at_cleared batch units spent r (has_values r) refl on (cleared_is_greatest largest largest units 0 spent batch.orders r is)
+at_end batch units (stopped_at spent w) on is = all_met batch _ (wide_meets batch w spent on.0)
+at_end batch units (out_of_units spent) on is = all_met batch _ (budget_meets batch units on.0)
+at_end batch units (without_optimum spent) on is = all_met batch _ (budget_meets batch units on.0)
+
+pub outcomes_meet_all : OutcomesMeetAll
+unfolding outcome_of
+outcomes_meet_all batch units on = at_end batch units (joint_run largest largest units 0 batch.orders) on refl
+
+pub outcomes_are_within : OutcomesAreWithin
+outcomes_are_within batch units on =
+    let P = Meets batch (outcome_of batch units) in
+    let rest = All-tail P no.BatchShape (no.Fill ∷ no.Cover ∷ no.Measure ∷ no.Bound ∷ []) (outcomes_meet_all batch units on) in
+    All-head P no.Fill (no.Cover ∷ no.Measure ∷ no.Bound ∷ []) rest
+
+pub outcomes_are_covered : OutcomesAreCovered
+outcomes_are_covered batch units on = conditions_cover batch (outcome_of batch units) (outcomes_meet_all batch units on)
+
+pub outcomes_are_measured : OutcomesAreMeasured
+outcomes_are_measured batch units on = conditions_measure batch (outcome_of batch units) (outcomes_meet_all batch units on)
+
+pub optimal_is_greatest : OptimalIsGreatest
+optimal_is_greatest batch units on = conditions_prove batch (outcome_of batch units) (outcomes_meet_all batch units on)

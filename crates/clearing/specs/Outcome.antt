@@ -1,0 +1,93 @@
+-- The outcome of a batch: what the reference run clears, or where it stops, the match of each option by itself.
+use Rattle.std.specs.Prelude.{ℕ, ◌≡◌, List, [], ◌∷◌, map, pos, Bool, true, ◌&&◌, if◌then◌else◌}
+use Rattle.exact_num.specs.Fraction.{Fraction, whole}
+use Rattle.frac.specs.declared.bits128.Frac128.{Frac128}
+use Rattle.frac.specs.Range.{limit as largest}
+use Rattle.frac.specs.Value.{fraction_of}
+use Rattle.frac.specs.ValueOf.{value_of, is_lowest, has_128_bits}
+use Rattle.form.specs.declared.orders.Order.{Order}
+use Rattle.form.specs.declared.orders.Batch.{Batch}
+use Rattle.form.specs.StateOf.{state_of}
+use Rattle.form.specs.Certificate.{Point, fraction_weight}
+use Rattle.form.specs.Clearing.{premium}
+use Rattle.measure.specs.declared.measures.Weighted.{Weighted}
+use Rattle.measure.specs.declared.measures.Measure.{Measure}
+use Rattle.measure.specs.Points.{point_of}
+use Rattle.cert_check.specs.declared.outcome.Cover.TheVariants.{Line}
+use Rattle.cert_check.specs.declared.outcome.Mark.{Mark}
+use Rattle.cert_check.specs.declared.outcome.Mark.TheVariants.{Optimal, Wide, Budget}
+use Rattle.cert_check.specs.declared.outcome.Outcome.{Outcome}
+use Rattle.each_match.specs.Match.{match_by_option}
+use Rattle.each_match.specs.Laws.{matched}
+use Rattle.joint_program.specs.Reading.{Reading, reading_with}
+use Rattle.rounds.specs.Run.{JointEnd, cleared, stopped_at, out_of_units, without_optimum, joint_run}
+
+-- a point of the model as one of the code
+abbrev pub weighted_of : Point → Weighted
+weighted_of point = record { state = state_of point.0; weight = value_of point.1 }
+
+abbrev pub measure_of : List Point → Measure
+measure_of points = record { points = map weighted_of points }
+
+-- what a run clears, covered by the line, with the measure that proves it
+unfoldable pub proved : Reading → ℕ → Outcome
+proved r units =
+    record {
+      fills = map value_of r.fills;
+      claim = record { liability = value_of r.liability; surplus = value_of r.surplus };
+      mark = Optimal Line (measure_of r.measure);
+      units = units;
+    }
+
+-- whole numbers of the options as numbers of the code
+abbrev pub whole_fills : List ℕ → List Frac128
+whole_fills amounts = map (λ (amount : ℕ). value_of (whole (pos amount))) amounts
+
+-- the match of each option by itself: it owes nothing, and leaves its premium
+unfoldable pub fallback : List Order → Mark → ℕ → Outcome
+fallback orders mark units =
+    record {
+      fills = whole_fills (match_by_option orders);
+      claim = record { liability = value_of (whole (pos 0)); surplus = value_of (whole (premium (matched orders))) };
+      mark = mark;
+      units = units;
+    }
+
+-- whether the numbers of a reading are numbers of the code
+abbrev pub is_value : Fraction → Bool
+is_value x = is_lowest x && has_128_bits x
+
+abbrev pub are_values : List Fraction → Bool
+are_values [] = true
+are_values (x ∷ xs) = is_value x && are_values xs
+
+abbrev pub has_values : Reading → Bool
+has_values r =
+    (is_value r.liability && is_value r.surplus) && (are_values r.fills && are_values (map fraction_weight r.measure))
+
+-- the outcome at the end of a run with a limit on its units. An end without an optimum, and a reading whose numbers are not
+-- all numbers of the code, have the match too: no answer of a clear comes from them
+abbrev pub outcome_at : List Order → ℕ → JointEnd → Outcome
+outcome_at orders units (cleared r spent) = if has_values r then proved r spent else fallback orders Budget units
+outcome_at orders units (stopped_at spent wide) = fallback orders (Wide wide) spent
+outcome_at orders units (out_of_units spent) = fallback orders Budget units
+outcome_at orders units (without_optimum spent) = fallback orders Budget units
+
+-- the outcome of a batch on one underlying, with at most so many units
+unfoldable pub outcome_of : Batch → ℕ → Outcome
+outcome_of batch units = outcome_at batch.orders units (joint_run largest largest units 0 batch.orders)
+
+-- what an outcome with this measure claims, as fractions
+abbrev pub claimed : Outcome → Measure → Reading
+claimed outcome measure =
+    reading_with (map fraction_of outcome.fills) (fraction_of outcome.claim.surplus) (map point_of measure.points) (fraction_of outcome.claim.liability)
+
+-- the mark of an outcome and its units are those of the end of the run: what was cleared, the step that did not fit, or a unit
+-- wanted beyond the limit
+abbrev pub ends_as : JointEnd → ℕ → Outcome → Mark → Type 0
+ends_as end units outcome (Optimal cover measure) = end ≡ cleared (claimed outcome measure) outcome.units
+ends_as end units outcome (Wide wide) = end ≡ stopped_at outcome.units wide
+ends_as end units outcome Budget = ((spent : ℕ) × (end ≡ out_of_units spent)) × (outcome.units ≡ units)
+
+abbrev pub IsMarked : Batch → ℕ → Outcome → Type 0
+IsMarked batch units outcome = ends_as (joint_run largest largest units 0 batch.orders) units outcome outcome.mark

@@ -1,0 +1,8 @@
+//! The clearing of a batch: the greatest surplus with its proof, or where the run stops, the match of each option by itself.
+#![tactic(auto)]
+
+mod clearing;
+mod fallback;
+pub mod laws;
+
+pub use clearing::clear;

@@ -1,0 +1,5 @@
+pub mod Master
+pub mod Reading
+pub mod Solve
+pub mod Laws
+pub mod Worked

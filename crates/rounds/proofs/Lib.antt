@@ -1,0 +1,9 @@
+pub mod Added
+pub mod Cleared
+pub mod Joined
+pub mod Judged
+pub mod Owed
+pub mod Paired
+pub mod ReadOff
+pub mod Solve
+pub mod WorkedRuns

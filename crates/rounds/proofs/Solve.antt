@@ -1,0 +1,117 @@
+-- From the master program that was built to its solution.
+use Rattle.std.proofs.Common.{◌≡◌, ℕ, zero, suc, ◌+◌, ◌≤◌, List, [], ◌∷◌, length, map, take, drop, get_or, filter_map, fold, All, Option, Some, None, Bool, true, false, if◌then◌else◌, ap, sym, ◌∙◌, subst, arith, vec_len, Vec, Global, Result, Ok, Err}
+use Rattle.std.specs.List.{cons_option}
+use Rattle.std.proofs.lemmas.List.{length-map, length-append}
+use Rattle.exact_num.specs.Fraction.{Fraction}
+use Rattle.table_run.specs.Places.{at}
+use Rattle.table_run.specs.Optimum.{IsProgram, IsNotBelowZero}
+use Rattle.table_run.specs.Run.{Ending, misfit_at, out_of_budget}
+use Rattle.form.specs.declared.orders.Order.{Order}
+use Rattle.form.specs.declared.states.State.{State}
+use Rattle.form.specs.States.{vector_of}
+use Rattle.simplex.specs.declared.program.Program.{Program}
+use Rattle.simplex.specs.Programs.{as_program}
+use Rattle.simplex.specs.declared.solved.Solved.{Solved}
+use Rattle.simplex.specs.declared.stop.Stop.{Stop}
+use Rattle.simplex.specs.declared.stop.Stop.TheVariants.{Wide, Budget, Memory}
+use Rattle.simplex.specs.Answers.{IsAnswer, solved_ending}
+use Rattle.rounds.specs.declared.joint.Joint.{Joint}
+use Rattle.rounds.specs.Answers.{IsJointAnswer}
+use Rattle.rounds.specs.Run.{JointEnd, joint_run, on_ending, solved}
+use Rattle.line_cover.specs.Line.{breakpoint_of_order}
+use Rattle.line_cover.specs.Breakpoints.{is_below, insert, in_rising_price, last_state, later_states}
+use Rattle.joint_program.specs.Master.{zero_prices, plain_master, master}
+use Rattle.joint_program.proofs.Steps.{steps_give_master}
+use Rattle.joint_program.proofs.Bounded.{master_is_program}
+
+-- ---- the program that was built is the master program
+pub is_master : {A : Type 0} (value : A → Fraction) (p : Program A) (payoff_limit limit : ℕ) (orders : List Order) (states : List (List ℕ)) → master payoff_limit limit orders states ≡ Ok (as_program value p) → as_program value p ≡ plain_master (zero_prices 1) orders states
+is_master value p payoff_limit limit orders states h = steps_give_master payoff_limit limit 1 orders states (as_program value p) h
+
+pub is_program : {A : Type 0} (value : A → Fraction) (p : Program A) (orders : List Order) (states : List (List ℕ)) → as_program value p ≡ plain_master (zero_prices 1) orders states → IsProgram (as_program value p)
+is_program value p orders states e = subst IsProgram (sym e) (master_is_program (zero_prices 1) orders states)
+
+pub counted : {A : Type 0} (value : A → Fraction) (xs : Vec A Global) (n : ℕ) → length (map value xs.items) ≡ n → vec_len xs ≡ n
+counted value xs n h = omega (arith, h, length-map xs.items value, xs.ok)
+
+pub all_signs : {A : Type 0} (value : A → Fraction) (xs : List A) → ((j : ℕ) → IsNotBelowZero (at (map value xs) j)) → All (λ b. IsNotBelowZero (value b)) xs
+all_signs value [] h k d low = absurd (omega (arith, low))
+all_signs value (x ∷ xs) h zero d low = h zero
+all_signs value (x ∷ xs) h (suc k) d low = all_signs value xs (λ j. h (suc j)) k d (omega (arith, low))
+
+-- ---- how many states there are
+insert_more : (ys : List (List ℕ)) (y z : List ℕ) (later : List (List ℕ)) (first second : Bool) → length later ≤ length ys + 1 → length (if first then z ∷ y ∷ ys else if second then y ∷ later else y ∷ ys) ≤ suc (length ys) + 1
+insert_more ys y z later true second h = omega arith
+insert_more ys y z later false true h = omega (arith, h)
+insert_more ys y z later false false h = omega arith
+
+length-insert : (ys : List (List ℕ)) (z : List ℕ) → length (insert ys z) ≤ length ys + 1
+unfolding insert
+length-insert [] z = omega arith
+length-insert (y ∷ ys) z = insert_more ys y z (insert ys z) (is_below z y) (is_below y z) (length-insert ys z)
+
+length-inserted : (zs ys : List (List ℕ)) → length (fold insert ys zs) ≤ length ys + length zs
+length-inserted [] ys = omega arith
+length-inserted (z ∷ zs) ys = omega (arith, length-inserted zs (insert ys z), length-insert ys z)
+
+length-rising : (zs : List (List ℕ)) → length (in_rising_price zs) ≤ length zs
+unfolding in_rising_price
+length-rising zs = omega (arith, length-inserted zs [])
+
+counted_some : (r : Option (List ℕ)) (rest : List (List ℕ)) (n : ℕ) → length rest ≤ n → length (cons_option r rest) ≤ suc n
+counted_some None rest n h = omega (arith, h)
+counted_some (Some z) rest n h = omega (arith, h)
+
+length-some : (orders : List Order) → length (filter_map breakpoint_of_order orders) ≤ length orders
+length-some [] = omega arith
+length-some (o ∷ os) = counted_some (breakpoint_of_order o) (filter_map breakpoint_of_order os) (length os) (length-some os)
+
+pub length-later : (orders : List Order) → length (later_states orders) ≤ length orders + 1
+length-later orders =
+    let breaks = filter_map breakpoint_of_order orders in
+    omega (arith, length-append (in_rising_price breaks) (last_state ∷ []), length-rising breaks, length-some orders)
+
+-- ---- the first state and those after it
+pub some_states : (states : List State) (first : List ℕ) (later : List (List ℕ)) → map vector_of states ≡ first ∷ later → 1 ≤ length states
+some_states [] first later e = cc
+some_states (s ∷ states) first later e = omega arith
+
+pub first_is : (states : List State) (first : List ℕ) (later : List (List ℕ)) (front : List State) (s : State) → map vector_of states ≡ first ∷ later → front ≡ take 1 states → s ≡ get_or front 0 s → vector_of s ≡ first
+first_is [] first later front s e is at_0 = cc
+first_is (y ∷ states) first later front s e is at_0 =
+    let same : s ≡ y = at_0 ∙ ap (λ (xs : List State). get_or xs 0 s) is in
+    let head : vector_of y ≡ first = cc in
+    ap vector_of same ∙ head
+
+pub later_are : (states : List State) (first : List ℕ) (later : List (List ℕ)) (back : List State) → map vector_of states ≡ first ∷ later → back ≡ drop 1 states → map vector_of back ≡ later
+later_are [] first later back e is = cc
+later_are (s ∷ states) first later back e is =
+    let tail : map vector_of states ≡ later = cc in
+    ap (map vector_of) is ∙ tail
+
+-- each order has as many entries as each of the later states
+pub same_counts : (orders : List Order) (states back : List State) → All (λ (o : Order). o.form.count ≡ 2) orders → All (λ (s : State). s.count ≡ 2) states → back ≡ drop 1 states → All (λ (s : State). All (λ (o : Order). o.form.count ≡ s.count) orders) back
+same_counts orders [] back forms counts is = subst (All (λ (s : State). All (λ (o : Order). o.form.count ≡ s.count) orders)) (sym is) (λ k d low. absurd (omega (arith, low)))
+same_counts orders (s ∷ states) back forms counts is =
+    subst (All (λ (s : State). All (λ (o : Order). o.form.count ≡ s.count) orders)) (sym is)
+    (λ k d low i o low_o. forms i o low_o ∙ sym (counts (suc k) d (omega (arith, low))))
+
+-- ---- the run, and how the solution of the master program ends it
+pub joint_is : (wide_limit limit left spent : ℕ) (orders : List Order) (states : List (List ℕ)) → states ≡ later_states orders → joint_run wide_limit limit left spent orders ≡ on_ending wide_limit limit orders (solved limit left spent (master wide_limit limit orders states))
+unfolding joint_run
+joint_is wide_limit limit left spent orders states is = ap (λ zs. on_ending wide_limit limit orders (solved limit left spent (master wide_limit limit orders zs))) (sym is)
+
+pub stops_as_solved : {A : Type 0} (value : A → Fraction) (wide_limit limit : ℕ) (orders : List Order) (end : JointEnd) (ending : Ending) (result : Result (Solved A) Stop) (stop : Stop) (spent : ℕ) → end ≡ on_ending wide_limit limit orders ending → result ≡ Err stop → IsAnswer value ending result spent → IsJointAnswer value end (Err stop) spent
+stops_as_solved {A} value wide_limit limit orders end ending result (Wide unit w) spent e err h =
+    let is : (ending ≡ misfit_at unit w) × (spent ≡ unit) = subst (λ (r : Result (Solved A) Stop). IsAnswer value ending r spent) err h in
+    (e ∙ ap (on_ending wide_limit limit orders) is.0, is.1)
+stops_as_solved {A} value wide_limit limit orders end ending result Budget spent e err h =
+    let is : ending ≡ out_of_budget spent = subst (λ (r : Result (Solved A) Stop). IsAnswer value ending r spent) err h in
+    e ∙ ap (on_ending wide_limit limit orders) is
+stops_as_solved {A} value wide_limit limit orders end ending result Memory spent e err h = tt
+
+pub solved_as : {A : Type 0} (value : A → Fraction) (ending : Ending) (result : Result (Solved A) Stop) (solution : Solved A) (spent : ℕ) → result ≡ Ok solution → IsAnswer value ending result spent → ending ≡ solved_ending value solution spent
+solved_as {A} value ending result solution spent ok h = subst (λ (r : Result (Solved A) Stop). IsAnswer value ending r spent) ok h
+
+pub answers_as : {A : Type 0} (value : A → Fraction) (a b : JointEnd) (result : Result (Joint A) Stop) (spent : ℕ) → a ≡ b → IsJointAnswer value b result spent → IsJointAnswer value a result spent
+answers_as value a b result spent e h = subst (λ (end : JointEnd). IsJointAnswer value end result spent) (sym e) h

@@ -1,0 +1,21 @@
+use Rattle.std.proofs.Common.{◌∙◌, unsigned_abs, map}
+use Rattle.std.proofs.lemmas.Result.{err_from_is_err_and}
+use Rattle.joint_program.specs.Master.{quantity_steps}
+use Rattle.rounds.proofs.Added.{goes_on, stops, ends}
+use Rattle.rounds.proofs.master.add_quantities.Goals as goal
+
+pub returns-in_err-quantity : goal.returns-in_err-quantity
+returns-in_err-quantity g c =
+    let q = err_from_is_err_and c.from_residual.result c.from_residual.ensures.1 in
+    let l = c.loop-order in
+    rw (q.1, q.2) (l.invariant ∙ stops g.N.Exact.fraction (quantity_steps (unsigned_abs g.N.Exact.LIMIT)) l.right_sides.items c.args.orders.now l.order-index c.order-item.result c.quantity.result c.in_err-quantity.field-0.0 c.loop-order-test.true c.order-item.is c.quantity.ensures c.in_err-quantity.was)
+
+pub loop-order-preserved : goal.loop-order-preserved
+loop-order-preserved g c =
+    let l = c.loop-order in
+    l.invariant ∙ goes_on g.N.Exact.fraction (quantity_steps (unsigned_abs g.N.Exact.LIMIT)) l.right_sides.items _ c.args.orders.now l.order-index c.order-item.result c.quantity.result c.in_ok-quantity.field-0 c.loop-order-test.true c.order-item.is c.quantity.ensures c.in_ok-quantity.was c.in_ok-push.ensures.ok
+
+pub returns : goal.returns
+returns g c =
+    let l = c.loop-order in
+    l.invariant ∙ ends (quantity_steps (unsigned_abs g.N.Exact.LIMIT)) (map g.N.Exact.fraction l.right_sides.items) c.args.orders.now l.order-index c.loop-order-test.false

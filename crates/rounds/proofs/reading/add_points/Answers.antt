@@ -1,0 +1,35 @@
+use Rattle.std.proofs.Common.{◌+◌, ◌≤◌, ◌<◌, ◌++◌, [], ◌∷◌, List, drop, length, map, zip, arith, sym, ap, ◌∙◌, append_assoc}
+use Rattle.std.proofs.lemmas.List.{length-map, append-nil}
+use Rattle.form.specs.Certificate.{Point}
+use Rattle.form.specs.States.{vector_of}
+use Rattle.measure.specs.Points.{point_of}
+use Rattle.joint_program.specs.Reading.{weighty}
+use Rattle.rounds.proofs.Paired.{pair_first, no_pairs, item_of, weighty_more}
+use Rattle.rounds.proofs.reading.add_points.Goals as goal
+
+pub loop-i-preserved : goal.loop-i-preserved
+loop-i-preserved g c =
+    let l = c.loop-i in
+    let value = g.N.Exact.fraction in
+    let states = map vector_of c.args.states.now in
+    let weights = map value c.args.weights.now in
+    let point : Point = (vector_of c.index-states-i.result, value c.index-weights-i.result) in
+    let rest = drop (l.i + 1) (zip states weights) in
+    let now = map point_of l.points.items in
+    let low : l.i < length c.args.weights.now = omega (arith, c.requires, c.loop-i-test.true) in
+    let lengths = length-map c.args.weights.now value ∙ c.requires ∙ sym (length-map c.args.states.now vector_of) in
+    let low_state : l.i < length states = omega (arith, length-map c.args.states.now vector_of, c.loop-i-test.true) in
+    let first = pair_first states weights l.i point.0 point.1 lengths low_state (item_of vector_of c.args.states.now l.i c.index-states-i.result c.loop-i-test.true c.index-states-i.is) (item_of value c.args.weights.now l.i c.index-weights-i.result low c.index-weights-i.is) in
+    ap (λ (points : List Point). points ++ weighty rest) c.in_ok-add_point.ensures
+    ∙ append_assoc now (weighty (point ∷ [])) (weighty rest)
+    ∙ ap (λ (points : List Point). now ++ points) (sym (ap weighty first ∙ weighty_more point rest))
+    ∙ l.invariant
+
+pub returns : goal.returns
+returns g c =
+    let l = c.loop-i in
+    let states = map vector_of c.args.states.now in
+    let weights = map g.N.Exact.fraction c.args.weights.now in
+    let high : length states ≤ l.i = omega (arith, length-map c.args.states.now vector_of, c.loop-i-test.false) in
+    let now = map point_of l.points.items in
+    sym (append-nil now) ∙ ap (λ (points : List Point). now ++ weighty points) (sym (no_pairs states weights l.i high)) ∙ l.invariant

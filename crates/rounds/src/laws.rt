@@ -1,0 +1,31 @@
+//! What the reference run on one underlying implies: the contracts of functions that do nothing.
+ghost use Rattle.rounds.specs.Laws.{ClearedIsGreatest, ClearedPassesTheVerdict, NoRunIsWithoutOptimum};
+ghost use Rattle.rounds.specs.Worked.{ButterflyCleared, DearCoverIsLeft, EqualPricesAreLeft, LargeBatchIsTooWide, LowerStrikeCleared, NoOrderCleared, OneOptionCleared, OneUnitIsTooFew};
+
+/// What a run clears is covered at every price and in the slope beyond, its measure proves its surplus, and no fills
+/// cover more, whatever the limits and the units.
+pub fn cleared_is_greatest()
+    ensures { ClearedIsGreatest }
+{}
+
+/// Each run ends with an optimum, or stops at a step that does not fit or for want of a unit.
+pub fn no_run_is_without_optimum()
+    ensures { NoRunIsWithoutOptimum }
+{}
+
+/// The verdict on what a run clears is yes.
+pub fn cleared_passes_the_verdict()
+    ensures { ClearedPassesTheVerdict }
+{}
+
+/// The definition computes the ends of the runs of worked batches.
+pub fn worked_batches_are_run()
+    ensures no_order { NoOrderCleared }
+    ensures one_option { OneOptionCleared }
+    ensures one_unit { OneUnitIsTooFew }
+    ensures equal_prices { EqualPricesAreLeft }
+    ensures lower_strike { LowerStrikeCleared }
+    ensures butterfly { ButterflyCleared }
+    ensures dear_cover { DearCoverIsLeft }
+    ensures too_wide { LargeBatchIsTooWide }
+{}

@@ -1,0 +1,223 @@
+//! The master program of a batch over the states of its market.
+ghost use Rattle.std.specs.Prelude.{◌≡◌, ◌≤◌, ◌+◌, ◌^◌, ◌-◌, ◌++◌, map, unsigned_abs, OnOk, length};
+ghost use Rattle.std.specs.List.{All};
+ghost use Rattle.exact_num.specs.Fits.{meaning};
+ghost use Rattle.form.specs.States.{vector_of};
+ghost use Rattle.simplex.specs.Programs.{as_program};
+ghost use Rattle.joint_program.specs.Laws.{unit_rows};
+ghost use Rattle.joint_program.specs.Master.{all_of, cost_steps, entry_steps, first_payoff, master, quantity_steps, row_steps, rows_steps, signed_for};
+ghost use Rattle.rounds.specs.Built.{HasAdded, IsBuilt};
+ghost use Rattle.rounds.specs.Entry.{put_aside, whole_less};
+ghost use Rattle.rounds.specs.Parts.{coefficients_steps, costs_steps, right_sides_steps, slack_steps};
+
+use crate::building::{Unbuilt, push};
+use exact_num::{Exact, Wide};
+use form::{Order, Side, State, payoff};
+use simplex::Program;
+use simplex::fill::{push_slacks, push_zeros};
+use std::alloc::{AllocError, Global};
+
+/// The number for a buy, and its opposite for a sell.
+pub(crate) fn for_side<N: Exact>(side: Side, number: N) -> N
+    ensures { N.fraction result ≡ signed_for side (N.fraction number) }
+{
+    match side {
+        Side::Buy => number,
+        Side::Sell => number.neg(),
+    }
+}
+
+/// What an order pays where all prices are 0.
+pub(crate) fn first_payoff(order: &Order) -> i128
+    ensures { result ≡ first_payoff order.now }
+{
+    i128::from(order.form.entries[0]).max(0)
+}
+
+/// What one unit of an order earns when its payoff at the first state is put aside.
+#[tactic(auto, unfolding(joint_program::specs::Master::cost_steps))]
+fn cost<N: Exact>(order: &Order) -> Result<N, Wide>
+    ensures { meaning N.fraction result ≡ cost_steps (unsigned_abs N.LIMIT) order.now }
+{
+    let price = N::from_whole(i128::from(order.price))?;
+    let first = N::from_whole(first_payoff(order))?;
+    let cost = price.sub(first)?;
+    Ok(for_side(order.side, cost))
+}
+
+/// What is put aside for one unit of an order at a state: t times its payoff at the first state.
+fn put_aside<N: Exact>(order: &Order, state: &State) -> Result<N, Wide>
+    ensures { meaning N.fraction result ≡ put_aside (unsigned_abs N.LIMIT) (vector_of state.now) order.now }
+{
+    let t = N::from_whole(state.entries[0])?;
+    let first = N::from_whole(first_payoff(order))?;
+    t.mul(first)
+}
+
+/// The whole number `v` less another number.
+fn less<N: Exact>(v: i128, number: N) -> Result<N, Wide>
+    ensures { meaning N.fraction result ≡ whole_less (unsigned_abs N.LIMIT) v (N.fraction number) }
+{
+    let whole = N::from_whole(v)?;
+    whole.sub(number)
+}
+
+/// What one unit of an order owes at a state above what is put aside for it.
+#[tactic(auto, unfolding(joint_program::specs::Master::entry_steps))]
+fn entry<N: Exact>(order: &Order, state: &State) -> Result<N, Wide>
+    requires { order.now.form.count ≡ state.now.count }
+    ensures { meaning N.fraction result ≡ entry_steps (2 ^ 127 - 1) (unsigned_abs N.LIMIT) (vector_of state.now) order.now }
+{
+    let owed = payoff(&order.form, state)?;
+    let aside = put_aside(order, state)?;
+    let entry = less(owed, aside)?;
+    Ok(for_side(order.side, entry))
+}
+
+/// Adds the costs of the orders.
+fn add_costs<N: Exact>(costs: &mut Vec<N>, orders: &[Order]) -> Result<(), Unbuilt>
+    ensures { HasAdded (map N.fraction costs.old.items) (all_of (cost_steps (unsigned_abs N.LIMIT)) orders.now) result (map N.fraction costs.new.items) }
+{
+    for order in orders {
+        push(costs, cost(order)?)?;
+    }
+    Ok(())
+}
+
+/// The costs of the orders, and 1 lost for each unit of the slack.
+fn costs<N: Exact>(alloc: Global, orders: &[Order]) -> Result<Vec<N>, Unbuilt>
+    ensures { IsBuilt (λ costs. map N.fraction costs.items) (costs_steps (unsigned_abs N.LIMIT) orders.now) result }
+{
+    let mut costs = Vec::new(alloc);
+    add_costs(&mut costs, orders)?;
+    push(&mut costs, N::one().neg())?;
+    Ok(costs)
+}
+
+/// The quantity of an order.
+fn quantity<N: Exact>(order: &Order) -> Result<N, Wide>
+    ensures { meaning N.fraction result ≡ quantity_steps (unsigned_abs N.LIMIT) order.now }
+{
+    N::from_whole(i128::from(order.quantity))
+}
+
+/// Adds the quantities of the orders.
+fn add_quantities<N: Exact>(right_sides: &mut Vec<N>, orders: &[Order]) -> Result<(), Unbuilt>
+    ensures { HasAdded (map N.fraction right_sides.old.items) (all_of (quantity_steps (unsigned_abs N.LIMIT)) orders.now) result (map N.fraction right_sides.new.items) }
+{
+    for order in orders {
+        push(right_sides, quantity(order)?)?;
+    }
+    Ok(())
+}
+
+/// The quantities of the orders, and 0 for each state.
+fn right_sides<N: Exact>(alloc: Global, orders: &[Order], states: usize) -> Result<Vec<N>, Unbuilt>
+    ensures { IsBuilt (λ right_sides. map N.fraction right_sides.items) (right_sides_steps (unsigned_abs N.LIMIT) orders.now states) result }
+{
+    let mut right_sides = Vec::new(alloc);
+    add_quantities(&mut right_sides, orders)?;
+    push_zeros(&mut right_sides, states)?;
+    Ok(right_sides)
+}
+
+/// Adds a row for the quantity of each of `count` orders: of its `count + 1` entries the row's own is 1, the others 0.
+fn add_unit_rows<N: Exact>(coefficients: &mut Vec<N>, count: usize) -> Result<(), AllocError>
+    requires { count ≤ 256 }
+    ensures { OnOk result (map N.fraction coefficients.new.items ≡ map N.fraction coefficients.old.items ++ unit_rows (count + 1) 0 count) }
+{
+    for i in 0..count {
+        push_slacks(coefficients, count + 1, i)?;
+    }
+    Ok(())
+}
+
+/// Adds the entries of the orders in the row of a state.
+fn add_entries<N: Exact>(
+    coefficients: &mut Vec<N>,
+    orders: &[Order],
+    state: &State,
+) -> Result<(), Unbuilt>
+    requires { All (λ o. o.form.count ≡ state.now.count) orders.now }
+    ensures { HasAdded (map N.fraction coefficients.old.items) (all_of (entry_steps (2 ^ 127 - 1) (unsigned_abs N.LIMIT) (vector_of state.now)) orders.now) result (map N.fraction coefficients.new.items) }
+{
+    for order in orders {
+        push(coefficients, entry(order, state)?)?;
+    }
+    Ok(())
+}
+
+/// Adds the entry of the slack in the row of a state.
+fn add_slack<N: Exact>(coefficients: &mut Vec<N>, state: &State) -> Result<(), Unbuilt>
+    ensures { HasAdded (map N.fraction coefficients.old.items) (slack_steps (unsigned_abs N.LIMIT) (vector_of state.now)) result (map N.fraction coefficients.new.items) }
+{
+    let t = N::from_whole(state.entries[0])?;
+    push(coefficients, t.neg())
+}
+
+/// Adds the row of a state.
+fn add_row<N: Exact>(
+    coefficients: &mut Vec<N>,
+    orders: &[Order],
+    state: &State,
+) -> Result<(), Unbuilt>
+    requires { All (λ o. o.form.count ≡ state.now.count) orders.now }
+    ensures { HasAdded (map N.fraction coefficients.old.items) (row_steps (2 ^ 127 - 1) (unsigned_abs N.LIMIT) orders.now (vector_of state.now)) result (map N.fraction coefficients.new.items) }
+{
+    add_entries(coefficients, orders, state)?;
+    add_slack(coefficients, state)
+}
+
+/// Adds the rows of the states.
+fn add_rows<N: Exact>(
+    coefficients: &mut Vec<N>,
+    orders: &[Order],
+    states: &[State],
+) -> Result<(), Unbuilt>
+    requires { All (λ state. All (λ o. o.form.count ≡ state.count) orders.now) states.now }
+    ensures { HasAdded (map N.fraction coefficients.old.items) (rows_steps (2 ^ 127 - 1) (unsigned_abs N.LIMIT) orders.now (map vector_of states.now)) result (map N.fraction coefficients.new.items) }
+{
+    for state in states {
+        add_row(coefficients, orders, state)?;
+    }
+    Ok(())
+}
+
+/// The rows of the quantities, and those of the states.
+fn coefficients<N: Exact>(
+    alloc: Global,
+    orders: &[Order],
+    states: &[State],
+) -> Result<Vec<N>, Unbuilt>
+    requires few { length orders.now ≤ 256 }
+    requires forms { All (λ state. All (λ o. o.form.count ≡ state.count) orders.now) states.now }
+    ensures { IsBuilt (λ coefficients. map N.fraction coefficients.items) (coefficients_steps (2 ^ 127 - 1) (unsigned_abs N.LIMIT) orders.now (map vector_of states.now)) result }
+{
+    let mut coefficients = Vec::new(alloc);
+    add_unit_rows(&mut coefficients, orders.len())?;
+    add_rows(&mut coefficients, orders, states)?;
+    Ok(coefficients)
+}
+
+/// The master program of the orders over the price 0 and these states: costs first, then row by row.
+pub(crate) fn master<N: Exact>(
+    alloc: Global,
+    orders: &[Order],
+    states: &[State],
+) -> Result<Program<N>, Unbuilt>
+    requires few { length orders.now ≤ 256 }
+    requires few_states { length states.now ≤ 257 }
+    requires forms { All (λ state. All (λ o. o.form.count ≡ state.count) orders.now) states.now }
+    ensures { IsBuilt (as_program N.fraction) (master (2 ^ 127 - 1) (unsigned_abs N.LIMIT) orders.now (map vector_of states.now)) result }
+{
+    let costs = costs(alloc, orders)?;
+    let right_sides = right_sides(alloc, orders, states.len())?;
+    let coefficients = coefficients(alloc, orders, states)?;
+    Ok(Program {
+        n: orders.len() + 1,
+        m: orders.len() + states.len(),
+        a: coefficients,
+        b: right_sides,
+        c: costs,
+    })
+}
