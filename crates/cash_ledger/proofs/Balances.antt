@@ -1,10 +1,9 @@
 -- Balances as entries come, and how large they grow.
-use Rattle.std.proofs.Common.{◌≡◌, ℕ, ◌*◌, ℤ, pos, negsuc, ◌+ℤ◌, ◌≤ℤ◌, List, [], ◌∷◌, ◌++◌, true, false, if◌then◌else◌, nat_eq, length, FitsSigned, sym, ap, ap₂, ◌∙◌, arith}
-use Rattle.std.proofs.lemmas.Int.{ints, to_z-of_z}
+use Rattle.std.proofs.Common.{◌≡◌, ℕ, ◌*◌, pos, negsuc, ◌+ℤ◌, ◌≤ℤ◌, List, [], ◌∷◌, ◌++◌, true, false, if◌then◌else◌, nat_eq, length, sym, ap, ◌∙◌, arith}
+use Rattle.std.proofs.lemmas.Int.{ints}
 use Rattle.std.proofs.Math.IntN.{+ℤ_assoc, +ℤ_comm}
-use mir.Val.{to_z, of_z}
-use mir.Syntax.{w128}
 use Rattle.cash_ledger.specs.Entries.{share, balance_of, IsBounded, AreBounded}
+use Rattle.cash_ledger.specs.Laws.{BalancesFit}
 use Rattle.cash_ledger.specs.declared.entry.Entry.{Entry}
 
 pub balance_of-push : (account : ℕ) (entries : List Entry) (entry : Entry) → balance_of account (entries ++ entry ∷ []) ≡ balance_of account entries +ℤ share account entry
@@ -31,6 +30,5 @@ balance_size account (e ∷ entries) all =
     let r = balance_size account entries all.1 in
     (omega (arith, ints, s.0, s.1, r.0, r.1), omega (arith, ints, s.0, s.1, r.0, r.1))
 
--- a balance and an amount that a call is told, and their sum as it is told again
-pub told_sum : (balance amount sum : ℤ) → FitsSigned w128 balance → FitsSigned w128 amount → FitsSigned w128 sum → sum ≡ to_z w128 (of_z w128 balance) +ℤ to_z w128 (of_z w128 amount) → to_z w128 (of_z w128 sum) ≡ balance +ℤ amount
-told_sum balance amount sum fits fits_amount fits_sum is = to_z-of_z w128 sum fits_sum ∙ is ∙ ap₂ (λ x y. x +ℤ y) (to_z-of_z w128 balance fits) (to_z-of_z w128 amount fits_amount)
+pub balances_fit : BalancesFit
+balances_fit account entries all few = let r = balance_size account entries all in omega (arith, ints, r.0, r.1)

@@ -1,3 +1,4 @@
 pub mod Balances
 pub mod BehindHouse
 pub mod KeptTotals
+pub mod Reserves

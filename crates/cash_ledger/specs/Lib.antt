@@ -1,3 +1,5 @@
 pub mod Entries
 pub mod Kept
+pub mod Laws
 pub mod Ledger
+pub mod Refusals

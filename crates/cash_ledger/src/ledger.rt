@@ -1,10 +1,10 @@
-ghost use Rattle.std.specs.Prelude.{◌≡◌, ◌+◌, ◌-◌, ◌≤◌, ◌<◌, ◌↔◌, ◌++◌, [], ◌∷◌, true, false, pos, neg_ℤ, ◌+ℤ◌, ◌≢◌, length, FitsSigned, IfOk, OnOk, OnErr, IsErrOf, IfErr};
-ghost use Rattle.std.specs.Int.{w128};
-ghost use Rattle.cash_ledger.specs.declared.limits.TheConstants.{MAX_ACCOUNT, MAX_ACCOUNTS, MAX_AMOUNT, MAX_MOVE};
+ghost use Rattle.std.specs.Prelude.{◌≡◌, ℕ, ◌+◌, ◌-◌, ◌≤◌, ◌<◌, ◌^◌, ◌++◌, [], ◌∷◌, true, pos, neg_ℤ, ◌≢◌, length, Some, None, Err, if◌then◌else◌, IfOk, OnOk, OnErr, IfErr};
+ghost use Rattle.cash_ledger.specs.declared.limits.TheConstants.{MAX_ACCOUNT, MAX_ACCOUNTS, MAX_AMOUNT, MAX_MOVE, MAX_RESERVE, MAX_RESERVED};
 ghost use Rattle.cash_ledger.specs.declared.entry.Cause.TheVariants as cause;
-ghost use Rattle.cash_ledger.specs.declared.ledger.LedgerRefusal.TheVariants.{Memory};
-ghost use Rattle.cash_ledger.specs.Entries.{balance_of, IsBounded};
-ghost use Rattle.cash_ledger.specs.Ledger.{LedgerState, is_open, balance_in, with_entry};
+ghost use Rattle.cash_ledger.specs.declared.ledger.LedgerRefusal.TheVariants as LedgerRefusal;
+ghost use Rattle.cash_ledger.specs.Entries.{balance_of, IsBounded, AreBounded};
+ghost use Rattle.cash_ledger.specs.Ledger.{is_open, balance_in, reserved_of, free_of, KeepsReserves, SetsReserve};
+ghost use Rattle.cash_ledger.specs.Refusals.{refusal_in, open_refusal, account_refusal, funds_refusal};
 
 use crate::accounts::Accounts;
 use crate::entry::{Cause, Entry};
@@ -20,6 +20,8 @@ pub enum LedgerRefusal {
     NoAccount,
     #[error("the account is open already")]
     AccountExists,
+    #[error("the account has less than the amount that is not reserved")]
+    Funds,
     #[error("there are too many accounts")]
     TooMany,
     #[error("out of memory")]
@@ -27,22 +29,14 @@ pub enum LedgerRefusal {
 }
 
 impl From<AllocError> for LedgerRefusal {
-    ghost from_gives = { λ _ e. e ≡ Memory };
+    ghost from_gives = { λ _ e. e ≡ LedgerRefusal.Memory };
 
     fn from(_: AllocError) -> Self {
         LedgerRefusal::Memory
     }
 }
 
-// A balance and an amount more.
-fn sum(balance: i128, amount: i128) -> i128
-    requires { FitsSigned w128 (balance +ℤ amount) }
-    ensures { result ≡ balance +ℤ amount }
-{
-    balance + amount
-}
-
-/// The open accounts and the entries, with the total of each account kept beside them.
+/// The open accounts and the entries; with the total and the reserve of each account kept beside them.
 #[derive(Drop)]
 pub struct Ledger {
     accounts: Accounts,
@@ -53,13 +47,14 @@ impl Model for Ledger {
     ghost use Rattle.std.specs.Prelude.{◌-◌, nat_eq, vec_capacity, vec_len};
     ghost use Rattle.std.specs.Map.{lookup, keys_of};
     ghost use Rattle.cash_ledger.specs.Ledger.{LedgerState};
-    ghost use Rattle.cash_ledger.specs.Kept.{AreKept};
+    ghost use Rattle.cash_ledger.specs.Kept.{AreKept, reserves_in};
 
     ghost Value = { LedgerState };
 
     ghost view = { λ s. record {
       accounts = keys_of s.accounts;
       entries = s.entries.items;
+      reserves = reserves_in s.accounts;
       spare = vec_capacity s.entries - vec_len s.entries;
     } };
 
@@ -71,6 +66,7 @@ impl Ledger {
     pub fn new(alloc: Global) -> Self
         ensures accounts { result.accounts ≡ 0 ∷ [] }
         ensures entries { result.entries ≡ [] }
+        ensures reserves { (q : ℕ) → reserved_of result q ≡ 0 }
     {
         Ledger {
             accounts: Accounts::new(alloc),
@@ -82,25 +78,57 @@ impl Ledger {
     ///
     /// `None` where the account is not open. Takes no memory.
     pub fn balance(&self, account: u32) -> Option<i128>
-        ensures { result ≡ balance_in self.now.accounts self.now.entries account }
+        ensures value { result ≡ balance_in self.now.accounts self.now.entries account }
+        ensures bounded { AreBounded self.now.entries }
+        ensures few { length self.now.entries < 2 ^ 64 }
     {
-        self.accounts.total(account)
+        Some(self.accounts.holding(account)?.total)
     }
 
-    /// Opens an account with balance 0.
+    /// What is reserved of the balance of an open account, in ticks.
+    ///
+    /// `None` where the account is not open. Takes no memory.
+    pub fn reserved(&self, account: u32) -> Option<i128>
+        ensures { result ≡ (if is_open self.now.accounts account then Some (pos (reserved_of self.now account)) else None) }
+    {
+        Some(self.accounts.holding(account)?.reserved as i128)
+    }
+
+    // What an open account may still pay, in ticks.
+    fn free(&self, account: u32) -> Option<i128>
+        ensures { result ≡ (if is_open self.now.accounts account then Some (free_of self.now account) else None) }
+    {
+        Some(self.accounts.holding(account)?.free())
+    }
+
+    // Looks whether an account is open and may still pay an amount.
+    fn check_funds(&self, account: u32, amount: u64) -> Result<(), LedgerRefusal>
+        ensures refused { refusal_in result ≡ funds_refusal self.now account amount }
+        ensures no_memory { result ≢ Err LedgerRefusal.Memory }
+    {
+        let free = self.free(account).ok_or(LedgerRefusal::NoAccount)?;
+        if free < i128::from(amount) {
+            return Err(LedgerRefusal::Funds);
+        }
+        Ok(())
+    }
+
+    /// Opens an account with balance 0, of which nothing is reserved.
     ///
     /// `AccountExists` where it is open, and else `TooMany` where 10,000 accounts are open.
     pub fn open(&mut self, account: u32) -> Result<(), LedgerRefusal>
         requires some { 1 ≤ account }
         requires within { account ≤ MAX_ACCOUNT }
-        ensures ok { OnOk result (self.new ≡ record self.old { accounts = self.old.accounts ++ account ∷ [] }) }
-        ensures exists { IsErrOf result LedgerRefusal.AccountExists ↔ (is_open self.old.accounts account ≡ true) }
-        ensures too_many { IsErrOf result LedgerRefusal.TooMany ↔
-            (is_open self.old.accounts account ≡ false) × (MAX_ACCOUNTS < length self.old.accounts) }
-        ensures no_other { IsErrOf result LedgerRefusal.NoAccount → ⊥ }
+        ensures accounts { OnOk result (self.new.accounts ≡ self.old.accounts ++ account ∷ []) }
+        ensures balance { OnOk result (balance_of account self.new.entries ≡ pos 0) }
+        ensures reserved { OnOk result (reserved_of self.new account ≡ 0) }
+        ensures entries { self.new.entries ≡ self.old.entries }
+        ensures reserves { KeepsReserves self.old self.new }
+        ensures spare { self.new.spare ≡ self.old.spare }
+        ensures refused { refusal_in result ≡ open_refusal self.old account }
         ensures err { OnErr result (self.new ≡ self.old) }
     {
-        if self.accounts.total(account).is_some() {
+        if self.accounts.holding(account).is_some() {
             return Err(LedgerRefusal::AccountExists);
         }
         if self.accounts.len() >= MAX_ACCOUNTS {
@@ -115,6 +143,7 @@ impl Ledger {
         ensures ok { OnOk result (entries ≤ self.new.spare) }
         ensures accounts { self.new.accounts ≡ self.old.accounts }
         ensures entries { self.new.entries ≡ self.old.entries }
+        ensures reserves { KeepsReserves self.old self.new }
         ensures only { IfErr result (λ refusal. refusal ≡ LedgerRefusal.Memory) }
         ensures err { OnErr result (self.new ≡ self.old) }
     {
@@ -127,11 +156,30 @@ impl Ledger {
         requires open { is_open self.old.accounts entry.account ≡ true }
         requires room { 1 ≤ self.old.spare }
         requires bounded { IsBounded entry }
-        ensures { self.new ≡ with_entry self.old entry }
+        ensures accounts { self.new.accounts ≡ self.old.accounts }
+        ensures entries { self.new.entries ≡ self.old.entries ++ entry ∷ [] }
+        ensures reserves { KeepsReserves self.old self.new }
+        ensures spare { self.new.spare ≡ self.old.spare - 1 }
     {
-        let total = self.accounts.total(entry.account).unwrap();
+        let holding = self.accounts.holding(entry.account).unwrap();
         self.entries.push_reserved(entry);
-        self.accounts.set(entry.account, sum(total, entry.amount));
+        self.accounts.set(entry.account, holding.after(&entry));
+    }
+
+    // Adds an entry of an account that is open, and answers its new balance.
+    fn post(&mut self, entry: Entry) -> Result<i128, LedgerRefusal>
+        requires open { is_open self.old.accounts entry.account ≡ true }
+        requires bounded { IsBounded entry }
+        ensures balance { IfOk result (λ balance. balance ≡ balance_of entry.account self.new.entries) }
+        ensures accounts { self.new.accounts ≡ self.old.accounts }
+        ensures entries { OnOk result (self.new.entries ≡ self.old.entries ++ entry ∷ []) }
+        ensures reserves { KeepsReserves self.old self.new }
+        ensures only { IfErr result (λ refusal. refusal ≡ LedgerRefusal.Memory) }
+        ensures err { OnErr result (self.new ≡ self.old) }
+    {
+        self.room(1)?;
+        self.enter(entry);
+        Ok(self.balance(entry.account).unwrap())
     }
 
     /// Adds an amount to an account, and answers its new balance.
@@ -144,20 +192,77 @@ impl Ledger {
         ensures accounts { self.new.accounts ≡ self.old.accounts }
         ensures entries { OnOk result (self.new.entries
             ≡ self.old.entries ++ record { account = account; amount = pos amount; cause = cause.Deposit } ∷ []) }
-        ensures no_account { IsErrOf result LedgerRefusal.NoAccount ↔ (is_open self.old.accounts account ≡ false) }
-        ensures only { IfErr result (λ refusal. (refusal ≢ LedgerRefusal.AccountExists) × (refusal ≢ LedgerRefusal.TooMany)) }
-        ensures err { OnErr result (self.new.entries ≡ self.old.entries) }
+        ensures reserves { KeepsReserves self.old self.new }
+        ensures refused { refusal_in result ≡ account_refusal self.old account }
+        ensures err { OnErr result (self.new ≡ self.old) }
     {
         if self.balance(account).is_none() {
             return Err(LedgerRefusal::NoAccount);
         }
-        self.room(1)?;
-        self.enter(Entry {
+        self.post(Entry {
             account,
             amount: i128::from(amount),
             cause: Cause::Deposit,
-        });
-        Ok(self.balance(account).unwrap())
+        })
+    }
+
+    /// Takes an amount from an account, and answers its new balance.
+    ///
+    /// `NoAccount` where the account is not open, and else `Funds` where its balance less what is reserved is below the
+    /// amount.
+    pub fn withdraw(&mut self, account: u32, amount: u64) -> Result<i128, LedgerRefusal>
+        requires some { 1 ≤ amount }
+        requires within { amount ≤ MAX_AMOUNT }
+        ensures balance { IfOk result (λ balance. balance ≡ balance_of account self.new.entries) }
+        ensures accounts { self.new.accounts ≡ self.old.accounts }
+        ensures entries { OnOk result (self.new.entries
+            ≡ self.old.entries ++ record { account = account; amount = neg_ℤ (pos amount); cause = cause.Withdraw } ∷ []) }
+        ensures reserves { KeepsReserves self.old self.new }
+        ensures refused { refusal_in result ≡ funds_refusal self.old account amount }
+        ensures err { OnErr result (self.new ≡ self.old) }
+    {
+        self.check_funds(account, amount)?;
+        self.post(Entry {
+            account,
+            amount: -i128::from(amount),
+            cause: Cause::Withdraw,
+        })
+    }
+
+    /// Reserves an amount of an account's balance, beside what is reserved already. Takes no memory.
+    ///
+    /// `NoAccount` where the account is not open, and else `Funds` where its balance less what is reserved is below the
+    /// amount.
+    pub fn reserve(&mut self, account: u32, amount: u64) -> Result<(), LedgerRefusal>
+        requires within { amount ≤ MAX_RESERVE }
+        requires reserved { reserved_of self.old account ≤ MAX_RESERVED }
+        ensures reserves { OnOk result (SetsReserve self.old self.new account (reserved_of self.old account + amount)) }
+        ensures accounts { self.new.accounts ≡ self.old.accounts }
+        ensures entries { self.new.entries ≡ self.old.entries }
+        ensures spare { self.new.spare ≡ self.old.spare }
+        ensures refused { refusal_in result ≡ funds_refusal self.old account amount }
+        ensures no_memory { result ≢ Err LedgerRefusal.Memory }
+        ensures err { OnErr result (self.new ≡ self.old) }
+    {
+        self.check_funds(account, amount)?;
+        let holding = self.accounts.holding(account).unwrap();
+        let more = holding.reserved + u128::from(amount);
+        self.accounts.set(account, holding.reserving(more));
+        Ok(())
+    }
+
+    /// Gives an amount of an account free again. As much is reserved. Takes no memory.
+    pub fn release(&mut self, account: u32, amount: u64)
+        requires open { is_open self.old.accounts account ≡ true }
+        requires reserved { amount ≤ reserved_of self.old account }
+        ensures reserves { SetsReserve self.old self.new account (reserved_of self.old account - amount) }
+        ensures accounts { self.new.accounts ≡ self.old.accounts }
+        ensures entries { self.new.entries ≡ self.old.entries }
+        ensures spare { self.new.spare ≡ self.old.spare }
+    {
+        let holding = self.accounts.holding(account).unwrap();
+        let less = holding.reserved - u128::from(amount);
+        self.accounts.set(account, holding.reserving(less));
     }
 
     /// Moves an amount from one open account to another. There is room for two entries. Takes no memory.
@@ -170,6 +275,7 @@ impl Ledger {
             ++ record { account = from; amount = neg_ℤ (pos amount); cause = cause }
             ∷ record { account = to; amount = pos amount; cause = cause } ∷ [] }
         ensures accounts { self.new.accounts ≡ self.old.accounts }
+        ensures reserves { KeepsReserves self.old self.new }
         ensures spare { self.new.spare ≡ self.old.spare - 2 }
     {
         self.enter(Entry {

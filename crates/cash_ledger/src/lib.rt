@@ -1,11 +1,13 @@
-//! The ledger: accounts, and a list of entries whose sums are their balances.
+//! The ledger: accounts, a list of entries whose sums are their balances, and what is reserved of them.
 #![tactic(auto)]
 
 mod accounts;
 mod entry;
+mod holding;
+pub mod laws;
 mod ledger;
 mod limits;
 
 pub use entry::{Cause, Entry};
 pub use ledger::{Ledger, LedgerRefusal};
-pub use limits::{MAX_ACCOUNT, MAX_ACCOUNTS, MAX_AMOUNT, MAX_MOVE};
+pub use limits::{MAX_ACCOUNT, MAX_ACCOUNTS, MAX_AMOUNT, MAX_MOVE, MAX_RESERVE, MAX_RESERVED};

@@ -1,6 +1,8 @@
 -- The weights of an order, field by field.
-use Rattle.std.proofs.Common.{◌≡◌, ℕ, zero, suc, ◌+◌, ◌-◌, ◌≤◌, ◌<◌, List, [], ◌∷◌, ◌++◌, Bool, true, if◌then◌else◌, nat_le, length, take, drop, replicate, set, get_or, ℤ, pos, Result, Ok, Err, refl, sym, ap, subst, ◌∙◌, append_assoc, append-nil, take-append-drop, add-one, arith}
+use Rattle.std.proofs.Common.{◌≡◌, ℕ, zero, suc, ◌+◌, ◌-◌, ◌≤◌, ◌<◌, List, [], ◌∷◌, ◌++◌, Bool, true, not, Any, ◌≢◌, true≢false, if◌then◌else◌, nat_le, length, take, drop, replicate, set, get_or, ℤ, pos, Result, Ok, Err, refl, sym, ap, ap₂, subst, ◌∙◌, append_assoc, append-nil, take-append-drop, add-one, arith}
 use Rattle.std.proofs.lemmas.Bool.Decides.{nat_tests}
+use Rattle.std.proofs.lemmas.List.Folds.{Any-from_list_any}
+use Rattle.std.specs.Ordering.{int_eq}
 use Rattle.std.proofs.lemmas.List.{drop_more, drop_all, take_at, length-take-le}
 use Rattle.form.specs.declared.limits.TheConstants.{MAX_WEIGHT}
 use Rattle.form.specs.declared.orders.Side.{Side}
@@ -62,8 +64,13 @@ eight_entries entries n size few zeros =
     sym (take-append-drop n entries) ∙ ap (λ l. take n entries ++ l) (zeros ∙ sym (take_zeros (8 - n) 8 (omega arith)))
     ∙ sym (take_past (take n entries) (replicate 8 (pos 0)) 8 (8 - n) (omega (arith, length-take-le n entries (omega arith))))
 
+-- the weights stand in front of eight entries
+pub front_of_eight : (ws : List ℤ) → length ws ≤ 8 → take (length ws) (eight_of ws) ≡ ws
+front_of_eight ws few =
+    ap (take (length ws)) (take_past ws (replicate 8 (pos 0)) 8 (8 - length ws) (omega arith)) ∙ take_at ws (take (8 - length ws) (replicate 8 (pos 0))) (length ws) refl
+
 -- what is read has as many weights as fields
-counted : (texts : List (List ℕ)) (ws : List ℤ) → weights_in texts ≡ Ok ws → length ws ≡ length texts
+pub counted : (texts : List (List ℕ)) (ws : List ℤ) → weights_in texts ≡ Ok ws → length ws ≡ length texts
 counted [] ws is = let e : ws ≡ [] = cc in ap length e
 counted (field ∷ texts) ws is =
     let P : Result ℤ Refusal → Type 0 = λ r. accepted r (λ w. accepted (weights_in texts) (λ (vs : List ℤ). Ok (w ∷ vs))) ≡ Ok ws → length ws ≡ suc (length texts) in
@@ -88,12 +95,17 @@ weights_are texts entries weighted few reads is =
     ∙ (elim (weights_in texts) as P [
       | Ok ws ↦ λ here same.
           let size = counted texts ws here in
-          let front : take n entries ≡ ws =
-          ap (take n) (same ∙ take_past ws (replicate 8 (pos 0)) 8 (8 - n) (omega arith)) ∙ take_at ws (take (8 - n) (replicate 8 (pos 0))) n size in
+          let front : take n entries ≡ ws = ap₂ take (sym size) same ∙ front_of_eight ws (omega arith) in
           let tested : is_weighted ws ≡ weighted = ap is_weighted (sym front) ∙ sym is in
           (λ i. if tested i then Ok (size i, sym same i) else Err Syntax)
       | Err refusal ↦ λ here same. absurd same
     ]) refl reads
+
+-- a weight that is not 0
+pub some_weight : (weights : List ℤ) → is_weighted weights ≡ true → Any (λ w. w ≢ pos 0) weights
+some_weight weights is =
+    let found = Any-from_list_any (λ (w : ℤ). not (int_eq w (pos 0))) weights is in
+    (found.0, found.1, found.2, found.3, λ zero. absurd (true≢false (sym found.4 ∙ ap (λ w. not (int_eq w (pos 0))) zero)))
 
 pub short_offer : (texts : List (List ℕ)) → length texts < 2 → Err Syntax ≡ offer_in texts
 short_offer [] short = refl

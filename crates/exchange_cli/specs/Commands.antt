@@ -1,5 +1,5 @@
 -- What a line says: a command whose numbers are within the limits, or why the line is refused.
-use Rattle.std.specs.Prelude.{ℕ, ℤ, pos, List, [], ◌∷◌, ◌++◌, Bool, not, ◌==◌, ◌||◌, nat_le, if◌then◌else◌, codes, length, replicate, take, Result, Ok, Err}
+use Rattle.std.specs.Prelude.{ℕ, ℤ, pos, List, [], ◌∷◌, ◌++◌, Bool, not, ◌==◌, nat_le, if◌then◌else◌, codes, length, replicate, take, Result, Ok, Err}
 use Rattle.std.specs.List.{slice_split, list_any}
 use Rattle.std.specs.Ordering.{int_eq}
 use Rattle.std.specs.Str.{bytes_eq}
@@ -8,19 +8,16 @@ use Rattle.form.specs.declared.limits.TheConstants.{MAX_STRIKE, MAX_WEIGHT, MAX_
 use Rattle.form.specs.declared.orders.Side.{Side}
 use Rattle.form.specs.declared.orders.Side.TheVariants.{Buy, Sell}
 use Rattle.exchange_core.specs.declared.command.Command.{Command}
-use Rattle.exchange_core.specs.declared.command.Command.TheVariants.{Open, Deposit, Market, Trade, Clear, Balance}
+use Rattle.exchange_core.specs.declared.command.Command.TheVariants.{Open, Deposit, Withdraw, Market, Trade, Cancel, Clear, Balance}
 use Rattle.exchange_core.specs.declared.command.Kind.{Kind}
 use Rattle.exchange_core.specs.declared.command.Kind.TheVariants.{Call, Put}
 use Rattle.exchange_core.specs.declared.limits.TheConstants.{MAX_MARKET, MAX_BUDGET}
 use Rattle.exchange_core.specs.declared.refusal.Refusal.{Refusal}
 use Rattle.exchange_core.specs.declared.refusal.Refusal.TheVariants.{Syntax, NotBuilt}
+use Rattle.order_book.specs.declared.limits.TheConstants.{MAX_ACCEPTED}
 use Rattle.exchange_cli.specs.declared.trades.Offer.{Offer}
 use Rattle.exchange_cli.specs.declared.trades.Terms.{Terms}
 use Rattle.exchange_cli.specs.Numbers.{natural_in, whole_within, accepted}
-
--- the words whose commands are not built, whatever follows them
-abbrev pub is_not_built : List ℕ → Bool
-is_not_built word = bytes_eq word (codes "withdraw") || (bytes_eq word (codes "cancel") || bytes_eq word (codes "settle"))
 
 abbrev pub account_in : List ℕ → Result ℕ Refusal
 account_in field = natural_in 1 MAX_ACCOUNT field
@@ -36,15 +33,23 @@ abbrev pub open_command : List (List ℕ) → Result Command Refusal
 open_command (account ∷ []) = accepted (account_in account) (λ a. Ok (Open a))
 open_command fields = Err Syntax
 
+-- the numbers of two fields, each from 1 to its greatest
+abbrev pub two_numbers_in : ℕ → ℕ → List (List ℕ) → Result (ℕ × ℕ) Refusal
+two_numbers_in first_high second_high (first ∷ second ∷ []) =
+    accepted (natural_in 1 first_high first) (λ f. accepted (natural_in 1 second_high second) (λ s. Ok (f, s)))
+two_numbers_in first_high second_high fields = Err Syntax
+
 -- deposit,ACCOUNT,AMOUNT
 abbrev pub deposit_command : List (List ℕ) → Result Command Refusal
-deposit_command (account ∷ amount ∷ []) = accepted (account_in account) (λ a. accepted (natural_in 1 MAX_AMOUNT amount) (λ n. Ok (Deposit a n)))
-deposit_command fields = Err Syntax
+deposit_command fields = accepted (two_numbers_in MAX_ACCOUNT MAX_AMOUNT fields) (λ n. Ok (Deposit n.0 n.1))
+
+-- withdraw,ACCOUNT,AMOUNT
+abbrev pub withdraw_command : List (List ℕ) → Result Command Refusal
+withdraw_command fields = accepted (two_numbers_in MAX_ACCOUNT MAX_AMOUNT fields) (λ n. Ok (Withdraw n.0 n.1))
 
 -- market,MARKET,N
 abbrev pub market_command : List (List ℕ) → Result Command Refusal
-market_command (market ∷ underlyings ∷ []) = accepted (market_in market) (λ m. accepted (natural_in 1 8 underlyings) (λ n. Ok (Market m n)))
-market_command fields = Err Syntax
+market_command fields = accepted (two_numbers_in MAX_MARKET 8 fields) (λ n. Ok (Market n.0 n.1))
 
 -- the whole numbers of fields
 abbrev pub weights_in : List (List ℕ) → Result (List ℤ) Refusal
@@ -84,26 +89,31 @@ trade_command side (account ∷ market ∷ offer) =
     Ok (Trade side a m o.kind o.strike o.terms.price o.terms.quantity o.terms.count o.terms.weights))))
 trade_command side fields = Err Syntax
 
+-- cancel,ACCOUNT,ORDER
+abbrev pub cancel_command : List (List ℕ) → Result Command Refusal
+cancel_command fields = accepted (two_numbers_in MAX_ACCOUNT MAX_ACCEPTED fields) (λ n. Ok (Cancel n.0 n.1))
+
 -- clear,MARKET,BUDGET
 abbrev pub clear_command : List (List ℕ) → Result Command Refusal
-clear_command (market ∷ budget ∷ []) = accepted (market_in market) (λ m. accepted (natural_in 1 MAX_BUDGET budget) (λ b. Ok (Clear m b)))
-clear_command fields = Err Syntax
+clear_command fields = accepted (two_numbers_in MAX_MARKET MAX_BUDGET fields) (λ n. Ok (Clear n.0 n.1))
 
 -- balance,ACCOUNT
 abbrev pub balance_command : List (List ℕ) → Result Command Refusal
 balance_command (account ∷ []) = accepted (natural_in 0 MAX_ACCOUNT account) (λ a. Ok (Balance a))
 balance_command fields = Err Syntax
 
--- the word of a line is its first field
+-- the word of a line is its first field; what follows the word of a command that is not built is not looked at
 abbrev pub command_of_fields : List (List ℕ) → Result Command Refusal
 command_of_fields [] = Err Syntax
 command_of_fields (word ∷ fields) =
-    if is_not_built word then Err NotBuilt
+    if bytes_eq word (codes "settle") then Err NotBuilt
     else if bytes_eq word (codes "open") then open_command fields
     else if bytes_eq word (codes "deposit") then deposit_command fields
+    else if bytes_eq word (codes "withdraw") then withdraw_command fields
     else if bytes_eq word (codes "market") then market_command fields
     else if bytes_eq word (codes "buy") then trade_command Buy fields
     else if bytes_eq word (codes "sell") then trade_command Sell fields
+    else if bytes_eq word (codes "cancel") then cancel_command fields
     else if bytes_eq word (codes "clear") then clear_command fields
     else if bytes_eq word (codes "balance") then balance_command fields
     else Err Syntax

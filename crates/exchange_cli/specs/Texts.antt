@@ -6,19 +6,40 @@ use Rattle.form.specs.declared.orders.Order.{Order}
 use Rattle.form.specs.declared.orders.Side.{Side}
 use Rattle.form.specs.declared.orders.Side.TheVariants.{Buy, Sell}
 use Rattle.form.specs.Payoff.{option_of}
+use Rattle.exact_num.specs.Fraction.{Fraction}
+use Rattle.frac.specs.declared.bits128.Frac128.{Frac128}
+use Rattle.frac.specs.Value.{fraction_of}
+use Rattle.cert_check.specs.declared.outcome.Mark.{Mark}
+use Rattle.cert_check.specs.declared.outcome.Mark.TheVariants as mark
+use Rattle.cert_check.specs.declared.outcome.Outcome.{Outcome}
 use Rattle.exchange_core.specs.declared.reply.Reply.{Reply}
-use Rattle.exchange_core.specs.declared.reply.Reply.TheVariants.{Opened, Deposited, Listed, Placed, Cleared, Balance, Refused}
+use Rattle.exchange_core.specs.declared.reply.Reply.TheVariants.{Opened, Deposited, Withdrawn, Listed, Placed, Cancelled, Cleared, Balance, Refused}
 
--- the name of a refusal
-abbrev pub reason_text : ℕ → List ℕ
-reason_text number = if number == 1 then codes "Syntax" else codes "NotBuilt"
+-- the name of the refusal of a number
+unfoldable pub reason_text : ℕ → List ℕ
+reason_text number =
+    if number == 1 then codes "Syntax"
+    else if number == 2 then codes "NoAccount"
+    else if number == 3 then codes "AccountExists"
+    else if number == 4 then codes "NoMarket"
+    else if number == 5 then codes "MarketExists"
+    else if number == 6 then codes "Settled"
+    else if number == 7 then codes "WeightCount"
+    else if number == 9 then codes "Funds"
+    else if number == 10 then codes "BookFull"
+    else if number == 11 then codes "NoOrder"
+    else if number == 12 then codes "NotOwner"
+    else if number == 13 then codes "TooMany"
+    else codes "NotBuilt"
 
 abbrev pub opened_text : ℕ → ℕ → List ℕ
 opened_text line account = codes "{\"account\":" ++ (decimal account ++ (codes ",\"line\":" ++ (decimal line ++ codes ",\"reply\":\"opened\"}")))
 
-abbrev pub deposited_text : ℕ → ℕ → ℤ → List ℕ
-deposited_text line account balance =
-    codes "{\"account\":" ++ (decimal account ++ (codes ",\"balance\":\"" ++ (signed_decimal balance ++ (codes "\",\"line\":" ++ (decimal line ++ codes ",\"reply\":\"deposited\"}")))))
+-- an account's new balance, under the word of the reply
+abbrev pub moved_text : List ℕ → ℕ → ℕ → ℤ → List ℕ
+moved_text reply line account balance =
+    codes "{\"account\":" ++ (decimal account ++ (codes ",\"balance\":\"" ++ (signed_decimal balance ++ (codes "\",\"line\":" ++ (decimal line
+    ++ (codes ",\"reply\":\"" ++ (reply ++ codes "\"}")))))))
 
 abbrev pub balance_text : ℕ → ℕ → ℤ → ℤ → List ℕ
 balance_text line account balance reserved =
@@ -29,8 +50,10 @@ abbrev pub listed_text : ℕ → ℕ → ℕ → List ℕ
 listed_text line market underlyings =
     codes "{\"line\":" ++ (decimal line ++ (codes ",\"market\":" ++ (decimal market ++ (codes ",\"reply\":\"listed\",\"underlyings\":" ++ (decimal underlyings ++ codes "}")))))
 
-abbrev pub placed_text : ℕ → ℕ → List ℕ
-placed_text line order = codes "{\"line\":" ++ (decimal line ++ (codes ",\"order\":" ++ (decimal order ++ codes ",\"reply\":\"placed\"}")))
+-- what became of an order, under the word of the reply
+abbrev pub ordered_text : List ℕ → ℕ → ℕ → List ℕ
+ordered_text reply line order =
+    codes "{\"line\":" ++ (decimal line ++ (codes ",\"order\":" ++ (decimal order ++ (codes ",\"reply\":\"" ++ (reply ++ codes "\"}")))))
 
 -- a text with one piece more, after a comma where something stands before it
 abbrev pub with_piece : List ℕ → List ℕ → List ℕ
@@ -41,10 +64,15 @@ with_piece (b ∷ bs) piece = (b ∷ bs) ++ 44 ∷ piece
 abbrev pub with_commas : List (List ℕ) → List ℕ
 with_commas pieces = fold with_piece [] pieces
 
-abbrev pub fill_text : ℕ → List ℕ
-fill_text fill = codes "\"" ++ (decimal fill ++ codes "\"")
+-- a whole number, or the numerator over the denominator
+abbrev pub fraction_text : Fraction → List ℕ
+fraction_text x =
+    if x.denominator == 1 then signed_decimal x.numerator else signed_decimal x.numerator ++ (codes "/" ++ decimal x.denominator)
 
-abbrev pub fills_text : List ℕ → List ℕ
+abbrev pub fill_text : Frac128 → List ℕ
+fill_text fill = codes "\"" ++ (fraction_text (fraction_of fill) ++ codes "\"")
+
+abbrev pub fills_text : List Frac128 → List ℕ
 fills_text fills = with_commas (map fill_text fills)
 
 abbrev pub side_text : Side → List ℕ
@@ -70,26 +98,34 @@ order_text order = order_head order ++ order_tail order
 abbrev pub orders_text : List Order → List ℕ
 orders_text orders = with_commas (map order_text orders)
 
+-- whether the surplus is proved the greatest, or what the run stopped at
+abbrev pub mark_text : Mark → List ℕ
+mark_text (mark.Optimal cover measure) = codes "optimal"
+mark_text (mark.Wide w) = codes "wide"
+mark_text mark.Budget = codes "budget"
+
 -- a cleared batch up to its fills
-abbrev pub cleared_head : ℕ → List ℕ → List ℕ
+abbrev pub cleared_head : ℕ → List Frac128 → List ℕ
 cleared_head number fills = codes "{\"batch\":" ++ (decimal number ++ (codes ",\"fills\":[" ++ (fills_text fills ++ codes "]")))
 
--- the mark of a batch that is matched option by option, whose liability is 0
-abbrev pub mark_text : ℕ → ℕ → List ℕ
-mark_text line market =
-    codes ",\"liability\":\"0\",\"line\":" ++ (decimal line ++ (codes ",\"mark\":\"each\",\"market\":" ++ decimal market))
+-- what the house can owe, and by which run the batch was cleared
+abbrev pub cleared_by : ℕ → ℕ → Outcome → List ℕ
+cleared_by line market outcome =
+    codes ",\"liability\":\"" ++ (fraction_text (fraction_of outcome.claim.liability) ++ (codes "\",\"line\":" ++ (decimal line
+    ++ (codes ",\"mark\":\"" ++ (mark_text outcome.mark ++ (codes "\",\"market\":" ++ decimal market))))))
 
 abbrev pub book_text : List Order → List ℕ
 book_text orders = codes ",\"orders\":[" ++ (orders_text orders ++ codes "],\"reply\":\"cleared\"")
 
--- the surplus, and the 0 units of a solver that was not asked
-abbrev pub cleared_tail : ℕ → ℤ → List ℕ
-cleared_tail underlyings surplus =
-    codes ",\"surplus\":\"" ++ (signed_decimal surplus ++ (codes "\",\"underlyings\":" ++ (decimal underlyings ++ codes ",\"units\":0,\"version\":1}")))
+-- what is left to the house at every settlement, and the work of the run
+abbrev pub cleared_tail : ℕ → Outcome → List ℕ
+cleared_tail underlyings outcome =
+    codes ",\"surplus\":\"" ++ (fraction_text (fraction_of outcome.claim.surplus) ++ (codes "\",\"underlyings\":" ++ (decimal underlyings
+    ++ (codes ",\"units\":" ++ (decimal outcome.units ++ codes ",\"version\":1}")))))
 
-abbrev pub cleared_text : ℕ → ℕ → ℕ → Batch → List ℕ → ℤ → List ℕ
-cleared_text line number market batch fills surplus =
-    ((cleared_head number fills ++ mark_text line market) ++ book_text batch.orders) ++ cleared_tail batch.underlyings surplus
+abbrev pub cleared_text : ℕ → ℕ → ℕ → Batch → Outcome → List ℕ
+cleared_text line number market batch outcome =
+    ((cleared_head number outcome.fills ++ cleared_by line market outcome) ++ book_text batch.orders) ++ cleared_tail batch.underlyings outcome
 
 abbrev pub refused_text : ℕ → ℕ → List ℕ
 refused_text line number =
@@ -98,9 +134,11 @@ refused_text line number =
 -- the reply line of a command line, without its line feed
 abbrev pub reply_text : ℕ → Reply → List ℕ
 reply_text line (Opened account) = opened_text line account
-reply_text line (Deposited account balance) = deposited_text line account balance
+reply_text line (Deposited account balance) = moved_text (codes "deposited") line account balance
+reply_text line (Withdrawn account balance) = moved_text (codes "withdrawn") line account balance
 reply_text line (Listed market underlyings) = listed_text line market underlyings
-reply_text line (Placed order) = placed_text line order
-reply_text line (Cleared number market batch fills surplus) = cleared_text line number market batch fills surplus
+reply_text line (Placed order) = ordered_text (codes "placed") line order
+reply_text line (Cancelled order) = ordered_text (codes "cancelled") line order
+reply_text line (Cleared number market batch outcome) = cleared_text line number market batch outcome
 reply_text line (Balance account balance reserved) = balance_text line account balance reserved
 reply_text line (Refused number field) = refused_text line number

@@ -2,10 +2,13 @@
 ghost use Rattle.std.specs.Prelude.{◌≡◌, map, fold, IfOk, OnOk, string_bytes};
 ghost use Rattle.std.specs.Fmt.{signed_decimal};
 ghost use Rattle.form.specs.Payoff.{option_of};
-ghost use Rattle.exchange_cli.specs.Texts.{with_piece, with_commas, fill_text, fills_text, side_text, option_text, order_head, order_tail, order_text, orders_text, book_text, cleared_head, mark_text, cleared_tail, cleared_text};
+ghost use Rattle.frac.specs.Value.{fraction_of};
+ghost use Rattle.exchange_cli.specs.Texts.{with_piece, with_commas, fraction_text, fill_text, fills_text, side_text, option_text, order_head, order_tail, order_text, orders_text, book_text, mark_text, cleared_head, cleared_by, cleared_tail, cleared_text};
 
-use exchange_core::Fills;
+use cert_check::{Mark, Outcome};
+use exact_num::Exact;
 use form::{Batch, Form, Order, Side};
+use frac::Frac128;
 use std::alloc::{AllocError, Global};
 
 // Appends a piece, after a comma where something stands before it.
@@ -18,13 +21,27 @@ fn append(text: &mut String, piece: &str) -> Result<(), AllocError>
     text.push_str(piece)
 }
 
-fn print_fill(alloc: Global, fill: u64) -> Result<String, AllocError>
+// A whole number, or a numerator over a denominator.
+fn print_fraction(alloc: Global, value: Frac128) -> Result<String, AllocError>
+    ensures { IfOk result (λ text. string_bytes text ≡ fraction_text (fraction_of value)) }
+{
+    let (numerator, denominator) = value.parts();
+    if denominator == 1 {
+        numerator.to_string(alloc)
+    } else {
+        format!(in alloc; "{numerator}/{denominator}")
+    }
+}
+
+fn print_fill(alloc: Global, fill: Frac128) -> Result<String, AllocError>
     ensures { IfOk result (λ text. string_bytes text ≡ fill_text fill) }
 {
+    let fill = print_fraction(alloc, fill)?;
+    let fill = fill.as_str();
     format!(in alloc; "\"{fill}\"")
 }
 
-fn print_fills(alloc: Global, fills: &[u64]) -> Result<String, AllocError>
+fn print_fills(alloc: Global, fills: &[Frac128]) -> Result<String, AllocError>
     ensures { IfOk result (λ text. string_bytes text ≡ fills_text fills.now) }
 {
     let mut text = String::new(alloc);
@@ -96,7 +113,7 @@ fn print_orders(alloc: Global, orders: &[Order]) -> Result<String, AllocError>
     Ok(text)
 }
 
-fn print_head(alloc: Global, number: u32, fills: &[u64]) -> Result<String, AllocError>
+fn print_head(alloc: Global, number: u32, fills: &[Frac128]) -> Result<String, AllocError>
     ensures { IfOk result (λ text. string_bytes text ≡ cleared_head number fills.now) }
 {
     let fills = print_fills(alloc, fills)?;
@@ -104,10 +121,30 @@ fn print_head(alloc: Global, number: u32, fills: &[u64]) -> Result<String, Alloc
     format!(in alloc; "{{\"batch\":{number},\"fills\":[{fills}]")
 }
 
-fn print_mark(alloc: Global, line: usize, market: u32) -> Result<String, AllocError>
-    ensures { IfOk result (λ text. string_bytes text ≡ mark_text line market) }
+fn mark(mark: &Mark) -> &'static str
+    ensures { result.now ≡ mark_text mark.now }
 {
-    format!(in alloc; ",\"liability\":\"0\",\"line\":{line},\"mark\":\"each\",\"market\":{market}")
+    match mark {
+        Mark::Optimal { .. } => "optimal",
+        Mark::Wide(_) => "wide",
+        Mark::Budget => "budget",
+    }
+}
+
+fn print_by(
+    alloc: Global,
+    line: usize,
+    market: u32,
+    outcome: &Outcome,
+) -> Result<String, AllocError>
+    ensures { IfOk result (λ text. string_bytes text ≡ cleared_by line market outcome.now) }
+{
+    let liability = print_fraction(alloc, outcome.claim.liability)?;
+    let liability = liability.as_str();
+    let mark = mark(&outcome.mark);
+    format!(in alloc;
+        ",\"liability\":\"{liability}\",\"line\":{line},\"mark\":\"{mark}\",\"market\":{market}"
+    )
 }
 
 fn print_book(alloc: Global, orders: &[Order]) -> Result<String, AllocError>
@@ -118,29 +155,31 @@ fn print_book(alloc: Global, orders: &[Order]) -> Result<String, AllocError>
     format!(in alloc; ",\"orders\":[{orders}],\"reply\":\"cleared\"")
 }
 
-fn print_tail(alloc: Global, underlyings: u8, surplus: i128) -> Result<String, AllocError>
-    ensures { IfOk result (λ text. string_bytes text ≡ cleared_tail underlyings surplus) }
+fn print_tail(alloc: Global, underlyings: u8, outcome: &Outcome) -> Result<String, AllocError>
+    ensures { IfOk result (λ text. string_bytes text ≡ cleared_tail underlyings outcome.now) }
 {
+    let surplus = print_fraction(alloc, outcome.claim.surplus)?;
+    let surplus = surplus.as_str();
+    let units = outcome.units;
     format!(in alloc;
-        ",\"surplus\":\"{surplus}\",\"underlyings\":{underlyings},\"units\":0,\"version\":1}}"
+        ",\"surplus\":\"{surplus}\",\"underlyings\":{underlyings},\"units\":{units},\"version\":1}}"
     )
 }
 
-// The reply line of a batch that was matched option by option, without its line feed.
+// The reply line of a cleared batch, without its line feed.
 pub(crate) fn print_cleared(
     alloc: Global,
     line: usize,
     number: u32,
     market: u32,
     batch: &Batch,
-    fills: &Fills,
-    surplus: i128,
+    outcome: &Outcome,
 ) -> Result<String, AllocError>
-    ensures { IfOk result (λ text. string_bytes text ≡ cleared_text line number market batch.now fills.now surplus) }
+    ensures { IfOk result (λ text. string_bytes text ≡ cleared_text line number market batch.now outcome.now) }
 {
-    let mut text = print_head(alloc, number, fills.as_slice())?;
-    text.push_str(&print_mark(alloc, line, market)?)?;
+    let mut text = print_head(alloc, number, outcome.fills.as_slice())?;
+    text.push_str(&print_by(alloc, line, market, outcome)?)?;
     text.push_str(&print_book(alloc, batch.orders.as_slice())?)?;
-    text.push_str(&print_tail(alloc, batch.underlyings, surplus)?)?;
+    text.push_str(&print_tail(alloc, batch.underlyings, outcome)?)?;
     Ok(text)
 }

@@ -3,20 +3,16 @@ ghost use Rattle.std.specs.Prelude.{◌≡◌, ◌≤◌, map, IfOk, OnOk};
 ghost use Rattle.cash_ledger.specs.declared.limits.TheConstants.{MAX_ACCOUNT};
 ghost use Rattle.exchange_core.specs.declared.limits.TheConstants.{MAX_MARKET};
 ghost use Rattle.exchange_core.specs.Within.{IsWithin};
-ghost use Rattle.exchange_cli.specs.Commands.{command_of, command_of_fields, open_command, deposit_command, market_command, clear_command, balance_command, is_not_built, account_in, market_in, kind_in};
+ghost use Rattle.exchange_cli.specs.Commands.{command_of, command_of_fields, open_command, deposit_command, withdraw_command, market_command, cancel_command, clear_command, balance_command, account_in, market_in, kind_in, two_numbers_in};
 
 use crate::lines::pieces;
 use crate::numbers::natural;
 use crate::trades::trade;
-use exchange_core::{Command, Kind, MAX_ACCOUNT, MAX_AMOUNT, MAX_BUDGET, MAX_MARKET, Refusal};
+use exchange_core::{
+    Command, Kind, MAX_ACCEPTED, MAX_ACCOUNT, MAX_AMOUNT, MAX_BUDGET, MAX_MARKET, Refusal,
+};
 use form::Side;
 use std::alloc::{AllocError, Global};
-
-fn is_later_command(word: &[u8]) -> bool
-    ensures { result ≡ is_not_built word.now }
-{
-    word == b"withdraw".as_slice() || word == b"cancel".as_slice() || word == b"settle".as_slice()
-}
 
 // The number of an account other than the house.
 pub(crate) fn account(field: &[u8]) -> Result<u32, Refusal>
@@ -60,43 +56,61 @@ fn open(fields: &[&[u8]]) -> Result<Command, Refusal>
     })
 }
 
+// The numbers of two fields, each from 1 to its greatest.
+fn two_numbers(fields: &[&[u8]], first_high: u32, second_high: u64) -> Result<(u32, u64), Refusal>
+    requires { second_high ≤ 1000000000000000 }
+    ensures value { result ≡ two_numbers_in first_high second_high (map (λ f. f.now) fields.now) }
+    ensures first { IfOk result (λ n. (1 ≤ n.0) × (n.0 ≤ first_high)) }
+    ensures second { IfOk result (λ n. (1 ≤ n.1) × (n.1 ≤ second_high)) }
+{
+    let [first, second] = fields else {
+        return Err(Refusal::Syntax);
+    };
+    let first = natural(first, 1, u64::from(first_high))?;
+    let second = natural(second, 1, second_high)?;
+    Ok((first as u32, second))
+}
+
 fn deposit(fields: &[&[u8]]) -> Result<Command, Refusal>
     ensures command { result ≡ deposit_command (map (λ f. f.now) fields.now) }
     ensures within { IfOk result IsWithin }
 {
-    let [number, amount] = fields else {
-        return Err(Refusal::Syntax);
-    };
-    Ok(Command::Deposit {
-        account: account(number)?,
-        amount: natural(amount, 1, MAX_AMOUNT)?,
-    })
+    let (account, amount) = two_numbers(fields, MAX_ACCOUNT, MAX_AMOUNT)?;
+    Ok(Command::Deposit { account, amount })
+}
+
+fn withdraw(fields: &[&[u8]]) -> Result<Command, Refusal>
+    ensures command { result ≡ withdraw_command (map (λ f. f.now) fields.now) }
+    ensures within { IfOk result IsWithin }
+{
+    let (account, amount) = two_numbers(fields, MAX_ACCOUNT, MAX_AMOUNT)?;
+    Ok(Command::Withdraw { account, amount })
 }
 
 fn list(fields: &[&[u8]]) -> Result<Command, Refusal>
     ensures command { result ≡ market_command (map (λ f. f.now) fields.now) }
     ensures within { IfOk result IsWithin }
 {
-    let [number, underlyings] = fields else {
-        return Err(Refusal::Syntax);
-    };
-    let market = market(number)?;
-    let underlyings = natural(underlyings, 1, 8)?;
+    let (market, underlyings) = two_numbers(fields, MAX_MARKET, 8)?;
     Ok(Command::Market {
         market,
         underlyings: underlyings as u8,
     })
 }
 
+fn cancel(fields: &[&[u8]]) -> Result<Command, Refusal>
+    ensures command { result ≡ cancel_command (map (λ f. f.now) fields.now) }
+    ensures within { IfOk result IsWithin }
+{
+    let (account, order) = two_numbers(fields, MAX_ACCOUNT, MAX_ACCEPTED)?;
+    Ok(Command::Cancel { account, order })
+}
+
 fn clear(fields: &[&[u8]]) -> Result<Command, Refusal>
     ensures command { result ≡ clear_command (map (λ f. f.now) fields.now) }
     ensures within { IfOk result IsWithin }
 {
-    let [number, budget] = fields else {
-        return Err(Refusal::Syntax);
-    };
-    let market = market(number)?;
-    let budget = natural(budget, 1, u64::from(MAX_BUDGET))?;
+    let (market, budget) = two_numbers(fields, MAX_MARKET, u64::from(MAX_BUDGET))?;
     Ok(Command::Clear {
         market,
         budget: budget as u32,
@@ -124,18 +138,22 @@ fn command(fields: &[&[u8]]) -> Result<Command, Refusal>
     let [word, fields @ ..] = fields else {
         return Err(Refusal::Syntax);
     };
-    if is_later_command(word) {
+    if *word == b"settle".as_slice() {
         Err(Refusal::NotBuilt)
     } else if *word == b"open".as_slice() {
         open(fields)
     } else if *word == b"deposit".as_slice() {
         deposit(fields)
+    } else if *word == b"withdraw".as_slice() {
+        withdraw(fields)
     } else if *word == b"market".as_slice() {
         list(fields)
     } else if *word == b"buy".as_slice() {
         trade(Side::Buy, fields)
     } else if *word == b"sell".as_slice() {
         trade(Side::Sell, fields)
+    } else if *word == b"cancel".as_slice() {
+        cancel(fields)
     } else if *word == b"clear".as_slice() {
         clear(fields)
     } else if *word == b"balance".as_slice() {

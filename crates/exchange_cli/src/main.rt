@@ -6,6 +6,8 @@ mod commands;
 mod lines;
 mod numbers;
 mod run;
+#[cfg(test)]
+mod sessions;
 mod status;
 #[cfg(test)]
 mod tests;

@@ -6,7 +6,7 @@ ghost use Rattle.port_io.specs.Writes.{AppendsFront};
 ghost use Rattle.exchange_core.specs.ExchangeState.{empty_exchange};
 ghost use Rattle.exchange_core.specs.Within.{IsWithin};
 ghost use Rattle.exchange_cli.specs.Output.{output, output_from, line_step, answered};
-ghost use Rattle.exchange_cli.specs.Replies.{RepliesAreCovered};
+ghost use Rattle.exchange_cli.specs.Replies.{RepliesAreCovered, OptimalIsGreatest, RepliesAreMarked};
 ghost use Rattle.exchange_cli.specs.Words.{is_run};
 ghost use Rattle.exchange_cli.specs.declared.run.RunStop.TheVariants.{OutOfMemory, SinkFailed};
 
@@ -134,6 +134,12 @@ pub fn exchange<S: Source, K: Sink>(
 
     // It is the text of the replies, and each batch that one of them clears covers its surplus at every settlement.
     ensures covered { IfSome (S.left source.old) RepliesAreCovered }
+
+    // A batch that is marked optimal has the greatest surplus of any fractional fills, and its measure proves it.
+    ensures optimal { IfSome (S.left source.old) OptimalIsGreatest }
+
+    // A batch lacks this mark only where its reference run stops, at the step or for want of the unit that the reply tells.
+    ensures marked { IfSome (S.left source.old) RepliesAreMarked }
 
     // Each other status has its cause.
     ensures read_fault { result ≡ Status.ReadFault → Rose (S.faults source.old) (S.faults source.new) }

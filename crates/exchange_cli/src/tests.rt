@@ -1,163 +1,150 @@
+use crate::sessions::SESSIONS;
 use crate::{MAX_INPUT, Status, exchange};
 use port_io::{MemSink, MemSource, SureSink, SureSource};
 use std::alloc::{AllocError, Global};
 use std::test::Fail;
 
 // The first lines of the worked batch "one option matched", and their replies.
-static ACCOUNTS: &str = "open,1\nopen,2\ndeposit,1,100\nbalance,0\n";
+static ACCOUNTS: &str = "open,1\nopen,2\ndeposit,1,100\nbalance,0";
 
-static ACCOUNTS_LINES: [&str; 4] = [
-    "{\"account\":1,\"line\":1,\"reply\":\"opened\"}\n",
-    "{\"account\":2,\"line\":2,\"reply\":\"opened\"}\n",
-    "{\"account\":1,\"balance\":\"100\",\"line\":3,\"reply\":\"deposited\"}\n",
-    "{\"account\":0,\"balance\":\"0\",\"line\":4,\"reply\":\"balance\",\"reserved\":\"0\"}\n",
-];
+static ACCOUNTS_REPLIES: &str = r#"{"account":1,"line":1,"reply":"opened"}
+{"account":2,"line":2,"reply":"opened"}
+{"account":1,"balance":"100","line":3,"reply":"deposited"}
+{"account":0,"balance":"0","line":4,"reply":"balance","reserved":"0"}
+"#;
 
-fn words(alloc: Global, texts: &[&str]) -> Result<Vec<String>, AllocError> {
-    let mut words = Vec::new(alloc);
-    for text in texts {
-        words.push(String::from_str(alloc, text)?)?;
+// Carriage returns, a byte order mark, an empty line, and a last line without its line feed.
+static ENDS: &str = "open,8\r\n\u{feff}open,9\nopen,9\r\r\n\r\nopen,9";
+
+static ENDS_REPLIES: &str = r#"{"account":8,"line":1,"reply":"opened"}
+{"line":2,"number":1,"reason":"Syntax","reply":"refused"}
+{"line":3,"number":1,"reason":"Syntax","reply":"refused"}
+{"account":9,"line":5,"reply":"opened"}
+"#;
+
+// Runs the program on its words, apart by blanks, and an input. Of the reads and of the writes, the one of this number
+// fails; of number 0, none.
+fn run(
+    alloc: Global,
+    words: &str,
+    input: &[u8],
+    read: u32,
+    write: u32,
+) -> Result<(Status, MemSink), AllocError> {
+    let mut texts = Vec::new(alloc);
+    for word in words.split_whitespace() {
+        texts.push(String::from_str(alloc, word)?)?;
     }
-    Ok(words)
+    let mut source = MemSource::new(input.to_vec(alloc)?, 10, vec![in alloc; read]?);
+    let mut sink = MemSink::new(alloc, 1_000_000, 1000, vec![in alloc; write]?)?;
+    let status = exchange(alloc, &texts, &mut source, &mut sink);
+    Ok((status, sink))
 }
 
-// The first lines of the replies, joined.
-fn joined(alloc: Global, lines: &[&str]) -> Result<String, AllocError> {
-    let mut text = String::new(alloc);
-    for line in lines {
-        text.push_str(line)?;
+// The command lines of a session, and its reply lines.
+fn session(alloc: Global, text: &str) -> Result<(String, String), AllocError> {
+    let mut input = String::new(alloc);
+    let mut output = String::new(alloc);
+    for line in text.split_inclusive('\n') {
+        match line.strip_prefix("= ") {
+            Some(reply) => output.push_str(reply)?,
+            None => input.push_str(line)?,
+        }
     }
-    Ok(text)
+    Ok((input, output))
 }
 
 #[test]
-fn inputs_give_their_replies(rt: HostRuntime) -> Result<(), Fail> {
+fn sessions_give_their_replies(rt: HostRuntime) -> Result<(), Fail> {
     let alloc = rt.alloc();
-    let run = words(alloc, &["run"])?;
-    let syntax = "{\"line\":1,\"number\":1,\"reason\":\"Syntax\",\"reply\":\"refused\"}\n";
-    let not_built = "{\"line\":1,\"number\":90,\"reason\":\"NotBuilt\",\"reply\":\"refused\"}\n";
-    let opened = "{\"account\":7,\"line\":1,\"reply\":\"opened\"}\n";
-    let third = "{\"account\":7,\"line\":3,\"reply\":\"opened\"}\n";
-    let twice =
-        "{\"account\":7,\"line\":1,\"reply\":\"opened\"}\n{\"line\":3,\"number\":90,\"reason\":\"NotBuilt\",\"reply\":\"refused\"}\n";
-    let cases = [
-        ("", ""),
-        ("\n\r\n", ""),
-        ("open,7", opened),
-        ("open,7\n\nopen,7\n", twice),
-        ("open,7\r\n", opened),
-        ("\n\r\nopen,7", third),
-        ("open,07\n", syntax),
-        ("open,0\n", syntax),
-        ("open,1000000000\n", syntax),
-        ("open,7\r\r\n", syntax),
-        ("open,7,\n", syntax),
-        ("open\n", syntax),
-        ("open,\"7\"\n", syntax),
-        ("\u{feff}open,7\n", syntax),
-        ("fly,1\n", syntax),
-        (" \n", syntax),
-        ("deposit,7,1000000000000001\n", syntax),
-        ("deposit,7,1\n", not_built),
-        ("balance,7\n", not_built),
-        ("settle,\"\n", not_built),
-        ("withdraw\n", not_built),
-        ("market,1,9\n", syntax),
-        ("market,1,2\n", not_built),
-        ("buy,7,1,call,10,7,1,1\n", not_built),
-        ("buy,7,1,call,10,7,1,0\n", syntax),
-        ("buy,7,1,calls,10,7,1,1\n", syntax),
-        ("sell,7,1,put,1000000001,7,1,1\n", syntax),
-        ("sell,7,1,put,10,7,1\n", syntax),
-        ("sell,7,1,put,10,7,1,1,1,1,1,1,1,1,1,1\n", syntax),
-        ("clear,1,0\n", syntax),
-        ("clear,1,1\n", not_built),
-    ];
-    for (input, output) in cases {
-        let mut source = MemSource::new(input.as_bytes().to_vec(alloc)?, 3, Vec::new(alloc));
-        let mut sink = MemSink::new(alloc, 1000, 1000, Vec::new(alloc))?;
-        let status = exchange(alloc, &run, &mut source, &mut sink);
-        assert_eq!(rt; status, Status::Done, "at {input}");
-        assert_eq!(rt; sink.written(), output.as_bytes(), "at {input}");
+    for text in SESSIONS.split("==\n") {
+        let (input, output) = session(alloc, text)?;
+        let (status, sink) = run(alloc, "run", input.as_bytes(), 0, 0)?;
+        assert_eq!(rt; status, Status::Done, "at {text}");
+        assert_eq!(rt; sink.written(), output.as_bytes(), "at {text}");
     }
+    let (status, sink) = run(alloc, "run", ENDS.as_bytes(), 0, 0)?;
+    assert_eq!(rt; status, Status::Done);
+    assert_eq!(rt; sink.written(), ENDS_REPLIES.as_bytes());
     Ok(())
 }
 
-// A market holds 256 live orders.
-#[test]
-fn one_order_too_many_is_refused(rt: HostRuntime) -> Result<(), Fail> {
-    let alloc = rt.alloc();
-    let mut input = String::from_str(alloc, "open,1\nmarket,1,1\n")?;
-    for _ in 0..257u32 {
-        input.push_str("buy,1,1,call,10,7,1,1\n")?;
+// So many lines, each with its number between a head and a tail.
+fn numbered(alloc: Global, head: &str, tail: &str, count: u32) -> Result<String, AllocError> {
+    let mut lines = String::new(alloc);
+    for index in 0..count {
+        let number = index + 1;
+        lines.push_str(&format!(in alloc; "{head}{number}{tail}\n")?)?;
     }
-    let mut source = SureSource::new(input.as_bytes().to_vec(alloc)?);
-    let mut sink = MemSink::new(alloc, 1_000_000, 1_000_000, Vec::new(alloc))?;
-    let status = exchange(alloc, &words(alloc, &["run"])?, &mut source, &mut sink);
-    assert_eq!(rt; status, Status::Done);
-    let last =
-        "{\"line\":258,\"order\":256,\"reply\":\"placed\"}\n{\"line\":259,\"number\":90,\"reason\":\"NotBuilt\",\"reply\":\"refused\"}\n";
-    assert!(rt; sink.written().ends_with(last.as_bytes()));
+    Ok(lines)
+}
+
+// Whether these lines are the last that are written for an input.
+fn ends_with(alloc: Global, input: &str, last: &str) -> Result<bool, AllocError> {
+    let (_, sink) = run(alloc, "run", input.as_bytes(), 0, 0)?;
+    Ok(sink.written().ends_with(last.as_bytes()))
+}
+
+#[test]
+fn one_too_many_is_refused(rt: HostRuntime) -> Result<(), Fail> {
+    let alloc = rt.alloc();
+    let accounts = numbered(alloc, "open,", "", 10_001)?;
+    let last = r#"{"account":10000,"line":10000,"reply":"opened"}
+{"line":10001,"number":13,"reason":"TooMany","reply":"refused"}
+"#;
+    assert!(rt; ends_with(alloc, &accounts, last)?);
+    let markets = numbered(alloc, "market,", ",1", 65)?;
+    let last = r#"{"line":64,"market":64,"reply":"listed","underlyings":1}
+{"line":65,"number":13,"reason":"TooMany","reply":"refused"}
+"#;
+    assert!(rt; ends_with(alloc, &markets, last)?);
+    let mut orders = String::from_str(alloc, "open,1\nmarket,1,1\n")?;
+    orders.push_str(&numbered(alloc, "sell,1,1,call,10,5,1,", "", 257)?)?;
+    orders.push_str("buy,1,1,call,10,5,1,1\ncancel,1,256\nbuy,1,1,call,10,0,1,1\n")?;
+    let last = r#"{"line":258,"order":256,"reply":"placed"}
+{"line":259,"number":10,"reason":"BookFull","reply":"refused"}
+{"line":260,"number":9,"reason":"Funds","reply":"refused"}
+{"line":261,"order":256,"reply":"cancelled"}
+{"line":262,"order":257,"reply":"placed"}
+"#;
+    assert!(rt; ends_with(alloc, &orders, last)?);
     Ok(())
 }
 
 #[test]
 fn a_failed_read_writes_nothing(rt: HostRuntime) -> Result<(), Fail> {
     let alloc = rt.alloc();
-    let run = words(alloc, &["run"])?;
-    // 38 bytes in pieces of 10 take four reads, and a fifth finds the end.
-    for call in 1..7u32 {
-        let failing = vec![in alloc; call]?;
-        let mut source = MemSource::new(ACCOUNTS.as_bytes().to_vec(alloc)?, 10, failing);
-        let mut sink = MemSink::new(alloc, 1000, 1000, Vec::new(alloc))?;
-        let status = exchange(alloc, &run, &mut source, &mut sink);
-        if call < 6 {
-            assert_eq!(rt; status, Status::ReadFault, "at call {call}");
-            assert_eq!(rt; sink.written().len(), 0, "at call {call}");
-        } else {
-            assert_eq!(rt; status, Status::Done, "at call {call}");
-        }
+    // 37 bytes in pieces of 10 take four reads, and a fifth finds the end.
+    for read in 1..6u32 {
+        let (status, sink) = run(alloc, "run", ACCOUNTS.as_bytes(), read, 0)?;
+        assert_eq!(rt; status, Status::ReadFault, "at read {read}");
+        assert_eq!(rt; sink.written().len(), 0, "at read {read}");
     }
+    let (status, _) = run(alloc, "run", ACCOUNTS.as_bytes(), 6, 0)?;
+    assert_eq!(rt; status, Status::Done);
     Ok(())
 }
 
 #[test]
 fn a_failed_write_leaves_the_lines_before_it(rt: HostRuntime) -> Result<(), Fail> {
     let alloc = rt.alloc();
-    let run = words(alloc, &["run"])?;
-    for (index, _) in ACCOUNTS_LINES.iter().enumerate() {
-        let failing = vec![in alloc; index as u32 + 1]?;
-        let mut source = SureSource::new(ACCOUNTS.as_bytes().to_vec(alloc)?);
-        let mut sink = MemSink::new(alloc, 1000, 1_000_000, failing)?;
-        let status = exchange(alloc, &run, &mut source, &mut sink);
-        assert_eq!(rt; status, Status::WriteFault, "at line {index}");
-        let before = joined(alloc, &ACCOUNTS_LINES[..index])?;
-        assert_eq!(rt; sink.written(), before.as_bytes(), "at line {index}");
+    let mut before = String::new(alloc);
+    for (write, line) in (1..5u32).zip(ACCOUNTS_REPLIES.split_inclusive('\n')) {
+        let (status, sink) = run(alloc, "run", ACCOUNTS.as_bytes(), 0, write)?;
+        assert_eq!(rt; status, Status::WriteFault, "at write {write}");
+        assert_eq!(rt; sink.written(), before.as_bytes(), "at write {write}");
+        before.push_str(line)?;
     }
+    assert_eq!(rt; before.as_str(), ACCOUNTS_REPLIES);
     Ok(())
 }
 
 #[test]
 fn only_the_word_run_is_known(rt: HostRuntime) -> Result<(), Fail> {
     let alloc = rt.alloc();
-    let cases: [&[&str]; 7] = [
-        &[],
-        &["run", "now"],
-        &["Run"],
-        &["demo", "1"],
-        &["check"],
-        &["--help"],
-        &[""],
-    ];
-    for texts in cases {
-        let mut source = SureSource::new(ACCOUNTS.as_bytes().to_vec(alloc)?);
-        let status = exchange(
-            alloc,
-            &words(alloc, texts)?,
-            &mut source,
-            &mut SureSink::new(),
-        );
-        assert_eq!(rt; status, Status::Usage);
+    for words in "|run now|Run|demo 1|demo 1 0|check|--help".split('|') {
+        let (status, _) = run(alloc, words, ACCOUNTS.as_bytes(), 0, 0)?;
+        assert_eq!(rt; status, Status::Usage, "at {words}");
     }
     Ok(())
 }
@@ -165,15 +152,13 @@ fn only_the_word_run_is_known(rt: HostRuntime) -> Result<(), Fail> {
 #[test]
 fn inputs_are_read_to_the_limit(rt: HostRuntime) -> Result<(), Fail> {
     let alloc = rt.alloc();
-    let run = words(alloc, &["run"])?;
     let mut bytes = vec![in alloc; b'x'; MAX_INPUT]?;
+    let words = vec![in alloc; String::from_str(alloc, "run")?]?;
     let mut source = SureSource::new(bytes.clone()?);
-    let status = exchange(alloc, &run, &mut source, &mut SureSink::new());
+    let status = exchange(alloc, &words, &mut source, &mut SureSink::new());
     assert_eq!(rt; status, Status::Done);
     bytes.push(b'x')?;
-    let mut source = SureSource::new(bytes);
-    let mut sink = MemSink::new(alloc, 1000, 1000, Vec::new(alloc))?;
-    let status = exchange(alloc, &run, &mut source, &mut sink);
+    let (status, sink) = run(alloc, "run", &bytes, 0, 0)?;
     assert_eq!(rt; status, Status::TooLong);
     assert_eq!(rt; sink.written().len(), 0);
     Ok(())

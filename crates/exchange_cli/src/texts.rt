@@ -1,29 +1,53 @@
 // The text of a reply.
 ghost use Rattle.std.specs.Prelude.{◌≡◌, IfOk, string_bytes};
-ghost use Rattle.exchange_cli.specs.Texts.{reply_text, deposited_text, listed_text, balance_text, refused_text, reason_text};
+ghost use Rattle.exchange_cli.specs.Texts.{reply_text, moved_text, ordered_text, listed_text, balance_text, refused_text, reason_text};
 
 use crate::batches::print_cleared;
 use exchange_core::Reply;
 use std::alloc::{AllocError, Global};
 
-// The name of a refusal.
+// The name of the refusal of a number.
+#[tactic(auto, unfolding(crate::specs::Texts::reason_text))]
 fn reason(number: u32) -> &'static str
     ensures { result.now ≡ reason_text number }
 {
-    if number == 1 { "Syntax" } else { "NotBuilt" }
+    match number {
+        1 => "Syntax",
+        2 => "NoAccount",
+        3 => "AccountExists",
+        4 => "NoMarket",
+        5 => "MarketExists",
+        6 => "Settled",
+        7 => "WeightCount",
+        9 => "Funds",
+        10 => "BookFull",
+        11 => "NoOrder",
+        12 => "NotOwner",
+        13 => "TooMany",
+        _ => "NotBuilt",
+    }
 }
 
-fn print_deposited(
+// An account's new balance, under the word of the reply.
+fn print_moved(
     alloc: Global,
+    reply: &str,
     line: usize,
     account: u32,
     balance: i128,
 ) -> Result<String, AllocError>
-    ensures { IfOk result (λ text. string_bytes text ≡ deposited_text line account balance) }
+    ensures { IfOk result (λ text. string_bytes text ≡ moved_text reply.now line account balance) }
 {
     format!(in alloc;
-        "{{\"account\":{account},\"balance\":\"{balance}\",\"line\":{line},\"reply\":\"deposited\"}}"
+        "{{\"account\":{account},\"balance\":\"{balance}\",\"line\":{line},\"reply\":\"{reply}\"}}"
     )
+}
+
+// What became of an order, under the word of the reply.
+fn print_ordered(alloc: Global, reply: &str, line: usize, order: u64) -> Result<String, AllocError>
+    ensures { IfOk result (λ text. string_bytes text ≡ ordered_text reply.now line order) }
+{
+    format!(in alloc; "{{\"line\":{line},\"order\":{order},\"reply\":\"{reply}\"}}")
 }
 
 fn print_balance(
@@ -70,21 +94,24 @@ pub(crate) fn print(alloc: Global, line: usize, reply: &Reply) -> Result<String,
         Reply::Opened { account } => {
             format!(in alloc; "{{\"account\":{account},\"line\":{line},\"reply\":\"opened\"}}")
         }
-        Reply::Deposited { account, balance } => print_deposited(alloc, line, *account, *balance),
+        Reply::Deposited { account, balance } => {
+            print_moved(alloc, "deposited", line, *account, *balance)
+        }
+        Reply::Withdrawn { account, balance } => {
+            print_moved(alloc, "withdrawn", line, *account, *balance)
+        }
         Reply::Listed {
             market,
             underlyings,
         } => print_listed(alloc, line, *market, *underlyings),
-        Reply::Placed { order } => {
-            format!(in alloc; "{{\"line\":{line},\"order\":{order},\"reply\":\"placed\"}}")
-        }
+        Reply::Placed { order } => print_ordered(alloc, "placed", line, *order),
+        Reply::Cancelled { order } => print_ordered(alloc, "cancelled", line, *order),
         Reply::Cleared {
             number,
             market,
             batch,
-            fills,
-            surplus,
-        } => print_cleared(alloc, line, *number, *market, batch, fills, *surplus),
+            outcome,
+        } => print_cleared(alloc, line, *number, *market, batch, outcome),
         Reply::Balance {
             account,
             balance,

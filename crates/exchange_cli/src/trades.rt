@@ -1,7 +1,8 @@
 // The orders on the lines.
-ghost use Rattle.std.specs.Prelude.{◌≡◌, ◌≤◌, map, length, unsigned_abs, IfOk};
+ghost use Rattle.std.specs.Prelude.{◌≡◌, ◌≤◌, map, length, take, unsigned_abs, IfOk};
+ghost use Rattle.std.specs.List.{All};
 ghost use Rattle.form.specs.declared.limits.TheConstants.{MAX_WEIGHT, MAX_STRIKE, MAX_PRICE, MAX_QUANTITY};
-ghost use Rattle.exchange_core.specs.Within.{IsWithin, IsOffer};
+ghost use Rattle.exchange_core.specs.Within.{IsWithin, IsOffer, AreWeights};
 ghost use Rattle.exchange_cli.specs.Commands.{trade_command, offer_in, terms_in, eight_weights, weights_in, is_weighted};
 ghost use Rattle.exchange_cli.specs.Numbers.{whole_within};
 ghost use Rattle.exchange_cli.specs.Trades.{ReadsWeights, AreTerms};
@@ -39,7 +40,8 @@ fn weight(field: &[u8]) -> Result<i16, Refusal>
 // The whole numbers of at most eight fields; the entries past them are 0.
 fn read_entries(fields: &[&[u8]]) -> Result<[i16; 8], Refusal>
     requires { length fields.now ≤ 8 }
-    ensures { ReadsWeights (weights_in (map (λ f. f.now) fields.now)) result }
+    ensures reads { ReadsWeights (weights_in (map (λ f. f.now) fields.now)) result }
+    ensures within { IfOk result (All (λ w. unsigned_abs w ≤ MAX_WEIGHT)) }
 {
     let mut entries = [0i16; 8];
     for (place, field) in fields.iter().enumerate() {
@@ -59,6 +61,7 @@ fn are_weighted(weights: &[i16]) -> bool
 fn read_weights(fields: &[&[u8]]) -> Result<(u8, [i16; 8]), Refusal>
     ensures weights { result ≡ eight_weights (map (λ f. f.now) fields.now) }
     ensures few { IfOk result (λ w. (1 ≤ w.0) × (w.0 ≤ 8)) }
+    ensures within { IfOk result (λ w. AreWeights (take w.0 w.1)) }
 {
     if fields.len() > 8 {
         return Err(Refusal::Syntax);

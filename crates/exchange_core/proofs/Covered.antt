@@ -1,55 +1,94 @@
--- Every cleared batch of a step covers its surplus.
-use Rattle.std.proofs.Common.{Bool, true, false, not, ◌||◌, ◌+◌, [], ◌∷◌, ◌++◌, take, pos, Some, if◌then◌else◌}
-use Rattle.std.specs.Prelude.{nat_le, nat_eq}
-use Rattle.std.specs.List.{zip}
-use Rattle.cash_ledger.specs.declared.entry.Cause.TheVariants as cause
-use Rattle.cash_ledger.specs.Entries.{balance_of}
+-- What holds of each outcome holds of each batch that a step clears.
+use Rattle.std.proofs.Common.{◌≡◌, ℕ, List, ◌∷◌, [], Bool, not, nat_le, Option, None, Some, is_some, refl}
+use Rattle.std.specs.List.{All}
+use Rattle.std.specs.Option.{option_map, option_map_or}
+use Rattle.cert_check.specs.declared.outcome.Mark.{Mark}
+use Rattle.cert_check.specs.declared.outcome.Mark.TheVariants.{Optimal, Wide, Budget}
+use Rattle.cert_check.specs.declared.outcome.Outcome.{Outcome}
+use Rattle.cert_check.specs.Conditions.{IfOptimal}
+use Rattle.cert_check.specs.Laws.{IsCovered, IsMeasured, IsProved}
+use Rattle.clearing.specs.Laws as clearing
+use Rattle.clearing.specs.Outcome.{IsMarked, outcome_of}
+use Rattle.clearing.proofs.Marked.{outcomes_are_marked}
+use Rattle.clearing.proofs.Outcomes.{outcomes_are_covered, outcomes_are_measured, optimal_is_greatest}
 use Rattle.form.specs.declared.orders.Batch.{Batch}
-use Rattle.form.specs.Clearing.{premium}
-use Rattle.form.specs.FormOf.{form_of}
-use Rattle.each_match.specs.Match.{match_by_option}
-use Rattle.each_match.proofs.MatchLaws.{match_is_within, match_earns, match_covers}
-use Rattle.exchange_core.specs.declared.command.Command.TheVariants.{Open, Deposit, Market, Trade, Clear, Balance}
-use Rattle.exchange_core.specs.declared.limits.TheConstants.{MAX_BATCHES}
-use Rattle.exchange_core.specs.declared.refusal.Refusal.TheVariants.{NotBuilt}
+use Rattle.order_book.specs.declared.limits.TheConstants.{MAX_BATCHES}
+use Rattle.order_book.specs.Book.{BookState, batch_of, info_of, market_of}
+use Rattle.order_book.specs.Kept.{IsBookKept}
+use Rattle.order_book.specs.Markets.{MarketState}
+use Rattle.order_book.proofs.BookKept.{batch_within, market_kept}
+use Rattle.order_book.proofs.MarketLists.{at_found}
+use Rattle.exchange_core.specs.declared.command.Command.{Command}
+use Rattle.exchange_core.specs.declared.command.Command.TheVariants.{Open, Deposit, Withdraw, Market, Trade, Cancel, Clear, Balance as BalanceOf}
+use Rattle.exchange_core.specs.declared.refusal.Refusal.{Refusal}
+use Rattle.exchange_core.specs.declared.refusal.Refusal.TheVariants.{NoMarket, Settled, TooMany}
 use Rattle.exchange_core.specs.declared.reply.Reply.{Reply}
-use Rattle.exchange_core.specs.declared.reply.Reply.TheVariants.{Opened, Deposited, Listed, Placed, Cleared}
-use Rattle.exchange_core.specs.declared.reply.Reply.TheVariants as reply
-use Rattle.exchange_core.specs.declared.trade.NewOrder.{NewOrder}
-use Rattle.exchange_core.specs.Covered.{AreCovered, IsCovered, StepIsCovered}
-use Rattle.exchange_core.specs.ExchangeState.{ExchangeState, is_market}
-use Rattle.exchange_core.specs.Orders.{option_by, live_order}
-use Rattle.exchange_core.specs.Premiums.{premium_entries}
-use Rattle.exchange_core.specs.Step.{refused, is_not_placed}
+use Rattle.exchange_core.specs.Covered.{IfCleared, OfEachCleared, IsProvedGreatest, IsMarkedFor, StepIsCovered, StepIsMarked, StepIsOptimal, budget_of}
+use Rattle.exchange_core.specs.ExchangeState.{ExchangeState}
+use Rattle.exchange_core.specs.Kept.{IsKept, IsOnOne}
+use Rattle.exchange_core.specs.Refusals.{first_of, is_settled, refusal_of}
+use Rattle.exchange_core.specs.Step.{batch_in, effect, refused}
 
--- a refusal clears nothing
-unless_refused : (b : Bool) (state next : ExchangeState) (reply : Reply) → IsCovered reply → IsCovered ((if b then refused state NotBuilt else (reply, next)).0)
-unless_refused true state next reply h = tt
-unless_refused false state next reply h = h
+-- the refusals of a clear behind the first
+abbrev unsettled : BookState → ℕ → List (Bool × Refusal)
+unsettled book market = (is_settled book market, Settled) ∷ (nat_le MAX_BATCHES book.finished, TooMany) ∷ []
 
-else_refused : (b : Bool) (state next : ExchangeState) (reply : Reply) → IsCovered reply → IsCovered ((if b then (reply, next) else refused state NotBuilt).0)
-else_refused true state next reply h = h
-else_refused false state next reply h = tt
+-- where a clear is not refused, its market is there
+on_one : (book : BookState) → IsBookKept book → All IsOnOne book.markets → (market : ℕ) (others : List (Bool × Refusal)) (found : Option MarketState) → market_of book market ≡ found
+    → first_of ((not (is_some (option_map info_of found)), NoMarket) ∷ others) ≡ None
+    → clearing.IsOnOne (option_map_or batch_of found (record { underlyings = 0; orders = [] }))
+on_one book kept single market others None at none = cc
+on_one book kept single market others (Some m) at none =
+    (batch_within book.accepted m (market_kept book kept market m at), at_found market IsOnOne book.markets m at single)
+
+module _ (P : Batch → Outcome → Type 0) where
+  -- a refusal clears nothing
+  unless_refused : (state : ExchangeState) (refusal : Option Refusal) (accepted : Reply × ExchangeState) → (refusal ≡ None → IfCleared P accepted.0)
+      → IfCleared P (option_map_or (refused state) refusal accepted).0
+  unless_refused state None accepted h = h refl
+  unless_refused state (Some refusal) accepted h = tt
+
+module _ (P : Batch → Outcome → Type 0) (each : clearing.OfEachOutcome P) where
+  effect_has : (state : ExchangeState) (command : Command) → IsKept state → refusal_of state command ≡ None → IfCleared P (effect state command).0
+  effect_has state (Open account) kept none = tt
+  effect_has state (Deposit account amount) kept none = tt
+  effect_has state (Withdraw account amount) kept none = tt
+  effect_has state (Market market underlyings) kept none = tt
+  effect_has state (Trade side account market kind strike price quantity count weights) kept none = tt
+  effect_has state (Cancel account order) kept none = tt
+  effect_has state (Clear market budget) kept none =
+      each (batch_in state market) budget (on_one state.book kept.book kept.single market (unsettled state.book market) (market_of state.book market) refl none)
+  effect_has state (BalanceOf account) kept none = tt
+
+  pub step_has : OfEachCleared P
+  step_has state command kept = unless_refused P state (refusal_of state command) (effect state command) (effect_has state command kept)
 
 pub step_is_covered : StepIsCovered
-step_is_covered state (Open account) = unless_refused _ state (record state { accounts = state.accounts ++ account ∷ [] }) (Opened account) tt
-step_is_covered state (Deposit account amount) =
-    let entries = state.entries ++ record { account = account; amount = pos amount; cause = cause.Deposit } ∷ [] in
-    else_refused _ state (record state { entries = entries }) (Deposited account (balance_of account entries)) tt
-step_is_covered state (Market market underlyings) = unless_refused _ state (record state { market = Some market }) (Listed market underlyings) tt
-step_is_covered state (Trade side account market kind strike price quantity count weights) =
-    let order : NewOrder = record { account = account; market = market; side = side; form = form_of (option_by kind strike (take count weights)); price = price; quantity = quantity } in
-    unless_refused (is_not_placed state order count) state (record state { live = state.live ++ live_order order (state.accepted + 1) ∷ []; accepted = state.accepted + 1 }) (Placed (state.accepted + 1)) tt
-step_is_covered state (Clear market budget) =
-    let number = state.batches + 1 in
-    let fills = match_by_option state.live in
-    let surplus = premium (zip state.live fills) in
-    let batch : Batch = record { underlyings = 1; orders = state.live } in
-    let covered : AreCovered 1 state.live fills surplus = record {
-      within = match_is_within state.live;
-      covers = match_covers 1 state.live;
-      gain = match_earns state.live;
-    } in
-    unless_refused (not (is_market state.market market) || nat_le MAX_BATCHES state.batches) state
-    (record state { live = []; batches = number; entries = state.entries ++ premium_entries number state.live fills }) (Cleared number market batch fills surplus) covered
-step_is_covered state (Balance account) = else_refused (nat_eq account 0) state state (reply.Balance 0 (balance_of 0 state.entries) (pos 0)) tt
+step_is_covered = step_has IsCovered outcomes_are_covered
+
+-- the surplus is the greatest, and the measure proves it
+both : (batch : Batch) (outcome : Outcome) (mark : Mark) → IfOptimal mark (λ cover measure. IsProved batch outcome) → IfOptimal mark (λ cover measure. IsMeasured batch outcome measure)
+    → IfOptimal mark (λ cover measure. IsProved batch outcome × IsMeasured batch outcome measure)
+both batch outcome (Optimal cover measure) proved measured = (proved, measured)
+both batch outcome (Wide wide) proved measured = tt
+both batch outcome Budget proved measured = tt
+
+pub step_is_optimal : StepIsOptimal
+step_is_optimal =
+    step_has IsProvedGreatest
+    (λ batch units one. both batch (outcome_of batch units) (outcome_of batch units).mark (optimal_is_greatest batch units one) (outcomes_are_measured batch units one))
+
+-- ---- the mark
+effect_is_marked : (state : ExchangeState) (command : Command) → IsMarkedFor command (effect state command).0
+effect_is_marked state (Open account) = tt
+effect_is_marked state (Deposit account amount) = tt
+effect_is_marked state (Withdraw account amount) = tt
+effect_is_marked state (Market market underlyings) = tt
+effect_is_marked state (Trade side account market kind strike price quantity count weights) = tt
+effect_is_marked state (Cancel account order) = tt
+effect_is_marked state (Clear market budget) = outcomes_are_marked (batch_in state market) budget
+effect_is_marked state (BalanceOf account) = tt
+
+pub step_is_marked : StepIsMarked
+step_is_marked state command =
+    unless_refused (λ batch outcome. IsMarked batch (budget_of command) outcome) state (refusal_of state command) (effect state command) (λ none. effect_is_marked state command)

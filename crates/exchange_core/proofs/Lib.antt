@@ -1,2 +1,9 @@
+pub mod Batches
 pub mod Covered
-pub mod Surplus
+pub mod FirstRefusal
+pub mod Joined
+pub mod Keeping
+pub mod Listing
+pub mod LiveAccounts
+pub mod OnOne
+pub mod ReserveSums

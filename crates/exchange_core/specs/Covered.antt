@@ -1,31 +1,60 @@
 -- What the reply of a cleared batch promises.
-use Rattle.std.specs.Prelude.{ℕ, ℤ, pos, ◌≤ℤ◌, List, ⊤}
-use Rattle.std.specs.List.{zip}
-use Rattle.exact_num.specs.Fraction.{whole}
-use Rattle.form.specs.declared.orders.Order.{Order}
-use Rattle.form.specs.Clearing.{AreFills, Covers}
+use Rattle.std.specs.Prelude.{ℕ, ⊤}
+use Rattle.cert_check.specs.declared.outcome.Outcome.{Outcome}
+use Rattle.cert_check.specs.Conditions.{IfOptimal}
+use Rattle.cert_check.specs.Laws.{IsCovered, IsMeasured, IsProved}
+use Rattle.clearing.specs.Outcome.{IsMarked}
+use Rattle.form.specs.declared.orders.Batch.{Batch}
 use Rattle.exchange_core.specs.declared.command.Command.{Command}
+use Rattle.exchange_core.specs.declared.command.Command.TheVariants.{Open, Deposit, Withdraw, Market, Trade, Cancel, Clear, Balance as BalanceOf}
 use Rattle.exchange_core.specs.declared.reply.Reply.{Reply}
-use Rattle.exchange_core.specs.declared.reply.Reply.TheVariants.{Opened, Deposited, Listed, Placed, Cleared, Balance, Refused}
+use Rattle.exchange_core.specs.declared.reply.Reply.TheVariants.{Opened, Deposited, Withdrawn, Listed, Placed, Cancelled, Cleared, Balance, Refused}
 use Rattle.exchange_core.specs.ExchangeState.{ExchangeState}
+use Rattle.exchange_core.specs.Kept.{IsKept}
 use Rattle.exchange_core.specs.Step.{step}
 
--- no order is filled past its quantity, the fills cover the surplus at every settlement, and the surplus is not below 0
-pub record AreCovered (underlyings : ℕ) (orders : List Order) (fills : List ℕ) (surplus : ℤ) : Type 0 where
-  pub within : AreFills orders fills 1
-  pub covers : Covers underlyings (zip orders fills) 1 (whole surplus)
-  pub gain : pos 0 ≤ℤ surplus
+-- a fact of the batch and its outcome, where the reply clears a batch
+abbrev pub IfCleared : (Batch → Outcome → Type 0) → Reply → Type 0
+IfCleared P (Opened account) = ⊤
+IfCleared P (Deposited account balance) = ⊤
+IfCleared P (Withdrawn account balance) = ⊤
+IfCleared P (Listed market underlyings) = ⊤
+IfCleared P (Placed order) = ⊤
+IfCleared P (Cancelled order) = ⊤
+IfCleared P (Cleared number market batch outcome) = P batch outcome
+IfCleared P (Balance account balance reserved) = ⊤
+IfCleared P (Refused number field) = ⊤
 
--- a reply that clears a batch tells fills that cover its surplus
-abbrev pub IsCovered : Reply → Type 0
-IsCovered (Opened account) = ⊤
-IsCovered (Deposited account balance) = ⊤
-IsCovered (Listed market underlyings) = ⊤
-IsCovered (Placed order) = ⊤
-IsCovered (Cleared number market batch fills surplus) = AreCovered batch.underlyings batch.orders fills surplus
-IsCovered (Balance account balance reserved) = ⊤
-IsCovered (Refused number field) = ⊤
+-- a fact of each batch that a step clears, from whatever state an exchange may be in
+abbrev pub OfEachCleared : (Batch → Outcome → Type 0) → Type 0
+OfEachCleared P = (state : ExchangeState) (command : Command) → IsKept state → IfCleared P (step state command).0
 
--- every step's reply is covered
+-- the fills cover the surplus at every settlement, and it is not below 0
 abbrev pub StepIsCovered : Type 0
-StepIsCovered = (state : ExchangeState) (command : Command) → IsCovered (step state command).0
+StepIsCovered = OfEachCleared IsCovered
+
+-- with the mark optimal no fractional fills cover more, and the measure of the outcome proves it
+abbrev pub IsProvedGreatest : Batch → Outcome → Type 0
+IsProvedGreatest batch outcome = IfOptimal outcome.mark (λ cover measure. IsProved batch outcome × IsMeasured batch outcome measure)
+
+abbrev pub StepIsOptimal : Type 0
+StepIsOptimal = OfEachCleared IsProvedGreatest
+
+-- the units that a command gives a clear; other commands clear nothing
+abbrev pub budget_of : Command → ℕ
+budget_of (Open account) = 0
+budget_of (Deposit account amount) = 0
+budget_of (Withdraw account amount) = 0
+budget_of (Market market underlyings) = 0
+budget_of (Trade side account market kind strike price quantity count weights) = 0
+budget_of (Cancel account order) = 0
+budget_of (Clear market budget) = budget
+budget_of (BalanceOf account) = 0
+
+-- the mark and the units of a batch that is cleared are those of the end of the run: what it cleared, the step that did not
+-- fit, or a unit wanted beyond the budget
+abbrev pub IsMarkedFor : Command → Reply → Type 0
+IsMarkedFor command reply = IfCleared (λ batch outcome. IsMarked batch (budget_of command) outcome) reply
+
+abbrev pub StepIsMarked : Type 0
+StepIsMarked = (state : ExchangeState) (command : Command) → IsMarkedFor command (step state command).0

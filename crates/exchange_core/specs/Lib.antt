@@ -1,9 +1,15 @@
 pub mod Covered
 pub mod ExchangeState
+pub mod Holding
 pub mod Kept
+pub mod Laws
 pub mod Orders
 pub mod Premiums
 pub mod Refusal
+pub mod Refusals
 pub mod Reply
+pub mod Reserves
 pub mod Step
+pub mod Stops
 pub mod Within
+pub mod Worked

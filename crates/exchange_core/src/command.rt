@@ -19,6 +19,11 @@ pub enum Command {
         account: u32,
         amount: u64,
     },
+    /// Takes an amount, in ticks, from an account.
+    Withdraw {
+        account: u32,
+        amount: u64,
+    },
     /// Lists a market on this number of underlyings.
     Market {
         market: u32,
@@ -36,6 +41,11 @@ pub enum Command {
         quantity: u32,
         count: u8,
         weights: [i16; 8],
+    },
+    /// Takes a live order of an account out.
+    Cancel {
+        account: u32,
+        order: u64,
     },
     /// Clears the live orders of a market, with a work budget in units.
     Clear {

@@ -1,62 +1,55 @@
-ghost use Rattle.std.specs.Prelude.{◌≡◌, ◌≤◌, ◌*◌, true, length, IfOk, OnOk, OnErr, IfErr};
+ghost use Rattle.std.specs.Prelude.{◌≡◌, ◌≤◌, ◌<◌, ◌^◌, length, IfOk, OnErr};
+ghost use Rattle.cash_ledger.specs.Entries.{AreBounded};
 ghost use Rattle.cash_ledger.specs.Ledger.{balance_in};
-ghost use Rattle.cash_ledger.specs.declared.limits.TheConstants.{MAX_AMOUNT, MAX_ACCOUNT};
-ghost use Rattle.form.specs.declared.limits.TheConstants.{MAX_PRICE, MAX_QUANTITY};
-ghost use Rattle.exchange_core.specs.ExchangeState.{empty_exchange, is_market};
-ghost use Rattle.exchange_core.specs.Step.{step, opened, deposited, listed, is_not_placed, placed, cleared, told_balance};
-ghost use Rattle.exchange_core.specs.Within.{IsWithin, IsAccount};
+ghost use Rattle.clearing.specs.Outcome.{IsMarked};
+ghost use Rattle.order_book.specs.Within.{IsNewOrderWithin};
+ghost use Rattle.exchange_core.specs.declared.command.Command.TheVariants as Command;
+ghost use Rattle.exchange_core.specs.Covered.{IfCleared, IsMarkedFor};
+ghost use Rattle.exchange_core.specs.ExchangeState.{empty_exchange};
+ghost use Rattle.exchange_core.specs.Kept.{IsKept};
+ghost use Rattle.exchange_core.specs.Refusals.{refusal_of, place_refusals, clear_refusals, first_of};
+ghost use Rattle.exchange_core.specs.Step.{step, effect, placed, cleared};
+ghost use Rattle.exchange_core.specs.Stops.{refusal_in};
+ghost use Rattle.exchange_core.specs.Within.{IsWithin, IsAccount, IsAmount, IsBudget};
 
-use crate::clear::settle_premiums;
-use crate::limits::{MAX_ACCEPTED, MAX_BATCHES};
-use crate::trade::{NewOrder, option_form};
-use crate::{Command, Fills, Refusal, Reply};
+use crate::clear::clear;
+use crate::place::{cancel, place};
+use crate::stop::Stop;
+use crate::trade::option_form;
+use crate::{Command, Refusal, Reply};
 use cash_ledger::{Ledger, LedgerRefusal};
-use each_match::match_each;
-use form::{Batch, MAX_ORDERS, Order, Orders};
+use order_book::{Book, NewOrder};
 use std::alloc::{AllocError, Global};
 use std::marker::Model;
 
-/// The ledger, the market and its live orders, and how many orders were accepted and batches finished.
+/// The accounts with their balances and reserves, and the markets with their live orders.
 #[derive(Drop)]
 pub struct Exchange {
     alloc: Global,
     ledger: Ledger,
-    market: Option<u32>,
-    live: Vec<Order>,
-    accepted: u64,
-    batches: u32,
+    book: Book,
 }
 
 impl Model for Exchange {
-    ghost use Rattle.exchange_core.specs.ExchangeState.{ExchangeState};
-    ghost use Rattle.exchange_core.specs.Kept.{AreLive};
+    ghost use Rattle.exchange_core.specs.ExchangeState.{ExchangeState, state_of};
+    ghost use Rattle.exchange_core.specs.Kept.{AreJoined};
 
     ghost Value = { ExchangeState };
 
-    ghost view = { λ s. record {
-      accounts = s.ledger.accounts;
-      entries = s.ledger.entries;
-      market = s.market;
-      live = s.live.items;
-      accepted = s.accepted;
-      batches = s.batches;
-    } };
+    ghost view = { λ s. state_of s.ledger s.book };
 
-    ghost invariant = { λ s. AreLive s.ledger.accounts s.live.items };
+    ghost invariant = { λ s. AreJoined s.ledger s.book };
 }
 
 impl Exchange {
-    /// No account but the house, no entry, no market and no order.
+    /// No account but the house, no entry, no market and no order. Takes no memory.
     pub fn new(alloc: Global) -> Self
         ensures { result ≡ empty_exchange }
     {
         Exchange {
             alloc,
             ledger: Ledger::new(alloc),
-            market: None,
-            live: Vec::new(alloc),
-            accepted: 0,
-            batches: 0,
+            book: Book::new(alloc),
         }
     }
 
@@ -64,141 +57,121 @@ impl Exchange {
     ///
     /// `None` where the account is not open. Takes no memory.
     pub fn balance(&self, account: u32) -> Option<i128>
-        ensures { result ≡ balance_in self.now.accounts self.now.entries account }
+        ensures value { result ≡ balance_in self.now.accounts self.now.entries account }
+        ensures bounded { AreBounded self.now.entries }
+        ensures few { length self.now.entries < 2 ^ 64 }
+        ensures kept { IsKept self.now }
     {
         self.ledger.balance(account)
     }
 
-    fn open(&mut self, account: u32) -> Result<Reply, AllocError>
+    fn open(&mut self, account: u32) -> Result<Reply, Stop>
         requires { IsAccount account }
-        ensures ok { IfOk result (λ reply. (reply, self.new) ≡ opened self.old account) }
+        ensures refused { refusal_in result ≡ refusal_of self.old (Command.Open account) }
+        ensures ok { IfOk result (λ reply. (reply, self.new) ≡ effect self.old (Command.Open account)) }
         ensures err { OnErr result (self.new ≡ self.old) }
     {
-        match self.ledger.open(account) {
-            Ok(()) => Ok(Reply::Opened { account }),
-            Err(LedgerRefusal::Memory) => Err(AllocError),
-            Err(_) => Ok(Reply::refused(Refusal::NotBuilt)),
-        }
+        self.ledger.open(account)?;
+        Ok(Reply::Opened { account })
     }
 
-    fn deposit(&mut self, account: u32, amount: u64) -> Result<Reply, AllocError>
-        requires some { 1 ≤ amount }
-        requires within { amount ≤ MAX_AMOUNT }
-        ensures ok { IfOk result (λ reply. (reply, self.new) ≡ deposited self.old account amount) }
+    fn deposit(&mut self, account: u32, amount: u64) -> Result<Reply, Stop>
+        requires { IsAmount amount }
+        ensures refused { refusal_in result ≡ refusal_of self.old (Command.Deposit account amount) }
+        ensures ok { IfOk result (λ reply. (reply, self.new) ≡ effect self.old (Command.Deposit account amount)) }
         ensures err { OnErr result (self.new ≡ self.old) }
     {
-        match self.ledger.deposit(account, amount) {
-            Ok(balance) => Ok(Reply::Deposited { account, balance }),
-            Err(LedgerRefusal::Memory) => Err(AllocError),
-            Err(_) => Ok(Reply::refused(Refusal::NotBuilt)),
-        }
+        let balance = self.ledger.deposit(account, amount)?;
+        Ok(Reply::Deposited { account, balance })
     }
 
-    // Whether this is the number of the market.
-    fn is_listed(&self, market: u32) -> bool
-        ensures { result ≡ is_market self.now.market market }
+    fn withdraw(&mut self, account: u32, amount: u64) -> Result<Reply, Stop>
+        requires { IsAmount amount }
+        ensures refused { refusal_in result ≡ refusal_of self.old (Command.Withdraw account amount) }
+        ensures ok { IfOk result (λ reply. (reply, self.new) ≡ effect self.old (Command.Withdraw account amount)) }
+        ensures err { OnErr result (self.new ≡ self.old) }
     {
-        match self.market {
-            Some(listed) => listed == market,
-            None => false,
-        }
+        let balance = self.ledger.withdraw(account, amount)?;
+        Ok(Reply::Withdrawn { account, balance })
     }
 
-    fn list(&mut self, market: u32, underlyings: u8) -> Reply
-        ensures { (result, self.new) ≡ listed self.old market underlyings }
+    fn list(&mut self, market: u32, underlyings: u8) -> Result<Reply, Stop>
+        ensures refused { refusal_in result ≡ refusal_of self.old (Command.Market market underlyings) }
+        ensures ok { IfOk result (λ reply. (reply, self.new) ≡ effect self.old (Command.Market market underlyings)) }
+        ensures err { OnErr result (self.new ≡ self.old) }
     {
-        if self.market.is_some() || underlyings != 1 {
-            return Reply::refused(Refusal::NotBuilt);
+        self.book.check_market(market)?;
+        if underlyings != 1 {
+            return Err(Stop::Refused(Refusal::NotBuilt));
         }
-        self.market = Some(market);
-        Reply::Listed {
+        self.book.market(market, underlyings)?;
+        Ok(Reply::Listed {
             market,
             underlyings,
-        }
-    }
-
-    // Whether an order with this many weights may not be placed.
-    fn does_not_place(&self, order: &NewOrder, count: u8) -> bool
-        ensures { result ≡ is_not_placed self.now order.now count }
-    {
-        self.ledger.balance(order.account).is_none()
-            || !self.is_listed(order.market)
-            || count != 1
-            || self.live.len() >= MAX_ORDERS
-            || self.accepted >= MAX_ACCEPTED
-    }
-
-    fn place(&mut self, order: &NewOrder, count: u8) -> Result<Reply, AllocError>
-        requires price { order.now.price ≤ MAX_PRICE }
-        requires quantity { order.now.quantity ≤ MAX_QUANTITY }
-        ensures ok { IfOk result (λ reply. (reply, self.new) ≡ placed self.old order.now count) }
-        ensures err { OnErr result (self.new ≡ self.old) }
-    {
-        if self.does_not_place(order, count) {
-            return Ok(Reply::refused(Refusal::NotBuilt));
-        }
-        let number = self.accepted + 1;
-        self.live.push(order.numbered(number))?;
-        self.accepted = number;
-        Ok(Reply::Placed { order: number })
-    }
-
-    fn clear(&mut self, market: u32) -> Result<Reply, AllocError>
-        ensures ok { IfOk result (λ reply. (reply, self.new) ≡ cleared self.old market) }
-        ensures err { OnErr result (self.new ≡ self.old) }
-    {
-        if !self.is_listed(market) || self.batches >= MAX_BATCHES {
-            return Ok(Reply::refused(Refusal::NotBuilt));
-        }
-        let batch = Batch {
-            underlyings: 1,
-            orders: Orders::from_vec(Vec::from_slice(self.alloc, &self.live)?),
-        };
-        let fills = match_each(self.alloc, &batch)?;
-        if self.ledger.room(2 * self.live.len()).is_err() {
-            return Err(AllocError);
-        }
-        let number = self.batches + 1;
-        let surplus = settle_premiums(&mut self.ledger, number, &self.live, &fills);
-        self.live.clear();
-        self.batches = number;
-        Ok(Reply::Cleared {
-            number,
-            market,
-            batch,
-            fills: Fills::from_vec(fills),
-            surplus,
         })
     }
 
-    fn tell_balance(&self, account: u32) -> Reply
-        ensures { (result, self.now) ≡ told_balance self.now account }
+    fn place(&mut self, order: &NewOrder) -> Result<Reply, Stop>
+        requires { IsNewOrderWithin order.now }
+        ensures refused { refusal_in result ≡ first_of (place_refusals self.old order.now) }
+        ensures ok { IfOk result (λ reply. (reply, self.new) ≡ placed self.old order.now) }
+        ensures err { OnErr result (self.new ≡ self.old) }
     {
-        if account != 0 {
-            return Reply::refused(Refusal::NotBuilt);
-        }
-        Reply::Balance {
-            account,
-            balance: self.ledger.balance(account).unwrap(),
-            reserved: 0,
-        }
+        let order = place(&mut self.ledger, &mut self.book, order)?;
+        Ok(Reply::Placed { order })
     }
 
-    /// Carries out one command: one step of the plain exchange, and its reply.
-    ///
-    /// A command that is refused, and one that finds no memory, has changed nothing.
-    pub fn step(&mut self, command: &Command) -> Result<Reply, AllocError>
+    fn cancel(&mut self, account: u32, order: u64) -> Result<Reply, Stop>
+        ensures refused { refusal_in result ≡ refusal_of self.old (Command.Cancel account order) }
+        ensures ok { IfOk result (λ reply. (reply, self.new) ≡ effect self.old (Command.Cancel account order)) }
+        ensures err { OnErr result (self.new ≡ self.old) }
+    {
+        cancel(&mut self.ledger, &mut self.book, account, order)?;
+        Ok(Reply::Cancelled { order })
+    }
+
+    fn clear(&mut self, market: u32, budget: u32) -> Result<Reply, Stop>
+        requires { IsBudget budget }
+        ensures refused { refusal_in result ≡ first_of (clear_refusals self.old.book market) }
+        ensures ok { IfOk result (λ reply. (reply, self.new) ≡ cleared self.old market budget) }
+        ensures marked { IfOk result (IfCleared (λ batch outcome. IsMarked batch budget outcome)) }
+        ensures err { OnErr result (self.new ≡ self.old) }
+    {
+        clear(self.alloc, &mut self.ledger, &mut self.book, market, budget)
+    }
+
+    fn tell_balance(&self, account: u32) -> Result<Reply, Stop>
+        ensures refused { refusal_in result ≡ refusal_of self.now (Command.Balance account) }
+        ensures ok { IfOk result (λ reply. (reply, self.now) ≡ effect self.now (Command.Balance account)) }
+    {
+        let balance = self
+            .ledger
+            .balance(account)
+            .ok_or(LedgerRefusal::NoAccount)?;
+        let reserved = self.ledger.reserved(account).unwrap();
+        Ok(Reply::Balance {
+            account,
+            balance,
+            reserved,
+        })
+    }
+
+    // Carries out a command, or says why it has no effect.
+    fn carry_out(&mut self, command: &Command) -> Result<Reply, Stop>
         requires { IsWithin command.now }
-        ensures ok { IfOk result (λ reply. (reply, self.new) ≡ step self.old command.now) }
+        ensures refused { refusal_in result ≡ refusal_of self.old command.now }
+        ensures ok { IfOk result (λ reply. (reply, self.new) ≡ effect self.old command.now) }
+        ensures marked { IfOk result (IsMarkedFor command.now) }
         ensures err { OnErr result (self.new ≡ self.old) }
     {
         match command {
             Command::Open { account } => self.open(*account),
             Command::Deposit { account, amount } => self.deposit(*account, *amount),
+            Command::Withdraw { account, amount } => self.withdraw(*account, *amount),
             Command::Market {
                 market,
                 underlyings,
-            } => Ok(self.list(*market, *underlyings)),
+            } => self.list(*market, *underlyings),
             Command::Trade {
                 side,
                 account,
@@ -209,19 +182,35 @@ impl Exchange {
                 quantity,
                 count,
                 weights,
-            } => {
-                let order = NewOrder {
-                    account: *account,
-                    market: *market,
-                    side: *side,
-                    form: option_form(*kind, *strike, *count, weights),
-                    price: *price,
-                    quantity: *quantity,
-                };
-                self.place(&order, *count)
-            }
-            Command::Clear { market, budget: _ } => self.clear(*market),
-            Command::Balance { account } => Ok(self.tell_balance(*account)),
+            } => self.place(&NewOrder {
+                account: *account,
+                market: *market,
+                side: *side,
+                form: option_form(*kind, *strike, *count, weights),
+                price: *price,
+                quantity: *quantity,
+            }),
+            Command::Cancel { account, order } => self.cancel(*account, *order),
+            Command::Clear { market, budget } => self.clear(*market, *budget),
+            Command::Balance { account } => self.tell_balance(*account),
+        }
+    }
+
+    /// Carries out one command: one step of the plain exchange, and its reply.
+    ///
+    /// A command that is refused, and one that finds no memory, has changed nothing.
+    pub fn step(&mut self, command: &Command) -> Result<Reply, AllocError>
+        requires { IsWithin command.now }
+        ensures ok { IfOk result (λ reply. (reply, self.new) ≡ step self.old command.now) }
+
+        // A batch lacks the mark optimal only where the run stops, and says where.
+        ensures marked { IfOk result (IsMarkedFor command.now) }
+        ensures err { OnErr result (self.new ≡ self.old) }
+    {
+        match self.carry_out(command) {
+            Ok(reply) => Ok(reply),
+            Err(Stop::Refused(refusal)) => Ok(Reply::refused(refusal)),
+            Err(Stop::Memory) => Err(AllocError),
         }
     }
 }

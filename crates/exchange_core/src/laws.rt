@@ -1,8 +1,51 @@
 //! Laws over the definition of a step: each is the contract of a function that does nothing.
 
-ghost use Rattle.exchange_core.specs.Covered.{StepIsCovered};
+ghost use Rattle.exchange_core.specs.Covered.{StepIsCovered, StepIsMarked, StepIsOptimal};
+ghost use Rattle.exchange_core.specs.ExchangeState.{empty_exchange};
+ghost use Rattle.exchange_core.specs.Kept.{IsKept};
+ghost use Rattle.exchange_core.specs.Laws.{StepKeeps};
+ghost use Rattle.exchange_core.specs.Worked.{ButterflyIsPaid, ReserveIsKept, RefusalsInOrder};
 
-/// Whatever the state and the command, a reply that clears a batch tells fills that cover its surplus.
+/// From each state that an exchange may be in, a reply that clears a batch tells fills that cover its surplus, which is not
+/// below 0.
 pub fn step_is_covered()
     ensures { StepIsCovered }
+{}
+
+/// From each such state, a batch that is marked optimal has the greatest surplus, and the measure of its outcome proves it.
+pub fn step_is_optimal()
+    ensures { StepIsOptimal }
+{}
+
+/// The mark of a batch that is cleared and its units are those of the end of its run: so it is missing only where the run stops
+/// at a number that does not fit, or for want of a unit beyond the budget.
+pub fn step_is_marked()
+    ensures { StepIsMarked }
+{}
+
+/// What an exchange keeps between two commands, the empty exchange has.
+pub fn empty_is_kept()
+    ensures { IsKept empty_exchange }
+{}
+
+/// And it is kept by each step: the house open, each live order of an open account, within the limits, and in a market
+/// on as many underlyings as its option, which is not settled; each market on one underlying.
+pub fn step_keeps()
+    ensures { StepKeeps }
+{}
+
+/// What is reserved for a live buy is not paid out, and is free again once the order is cancelled: worked rows.
+pub fn reserve_is_kept()
+    ensures { ReserveIsKept }
+{}
+
+/// Of several refusals that a command meets, the first in order is told: worked rows.
+pub fn refusals_in_order()
+    ensures { RefusalsInOrder }
+{}
+
+/// A batch whose orders are filled in parts, from the orders to the balances: the buyer pays 6, each seller gets 2, and 2 stay
+/// with the house.
+pub fn butterfly_is_paid()
+    ensures { ButterflyIsPaid }
 {}

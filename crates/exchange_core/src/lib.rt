@@ -1,20 +1,22 @@
-//! The exchange: one step for each command, over the accounts of its ledger and the live orders of its market.
+//! The exchange: one step for each command, over the accounts of its ledger and the markets of its book.
 #![tactic(auto)]
 
 mod clear;
 mod command;
 mod exchange;
-mod fills;
 pub mod laws;
 mod limits;
+mod place;
 mod refusal;
 mod reply;
+mod reserve;
+mod stop;
 mod trade;
 
 pub use cash_ledger::{MAX_ACCOUNT, MAX_AMOUNT};
 pub use command::{Command, Kind};
 pub use exchange::Exchange;
-pub use fills::Fills;
-pub use limits::{MAX_ACCEPTED, MAX_BATCHES, MAX_BUDGET, MAX_MARKET};
+pub use limits::{MAX_BUDGET, MAX_MARKET};
+pub use order_book::{MAX_ACCEPTED, MAX_BATCHES};
 pub use refusal::Refusal;
 pub use reply::Reply;

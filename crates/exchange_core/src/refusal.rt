@@ -6,6 +6,28 @@ ghost use Rattle.exchange_core.specs.Refusal.{number_of};
 pub enum Refusal {
     /// The line is no command.
     Syntax,
+    /// The account is not open.
+    NoAccount,
+    /// The account is open already.
+    AccountExists,
+    /// There is no such market.
+    NoMarket,
+    /// There is such a market already.
+    MarketExists,
+    /// The market is settled.
+    Settled,
+    /// The option has another number of weights than the market has underlyings.
+    WeightCount,
+    /// The account's balance less its reserve is below the amount.
+    Funds,
+    /// The market has as many live orders as it may have.
+    BookFull,
+    /// No live order has the number.
+    NoOrder,
+    /// The order is another account's.
+    NotOwner,
+    /// There are as many accounts, markets, orders or batches as there may be.
+    TooMany,
     /// The exchange does not serve this yet.
     NotBuilt,
 }
@@ -17,6 +39,17 @@ impl Refusal {
     {
         match self {
             Refusal::Syntax => 1,
+            Refusal::NoAccount => 2,
+            Refusal::AccountExists => 3,
+            Refusal::NoMarket => 4,
+            Refusal::MarketExists => 5,
+            Refusal::Settled => 6,
+            Refusal::WeightCount => 7,
+            Refusal::Funds => 9,
+            Refusal::BookFull => 10,
+            Refusal::NoOrder => 11,
+            Refusal::NotOwner => 12,
+            Refusal::TooMany => 13,
             Refusal::NotBuilt => 90,
         }
     }

@@ -1,7 +1,8 @@
 ghost use Rattle.std.specs.Prelude.{◌≡◌};
 ghost use Rattle.exchange_core.specs.Reply.{refused_with};
 
-use crate::{Fills, Refusal};
+use crate::Refusal;
+use cert_check::Outcome;
 use form::Batch;
 
 /// What a command line is answered. Balances and amounts are in ticks.
@@ -16,6 +17,11 @@ pub enum Reply {
         account: u32,
         balance: i128,
     },
+    /// The amount was taken; the new balance.
+    Withdrawn {
+        account: u32,
+        balance: i128,
+    },
     /// The market is listed.
     Listed {
         market: u32,
@@ -25,13 +31,17 @@ pub enum Reply {
     Placed {
         order: u64,
     },
-    /// The batch of this number was cleared: what was filled of its orders, and what the house keeps.
+    /// The order was taken out.
+    Cancelled {
+        order: u64,
+    },
+    /// The batch of this number was cleared: what was filled of its orders, and what is left to the house at every
+    /// settlement, with the proof that it is the greatest, or with what the run stopped at.
     Cleared {
         number: u32,
         market: u32,
         batch: Batch,
-        fills: Fills,
-        surplus: i128,
+        outcome: Outcome,
     },
     /// The balance of an account, and what of it is reserved for its live buys.
     Balance {

@@ -1,38 +1,11 @@
-// Orders as they are placed.
+// The option of a trade.
 ghost use Rattle.std.specs.Prelude.{◌≡◌, ◌≤◌, take, unsigned_abs};
 ghost use Rattle.form.specs.declared.limits.TheConstants.{MAX_STRIKE};
 ghost use Rattle.form.specs.FormOf.{form_of};
-ghost use Rattle.exchange_core.specs.Orders.{option_by, live_order};
+ghost use Rattle.exchange_core.specs.Orders.{option_by};
 
 use crate::command::Kind;
-use form::{Form, Order, Side, call, put};
-
-// An order that is not placed yet.
-#[derive(Clone, Copy, Debug, PartialEq, Eq)]
-pub(crate) struct NewOrder {
-    pub(crate) account: u32,
-    pub(crate) market: u32,
-    pub(crate) side: Side,
-    pub(crate) form: Form,
-    pub(crate) price: u64,
-    pub(crate) quantity: u32,
-}
-
-impl NewOrder {
-    // The order under its number.
-    pub(crate) fn numbered(&self, id: u64) -> Order
-        ensures { result ≡ live_order self.now id }
-    {
-        Order {
-            id,
-            account: self.account,
-            side: self.side,
-            form: self.form,
-            price: self.price,
-            quantity: self.quantity,
-        }
-    }
-}
+use form::{Form, call, put};
 
 // The form of an option with the first `count` of the weights.
 pub(crate) fn option_form(kind: Kind, strike: i64, count: u8, weights: &[i16; 8]) -> Form

@@ -6,13 +6,15 @@ use Rattle.exchange_cli.proofs.run.answer_all.Goals as goal
 
 pub loop-index-preserved : goal.loop-index-preserved
 loop-index-preserved g c =
+    let i = c.loop-index.index in
+    let state = c.loop-index.exchange in
     let lines = map (λ p. p.now) c.args.lines.now in
-    let lt : c.loop-index.index < length c.args.lines.now = omega arith in
+    let lt : i < length c.args.lines.now = omega arith in
+    let low : i < length lines = omega (arith, length-map c.args.lines.now (λ p. p.now)) in
+    let at = get_or-map (λ p. p.now) c.args.lines.now i _ [] lt in
+    let is = ap (λ t. (t, c.answer.new.exchange)) c.as_bytes.ensures.value ∙ c.in_ok-text.ensures ∙ ap (line_step (i + 1) state) c.strip_return.ensures in
     record {
-      rest = line_written (c.loop-index.index + 1) c.loop-index.index c.loop-index.exchange c.answer.new.exchange lines _ c.as_bytes.result.now
-          (omega (arith, length-map c.args.lines.now (λ p. p.now))) (get_or-map (λ p. p.now) c.args.lines.now c.loop-index.index _ [] lt)
-          (ap (λ t. (t, c.answer.new.exchange)) c.as_bytes.ensures.value ∙ c.in_ok-text.ensures ∙ ap (line_step (c.loop-index.index + 1) c.loop-index.exchange) c.strip_return.ensures)
-          _ _ _ _ c.loop-index.invariant.rest c.in_ok-write_all.ensures.ok;
+      rest = line_written (i + 1) i state c.answer.new.exchange lines _ c.as_bytes.result.now low at is _ _ _ _ c.loop-index.invariant.rest c.in_ok-write_all.ensures.ok;
       calm = search rules;
     }
 
@@ -21,9 +23,11 @@ returns-in_err-text-clause-front g c = on_err c.from_residual.result _ (front_wr
 
 pub returns-in_err-write_all-clause-front : goal.returns-in_err-write_all-clause-front
 returns-in_err-write_all-clause-front g c =
+    let i = c.loop-index.index in
+    let state = c.loop-index.exchange in
     let lines = map (λ p. p.now) c.args.lines.now in
-    let lt : c.loop-index.index < length c.args.lines.now = omega arith in
-    on_err c.from_residual-in_err-write_all.result _ (line_cut (c.loop-index.index + 1) c.loop-index.index c.loop-index.exchange c.answer.new.exchange lines _ c.as_bytes.result.now
-    (omega (arith, length-map c.args.lines.now (λ p. p.now))) (get_or-map (λ p. p.now) c.args.lines.now c.loop-index.index _ [] lt)
-    (ap (λ t. (t, c.answer.new.exchange)) c.as_bytes.ensures.value ∙ c.in_ok-text.ensures ∙ ap (line_step (c.loop-index.index + 1) c.loop-index.exchange) c.strip_return.ensures)
-    _ _ _ _ c.loop-index.invariant.rest c.in_err-write_all.ensures.front)
+    let lt : i < length c.args.lines.now = omega arith in
+    let low : i < length lines = omega (arith, length-map c.args.lines.now (λ p. p.now)) in
+    let at = get_or-map (λ p. p.now) c.args.lines.now i _ [] lt in
+    let is = ap (λ t. (t, c.answer.new.exchange)) c.as_bytes.ensures.value ∙ c.in_ok-text.ensures ∙ ap (line_step (i + 1) state) c.strip_return.ensures in
+    on_err c.from_residual-in_err-write_all.result _ (line_cut (i + 1) i state c.answer.new.exchange lines _ c.as_bytes.result.now low at is _ _ _ _ c.loop-index.invariant.rest c.in_err-write_all.ensures.front)

@@ -1,0 +1,272 @@
+// Sessions: command lines, and behind `= ` the reply line that each is answered; `==` stands before each session.
+//
+// In order: nothing at all; lines that are no command, empty ones, numbers at and past their limits; the reserve;
+// refusals in their order; two markets, whose orders and batches are counted together; a batch with fractional fills and one
+// whose surplus is too wide.
+pub(crate) static SESSIONS: &str = r#"==
+fly,1
+= {"line":1,"number":1,"reason":"Syntax","reply":"refused"}
+ 
+= {"line":2,"number":1,"reason":"Syntax","reply":"refused"}
+open,7
+= {"account":7,"line":3,"reply":"opened"}
+open,7
+= {"line":4,"number":3,"reason":"AccountExists","reply":"refused"}
+
+open
+= {"line":6,"number":1,"reason":"Syntax","reply":"refused"}
+open,7,
+= {"line":7,"number":1,"reason":"Syntax","reply":"refused"}
+open,07
+= {"line":8,"number":1,"reason":"Syntax","reply":"refused"}
+open,-1
+= {"line":9,"number":1,"reason":"Syntax","reply":"refused"}
+open,0
+= {"line":10,"number":1,"reason":"Syntax","reply":"refused"}
+open,+7
+= {"line":11,"number":1,"reason":"Syntax","reply":"refused"}
+open,"7"
+= {"line":12,"number":1,"reason":"Syntax","reply":"refused"}
+open,1000000000
+= {"line":13,"number":1,"reason":"Syntax","reply":"refused"}
+open,999999999
+= {"account":999999999,"line":14,"reply":"opened"}
+deposit,7,0
+= {"line":15,"number":1,"reason":"Syntax","reply":"refused"}
+deposit,7,1000000000000001
+= {"line":16,"number":1,"reason":"Syntax","reply":"refused"}
+deposit,7,1000000000000000
+= {"account":7,"balance":"1000000000000000","line":17,"reply":"deposited"}
+withdraw,7,0
+= {"line":18,"number":1,"reason":"Syntax","reply":"refused"}
+withdraw,7,1000000000000001
+= {"line":19,"number":1,"reason":"Syntax","reply":"refused"}
+withdraw,7
+= {"line":20,"number":1,"reason":"Syntax","reply":"refused"}
+withdraw,7,1,1
+= {"line":21,"number":1,"reason":"Syntax","reply":"refused"}
+withdraw,8,1
+= {"line":22,"number":2,"reason":"NoAccount","reply":"refused"}
+market,1,0
+= {"line":23,"number":1,"reason":"Syntax","reply":"refused"}
+market,1,9
+= {"line":24,"number":1,"reason":"Syntax","reply":"refused"}
+market,1,2
+= {"line":25,"number":90,"reason":"NotBuilt","reply":"refused"}
+market,1,1
+= {"line":26,"market":1,"reply":"listed","underlyings":1}
+buy,7,1,calls,10,7,1,1
+= {"line":27,"number":1,"reason":"Syntax","reply":"refused"}
+buy,7,1,call,10,7,1,0
+= {"line":28,"number":1,"reason":"Syntax","reply":"refused"}
+buy,7,1,call,10,7,1
+= {"line":29,"number":1,"reason":"Syntax","reply":"refused"}
+buy,7,1,call,10,7,1,1,1,1,1,1,1,1,1,1
+= {"line":30,"number":1,"reason":"Syntax","reply":"refused"}
+buy,7,1,call,10,7,1,1,1,1,1,1,1,1,1
+= {"line":31,"number":7,"reason":"WeightCount","reply":"refused"}
+buy,7,1,call,-1000000000,1000000000000,1000,-1000
+= {"line":32,"order":1,"reply":"placed"}
+sell,7,1,put,1000000001,7,1,1
+= {"line":33,"number":1,"reason":"Syntax","reply":"refused"}
+sell,7,1,put,1,1000000000001,1,1
+= {"line":34,"number":1,"reason":"Syntax","reply":"refused"}
+sell,7,1,put,1,1,1000001,1
+= {"line":35,"number":1,"reason":"Syntax","reply":"refused"}
+sell,7,1,put,1,1,1,1001
+= {"line":36,"number":1,"reason":"Syntax","reply":"refused"}
+cancel,7,0
+= {"line":37,"number":1,"reason":"Syntax","reply":"refused"}
+cancel,7,1000001
+= {"line":38,"number":1,"reason":"Syntax","reply":"refused"}
+cancel,7,1000000
+= {"line":39,"number":11,"reason":"NoOrder","reply":"refused"}
+cancel,7
+= {"line":40,"number":1,"reason":"Syntax","reply":"refused"}
+cancel,7,1,1
+= {"line":41,"number":1,"reason":"Syntax","reply":"refused"}
+clear,1,0
+= {"line":42,"number":1,"reason":"Syntax","reply":"refused"}
+clear,1,20001
+= {"line":43,"number":1,"reason":"Syntax","reply":"refused"}
+clear,1,20000
+= {"batch":1,"fills":["1000"],"liability":"1000000000000","line":44,"mark":"optimal","market":1,"orders":[{"account":7,"form":[1000000000,-1000],"order":1,"price":1000000000000,"quantity":1000,"side":"buy"}],"reply":"cleared","surplus":"999000000000000","underlyings":1,"units":1,"version":1}
+balance,7
+= {"account":7,"balance":"0","line":45,"reply":"balance","reserved":"0"}
+balance,8
+= {"line":46,"number":2,"reason":"NoAccount","reply":"refused"}
+settle
+= {"line":47,"number":90,"reason":"NotBuilt","reply":"refused"}
+settle,"
+= {"line":48,"number":90,"reason":"NotBuilt","reply":"refused"}
+settled,1,1
+= {"line":49,"number":1,"reason":"Syntax","reply":"refused"}
+==
+open,1
+= {"account":1,"line":1,"reply":"opened"}
+open,2
+= {"account":2,"line":2,"reply":"opened"}
+open,3
+= {"account":3,"line":3,"reply":"opened"}
+deposit,1,100
+= {"account":1,"balance":"100","line":4,"reply":"deposited"}
+market,1,1
+= {"line":5,"market":1,"reply":"listed","underlyings":1}
+buy,1,1,call,10,7,1,1
+= {"line":6,"order":1,"reply":"placed"}
+balance,1
+= {"account":1,"balance":"100","line":7,"reply":"balance","reserved":"7"}
+withdraw,1,94
+= {"line":8,"number":9,"reason":"Funds","reply":"refused"}
+withdraw,1,93
+= {"account":1,"balance":"7","line":9,"reply":"withdrawn"}
+buy,1,1,call,10,1,1,1
+= {"line":10,"number":9,"reason":"Funds","reply":"refused"}
+buy,1,1,call,10,0,1000000,1
+= {"line":11,"order":2,"reply":"placed"}
+cancel,1,1
+= {"line":12,"order":1,"reply":"cancelled"}
+balance,1
+= {"account":1,"balance":"7","line":13,"reply":"balance","reserved":"0"}
+withdraw,1,7
+= {"account":1,"balance":"0","line":14,"reply":"withdrawn"}
+withdraw,1,1
+= {"line":15,"number":9,"reason":"Funds","reply":"refused"}
+buy,1,1,call,10,0,1,1
+= {"line":16,"order":3,"reply":"placed"}
+buy,1,1,call,10,1,1,1
+= {"line":17,"number":9,"reason":"Funds","reply":"refused"}
+sell,1,1,call,10,1000000000000,1000000,1
+= {"line":18,"order":4,"reply":"placed"}
+balance,1
+= {"account":1,"balance":"0","line":19,"reply":"balance","reserved":"0"}
+==
+open,1
+= {"account":1,"line":1,"reply":"opened"}
+open,2
+= {"account":2,"line":2,"reply":"opened"}
+deposit,1,100
+= {"account":1,"balance":"100","line":3,"reply":"deposited"}
+market,1,1
+= {"line":4,"market":1,"reply":"listed","underlyings":1}
+buy,1,1,call,10,7,1,1
+= {"line":5,"order":1,"reply":"placed"}
+buy,9,9,call,0,1,1,0
+= {"line":6,"number":1,"reason":"Syntax","reply":"refused"}
+buy,1,1,call,0,1000000000001,1,1
+= {"line":7,"number":1,"reason":"Syntax","reply":"refused"}
+buy,9,9,call,0,1,1,1
+= {"line":8,"number":4,"reason":"NoMarket","reply":"refused"}
+buy,9,1,call,0,1,1,1,1
+= {"line":9,"number":7,"reason":"WeightCount","reply":"refused"}
+buy,9,1,call,0,1,1,1
+= {"line":10,"number":2,"reason":"NoAccount","reply":"refused"}
+buy,2,1,call,0,1,1,1
+= {"line":11,"number":9,"reason":"Funds","reply":"refused"}
+sell,9,9,call,0,1,1,1
+= {"line":12,"number":4,"reason":"NoMarket","reply":"refused"}
+sell,9,1,call,0,1,1,1,1
+= {"line":13,"number":7,"reason":"WeightCount","reply":"refused"}
+sell,9,1,call,0,1,1,1
+= {"line":14,"number":2,"reason":"NoAccount","reply":"refused"}
+open,1
+= {"line":15,"number":3,"reason":"AccountExists","reply":"refused"}
+deposit,9,1
+= {"line":16,"number":2,"reason":"NoAccount","reply":"refused"}
+withdraw,9,1
+= {"line":17,"number":2,"reason":"NoAccount","reply":"refused"}
+market,1,2
+= {"line":18,"number":5,"reason":"MarketExists","reply":"refused"}
+cancel,9,99
+= {"line":19,"number":2,"reason":"NoAccount","reply":"refused"}
+cancel,1,99
+= {"line":20,"number":11,"reason":"NoOrder","reply":"refused"}
+cancel,2,1
+= {"line":21,"number":12,"reason":"NotOwner","reply":"refused"}
+cancel,1,1
+= {"line":22,"order":1,"reply":"cancelled"}
+cancel,1,1
+= {"line":23,"number":11,"reason":"NoOrder","reply":"refused"}
+clear,9,1
+= {"line":24,"number":4,"reason":"NoMarket","reply":"refused"}
+balance,9
+= {"line":25,"number":2,"reason":"NoAccount","reply":"refused"}
+==
+open,1
+= {"account":1,"line":1,"reply":"opened"}
+open,2
+= {"account":2,"line":2,"reply":"opened"}
+deposit,1,100
+= {"account":1,"balance":"100","line":3,"reply":"deposited"}
+market,5,1
+= {"line":4,"market":5,"reply":"listed","underlyings":1}
+market,3,1
+= {"line":5,"market":3,"reply":"listed","underlyings":1}
+sell,2,3,put,10,2,5,1
+= {"line":6,"order":1,"reply":"placed"}
+buy,1,5,call,10,7,2,1
+= {"line":7,"order":2,"reply":"placed"}
+buy,1,3,put,10,4,3,1
+= {"line":8,"order":3,"reply":"placed"}
+sell,2,5,call,10,9,2,1
+= {"line":9,"order":4,"reply":"placed"}
+balance,1
+= {"account":1,"balance":"100","line":10,"reply":"balance","reserved":"26"}
+clear,3,1
+= {"batch":1,"fills":["3","3"],"liability":"0","line":11,"mark":"budget","market":3,"orders":[{"account":2,"form":[10,-1],"order":1,"price":2,"quantity":5,"side":"sell"},{"account":1,"form":[10,-1],"order":3,"price":4,"quantity":3,"side":"buy"}],"reply":"cleared","surplus":"6","underlyings":1,"units":1,"version":1}
+balance,1
+= {"account":1,"balance":"88","line":12,"reply":"balance","reserved":"14"}
+clear,3,1
+= {"batch":2,"fills":[],"liability":"0","line":13,"mark":"optimal","market":3,"orders":[],"reply":"cleared","surplus":"0","underlyings":1,"units":0,"version":1}
+cancel,1,3
+= {"line":14,"number":11,"reason":"NoOrder","reply":"refused"}
+cancel,1,2
+= {"line":15,"order":2,"reply":"cancelled"}
+balance,1
+= {"account":1,"balance":"88","line":16,"reply":"balance","reserved":"0"}
+clear,5,1
+= {"batch":3,"fills":["0"],"liability":"0","line":17,"mark":"optimal","market":5,"orders":[{"account":2,"form":[-10,1],"order":4,"price":9,"quantity":2,"side":"sell"}],"reply":"cleared","surplus":"0","underlyings":1,"units":0,"version":1}
+balance,2
+= {"account":2,"balance":"6","line":18,"reply":"balance","reserved":"0"}
+balance,0
+= {"account":0,"balance":"6","line":19,"reply":"balance","reserved":"0"}
+==
+open,1
+= {"account":1,"line":1,"reply":"opened"}
+open,2
+= {"account":2,"line":2,"reply":"opened"}
+deposit,1,100
+= {"account":1,"balance":"100","line":3,"reply":"deposited"}
+market,1,1
+= {"line":4,"market":1,"reply":"listed","underlyings":1}
+buy,1,1,call,10,6,1,1
+= {"line":5,"order":1,"reply":"placed"}
+sell,2,1,call,5,8,1,1
+= {"line":6,"order":2,"reply":"placed"}
+sell,2,1,call,12,4,1,1
+= {"line":7,"order":3,"reply":"placed"}
+clear,1,20000
+= {"batch":1,"fills":["1","2/7","5/7"],"liability":"0","line":8,"mark":"optimal","market":1,"orders":[{"account":1,"form":[-10,1],"order":1,"price":6,"quantity":1,"side":"buy"},{"account":2,"form":[-5,1],"order":2,"price":8,"quantity":1,"side":"sell"},{"account":2,"form":[-12,1],"order":3,"price":4,"quantity":1,"side":"sell"}],"reply":"cleared","surplus":"6/7","underlyings":1,"units":3,"version":1}
+balance,1
+= {"account":1,"balance":"94","line":9,"reply":"balance","reserved":"0"}
+balance,2
+= {"account":2,"balance":"4","line":10,"reply":"balance","reserved":"0"}
+balance,0
+= {"account":0,"balance":"2","line":11,"reply":"balance","reserved":"0"}
+deposit,1,1000000000000000
+= {"account":1,"balance":"1000000000000094","line":12,"reply":"deposited"}
+buy,1,1,call,500001,400000000,999999,1
+= {"line":13,"order":4,"reply":"placed"}
+buy,1,1,call,899999999,200000,1,1
+= {"line":14,"order":5,"reply":"placed"}
+sell,2,1,call,0,1501501501,1000000,1000
+= {"line":15,"order":6,"reply":"placed"}
+sell,2,1,call,1000000000,1000000000,1000000,999
+= {"line":16,"order":7,"reply":"placed"}
+sell,2,1,call,999999999,0,1000000,1
+= {"line":17,"order":8,"reply":"placed"}
+clear,1,20000
+= {"batch":2,"fills":["0","0","0","0","0"],"liability":"0","line":18,"mark":"wide","market":1,"orders":[{"account":1,"form":[-500001,1],"order":4,"price":400000000,"quantity":999999,"side":"buy"},{"account":1,"form":[-899999999,1],"order":5,"price":200000,"quantity":1,"side":"buy"},{"account":2,"form":[0,1000],"order":6,"price":1501501501,"quantity":1000000,"side":"sell"},{"account":2,"form":[-1000000000,999],"order":7,"price":1000000000,"quantity":1000000,"side":"sell"},{"account":2,"form":[-999999999,1],"order":8,"price":0,"quantity":1000000,"side":"sell"}],"reply":"cleared","surplus":"0","underlyings":1,"units":6,"version":1}
+balance,0
+= {"account":0,"balance":"2","line":19,"reply":"balance","reserved":"0"}
+"#;

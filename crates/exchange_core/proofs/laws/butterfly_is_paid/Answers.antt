@@ -1,0 +1,15 @@
+use Rattle.std.proofs.Common.{refl}
+use Rattle.exact_num.specs.Fits.{operations}
+use Rattle.table_run.specs.Run.{table_run}
+use Rattle.form.specs.FormOf.{form_of}
+use Rattle.frac.specs.ValueOf.{value_of}
+use Rattle.line_cover.specs.Breakpoints.{insert, in_rising_price}
+use Rattle.joint_program.specs.Master.{master_steps}
+use Rattle.joint_program.specs.Reading.{reading_steps}
+use Rattle.rounds.specs.Run.{joint_run}
+use Rattle.clearing.specs.Outcome.{proved, outcome_of}
+use Rattle.exchange_core.proofs.laws.butterfly_is_paid.Goals as goal
+
+pub returns : goal.returns
+unfolding outcome_of proved joint_run insert in_rising_price master_steps reading_steps table_run operations form_of value_of
+returns c = refl

@@ -1,0 +1,10 @@
+-- Laws of the step.
+use Rattle.exchange_core.specs.declared.command.Command.{Command}
+use Rattle.exchange_core.specs.ExchangeState.{ExchangeState}
+use Rattle.exchange_core.specs.Kept.{IsKept}
+use Rattle.exchange_core.specs.Step.{step}
+use Rattle.exchange_core.specs.Within.{IsWithin}
+
+-- what an exchange keeps is kept by each step
+abbrev pub StepKeeps : Type 0
+StepKeeps = (state : ExchangeState) (command : Command) → IsKept state → IsWithin command → IsKept (step state command).1

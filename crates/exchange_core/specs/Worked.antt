@@ -1,0 +1,86 @@
+-- Worked rows: what a step answers in a small exchange.
+use Rattle.std.specs.Prelude.{ℕ, ℤ, pos, negsuc, ◌≡◌, List, [], ◌∷◌, map, false, None, Some}
+use Rattle.cash_ledger.specs.declared.entry.Cause.TheVariants as cause
+use Rattle.cash_ledger.specs.Entries.{balance_of}
+use Rattle.form.specs.declared.orders.Side.{Side}
+use Rattle.form.specs.declared.orders.Side.TheVariants.{Buy, Sell}
+use Rattle.exchange_core.specs.declared.command.Command.{Command}
+use Rattle.exchange_core.specs.declared.command.Command.TheVariants.{Open, Withdraw, Market, Trade, Cancel, Clear, Balance}
+use Rattle.exchange_core.specs.declared.command.Kind.TheVariants.{Call}
+use Rattle.exchange_core.specs.declared.refusal.Refusal.TheVariants.{NoAccount, AccountExists, NoMarket, MarketExists, WeightCount, Funds, NoOrder, NotOwner, NotBuilt}
+use Rattle.exchange_core.specs.declared.reply.Reply.TheVariants.{Withdrawn, Cancelled}
+use Rattle.exchange_core.specs.declared.reply.Reply.TheVariants as reply
+use Rattle.exchange_core.specs.ExchangeState.{ExchangeState}
+use Rattle.exchange_core.specs.Refusals.{refusal_of}
+use Rattle.exchange_core.specs.Step.{step}
+
+-- accounts 1 and 2 are open, account 1 has 100, and market 1 is on one underlying
+abbrev pub opened_market : ExchangeState
+opened_market = record {
+  accounts = 0 ∷ 1 ∷ 2 ∷ [];
+  entries = record { account = 1; amount = pos 100; cause = cause.Deposit } ∷ [];
+  book = record { markets = (1, record { underlyings = 1; settled = false; live = [] }) ∷ []; accepted = 0; finished = 0 };
+}
+
+-- an order for one call with strike 10, with this many weights of 1
+abbrev pub trade : Side → ℕ → ℕ → ℕ → ℕ → Command
+trade side account market price count =
+    Trade side account market Call (pos 10) price 1 count (pos 1 ∷ pos 1 ∷ pos 0 ∷ pos 0 ∷ pos 0 ∷ pos 0 ∷ pos 0 ∷ pos 0 ∷ [])
+
+abbrev pub after : ExchangeState → Command → ExchangeState
+after state command = (step state command).1
+
+-- account 1 has bid 7
+abbrev pub bid : ExchangeState
+bid = after opened_market (trade Buy 1 1 7 1)
+
+-- account 1 owes 3
+abbrev pub in_debt : ExchangeState
+in_debt = record opened_market { entries = record { account = 1; amount = negsuc 2; cause = cause.Payoff 1 } ∷ [] }
+
+-- what is reserved for a live buy is not paid out, and is free again once the order is cancelled
+abbrev pub ReserveIsKept : Type 0
+ReserveIsKept =
+    (refusal_of bid (Withdraw 1 94) ≡ Some Funds)
+    × ((step bid (Balance 1)).0 ≡ reply.Balance 1 (pos 100) (pos 7))
+    × ((step bid (Withdraw 1 93)).0 ≡ Withdrawn 1 (pos 7))
+    × ((step (after bid (Withdraw 1 93)) (Cancel 1 1)).0 ≡ Cancelled 1)
+    × ((step (after (after bid (Withdraw 1 93)) (Cancel 1 1)) (Withdraw 1 7)).0 ≡ Withdrawn 1 (pos 0))
+
+-- each of these meets several refusals, and is told the first
+abbrev pub RefusalsInOrder : Type 0
+RefusalsInOrder =
+    (refusal_of bid (trade Buy 9 9 1 1) ≡ Some NoMarket)
+    × (refusal_of bid (trade Buy 9 1 1 2) ≡ Some WeightCount)
+    × (refusal_of bid (trade Buy 9 1 1 1) ≡ Some NoAccount)
+    × (refusal_of bid (trade Buy 1 1 94 1) ≡ Some Funds)
+    × (refusal_of bid (trade Sell 1 1 94 1) ≡ None)
+    -- a bid of 0 costs nothing, and is more than an account in debt has
+    × (refusal_of in_debt (trade Buy 1 1 0 1) ≡ Some Funds)
+    × (refusal_of bid (Open 1) ≡ Some AccountExists)
+    × (refusal_of bid (Market 1 2) ≡ Some MarketExists)
+    × (refusal_of bid (Market 2 2) ≡ Some NotBuilt)
+    × (refusal_of bid (Cancel 1 99) ≡ Some NoOrder)
+    × (refusal_of bid (Cancel 2 1) ≡ Some NotOwner)
+    × (refusal_of bid (Clear 9 1) ≡ Some NoMarket)
+
+-- ---- a batch that is filled in parts
+-- accounts 1 to 3 are open, account 1 has 100, and market 1 is on one underlying
+abbrev pub three_traders : ExchangeState
+three_traders = record opened_market { accounts = 0 ∷ 1 ∷ 2 ∷ 3 ∷ [] }
+
+-- an order for one call with this strike on market 1
+abbrev pub call_at : Side → ℕ → ℕ → ℕ → Command
+call_at side account strike price =
+    Trade side account 1 Call (pos strike) price 1 1 (pos 1 ∷ pos 0 ∷ pos 0 ∷ pos 0 ∷ pos 0 ∷ pos 0 ∷ pos 0 ∷ pos 0 ∷ [])
+
+-- a call with strike 10 is bought at 6, and calls with strikes 5 and 12 are sold at 8 and 4
+abbrev pub butterfly : ExchangeState
+butterfly = after (after (after three_traders (call_at Buy 1 10 6)) (call_at Sell 2 5 8)) (call_at Sell 3 12 4)
+
+abbrev pub balances : List ℕ → ExchangeState → List ℤ
+balances accounts state = map (λ account. balance_of account state.entries) accounts
+
+-- the buy is filled, and 2/7 and 5/7 of the sells: the buyer pays 6, and each seller gets 16/7 or 20/7, rounded down
+abbrev pub ButterflyIsPaid : Type 0
+ButterflyIsPaid = balances (0 ∷ 1 ∷ 2 ∷ 3 ∷ []) (after butterfly (Clear 1 100)) ≡ pos 2 ∷ pos 94 ∷ pos 2 ∷ pos 2 ∷ []

@@ -1,0 +1,80 @@
+// What is reserved for live orders: a buy's quantity times its price, and nothing for a sell.
+ghost use Rattle.std.specs.Prelude.{◌≡◌, ◌+◌, ◌*◌, ◌≤◌, ◌≢◌, ℕ, Err, IfOk, OnOk, OnErr};
+ghost use Rattle.std.specs.List.{All};
+ghost use Rattle.cash_ledger.specs.declared.limits.TheConstants.{MAX_RESERVED};
+ghost use Rattle.cash_ledger.specs.declared.ledger.LedgerRefusal.TheVariants as LedgerRefusal;
+ghost use Rattle.cash_ledger.specs.Ledger.{reserved_of};
+ghost use Rattle.cash_ledger.specs.Refusals.{refusal_in};
+ghost use Rattle.form.specs.declared.limits.TheConstants.{MAX_PRICE, MAX_QUANTITY};
+ghost use Rattle.exchange_core.specs.Kept.{IsPayable};
+ghost use Rattle.exchange_core.specs.Reserves.{reserve_for, reserve_by, reserve_of, share};
+ghost use Rattle.exchange_core.specs.Holding.{hold_refusal};
+
+use cash_ledger::{Ledger, LedgerRefusal};
+use form::{Order, Side};
+use order_book::NewOrder;
+
+// What an order costs at its limit price, in ticks.
+fn cost(quantity: u32, price: u64) -> u64
+    requires quantity { quantity ≤ MAX_QUANTITY }
+    requires price { price ≤ MAX_PRICE }
+    ensures amount { result ≡ quantity * price }
+    ensures small { result ≤ 1000000000000000000 }
+{
+    u64::from(quantity) * price
+}
+
+// Looks whether the account of an order is open, and reserves what a buy costs. Answers what it reserved, in ticks.
+pub(crate) fn hold(ledger: &mut Ledger, order: &NewOrder) -> Result<u64, LedgerRefusal>
+    requires quantity { order.now.quantity ≤ MAX_QUANTITY }
+    requires price { order.now.price ≤ MAX_PRICE }
+    requires reserved { reserved_of ledger.old order.now.account ≤ MAX_RESERVED }
+    ensures refused { refusal_in result ≡ hold_refusal order.now.side ledger.old order.now }
+    ensures no_memory { result ≢ Err LedgerRefusal.Memory }
+    ensures held { IfOk result (λ held. held ≡ reserve_for order.now.side order.now.quantity order.now.price) }
+    ensures reserves { OnOk result ((q : ℕ) → reserved_of ledger.new q ≡ reserved_of ledger.old q
+        + share q order.now.account (reserve_for order.now.side order.now.quantity order.now.price)) }
+    ensures accounts { ledger.new.accounts ≡ ledger.old.accounts }
+    ensures entries { ledger.new.entries ≡ ledger.old.entries }
+    ensures err { OnErr result (ledger.new ≡ ledger.old) }
+{
+    match order.side {
+        Side::Buy => {
+            let amount = cost(order.quantity, order.price);
+            ledger.reserve(order.account, amount)?;
+            Ok(amount)
+        }
+        Side::Sell => {
+            ledger
+                .balance(order.account)
+                .ok_or(LedgerRefusal::NoAccount)?;
+            Ok(0)
+        }
+    }
+}
+
+// Gives free what an order reserves.
+pub(crate) fn give_free(ledger: &mut Ledger, order: &Order)
+    requires payable { IsPayable ledger.old.accounts order.now }
+    requires reserved { reserve_for order.now.side order.now.quantity order.now.price ≤ reserved_of ledger.old order.now.account }
+    ensures reserves { (q : ℕ) → reserved_of ledger.new q + reserve_by q order.now ≡ reserved_of ledger.old q }
+    ensures accounts { ledger.new.accounts ≡ ledger.old.accounts }
+    ensures entries { ledger.new.entries ≡ ledger.old.entries }
+{
+    if order.side == Side::Buy {
+        ledger.release(order.account, cost(order.quantity, order.price));
+    }
+}
+
+// Gives free what these orders reserve.
+pub(crate) fn give_all_free(ledger: &mut Ledger, orders: &[Order])
+    requires payable { All (IsPayable ledger.old.accounts) orders.now }
+    requires reserved { (q : ℕ) → reserve_of q orders.now ≤ reserved_of ledger.old q }
+    ensures reserves { (q : ℕ) → reserved_of ledger.new q + reserve_of q orders.now ≡ reserved_of ledger.old q }
+    ensures accounts { ledger.new.accounts ≡ ledger.old.accounts }
+    ensures entries { ledger.new.entries ≡ ledger.old.entries }
+{
+    for order in orders {
+        give_free(ledger, order);
+    }
+}

@@ -1,0 +1,69 @@
+-- What holds where an order meets no refusal.
+use Rattle.std.proofs.Common.{◌≡◌, ℕ, ◌+◌, ◌<◌, Bool, true, false, not, Option, None, Some, is_some, nat_eq, length, arith, refl, if◌then◌else◌}
+use Rattle.std.specs.Prelude.{nat_le}
+use Rattle.std.specs.Option.{option_map, option_map_or}
+use Rattle.std.proofs.lemmas.Bool.Decides.{nat_tests}
+use Rattle.form.specs.declared.limits.TheConstants.{MAX_ORDERS}
+use Rattle.order_book.specs.declared.limits.TheConstants.{MAX_MARKETS, MAX_ACCEPTED, MAX_BATCHES}
+use Rattle.order_book.specs.declared.new_order.NewOrder.{NewOrder}
+use Rattle.order_book.specs.declared.refusal.BookRefusal.{BookRefusal}
+use Rattle.order_book.specs.declared.refusal.BookRefusal.TheVariants.{NoMarket, MarketExists, Settled, WeightCount, BookFull, TooMany}
+use Rattle.order_book.specs.Markets.{MarketState}
+use Rattle.order_book.specs.Book.{BookState, market_of, info_of}
+use Rattle.order_book.specs.Refusals.{market_refusal, place_refusal, place_refusal_in, batch_refusal, batch_refusal_in}
+
+pub record Accepts (book : BookState) (order : NewOrder) : Type 0 where
+  pub market : MarketState
+  pub found : market_of book order.market ≡ Some market
+  pub unsettled : market.settled ≡ false
+  pub fits : order.form.count ≡ market.underlyings + 1
+  pub room : length market.live < MAX_ORDERS
+  pub more : book.accepted < MAX_ACCEPTED
+
+-- a test that lets the order pass did not hold
+passes : (test : Bool) (refusal : BookRefusal) (rest : Option BookRefusal) → None ≡ (if test then Some refusal else rest) → (test ≡ false) × (None ≡ rest)
+passes true refusal rest h = cc
+passes false refusal rest h = (refl, h)
+
+same_count : (a b : ℕ) → not (nat_eq a b) ≡ false → a ≡ b
+same_count a b h = grind (arith, nat_tests)
+
+less : (a b : ℕ) → nat_le a b ≡ false → b < a
+less a b h = grind (arith, nat_tests)
+
+pub accepts : (book : BookState) (order : NewOrder) → None ≡ place_refusal book order → Accepts book order
+accepts book order none = by (market_of book order.market) refl none
+  where
+    by : (r : Option MarketState) → market_of book order.market ≡ r → None ≡ option_map_or (λ market. place_refusal_in market book.accepted order) (option_map info_of r) (Some NoMarket) → Accepts book order
+    by None e h = cc
+    by (Some m) e h =
+        let open_market = passes m.settled Settled _ h in
+        let right_form = passes (not (nat_eq order.form.count (m.underlyings + 1))) WeightCount _ open_market.1 in
+        let not_full = passes (nat_le MAX_ORDERS (length m.live)) BookFull _ right_form.1 in
+        let not_many = passes (nat_le MAX_ACCEPTED book.accepted) TooMany _ not_full.1 in
+        record {
+          market = m;
+          found = e;
+          unsettled = open_market.0;
+          fits = same_count order.form.count (m.underlyings + 1) right_form.0;
+          room = less MAX_ORDERS (length m.live) not_full.0;
+          more = less MAX_ACCEPTED book.accepted not_many.0;
+        }
+
+-- a market whose batch may be finished: it is there, and there is room for one batch more
+pub finishable : (book : BookState) (market : ℕ) → None ≡ batch_refusal book market → (m : MarketState) × (market_of book market ≡ Some m) × (book.finished < MAX_BATCHES)
+finishable book market none = by (market_of book market) refl none
+  where
+    by : (r : Option MarketState) → market_of book market ≡ r → None ≡ option_map_or (λ found. batch_refusal_in found book.finished) (option_map info_of r) (Some NoMarket)
+        → (m : MarketState) × (market_of book market ≡ Some m) × (book.finished < MAX_BATCHES)
+    by None e h = cc
+    by (Some m) e h = (m, e, less MAX_BATCHES book.finished (passes (nat_le MAX_BATCHES book.finished) TooMany None (passes m.settled Settled _ h).1).0)
+
+-- a market that may be listed: no other has its number, and there is room for it
+pub listable : (book : BookState) (market : ℕ) → None ≡ market_refusal book market → (market_of book market ≡ None) × (length book.markets < MAX_MARKETS)
+listable book market none = by (market_of book market) refl none
+  where
+    by : (r : Option MarketState) → market_of book market ≡ r → None ≡ (if is_some (option_map info_of r) then Some MarketExists else if nat_le MAX_MARKETS (length book.markets) then Some TooMany else None)
+        → (market_of book market ≡ None) × (length book.markets < MAX_MARKETS)
+    by None e h = (e, less MAX_MARKETS (length book.markets) (passes (nat_le MAX_MARKETS (length book.markets)) TooMany None h).0)
+    by (Some m) e h = cc

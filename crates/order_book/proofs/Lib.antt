@@ -1,0 +1,6 @@
+pub mod MarketLists
+pub mod LiveOrders
+pub mod Indexed
+pub mod Accepting
+pub mod BookKept
+pub mod Keeping

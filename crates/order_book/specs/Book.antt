@@ -1,0 +1,79 @@
+-- What a contract sees of a book, and how each call changes it.
+use Rattle.std.specs.Prelude.{ℕ, ◌+◌, Bool, false, not, List, [], ◌∷◌, ◌++◌, Option, nat_eq, length}
+use Rattle.std.specs.List.{find}
+use Rattle.std.specs.Map.{lookup}
+use Rattle.std.specs.Option.{option_map, option_map_or}
+use Rattle.form.specs.declared.orders.Order.{Order}
+use Rattle.form.specs.declared.orders.Batch.{Batch}
+use Rattle.order_book.specs.declared.market.MarketInfo.{MarketInfo}
+use Rattle.order_book.specs.declared.new_order.NewOrder.{NewOrder}
+use Rattle.order_book.specs.Markets.{MarketState, Markets, has_number, live_in, live_orders, with_live_in, without_order}
+
+pub record BookState : Type 0 where
+  pub markets : Markets
+  -- how many orders were accepted
+  pub accepted : ℕ
+  -- how many batches were finished
+  pub finished : ℕ
+
+abbrev pub empty_book : BookState
+empty_book = record { markets = []; accepted = 0; finished = 0 }
+
+abbrev pub market_of : BookState → ℕ → Option MarketState
+market_of book market = lookup (nat_eq market) book.markets
+
+-- the live orders of a market, in rising number
+abbrev pub live_of : BookState → ℕ → List Order
+live_of book market = live_in market book.markets
+
+-- the live order with the number, in whatever market it is
+abbrev pub order_of : BookState → ℕ → Option Order
+order_of book number = find (has_number number) (live_orders book.markets)
+
+abbrev pub info_of : MarketState → MarketInfo
+info_of market = record { underlyings = market.underlyings; settled = market.settled; live = length market.live }
+
+-- what is told of a market that is there
+abbrev pub info_in : BookState → ℕ → Option MarketInfo
+info_in book market = option_map info_of (market_of book market)
+
+-- the market is there and not settled
+abbrev pub is_open : BookState → ℕ → Bool
+is_open book market = option_map_or (λ (info : MarketInfo). not info.settled) (info_in book market) false
+
+-- the live orders of a market as a batch
+abbrev pub batch_of : MarketState → Batch
+batch_of market = record { underlyings = market.underlyings; orders = market.live }
+
+-- the book with one market more, without live orders
+abbrev pub listed : BookState → ℕ → ℕ → BookState
+listed book market underlyings =
+    record book { markets = book.markets ++ (market, record { underlyings = underlyings; settled = false; live = [] }) ∷ [] }
+
+-- the order with its number
+abbrev pub numbered : ℕ → NewOrder → Order
+numbered number order = record {
+  id = number;
+  account = order.account;
+  side = order.side;
+  form = order.form;
+  price = order.price;
+  quantity = order.quantity;
+}
+
+-- the book with the order last among the live orders of its market, under the next number
+abbrev pub placed : BookState → NewOrder → BookState
+placed book order =
+    let number = book.accepted + 1 in
+    record book {
+      markets = with_live_in order.market (live_of book order.market ++ numbered number order ∷ []) book.markets;
+      accepted = number;
+    }
+
+-- the book without the live order with the number
+abbrev pub cancelled : BookState → ℕ → BookState
+cancelled book number = record book { markets = without_order number book.markets }
+
+-- the book with a batch of the market finished: it has no live orders left
+abbrev pub batch_finished : BookState → ℕ → BookState
+batch_finished book market = record book { markets = with_live_in market [] book.markets; finished = book.finished + 1 }

@@ -1,0 +1,5 @@
+pub mod Markets
+pub mod Book
+pub mod Refusals
+pub mod Within
+pub mod Kept

@@ -1,0 +1,97 @@
+// The markets in the order in which they were listed, found by their numbers.
+ghost use Rattle.std.specs.Prelude.{◌≡◌, ◌≤◌, ◌++◌, [], ◌∷◌, ℕ, nat_eq, length, map, false, None, IsSome, IfSome, OnOk, OnErr, is_some};
+ghost use Rattle.std.specs.List.{find};
+ghost use Rattle.std.specs.Map.{lookup};
+ghost use Rattle.std.specs.Option.{option_copied};
+ghost use Rattle.order_book.specs.Markets.{MarketState, has_number, live_in, with_live_in, without};
+
+use crate::market::Market;
+use form::Order;
+use indexmap::IndexMap;
+use std::alloc::{AllocError, Global};
+use std::marker::Model;
+
+#[derive(Drop)]
+pub(crate) struct Markets {
+    by_number: IndexMap<u32, Market>,
+}
+
+impl Model for Markets {
+    ghost use Rattle.std.specs.Prelude.{List, ℕ};
+    ghost use Rattle.order_book.specs.Markets.{MarketState};
+
+    ghost Value = { List (ℕ × MarketState) };
+
+    ghost view = { λ s. s.by_number.entries };
+}
+
+impl Markets {
+    pub(crate) fn new(alloc: Global) -> Self
+        ensures { result ≡ [] }
+    {
+        Markets {
+            by_number: IndexMap::new(alloc),
+        }
+    }
+
+    pub(crate) fn len(&self) -> usize
+        ensures { result ≡ length self.now }
+    {
+        self.by_number.len()
+    }
+
+    pub(crate) fn get(&self, market: u32) -> Option<&Market>
+        ensures { option_copied result ≡ lookup (nat_eq market) self.now }
+    {
+        self.by_number.get(&market)
+    }
+
+    // Lists a market without live orders. It goes last.
+    pub(crate) fn list(
+        &mut self,
+        alloc: Global,
+        market: u32,
+        underlyings: u8,
+    ) -> Result<(), AllocError>
+        requires { lookup (nat_eq market) self.old ≡ None }
+        ensures ok { OnOk result (self.new ≡ self.old
+            ++ (market, record { underlyings = underlyings; settled = false; live = [] }) ∷ []) }
+        ensures err { OnErr result (self.new ≡ self.old) }
+    {
+        self.by_number
+            .insert(market, Market::new(alloc, underlyings))?;
+        Ok(())
+    }
+
+    // Puts an order last in a market that is there.
+    pub(crate) fn add(&mut self, market: u32, order: Order) -> Result<(), AllocError>
+        requires { IsSome (lookup (nat_eq market) self.old) }
+        ensures ok { OnOk result (self.new ≡ with_live_in market (live_in market self.old ++ order ∷ []) self.old) }
+        ensures err { OnErr result (self.new ≡ self.old) }
+    {
+        self.by_number.get_mut(&market).unwrap().add(order)
+    }
+
+    // The live order with the number in a market.
+    pub(crate) fn order(&self, market: u32, number: u64) -> Option<Order>
+        ensures { result ≡ find (has_number number) (live_in market self.now) }
+    {
+        self.get(market)?.order(number)
+    }
+
+    // Takes the order with the number out of a market that is there. The others keep their places.
+    pub(crate) fn remove(&mut self, market: u32, number: u64)
+        requires { IsSome (lookup (nat_eq market) self.old) }
+        ensures { self.new ≡ with_live_in market (without number (live_in market self.old)) self.old }
+    {
+        self.by_number.get_mut(&market).unwrap().remove(number);
+    }
+
+    // Takes all live orders out of a market that is there.
+    pub(crate) fn clear(&mut self, market: u32)
+        requires { IsSome (lookup (nat_eq market) self.old) }
+        ensures { self.new ≡ with_live_in market [] self.old }
+    {
+        self.by_number.get_mut(&market).unwrap().clear();
+    }
+}
