@@ -10,7 +10,7 @@ use Rattle.frac.specs.Range.{limit}
 use Rattle.frac.specs.Value.{fraction_of}
 use Rattle.form.specs.declared.orders.Order.{Order}
 use Rattle.form.specs.declared.orders.Batch.{Batch}
-use Rattle.form.specs.Certificate.{IsFill, AreFractionFills, HasUnitMass, MeasureProves}
+use Rattle.clearing_model.specs.Certificate.{IsFill, AreFractionFills, HasUnitMass, MeasureProves}
 use Rattle.line_cover.proofs.Sound.{both, not_both, lowest_of, lines_that_hold_close, lines_that_fail_do_not_close}
 use Rattle.sign_tree.specs.Laws.{IsNotBelowZero}
 use Rattle.sign_tree.specs.Read.{node_of, placed_of}

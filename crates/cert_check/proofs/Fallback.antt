@@ -19,9 +19,10 @@ use Rattle.form.specs.declared.orders.Side.{Side}
 use Rattle.form.specs.declared.orders.Side.TheVariants.{Buy, Sell}
 use Rattle.form.specs.declared.orders.Order.{Order}
 use Rattle.form.specs.Payoff.{option_of, bundle_of}
-use Rattle.form.specs.Clearing.{Filled, SignedFill, for_side, signed_sum}
-use Rattle.form.specs.Balance.{is_same_option, is_same_bundle, one_if, balance_of}
-use Rattle.form.specs.Certificate.{AreFractionFills, signed_over}
+use Rattle.clearing_model.specs.Clearing.{Filled, SignedFill, for_side, signed_sum}
+use Rattle.form.specs.Vector.{is_same_option, is_same_bundle}
+use Rattle.clearing_model.specs.Balance.{one_if, balance_of}
+use Rattle.clearing_model.specs.Certificate.{AreFractionFills, signed_over}
 use Rattle.form.proofs.StepRatios.{Stands, sum_stands, negated_stands}
 use Rattle.market_laws.proofs.Legs.{signed_sums_agree}
 use Rattle.market_laws.proofs.Certificate.{signed_is}

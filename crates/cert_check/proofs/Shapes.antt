@@ -15,8 +15,8 @@ use Rattle.frac.specs.Value.{fraction_of}
 use Rattle.form.specs.declared.orders.Order.{Order}
 use Rattle.form.specs.declared.orders.Batch.{Batch}
 use Rattle.form.specs.Payoff.{IsState, BundleLeg, IsBundle, bundle_of, option_of}
-use Rattle.form.specs.Clearing.{AreOn}
-use Rattle.form.specs.Certificate.{Point, IsFill, AreFractionFills}
+use Rattle.clearing_model.specs.Clearing.{AreOn}
+use Rattle.clearing_model.specs.Certificate.{Point, IsFill, AreFractionFills}
 use Rattle.form.proofs.DotSteps.{length-vector_of}
 use Rattle.form.proofs.Vectors.{length-option_of}
 use Rattle.measure.specs.declared.measures.Weighted.{Weighted}

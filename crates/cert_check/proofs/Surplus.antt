@@ -16,8 +16,8 @@ use Rattle.exact_num.proofs.Order.{same_parts}
 use Rattle.exact_num.proofs.Fractions.{divides, amount_is_exact, common_positive}
 use Rattle.frac.specs.Range.{limit}
 use Rattle.form.specs.declared.orders.Order.{Order}
-use Rattle.form.specs.Clearing.{for_side, signed_premium}
-use Rattle.form.specs.Certificate.{signed_over, IsPremiumLessLiability}
+use Rattle.clearing_model.specs.Clearing.{for_side, signed_premium}
+use Rattle.clearing_model.specs.Certificate.{signed_over, IsPremiumLessLiability}
 use Rattle.form.proofs.StepRatios.{Stands, sum_stands, negated_stands}
 use Rattle.line_cover.specs.Net.{add_for_side}
 use Rattle.line_cover.proofs.Sound.{side_stands, zero_stands}

@@ -6,7 +6,7 @@ use Rattle.exact_num.specs.Fits.{after}
 use Rattle.frac.specs.Value.{fraction_of}
 use Rattle.form.specs.declared.orders.Order.{Order}
 use Rattle.form.specs.declared.orders.Batch.{Batch}
-use Rattle.form.specs.Certificate.{Point}
+use Rattle.clearing_model.specs.Certificate.{Point}
 use Rattle.line_cover.specs.Line.{and_then}
 use Rattle.measure.specs.Points.{point_of}
 use Rattle.measure.specs.Sums.{is_same, has_unit_mass, bound_of}

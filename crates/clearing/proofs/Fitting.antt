@@ -15,7 +15,7 @@ use Rattle.form.specs.declared.limits.TheConstants.{MAX_PRICE, MAX_QUANTITY}
 use Rattle.form.specs.declared.orders.Order.{Order}
 use Rattle.form.specs.declared.orders.Side.{Side}
 use Rattle.form.specs.declared.orders.Side.TheVariants.{Buy, Sell}
-use Rattle.form.specs.Balance.{is_same_option}
+use Rattle.form.specs.Vector.{is_same_option}
 use Rattle.form.specs.Payoff.{option_of}
 use Rattle.line_cover.specs.Line.{and_then}
 use Rattle.line_cover.specs.Net.{add_for_side}

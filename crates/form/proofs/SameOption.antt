@@ -3,7 +3,7 @@ use Rattle.std.proofs.Common.{◌≡◌, Bool, true, false, ◌&&◌, List, [], 
 use Rattle.std.proofs.lemmas.Bool.Decides.{Decides-int_eq, nat_tests}
 use Rattle.std.specs.Ordering.{int_eq}
 use lib.Pointwise.{pointwise, pointwise_decides}
-use Rattle.form.specs.Balance.{is_same_option}
+use Rattle.form.specs.Vector.{is_same_option}
 use Rattle.form.specs.declared.forms.Form.{Form}
 use Rattle.form.specs.Payoff.{option_of}
 use Rattle.form.proofs.Vectors.{forms_are_options}

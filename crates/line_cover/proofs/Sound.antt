@@ -24,9 +24,9 @@ use Rattle.form.specs.declared.orders.Side.{Side}
 use Rattle.form.specs.declared.orders.Side.TheVariants.{Buy, Sell}
 use Rattle.form.specs.declared.orders.Order.{Order}
 use Rattle.form.specs.Payoff.{option_of, bundle_of, bundle_payoff, scale_of}
-use Rattle.form.specs.Clearing.{for_side, signed_net}
-use Rattle.form.specs.Line.{HoldsAtBreaks}
-use Rattle.form.specs.Certificate.{signed_over}
+use Rattle.clearing_model.specs.Clearing.{for_side, signed_net}
+use Rattle.clearing_model.specs.Line.{HoldsAtBreaks}
+use Rattle.clearing_model.specs.Certificate.{signed_over}
 use Rattle.form.specs.Steps.{payoff_of, less_product}
 use Rattle.form.proofs.DotSteps.{payoffs_are_exact}
 use Rattle.form.proofs.StepRatios.{Stands, plus_stands, less_stands, bundle_pays, not_above}

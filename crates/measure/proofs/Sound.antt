@@ -26,8 +26,8 @@ use Rattle.form.specs.declared.orders.Side.{Side}
 use Rattle.form.specs.declared.orders.Side.TheVariants.{Buy, Sell}
 use Rattle.form.specs.declared.orders.Order.{Order}
 use Rattle.form.specs.Payoff.{option_of, one, payoff, bundle_of, bundle_payoff, scale_of, positive_part}
-use Rattle.form.specs.Measure.{WeightedState, mass_of, price_of as model_price, gain, gain_of, bound_of as model_bound}
-use Rattle.form.specs.Certificate.{Point, fraction_weight, points_over, IsWeight, HasUnitMass}
+use Rattle.clearing_model.specs.Measure.{WeightedState, mass_of, price_of as model_price, gain, gain_of, bound_of as model_bound}
+use Rattle.clearing_model.specs.Certificate.{Point, fraction_weight, points_over, IsWeight, HasUnitMass}
 use Rattle.form.specs.Steps.{plus_product, payoff_of}
 use Rattle.form.proofs.DotSteps.{payoffs_are_exact}
 use Rattle.form.proofs.StepRatios.{Stands, plus_stands, sum_stands, negated_stands, whole_stands, whole_product_stands, above, not_above}

@@ -9,7 +9,7 @@ use Rattle.form.specs.declared.orders.Side.TheVariants.{Buy, Sell}
 use Rattle.form.specs.declared.orders.Order.{Order}
 use Rattle.form.specs.Payoff.{option_of, scale_of}
 use Rattle.form.specs.Steps.{plus_product, payoff_of}
-use Rattle.form.specs.Certificate.{Point}
+use Rattle.clearing_model.specs.Certificate.{Point}
 
 -- whether no weight is below 0
 abbrev pub is_weight : Point → Bool

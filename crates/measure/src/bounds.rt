@@ -5,7 +5,7 @@ ghost use Rattle.exact_num.specs.Fits.{meaning};
 ghost use Rattle.exact_num.specs.Fraction.{whole};
 ghost use Rattle.frac.specs.Range.{limit};
 ghost use Rattle.frac.specs.Value.{fraction_of};
-ghost use Rattle.form.specs.Certificate.{IsFractionMeasure, MeasureProves};
+ghost use Rattle.clearing_model.specs.Certificate.{IsFractionMeasure, MeasureProves};
 ghost use Rattle.form.specs.Limits.{HasItsForms};
 ghost use Rattle.measure.specs.Laws.{NoCoverIsAbove};
 ghost use Rattle.measure.specs.Points.{point_of};

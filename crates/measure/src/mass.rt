@@ -5,7 +5,7 @@ ghost use Rattle.exact_num.specs.Fits.{meaning};
 ghost use Rattle.exact_num.specs.Fraction.{whole};
 ghost use Rattle.frac.specs.Range.{limit};
 ghost use Rattle.frac.specs.Value.{fraction_of};
-ghost use Rattle.form.specs.Certificate.{HasUnitMass};
+ghost use Rattle.clearing_model.specs.Certificate.{HasUnitMass};
 ghost use Rattle.measure.specs.Points.{point_of};
 ghost use Rattle.measure.specs.Sums.{add_mass, add_masses, are_weights, has_unit_mass, is_weight};
 

@@ -9,10 +9,10 @@ use Rattle.frac.specs.declared.bits128.Frac128.{Frac128}
 use Rattle.frac.specs.Range.{limit}
 use Rattle.frac.specs.Value.{fraction_of}
 use Rattle.form.specs.declared.orders.Batch.{Batch}
-use Rattle.form.specs.Clearing.{HoldsAtEachState}
-use Rattle.form.specs.Legs.{legs_of}
-use Rattle.form.specs.Written.{PlacedMultiplier, multipliers_of, tree_over}
-use Rattle.form.specs.Certificate.{filled_over, by_of}
+use Rattle.clearing_model.specs.Clearing.{HoldsAtEachState}
+use Rattle.clearing_model.specs.Legs.{legs_of}
+use Rattle.clearing_model.specs.Written.{PlacedMultiplier, multipliers_of, tree_over}
+use Rattle.clearing_model.specs.Certificate.{filled_over, by_of}
 use Rattle.market_laws.proofs.Tree.{closed_trees_hold}
 use Rattle.sign_tree.specs.declared.trees.Multiplier.{Multiplier}
 use Rattle.sign_tree.specs.declared.trees.SignTree.{SignTree}

@@ -10,7 +10,7 @@ use Rattle.std.proofs.lemmas.List.{get_or-take}
 use Rattle.exact_num.specs.declared.misfit.Wide.{Wide}
 use Rattle.exact_num.specs.Fraction.{Fraction, IsLowest, whole, fraction_cmp}
 use Rattle.exact_num.specs.Fits.{div_of, after}
-use Rattle.exact_num.proofs.Rationals.{Q, ◌*Q◌, inv_Q, value, quotient_step, IsAtMost, at_most_refl, at_most_trans, at_most_value}
+use Rattle.exact_num.proofs.Rationals.{Q, ◌*Q◌, inv_Q, value, quotient_step, IsAtMost, at_most_refl, at_most_trans, at_most_value, at_most_antisymm, value_same, value_of_lowest, IsAbove0, IsBelow0}
 use Rattle.table_run.specs.Places.{at}
 use Rattle.table_run.specs.Table.{Row, Table, entries_at, right_side, basic_at}
 use Rattle.table_run.specs.Choice.{Ratio, first_below, entering, is_below_zero, is_above_zero, ratio_in, ratios, joined, lesser, least, by_order}
@@ -20,7 +20,6 @@ use Rattle.table_run.proofs.Pivot.{IsChoice}
 use Rattle.table_run.proofs.Entries.{IsTable, tab_of, by_first}
 use Rattle.exact_num.proofs.After.{after_value}
 use Rattle.arithmetic.proofs.Comparisons.{equal_int_cmp}
-use Rattle.exact_num.proofs.Rationals.{at_most_antisymm, value_same, value_of_lowest, IsAbove0, IsBelow0}
 
 -- ---- the entering column
 test_below : (z : ℤ) → int_lt z (pos 0) ≡ true → z <ℤ pos 0

@@ -3,6 +3,7 @@ pub mod Program
 pub mod Table
 pub mod Choice
 pub mod Pivot
+pub mod Ending
 pub mod Run
 pub mod Units
 pub mod Optimum

@@ -5,7 +5,8 @@ use Rattle.exact_num.specs.declared.misfit.Operator.TheVariants.{Add}
 use Rattle.exact_num.specs.Fraction.{Fraction, whole, over}
 use Rattle.exact_num.specs.Fits.{misfit}
 use Rattle.table_run.specs.Program.{LinearProgram}
-use Rattle.table_run.specs.Run.{Ending, run, optimal, unbounded, misfit_at, out_of_budget}
+use Rattle.table_run.specs.Ending.{Ending, done, unbounded, wide_at, no_unit_left}
+use Rattle.table_run.specs.Run.{Optimum, run, optimum}
 
 -- one row of a program in whole numbers: the coefficients and the right side
 pub record Constraint : Type 0 where
@@ -32,7 +33,7 @@ abbrev pub wholes : List ℤ → List Fraction
 wholes ns = map whole ns
 
 -- the run with 127 bits and 20,000 units
-abbrev pub worked : LinearProgram → Ending
+abbrev pub worked : LinearProgram → Ending Optimum
 worked p = run (2 ^ 127 - 1) p 20000 0
 
 -- ---- the solver alone
@@ -48,7 +49,7 @@ too_wide =
     }
 
 abbrev pub TooWide : Type 0
-TooWide = worked too_wide ≡ misfit_at 1 (misfit Add (over (pos 1) (2 ^ 126 - 1)) (over (minus 1) (2 ^ 126)))
+TooWide = worked too_wide ≡ wide_at 1 (misfit Add (over (pos 1) (2 ^ 126 - 1)) (over (minus 1) (2 ^ 126)))
 
 -- x under -x <= 0
 abbrev pub without_end : LinearProgram
@@ -73,10 +74,7 @@ one_option_matched =
 abbrev pub OneOptionMatched : Type 0
 OneOptionMatched =
     worked one_option_matched
-    ≡ optimal (wholes (pos 1 ∷ pos 1 ∷ pos 0 ∷ []))
-    (wholes (pos 2 ∷ pos 0 ∷ pos 0 ∷ pos 5 ∷ []))
-    (wholes (pos 0 ∷ pos 0 ∷ pos 1 ∷ []))
-    (whole (pos 2)) 2
+    ≡ done (optimum (wholes (pos 1 ∷ pos 1 ∷ pos 0 ∷ [])) (wholes (pos 2 ∷ pos 0 ∷ pos 0 ∷ pos 5 ∷ [])) (wholes (pos 0 ∷ pos 0 ∷ pos 1 ∷ [])) (whole (pos 2))) 2
 
 -- no order
 abbrev pub empty_batch : LinearProgram
@@ -87,7 +85,7 @@ empty_batch =
 abbrev pub EmptyBatch : Type 0
 EmptyBatch =
     worked empty_batch
-    ≡ optimal (wholes (pos 0 ∷ [])) (wholes (pos 0 ∷ [])) (wholes (pos 1 ∷ [])) (whole (pos 0)) 0
+    ≡ done (optimum (wholes (pos 0 ∷ [])) (wholes (pos 0 ∷ [])) (wholes (pos 1 ∷ [])) (whole (pos 0))) 0
 
 -- buy call 10 at 5, sell call 10 at 5
 abbrev pub equal_prices_stay : LinearProgram
@@ -102,10 +100,7 @@ equal_prices_stay =
 abbrev pub EqualPricesStay : Type 0
 EqualPricesStay =
     worked equal_prices_stay
-    ≡ optimal (wholes (pos 0 ∷ pos 0 ∷ pos 0 ∷ []))
-    (wholes (pos 0 ∷ pos 0 ∷ pos 0 ∷ pos 5 ∷ []))
-    (wholes (pos 0 ∷ pos 0 ∷ pos 1 ∷ []))
-    (whole (pos 0)) 1
+    ≡ done (optimum (wholes (pos 0 ∷ pos 0 ∷ pos 0 ∷ [])) (wholes (pos 0 ∷ pos 0 ∷ pos 0 ∷ pos 5 ∷ [])) (wholes (pos 0 ∷ pos 0 ∷ pos 1 ∷ [])) (whole (pos 0))) 1
 
 -- buy call 10 at 6, sell call 5 at 5
 abbrev pub lower_strike_covers : LinearProgram
@@ -121,10 +116,7 @@ lower_strike_covers =
 abbrev pub LowerStrikeCovers : Type 0
 LowerStrikeCovers =
     worked lower_strike_covers
-    ≡ optimal (wholes (pos 1 ∷ pos 1 ∷ pos 0 ∷ []))
-    (wholes (pos 1 ∷ pos 0 ∷ pos 0 ∷ pos 0 ∷ pos 5 ∷ []))
-    (wholes (pos 0 ∷ pos 0 ∷ pos 1 ∷ []))
-    (whole (pos 1)) 2
+    ≡ done (optimum (wholes (pos 1 ∷ pos 1 ∷ pos 0 ∷ [])) (wholes (pos 1 ∷ pos 0 ∷ pos 0 ∷ pos 0 ∷ pos 5 ∷ [])) (wholes (pos 0 ∷ pos 0 ∷ pos 1 ∷ [])) (whole (pos 1))) 2
 
 -- buy call 10 at 6, sell call 5 at 8, sell call 12 at 4
 abbrev pub butterfly_by_two_sells : LinearProgram
@@ -142,10 +134,7 @@ butterfly_by_two_sells =
 abbrev pub ButterflyByTwoSells : Type 0
 ButterflyByTwoSells =
     worked butterfly_by_two_sells
-    ≡ optimal (whole (pos 1) ∷ over (pos 2) 7 ∷ over (pos 5) 7 ∷ whole (pos 0) ∷ [])
-    (over (pos 6) 7 ∷ whole (pos 0) ∷ whole (pos 0) ∷ whole (pos 0) ∷ whole (pos 0) ∷ over (pos 4) 7 ∷ whole (pos 4) ∷ [])
-    (whole (pos 0) ∷ whole (pos 0) ∷ whole (pos 0) ∷ over (pos 3) 7 ∷ [])
-    (over (pos 6) 7) 3
+    ≡ done (optimum (whole (pos 1) ∷ over (pos 2) 7 ∷ over (pos 5) 7 ∷ whole (pos 0) ∷ []) (over (pos 6) 7 ∷ whole (pos 0) ∷ whole (pos 0) ∷ whole (pos 0) ∷ whole (pos 0) ∷ over (pos 4) 7 ∷ whole (pos 4) ∷ []) (whole (pos 0) ∷ whole (pos 0) ∷ whole (pos 0) ∷ over (pos 3) 7 ∷ []) (over (pos 6) 7)) 3
 
 -- buy call 10 at 6, sell call 12 at 4
 abbrev pub cover_too_dear : LinearProgram
@@ -161,10 +150,7 @@ cover_too_dear =
 abbrev pub CoverTooDear : Type 0
 CoverTooDear =
     worked cover_too_dear
-    ≡ optimal (wholes (pos 0 ∷ pos 0 ∷ pos 0 ∷ []))
-    (wholes (pos 0 ∷ pos 0 ∷ pos 0 ∷ pos 1 ∷ pos 4 ∷ []))
-    (wholes (pos 0 ∷ pos 0 ∷ pos 0 ∷ []))
-    (whole (pos 0)) 2
+    ≡ done (optimum (wholes (pos 0 ∷ pos 0 ∷ pos 0 ∷ [])) (wholes (pos 0 ∷ pos 0 ∷ pos 0 ∷ pos 1 ∷ pos 4 ∷ [])) (wholes (pos 0 ∷ pos 0 ∷ pos 0 ∷ [])) (whole (pos 0))) 2
 
 -- buy call 500001 at 400000000 and call 899999999 at 200000; sell call 0 on 1000 units at 1501501501,
 -- call 1000000000 on 999 units at 1000000000 and call 999999999 at 0
@@ -186,8 +172,8 @@ surplus_too_wide =
 abbrev pub SurplusTooWide : Type 0
 SurplusTooWide =
     worked surplus_too_wide
-    ≡ misfit_at 6 (misfit Add (over (pos 398748100250250500749500501) 1000000000000) (over (pos 99599999800200000) 997999999001))
+    ≡ wide_at 6 (misfit Add (over (pos 398748100250250500749500501) 1000000000000) (over (pos 99599999800200000) 997999999001))
 
 -- the same with a budget of 2 units: the third is not there
 abbrev pub ButterflyOutOfBudget : Type 0
-ButterflyOutOfBudget = run (2 ^ 127 - 1) butterfly_by_two_sells 2 0 ≡ out_of_budget 2
+ButterflyOutOfBudget = run (2 ^ 127 - 1) butterfly_by_two_sells 2 0 ≡ no_unit_left 2
