@@ -5,7 +5,7 @@ ghost use Rattle.table_run.specs.Optimum.{EndsAreAsSaid};
 ghost use Rattle.table_run.specs.Tableau.{TablesAreFeasible, TurnsAreByBlandsRule};
 ghost use Rattle.table_run.specs.Turns.{BasicsDiffer};
 ghost use Rattle.table_run.specs.Units.{UnitsAreCounted};
-ghost use Rattle.table_run.specs.Worked.{ButterflyByTwoSells, ButterflyOutOfBudget, CoverTooDear, EmptyBatch, EqualPricesStay, LowerStrikeCovers, OneOptionMatched, SurplusTooWide, TooWide, WithoutEnd};
+ghost use Rattle.table_run.specs.Worked.{WorkedProgramsEnd};
 
 /// Where a run ends with an optimum, that is feasible and has a feasible dual of the same value;
 /// where it ends with a direction, the objective rises along it without an end. Whatever the limit.
@@ -55,14 +55,5 @@ pub fn same_with_greater_limit()
 
 /// The definitions compute how the runs of the worked programs end.
 pub fn worked_programs_end()
-    ensures too_wide { TooWide }
-    ensures without_end { WithoutEnd }
-    ensures one_option_matched { OneOptionMatched }
-    ensures empty_batch { EmptyBatch }
-    ensures equal_prices_stay { EqualPricesStay }
-    ensures lower_strike_covers { LowerStrikeCovers }
-    ensures butterfly_by_two_sells { ButterflyByTwoSells }
-    ensures cover_too_dear { CoverTooDear }
-    ensures surplus_too_wide { SurplusTooWide }
-    ensures butterfly_out_of_budget { ButterflyOutOfBudget }
+    ensures { WorkedProgramsEnd }
 {}
