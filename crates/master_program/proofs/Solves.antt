@@ -62,23 +62,23 @@ line_solves_are_greatest payoff_limit limit left spent units orders r h =
     greatest_by_line orders r (solves_are_certified payoff_limit limit left spent 1 units orders (later_states orders) r (later_are_states orders) h)
 
 -- ---- no solve rises
-reading_ends : (spent u : ℕ) (q : Result Reading Wide) → on_reading spent q ≡ unbounded d u → ⊥
-reading_ends spent u (Ok q) h = cc
-reading_ends spent u (Err w) h = cc
+reading_ends : (spent u : ℕ) (q : Result Reading Wide) (d : List Fraction) → on_reading spent q ≡ unbounded d u → ⊥
+reading_ends spent u (Ok q) d h = cc
+reading_ends spent u (Err w) d h = cc
 
-ending_ends : (payoff_limit limit left spent n u : ℕ) (orders : List Order) (states : List (List ℕ)) (p : LinearProgram) → master payoff_limit limit orders states ≡ Ok p → (e : Ending Optimum) → run limit p left spent ≡ e
+ending_ends : (payoff_limit limit left spent n u : ℕ) (d : List Fraction) (orders : List Order) (states : List (List ℕ)) (p : LinearProgram) → master payoff_limit limit orders states ≡ Ok p → (e : Ending Optimum) → run limit p left spent ≡ e
     → on_ending limit (zero_prices n) orders states e ≡ unbounded d u → ⊥
-ending_ends payoff_limit limit left spent n u orders states p built (done (optimum x y reduced value) s) is h = reading_ends s u (reading_of limit (zero_prices n) orders states x y reduced value) h
-ending_ends payoff_limit limit left spent n u orders states p built (unbounded d s) is h = no_run_is_unbounded payoff_limit limit left spent s orders states p d built is
-ending_ends payoff_limit limit left spent n u orders states p built (wide_at s w) is h = cc
-ending_ends payoff_limit limit left spent n u orders states p built (no_unit_left s) is h = cc
+ending_ends payoff_limit limit left spent n u d orders states p built (done (optimum x y reduced value) s) is h = reading_ends s u (reading_of limit (zero_prices n) orders states x y reduced value) d h
+ending_ends payoff_limit limit left spent n u d orders states p built (unbounded e s) is h = no_run_is_unbounded payoff_limit limit left spent s orders states p e built is
+ending_ends payoff_limit limit left spent n u d orders states p built (wide_at s w) is h = cc
+ending_ends payoff_limit limit left spent n u d orders states p built (no_unit_left s) is h = cc
 
-program_ends : (payoff_limit limit left spent n u : ℕ) (orders : List Order) (states : List (List ℕ)) (m : Result LinearProgram Wide) → master payoff_limit limit orders states ≡ m
+program_ends : (payoff_limit limit left spent n u : ℕ) (d : List Fraction) (orders : List Order) (states : List (List ℕ)) (m : Result LinearProgram Wide) → master payoff_limit limit orders states ≡ m
     → on_program limit left spent (zero_prices n) orders states m ≡ unbounded d u → ⊥
-program_ends payoff_limit limit left spent n u orders states (Ok p) is h = ending_ends payoff_limit limit left spent n u orders states p is (run limit p left spent) refl h
-program_ends payoff_limit limit left spent n u orders states (Err w) is h = cc
+program_ends payoff_limit limit left spent n u d orders states (Ok p) is h = ending_ends payoff_limit limit left spent n u d orders states p is (run limit p left spent) refl h
+program_ends payoff_limit limit left spent n u d orders states (Err w) is h = cc
 
 pub no_solve_rises : NoSolveRises
 unfolding master_solve
-no_solve_rises payoff_limit limit left spent n units orders states h =
-    program_ends payoff_limit limit left spent n units orders states (master payoff_limit limit orders states) refl h
+no_solve_rises payoff_limit limit left spent n units orders states d h =
+    program_ends payoff_limit limit left spent n units d orders states (master payoff_limit limit orders states) refl h
