@@ -3,3 +3,4 @@ pub mod CommonDenominator
 pub mod Fits
 pub mod Laws
 pub mod Worked
+pub mod Rationals
