@@ -6,7 +6,7 @@ use Rattle.table_run.proofs.Endings.{IsAlike, on_answer-alike, on_steps-alike}
 use Rattle.table_run.proofs.Wider.{same_with_greater_limit as same_run}
 use Rattle.form.specs.declared.orders.Order.{Order}
 use Rattle.master_program.specs.Master.{zero_prices, master}
-use Rattle.master_program.specs.Solve.{reading_at, on_optimum, on_program, master_solve, SolvesAreTheSame}
+use Rattle.master_program.specs.Solve.{reading_at, on_optimum, master_run, master_solve, SolvesAreTheSame}
 use Rattle.master_program.proofs.Wider.{same_with_greater_limit}
 
 optimum_alike : (payoff_limit l l' : ℕ) (first : List ℕ) (orders : List Order) (states : List (List ℕ)) → l ≤ l' → (o : Optimum) (spent : ℕ)
@@ -20,7 +20,7 @@ pub solves_are_the_same : SolvesAreTheSame
 unfolding master_solve
 solves_are_the_same payoff_limit l l' left spent n orders states le =
     let first = zero_prices n in
-    on_steps-alike spent (master payoff_limit l orders states) (master payoff_limit l' orders states) (on_program l left spent first orders states) (on_program l' left spent first orders states)
-    ((same_with_greater_limit payoff_limit l l' first orders states le).program)
-    (λ p. on_answer-alike (run l p left spent) (run l' p left spent) (on_optimum l first orders states) (on_optimum l' first orders states)
-    (same_run l l' p left spent le) (optimum_alike payoff_limit l l' first orders states le))
+    on_answer-alike (master_run payoff_limit l left spent orders states) (master_run payoff_limit l' left spent orders states) (on_optimum l first orders states) (on_optimum l' first orders states)
+    (on_steps-alike spent (master payoff_limit l orders states) (master payoff_limit l' orders states) (λ p. run l p left spent) (λ p. run l' p left spent)
+    ((same_with_greater_limit payoff_limit l l' first orders states le).program) (λ p. same_run l l' p left spent le))
+    (optimum_alike payoff_limit l l' first orders states le)

@@ -10,7 +10,7 @@ use Rattle.form.specs.Vector.{IsState}
 use Rattle.line_cover.specs.Breakpoints.{later_states}
 use Rattle.master_program.specs.Master.{zero_prices, plain_master, master}
 use Rattle.master_program.specs.Reading.{Reading}
-use Rattle.master_program.specs.Solve.{reading_at, on_optimum, on_program, master_solve}
+use Rattle.master_program.specs.Solve.{reading_at, on_optimum, master_run, master_solve}
 use Rattle.master_program.specs.Certified.{IsCertifiedAt}
 use Rattle.master_program.specs.OptimumLaws.{SolvesAreCertified, LineSolvesAreGreatest, NoSolveRises}
 use Rattle.master_program.proofs.Read.{runs_are_certified, no_run_is_unbounded}
@@ -20,24 +20,29 @@ use Rattle.master_program.proofs.Lines.{later_are_states, greatest_by_line}
 abbrev IsCertifiedEnd : ℕ → List Order → List (List ℕ) → Reading → ℕ → Type 0
 IsCertifiedEnd n orders states r units = IsCertifiedAt n orders (zero_prices n ∷ states) r
 
--- an optimum of the run
-abbrev IsEndOf : ℕ → ℕ → ℕ → LinearProgram → Optimum → ℕ → Type 0
-IsEndOf limit left spent p o units = run limit p left spent ≡ done o units
+-- an optimum of the run of the program that is built
+record IsEndOf (payoff_limit limit left spent : ℕ) (orders : List Order) (states : List (List ℕ)) (o : Optimum) (units : ℕ) : Type 0 where
+  program : LinearProgram
+  built : master payoff_limit limit orders states ≡ Ok program
+  ends : run limit program left spent ≡ done o units
 
-read_certified : (payoff_limit limit left spent n : ℕ) (orders : List Order) (states : List (List ℕ)) (p : LinearProgram) → All (IsState n) states → master payoff_limit limit orders states ≡ Ok p
-    → (o : Optimum) (units : ℕ) → IsEndOf limit left spent p o units → EndsWith (IsCertifiedEnd n orders states) (on_optimum limit (zero_prices n) orders states o units)
-read_certified payoff_limit limit left spent n orders states p are built (optimum x y reduced value) units is =
+run_ends : (payoff_limit limit left spent : ℕ) (orders : List Order) (states : List (List ℕ)) → EndsWith (IsEndOf payoff_limit limit left spent orders states) (master_run payoff_limit limit left spent orders states)
+run_ends payoff_limit limit left spent orders states =
+    let Is = IsEndOf payoff_limit limit left spent orders states in
+    on_steps-ends Is spent (master payoff_limit limit orders states) (λ p. run limit p left spent)
+    (λ p built. ends_with Is (run limit p left spent) (λ o units is. record { program = p; built = built; ends = is }) (λ d units is. no_run_is_unbounded payoff_limit limit left spent units orders states p d built is))
+
+read_certified : (payoff_limit limit left spent n : ℕ) (orders : List Order) (states : List (List ℕ)) → All (IsState n) states
+    → (o : Optimum) (units : ℕ) → IsEndOf payoff_limit limit left spent orders states o units → EndsWith (IsCertifiedEnd n orders states) (on_optimum limit (zero_prices n) orders states o units)
+read_certified payoff_limit limit left spent n orders states are (optimum x y reduced value) units is =
     on_steps-ends (IsCertifiedEnd n orders states) units (reading_at limit (zero_prices n) orders states (optimum x y reduced value)) (λ r. done r units)
-    (λ r read. runs_are_certified payoff_limit limit n left spent units orders states p x y reduced value r are built is read)
+    (λ r read. runs_are_certified payoff_limit limit n left spent units orders states is.program x y reduced value r are is.built is.ends read)
 
 solve_ends : (payoff_limit limit left spent n : ℕ) (orders : List Order) (states : List (List ℕ)) → All (IsState n) states → EndsWith (IsCertifiedEnd n orders states) (master_solve payoff_limit limit left spent n orders states)
 unfolding master_solve
 solve_ends payoff_limit limit left spent n orders states are =
-    on_steps-ends (IsCertifiedEnd n orders states) spent (master payoff_limit limit orders states) (on_program limit left spent (zero_prices n) orders states)
-    (λ p built.
-    on_answer-ends (IsEndOf limit left spent p) (IsCertifiedEnd n orders states) (run limit p left spent) (on_optimum limit (zero_prices n) orders states)
-    (ends_with (IsEndOf limit left spent p) (run limit p left spent) (λ o units is. is) (λ d units is. no_run_is_unbounded payoff_limit limit left spent units orders states p d built is))
-    (read_certified payoff_limit limit left spent n orders states p are built))
+    on_answer-ends (IsEndOf payoff_limit limit left spent orders states) (IsCertifiedEnd n orders states) (master_run payoff_limit limit left spent orders states) (on_optimum limit (zero_prices n) orders states)
+    (run_ends payoff_limit limit left spent orders states) (read_certified payoff_limit limit left spent n orders states are)
 
 pub solves_are_certified : SolvesAreCertified
 solves_are_certified payoff_limit limit left spent n units orders states r are h =
@@ -55,8 +60,6 @@ pub no_solve_rises : NoSolveRises
 unfolding master_solve
 no_solve_rises payoff_limit limit left spent n units orders states d h =
     subst (EndsWith IsSome) h
-    (on_steps-ends IsSome spent (master payoff_limit limit orders states) (on_program limit left spent (zero_prices n) orders states)
-    (λ p built.
-    on_answer-ends (λ o units. Unit {0}) IsSome (run limit p left spent) (on_optimum limit (zero_prices n) orders states)
-    (ends_with (λ o units. Unit {0}) (run limit p left spent) (λ o units is. tt) (λ d units is. no_run_is_unbounded payoff_limit limit left spent units orders states p d built is))
-    (λ o units is. on_steps-ends IsSome units (reading_at limit (zero_prices n) orders states o) (λ r. done r units) (λ r read. tt))))
+    (on_answer-ends (IsEndOf payoff_limit limit left spent orders states) IsSome (master_run payoff_limit limit left spent orders states) (on_optimum limit (zero_prices n) orders states)
+    (run_ends payoff_limit limit left spent orders states)
+    (λ o units is. on_steps-ends IsSome units (reading_at limit (zero_prices n) orders states o) (λ r. done r units) (λ r read. tt)))

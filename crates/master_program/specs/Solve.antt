@@ -15,14 +15,15 @@ reading_at limit first orders states (optimum x y reduced value) = reading_of li
 abbrev pub on_optimum : ℕ → List ℕ → List Order → List (List ℕ) → Optimum → ℕ → Ending Reading
 on_optimum limit first orders states o spent = on_steps spent (reading_at limit first orders states o) (λ reading. done reading spent)
 
-abbrev pub on_program : (limit left spent : ℕ) → List ℕ → List Order → List (List ℕ) → LinearProgram → Ending Reading
-on_program limit left spent first orders states program = on_answer (run limit program left spent) (on_optimum limit first orders states)
+-- the program is built and run, with `left` units left and `spent` units spent before
+abbrev pub master_run : (payoff_limit limit left spent : ℕ) → List Order → List (List ℕ) → Ending Optimum
+master_run payoff_limit limit left spent orders states =
+    on_steps spent (master payoff_limit limit orders states) (λ program. run limit program left spent)
 
--- the solve over the state of n underlyings where all prices are 0 and later states, with `left` units left and `spent` units
--- spent before
+-- the solve over the state of n underlyings where all prices are 0 and later states
 unfoldable pub master_solve : (payoff_limit limit left spent n : ℕ) → List Order → List (List ℕ) → Ending Reading
 master_solve payoff_limit limit left spent n orders states =
-    on_steps spent (master payoff_limit limit orders states) (on_program limit left spent (zero_prices n) orders states)
+    on_answer (master_run payoff_limit limit left spent orders states) (on_optimum limit (zero_prices n) orders states)
 
 -- a solve without a misfit is the same with each greater limit
 abbrev pub SolvesAreTheSame : Type 0

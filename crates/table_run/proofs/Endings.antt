@@ -1,9 +1,9 @@
 -- What a whole that goes on after an answer, or after steps, takes from its parts.
-use Rattle.std.proofs.Common.{◌≡◌, ℕ, List, refl, ap, ◌∙◌}
+use Rattle.std.proofs.Common.{◌≡◌, ℕ, List, refl, ap, sym, ◌∙◌}
 use Rattle.std.specs.Prelude.{Result, Ok, Err}
 use Rattle.exact_num.specs.declared.misfit.Wide.{Wide}
 use Rattle.exact_num.specs.Fraction.{Fraction}
-use Rattle.table_run.specs.Ending.{Ending, done, unbounded, wide_at, no_unit_left, on_answer, on_steps, HasNoMisfit}
+use Rattle.table_run.specs.Ending.{Ending, done, unbounded, wide_at, no_unit_left, on_answer, on_steps, where_fits, HasNoMisfit}
 
 -- ---- a whole that is done
 pub record DoneAfter (A B : Type 0) (e : Ending A) (next : A → ℕ → Ending B) (b : B) (units : ℕ) : Type 0 where
@@ -26,6 +26,24 @@ pub record DoneBySteps (A B : Type 0) (r : Result A Wide) (next : A → Ending B
 pub on_steps-done : {A B : Type 0} (spent : ℕ) (r : Result A Wide) (next : A → Ending B) (b : B) (units : ℕ) → on_steps spent r next ≡ done b units → DoneBySteps A B r next b units
 on_steps-done spent (Ok a) next b units h = record { value = a; first = refl; rest = h }
 on_steps-done spent (Err w) next b units h = cc
+
+-- an answer that stands where further steps fit
+pub record DoneWhereFits (A B : Type 0) (e : Ending A) (steps : A → Result B Wide) (a : A) : Type 0 where
+  pub spent : ℕ
+  pub first : e ≡ done a spent
+  pub value : B
+  pub fits : steps a ≡ Ok value
+
+same_answer : {A : Type 0} (a b : A) (s u : ℕ) → done a s ≡ done b u → a ≡ b
+same_answer a b s u h = cc
+
+pub where_fits-done : {A B : Type 0} (e : Ending A) (steps : A → Result B Wide) (a : A) (units : ℕ) → on_answer e (where_fits steps) ≡ done a units → DoneWhereFits A B e steps a
+where_fits-done {A} e steps a units h =
+    let whole = on_answer-done e (where_fits steps) a units h in
+    let tested = on_steps-done whole.spent (steps whole.answer) (λ b. done whole.answer whole.spent) a units whole.rest in
+    let same = same_answer whole.answer a whole.spent units tested.rest in
+    let ended : A → Ending A = λ b. done b whole.spent in
+    record { spent = whole.spent; first = whole.first ∙ ap ended same; value = tested.value; fits = ap steps (sym same) ∙ tested.first }
 
 -- ---- what each answer is
 -- it ends with an answer of which P holds, or with none: but never unbounded
@@ -50,6 +68,9 @@ on_answer-ends P Q (no_unit_left s) next h f = tt
 pub on_steps-ends : {A B : Type 0} (Q : B → ℕ → Type 0) (spent : ℕ) (r : Result A Wide) (next : A → Ending B) → ((a : A) → r ≡ Ok a → EndsWith Q (next a)) → EndsWith Q (on_steps spent r next)
 on_steps-ends Q spent (Ok a) next f = f a refl
 on_steps-ends Q spent (Err w) next f = tt
+
+pub where_fits-ends : {A B : Type 0} (P : A → ℕ → Type 0) (e : Ending A) (steps : A → Result B Wide) → EndsWith P e → EndsWith P (on_answer e (where_fits steps))
+where_fits-ends P e steps h = on_answer-ends P P e (where_fits steps) h (λ a s here. on_steps-ends P s (steps a) (λ b. done a s) (λ b fits. here))
 
 -- ---- with a greater limit
 -- where the first has no misfit, the second is the same
