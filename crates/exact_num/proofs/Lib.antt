@@ -14,3 +14,4 @@ pub mod Totals
 pub mod WholeNumbers
 pub mod After
 pub mod GreaterLimit
+pub mod GreaterLimits
