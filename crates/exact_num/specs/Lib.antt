@@ -1,5 +1,7 @@
 pub mod Fraction
 pub mod CommonDenominator
 pub mod Fits
+pub mod Steps
+pub mod Tests
 pub mod Laws
 pub mod Worked
