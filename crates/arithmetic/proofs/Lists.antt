@@ -23,15 +23,19 @@ pub drop_map_end : {A B : Type 0} (f : A → B) (xs : List A) (i : ℕ) → leng
 drop_map_end f xs i le = drop_all i (map f xs) (omega (arith, length-map xs f))
 
 -- the same of two lists, item by item
+pub pair_at : {A B : Type 0} (xs : List A) (ys : List B) (i : ℕ) (d : A) (e : B) → length ys ≡ length xs → i < length xs
+    → drop i (zip xs ys) ≡ (get_or xs i d, get_or ys i e) ∷ drop (i + 1) (zip xs ys)
+pair_at xs ys i d e len lt = rw add-one (go xs ys i len lt)
+  where
+    go : (xs : List _) (ys : List _) (i : ℕ) → length ys ≡ length xs → i < length xs → drop i (zip xs ys) ≡ (get_or xs i d, get_or ys i e) ∷ drop (suc i) (zip xs ys)
+    go [] ys i len lt = absurd (omega arith)
+    go (a ∷ xs) [] i len lt = absurd (omega arith)
+    go (a ∷ xs) (b ∷ ys) zero len lt = refl
+    go (a ∷ xs) (b ∷ ys) (suc i) len lt = go xs ys i (omega arith) (omega arith)
+
 pub pair_first : {A B : Type 0} (xs : List A) (ys : List B) (i : ℕ) (x : A) (y : B) → length ys ≡ length xs → i < length xs → x ≡ get_or xs i x → y ≡ get_or ys i y
     → drop i (zip xs ys) ≡ (x, y) ∷ drop (i + 1) (zip xs ys)
-pair_first xs ys i x y len lt is_x is_y = rw add-one (go xs ys i len lt is_x is_y)
-  where
-    go : (xs : List _) (ys : List _) (i : ℕ) → length ys ≡ length xs → i < length xs → x ≡ get_or xs i x → y ≡ get_or ys i y → drop i (zip xs ys) ≡ (x, y) ∷ drop (suc i) (zip xs ys)
-    go [] ys i len lt is_x is_y = absurd (omega arith)
-    go (a ∷ xs) [] i len lt is_x is_y = absurd (omega arith)
-    go (a ∷ xs) (b ∷ ys) zero len lt is_x is_y = rw (is_x, is_y) refl
-    go (a ∷ xs) (b ∷ ys) (suc i) len lt is_x is_y = go xs ys i (omega arith) (omega arith) is_x is_y
+pair_first xs ys i x y len lt is_x is_y = pair_at xs ys i x y len lt ∙ sym (λ k. (is_x k, is_y k) ∷ drop (i + 1) (zip xs ys))
 
 pub pairs_end : {A B : Type 0} (xs : List A) (ys : List B) (i : ℕ) → length xs ≤ i → drop i (zip xs ys) ≡ []
 pairs_end [] ys i le = drop_all i [] (omega arith)

@@ -14,13 +14,17 @@ pub goes_on : {A S T : Type 0} (f : T → S) (step : S → A → Result S Wide) 
 goes_on f step total sum r all left x rest first is m ok =
     is ∙ ap (fold_steps step (f total)) first ∙ after_ok f (λ next. fold_steps step next rest) r _ sum m ok
 
--- a step that does not fit: the answer is its misfit, and so is the whole
+-- a step that does not fit: the whole is its misfit, and so is the answer
+pub stop_at : {A S T : Type 0} (f : T → S) (step : S → A → Result S Wide) (total : T) (r : Result T Wide) (all : Result S Wide) (left : List A) (x : A) (rest : List A) (w : Wide)
+    → left ≡ x ∷ rest → all ≡ fold_steps step (f total) left → meaning f r ≡ step (f total) x → r ≡ Err w → all ≡ Err w
+stop_at f step total r all left x rest w first is m err = is ∙ ap (fold_steps step (f total)) first ∙ after_err f (λ next. fold_steps step next rest) r _ w m err
+
 pub stops : {A S T : Type 0} (f : T → S) (step : S → A → Result S Wide) (total : T) (r answer : Result T Wide) (all : Result S Wide) (left : List A) (x : A) (rest : List A) (w : Wide)
     → left ≡ x ∷ rest → all ≡ fold_steps step (f total) left → meaning f r ≡ step (f total) x → r ≡ Err w → IsErrAnd answer (λ v. v ≡ w)
     → meaning f answer ≡ all
 stops f step total r answer all left x rest w first is m err says =
     let p = err_from_is_err_and answer says in
-    rw (p.1, p.2) (sym (is ∙ ap (fold_steps step (f total)) first ∙ after_err f (λ next. fold_steps step next rest) r _ w m err))
+    rw (p.1, p.2) (sym (stop_at f step total r all left x rest w first is m err))
 
 -- no item left: the total is the whole
 pub ends : {A S T : Type 0} (f : T → S) (step : S → A → Result S Wide) (total : T) (all : Result S Wide) (left : List A)

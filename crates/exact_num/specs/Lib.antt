@@ -1,5 +1,6 @@
 pub mod Fraction
 pub mod CommonDenominator
+pub mod Limit
 pub mod Fits
 pub mod Steps
 pub mod Tests

@@ -28,12 +28,14 @@ use Rattle.form.specs.declared.orders.Order.{Order}
 use Rattle.form.specs.Payoff.{option_of, one, payoff, bundle_of, bundle_payoff, scale_of, positive_part}
 use Rattle.clearing_model.specs.Measure.{WeightedState, mass_of, price_of as model_price, gain, gain_of, bound_of as model_bound}
 use Rattle.clearing_model.specs.Certificate.{Point, fraction_weight, points_over, IsWeight, HasUnitMass}
-use Rattle.form.specs.Steps.{plus_product, payoff_of}
+use Rattle.form.specs.Steps.{payoff_of}
+use Rattle.exact_num.specs.Steps.{plus_product}
 use Rattle.form.proofs.DotSteps.{payoffs_are_exact}
-use Rattle.form.proofs.StepRatios.{Stands, plus_stands, sum_stands, negated_stands, whole_stands, whole_product_stands, above, not_above}
+use Rattle.exact_num.proofs.Stands.{Stands, plus_stands, sum_stands, negated_stands, whole_stands, whole_product_stands, above, not_above}
 use Rattle.measure.specs.declared.measures.Weighted.{Weighted}
 use Rattle.measure.specs.Points.{point_of}
-use Rattle.measure.specs.Sums.{is_weight, are_weights, add_mass, add_masses, is_same, has_unit_mass, add_price, add_prices, price_of, gain_at, add_gain, add_gains, bound_of}
+use Rattle.measure.specs.Sums.{is_weight, are_weights, add_mass, add_masses, has_unit_mass, add_price, add_prices, price_of, gain_at, add_gain, add_gains, bound_of}
+use Rattle.exact_num.specs.Tests.{is_same}
 use Rattle.measure.specs.Laws.{MassesAreExact, PricesAreExact, BoundsAreExact}
 
 -- what holds of the value of a definition holds of what a call answers for it
@@ -58,13 +60,13 @@ weights_are (point ∷ points) low h =
     (weights_are points (All-tail IsLowest point.1 (map fraction_weight points) low) parts.1)
 
 -- a number that is at least another passes the test of that
-pub le_is_true : (a b : ℤ) → a ≤ℤ b → int_le a b ≡ true
-le_is_true a b h = grind (arith, ints)
+pub int_le-true : (a b : ℤ) → a ≤ℤ b → int_le a b ≡ true
+int_le-true a b h = grind (arith, ints)
 
 weights_pass : (points : List Point) → All IsWeight points → are_weights points ≡ true
 weights_pass [] are = refl
 weights_pass (point ∷ points) are =
-    and_true (is_weight point) (are_weights points) (le_is_true (pos 0) point.1.numerator (All-head IsWeight point points are).1) (weights_pass points (All-tail IsWeight point points are))
+    and_true (is_weight point) (are_weights points) (int_le-true (pos 0) point.1.numerator (All-head IsWeight point points are).1) (weights_pass points (All-tail IsWeight point points are))
 
 weight_stands : (W : ℕ) (point : Point) (points : List Point) → All IsLowest (map fraction_weight (point ∷ points)) → All (λ f. f.denominator ∣ W) (map fraction_weight (point ∷ points)) → Stands point.1 (amount_over W point.1) W
 weight_stands W point points low div = record {

@@ -30,5 +30,5 @@ stops sum_from step law total r w left x rest is m err =
     ap (sum_from (fraction_of total)) is ∙ law (fraction_of total) x rest ∙ after_err fraction_of (λ s. sum_from s rest) r _ w m err
 
 -- the order at i, and those after it
-pub order_first : (os : List Order) (i : ℕ) (o : Order) → i < length os → o ≡ get_or os i o → drop i os ≡ o ∷ drop (i + 1) os
-order_first os i o lt is = rw add-one (drop-cons os i o lt ∙ ap (λ (x : Order). x ∷ drop (suc i) os) (sym is))
+pub item_first : (os : List Order) (i : ℕ) (o : Order) → i < length os → o ≡ get_or os i o → drop i os ≡ o ∷ drop (i + 1) os
+item_first os i o lt is = rw add-one (drop-cons os i o lt ∙ ap (λ (x : Order). x ∷ drop (suc i) os) (sym is))

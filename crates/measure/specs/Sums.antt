@@ -8,7 +8,8 @@ use Rattle.form.specs.declared.orders.Side.{Side}
 use Rattle.form.specs.declared.orders.Side.TheVariants.{Buy, Sell}
 use Rattle.form.specs.declared.orders.Order.{Order}
 use Rattle.form.specs.Payoff.{option_of, scale_of}
-use Rattle.form.specs.Steps.{plus_product, payoff_of}
+use Rattle.form.specs.Steps.{payoff_of}
+use Rattle.exact_num.specs.Steps.{plus_product}
 use Rattle.clearing_model.specs.Certificate.{Point}
 
 -- whether no weight is below 0

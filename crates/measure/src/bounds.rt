@@ -14,7 +14,7 @@ ghost use Rattle.measure.specs.Sums.{add_gain, bound_of, gain_at};
 use crate::measures::Measure;
 use crate::prices::price_of;
 use exact_num::{Exact, Wide};
-use form::sums::plus_product;
+use exact_num::sums::plus_product;
 use form::{Batch, Order, Side};
 use frac::{Frac128, whole};
 

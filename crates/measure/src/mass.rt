@@ -11,7 +11,7 @@ ghost use Rattle.measure.specs.Sums.{add_mass, add_masses, are_weights, has_unit
 
 use crate::measures::{Measure, Weighted};
 use exact_num::{Exact, Wide};
-use form::sums::plus_product;
+use exact_num::sums::plus_product;
 use frac::{Frac128, whole};
 
 /// Whether no weight is below 0 and the sum of `weight * t` is 1: true shows that it is so, and false that it is not.

@@ -11,7 +11,7 @@ ghost use Rattle.measure.specs.Sums.{add_price, price_of};
 
 use crate::measures::{Measure, Weighted};
 use exact_num::{Exact, Wide};
-use form::sums::plus_product;
+use exact_num::sums::plus_product;
 use form::{Form, payoff};
 use frac::{Frac128, whole};
 

@@ -1,11 +1,11 @@
 use Rattle.std.proofs.Common.{refl, ◌∙◌}
 use Rattle.std.proofs.lemmas.Result.{err_from_is_err_and}
 use Rattle.frac.specs.Range.{limit}
-use Rattle.form.proofs.ListSteps.{drop_map}
+use Rattle.arithmetic.proofs.Lists.{drop_map}
 use Rattle.form.specs.Payoff.{option_of}
 use Rattle.measure.specs.Points.{point_of}
 use Rattle.measure.specs.Sums.{add_price, add_prices}
-use Rattle.measure.proofs.SumSteps.{goes_on, stops}
+use Rattle.exact_num.proofs.Loops.{goes_on, stops}
 use Rattle.measure.proofs.prices.sum.Goals as goal
 
 pub returns-in_err-total : goal.returns-in_err-total
