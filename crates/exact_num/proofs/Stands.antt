@@ -67,6 +67,11 @@ plus_stands limit total a s k x y D st sa h =
     let f = after_value (mul_of limit a (whole k)) (λ p. add_of limit total p) s h in
     sum_stands limit total f.value s x (y *ℤ k) D st (product_stands limit a f.value k y D sa f.first) f.rest
 
+pub times_stands : (limit : ℕ) (total a s : Fraction) (k x y : ℤ) (D : ℕ) → Stands total x D → Stands a y D → plus_product limit total (whole k) a ≡ Ok s → Stands s (x +ℤ (y *ℤ k)) D
+times_stands limit total a s k x y D st sa h =
+    let f = after_value (mul_of limit (whole k) a) (λ p. add_of limit total p) s h in
+    sum_stands limit total f.value s x (y *ℤ k) D st (whole_product_stands limit a f.value k y D sa f.first) f.rest
+
 pub less_stands : (limit : ℕ) (total a s : Fraction) (k x y : ℤ) (D : ℕ) → Stands total x D → Stands a y D → less_product limit total a (whole k) ≡ Ok s → Stands s (x +ℤ neg_ℤ (y *ℤ k)) D
 less_stands limit total a s k x y D st sa h =
     let f = after_value (mul_of limit a (whole k)) (λ p. sub_of limit total p) s h in
