@@ -6,3 +6,4 @@ pub mod Steps
 pub mod Tests
 pub mod Laws
 pub mod Worked
+pub mod Rationals
