@@ -8,7 +8,8 @@ use Rattle.exact_num.specs.declared.misfit.Wide.{Wide as Misfit}
 use Rattle.exact_num.specs.Fraction.{Fraction, IsLowest}
 use Rattle.exact_num.proofs.After.{after_value}
 use Rattle.frac.specs.Range.{limit as largest}
-use Rattle.frac.specs.ValueOf.{is_lowest, has_128_bits}
+use Rattle.frac.specs.ValueOf.{has_128_bits}
+use Rattle.exact_num.specs.Tests.{is_lowest}
 use Rattle.table_run.specs.Places.{at, fraction_zero}
 use Rattle.table_run.specs.Program.{LinearProgram}
 use Rattle.table_run.specs.Optimum.{IsOptimum, IsAsSaid}

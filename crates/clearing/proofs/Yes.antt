@@ -10,7 +10,7 @@ use Rattle.form.specs.declared.orders.Order.{Order}
 use Rattle.form.specs.declared.orders.Batch.{Batch}
 use Rattle.clearing_model.specs.Clearing.{AreOn}
 use Rattle.form.specs.Limits.{IsOrderWithin, IsWithinLimits}
-use Rattle.line_cover.specs.Line.{and_then}
+use Rattle.exact_num.specs.Steps.{and_then}
 use Rattle.cert_check.specs.declared.outcome.Mark.TheVariants.{Wide, Budget}
 use Rattle.cert_check.specs.declared.outcome.No.{No}
 use Rattle.cert_check.specs.declared.outcome.No.TheVariants as no

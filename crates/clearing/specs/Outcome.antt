@@ -4,7 +4,8 @@ use Rattle.exact_num.specs.Fraction.{Fraction, whole}
 use Rattle.frac.specs.declared.bits128.Frac128.{Frac128}
 use Rattle.frac.specs.Range.{limit as largest}
 use Rattle.frac.specs.Value.{fraction_of}
-use Rattle.frac.specs.ValueOf.{value_of, is_lowest, has_128_bits}
+use Rattle.frac.specs.ValueOf.{value_of, has_128_bits}
+use Rattle.exact_num.specs.Tests.{is_lowest}
 use Rattle.form.specs.declared.orders.Order.{Order}
 use Rattle.form.specs.declared.orders.Batch.{Batch}
 use Rattle.form.specs.StateOf.{state_of}

@@ -15,7 +15,7 @@ use Rattle.form.specs.Vector.{is_same_bundle}
 use Rattle.clearing_model.specs.Balance.{AreBalanced}
 use Rattle.clearing_model.specs.Clearing.{Filled, for_side, premium}
 use Rattle.form.specs.Payoff.{BundleLeg, bundle_of}
-use Rattle.form.proofs.SameOption.{and_parts}
+use Rattle.std.proofs.lemmas.Bool.{and_parts}
 use Rattle.market_laws.proofs.Balance.{same_bundle_is, bundle_is_same, balanced_sum_is_zero}
 use Rattle.each_match.specs.Laws.{matched, IsBetter, IsFilledAt, MatchHasPrices, MatchIsTheBest}
 use Rattle.each_match.specs.Match.{match_by_option}

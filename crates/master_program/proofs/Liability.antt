@@ -20,8 +20,8 @@ use Rattle.form.specs.declared.orders.Side.{Side}
 use Rattle.form.specs.declared.orders.Side.TheVariants.{Buy, Sell}
 use Rattle.form.specs.declared.orders.Order.{Order}
 use Rattle.clearing_model.specs.Clearing.{SignedFill, for_side, signed_sum, signed_net}
-use Rattle.form.specs.Steps.{plus_product}
-use Rattle.form.proofs.StepRatios.{Stands, plus_stands}
+use Rattle.exact_num.specs.Steps.{plus_product}
+use Rattle.exact_num.proofs.Stands.{Stands, plus_stands}
 use Rattle.master_program.specs.Master.{zero_prices, pays, first_payoff, signed_for}
 use Rattle.master_program.specs.Reading.{add_owed, add_all_owed, liability_of}
 use Rattle.master_program.proofs.Steps.{whole_gives, first_is}

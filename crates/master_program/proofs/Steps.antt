@@ -17,7 +17,7 @@ use Rattle.form.specs.declared.orders.Order.{Order}
 use Rattle.form.specs.Vector.{scale_of, dot, strike_entry}
 use Rattle.form.specs.Payoff.{option_of}
 use Rattle.clearing_model.specs.Clearing.{for_side}
-use Rattle.form.proofs.StepRatios.{bundle_pays}
+use Rattle.form.proofs.Vectors.{bundle_pays}
 use Rattle.form.proofs.DotSteps.{payoffs_are_exact}
 use Rattle.master_program.specs.Master.{zero_prices, pays, order_cost, order_entry, costs_of, quantity_rows, state_row, rows_of, right_sides_of, plain_master, all_of, signed_for, first_payoff, order_payoff, cost_steps, entry_steps, row_steps, rows_steps, quantity_steps, master}
 use Rattle.master_program.specs.Laws.{StepsGiveMaster}

@@ -9,7 +9,8 @@ use Rattle.form.specs.declared.orders.Batch.{Batch}
 use Rattle.clearing_model.specs.Clearing.{AreOn}
 use Rattle.simplex.specs.declared.stop.Stop.{Stop}
 use Rattle.simplex.specs.declared.stop.Stop.TheVariants.{Wide, Budget, Memory}
-use Rattle.line_cover.specs.Line.{and_then, line_holds}
+use Rattle.line_cover.specs.Line.{line_holds}
+use Rattle.exact_num.specs.Steps.{and_then}
 use Rattle.measure.specs.declared.measures.Measure.{Measure}
 use Rattle.measure.specs.Points.{point_of}
 use Rattle.measure.specs.Sums.{has_unit_mass}

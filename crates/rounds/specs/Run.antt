@@ -7,7 +7,8 @@ use Rattle.table_run.specs.Program.{LinearProgram}
 use Rattle.table_run.specs.Ending.{Ending, done, unbounded, wide_at, no_unit_left}
 use Rattle.table_run.specs.Run.{Optimum, run, optimum}
 use Rattle.form.specs.declared.orders.Order.{Order}
-use Rattle.line_cover.specs.Line.{and_then, line_holds}
+use Rattle.line_cover.specs.Line.{line_holds}
+use Rattle.exact_num.specs.Steps.{and_then}
 use Rattle.line_cover.specs.Breakpoints.{first_state, later_states}
 use Rattle.measure.specs.Sums.{has_unit_mass}
 use Rattle.cert_check.specs.Cover.{surplus_holds}

@@ -11,7 +11,7 @@ use Rattle.frac.specs.Value.{fraction_of}
 use Rattle.form.specs.declared.orders.Side.{Side}
 use Rattle.form.specs.declared.orders.Side.TheVariants.{Buy, Sell}
 use Rattle.form.specs.declared.orders.Order.{Order}
-use Rattle.form.proofs.ListSteps.{drop_map}
+use Rattle.arithmetic.proofs.Lists.{drop_map}
 use Rattle.sign_tree.specs.Read.{sign_of}
 use Rattle.clearing_model.specs.Legs.{Exposure}
 use Rattle.clearing_model.specs.Tree.{Sign, Unsigned}

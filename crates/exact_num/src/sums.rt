@@ -2,9 +2,10 @@
 
 ghost use Rattle.std.specs.Prelude.{◌≡◌, unsigned_abs};
 ghost use Rattle.exact_num.specs.Fits.{meaning};
-ghost use Rattle.form.specs.Steps.{less_product, plus_product};
+ghost use Rattle.exact_num.specs.Steps.{less_product, plus_product};
 
-use exact_num::{Exact, Wide};
+use crate::misfit::Wide;
+use crate::number::Exact;
 
 /// The total and the product of `a` and `b`: the product first, then the sum. Takes no memory.
 pub fn plus_product<N: Exact>(total: N, a: N, b: N) -> Result<N, Wide>
