@@ -8,8 +8,9 @@ use Rattle.arithmetic.proofs.Products.{products}
 use Rattle.form.specs.declared.orders.Order.{Order}
 use Rattle.form.specs.declared.orders.Side.{Side}
 use Rattle.form.specs.declared.orders.Side.TheVariants.{Buy, Sell}
-use Rattle.form.specs.Balance.{is_same_bundle, one_if, balance_of}
-use Rattle.form.specs.Clearing.{Filled, if_buy, if_sell}
+use Rattle.form.specs.Vector.{is_same_bundle}
+use Rattle.clearing_model.specs.Balance.{one_if, balance_of}
+use Rattle.clearing_model.specs.Clearing.{Filled, if_buy, if_sell}
 use Rattle.form.specs.Payoff.{BundleLeg, bundle_of}
 use Rattle.market_laws.proofs.Balance.{same_bundle_is}
 use Rattle.each_match.specs.declared.queues.Offer.{Offer}

@@ -3,7 +3,7 @@ use Rattle.std.proofs.Common.{◌≡◌, Bool, true, false, ◌&&◌, nat_eq, re
 use Rattle.std.specs.Ordering.{int_eq}
 use lib.Pointwise.{pointwise}
 use Rattle.form.specs.declared.orders.Order.{Order}
-use Rattle.form.specs.Balance.{is_same_option, is_same_bundle}
+use Rattle.form.specs.Vector.{is_same_option, is_same_bundle}
 use Rattle.form.specs.Payoff.{bundle_of, option_of}
 use Rattle.form.proofs.SameOption.{forms_equal}
 

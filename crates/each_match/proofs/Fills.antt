@@ -1,15 +1,16 @@
 -- What the auction of its bundle fills of each order.
-use Rattle.std.proofs.Common.{◌≡◌, ℕ, zero, suc, ◌+◌, ◌^◌, ◌≤◌, ◌<◌, nat_lt, nat_le, List, [], ◌∷◌, ◌++◌, append_assoc, drop, drop-cons, Bool, true, false, ◌&&◌, cond, length, get_or, All, Some, slice_get, refl, sym, ap, subst, ◌∙◌, arith}
+use Rattle.std.proofs.Common.{◌≡◌, ℕ, zero, suc, ◌+◌, ◌^◌, ◌≤◌, ◌<◌, nat_lt, nat_le, List, [], ◌∷◌, ◌++◌, append_assoc, drop, Bool, true, false, ◌&&◌, cond, length, All, Some, slice_get, refl, sym, ap, subst, ◌∙◌, arith}
 use Rattle.std.proofs.lemmas.Bool.{lt-ltb}
 use Rattle.std.proofs.lemmas.Bool.Decides.{nat_tests}
 use Rattle.std.proofs.lemmas.List.Elements.{All-nil, All-cons}
 use Rattle.std.proofs.lemmas.Option.{slice_get_within, get_or_from_slice_get}
 use Rattle.std.specs.List.{zip}
+use Rattle.arithmetic.proofs.Lists.{item_first}
 use Rattle.form.specs.declared.orders.Order.{Order}
 use Rattle.form.specs.declared.orders.Side.{Side}
 use Rattle.form.specs.declared.orders.Side.TheVariants.{Buy, Sell}
-use Rattle.form.specs.Balance.{is_same_bundle}
-use Rattle.form.specs.Clearing.{Filled}
+use Rattle.form.specs.Vector.{is_same_bundle}
+use Rattle.clearing_model.specs.Clearing.{Filled}
 use Rattle.form.specs.Payoff.{BundleLeg, bundle_of}
 use Rattle.market_laws.proofs.Balance.{bundle_is_same}
 use Rattle.each_match.specs.declared.queues.Offer.{Offer}
@@ -125,7 +126,7 @@ fills_at batch place (suc i) k (p ∷ orders) o is at = fills_at batch (place + 
 pub fills_more : (orders : List Order) (place : ℕ) (o : Order) (done pushed whole : List ℕ) (fill : ℕ) → slice_get orders place ≡ Some o → pushed ≡ done ++ fill ∷ [] → fill ≡ fill_of orders place o
     → done ++ fills_from orders place (drop place orders) ≡ whole → pushed ++ fills_from orders (place + 1) (drop (place + 1) orders) ≡ whole
 fills_more orders place o done pushed whole fill at push is h =
-    let rest : drop place orders ≡ o ∷ drop (place + 1) orders = drop-cons orders place o (slice_get_within orders place o at) ∙ ap (λ n. get_or orders place o ∷ drop n orders) (let e : suc place ≡ place + 1 = omega arith in e) ∙ ap (λ (p : Order). p ∷ drop (place + 1) orders) (get_or_from_slice_get orders place o o at) in
+    let rest = item_first orders place o (slice_get_within orders place o at) (sym (get_or_from_slice_get orders place o o at)) in
     let later = fills_from orders (place + 1) (drop (place + 1) orders) in
     (λ i. push i ++ later) ∙ append_assoc done (fill ∷ []) later ∙ (λ i. done ++ is i ∷ later) ∙ ap (λ l. done ++ fills_from orders place l) (sym rest) ∙ h
 

@@ -9,8 +9,8 @@ use Rattle.arithmetic.proofs.Sums.{All-head, All-tail}
 use Rattle.form.specs.declared.orders.Order.{Order}
 use Rattle.form.specs.declared.orders.Side.{Side}
 use Rattle.form.specs.declared.orders.Side.TheVariants.{Buy, Sell}
-use Rattle.form.specs.Balance.{AreBalanced}
-use Rattle.form.specs.Clearing.{Filled, for_side, signed_sum, as_signed, buys_less_sells, premium}
+use Rattle.clearing_model.specs.Balance.{AreBalanced}
+use Rattle.clearing_model.specs.Clearing.{Filled, for_side, signed_sum, as_signed, buys_less_sells, premium}
 use Rattle.form.specs.Payoff.{BundleLeg, bundle_of}
 use Rattle.market_laws.proofs.Balance.{balanced_sum_is_zero}
 use Rattle.market_laws.proofs.Legs.{signed_sums_agree}

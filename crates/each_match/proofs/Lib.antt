@@ -1,6 +1,5 @@
 pub mod Balances
 pub mod Bundles
-mod Examples
 pub mod Fills
 pub mod Gains
 pub mod InLine
@@ -9,3 +8,4 @@ pub mod Options
 pub mod Parted
 pub mod Turns
 pub mod Waiting
+pub mod WorkedBatches

@@ -6,7 +6,7 @@ use Rattle.std.proofs.lemmas.Int.{ints}
 use Rattle.arithmetic.proofs.Products.{products}
 use Rattle.arithmetic.proofs.Sums.{All-head, All-tail}
 use Rattle.form.specs.declared.orders.Order.{Order}
-use Rattle.form.specs.Clearing.{Filled, AreFills, premium}
+use Rattle.clearing_model.specs.Clearing.{Filled, AreFills, premium}
 use Rattle.form.specs.Payoff.{bundle_of}
 use Rattle.market_laws.proofs.Balance.{balanced_owes_nothing}
 use Rattle.each_match.specs.Laws.{matched, IsFilledAt, MatchIsWithin, MatchOwesNothing, MatchEarns, MatchCovers, MatchHasPrices, MatchIsTheBest}

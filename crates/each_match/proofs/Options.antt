@@ -5,7 +5,7 @@ use Rattle.std.proofs.lemmas.List.Sums.{sum_by-append}
 use Rattle.std.proofs.lemmas.Option.{slice_get_within, get_or_from_slice_get}
 use Rattle.std.specs.List.{list_any}
 use Rattle.form.specs.declared.orders.Order.{Order}
-use Rattle.form.specs.Balance.{is_same_bundle}
+use Rattle.form.specs.Vector.{is_same_bundle}
 use Rattle.form.specs.Payoff.{BundleLeg, bundle_of}
 use Rattle.market_laws.proofs.Balance.{bundle_is_same, same_bundle_is}
 use Rattle.each_match.specs.declared.auction.Trade.{Trade}

@@ -4,7 +4,7 @@ use Rattle.std.proofs.lemmas.Bool.Decides.{nat_tests}
 use Rattle.std.specs.List.{AllByRecursion}
 use Rattle.form.specs.declared.orders.Order.{Order}
 use Rattle.form.specs.declared.orders.Side.{Side}
-use Rattle.form.specs.Balance.{is_same_bundle}
+use Rattle.form.specs.Vector.{is_same_bundle}
 use Rattle.form.specs.Payoff.{BundleLeg, bundle_of}
 use Rattle.each_match.specs.declared.queues.Offer.{Offer}
 use Rattle.each_match.specs.Auction.{fill_first}

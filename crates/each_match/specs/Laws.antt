@@ -6,8 +6,8 @@ use Rattle.exact_num.specs.Fraction.{whole}
 use Rattle.form.specs.declared.orders.Order.{Order}
 use Rattle.form.specs.declared.orders.Side.{Side}
 use Rattle.form.specs.declared.orders.Side.TheVariants.{Buy, Sell}
-use Rattle.form.specs.Balance.{AreBalanced}
-use Rattle.form.specs.Clearing.{Filled, AreFills, net, premium, Covers}
+use Rattle.clearing_model.specs.Balance.{AreBalanced}
+use Rattle.clearing_model.specs.Clearing.{Filled, AreFills, net, premium, Covers}
 use Rattle.form.specs.Payoff.{BundleLeg, bundle_of}
 use Rattle.each_match.specs.declared.queues.Offer.{Offer}
 use Rattle.each_match.specs.declared.auction.Trade.{Trade}
@@ -22,7 +22,10 @@ matched orders = zip orders (match_by_option orders)
 abbrev pub AuctionGoesOn : Type 0
 AuctionGoesOn =
     (buys sells : List Offer)
-    → auction buys sells ≡ option_map_or (λ (trade : Trade). trade ∷ auction (fill_first trade.amount buys) (fill_first trade.amount sells)) (next_trade buys sells) []
+    → auction buys sells
+    ≡ option_map_or
+    (λ (trade : Trade). trade ∷ auction (fill_first trade.amount buys) (fill_first trade.amount sells))
+    (next_trade buys sells) []
 
 -- each order is filled by the auction of the two queues of its own option
 abbrev pub MatchIsTheAuction : Type 0

@@ -3,3 +3,4 @@ pub mod Laws
 pub mod Match
 pub mod Queue
 pub mod Trades
+pub mod Worked

@@ -5,7 +5,7 @@ use Rattle.std.specs.Prelude.{ℕ, ◌+◌, ◌==◌, nat_lt, List, [], ◌∷�
 use Rattle.form.specs.declared.orders.Order.{Order}
 use Rattle.form.specs.declared.orders.Side.{Side}
 use Rattle.form.specs.declared.orders.Side.TheVariants.{Buy, Sell}
-use Rattle.form.specs.Balance.{is_same_bundle}
+use Rattle.form.specs.Vector.{is_same_bundle}
 use Rattle.form.specs.Payoff.{BundleLeg, bundle_of}
 use Rattle.each_match.specs.declared.queues.Offer.{Offer}
 

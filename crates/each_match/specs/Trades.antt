@@ -2,7 +2,7 @@
 use Rattle.std.specs.Prelude.{ℕ, ◌≡◌, List, take, Bool, Some}
 use Rattle.std.specs.List.{slice_get, list_any}
 use Rattle.form.specs.declared.orders.Order.{Order}
-use Rattle.form.specs.Balance.{is_same_bundle}
+use Rattle.form.specs.Vector.{is_same_bundle}
 use Rattle.form.specs.Payoff.{BundleLeg, bundle_of}
 use Rattle.each_match.specs.declared.auction.Trade.{Trade}
 use Rattle.each_match.specs.Auction.{filled}

@@ -1,6 +1,7 @@
 //! Laws over the definition of the match: each is the contract of a function that does nothing.
 
 ghost use Rattle.each_match.specs.Laws.{AuctionGoesOn, MatchIsTheAuction, MatchIsWithin, MatchIsBalanced, MatchOwesNothing, MatchEarns, MatchCovers, MatchHasPrices, MatchIsTheBest};
+ghost use Rattle.each_match.specs.Worked.{BatchesByHand};
 
 /// An auction makes the next trade of its two queues and goes on with what that leaves of them, and ends where there is
 /// no next trade: the bound on the number of trades in its definition cuts none off.
@@ -50,4 +51,9 @@ pub fn match_has_prices()
 /// [`match_has_prices`], and no fills gain more there than the match.
 pub fn match_is_the_best()
     ensures { MatchIsTheBest }
+{}
+
+/// Batches that were matched by hand come out so.
+pub fn batches_by_hand()
+    ensures { BatchesByHand }
 {}

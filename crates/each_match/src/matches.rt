@@ -1,8 +1,8 @@
 // The match of each option by itself.
 ghost use Rattle.std.specs.Prelude.{◌≡◌, ◌≤◌, ◌≤ℤ◌, ℕ, List, length, pos, IfOk};
 ghost use Rattle.std.specs.List.{zip};
-ghost use Rattle.form.specs.Balance.{AreBalanced};
-ghost use Rattle.form.specs.Clearing.{AreFills, net, premium};
+ghost use Rattle.clearing_model.specs.Balance.{AreBalanced};
+ghost use Rattle.clearing_model.specs.Clearing.{AreFills, net, premium};
 ghost use Rattle.form.specs.Payoff.{bundle_of};
 ghost use Rattle.each_match.specs.Laws.{IsBestBalanced};
 ghost use Rattle.each_match.specs.Match.{match_by_option};

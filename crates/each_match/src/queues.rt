@@ -1,7 +1,7 @@
 // The queues of the buys and the sells of one option.
 ghost use Rattle.std.specs.Prelude.{◌≡◌, IfOk};
 ghost use Rattle.std.specs.Ordering.{is_lt};
-ghost use Rattle.form.specs.Balance.{is_same_bundle};
+ghost use Rattle.form.specs.Vector.{is_same_bundle};
 ghost use Rattle.form.specs.Payoff.{bundle_of};
 ghost use Rattle.each_match.specs.Queue.{stands_before, offers_from, queue_of};
 
