@@ -1,5 +1,5 @@
 -- Of each bundle as much is bought as sold: on each side the fills of its orders add up to the amounts of the trades.
-use Rattle.std.proofs.Common.{◌≡◌, ℕ, zero, suc, ◌+◌, ◌==◌, ◌<◌, List, [], ◌∷◌, Bool, true, false, ◌&&◌, cond, if◌then◌else◌, get_or, Some, slice_get, ℤ, pos, ◌+ℤ◌, ◌-ℤ◌, ◌*ℤ◌, refl, sym, ap, ap₂, ◌∙◌, arith}
+use Rattle.std.proofs.Common.{◌≡◌, ℕ, zero, suc, ◌+◌, ◌==◌, ◌<◌, List, [], ◌∷◌, Bool, true, false, ◌&&◌, if◌then◌else◌, get_or, Some, slice_get, pos, ◌*ℤ◌, refl, ap, ap₂, ◌∙◌, arith}
 use Rattle.std.proofs.lemmas.Bool.Decides.{nat_tests}
 use Rattle.std.proofs.lemmas.Int.{ints}
 use Rattle.std.specs.List.{zip, AllByRecursion}
@@ -18,11 +18,10 @@ use Rattle.each_match.specs.declared.auction.Trade.{Trade}
 use Rattle.each_match.specs.Auction.{place_on, amount_at, filled}
 use Rattle.each_match.specs.Laws.{matched, MatchIsBalanced}
 use Rattle.each_match.specs.Match.{trades_of, fill_of, fills_from}
-use Rattle.each_match.specs.Queue.{is_on, offer_of, offers_from, queue_of}
+use Rattle.each_match.specs.Queue.{is_on, belongs, offer_of, offers_from, queue_of}
 use Rattle.each_match.proofs.InLine.{Each-in_line}
 use Rattle.each_match.proofs.Parted.{filled-cons}
 use Rattle.each_match.proofs.Turns.{Each-fill_first, of_auction}
-use Rattle.each_match.proofs.Waiting.{belongs}
 
 amount_elsewhere : (side : Side) (k : ℕ) (t : Trade) → (place_on side t ≡ k → ⊥) → amount_at side k t ≡ 0
 amount_elsewhere side k t other = let e : (place_on side t == k) ≡ false = grind (arith, nat_tests) in ap (λ b. if b then t.amount else 0) e

@@ -1,5 +1,5 @@
 -- What the auction of its bundle fills of each order.
-use Rattle.std.proofs.Common.{◌≡◌, ℕ, zero, suc, ◌+◌, ◌^◌, ◌≤◌, ◌<◌, nat_lt, nat_le, List, [], ◌∷◌, ◌++◌, append_assoc, drop, Bool, true, false, ◌&&◌, cond, length, All, Some, slice_get, refl, sym, ap, subst, ◌∙◌, arith}
+use Rattle.std.proofs.Common.{◌≡◌, ℕ, zero, suc, ◌+◌, ◌^◌, ◌≤◌, ◌<◌, nat_lt, nat_le, List, [], ◌∷◌, ◌++◌, append_assoc, drop, Bool, true, false, cond, length, All, Some, slice_get, refl, sym, ap, subst, ◌∙◌, arith}
 use Rattle.std.proofs.lemmas.Bool.{lt-ltb}
 use Rattle.std.proofs.lemmas.Bool.Decides.{nat_tests}
 use Rattle.std.proofs.lemmas.List.Elements.{All-nil, All-cons}
@@ -9,7 +9,6 @@ use Rattle.arithmetic.proofs.Lists.{item_first}
 use Rattle.form.specs.declared.orders.Order.{Order}
 use Rattle.form.specs.declared.orders.Side.{Side}
 use Rattle.form.specs.declared.orders.Side.TheVariants.{Buy, Sell}
-use Rattle.form.specs.Vector.{is_same_bundle}
 use Rattle.clearing_model.specs.Clearing.{Filled}
 use Rattle.form.specs.Payoff.{BundleLeg, bundle_of}
 use Rattle.market_laws.proofs.Balance.{bundle_is_same}
@@ -18,11 +17,11 @@ use Rattle.each_match.specs.declared.auction.Trade.{Trade}
 use Rattle.each_match.specs.Auction.{filled}
 use Rattle.each_match.specs.Laws.{IsBetter, IsFilledAt, MatchIsTheAuction}
 use Rattle.each_match.specs.Match.{trades_of, fill_of, fills_from, match_by_option}
-use Rattle.each_match.specs.Queue.{is_on, offers_from, queue_of}
+use Rattle.each_match.specs.Queue.{is_on, belongs, offers_from, queue_of}
 use Rattle.each_match.specs.Trades.{AreTradesOf}
 use Rattle.each_match.proofs.InLine.{IsInLine, IsInLine-in_line}
 use Rattle.each_match.proofs.Parted.{AtMost, AtLeast, first_is_most, IsParted, parted}
-use Rattle.each_match.proofs.Waiting.{waits, belongs, waiting_of, waits-queue_of}
+use Rattle.each_match.proofs.Waiting.{waits, waiting_of, waits-queue_of}
 
 -- ---- each bundle has a price
 high_of : (xs : List Offer) → IsInLine Buy xs → (high : ℕ) × AtMost high xs

@@ -96,4 +96,3 @@ earned price orders g balanced =
     let parts = total-less (λ o. pos o.price) of orders g in
     let none = total_is of orders g ∙ balanced_sum_is_zero (zip orders g) balanced f in
     omega (arith, ints, parts, none, total_is (λ o. pos o.price) orders g)
-

@@ -1,5 +1,5 @@
 -- The laws of the match.
-use Rattle.std.proofs.Common.{◌≡◌, ℕ, ◌*◌, ◌≤◌, List, [], ◌∷◌, get_or, pos, ◌*ℤ◌, ◌≤ℤ◌, All, subst, arith}
+use Rattle.std.proofs.Common.{ℕ, ◌*◌, ◌≤◌, List, [], ◌∷◌, pos, ◌*ℤ◌, ◌≤ℤ◌, All, subst, arith}
 use Rattle.std.specs.List.{zip}
 use Rattle.std.proofs.lemmas.List.Elements.{All-cons}
 use Rattle.std.proofs.lemmas.Int.{ints}

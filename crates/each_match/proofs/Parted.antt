@@ -1,15 +1,15 @@
 -- An auction has a price that parts its orders: those that would trade at a better price are filled whole, and those that trade at it or
 -- better are all that is filled.
-use Rattle.std.proofs.Common.{◌≡◌, ℕ, ◌+◌, ◌-◌, ◌==◌, ◌≤◌, ◌<◌, min, max, nat_lt, nat_le, List, [], ◌∷◌, Bool, true, false, ◌&&◌, cond, if◌then◌else◌, refl, sym, ap, subst, ◌∙◌, arith}
+use Rattle.std.proofs.Common.{◌≡◌, ℕ, ◌+◌, ◌-◌, ◌==◌, ◌≤◌, min, max, nat_lt, nat_le, List, [], ◌∷◌, Bool, true, false, ◌&&◌, if◌then◌else◌, refl, arith}
 use Rattle.std.proofs.lemmas.Bool.Decides.{nat_tests}
-use Rattle.std.proofs.lemmas.Bool.{le-leb, lt-ltb, le-ltb}
+use Rattle.std.proofs.lemmas.Bool.{le-leb, le-ltb}
 use Rattle.std.proofs.lemmas.List.Sums.{sum_by-cons}
 use Rattle.std.specs.List.{AllByRecursion}
 use Rattle.form.specs.declared.orders.Side.{Side}
 use Rattle.form.specs.declared.orders.Side.TheVariants.{Buy, Sell}
 use Rattle.each_match.specs.declared.queues.Offer.{Offer}
 use Rattle.each_match.specs.declared.auction.Trade.{Trade}
-use Rattle.each_match.specs.Auction.{fill_first, auction, place_on, amount_at, filled}
+use Rattle.each_match.specs.Auction.{fill_first, auction, amount_at, filled}
 use Rattle.each_match.specs.Queue.{stands_before}
 use Rattle.each_match.proofs.InLine.{Each-weaker, NoneBefore, IsInLine}
 use Rattle.each_match.proofs.Turns.{with_left, first_filled, Each-fill_first, trade_of, of_auction}

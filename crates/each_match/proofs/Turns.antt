@@ -1,12 +1,12 @@
 -- The turns of an auction.
-use Rattle.std.proofs.Common.{◌≡◌, ℕ, zero, suc, ◌+◌, ◌-◌, ◌==◌, ◌≤◌, ◌<◌, min, nat_lt, List, [], ◌∷◌, ◌++◌, append_assoc, Bool, true, false, cond, inl, inr, length, Option, Some, None, refl, sym, ap, subst, ◌∙◌, arith}
+use Rattle.std.proofs.Common.{◌≡◌, ℕ, zero, suc, ◌+◌, ◌-◌, ◌==◌, ◌≤◌, ◌<◌, min, nat_lt, List, [], ◌∷◌, ◌++◌, append_assoc, Bool, true, false, cond, inl, inr, length, Some, None, refl, sym, ap, subst, ◌∙◌, arith}
 use Rattle.std.proofs.lemmas.Bool.{cases_lt}
 use Rattle.std.proofs.lemmas.Bool.Decides.{nat_tests}
 use Rattle.std.specs.List.{AllByRecursion}
 use Rattle.std.specs.Option.{option_map_or}
 use Rattle.each_match.specs.declared.queues.Offer.{Offer}
 use Rattle.each_match.specs.declared.auction.Trade.{Trade}
-use Rattle.each_match.specs.Auction.{next_trade, fill_first, trades_within, auction}
+use Rattle.each_match.specs.Auction.{next_trade, fill_first, trade_then, trades_within, auction}
 use Rattle.each_match.specs.Laws.{AuctionGoesOn}
 
 abbrev pub with_left : Offer → ℕ → Offer
@@ -63,7 +63,7 @@ module _ (P : List Offer → List Offer → List Trade → Type 0)
   along (suc more) (buy ∷ buys) [] few = no_sells buy buys
   along (suc more) (buy ∷ buys) (sell ∷ sells) few =
       let n = min buy.left sell.left in
-      let go = λ (t : Trade). t ∷ trades_within more (fill_first t.amount (buy ∷ buys)) (fill_first t.amount (sell ∷ sells)) in
+      let go = trade_then (trades_within more) (buy ∷ buys) (sell ∷ sells) in
       let Q : Bool → Type 0 = λ b. nat_lt sell.price buy.price ≡ b → P (buy ∷ buys) (sell ∷ sells) (option_map_or go (cond b (Some (trade_of buy sell)) None) []) in
       (elim (nat_lt sell.price buy.price) as Q [
         | true ↦ λ e. trade buy sell buys sells (trades_within more (fill_first n (buy ∷ buys)) (fill_first n (sell ∷ sells))) (grind (arith, nat_tests))
@@ -87,8 +87,8 @@ enough (suc m) (suc n) (buy ∷ buys) (sell ∷ sells) a b =
     let t = trade_of buy sell in
     let less = shorter buy sell buys sells in
     let rest = enough m n (fill_first t.amount (buy ∷ buys)) (fill_first t.amount (sell ∷ sells)) (omega (arith, a, less)) (omega (arith, b, less)) in
-    elim (nat_lt sell.price buy.price) as (λ b. option_map_or (λ (t : Trade). t ∷ trades_within m (fill_first t.amount (buy ∷ buys)) (fill_first t.amount (sell ∷ sells))) (cond b (Some t) None) []
-    ≡ option_map_or (λ (t : Trade). t ∷ trades_within n (fill_first t.amount (buy ∷ buys)) (fill_first t.amount (sell ∷ sells))) (cond b (Some t) None) []) [
+    elim (nat_lt sell.price buy.price) as (λ b. option_map_or (trade_then (trades_within m) (buy ∷ buys) (sell ∷ sells)) (cond b (Some t) None) []
+    ≡ option_map_or (trade_then (trades_within n) (buy ∷ buys) (sell ∷ sells)) (cond b (Some t) None) []) [
       | true ↦ ap (λ l. t ∷ l) rest
       | false ↦ refl
     ]
@@ -104,10 +104,10 @@ auction_goes_on buys sells =
 
 -- ---- a turn, as the code takes it
 pub goes_on_with : (buys sells : List Offer) (t : Trade) → next_trade buys sells ≡ Some t → auction buys sells ≡ t ∷ auction (fill_first t.amount buys) (fill_first t.amount sells)
-goes_on_with buys sells t e = auction_goes_on buys sells ∙ ap (λ o. option_map_or (λ (t : Trade). t ∷ auction (fill_first t.amount buys) (fill_first t.amount sells)) o []) e
+goes_on_with buys sells t e = auction_goes_on buys sells ∙ ap (λ o. option_map_or (trade_then auction buys sells) o []) e
 
 pub ended : (buys sells : List Offer) → next_trade buys sells ≡ None → auction buys sells ≡ []
-ended buys sells e = auction_goes_on buys sells ∙ ap (λ o. option_map_or (λ (t : Trade). t ∷ auction (fill_first t.amount buys) (fill_first t.amount sells)) o []) e
+ended buys sells e = auction_goes_on buys sells ∙ ap (λ o. option_map_or (trade_then auction buys sells) o []) e
 
 pub shorter_with : (buys sells : List Offer) (t : Trade) → next_trade buys sells ≡ Some t
     → length (fill_first t.amount buys) + length (fill_first t.amount sells) < length buys + length sells

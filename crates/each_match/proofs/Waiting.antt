@@ -4,12 +4,11 @@ use Rattle.std.proofs.lemmas.Bool.Decides.{nat_tests}
 use Rattle.std.specs.List.{AllByRecursion}
 use Rattle.form.specs.declared.orders.Order.{Order}
 use Rattle.form.specs.declared.orders.Side.{Side}
-use Rattle.form.specs.Vector.{is_same_bundle}
-use Rattle.form.specs.Payoff.{BundleLeg, bundle_of}
+use Rattle.form.specs.Payoff.{BundleLeg}
 use Rattle.each_match.specs.declared.queues.Offer.{Offer}
 use Rattle.each_match.specs.Auction.{fill_first}
-use Rattle.each_match.specs.Queue.{is_on, stands_before, put_into, in_line, offer_of, offers_from, queue_of}
-use Rattle.each_match.proofs.Turns.{with_left, first_filled}
+use Rattle.each_match.specs.Queue.{stands_before, put_into, in_line, offer_of, belongs, offers_from, queue_of}
+use Rattle.each_match.proofs.Turns.{first_filled}
 
 -- n, where the offer is of the order at the place and its price passes
 abbrev pub part : (ℕ → Bool) → ℕ → Offer → ℕ → ℕ
@@ -55,9 +54,6 @@ elsewhere p k x n other = let e : (x.place == k) ≡ false = grind (arith, nat_t
 
 at_place : (p : ℕ → Bool) (k : ℕ) (x : Offer) (n : ℕ) → x.place ≡ k → part p k x n ≡ (if p x.price then n else 0)
 at_place p k x n e = let t : (x.place == k) ≡ true = grind (arith, nat_tests) in rw t refl
-
-abbrev pub belongs : Side → List BundleLeg → Order → Bool
-belongs side bundle order = is_on side order.side && is_same_bundle (bundle_of order) bundle
 
 abbrev pub waiting_of : (ℕ → Bool) → Order → ℕ
 waiting_of p order = if p order.price then order.quantity else 0

@@ -1,7 +1,7 @@
 -- The double auction of one option, over its two queues.
 --
--- While both queues have orders and the first buy's price is above the first sell's, the smaller of the two quantities left is
--- filled in both, and an order of which nothing is left leaves its queue.
+-- While both queues have orders and the first buy's price is above the first sell's, the smaller of
+-- the two quantities left is filled in both. An order of which nothing is left leaves its queue.
 use Rattle.std.specs.Prelude.{ℕ, zero, suc, ◌+◌, ◌-◌, ◌==◌, nat_lt, min, List, [], ◌∷◌, length, Option, Some, None, if◌then◌else◌}
 use Rattle.std.specs.List.{sum_by}
 use Rattle.std.specs.Option.{option_map_or}
@@ -24,15 +24,18 @@ fill_first amount [] = []
 fill_first amount (first ∷ later) =
     if amount == first.left then later else record first { left = first.left - amount } ∷ later
 
+-- a trade, and those that follow where it has filled both queues
+abbrev pub trade_then : (List Offer → List Offer → List Trade) → List Offer → List Offer → Trade → List Trade
+trade_then follow buys sells trade =
+    trade ∷ follow (fill_first trade.amount buys) (fill_first trade.amount sells)
+
 -- at most so many trades, one after another
 abbrev pub trades_within : ℕ → List Offer → List Offer → List Trade
 trades_within zero buys sells = []
 trades_within (suc more) buys sells =
-    option_map_or
-    (λ (trade : Trade). trade ∷ trades_within more (fill_first trade.amount buys) (fill_first trade.amount sells))
-    (next_trade buys sells) []
+    option_map_or (trade_then (trades_within more) buys sells) (next_trade buys sells) []
 
--- all trades of two queues: each takes an order from its queue, so there are no more of them than orders
+-- all trades of two queues. Each takes an order from its queue, so they are no more than the orders
 abbrev pub auction : List Offer → List Offer → List Trade
 auction buys sells = trades_within (length buys + length sells) buys sells
 

@@ -18,7 +18,8 @@ fill_of batch place order = filled order.side place (trades_of batch (bundle_of 
 -- the fills of orders of the batch, the first of which stands at a place
 abbrev pub fills_from : List Order → ℕ → List Order → List ℕ
 fills_from batch place [] = []
-fills_from batch place (order ∷ orders) = fill_of batch place order ∷ fills_from batch (place + 1) orders
+fills_from batch place (order ∷ orders) =
+    fill_of batch place order ∷ fills_from batch (place + 1) orders
 
 -- the fills of the orders in whole numbers
 abbrev pub match_by_option : List Order → List ℕ

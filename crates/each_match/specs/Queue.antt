@@ -1,6 +1,7 @@
 -- The queues of the buys and the sells of one option.
 --
--- The buys stand by falling price, the sells by rising price; at one price the order with the smaller number stands first.
+-- The buys stand by falling price, the sells by rising price. At one price the order with the smaller
+-- number stands first.
 use Rattle.std.specs.Prelude.{ℕ, ◌+◌, ◌==◌, nat_lt, List, [], ◌∷◌, Bool, true, false, ◌&&◌, ◌||◌, if◌then◌else◌}
 use Rattle.form.specs.declared.orders.Order.{Order}
 use Rattle.form.specs.declared.orders.Side.{Side}
@@ -21,9 +22,10 @@ has_better_price Buy x y = nat_lt y.price x.price
 has_better_price Sell x y = nat_lt x.price y.price
 
 abbrev pub stands_before : Side → Offer → Offer → Bool
-stands_before side x y = has_better_price side x y || ((x.price == y.price) && nat_lt x.number y.number)
+stands_before side x y =
+    has_better_price side x y || ((x.price == y.price) && nat_lt x.number y.number)
 
--- an offer behind those of a queue that stand before it
+-- an offer behind those of a queue that stand before it, and before the others
 abbrev pub put_into : Side → Offer → List Offer → List Offer
 put_into side x [] = x ∷ []
 put_into side x (y ∷ ys) = if stands_before side y x then y ∷ put_into side x ys else x ∷ y ∷ ys
@@ -34,14 +36,18 @@ in_line side (x ∷ xs) = put_into side x (in_line side xs)
 
 -- an order at a place of the batch, of which nothing is filled
 abbrev pub offer_of : ℕ → Order → Offer
-offer_of place order = record { place = place; number = order.id; price = order.price; left = order.quantity }
+offer_of place order =
+    record { place = place; number = order.id; price = order.price; left = order.quantity }
 
--- the offers of the orders of a bundle on a side. The first of these orders stands at a place of the batch
+abbrev pub belongs : Side → List BundleLeg → Order → Bool
+belongs side bundle order = is_on side order.side && is_same_bundle (bundle_of order) bundle
+
+-- the offers of a bundle on a side, from orders of which the first stands at a place of the batch
 abbrev pub offers_from : Side → List BundleLeg → ℕ → List Order → List Offer
 offers_from side bundle place [] = []
 offers_from side bundle place (order ∷ orders) =
     let later = offers_from side bundle (place + 1) orders in
-    if is_on side order.side && is_same_bundle (bundle_of order) bundle then offer_of place order ∷ later else later
+    if belongs side bundle order then offer_of place order ∷ later else later
 
 -- the queue of a bundle on a side
 abbrev pub queue_of : Side → List BundleLeg → List Order → List Offer

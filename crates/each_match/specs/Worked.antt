@@ -30,26 +30,39 @@ five = negsuc 4
 
 abbrev one_option : List Order
 one_option =
-    order_for 1 Buy ten 7 3 ∷ order_for 2 Buy ten 6 2 ∷ order_for 3 Sell ten 5 2 ∷ order_for 4 Sell ten 6 2 ∷ []
+    order_for 1 Buy ten 7 3
+    ∷ order_for 2 Buy ten 6 2
+    ∷ order_for 3 Sell ten 5 2
+    ∷ order_for 4 Sell ten 6 2
+    ∷ []
 
 abbrev two_options : List Order
 two_options =
-    order_for 1 Sell five 1 1 ∷ order_for 2 Buy ten 6 2 ∷ order_for 3 Buy ten 7 1 ∷ order_for 4 Buy ten 7 1
-    ∷ order_for 5 Sell ten 6 1 ∷ order_for 6 Sell ten 5 2 ∷ []
+    order_for 1 Sell five 1 1
+    ∷ order_for 2 Buy ten 6 2
+    ∷ order_for 3 Buy ten 7 1
+    ∷ order_for 4 Buy ten 7 1
+    ∷ order_for 5 Sell ten 6 1
+    ∷ order_for 6 Sell ten 5 2
+    ∷ []
 
--- two buys, the one with the greater number first, and a sell
+abbrev equal_prices : List Order
+equal_prices = order_for 1 Buy ten 6 1 ∷ order_for 2 Sell ten 6 1 ∷ []
+
+-- two buys, the one with the greater number first, and a sell for one of them
 abbrev buys_at : ℕ → ℕ → List Order
-buys_at first second = order_for 2 Buy ten first 1 ∷ order_for 1 Buy ten second 1 ∷ order_for 3 Sell ten 5 1 ∷ []
+buys_at first second =
+    order_for 2 Buy ten first 1 ∷ order_for 1 Buy ten second 1 ∷ order_for 3 Sell ten 5 1 ∷ []
 
 pub record BatchesByHand : Type 0 where
-  -- the buy at 7 takes 2 of the sell at 5 and then 1 of the sell at 6; the buy at 6 is not above the sell at 6 that is left
+  -- the buy at 7 takes 2 of the sell at 5 and 1 of the sell at 6; the buy at 6 is not above the sell that is left
   pub one_option_matched : match_by_option one_option ≡ 3 ∷ 0 ∷ 2 ∷ 1 ∷ []
   -- 3 * 7 less 2 * 5 and 6
   pub one_option_earns : premium (matched one_option) ≡ pos 5
-  -- the cheap sell is of another option; the buys at 7 come before the one at 6, and the sell at 5 before the one at 6
+  -- the sell at 1 is of another option; the buys at 7 come before the one at 6, and the sell at 5 before the other
   pub two_options_matched : match_by_option two_options ≡ 0 ∷ 0 ∷ 1 ∷ 1 ∷ 0 ∷ 2 ∷ []
   -- equal prices stay
-  pub equal_prices_stay : match_by_option (order_for 1 Buy ten 6 1 ∷ order_for 2 Sell ten 6 1 ∷ []) ≡ 0 ∷ 0 ∷ []
+  pub equal_prices_stay : match_by_option equal_prices ≡ 0 ∷ 0 ∷ []
   -- at one price the smaller number comes first
   pub number_decides : match_by_option (buys_at 7 7) ≡ 0 ∷ 1 ∷ 1 ∷ []
   -- past the greatest price the higher price still does

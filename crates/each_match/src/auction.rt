@@ -15,8 +15,8 @@ pub(crate) struct Trade {
     pub amount: u64,
 }
 
-// The next trade of two queues: the smaller of the two quantities left, while the first buy's price is above the first
-// sell's.
+// The next trade of two queues: the smaller of the two quantities left, while the first buy's price
+// is above the first sell's.
 fn next_trade(buys: &VecDeque<Offer>, sells: &VecDeque<Offer>) -> Option<Trade>
     ensures { result ≡ next_trade buys.now.items sells.now.items }
 {
@@ -47,7 +47,7 @@ fn fill_first(queue: &mut VecDeque<Offer>, amount: u64)
 }
 
 // Adds the trades of two queues.
-#[tactic(auto, using(crate::proofs::Turns::goes_on_with, crate::proofs::Turns::ended, crate::proofs::Turns::shorter_with))]
+#[tactic(auto, using(crate::proofs::Turns::shorter_with))]
 pub(crate) fn auction(
     mut buys: VecDeque<Offer>,
     mut sells: VecDeque<Offer>,
@@ -75,7 +75,7 @@ fn amount_at(trade: &Trade, side: Side, place: usize) -> u64
 }
 
 // What trades fill of it.
-#[tactic(auto, using(std::proofs::lemmas::List::Sums::sum_by_more_le, std::proofs::lemmas::List::Sums::sum_by_more))]
+#[tactic(auto, using(std::proofs::lemmas::List::Sums::sum_by_more_le))]
 pub(crate) fn filled(trades: &[Trade], side: Side, place: usize) -> u64
     requires { filled side place trades.now < 2 ^ 64 }
     ensures { result ≡ filled side place trades.now }

@@ -1,10 +1,10 @@
 // The match of each option by itself.
-ghost use Rattle.std.specs.Prelude.{◌≡◌, ◌≤◌, ◌≤ℤ◌, ℕ, List, length, pos, IfOk};
+ghost use Rattle.std.specs.Prelude.{◌≡◌, ◌≤◌, ◌≤ℤ◌, length, pos, IfOk};
 ghost use Rattle.std.specs.List.{zip};
 ghost use Rattle.clearing_model.specs.Balance.{AreBalanced};
-ghost use Rattle.clearing_model.specs.Clearing.{AreFills, net, premium};
+ghost use Rattle.clearing_model.specs.Clearing.{AreFills, premium};
 ghost use Rattle.form.specs.Payoff.{bundle_of};
-ghost use Rattle.each_match.specs.Laws.{IsBestBalanced};
+ghost use Rattle.each_match.specs.Laws.{AreFilledByAuction, IsBestBalanced, OwesNothing};
 ghost use Rattle.each_match.specs.Match.{match_by_option};
 ghost use Rattle.each_match.specs.Trades.{is_seen, AreTradesOf};
 
@@ -18,7 +18,9 @@ fn is_seen(orders: &[Order], place: usize, option: &Order) -> bool
     requires { place ≤ length orders.now }
     ensures { result ≡ is_seen orders.now place (bundle_of option.now) }
 {
-    orders[..place].iter().any(|earlier| is_same_option(earlier, option))
+    orders[..place]
+        .iter()
+        .any(|earlier| is_same_option(earlier, option))
 }
 
 // The trades of all options, each auctioned where its first order stands.
@@ -43,24 +45,28 @@ fn fills(alloc: Global, orders: &[Order], trades: &[Trade]) -> Result<Vec<u64>, 
 {
     let mut fills = Vec::new(alloc);
     for (place, order) in orders.iter().enumerate() {
+        // Read for the proof: the fill is at most this u32, so its sum fits.
         let _quantity = order.quantity;
         fills.push(filled(trades, order.side, place))?;
     }
     Ok(fills)
 }
 
-/// Matches the orders of each option by themselves, as a double auction. The buys stand in a queue by falling limit
-/// price, the sells by rising limit price; at one price the order with the smaller id stands first. While the first
-/// buy's price is above the first sell's, the smaller of the two quantities left is filled in both.
+/// Matches the orders of each option by themselves, as a double auction. The buys stand in a queue
+/// by falling limit price, the sells by rising limit price; at one price the order with the smaller
+/// id stands first. While the first buy's price is above the first sell's, the smaller of the two
+/// quantities left is filled in both.
 ///
-/// Answers the whole fills in the order of the batch. Of each option as much is bought as sold, so the fills owe
-/// nothing at any settlement. No other fills that balance each option by itself, fractions included, have a greater
-/// premium (in ticks, what buyers pay less what sellers get). The only error is want of memory.
+/// Answers the whole fills in the order of the batch. Of each option as much is bought as sold, so
+/// the fills owe nothing at any settlement. No other fills that balance each option by itself,
+/// fractions included, have a greater premium (in ticks, what buyers pay less what sellers get).
+/// The only error is want of memory.
 pub fn match_each(alloc: Global, batch: &Batch) -> Result<Vec<u64>, AllocError>
     ensures fills { IfOk result (λ fills. fills.items ≡ match_by_option batch.now.orders) }
+    ensures auction { IfOk result (λ fills. AreFilledByAuction batch.now.orders fills.items) }
     ensures within { IfOk result (λ fills. AreFills batch.now.orders fills.items 1) }
     ensures balanced { IfOk result (λ fills. AreBalanced (zip batch.now.orders fills.items)) }
-    ensures owes_nothing { IfOk result (λ fills. (z : List ℕ) → net (zip batch.now.orders fills.items) z ≡ pos 0) }
+    ensures owes_nothing { IfOk result (λ fills. OwesNothing (zip batch.now.orders fills.items)) }
     ensures earns { IfOk result (λ fills. pos 0 ≤ℤ premium (zip batch.now.orders fills.items)) }
     ensures best { IfOk result (λ fills. IsBestBalanced batch.now.orders fills.items) }
 {

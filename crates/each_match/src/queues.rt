@@ -10,7 +10,8 @@ use std::alloc::{AllocError, Global};
 use std::cmp::Ordering;
 use std::collections::VecDeque;
 
-// An order in a queue: its place in the batch, its number, its limit price, and what is left of its quantity.
+// An order in a queue: its place in the batch, its number, its limit price, and what is left of
+// its quantity.
 #[derive(Clone, Copy, Debug)]
 pub(crate) struct Offer {
     pub place: usize,
@@ -44,7 +45,8 @@ pub(crate) fn is_same_option(order: &Order, other: &Order) -> bool
     order.form == other.form
 }
 
-// The better price comes first: a buy's higher one, a sell's lower one. At one price the smaller number comes first.
+// The better price comes first: a buy's higher one, a sell's lower one. At one price the smaller
+// number comes first.
 fn compare(side: Side, offer: &Offer, other: &Offer) -> Ordering
     ensures { is_lt result ≡ stands_before side offer.now other.now }
 {

@@ -1,13 +1,18 @@
-use Rattle.std.proofs.Common.{◌≡◌, ℕ, List, pos, ◌≤ℤ◌, ◌∙◌, sym, ap, subst}
+use Rattle.std.proofs.Common.{pos, ◌≤ℤ◌, ◌∙◌, sym, ap, subst}
 use Rattle.std.proofs.lemmas.Result.{IfOk-weaker}
 use Rattle.std.specs.List.{zip}
 use Rattle.clearing_model.specs.Balance.{AreBalanced}
-use Rattle.clearing_model.specs.Clearing.{AreFills, net, premium}
+use Rattle.clearing_model.specs.Clearing.{AreFills, premium}
 use Rattle.each_match.specs.Match.{match_by_option}
+use Rattle.each_match.proofs.Fills.{match_is_the_auction}
 use Rattle.each_match.proofs.MatchLaws.{match_is_within, match_is_balanced, match_owes_nothing, match_earns, match_is_the_best}
-
-use Rattle.each_match.specs.Laws.{IsBestBalanced}
+use Rattle.each_match.specs.Laws.{AreFilledByAuction, IsBestBalanced, OwesNothing}
 use Rattle.each_match.proofs.matches.match_each.Goals as goal
+
+pub returns-clause-auction : goal.returns-clause-auction
+returns-clause-auction c =
+    let orders = c.args.batch.now.orders in
+    IfOk-weaker c.fills.result _ _ (λ fills is. subst (AreFilledByAuction orders) (sym (is ∙ ap match_by_option c.as_slice-orders.ensures)) (match_is_the_auction orders)) c.fills.ensures
 
 pub returns-clause-within : goal.returns-clause-within
 returns-clause-within c =
@@ -22,7 +27,7 @@ returns-clause-balanced c =
 pub returns-clause-owes_nothing : goal.returns-clause-owes_nothing
 returns-clause-owes_nothing c =
     let orders = c.args.batch.now.orders in
-    IfOk-weaker c.fills.result _ _ (λ fills is. subst (λ g. (z : List ℕ) → net (zip orders g) z ≡ pos 0) (sym (is ∙ ap match_by_option c.as_slice-orders.ensures)) (match_owes_nothing orders)) c.fills.ensures
+    IfOk-weaker c.fills.result _ _ (λ fills is. subst (λ g. OwesNothing (zip orders g)) (sym (is ∙ ap match_by_option c.as_slice-orders.ensures)) (match_owes_nothing orders)) c.fills.ensures
 
 pub returns-clause-earns : goal.returns-clause-earns
 returns-clause-earns c =

@@ -1,7 +1,7 @@
-use Rattle.std.proofs.Common.{◌≡◌, ◌+◌, ◌++◌, ◌∙◌, refl, sym, ap, ap₂, subst, arith}
+use Rattle.std.proofs.Common.{◌+◌, ◌++◌, ◌∙◌, refl, sym, ap, ap₂, subst}
 use Rattle.std.proofs.lemmas.Option.{slice_get_read}
 use Rattle.each_match.specs.Auction.{auction}
-use Rattle.each_match.proofs.Options.{AreTradesSoFar, none_so_far, first_of_bundle, later_of_bundle, all_trades}
+use Rattle.each_match.proofs.Options.{AreTradesSoFar, first_of_bundle, later_of_bundle, all_trades}
 use Rattle.each_match.proofs.matches.trades.Goals as goal
 use Rattle.each_match.proofs.matches.trades.Goals.{then-not-is_seen+in_ok-buys+in_ok-sells+in_ok-auction, else-not-is_seen}
 
