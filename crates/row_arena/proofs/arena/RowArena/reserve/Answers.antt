@@ -1,7 +1,6 @@
 use Rattle.std.proofs.Common.{◌*◌, take, ◌∙◌, ap}
 use Rattle.row_arena.specs.Rows.{Rows}
-use Rattle.row_arena.specs.declared.block.Block.{Block}
-use Rattle.row_arena.proofs.Blocks.{cut-same}
+use Rattle.row_arena.proofs.Rows.{cut-same}
 use Rattle.row_arena.proofs.arena.RowArena.reserve.Goals as goal
 
 pub returns-clause-kept : goal.returns-clause-kept

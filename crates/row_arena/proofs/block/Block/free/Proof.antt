@@ -25,7 +25,7 @@ use denote.Steps.{nothing}
 use denote.Triple.Call.{calls_at_last}
 use denote.Triple.Table.{framed}
 use denote.Triple.Walked.{Stays, stay_dropped, walk_of, Goes-dropped}
-use Rattle.std.proofs.mem.Param.{El, R, elτ}
+use Rattle.std.proofs.mem.Param.{El, elτ}
 use Rattle.std.proofs.alloc.Calls.{Al, token, Gives, at_gives, Gives-goes, Gives-Gives}
 use Rattle.std.proofs.VecSteps.Shapes.{after}
 use Rattle.std.proofs.RawLayout.{as_raw, as_written}

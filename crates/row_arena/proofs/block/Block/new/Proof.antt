@@ -8,7 +8,7 @@ use base.Fml.{Fml, ftrue, fsep, froom, flft, Incl-trans}
 use prog.Memory.{align, capped}
 use prog.Capped.{capped_fits}
 use prog.Wp.{Wp, after_seq, at_return}
-use types.Kit.{Post as After, any_q, ‵, raw, ◌⊛◌, given, later, at_ret, ◌$◌, ◌∵◌, !, qed, by, move, keep, drop, use0, use1, use2, split, join, learn, fsplit, fjoin, fjoin3, rewrite, await}
+use types.Kit.{Post as After, any_q, ‵, raw, ◌⊛◌, given, later, at_ret, ◌$◌, ◌∵◌, !, qed, by, move, keep, drop, use0, use1, use2, split, join, learn, fsplit, fjoin3, rewrite, await}
 use types.Part.{whole, agg}
 use types.Match.{live, vrt, in_variant}
 use types.Run.{stop, fld, lit, size_word, align_word, no_more, and_then, of_opd, bin, first, switches_on, exec, returns, enter}

@@ -1,26 +1,25 @@
 -- `none` makes a block of a null pointer.
-use Rattle.std.proofs.Common.{◌≡◌, ℕ, ◌+◌, ◌<◌, List, [], ◌∷◌, length, refl, arith, lit<}
-use mir.Val.{Val, vptr, vint}
+use Rattle.std.proofs.Common.{◌≡◌, ℕ, [], ◌∷◌, refl, arith}
+use mir.Val.{Val, vptr}
 use mir.Syntax.{named}
 use mir.MapTy.{inst_fn}
 use base.Logic.{SProp}
 use base.Fml.{Fml, ftrue, fsep, flft}
-use types.Kit.{‵, raw, ◌⊛◌, given, ◌$◌, ◌∵◌, !, qed, by, move, keep, drop, split, join, use0, fjoin}
+use types.Kit.{‵, raw, ◌⊛◌, ◌$◌, ◌∵◌, !, qed, by, keep, split, use0, fjoin}
 use types.Run.{lit, no_more, and_then, returns, enter}
 use types.Part.{agg}
 use types.ByLocal.{alloc_all, pass_all, free_all, look_at, get, sets}
 use contract.Monad.{fact, fact_i}
 use contract.Running.{tables}
-use base.Logic.{emp, ent}
+use base.Logic.{emp}
 use denote.Exit.{yes}
-use denote.RattleType.{RattleType, owns}
+use denote.RattleType.{owns}
 use denote.Signature.{plain, types_at}
 use denote.Builtin.{RefOf}
 use denote.RawPtr.{null_ptr}
 use denote.Ref.{shr_vals, shr_Tells}
 use denote.Steps.{nothing}
 use denote.Triple.Walked.{Stays, stay_dropped, walk_of, Goes-dropped}
-use prog.Wp.{WpFn}
 use Rattle.std.proofs.mem.Param.{El}
 use Rattle.std.proofs.alloc.Calls.{Al}
 use Rattle.row_arena.proofs.Walks.{proved, leaves}

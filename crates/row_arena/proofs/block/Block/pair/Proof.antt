@@ -34,7 +34,7 @@ use Rattle.row_arena.specs.Lends.{with_numbers}
 use Rattle.row_arena.proofs.Lists.{length-part, length-with_part}
 use Rattle.row_arena.proofs.Pairs.{pair_val, pair_of}
 use Rattle.row_arena.proofs.Walks.{proved, leaves}
-use Rattle.row_arena.proofs.Fields.{sz, args, P, Br, block_opens}
+use Rattle.row_arena.proofs.Fields.{sz, args, Br, block_opens}
 use Rattle.row_arena.proofs.Cuts.{both}
 use Rattle.row_arena.proofs.Lent.{lends}
 use Rattle.row_arena.specs.contracts.block.Block.pair.{ended, clauses}

@@ -12,13 +12,12 @@ use types.Run.{stop, fld, load, init, unit_lit, size_lit, of_opd, bin, first, bl
 use types.ByLocal.{alloc_all, pass_all, free_all, look_at, get, through, sets, is, env}
 use types.Part.{sub, whole, look_in}
 use types.SemTy.{cells}
-use contract.BorrowLft.{◌⊑◌}
 use contract.Monad.{fact, fact_i}
 use contract.Running.{tables}
 use denote.Exit.{yes, no}
 use denote.RattleType.{RattleType, owns}
 use denote.Signature.{types_at, plain}
-use denote.RawPtr.{Ptr, block_ptr, ptr_val}
+use denote.RawPtr.{block_ptr, ptr_val}
 use denote.Memory.{mem, part_at}
 use denote.Builtin.{usize}
 use denote.Steps.{nothing}
@@ -30,7 +29,7 @@ use Rattle.std.proofs.ptr.Rows.{times_below, one_below}
 use Rattle.std.proofs.VecSteps.Shapes.{after}
 use Rattle.std.proofs.RawLayout.{as_raw, as_written}
 use Rattle.row_arena.proofs.Walks.{proved_at, leaves}
-use Rattle.row_arena.proofs.Fields.{sz, block_ty, args, P, Br, block_opens, block_closes}
+use Rattle.row_arena.proofs.Fields.{sz, block_ty, args, Br, block_opens, block_closes}
 use Rattle.row_arena.proofs.Room.{place_out, place_in, behind}
 use Rattle.row_arena.specs.contracts.block.Block.push.{ended, clauses}
 use Rattle.row_arena.specs.contracts.block.Block.push.Key.{name as #self}

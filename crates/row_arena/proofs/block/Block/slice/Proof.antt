@@ -19,7 +19,7 @@ use denote.Memory.{hidden_shr}
 use denote.Builtin.{RefOf, usize}
 use denote.Opens.{hide, unhide}
 use denote.Plain.{uint_vals, uint_Tells}
-use denote.Ref.{Bor, shr_vals, shr_Tells}
+use denote.Ref.{shr_vals, shr_Tells}
 use denote.Slice.{elements_shared, slice_val}
 use denote.Steps.{nothing}
 use denote.Struct.Lending.{lent_out}

@@ -5,7 +5,7 @@ use mir.Val.{Val, vint, vptr}
 use mir.MapTy.{inst_fn}
 use base.Logic.{SProp, emp}
 use base.Fml.{Fml, GName, Incl-trans, ftrue, fsep, flft}
-use types.Kit.{‵, raw, ◌⊛◌, some, later, given, at_ret, ◌$◌, ◌∵◌, !, qed, by, move, keep, drop, split, split3, join, fsplit, fsplit3, fjoin, group, learn, pick, await, rewrite, use0, use1, use2}
+use types.Kit.{‵, raw, ◌⊛◌, some, later, given, at_ret, ◌$◌, ◌∵◌, !, qed, by, move, keep, drop, split, split3, join, fsplit, fsplit3, fjoin, group, learn, pick, await, rewrite, use0, use1}
 use types.Run.{stop, fld, load, size_lit, of_opd, bin, no_more, and_then, first, blocks, exec, returns, enter}
 use types.ByLocal.{alloc_all, pass_all, free_all, look_at, get, through, is, sets, sets_last, env}
 use types.Part.{agg, sub, whole, look_in}
@@ -32,7 +32,7 @@ use Rattle.row_arena.specs.Parts.{part, with_part}
 use Rattle.row_arena.specs.Lends.{with_numbers}
 use Rattle.row_arena.proofs.Lists.{length-part, length-with_part}
 use Rattle.row_arena.proofs.Walks.{proved, leaves}
-use Rattle.row_arena.proofs.Fields.{sz, args, P, Br, block_opens}
+use Rattle.row_arena.proofs.Fields.{sz, args, Br, block_opens}
 use Rattle.row_arena.proofs.Cuts.{alone}
 use Rattle.row_arena.proofs.Lent.{lends}
 use Rattle.row_arena.specs.contracts.block.Block.slice_mut.{ended, clauses}
