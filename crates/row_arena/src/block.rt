@@ -12,8 +12,8 @@ use std::marker::{Model, PhantomData};
 use std::mem::{align_of, size_of};
 use std::slice::{from_raw_parts, from_raw_parts_mut};
 
-/// Places in one raw allocation: the first hold `numbers`, and `spare` more are free.
-/// With no place there is no allocation.
+/// Places for numbers in one raw allocation: the first hold `numbers`, and `spare` more are free.
+/// With no place the pointer is null, and there is no allocation.
 pub struct Block<N, A: Allocator> {
     ptr: *mut N,
     by: PhantomData<A>,
@@ -29,9 +29,9 @@ impl<N, A: Allocator> Model for Block<N, A> {
 }
 
 impl<N, A: Allocator> Block<N, A> {
-    ghost use Rattle.row_arena.specs.Lends.{lends_part};
+    ghost use Rattle.row_arena.specs.Lends.{capacity, lends_part};
 
-    /// No place.
+    /// A block with no place.
     pub(crate) fn none(_alloc: &A) -> Block<N, A>
         ensures { (result.numbers ≡ []) × (result.spare ≡ 0) × (result.alloc ≡ _alloc.now) }
     {
@@ -41,10 +41,11 @@ impl<N, A: Allocator> Block<N, A> {
         }
     }
 
-    /// That many free places.
+    /// A block of `places` free places. `AllocError` where the allocator has no memory.
     pub(crate) fn new(alloc: &A, places: usize) -> Result<Block<N, A>, AllocError>
         requires { FitsInBlock N.row places }
-        ensures { IfOk result (λ b. (b.numbers ≡ []) × (b.spare ≡ places) × (b.alloc ≡ alloc.now)) }
+        ensures { IfOk result
+            (λ b. (b.numbers ≡ []) × (b.spare ≡ places) × (b.alloc ≡ alloc.now)) }
     {
         match alloc.allocate(places * size_of::<N>(), align_of::<N>()) {
             Ok(block) => Ok(Block {
@@ -55,9 +56,9 @@ impl<N, A: Allocator> Block<N, A> {
         }
     }
 
-    /// Gives the allocation back.
+    /// Gives the allocation back. `places` is how many the block has.
     pub(crate) fn free(self, alloc: &A, places: usize)
-        requires { (length self.numbers + self.spare ≡ places) × (self.alloc ≡ alloc.now) }
+        requires { (capacity self ≡ places) × (self.alloc ≡ alloc.now) }
     {
         let Block { ptr, by: _ } = self;
         if places > 0 {
@@ -67,11 +68,11 @@ impl<N, A: Allocator> Block<N, A> {
         }
     }
 
-    /// Keeps the first `count` numbers, and puts one more behind them.
+    /// Keeps the first `count` numbers, forgets the others, and puts `number` behind those kept.
     pub(crate) fn push(&mut self, count: usize, number: N)
-        requires { (count ≤ length self.old.numbers) × (count < length self.old.numbers + self.old.spare) }
+        requires { (count ≤ length self.old.numbers) × (count < capacity self.old) }
         ensures { (self.new.numbers ≡ take count self.old.numbers ++ number ∷ [])
-            × (length self.new.numbers + self.new.spare ≡ length self.old.numbers + self.old.spare)
+            × (capacity self.new ≡ capacity self.old)
             × (self.new.alloc ≡ self.old.alloc) }
     {
         unsafe { self.ptr.add(count).write(number) }
@@ -88,7 +89,8 @@ impl<N, A: Allocator> Block<N, A> {
     /// The `count` numbers from `start` on, to be written.
     pub(crate) fn slice_mut(&mut self, start: usize, count: usize) -> &mut [N]
         requires { (0 < count) × (start + count ≤ length self.old.numbers) }
-        ensures* writes_back { sem 𝓛 (lends_part N.row A.row A.Allocator self.entry start count result) }
+        ensures* writes_back { sem 𝓛 (lends_part N.row A.row A.Allocator self.entry
+            start count result) }
         ensures part { result.now ≡ part start count self.old.numbers }
     {
         unsafe { from_raw_parts_mut(self.ptr.add(start), count) }
@@ -96,9 +98,11 @@ impl<N, A: Allocator> Block<N, A> {
 
     /// `count` numbers from `read` on, and `count` from `write` on, to be written.
     pub(crate) fn pair(&mut self, read: usize, write: usize, count: usize) -> (&[N], &mut [N])
-        requires { (0 < count) × (read + count ≤ length self.old.numbers) × (write + count ≤ length self.old.numbers)
+        requires { (0 < count) × (read + count ≤ length self.old.numbers)
+            × (write + count ≤ length self.old.numbers)
             × ((read + count ≤ write) ⊎ (write + count ≤ read)) }
-        ensures* writes_back { sem 𝓛 (lends_part N.row A.row A.Allocator self.entry write count result.1) }
+        ensures* writes_back { sem 𝓛 (lends_part N.row A.row A.Allocator self.entry
+            write count result.1) }
         ensures parts { (result.0.now ≡ part read count self.old.numbers)
             × (result.1.now ≡ part write count self.old.numbers) }
     {
@@ -113,14 +117,16 @@ impl<N, A: Allocator> Block<N, A> {
 }
 
 impl<N: Copy, A: Allocator> Block<N, A> {
-    /// Keeps the first `count` numbers, and puts those behind them.
+    ghost use Rattle.row_arena.specs.Lends.{capacity};
+
+    /// Keeps the first `count` numbers, and puts `numbers` behind them. Others may stay behind these.
     pub(crate) fn extend(&mut self, count: usize, numbers: &[N])
-        requires { (count ≤ length self.old.numbers) × (length self.old.numbers + self.old.spare < 2 ^ 63)
-            × (count + length numbers.now ≤ length self.old.numbers + self.old.spare) }
+        requires { (count ≤ length self.old.numbers) × (capacity self.old < 2 ^ 63)
+            × (count + length numbers.now ≤ capacity self.old) }
         ensures numbers { take (count + length numbers.now) self.new.numbers
             ≡ take count self.old.numbers ++ numbers.now }
         ensures places { (count + length numbers.now ≤ length self.new.numbers)
-            × (length self.new.numbers + self.new.spare ≡ length self.old.numbers + self.old.spare) }
+            × (capacity self.new ≡ capacity self.old) }
         ensures alloc { self.new.alloc ≡ self.old.alloc }
     {
         for i in 0..numbers.len() {
@@ -128,7 +134,8 @@ impl<N: Copy, A: Allocator> Block<N, A> {
         }
     }
 
-    /// A block of that many places with the first `count` numbers of this one.
+    /// A block of `places` places with the first `count` numbers of this one.
+    /// `AllocError` where the allocator has no memory, or where so many places take 2^63 bytes.
     pub(crate) fn grown(
         &self,
         alloc: &A,
@@ -137,8 +144,8 @@ impl<N: Copy, A: Allocator> Block<N, A> {
     ) -> Result<Block<N, A>, AllocError>
         requires { (count ≤ length self.now.numbers) × (count ≤ places) }
         ensures numbers { IfOk result (λ b. take count b.numbers ≡ take count self.now.numbers) }
-        ensures places { IfOk result (λ b. (count ≤ length b.numbers) × (places < 2 ^ 63)
-            × (length b.numbers + b.spare ≡ places)) }
+        ensures places { IfOk result
+            (λ b. (count ≤ length b.numbers) × (places < 2 ^ 63) × (capacity b ≡ places)) }
         ensures alloc { IfOk result (λ b. b.alloc ≡ alloc.now) }
     {
         if !fits::<N>(places) {
@@ -152,14 +159,14 @@ impl<N: Copy, A: Allocator> Block<N, A> {
     }
 }
 
-/// The size of `N` as a plain number: the borrow checker accepts `size_of` of a type parameter only in a product.
+/// The size of `N` in bytes. Elsewhere `size_of` of a type parameter is taken only in a product.
 fn size_of_number<N>() -> usize
     ensures { result ≡ capped (size (layout N.row)) }
 {
     size_of::<N>()
 }
 
-/// Whether that many places are few enough for one allocation.
+/// Whether `places` places are few enough for one allocation.
 pub(crate) fn fits<N>(places: usize) -> bool
     ensures { IsTrue result → FitsInBlock N.row places }
 {

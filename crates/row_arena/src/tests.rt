@@ -12,7 +12,8 @@ enum Step {
     Release(usize),
 }
 
-// Each step, the first number of each row after it, and the spare rows then. A row goes on with the numbers that follow.
+// Each step, the first number of each row after it, and the spare rows then. A row goes on with
+// the numbers that follow its first.
 const STEPS: [(Step, &[u64], usize); 11] = [
     (Step::Reserve(2), &[], 2),
     (Step::Append(10), &[10], 1),
