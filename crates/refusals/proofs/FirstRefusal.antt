@@ -1,7 +1,7 @@
 -- The first refusal of lists one behind another, and of refusals by other names.
-use Rattle.std.proofs.Common.{◌≡◌, List, [], ◌∷◌, ◌++◌, Bool, true, false, if◌then◌else◌, Option, None, Some, refl, sym, ap, ◌∙◌}
+use Rattle.std.proofs.Common.{◌≡◌, List, [], ◌∷◌, ◌++◌, Bool, true, false, if◌then◌else◌, Option, None, Some, IsSome, Result, Err, ◌⊎◌, ⊎_elim, refl, sym, ap, ◌∙◌}
 use Rattle.std.specs.Option.{option_or, option_map_or}
-use Rattle.refusals.specs.Refusals.{first_of, named}
+use Rattle.refusals.specs.Refusals.{first_of, refusal_in, named, TellsFirst}
 
 pub first_of-append : {R : Type 0} (front back : List (Bool × R)) → first_of (front ++ back) ≡ option_or (first_of front) (first_of back)
 first_of-append [] back = refl
@@ -48,3 +48,48 @@ module _ {E R : Type 0} (name : E → Option R) where
       by true h o later = cc
       by false h None later = later h
       by false h (Some s) later = later h
+
+  -- where each refusal has a name
+  abbrev pub AreNamed : List (Bool × E) → Type 0
+  AreNamed [] = Unit {0}
+  AreNamed (r ∷ others) = IsSome (name r.1) × AreNamed others
+
+  pub none_unnamed : (refusals : List (Bool × E)) → AreNamed refusals → first_of (named name refusals) ≡ None → first_of refusals ≡ None
+  none_unnamed [] are none = refl
+  none_unnamed (r ∷ others) are none = by r.0 (name r.1) are.0 none (none_unnamed others are.1)
+    where
+      by : (b : Bool) (o : Option R) → IsSome o → first_of (option_map_or (λ s. (b, s) ∷ named name others) o (named name others)) ≡ None
+          → (first_of (named name others) ≡ None → first_of others ≡ None) → (if b then Some r.1 else first_of others) ≡ None
+      by b None there h later = cc
+      by true (Some s) there h later = cc
+      by false (Some s) there h later = later h
+
+-- ---- the error of a call as the error of the call above it
+-- memory is the one error without a name, and stays so
+pub record IsAlike {E F R : Type 0} (own : E → Option E) (memory : E) (name : F → Option R) (failure : E → F) (error : E) : Type 0 where
+  pub alike : ((error ≡ memory) × (own error ≡ None) × (name (failure error) ≡ None)) ⊎ ((own error ≡ Some error) × (r : R) × (name (failure error) ≡ Some r))
+
+module _ {E F R T S : Type 0} (own : E → Option E) (memory : E) (name : F → Option R) (failure : E → F) (told : Result T E) (answer : Result S F) (error : E)
+    (like : IsAlike own memory name failure error) (was : told ≡ Err error) (is : answer ≡ Err (failure error)) where
+  answer_named : refusal_in name answer ≡ name (failure error)
+  answer_named = ap (refusal_in name) is
+
+  -- what is told below is told above, by its name
+  pub told_named : (refusals : List (Bool × E)) → TellsFirst own told refusals → TellsFirst name answer (named (λ e. name (failure e)) refusals)
+  told_named refusals first =
+      let told_below : own error ≡ first_of refusals = ap (refusal_in own) (sym was) ∙ first in
+      ⊎_elim
+      (λ (h : (error ≡ memory) × (own error ≡ None) × (name (failure error) ≡ None)). answer_named ∙ h.2 ∙ sym (none_named (λ e. name (failure e)) refusals (sym told_below ∙ h.1)))
+      (λ (h : (own error ≡ Some error) × (r : R) × (name (failure error) ≡ Some r)). answer_named ∙ h.2 ∙ sym (first_named (λ e. name (failure e)) refusals error h.1 h.2 (sym told_below ∙ h.0)))
+      like.alike
+
+  -- and whatever is tried behind it
+  pub told_in_front : (refusals : List (Bool × E)) (back : List (Bool × R)) → (told ≡ Err memory → ⊥) → TellsFirst own told refusals
+      → TellsFirst name answer (named (λ e. name (failure e)) refusals ++ back)
+  told_in_front refusals back other first =
+      ⊎_elim
+      (λ (h : (error ≡ memory) × (own error ≡ None) × (name (failure error) ≡ None)). absurd (other (was ∙ ap Err h.0)))
+      (λ (h : (own error ≡ Some error) × (r : R) × (name (failure error) ≡ Some r)).
+      let same = sym (told_named refusals first) ∙ answer_named ∙ h.2 in
+      answer_named ∙ h.2 ∙ sym (first_in_front (named (λ e. name (failure e)) refusals) back h.1 same))
+      like.alike

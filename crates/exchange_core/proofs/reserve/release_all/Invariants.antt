@@ -1,7 +1,7 @@
 use Rattle.std.proofs.Common.{◌≡◌, ◌+◌, ℕ, drop}
 use Rattle.cash_ledger.specs.Ledger.{reserved_of}
 use Rattle.exchange_core.specs.Reserves.{reserve_of}
-use Rattle.exchange_core.proofs.reserve.give_all_free.Given as goal
+use Rattle.exchange_core.proofs.reserve.release_all.Given as goal
 
 abbrev pub invariant-loop-order : goal.invariant-loop-order
 invariant-loop-order l = record {
