@@ -1,7 +1,7 @@
 -- One price for each option parts the orders that the match fills from the others, so no balanced fills earn more.
 use Rattle.std.proofs.Common.{◌≡◌, ℕ, zero, suc, ◌+◌, ◌-◌, ◌*◌, ◌≤◌, ◌<◌, max, nat_lt, List, [], ◌∷◌, Bool, true, false, ◌&&◌, if◌then◌else◌, inl, inr, length, get_or, slice_index, All, Some, ℤ, pos, ◌-ℤ◌, ◌*ℤ◌, ◌≤ℤ◌, refl, sym, ap, subst, ◌∙◌, arith}
 use Rattle.std.specs.List.{zip}
-use Rattle.std.proofs.lemmas.Bool.{cases_lt, cases_order, and_from}
+use Rattle.std.proofs.lemmas.Bool.{cases_lt, cases_order, and_from, and_parts}
 use Rattle.std.proofs.lemmas.Bool.Decides.{nat_tests}
 use Rattle.std.proofs.lemmas.Int.{ints}
 use Rattle.std.proofs.lemmas.List.Recursion.{max_bounds, max_least}
@@ -15,7 +15,6 @@ use Rattle.form.specs.Vector.{is_same_bundle}
 use Rattle.clearing_model.specs.Balance.{AreBalanced}
 use Rattle.clearing_model.specs.Clearing.{Filled, for_side, premium}
 use Rattle.form.specs.Payoff.{BundleLeg, bundle_of}
-use Rattle.std.proofs.lemmas.Bool.{and_parts}
 use Rattle.market_laws.proofs.Balance.{same_bundle_is, bundle_is_same, balanced_sum_is_zero}
 use Rattle.each_match.specs.Laws.{matched, IsBetter, IsFilledAt, MatchHasPrices, MatchIsTheBest}
 use Rattle.each_match.specs.Match.{match_by_option}

@@ -28,13 +28,12 @@ use Rattle.clearing_model.specs.Clearing.{for_side, signed_net}
 use Rattle.clearing_model.specs.Line.{HoldsAtBreaks}
 use Rattle.clearing_model.specs.Certificate.{signed_over}
 use Rattle.form.specs.Steps.{payoff_of}
-use Rattle.exact_num.specs.Steps.{less_product}
+use Rattle.exact_num.specs.Steps.{less_product, and_then}
 use Rattle.form.proofs.DotSteps.{payoffs_are_exact}
 use Rattle.form.proofs.Vectors.{bundle_pays}
 use Rattle.exact_num.proofs.Stands.{Stands, plus_stands, less_stands, not_above}
 use Rattle.line_cover.specs.Net.{add_for_side, add_payoff, add_payoffs, excess}
 use Rattle.line_cover.specs.Line.{breakpoint_of_order, holds_at, holds_at_all}
-use Rattle.exact_num.specs.Steps.{and_then}
 use Rattle.line_cover.specs.Breakpoints.{first_state, last_state, HoldsAtState}
 use Rattle.line_cover.specs.Laws.{LinesThatHoldClose, LinesThatFailDoNotClose}
 use Rattle.line_cover.proofs.LineStates.{breaks_are, orders_of_fills}
