@@ -20,6 +20,9 @@ use sizes::is_in_range;
 use std::cmp::Ordering;
 use sums::sum;
 
+// The limit, as a size.
+const LARGEST: u128 = i128::MAX as u128;
+
 /// A fraction in lowest terms, with a numerator of at most 2^127 - 1 in size and a denominator
 /// from 1 to 2^127 - 1. Its operations are those of `Exact`.
 #[derive(Clone, Copy, Debug)]
@@ -131,7 +134,7 @@ impl Exact for Frac128 {
     }
 
     fn from_whole(v: i128) -> Result<Self, Wide> {
-        if !is_in_range(v) {
+        if !is_in_range(v, LARGEST) {
             return Err(Wide {
                 operator: Operator::Whole,
                 left: (v, 1),
@@ -149,7 +152,7 @@ impl Exact for Frac128 {
     }
 
     fn add(self, other: Self) -> Result<Self, Wide> {
-        match sum(self, other) {
+        match sum(self, other, LARGEST) {
             Some(value) => Ok(value),
             None => Err(self.misfit(Operator::Add, other)),
         }
@@ -160,14 +163,14 @@ impl Exact for Frac128 {
     }
 
     fn mul(self, other: Self) -> Result<Self, Wide> {
-        match product(self, other) {
+        match product(self, other, LARGEST) {
             Some(value) => Ok(value),
             None => Err(self.misfit(Operator::Mul, other)),
         }
     }
 
     fn div(self, other: Self) -> Result<Self, Wide> {
-        match product(self, inverted(other)) {
+        match product(self, inverted(other), LARGEST) {
             Some(value) => Ok(value),
             None => Err(self.misfit(Operator::Div, other)),
         }

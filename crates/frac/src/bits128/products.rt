@@ -2,7 +2,7 @@
 ghost use Rattle.std.specs.Prelude.{◌≡◌, ◌≢◌, ◌<◌, ◌^◌, ◌*◌, pos, ◌*ℤ◌};
 ghost use Rattle.std.specs.Option.{option_map};
 ghost use Rattle.exact_num.specs.Fits.{product_above, product_below, inverse};
-ghost use Rattle.frac.specs.Range.{limit, product_within};
+ghost use Rattle.frac.specs.Range.{product_within};
 ghost use Rattle.frac.specs.Value.{fraction_of};
 
 use super::Frac128;
@@ -36,28 +36,32 @@ fn crossed(x: Frac128, y: Frac128) -> Factors
 }
 
 /// The product of two whole numbers.
-fn product_of_wholes(x: Frac128, y: Frac128) -> Option<Frac128>
+fn product_of_wholes(x: Frac128, y: Frac128, limit: u128) -> Option<Frac128>
     requires left { x.denominator ≡ 1 }
     requires right { y.denominator ≡ 1 }
+    requires positive_limit { 0 < limit }
+    requires signed_limit { limit < 2 ^ 127 }
     ensures { option_map fraction_of result ≡ product_within limit (fraction_of x) (fraction_of y) }
 {
-    let above = whole_product(x.numerator, y.numerator)?;
+    let above = whole_product(x.numerator, y.numerator, limit)?;
     Some(Frac128 {
         numerator: above,
         denominator: 1,
     })
 }
 
-/// The product in lowest terms, where each of its quantities is in range.
-pub fn product(x: Frac128, y: Frac128) -> Option<Frac128>
+/// The product in lowest terms, where each of its quantities is within the limit.
+pub fn product(x: Frac128, y: Frac128, limit: u128) -> Option<Frac128>
+    requires positive_limit { 0 < limit }
+    requires signed_limit { limit < 2 ^ 127 }
     ensures { option_map fraction_of result ≡ product_within limit (fraction_of x) (fraction_of y) }
 {
     if x.denominator == 1 && y.denominator == 1 {
-        return product_of_wholes(x, y);
+        return product_of_wholes(x, y, limit);
     }
     let factors = crossed(x, y);
-    let above = whole_product(factors.numerators.0, factors.numerators.1)?;
-    let below = natural_product(factors.denominators.0, factors.denominators.1)?;
+    let above = whole_product(factors.numerators.0, factors.numerators.1, limit)?;
+    let below = natural_product(factors.denominators.0, factors.denominators.1, limit)?;
     Some(Frac128 {
         numerator: above,
         denominator: below,

@@ -1,20 +1,22 @@
-//! Whole numbers of at most 2^127 - 1 in size: what leaves that range is None.
+//! Whole numbers of at most a limit in size: what is above it is None.
 //!
-//! Where all numbers fit in 64 bits, nothing is tested or divided in 128.
+//! Where all numbers fit in 64 bits, nothing is divided in 128. All is compiled anew where it is
+//! called, since the limit and the width of the operands are known there.
 ghost use Rattle.std.specs.Prelude.{◌≡◌, ◌<◌, ◌*◌, ◌/◌, ◌^◌};
 ghost use Rattle.std.specs.Prelude.{pos, ◌+ℤ◌, ◌*ℤ◌, unsigned_abs, int_div};
 ghost use Rattle.arithmetic.specs.Gcd.{gcd as gcd_of};
 ghost use Rattle.exact_num.specs.Fits.{size_fits, signed_by};
-ghost use Rattle.frac.specs.Range.{limit, within, within_natural};
+ghost use Rattle.frac.specs.Range.{within, within_natural};
 
 use crate::quotients::SHORT;
 use exact_num::gcd;
 
-/// Whether the size of `v` is in range.
-pub fn is_in_range(v: i128) -> bool
+/// Whether the size of `v` is at most the limit.
+#[inline(always)]
+pub fn is_in_range(v: i128, limit: u128) -> bool
     ensures { result ≡ size_fits limit v }
 {
-    v != i128::MIN
+    v.unsigned_abs() <= limit
 }
 
 /// The greatest common divisor of numbers that are in range. Most denominators are 1 or equal.
@@ -72,8 +74,8 @@ pub fn quotient(a: i128, b: u128) -> i128
     }
 }
 
-/// The product where it is in range.
-pub fn natural_product(a: u128, b: u128) -> Option<u128>
+/// The product where it is at most the limit.
+pub fn natural_product(a: u128, b: u128, limit: u128) -> Option<u128>
     ensures { result ≡ within_natural limit (a * b) }
 {
     let product = if a <= SHORT && b <= SHORT {
@@ -81,27 +83,29 @@ pub fn natural_product(a: u128, b: u128) -> Option<u128>
     } else {
         a.checked_mul(b)?
     };
-    if product <= i128::MAX as u128 {
+    if product <= limit {
         Some(product)
     } else {
         None
     }
 }
 
-/// The product where it is in range.
-pub fn product_with(a: i128, b: u128) -> Option<i128>
-    requires { b < 2 ^ 127 }
+/// The product where it is at most the limit in size.
+pub fn product_with(a: i128, b: u128, limit: u128) -> Option<i128>
+    requires factor { b < 2 ^ 127 }
+    requires signed_limit { limit < 2 ^ 127 }
     ensures { result ≡ within limit (a *ℤ pos b) }
 {
-    let size = natural_product(a.unsigned_abs(), b)?;
+    let size = natural_product(a.unsigned_abs(), b, limit)?;
     Some(with_sign_of(a, size))
 }
 
-/// The product where it is in range.
-pub fn whole_product(a: i128, b: i128) -> Option<i128>
+/// The product where it is at most the limit in size.
+pub fn whole_product(a: i128, b: i128, limit: u128) -> Option<i128>
+    requires { limit < 2 ^ 127 }
     ensures { result ≡ within limit (a *ℤ b) }
 {
-    let size = natural_product(a.unsigned_abs(), b.unsigned_abs())?;
+    let size = natural_product(a.unsigned_abs(), b.unsigned_abs(), limit)?;
     Some(if (a < 0) == (b < 0) {
         size as i128
     } else {
@@ -109,12 +113,13 @@ pub fn whole_product(a: i128, b: i128) -> Option<i128>
     })
 }
 
-/// The sum where it is in range.
-pub fn whole_sum(a: i128, b: i128) -> Option<i128>
+/// The sum where it is at most the limit in size.
+pub fn whole_sum(a: i128, b: i128, limit: u128) -> Option<i128>
+    requires { limit < 2 ^ 127 }
     ensures { result ≡ within limit (a +ℤ b) }
 {
     match a.checked_add(b) {
-        Some(sum) if sum != i128::MIN => Some(sum),
+        Some(sum) if is_in_range(sum, limit) => Some(sum),
         _ => None,
     }
 }

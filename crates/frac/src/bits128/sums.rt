@@ -1,8 +1,9 @@
 //! Sums.
-ghost use Rattle.std.specs.Prelude.{◌≡◌, ◌<◌, ◌/◌, pos, ◌*ℤ◌};
+ghost use Rattle.std.specs.Prelude.{◌≡◌, ◌<◌, ◌/◌, ◌^◌, pos, ◌*ℤ◌};
 ghost use Rattle.std.specs.Option.{option_map};
 ghost use Rattle.exact_num.specs.Fits.{sum_divisor};
-ghost use Rattle.frac.specs.Range.{limit, within, total_within, sum_within};
+ghost use Rattle.exact_num.specs.Laws.{IsWithin};
+ghost use Rattle.frac.specs.Range.{within, total_within, sum_within};
 ghost use Rattle.frac.specs.Value.{fraction_of};
 
 use super::Frac128;
@@ -10,52 +11,62 @@ use super::sizes::{
     common, divisor, natural_product, natural_quotient, product_with, quotient, whole_sum,
 };
 
-/// The numerator of `x` over the least common denominator with `y`, where it is in range. `g` is
-/// the greatest common divisor of the denominators.
-fn numerator_over(x: Frac128, y: Frac128, g: u128) -> Option<i128>
-    requires { 0 < g }
+/// The numerator of `x` over the least common denominator with `y`, where it is within the limit.
+/// `g` is the greatest common divisor of the denominators.
+fn numerator_over(x: Frac128, y: Frac128, g: u128, limit: u128) -> Option<i128>
+    requires positive { 0 < g }
+    requires signed_limit { limit < 2 ^ 127 }
     ensures { result ≡ within limit (x.numerator *ℤ pos (y.denominator / g)) }
 {
-    product_with(x.numerator, natural_quotient(y.denominator, g))
+    product_with(x.numerator, natural_quotient(y.denominator, g), limit)
 }
 
-/// The sum of the numerators over the least common denominator, where its steps are in range.
-fn total(x: Frac128, y: Frac128, g: u128) -> Option<i128>
+/// The sum of the numerators over the least common denominator, where its steps are within the
+/// limit.
+fn total(x: Frac128, y: Frac128, g: u128, limit: u128) -> Option<i128>
     requires divisor { g ≡ sum_divisor (fraction_of x) (fraction_of y) }
     requires positive { 0 < g }
+    requires signed_limit { limit < 2 ^ 127 }
     ensures { result ≡ total_within limit (fraction_of x) (fraction_of y) }
 {
-    let left = numerator_over(x, y, g)?;
-    let right = numerator_over(y, x, g)?;
-    whole_sum(left, right)
+    let left = numerator_over(x, y, g, limit)?;
+    let right = numerator_over(y, x, g, limit)?;
+    whole_sum(left, right, limit)
 }
 
 /// The sum of two whole numbers.
-fn sum_of_wholes(x: Frac128, y: Frac128) -> Option<Frac128>
+fn sum_of_wholes(x: Frac128, y: Frac128, limit: u128) -> Option<Frac128>
     requires left { x.denominator ≡ 1 }
     requires right { y.denominator ≡ 1 }
+    requires left_within { IsWithin limit (fraction_of x) }
+    requires right_within { IsWithin limit (fraction_of y) }
+    requires signed_limit { limit < 2 ^ 127 }
     ensures { option_map fraction_of result ≡ sum_within limit (fraction_of x) (fraction_of y) }
 {
-    let above = whole_sum(x.numerator, y.numerator)?;
+    let above = whole_sum(x.numerator, y.numerator, limit)?;
     Some(Frac128 {
         numerator: above,
         denominator: 1,
     })
 }
 
-/// The sum in lowest terms, where each of its quantities is in range.
-pub fn sum(x: Frac128, y: Frac128) -> Option<Frac128>
+/// The sum in lowest terms, where each of its quantities is within the limit.
+pub fn sum(x: Frac128, y: Frac128, limit: u128) -> Option<Frac128>
+    requires left { IsWithin limit (fraction_of x) }
+    requires right { IsWithin limit (fraction_of y) }
+    requires signed_limit { limit < 2 ^ 127 }
     ensures { option_map fraction_of result ≡ sum_within limit (fraction_of x) (fraction_of y) }
 {
     if x.denominator == 1 && y.denominator == 1 {
-        return sum_of_wholes(x, y);
+        return sum_of_wholes(x, y, limit);
     }
     let g = divisor(x.denominator, y.denominator);
-    let above = total(x, y, g)?;
+    let above = total(x, y, g, limit)?;
     let shared = common(above, g);
     let below = natural_product(
         natural_quotient(x.denominator, g),
         natural_quotient(y.denominator, shared),
+        limit,
     )?;
     Some(Frac128 {
         numerator: quotient(above, shared),
