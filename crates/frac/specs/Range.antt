@@ -7,6 +7,10 @@ use Rattle.exact_num.specs.Fits.{size_fits, sum_left, sum_right, sum_total, sum_
 abbrev pub limit : ℕ
 limit = 2 ^ 127 - 1
 
+-- the same of a number of 64 bits
+abbrev pub narrow_limit : ℕ
+narrow_limit = 2 ^ 63 - 1
+
 abbrev pub within : ℕ → ℤ → Option ℤ
 within limit v = if size_fits limit v then Some v else None
 

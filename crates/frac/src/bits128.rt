@@ -9,9 +9,9 @@ ghost use Rattle.arithmetic.proofs.Integers.{le_pred, le_pos};
 ghost use Rattle.frac.specs.Range.{limit};
 
 mod order;
-mod products;
-mod sizes;
-mod sums;
+pub(crate) mod products;
+pub(crate) mod sizes;
+pub(crate) mod sums;
 
 use exact_num::{Exact, Operator, Wide};
 use order::order;
@@ -27,8 +27,8 @@ const LARGEST: u128 = i128::MAX as u128;
 /// from 1 to 2^127 - 1. Its operations are those of `Exact`.
 #[derive(Clone, Copy, Debug)]
 pub struct Frac128 {
-    numerator: i128,
-    denominator: u128,
+    pub(crate) numerator: i128,
+    pub(crate) denominator: u128,
     ghost lowest: { IsLowest (over numerator denominator) },
     ghost above_fits: { unsigned_abs numerator < 2 ^ 127 },
     ghost below_fits: { denominator < 2 ^ 127 },
@@ -86,7 +86,7 @@ impl Frac128 {
 
     /// The operation that does not fit, with its operands.
     #[cold]
-    fn misfit(self, operator: Operator, other: Frac128) -> Wide
+    pub(crate) fn misfit(self, operator: Operator, other: Frac128) -> Wide
         ensures { result ≡ misfit_of operator (fraction_of self) (fraction_of other) }
     {
         Wide {

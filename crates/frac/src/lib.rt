@@ -1,15 +1,19 @@
-//! Fractions of 128 bits as exact numbers, and shares of whole numbers rounded down and up.
+//! Fractions of 128 and of 64 bits as exact numbers, and shares of whole numbers rounded down and up.
 #![tactic(auto)]
 
 pub mod bits128;
+pub mod bits64;
 pub mod quotients;
 pub mod shares;
 pub mod wholes;
+pub mod widening;
 
 pub use bits128::Frac128;
+pub use bits64::Frac64;
 pub use exact_num::gcd;
 pub use shares::{mul_div_ceil, mul_div_floor};
 pub use wholes::whole;
+pub use widening::widen;
 
 #[cfg(test)]
 mod tests;
