@@ -6,4 +6,3 @@ pub mod ProductSteps
 pub mod ShareSteps
 pub mod WholeSteps
 pub mod ValueOf
-pub mod Moved

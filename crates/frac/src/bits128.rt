@@ -1,24 +1,22 @@
 //! Fractions whose numerator and denominator are at most 2^127 - 1 in size.
 ghost use Rattle.std.specs.Prelude.{◌≡◌, ◌≤◌, ◌<◌, ◌^◌, ◌-◌, pos, unsigned_abs, refl};
+ghost use Rattle.std.specs.Option.{option_map};
 ghost use Rattle.std.specs.Ordering.{is_eq, as_partial_cmp};
 ghost use Rattle.std.proofs.Common.{lit≤};
 ghost use Rattle.exact_num.specs.Fraction.{over, IsLowest};
 ghost use Rattle.exact_num.proofs.Order.{values_in_order, values_equal};
 ghost use Rattle.exact_num.proofs.Order.{values_partly_equal, values_partly_ordered};
 ghost use Rattle.arithmetic.proofs.Integers.{le_pred, le_pos};
-ghost use Rattle.frac.specs.Range.{limit};
+ghost use Rattle.frac.specs.Range.{limit, sum_within, product_within};
 
 mod order;
-pub(crate) mod products;
-pub(crate) mod sizes;
-pub(crate) mod sums;
 
+use crate::products::{inverted, product};
+use crate::sizes::is_in_range;
+use crate::sums::sum;
 use exact_num::{Exact, Operator, Wide};
 use order::order;
-use products::{inverted, product};
-use sizes::is_in_range;
 use std::cmp::Ordering;
-use sums::sum;
 
 // The limit, as a size.
 const LARGEST: u128 = i128::MAX as u128;
@@ -84,9 +82,25 @@ impl Frac128 {
     ghost use Rattle.exact_num.specs.Fits.{misfit as misfit_of};
     ghost use Rattle.frac.specs.Value.{fraction_of};
 
+    // The sum in lowest terms, where each of its quantities is in range.
+    fn sum(self, other: Frac128) -> Option<Frac128>
+        ensures { option_map fraction_of result
+            ≡ sum_within limit (fraction_of self) (fraction_of other) }
+    {
+        sum(self, other, LARGEST)
+    }
+
+    // The product in lowest terms, where each of its quantities is in range.
+    fn product(self, other: Frac128) -> Option<Frac128>
+        ensures { option_map fraction_of result
+            ≡ product_within limit (fraction_of self) (fraction_of other) }
+    {
+        product(self, other, LARGEST)
+    }
+
     /// The operation that does not fit, with its operands.
     #[cold]
-    pub(crate) fn misfit(self, operator: Operator, other: Frac128) -> Wide
+    fn misfit(self, operator: Operator, other: Frac128) -> Wide
         ensures { result ≡ misfit_of operator (fraction_of self) (fraction_of other) }
     {
         Wide {
@@ -152,7 +166,7 @@ impl Exact for Frac128 {
     }
 
     fn add(self, other: Self) -> Result<Self, Wide> {
-        match sum(self, other, LARGEST) {
+        match self.sum(other) {
             Some(value) => Ok(value),
             None => Err(self.misfit(Operator::Add, other)),
         }
@@ -163,14 +177,14 @@ impl Exact for Frac128 {
     }
 
     fn mul(self, other: Self) -> Result<Self, Wide> {
-        match product(self, other, LARGEST) {
+        match self.product(other) {
             Some(value) => Ok(value),
             None => Err(self.misfit(Operator::Mul, other)),
         }
     }
 
     fn div(self, other: Self) -> Result<Self, Wide> {
-        match product(self, inverted(other), LARGEST) {
+        match self.product(inverted(other)) {
             Some(value) => Ok(value),
             None => Err(self.misfit(Operator::Div, other)),
         }

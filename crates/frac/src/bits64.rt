@@ -1,7 +1,8 @@
 //! Fractions whose numerator and denominator are at most 2^63 - 1 in size.
 //!
 //! Sums and products are those of 128 bits with this limit, compiled anew for operands of 64 bits.
-ghost use Rattle.std.specs.Prelude.{◌≡◌, pos, ◌*ℤ◌, refl};
+ghost use Rattle.std.specs.Prelude.{◌≡◌, ◌≢◌, pos, ◌*ℤ◌, refl};
+ghost use Rattle.std.specs.Option.{option_map};
 ghost use Rattle.std.specs.Ordering.{is_eq, as_partial_cmp};
 ghost use Rattle.std.proofs.Common.{lit≤};
 ghost use Rattle.exact_num.specs.Fraction.{over, IsLowest};
@@ -9,12 +10,12 @@ ghost use Rattle.exact_num.specs.Laws.{IsWithin};
 ghost use Rattle.exact_num.proofs.Order.{values_in_order, values_equal};
 ghost use Rattle.exact_num.proofs.Order.{values_partly_equal, values_partly_ordered};
 ghost use Rattle.arithmetic.proofs.Integers.{le_pos};
-ghost use Rattle.frac.specs.Range.{narrow_limit};
+ghost use Rattle.frac.specs.Range.{narrow_limit, sum_within, product_within};
 
 use crate::bits128::Frac128;
-use crate::bits128::products::{inverted, product};
-use crate::bits128::sizes::is_in_range;
-use crate::bits128::sums::sum;
+use crate::products::{inverted, product};
+use crate::sizes::is_in_range;
+use crate::sums::sum;
 use exact_num::{Exact, Operator, Wide};
 use std::cmp::Ordering;
 
@@ -80,6 +81,7 @@ impl PartialOrd for Frac64 {
 }
 
 impl Frac64 {
+    ghost use Rattle.exact_num.specs.Fits.{misfit as misfit_of, inverse};
     ghost use Rattle.frac.specs.Value.{fraction_of};
     ghost use Rattle.frac.specs.Narrow.{narrow_fraction};
 
@@ -97,6 +99,46 @@ impl Frac64 {
         ensures { result ≡ self.numerator *ℤ pos other.denominator }
     {
         self.numerator as i128 * other.denominator as i128
+    }
+
+    // The sum in lowest terms, where each of its quantities is in range.
+    fn sum(self, other: Frac64) -> Option<Frac64>
+        ensures { option_map narrow_fraction result
+            ≡ sum_within narrow_limit (narrow_fraction self) (narrow_fraction other) }
+    {
+        let value = sum(self.in_128_bits(), other.in_128_bits(), LARGEST)?;
+        Some(Frac64::of(value))
+    }
+
+    // The product in lowest terms, where each of its quantities is in range.
+    fn product(self, other: Frac64) -> Option<Frac64>
+        ensures { option_map narrow_fraction result
+            ≡ product_within narrow_limit (narrow_fraction self) (narrow_fraction other) }
+    {
+        let value = product(self.in_128_bits(), other.in_128_bits(), LARGEST)?;
+        Some(Frac64::of(value))
+    }
+
+    // The quotient in lowest terms, where each of its quantities is in range.
+    fn quotient(self, other: Frac64) -> Option<Frac64>
+        requires { other.numerator ≢ pos 0 }
+        ensures { option_map narrow_fraction result ≡ product_within narrow_limit
+            (narrow_fraction self) (inverse (narrow_fraction other)) }
+    {
+        let value = product(self.in_128_bits(), inverted(other.in_128_bits()), LARGEST)?;
+        Some(Frac64::of(value))
+    }
+
+    // The operation that does not fit, with its operands.
+    #[cold]
+    fn misfit(self, operator: Operator, other: Frac64) -> Wide
+        ensures { result ≡ misfit_of operator (narrow_fraction self) (narrow_fraction other) }
+    {
+        Wide {
+            operator,
+            left: self.parts(),
+            right: other.parts(),
+        }
     }
 
     // The same value in 64 bits.
@@ -153,10 +195,9 @@ impl Exact for Frac64 {
     }
 
     fn add(self, other: Self) -> Result<Self, Wide> {
-        let (left, right) = (self.in_128_bits(), other.in_128_bits());
-        match sum(left, right, LARGEST) {
-            Some(value) => Ok(Frac64::of(value)),
-            None => Err(left.misfit(Operator::Add, right)),
+        match self.sum(other) {
+            Some(value) => Ok(value),
+            None => Err(self.misfit(Operator::Add, other)),
         }
     }
 
@@ -165,18 +206,16 @@ impl Exact for Frac64 {
     }
 
     fn mul(self, other: Self) -> Result<Self, Wide> {
-        let (left, right) = (self.in_128_bits(), other.in_128_bits());
-        match product(left, right, LARGEST) {
-            Some(value) => Ok(Frac64::of(value)),
-            None => Err(left.misfit(Operator::Mul, right)),
+        match self.product(other) {
+            Some(value) => Ok(value),
+            None => Err(self.misfit(Operator::Mul, other)),
         }
     }
 
     fn div(self, other: Self) -> Result<Self, Wide> {
-        let (left, right) = (self.in_128_bits(), other.in_128_bits());
-        match product(left, inverted(right), LARGEST) {
-            Some(value) => Ok(Frac64::of(value)),
-            None => Err(left.misfit(Operator::Div, right)),
+        match self.quotient(other) {
+            Some(value) => Ok(value),
+            None => Err(self.misfit(Operator::Div, other)),
         }
     }
 

@@ -3,8 +3,11 @@
 
 pub mod bits128;
 pub mod bits64;
+mod products;
 pub mod quotients;
 pub mod shares;
+mod sizes;
+mod sums;
 pub mod wholes;
 pub mod widening;
 

@@ -1,28 +1,11 @@
-use Rattle.std.proofs.Common.{sym, ap, ◌∙◌}
-use Rattle.exact_num.specs.Fits.{mul_of, div_of}
-use Rattle.exact_num.proofs.Exactness.{products_are_exact}
-use Rattle.frac.specs.Range.{narrow_limit, product_within}
-use Rattle.frac.specs.Value.{fraction_of}
+use Rattle.exact_num.specs.Fits.{div_of}
 use Rattle.frac.proofs.Choices.{some_answers, none_answers}
-use Rattle.frac.proofs.Moved.{value_at_equal, misfit_at_equal}
 use Rattle.frac.proofs.bits64.Frac64Exact.div.Goals as goal
-
-pub of-requires : goal.of-requires
-unfolding mul_of
-of-requires c =
-    (products_are_exact narrow_limit (fraction_of c.in_128_bits-left.result) (fraction_of c.inverted.result) (fraction_of c.in-Some.value)
-      c.in_128_bits-left.result.lowest c.inverted.result.lowest (sym (some_answers _ _ _ _ c.in-Some.ensures))).within
 
 pub returns-in-Some : goal.returns-in-Some
 unfolding div_of
-returns-in-Some c =
-    value_at_equal (div_of narrow_limit) (fraction_of c.in_128_bits-left.result) (fraction_of c.in_128_bits-right.result) _ _ _ _
-    c.in_128_bits-left.ensures c.in_128_bits-right.ensures c.of.ensures
-    (some_answers _ _ _ _ (c.in-Some.ensures ∙ ap (product_within narrow_limit (fraction_of c.in_128_bits-left.result)) c.inverted.ensures))
+returns-in-Some c = some_answers _ _ _ _ c.in-Some.ensures
 
 pub returns-in-None : goal.returns-in-None
 unfolding div_of
-returns-in-None c =
-    misfit_at_equal (div_of narrow_limit) (fraction_of c.in_128_bits-left.result) (fraction_of c.in_128_bits-right.result) _ _ _
-    c.in_128_bits-left.ensures c.in_128_bits-right.ensures
-    (none_answers _ _ _ _ c.misfit.ensures (c.in-None.ensures ∙ ap (product_within narrow_limit (fraction_of c.in_128_bits-left.result)) c.inverted.ensures))
+returns-in-None c = none_answers _ _ _ _ c.misfit.ensures c.in-None.ensures

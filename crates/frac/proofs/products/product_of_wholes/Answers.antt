@@ -7,7 +7,7 @@ use Rattle.exact_num.proofs.Values.{whole_is_lowest}
 use Rattle.frac.specs.Value.{fraction_of}
 use Rattle.frac.proofs.ProductSteps.{wholes_product}
 use Rattle.frac.proofs.Choices.{whole_stops, whole_is}
-use Rattle.frac.proofs.bits128.products.product_of_wholes.Goals as goal
+use Rattle.frac.proofs.products.product_of_wholes.Goals as goal
 
 pub returns-in_err-above : goal.returns-in_err-above
 returns-in_err-above c =

@@ -7,7 +7,7 @@ use Rattle.exact_num.specs.Fits.{sum_divisor}
 use Rattle.exact_num.proofs.Values.{sum_is_lowest}
 use Rattle.frac.specs.Value.{fraction_of}
 use Rattle.frac.proofs.SumSteps.{above_stops, total_is, below_stops, sum_ends, sum_answers}
-use Rattle.frac.proofs.bits128.sums.sum.Goals as goal
+use Rattle.frac.proofs.sums.sum.Goals as goal
 
 pub total-requires-clause-divisor : goal.total-requires-clause-divisor
 unfolding sum_divisor

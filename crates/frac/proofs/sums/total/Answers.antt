@@ -2,7 +2,7 @@ use Rattle.std.proofs.Common.{◌∙◌, to_z-of_z, rules}
 use mir.Val.{SFits}
 use mir.Syntax.{w128}
 use Rattle.frac.proofs.SumSteps.{parts_of_sum, left_stops, right_stops, total_ends}
-use Rattle.frac.proofs.bits128.sums.total.Goals as goal
+use Rattle.frac.proofs.sums.total.Goals as goal
 
 pub returns-in_err-left : goal.returns-in_err-left
 returns-in_err-left c = c.from_residual.ensures ∙ left_stops _ _ _ _ _ c.requires.divisor c.numerator_over.ensures c.in_err-left.was

@@ -7,7 +7,7 @@ use Rattle.exact_num.proofs.ProductValues.{product_is_lowest}
 use Rattle.frac.specs.Range.{within, within_natural}
 use Rattle.frac.specs.Value.{fraction_of}
 use Rattle.frac.proofs.ProductSteps.{above_stops, below_stops, product_ends, product_answers}
-use Rattle.frac.proofs.bits128.products.product.Goals as goal
+use Rattle.frac.proofs.products.product.Goals as goal
 
 pub returns-in_err-above : goal.returns-in_err-above
 returns-in_err-above c =

@@ -1,4 +1,4 @@
-//! Sums.
+//! Sums of fractions within a limit, for both widths.
 ghost use Rattle.std.specs.Prelude.{◌≡◌, ◌<◌, ◌/◌, ◌^◌, pos, ◌*ℤ◌};
 ghost use Rattle.std.specs.Option.{option_map};
 ghost use Rattle.exact_num.specs.Fits.{sum_divisor};
@@ -6,13 +6,14 @@ ghost use Rattle.exact_num.specs.Laws.{IsWithin};
 ghost use Rattle.frac.specs.Range.{within, total_within, sum_within};
 ghost use Rattle.frac.specs.Value.{fraction_of};
 
-use super::Frac128;
-use super::sizes::{
+use crate::bits128::Frac128;
+use crate::sizes::{
     common, divisor, natural_product, natural_quotient, product_with, quotient, whole_sum,
 };
 
 /// The numerator of `x` over the least common denominator with `y`, where it is within the limit.
 /// `g` is the greatest common divisor of the denominators.
+#[inline(always)]
 fn numerator_over(x: Frac128, y: Frac128, g: u128, limit: u128) -> Option<i128>
     requires positive { 0 < g }
     requires signed_limit { limit < 2 ^ 127 }
@@ -23,6 +24,7 @@ fn numerator_over(x: Frac128, y: Frac128, g: u128, limit: u128) -> Option<i128>
 
 /// The sum of the numerators over the least common denominator, where its steps are within the
 /// limit.
+#[inline(always)]
 fn total(x: Frac128, y: Frac128, g: u128, limit: u128) -> Option<i128>
     requires divisor { g ≡ sum_divisor (fraction_of x) (fraction_of y) }
     requires positive { 0 < g }
@@ -35,6 +37,7 @@ fn total(x: Frac128, y: Frac128, g: u128, limit: u128) -> Option<i128>
 }
 
 /// The sum of two whole numbers.
+#[inline(always)]
 fn sum_of_wholes(x: Frac128, y: Frac128, limit: u128) -> Option<Frac128>
     requires left { x.denominator ≡ 1 }
     requires right { y.denominator ≡ 1 }
@@ -51,6 +54,7 @@ fn sum_of_wholes(x: Frac128, y: Frac128, limit: u128) -> Option<Frac128>
 }
 
 /// The sum in lowest terms, where each of its quantities is within the limit.
+#[inline(always)]
 pub fn sum(x: Frac128, y: Frac128, limit: u128) -> Option<Frac128>
     requires left { IsWithin limit (fraction_of x) }
     requires right { IsWithin limit (fraction_of y) }

@@ -2,7 +2,7 @@ use Rattle.std.proofs.Common.{◌≡◌, ◌∙◌, sym, ap, arith, inl, inr}
 use Rattle.arithmetic.specs.Gcd.{gcd}
 use Rattle.arithmetic.proofs.GcdLaws.{gcd_self, gcd-one, gcd_comm, gcd_pos_right}
 use Rattle.arithmetic.proofs.BinaryGcd.{gcd-le_left}
-use Rattle.frac.proofs.bits128.sizes.divisor.Goals as goal
+use Rattle.frac.proofs.sizes.divisor.Goals as goal
 
 pub returns-then-a-b-clause-value : goal.returns-then-a-b-clause-value
 returns-then-a-b-clause-value c = rw c.if-a-b.true (sym (gcd_self c.args.b))

@@ -6,7 +6,7 @@ use Rattle.exact_num.specs.Fraction.{IsLowest, over}
 use Rattle.exact_num.specs.Fits.{inverse, signed_by}
 use Rattle.exact_num.proofs.ProductValues.{inverse_is_lowest, unsigned_abs-signed_by}
 use Rattle.frac.specs.Value.{fraction_of}
-use Rattle.frac.proofs.bits128.products.inverted.Goals as goal
+use Rattle.frac.proofs.products.inverted.Goals as goal
 
 pub returns : goal.returns
 unfolding inverse

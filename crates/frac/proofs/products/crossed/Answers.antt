@@ -3,7 +3,7 @@ use Rattle.std.proofs.lemmas.Int.{fits_signed_from_abs}
 use mir.Val.{SFits}
 use mir.Syntax.{w128}
 use Rattle.frac.proofs.ProductSteps.{above_is, below_is}
-use Rattle.frac.proofs.bits128.products.crossed.Goals as goal
+use Rattle.frac.proofs.products.crossed.Goals as goal
 
 pub returns-clause-above : goal.returns-clause-above
 returns-clause-above c =

@@ -1,12 +1,12 @@
-//! Products and inverses.
+//! Products of fractions within a limit, for both widths, and inverses.
 ghost use Rattle.std.specs.Prelude.{◌≡◌, ◌≢◌, ◌<◌, ◌^◌, ◌*◌, pos, ◌*ℤ◌};
 ghost use Rattle.std.specs.Option.{option_map};
 ghost use Rattle.exact_num.specs.Fits.{product_above, product_below, inverse};
 ghost use Rattle.frac.specs.Range.{product_within};
 ghost use Rattle.frac.specs.Value.{fraction_of};
 
-use super::Frac128;
-use super::sizes::{
+use crate::bits128::Frac128;
+use crate::sizes::{
     common, natural_product, natural_quotient, quotient, whole_product, with_sign_of,
 };
 
@@ -18,6 +18,7 @@ struct Factors {
 }
 
 /// The two fractions without these divisors: their products are those of a product in lowest terms.
+#[inline(always)]
 fn crossed(x: Frac128, y: Frac128) -> Factors
     ensures above { result.numerators.0 *ℤ result.numerators.1
         ≡ product_above (fraction_of x) (fraction_of y) }
@@ -36,6 +37,7 @@ fn crossed(x: Frac128, y: Frac128) -> Factors
 }
 
 /// The product of two whole numbers.
+#[inline(always)]
 fn product_of_wholes(x: Frac128, y: Frac128, limit: u128) -> Option<Frac128>
     requires left { x.denominator ≡ 1 }
     requires right { y.denominator ≡ 1 }
@@ -51,6 +53,7 @@ fn product_of_wholes(x: Frac128, y: Frac128, limit: u128) -> Option<Frac128>
 }
 
 /// The product in lowest terms, where each of its quantities is within the limit.
+#[inline(always)]
 pub fn product(x: Frac128, y: Frac128, limit: u128) -> Option<Frac128>
     requires positive_limit { 0 < limit }
     requires signed_limit { limit < 2 ^ 127 }
@@ -69,6 +72,7 @@ pub fn product(x: Frac128, y: Frac128, limit: u128) -> Option<Frac128>
 }
 
 /// One divided by the fraction.
+#[inline(always)]
 pub fn inverted(x: Frac128) -> Frac128
     requires { x.numerator ≢ pos 0 }
     ensures { fraction_of result ≡ inverse (fraction_of x) }

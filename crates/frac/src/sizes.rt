@@ -20,6 +20,7 @@ pub fn is_in_range(v: i128, limit: u128) -> bool
 }
 
 /// The greatest common divisor of numbers that are in range. Most denominators are 1 or equal.
+#[inline(always)]
 pub fn divisor(a: u128, b: u128) -> u128
     requires positive { 0 < b }
     requires in_range { b < 2 ^ 127 }
@@ -37,6 +38,7 @@ pub fn divisor(a: u128, b: u128) -> u128
 }
 
 /// The greatest common divisor of the size of `n` and `d`.
+#[inline(always)]
 pub fn common(n: i128, d: u128) -> u128
     requires positive { 0 < d }
     requires in_range { d < 2 ^ 127 }
@@ -48,6 +50,7 @@ pub fn common(n: i128, d: u128) -> u128
 }
 
 /// The quotient, rounded down.
+#[inline(always)]
 pub fn natural_quotient(a: u128, b: u128) -> u128
     requires { 0 < b }
     ensures { result ≡ a / b }
@@ -62,6 +65,7 @@ pub fn natural_quotient(a: u128, b: u128) -> u128
 }
 
 /// The quotient, rounded toward zero.
+#[inline(always)]
 pub fn quotient(a: i128, b: u128) -> i128
     requires positive { 0 < b }
     requires in_range { b < 2 ^ 127 }
@@ -75,6 +79,7 @@ pub fn quotient(a: i128, b: u128) -> i128
 }
 
 /// The product where it is at most the limit.
+#[inline(always)]
 pub fn natural_product(a: u128, b: u128, limit: u128) -> Option<u128>
     ensures { result ≡ within_natural limit (a * b) }
 {
@@ -91,6 +96,7 @@ pub fn natural_product(a: u128, b: u128, limit: u128) -> Option<u128>
 }
 
 /// The product where it is at most the limit in size.
+#[inline(always)]
 pub fn product_with(a: i128, b: u128, limit: u128) -> Option<i128>
     requires factor { b < 2 ^ 127 }
     requires signed_limit { limit < 2 ^ 127 }
@@ -101,6 +107,7 @@ pub fn product_with(a: i128, b: u128, limit: u128) -> Option<i128>
 }
 
 /// The product where it is at most the limit in size.
+#[inline(always)]
 pub fn whole_product(a: i128, b: i128, limit: u128) -> Option<i128>
     requires { limit < 2 ^ 127 }
     ensures { result ≡ within limit (a *ℤ b) }
@@ -114,6 +121,7 @@ pub fn whole_product(a: i128, b: i128, limit: u128) -> Option<i128>
 }
 
 /// The sum where it is at most the limit in size.
+#[inline(always)]
 pub fn whole_sum(a: i128, b: i128, limit: u128) -> Option<i128>
     requires { limit < 2 ^ 127 }
     ensures { result ≡ within limit (a +ℤ b) }
@@ -125,6 +133,7 @@ pub fn whole_sum(a: i128, b: i128, limit: u128) -> Option<i128>
 }
 
 /// `size`, or where `n` is below 0 its opposite.
+#[inline(always)]
 pub fn with_sign_of(n: i128, size: u128) -> i128
     requires { size < 2 ^ 127 }
     ensures { result ≡ signed_by n (pos size) }
