@@ -83,6 +83,7 @@ impl Frac128 {
     ghost use Rattle.frac.specs.Value.{fraction_of};
 
     // The sum in lowest terms, where each of its quantities is in range.
+    #[inline(never)]
     fn sum(self, other: Frac128) -> Option<Frac128>
         ensures { option_map fraction_of result
             ≡ sum_within limit (fraction_of self) (fraction_of other) }
@@ -91,6 +92,7 @@ impl Frac128 {
     }
 
     // The product in lowest terms, where each of its quantities is in range.
+    #[inline(never)]
     fn product(self, other: Frac128) -> Option<Frac128>
         ensures { option_map fraction_of result
             ≡ product_within limit (fraction_of self) (fraction_of other) }
@@ -100,6 +102,7 @@ impl Frac128 {
 
     /// The operation that does not fit, with its operands.
     #[cold]
+    #[inline(never)]
     fn misfit(self, operator: Operator, other: Frac128) -> Wide
         ensures { result ≡ misfit_of operator (fraction_of self) (fraction_of other) }
     {
@@ -165,6 +168,7 @@ impl Exact for Frac128 {
         (self.numerator, self.denominator as i128)
     }
 
+    #[inline(always)]
     fn add(self, other: Self) -> Result<Self, Wide> {
         match self.sum(other) {
             Some(value) => Ok(value),
@@ -172,10 +176,12 @@ impl Exact for Frac128 {
         }
     }
 
+    #[inline(always)]
     fn sub(self, other: Self) -> Result<Self, Wide> {
         self.add(other.neg())
     }
 
+    #[inline(always)]
     fn mul(self, other: Self) -> Result<Self, Wide> {
         match self.product(other) {
             Some(value) => Ok(value),
@@ -183,6 +189,7 @@ impl Exact for Frac128 {
         }
     }
 
+    #[inline(always)]
     fn div(self, other: Self) -> Result<Self, Wide> {
         match self.product(inverted(other)) {
             Some(value) => Ok(value),

@@ -102,6 +102,7 @@ impl Frac64 {
     }
 
     // The sum in lowest terms, where each of its quantities is in range.
+    #[inline(never)]
     fn sum(self, other: Frac64) -> Option<Frac64>
         ensures { option_map narrow_fraction result
             ≡ sum_within narrow_limit (narrow_fraction self) (narrow_fraction other) }
@@ -111,6 +112,7 @@ impl Frac64 {
     }
 
     // The product in lowest terms, where each of its quantities is in range.
+    #[inline(never)]
     fn product(self, other: Frac64) -> Option<Frac64>
         ensures { option_map narrow_fraction result
             ≡ product_within narrow_limit (narrow_fraction self) (narrow_fraction other) }
@@ -120,6 +122,7 @@ impl Frac64 {
     }
 
     // The quotient in lowest terms, where each of its quantities is in range.
+    #[inline(never)]
     fn quotient(self, other: Frac64) -> Option<Frac64>
         requires { other.numerator ≢ pos 0 }
         ensures { option_map narrow_fraction result ≡ product_within narrow_limit
@@ -131,6 +134,7 @@ impl Frac64 {
 
     // The operation that does not fit, with its operands.
     #[cold]
+    #[inline(never)]
     fn misfit(self, operator: Operator, other: Frac64) -> Wide
         ensures { result ≡ misfit_of operator (narrow_fraction self) (narrow_fraction other) }
     {
@@ -194,6 +198,7 @@ impl Exact for Frac64 {
         (self.numerator as i128, self.denominator as i128)
     }
 
+    #[inline(always)]
     fn add(self, other: Self) -> Result<Self, Wide> {
         match self.sum(other) {
             Some(value) => Ok(value),
@@ -201,10 +206,12 @@ impl Exact for Frac64 {
         }
     }
 
+    #[inline(always)]
     fn sub(self, other: Self) -> Result<Self, Wide> {
         self.add(other.neg())
     }
 
+    #[inline(always)]
     fn mul(self, other: Self) -> Result<Self, Wide> {
         match self.product(other) {
             Some(value) => Ok(value),
@@ -212,6 +219,7 @@ impl Exact for Frac64 {
         }
     }
 
+    #[inline(always)]
     fn div(self, other: Self) -> Result<Self, Wide> {
         match self.quotient(other) {
             Some(value) => Ok(value),
