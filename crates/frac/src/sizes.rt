@@ -32,9 +32,21 @@ pub fn divisor(a: u128, b: u128) -> u128
         b
     } else if a == 1 || b == 1 {
         1
+    } else if a <= SHORT && b <= SHORT {
+        short_divisor(a as u64, b as u64) as u128
     } else {
         gcd(a, b)
     }
+}
+
+// The same of short numbers: its type says that what is divided by it fits in 64 bits too.
+#[inline(always)]
+fn short_divisor(a: u64, b: u64) -> u64
+    requires { 0 < b }
+    ensures value { result ≡ gcd_of a b }
+    ensures above_zero { 0 < result }
+{
+    gcd(a as u128, b as u128) as u64
 }
 
 /// The greatest common divisor of the size of `n` and `d`.

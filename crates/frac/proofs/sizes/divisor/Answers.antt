@@ -14,10 +14,10 @@ returns-then-b-eq1-clause-value c =
       | inr w ↦ sym (ap (gcd c.args.a) w.1 ∙ gcd-one c.args.a)
     ]
 
-pub returns-else-b-eq1-clause-above_zero : goal.returns-else-b-eq1-clause-above_zero
-returns-else-b-eq1-clause-above_zero c = rw c.gcd.ensures (gcd_pos_right _ _ c.requires.positive)
+pub returns-else-a-le-SHORT-clause-above_zero : goal.returns-else-a-le-SHORT-clause-above_zero
+returns-else-a-le-SHORT-clause-above_zero c = rw c.gcd.ensures (gcd_pos_right _ _ c.requires.positive)
 
-pub returns-else-b-eq1-clause-small : goal.returns-else-b-eq1-clause-small
-returns-else-b-eq1-clause-small c =
+pub returns-else-a-le-SHORT-clause-small : goal.returns-else-a-le-SHORT-clause-small
+returns-else-a-le-SHORT-clause-small c =
     let e : c.gcd.result ≡ gcd c.args.b c.args.a = c.gcd.ensures ∙ gcd_comm c.args.a c.args.b in
     rw e (omega (arith, gcd-le_left c.args.b c.args.a c.requires.positive))
