@@ -6,7 +6,7 @@ use Rattle.exact_num.proofs.Values.{lowest_prop}
 use Rattle.exact_num.specs.Fraction.{Fraction, IsLowest, over, fraction_cmp}
 use Rattle.exact_num.specs.Laws.{IsWithin}
 use Rattle.std.specs.declared.cmp.Ordering.{Ordering}
-use Rattle.frac.specs.declared.bits64.Frac64.{Frac64}
+use Rattle.frac.specs.declared.frac64.Frac64.{Frac64}
 use Rattle.frac.specs.Range.{narrow_limit}
 
 within_prop : (limit : ℕ) (x : Fraction) → IsProp (IsWithin limit x)

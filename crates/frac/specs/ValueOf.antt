@@ -5,7 +5,7 @@ use Rattle.std.proofs.lemmas.Bool.{and_parts, eqb-true, ltb-true}
 use Rattle.arithmetic.specs.Gcd.{gcd}
 use Rattle.exact_num.specs.Fraction.{Fraction}
 use Rattle.exact_num.proofs.Values.{whole_is_lowest}
-use Rattle.frac.specs.declared.bits128.Frac128.{Frac128}
+use Rattle.frac.specs.declared.frac128.Frac128.{Frac128}
 
 -- whether a fraction is in lowest terms
 abbrev pub is_lowest : Fraction → Bool

@@ -1,8 +1,8 @@
 //! Fractions of 128 and of 64 bits as exact numbers, and shares of whole numbers rounded down and up.
 #![tactic(auto)]
 
-pub mod bits128;
-pub mod bits64;
+pub mod frac128;
+pub mod frac64;
 mod products;
 pub mod quotients;
 pub mod shares;
@@ -11,8 +11,8 @@ mod sums;
 pub mod wholes;
 pub mod widening;
 
-pub use bits128::Frac128;
-pub use bits64::Frac64;
+pub use frac128::Frac128;
+pub use frac64::Frac64;
 pub use exact_num::gcd;
 pub use shares::{mul_div_ceil, mul_div_floor};
 pub use wholes::whole;

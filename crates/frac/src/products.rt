@@ -5,7 +5,7 @@ ghost use Rattle.exact_num.specs.Fits.{product_above, product_below, inverse};
 ghost use Rattle.frac.specs.Range.{product_within};
 ghost use Rattle.frac.specs.Value.{fraction_of};
 
-use crate::bits128::Frac128;
+use crate::frac128::Frac128;
 use crate::sizes::{
     common, natural_product, natural_quotient, quotient, whole_product, with_sign_of,
 };

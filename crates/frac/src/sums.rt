@@ -6,7 +6,7 @@ ghost use Rattle.exact_num.specs.Laws.{IsWithin};
 ghost use Rattle.frac.specs.Range.{within, total_within, sum_within};
 ghost use Rattle.frac.specs.Value.{fraction_of};
 
-use crate::bits128::Frac128;
+use crate::frac128::Frac128;
 use crate::sizes::{
     common, divisor, natural_product, natural_quotient, product_with, quotient, whole_sum,
 };

@@ -3,8 +3,8 @@ ghost use Rattle.std.specs.Prelude.{◌≡◌};
 ghost use Rattle.frac.specs.Value.{fraction_of};
 ghost use Rattle.frac.specs.Narrow.{narrow_fraction};
 
-use crate::bits128::Frac128;
-use crate::bits64::Frac64;
+use crate::frac128::Frac128;
+use crate::frac64::Frac64;
 
 /// The same value in 128 bits. Takes no memory.
 pub fn widen(f: Frac64) -> Frac128

@@ -1,9 +1,0 @@
-use Rattle.std.proofs.Common.{sym, ap, ◌∙◌}
-use Rattle.std.specs.Option.{option_map}
-use Rattle.frac.specs.Value.{fraction_of}
-use Rattle.frac.proofs.ProductSteps.{product_is_within}
-use Rattle.frac.proofs.bits64.Frac64.product.Goals as goal
-
-pub of-requires : goal.of-requires
-of-requires c =
-    product_is_within _ _ _ _ c.in_128_bits.result.lowest c.in_128_bits-2.result.lowest (ap (option_map fraction_of) (sym c.in_ok-value.was) ∙ c.product.ensures)
