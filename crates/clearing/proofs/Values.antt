@@ -2,15 +2,15 @@
 use Rattle.std.proofs.Common.{◌≡◌, refl, Bool, true, false, List, [], ◌∷◌, map, ap, ap₂, sym, ◌∙◌}
 use Rattle.std.proofs.lemmas.Bool.{and_parts, lt-ltb}
 use Rattle.exact_num.specs.Fraction.{Fraction}
-use Rattle.frac.specs.declared.bits128.Frac128.{Frac128}
+use Rattle.frac.specs.declared.frac128.Frac128.{Frac128}
 use Rattle.frac.specs.Value.{fraction_of}
 use Rattle.frac.specs.ValueOf.{value_of, made_or_zero}
 use Rattle.frac.proofs.ValueOf.{value-fraction_of}
 use Rattle.form.proofs.StateOf.{state-vector_of}
 use Rattle.measure.specs.declared.measures.Weighted.{Weighted}
 use Rattle.measure.specs.Points.{point_of}
-use Rattle.form.specs.Certificate.{fraction_weight}
-use Rattle.joint_program.specs.Reading.{reading_with}
+use Rattle.clearing_model.specs.Certificate.{fraction_weight}
+use Rattle.master_program.specs.Reading.{reading_with}
 use Rattle.clearing.specs.Outcome.{weighted_of, is_value, are_values, has_values}
 
 pub value_is : (x : Frac128) (f : Fraction) → fraction_of x ≡ f → x ≡ value_of f

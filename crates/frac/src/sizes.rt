@@ -2,8 +2,7 @@
 //!
 //! Where all numbers fit in 64 bits, nothing is divided in 128. All is compiled anew where it is
 //! called, since the limit and the width of the operands are known there.
-ghost use Rattle.std.specs.Prelude.{◌≡◌, ◌<◌, ◌*◌, ◌/◌, ◌^◌};
-ghost use Rattle.std.specs.Prelude.{pos, ◌+ℤ◌, ◌*ℤ◌, unsigned_abs, int_div};
+ghost use Rattle.std.specs.Prelude.{◌≡◌, ◌<◌, ◌*◌, ◌/◌, ◌^◌, pos, ◌+ℤ◌, ◌*ℤ◌, unsigned_abs, int_div};
 ghost use Rattle.arithmetic.specs.Gcd.{gcd as gcd_of};
 ghost use Rattle.exact_num.specs.Fits.{size_fits, signed_by};
 ghost use Rattle.frac.specs.Range.{within, within_natural};

@@ -2,7 +2,7 @@
 use Rattle.std.proofs.Common.{◌≡◌, ℕ, ◌<◌, Bool, List, [], ◌∷◌, length, map, get_or, ℤ, pos, Result, Ok, Err, refl, sym, ◌∙◌}
 use Rattle.std.proofs.lemmas.List.{length-map}
 use Rattle.exact_num.specs.declared.misfit.Wide.{Wide}
-use Rattle.frac.specs.declared.bits128.Frac128.{Frac128}
+use Rattle.frac.specs.declared.frac128.Frac128.{Frac128}
 use Rattle.frac.specs.Value.{fraction_of}
 use Rattle.form.specs.declared.orders.Order.{Order}
 use Rattle.sign_tree.specs.declared.trees.Node.{Node}
@@ -11,7 +11,7 @@ use Rattle.sign_tree.specs.Read.{node_of, placed_of, sign_of}
 use Rattle.sign_tree.proofs.LegLists.{none_signed, length-fraction_legs}
 use Rattle.sign_tree.proofs.Sides.{legs_are_of}
 use Rattle.exact_num.specs.Fraction.{Fraction}
-use Rattle.form.specs.Written.{WrittenNode, PlacedMultiplier}
+use Rattle.clearing_model.specs.Written.{WrittenNode, PlacedMultiplier}
 use Rattle.sign_tree.specs.Walk.{FractionLeg, walk, closes_of}
 use Rattle.sign_tree.specs.declared.closing.Left.{Left}
 use Rattle.sign_tree.specs.declared.closing.Stop.{Stop}

@@ -2,11 +2,11 @@
 use Rattle.std.proofs.Common.{◌≡◌, ℕ, false, List, ◌∷◌, length, map, set, get_or, ℤ, pos, negsuc, Ok, Err, refl, ap, sym, ◌∙◌}
 use Rattle.std.proofs.lemmas.List.{map-set, set-set, length-map, set-get_or}
 use Rattle.exact_num.specs.Fraction.{Fraction}
-use Rattle.frac.specs.declared.bits128.Frac128.{Frac128}
+use Rattle.frac.specs.declared.frac128.Frac128.{Frac128}
 use Rattle.frac.specs.Value.{fraction_of}
 use Rattle.form.specs.declared.orders.Order.{Order}
-use Rattle.form.specs.Tree.{Sign}
-use Rattle.form.specs.Written.{WrittenNode, SplitNode, PlacedMultiplier}
+use Rattle.clearing_model.specs.Tree.{Sign}
+use Rattle.clearing_model.specs.Written.{WrittenNode, SplitNode, PlacedMultiplier}
 use Rattle.sign_tree.specs.declared.closing.Stop.{Stop}
 use Rattle.sign_tree.specs.declared.closing.Stop.TheVariants.{Open as OpenStop, Wide as WideStop}
 use Rattle.sign_tree.specs.Read.{sign_of}
