@@ -81,7 +81,8 @@ impl Frac128 {
     ghost use Rattle.exact_num.specs.Fits.{misfit as misfit_of};
     ghost use Rattle.frac.specs.Value.{fraction_of};
 
-    // The sum in lowest terms, where each of its quantities is in range.
+    // The sum in lowest terms, where each of its quantities is in range. It is a call with a short
+    // answer: the long one, with room for a misfit, is put together where the caller is compiled.
     #[inline(never)]
     fn sum(self, other: Frac128) -> Option<Frac128>
         ensures { option_map fraction_of result

@@ -12,10 +12,10 @@ ghost use Rattle.exact_num.proofs.Order.{values_partly_equal, values_partly_orde
 ghost use Rattle.arithmetic.proofs.Integers.{le_pos};
 ghost use Rattle.frac.specs.Range.{narrow_limit, sum_within, product_within};
 
-use crate::frac128::Frac128;
 use crate::products::{inverted, product};
 use crate::sizes::is_in_range;
 use crate::sums::sum;
+use crate::widths::{narrow, widen};
 use exact_num::{Exact, Operator, Wide};
 use std::cmp::Ordering;
 
@@ -26,8 +26,8 @@ const LARGEST: u128 = i64::MAX as u128;
 /// from 1 to 2^63 - 1. Its operations are those of `Exact`.
 #[derive(Clone, Copy, Debug)]
 pub struct Frac64 {
-    numerator: i64,
-    denominator: u64,
+    pub(crate) numerator: i64,
+    pub(crate) denominator: u64,
     ghost lowest: { IsLowest (over numerator denominator) },
     ghost within: { IsWithin narrow_limit (over numerator denominator) },
 }
@@ -40,7 +40,7 @@ impl PartialEq for Frac64 {
     ghost laws = { values_partly_equal narrow_fraction (λ x. x.lowest) };
 
     fn eq(&self, other: &Frac64) -> bool {
-        self.in_128_bits() == other.in_128_bits()
+        widen(*self) == widen(*other)
     }
 }
 
@@ -82,17 +82,7 @@ impl PartialOrd for Frac64 {
 
 impl Frac64 {
     ghost use Rattle.exact_num.specs.Fits.{misfit as misfit_of, inverse};
-    ghost use Rattle.frac.specs.Value.{fraction_of};
     ghost use Rattle.frac.specs.Narrow.{narrow_fraction};
-
-    fn in_128_bits(self) -> Frac128
-        ensures { fraction_of result ≡ narrow_fraction self }
-    {
-        Frac128 {
-            numerator: self.numerator as i128,
-            denominator: self.denominator as u128,
-        }
-    }
 
     // The numerator times the denominator of `other`, which fits 128 bits.
     fn cross_product(self, other: Frac64) -> i128
@@ -101,14 +91,15 @@ impl Frac64 {
         self.numerator as i128 * other.denominator as i128
     }
 
-    // The sum in lowest terms, where each of its quantities is in range.
+    // The sum in lowest terms, where each of its quantities is in range. It is a call with a short
+    // answer: the long one, with room for a misfit, is put together where the caller is compiled.
     #[inline(never)]
     fn sum(self, other: Frac64) -> Option<Frac64>
         ensures { option_map narrow_fraction result
             ≡ sum_within narrow_limit (narrow_fraction self) (narrow_fraction other) }
     {
-        let value = sum(self.in_128_bits(), other.in_128_bits(), LARGEST)?;
-        Some(Frac64::of(value))
+        let value = sum(widen(self), widen(other), LARGEST)?;
+        Some(narrow(value))
     }
 
     // The product in lowest terms, where each of its quantities is in range.
@@ -117,8 +108,8 @@ impl Frac64 {
         ensures { option_map narrow_fraction result
             ≡ product_within narrow_limit (narrow_fraction self) (narrow_fraction other) }
     {
-        let value = product(self.in_128_bits(), other.in_128_bits(), LARGEST)?;
-        Some(Frac64::of(value))
+        let value = product(widen(self), widen(other), LARGEST)?;
+        Some(narrow(value))
     }
 
     // The quotient in lowest terms, where each of its quantities is in range.
@@ -128,8 +119,8 @@ impl Frac64 {
         ensures { option_map narrow_fraction result ≡ product_within narrow_limit
             (narrow_fraction self) (inverse (narrow_fraction other)) }
     {
-        let value = product(self.in_128_bits(), inverted(other.in_128_bits()), LARGEST)?;
-        Some(Frac64::of(value))
+        let value = product(widen(self), inverted(widen(other)), LARGEST)?;
+        Some(narrow(value))
     }
 
     // The operation that does not fit, with its operands.
@@ -142,17 +133,6 @@ impl Frac64 {
             operator,
             left: self.parts(),
             right: other.parts(),
-        }
-    }
-
-    // The same value in 64 bits.
-    fn of(value: Frac128) -> Frac64
-        requires { IsWithin narrow_limit (fraction_of value) }
-        ensures { narrow_fraction result ≡ fraction_of value }
-    {
-        Frac64 {
-            numerator: value.numerator as i64,
-            denominator: value.denominator as u64,
         }
     }
 }

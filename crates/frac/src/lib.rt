@@ -1,4 +1,5 @@
-//! Fractions of 128 and of 64 bits as exact numbers, and shares of whole numbers rounded down and up.
+//! Fractions of 128 and of 64 bits as exact numbers, and shares of whole numbers rounded down and
+//! up.
 #![tactic(auto)]
 
 pub mod frac128;
@@ -9,14 +10,14 @@ pub mod shares;
 mod sizes;
 mod sums;
 pub mod wholes;
-pub mod widening;
+pub mod widths;
 
-pub use frac128::Frac128;
-pub use frac64::Frac64;
 pub use exact_num::gcd;
+pub use frac64::Frac64;
+pub use frac128::Frac128;
 pub use shares::{mul_div_ceil, mul_div_floor};
 pub use wholes::whole;
-pub use widening::widen;
+pub use widths::widen;
 
 #[cfg(test)]
 mod tests;
