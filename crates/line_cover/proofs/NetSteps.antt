@@ -5,7 +5,7 @@ use Rattle.exact_num.specs.declared.misfit.Wide.{Wide}
 use Rattle.exact_num.specs.Fraction.{Fraction}
 use Rattle.exact_num.specs.Fits.{meaning}
 use Rattle.exact_num.proofs.After.{after_ok, after_err}
-use Rattle.frac.specs.declared.bits128.Frac128.{Frac128}
+use Rattle.frac.specs.declared.frac128.Frac128.{Frac128}
 use Rattle.frac.specs.Value.{fraction_of}
 use Rattle.form.specs.declared.orders.Order.{Order}
 use Rattle.line_cover.specs.Net.{add_payoff, add_payoffs}

@@ -18,7 +18,7 @@ use Rattle.exact_num.specs.CommonDenominator.{common_denominator, amount_over, s
 use Rattle.exact_num.proofs.After.{after_value}
 use Rattle.exact_num.proofs.Values.{whole_is_lowest}
 use Rattle.exact_num.proofs.Fractions.{common_positive, divides, amount_is_exact}
-use Rattle.frac.specs.declared.bits128.Frac128.{Frac128}
+use Rattle.frac.specs.declared.frac128.Frac128.{Frac128}
 use Rattle.frac.specs.Value.{fraction_of}
 use Rattle.form.specs.declared.orders.Side.{Side}
 use Rattle.form.specs.declared.orders.Side.TheVariants.{Buy, Sell}

@@ -4,7 +4,7 @@ use Rattle.exact_num.specs.declared.misfit.Wide.{Wide as Misfit}
 use Rattle.exact_num.specs.Fraction.{Fraction}
 use Rattle.frac.specs.Range.{limit}
 use Rattle.frac.specs.Value.{fraction_of}
-use Rattle.frac.specs.declared.bits128.Frac128.{Frac128}
+use Rattle.frac.specs.declared.frac128.Frac128.{Frac128}
 use Rattle.form.specs.declared.orders.Batch.{Batch}
 use Rattle.clearing_model.specs.Clearing.{AreOn}
 use Rattle.simplex.specs.declared.stop.Stop.{Stop}
