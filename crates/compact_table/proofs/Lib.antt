@@ -1,0 +1,9 @@
+pub mod EntrySteps
+pub mod Signs
+pub mod RowSteps
+pub mod Nonzero
+pub mod Rotations
+pub mod ArenaSteps
+pub mod RatioLoop
+pub mod Beside
+pub mod Leaves
