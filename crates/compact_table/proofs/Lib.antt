@@ -7,3 +7,8 @@ pub mod ArenaSteps
 pub mod RatioLoop
 pub mod Beside
 pub mod Leaves
+pub mod Filling
+pub mod Among
+pub mod Starts
+pub mod Reading
+pub mod Turning

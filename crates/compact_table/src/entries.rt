@@ -1,7 +1,8 @@
 //! Steps on entries. One with an operand 0 is set down without computing it.
-ghost use Rattle.std.specs.Prelude.{◌≡◌, ◌≢◌, ◌<◌, ◌≤◌, false, length, map, pos, unsigned_abs, vec_capacity};
+ghost use Rattle.std.specs.Prelude.{◌≡◌, ◌≢◌, ◌<◌, ◌≤◌, false, IfSome, length, map, pos, unsigned_abs, vec_capacity};
 ghost use Rattle.exact_num.specs.Fits.{meaning, written_back};
 ghost use Rattle.table_run.specs.Places.{at};
+ghost use Rattle.table_run.specs.Choice.{first_below};
 ghost use Rattle.table_run.specs.Pivot.{each, each_pair};
 ghost use Rattle.compact_run.specs.Steps.{is_zero as is_zero_of, short_quotient, short_difference, short_less};
 ghost use Rattle.compact_table.specs.Nonzero.{entry_after, nonzero_places};
@@ -14,6 +15,19 @@ pub fn is_zero<N: Exact>(x: N) -> bool
     ensures { result ≡ is_zero_of (N.fraction x) }
 {
     x.sign() == 0
+}
+
+/// The place of the first entry below 0.
+pub fn first_below_zero<N: Exact>(entries: &[N]) -> Option<usize>
+    ensures place { result ≡ first_below 0 (map N.fraction entries.now) }
+    ensures inside { IfSome result (λ j. j < length entries.now) }
+{
+    for (j, entry) in entries.iter().enumerate() {
+        if entry.sign() < 0 {
+            return Some(j);
+        }
+    }
+    None
 }
 
 /// The entry over the divisor.

@@ -8,3 +8,6 @@ mod ratios;
 mod room;
 mod row;
 mod rows;
+pub mod table;
+
+pub use table::Table;
