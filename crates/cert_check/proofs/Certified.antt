@@ -3,7 +3,7 @@ use Rattle.std.proofs.Common.{[], ◌∷◌, map, All, sym, subst}
 use Rattle.arithmetic.proofs.Sums.{All-head, All-tail}
 use Rattle.frac.specs.Value.{fraction_of}
 use Rattle.form.specs.declared.orders.Batch.{Batch}
-use Rattle.form.specs.Certificate.{FillsCover, IsPremiumLessLiability, HasUnitMass, MeasureProves}
+use Rattle.clearing_model.specs.Certificate.{FillsCover, IsPremiumLessLiability, HasUnitMass, MeasureProves}
 use Rattle.market_laws.proofs.Certificate.{line_certificate_covers, written_tree_covers, balanced_fills_cover, cover_and_measure_are_optimal}
 use Rattle.sign_tree.specs.Read.{node_of, placed_of}
 use Rattle.sign_tree.proofs.Decided.{multipliers_lowest}

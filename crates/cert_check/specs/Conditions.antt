@@ -7,9 +7,9 @@ use Rattle.frac.specs.Value.{fraction_of}
 use Rattle.form.specs.declared.orders.Order.{Order}
 use Rattle.form.specs.declared.orders.Batch.{Batch}
 use Rattle.form.specs.Payoff.{IsState}
-use Rattle.form.specs.Clearing.{AreOn}
-use Rattle.form.specs.Balance.{AreBalanced}
-use Rattle.form.specs.Certificate.{AreFractionFills, IsPremiumLessLiability, LineCloses, ClosesAsWritten, Point, HasUnitMass, MeasureProves}
+use Rattle.clearing_model.specs.Clearing.{AreOn}
+use Rattle.clearing_model.specs.Balance.{AreBalanced}
+use Rattle.clearing_model.specs.Certificate.{AreFractionFills, IsPremiumLessLiability, LineCloses, ClosesAsWritten, Point, HasUnitMass, MeasureProves}
 use Rattle.sign_tree.specs.Read.{node_of, placed_of}
 use Rattle.measure.specs.declared.measures.Measure.{Measure}
 use Rattle.measure.specs.Points.{point_of}

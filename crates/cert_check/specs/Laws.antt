@@ -4,8 +4,8 @@ use Rattle.std.specs.List.{All}
 use Rattle.frac.specs.Range.{limit}
 use Rattle.frac.specs.Value.{fraction_of}
 use Rattle.form.specs.declared.orders.Batch.{Batch}
-use Rattle.form.specs.Clearing.{AreOn, IsGreatest}
-use Rattle.form.specs.Certificate.{FillsCover, IsFractionMeasure, MeasureProves}
+use Rattle.clearing_model.specs.Clearing.{AreOn, IsGreatest}
+use Rattle.clearing_model.specs.Certificate.{FillsCover, IsFractionMeasure, MeasureProves}
 use Rattle.measure.specs.declared.measures.Measure.{Measure}
 use Rattle.measure.specs.Points.{point_of}
 use Rattle.cert_check.specs.declared.outcome.Outcome.{Outcome}

@@ -5,7 +5,7 @@ ghost use Rattle.exact_num.specs.Fits.{meaning};
 ghost use Rattle.exact_num.specs.Fraction.{whole};
 ghost use Rattle.frac.specs.Range.{limit};
 ghost use Rattle.frac.specs.Value.{fraction_of};
-ghost use Rattle.form.specs.Balance.{is_same_option};
+ghost use Rattle.form.specs.Vector.{is_same_option};
 ghost use Rattle.form.specs.Payoff.{option_of};
 ghost use Rattle.cert_check.specs.Cover.{add_all_same, add_fill, add_same, balances_all, balances_at, fallback_holds};
 

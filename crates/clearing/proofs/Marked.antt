@@ -8,20 +8,22 @@ use Rattle.exact_num.specs.declared.misfit.Wide.{Wide as Misfit}
 use Rattle.exact_num.specs.Fraction.{Fraction, IsLowest}
 use Rattle.exact_num.proofs.After.{after_value}
 use Rattle.frac.specs.Range.{limit as largest}
-use Rattle.frac.specs.ValueOf.{is_lowest, has_128_bits}
+use Rattle.frac.specs.ValueOf.{has_128_bits}
+use Rattle.exact_num.specs.Tests.{is_lowest}
 use Rattle.table_run.specs.Places.{at, fraction_zero}
 use Rattle.table_run.specs.Program.{LinearProgram}
 use Rattle.table_run.specs.Optimum.{IsOptimum, IsAsSaid}
-use Rattle.table_run.specs.Run.{Ending, optimal, unbounded, misfit_at, out_of_budget, run}
+use Rattle.table_run.specs.Ending.{Ending, done, unbounded, wide_at, no_unit_left}
+use Rattle.table_run.specs.Run.{Optimum, optimum, run}
 use Rattle.form.specs.declared.orders.Batch.{Batch}
 use Rattle.form.specs.declared.orders.Order.{Order}
-use Rattle.form.specs.Certificate.{Point, fraction_weight}
+use Rattle.clearing_model.specs.Certificate.{Point, fraction_weight}
 use Rattle.line_cover.specs.Breakpoints.{first_state, later_states}
-use Rattle.joint_program.specs.Master.{zero_prices, plain_master, master}
-use Rattle.joint_program.specs.Reading.{Reading, reading_with, reading_of, liability_of, add_all_owed, has_weight, weighty, points_of}
-use Rattle.joint_laws.proofs.Liability.{liability_is_read}
-use Rattle.joint_laws.proofs.Read.{run_is_as_said}
-use Rattle.rounds.specs.Run.{JointEnd, cleared, stopped_at, out_of_units, without_optimum, sums_hold, on_sums, on_reading, on_ending, solved, joint_run}
+use Rattle.master_program.specs.Master.{zero_prices, plain_master, master}
+use Rattle.master_program.specs.Reading.{Reading, reading_with, reading_of, liability_of, add_all_owed, has_weight, weighty, points_of}
+use Rattle.master_program.proofs.Liability.{liability_is_read}
+use Rattle.master_program.proofs.Read.{run_is_as_said}
+use Rattle.rounds.specs.Run.{sums_hold, on_sums, on_reading, on_ending, solved, joint_run}
 use Rattle.rounds.proofs.Cleared.{cleared_is_greatest, no_run_is_without_optimum}
 use Rattle.clearing.specs.Laws.{OutcomesAreMarked}
 use Rattle.clearing.specs.Outcome.{is_value, are_values, has_values, measure_of, proved, claimed, outcome_at, outcome_of, IsMarked}
@@ -100,47 +102,47 @@ reading_has_values orders p x y reduced value r optimum x_small y_small reduced_
     subst (λ s. has_values s ≡ true) same (rw (liability, surplus, filled, measured) refl)
 
 -- ---- the run
-of_sums : (r s : Reading) (units spent : ℕ) (sums : Result Bool Misfit) → on_sums s units sums ≡ cleared r spent → has_values s ≡ true → has_values r ≡ true
+of_sums : (r s : Reading) (units spent : ℕ) (sums : Result Bool Misfit) → on_sums s units sums ≡ done r spent → has_values s ≡ true → has_values r ≡ true
 of_sums r s units spent (Ok holds) h test = let same : s ≡ r = cc in subst (λ t. has_values t ≡ true) same test
 of_sums r s units spent (Err w) h test = cc
 
 of_reading : (orders : List Order) (r : Reading) (units spent : ℕ) (reading : Result Reading Misfit) → ((s : Reading) → reading ≡ Ok s → has_values s ≡ true)
-    → on_reading largest orders units reading ≡ cleared r spent → has_values r ≡ true
+    → on_reading largest orders units reading ≡ done r spent → has_values r ≡ true
 of_reading orders r units spent (Ok s) test h = of_sums r s units spent (sums_hold largest orders s) h (test s refl)
 of_reading orders r units spent (Err w) test h = cc
 
-of_ending : (orders : List Order) (r : Reading) (spent : ℕ) (p : LinearProgram) (ending : Ending) → IsAsSaid p ending → IsSmallEnding largest ending
-    → on_ending largest largest orders ending ≡ cleared r spent → has_values r ≡ true
-of_ending orders r spent p (optimal x y reduced value units) said small h =
+of_ending : (orders : List Order) (r : Reading) (spent : ℕ) (p : LinearProgram) (ending : Ending Optimum) → IsAsSaid p ending → IsSmallEnding largest ending
+    → on_ending largest largest orders ending ≡ done r spent → has_values r ≡ true
+of_ending orders r spent p (done (optimum x y reduced value) units) said small h =
     of_reading orders r units spent (reading_of largest first_state orders (later_states orders) x y reduced value)
     (λ s read. reading_has_values orders p x y reduced value s said small.0 small.1 small.2 small.3 read) h
 of_ending orders r spent p (unbounded d units) said small h = cc
-of_ending orders r spent p (misfit_at units w) said small h = cc
-of_ending orders r spent p (out_of_budget units) said small h = cc
+of_ending orders r spent p (wide_at units w) said small h = cc
+of_ending orders r spent p (no_unit_left units) said small h = cc
 
 of_master : (left before : ℕ) (orders : List Order) (r : Reading) (spent : ℕ) (built : Result LinearProgram Misfit) → master largest largest orders (later_states orders) ≡ built
-    → on_ending largest largest orders (solved largest left before built) ≡ cleared r spent → has_values r ≡ true
+    → on_ending largest largest orders (solved largest left before built) ≡ done r spent → has_values r ≡ true
 of_master left before orders r spent (Err w) is h = cc
 of_master left before orders r spent (Ok p) is h =
     let said = run_is_as_said largest largest 1 left before orders (later_states orders) p is in
     let small = run_is_small largest p left before (omega arith) (master_is_small largest largest orders (later_states orders) p (omega arith) is) in
     of_ending orders r spent (plain_master (zero_prices 1) orders (later_states orders)) (run largest p left before) said small h
 
-run_has_values : (left before : ℕ) (orders : List Order) (r : Reading) (spent : ℕ) → joint_run largest largest left before orders ≡ cleared r spent → has_values r ≡ true
+run_has_values : (left before : ℕ) (orders : List Order) (r : Reading) (spent : ℕ) → joint_run largest largest left before orders ≡ done r spent → has_values r ≡ true
 unfolding joint_run
 run_has_values left before orders r spent h = of_master left before orders r spent (master largest largest orders (later_states orders)) refl h
 
 -- ---- the mark
-at_end : (batch : Batch) (units : ℕ) (end : JointEnd) → joint_run largest largest units 0 batch.orders ≡ end → IsMarked batch units (outcome_at batch.orders units end)
+at_end : (batch : Batch) (units : ℕ) (end : Ending Reading) → joint_run largest largest units 0 batch.orders ≡ end → IsMarked batch units (outcome_at batch.orders units end)
 unfolding proved
-at_end batch units (cleared r spent) is =
+at_end batch units (done r spent) is =
     let test = run_has_values units 0 batch.orders r spent is in
     let claims = claims_the_reading batch.orders r spent (cleared_is_greatest largest largest units 0 spent batch.orders r is) test in
     let same : r ≡ claimed (proved r spent) (measure_of r.measure) = λ i. reading_with (sym claims.fills i) (sym claims.surplus i) (sym claims.points i) (sym claims.liability i) in
-    rw test (is ∙ ap (λ s. cleared s spent) same)
-at_end batch units (stopped_at spent w) is = stopped_is_marked batch units spent w is
-at_end batch units (out_of_units spent) is = out_is_marked batch units spent is
-at_end batch units (without_optimum spent) is = absurd (no_run_is_without_optimum largest largest units 0 spent batch.orders is)
+    rw test (is ∙ ap (λ s. done s spent) same)
+at_end batch units (wide_at spent w) is = stopped_is_marked batch units spent w is
+at_end batch units (no_unit_left spent) is = out_is_marked batch units spent is
+at_end batch units (unbounded d spent) is = absurd (no_run_is_without_optimum largest largest units 0 spent batch.orders is)
 
 pub outcomes_are_marked : OutcomesAreMarked
 unfolding outcome_of

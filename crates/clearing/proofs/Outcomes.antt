@@ -14,8 +14,8 @@ use Rattle.frac.specs.Value.{fraction_of}
 use Rattle.form.specs.declared.limits.TheConstants.{MAX_PRICE, MAX_QUANTITY}
 use Rattle.form.specs.declared.orders.Order.{Order}
 use Rattle.form.specs.declared.orders.Batch.{Batch}
-use Rattle.form.specs.Clearing.{AreOn, premium}
-use Rattle.form.specs.Certificate.{Point, fraction_weight, AreFractionFills, IsPremiumLessLiability}
+use Rattle.clearing_model.specs.Clearing.{AreOn, premium}
+use Rattle.clearing_model.specs.Certificate.{Point, fraction_weight, AreFractionFills, IsPremiumLessLiability}
 use Rattle.form.specs.Limits.{IsOrderWithin, IsWithinLimits}
 use Rattle.form.specs.Payoff.{BundleLeg, IsState, bundle_of, option_of}
 use Rattle.form.proofs.Vectors.{length-option_of}
@@ -35,12 +35,13 @@ use Rattle.cert_check.proofs.Certified.{conditions_cover, conditions_measure, co
 use Rattle.each_match.specs.Match.{match_by_option}
 use Rattle.each_match.specs.Laws.{matched}
 use Rattle.each_match.proofs.MatchLaws.{match_is_within, match_is_balanced, match_earns, fills_small}
-use Rattle.joint_program.specs.Reading.{Reading}
-use Rattle.joint_laws.specs.Certified.{IsGreatestByLine}
-use Rattle.joint_laws.specs.Verdict.{IsOutcomeOf, IsNotRefused}
-use Rattle.joint_laws.proofs.Verdict.{line_readings_are_not_refused}
+use Rattle.master_program.specs.Reading.{Reading}
+use Rattle.master_program.specs.Certified.{IsGreatestByLine}
+use Rattle.master_program.specs.Verdict.{IsOutcomeOf, IsNotRefused}
+use Rattle.master_program.proofs.Verdict.{line_readings_are_not_refused}
 use Rattle.rounds.proofs.Cleared.{cleared_is_greatest}
-use Rattle.rounds.specs.Run.{JointEnd, cleared, stopped_at, out_of_units, without_optimum, joint_run}
+use Rattle.rounds.specs.Run.{joint_run}
+use Rattle.table_run.specs.Ending.{Ending, done, wide_at, no_unit_left, unbounded}
 use Rattle.clearing.specs.Outcome.{weighted_of, measure_of, proved, fallback, is_value, are_values, has_values, outcome_at, outcome_of}
 use Rattle.clearing.specs.Laws.{IsOnOne, OutcomesMeetAll, OutcomesAreWithin, OutcomesAreCovered, OutcomesAreMeasured, OptimalIsGreatest}
 use Rattle.clearing.proofs.Surplus.{premium_small}
@@ -168,12 +169,12 @@ at_cleared : (batch : Batch) (units spent : ℕ) (r : Reading) (test : Bool) →
 at_cleared batch units spent r true is on greatest = (proved_is_not_refused batch r spent on greatest is).meets
 at_cleared batch units spent r false is on greatest = all_met batch _ (budget_meets batch units on.0)
 
-at_end : (batch : Batch) (units : ℕ) (end : JointEnd) → IsOnOne batch → joint_run largest largest units 0 batch.orders ≡ end → MeetsAll batch (outcome_at batch.orders units end)
-at_end batch units (cleared r spent) on is =
+at_end : (batch : Batch) (units : ℕ) (end : Ending Reading) → IsOnOne batch → joint_run largest largest units 0 batch.orders ≡ end → MeetsAll batch (outcome_at batch.orders units end)
+at_end batch units (done r spent) on is =
     at_cleared batch units spent r (has_values r) refl on (cleared_is_greatest largest largest units 0 spent batch.orders r is)
-at_end batch units (stopped_at spent w) on is = all_met batch _ (wide_meets batch w spent on.0)
-at_end batch units (out_of_units spent) on is = all_met batch _ (budget_meets batch units on.0)
-at_end batch units (without_optimum spent) on is = all_met batch _ (budget_meets batch units on.0)
+at_end batch units (wide_at spent w) on is = all_met batch _ (wide_meets batch w spent on.0)
+at_end batch units (no_unit_left spent) on is = all_met batch _ (budget_meets batch units on.0)
+at_end batch units (unbounded d spent) on is = all_met batch _ (budget_meets batch units on.0)
 
 pub outcomes_meet_all : OutcomesMeetAll
 unfolding outcome_of

@@ -7,12 +7,13 @@ use Rattle.frac.specs.Range.{limit as largest}
 use Rattle.frac.specs.ValueOf.{value_of}
 use Rattle.form.specs.declared.orders.Order.{Order}
 use Rattle.form.specs.declared.orders.Batch.{Batch}
-use Rattle.form.specs.Clearing.{premium}
+use Rattle.clearing_model.specs.Clearing.{premium}
 use Rattle.each_match.specs.Match.{match_by_option}
 use Rattle.simplex.specs.declared.stop.Stop.{Stop}
 use Rattle.simplex.specs.declared.stop.Stop.TheVariants.{Wide as WideStop, Budget as BudgetStop}
 use Rattle.rounds.specs.Answers.{IsJointAnswer}
-use Rattle.rounds.specs.Run.{JointEnd, cleared, stopped_at, out_of_units, joint_run}
+use Rattle.rounds.specs.Run.{joint_run}
+use Rattle.table_run.specs.Ending.{Ending, done, wide_at, no_unit_left}
 use Rattle.frac.specs.declared.bits128.Frac128.{Frac128}
 use Rattle.frac.specs.Value.{fraction_of}
 use Rattle.frac.proofs.ValueOf.{value-fraction_of}
@@ -23,7 +24,7 @@ use Rattle.cert_check.specs.declared.outcome.Cover.TheVariants.{Line}
 use Rattle.cert_check.specs.declared.outcome.Mark.TheVariants.{Optimal, Wide, Budget}
 use Rattle.cert_check.specs.declared.outcome.Mark.{Mark}
 use Rattle.cert_check.specs.declared.outcome.Outcome.{Outcome}
-use Rattle.joint_program.specs.Reading.{Reading, reading_with}
+use Rattle.master_program.specs.Reading.{Reading, reading_with}
 use Rattle.clearing.specs.Outcome.{proved, fallback, whole_fills, has_values, outcome_of, IsMarked}
 use Rattle.clearing.proofs.Values.{values_are, points_are}
 
@@ -51,40 +52,40 @@ unfolding fallback
 fallback_is orders mark units fills L S amounts is e eL eS = rw (eS, eL, e, is) refl
 
 -- ---- the outcome at each end of the run
-pub run_is : (orders : List Order) (limit spent units : ℕ) (end : JointEnd) → limit ≡ units → spent ≡ 0 → joint_run largest largest (limit - spent) spent orders ≡ end → joint_run largest largest units 0 orders ≡ end
+pub run_is : (orders : List Order) (limit spent units : ℕ) (end : Ending Reading) → limit ≡ units → spent ≡ 0 → joint_run largest largest (limit - spent) spent orders ≡ end → joint_run largest largest units 0 orders ≡ end
 run_is orders limit spent units end el es h =
     let e : limit - spent ≡ units = omega arith in
     subst (λ s. joint_run largest largest units s orders ≡ end) es (subst (λ left. joint_run largest largest left spent orders ≡ end) e h)
 
-pub cleared_at : (batch : Batch) (units spent : ℕ) (r : Reading) → joint_run largest largest units 0 batch.orders ≡ cleared r spent → has_values r ≡ true → proved r spent ≡ outcome_of batch units
+pub cleared_at : (batch : Batch) (units spent : ℕ) (r : Reading) → joint_run largest largest units 0 batch.orders ≡ done r spent → has_values r ≡ true → proved r spent ≡ outcome_of batch units
 unfolding outcome_of
 cleared_at batch units spent r run test = rw (run, test) refl
 
-pub stopped_at_is : (batch : Batch) (units spent : ℕ) (w : Misfit) → joint_run largest largest units 0 batch.orders ≡ stopped_at spent w → fallback batch.orders (Wide w) spent ≡ outcome_of batch units
+pub stopped_at_is : (batch : Batch) (units spent : ℕ) (w : Misfit) → joint_run largest largest units 0 batch.orders ≡ wide_at spent w → fallback batch.orders (Wide w) spent ≡ outcome_of batch units
 unfolding outcome_of
 stopped_at_is batch units spent w run = rw run refl
 
-pub out_at : (batch : Batch) (units spent : ℕ) → joint_run largest largest units 0 batch.orders ≡ out_of_units spent → fallback batch.orders Budget units ≡ outcome_of batch units
+pub out_at : (batch : Batch) (units spent : ℕ) → joint_run largest largest units 0 batch.orders ≡ no_unit_left spent → fallback batch.orders Budget units ≡ outcome_of batch units
 unfolding outcome_of
 out_at batch units spent run = rw run refl
 
 -- and its mark
 pub cleared_is_marked : (batch : Batch) (units : ℕ) (fills : List Frac128) (L S : Frac128) (points : List Weighted) (spent : ℕ)
-    → joint_run largest largest units 0 batch.orders ≡ cleared (reading_with (map fraction_of fills) (fraction_of S) (map point_of points) (fraction_of L)) spent
+    → joint_run largest largest units 0 batch.orders ≡ done (reading_with (map fraction_of fills) (fraction_of S) (map point_of points) (fraction_of L)) spent
     → IsMarked batch units (proved (reading_with (map fraction_of fills) (fraction_of S) (map point_of points) (fraction_of L)) spent)
 cleared_is_marked batch units fills L S points spent run = subst (IsMarked batch units) (proved_is fills L S points spent) run
 
-pub stopped_is_marked : (batch : Batch) (units spent : ℕ) (w : Misfit) → joint_run largest largest units 0 batch.orders ≡ stopped_at spent w → IsMarked batch units (fallback batch.orders (Wide w) spent)
+pub stopped_is_marked : (batch : Batch) (units spent : ℕ) (w : Misfit) → joint_run largest largest units 0 batch.orders ≡ wide_at spent w → IsMarked batch units (fallback batch.orders (Wide w) spent)
 unfolding fallback
 stopped_is_marked batch units spent w run = run
 
-pub out_is_marked : (batch : Batch) (units spent : ℕ) → joint_run largest largest units 0 batch.orders ≡ out_of_units spent → IsMarked batch units (fallback batch.orders Budget units)
+pub out_is_marked : (batch : Batch) (units spent : ℕ) → joint_run largest largest units 0 batch.orders ≡ no_unit_left spent → IsMarked batch units (fallback batch.orders Budget units)
 unfolding fallback
 out_is_marked batch units spent run = ((spent, run), refl)
 
 -- what an answer of a stop says
-pub of_wide : (end : JointEnd) (stop : Stop) (unit : ℕ) (w : Misfit) (spent : ℕ) → stop ≡ WideStop unit w → IsJointAnswer fraction_of end (Err stop) spent → end ≡ stopped_at unit w
+pub of_wide : (end : Ending Reading) (stop : Stop) (unit : ℕ) (w : Misfit) (spent : ℕ) → stop ≡ WideStop unit w → IsJointAnswer fraction_of end (Err stop) spent → end ≡ wide_at unit w
 of_wide end stop unit w spent is h = (subst (λ s. IsJointAnswer fraction_of end (Err s) spent) is h).0
 
-pub of_budget : (end : JointEnd) (stop : Stop) (spent : ℕ) → stop ≡ BudgetStop → IsJointAnswer fraction_of end (Err stop) spent → end ≡ out_of_units spent
+pub of_budget : (end : Ending Reading) (stop : Stop) (spent : ℕ) → stop ≡ BudgetStop → IsJointAnswer fraction_of end (Err stop) spent → end ≡ no_unit_left spent
 of_budget end stop spent is h = subst (λ s. IsJointAnswer fraction_of end (Err s) spent) is h

@@ -18,7 +18,8 @@ use Rattle.table_run.specs.Program.{LinearProgram, row}
 use Rattle.table_run.specs.Table.{Row, Table, row_of, right_side, where_basic, unit_row, rows_from, first_table, entries_at}
 use Rattle.table_run.specs.Choice.{least}
 use Rattle.table_run.specs.Pivot.{each, each_pair, divided, less_product, cleared, row_after, rows_after, pivoted}
-use Rattle.table_run.specs.Run.{Ending, optimal, unbounded, misfit_at, out_of_budget, read_off, run}
+use Rattle.table_run.specs.Ending.{Ending, done, unbounded, wide_at, no_unit_left}
+use Rattle.table_run.specs.Run.{Optimum, optimum, read_off, run}
 use Rattle.table_run.proofs.Choices.{moved_out}
 use Rattle.table_run.proofs.Ends.{holds_at, run_keeps}
 
@@ -151,11 +152,11 @@ basic_small l f j (row ∷ rows) zero_small h small = step (nat_eq row.basic j) 
     step false later = later
 
 -- what an optimum tells is within the limit
-abbrev pub IsSmallEnding : ℕ → Ending → Type 0
-IsSmallEnding l (optimal x y reduced value spent) = AreSmall l x × AreSmall l y × AreSmall l reduced × IsSmall l value
+abbrev pub IsSmallEnding : ℕ → Ending Optimum → Type 0
+IsSmallEnding l (done (optimum x y reduced value) spent) = AreSmall l x × AreSmall l y × AreSmall l reduced × IsSmall l value
 IsSmallEnding l (unbounded d spent) = Unit {0}
-IsSmallEnding l (misfit_at spent wide) = Unit {0}
-IsSmallEnding l (out_of_budget spent) = Unit {0}
+IsSmallEnding l (wide_at spent wide) = Unit {0}
+IsSmallEnding l (no_unit_left spent) = Unit {0}
 
 read_small : (l n m : ℕ) (t : Table) (spent : ℕ) → 1 ≤ l → IsSmallTable l t → IsSmallEnding l (read_off n m t spent)
 unfolding read_off

@@ -13,7 +13,7 @@ use Rattle.form.specs.Vector.{scale_of}
 use Rattle.form.specs.declared.orders.Order.{Order}
 use Rattle.form.specs.declared.orders.Side.{Side}
 use Rattle.form.specs.declared.orders.Side.TheVariants.{Buy, Sell}
-use Rattle.joint_program.specs.Master.{quantity_rows, all_of, signed_for, first_payoff, cost_steps, entry_steps, row_steps, rows_steps, quantity_steps, order_payoff, master}
+use Rattle.master_program.specs.Master.{quantity_rows, all_of, signed_for, first_payoff, cost_steps, entry_steps, row_steps, rows_steps, quantity_steps, order_payoff, master}
 use Rattle.clearing.proofs.RunSizes.{IsSmall, AreSmall, IsSmallProgram, whole_small, negated_small, add_small, taken_small}
 
 -- ---- the master program

@@ -5,7 +5,7 @@ use Rattle.std.proofs.lemmas.Nat.{mul-le}
 use Rattle.std.specs.List.{zip}
 use Rattle.arithmetic.proofs.Sums.{weigh_pos, All-head, All-tail}
 use Rattle.arithmetic.specs.Sums.{weigh}
-use Rattle.form.specs.Clearing.{Filled, if_buy, if_sell, bought, sold, premium}
+use Rattle.clearing_model.specs.Clearing.{Filled, if_buy, if_sell, bought, sold, premium}
 use Rattle.form.specs.declared.limits.TheConstants.{MAX_PRICE, MAX_QUANTITY}
 use Rattle.form.specs.declared.orders.Order.{Order}
 use Rattle.form.specs.declared.orders.Side.{Side}

@@ -9,8 +9,8 @@ use Rattle.frac.proofs.ValueOf.{value-fraction_of}
 use Rattle.form.proofs.StateOf.{state-vector_of}
 use Rattle.measure.specs.declared.measures.Weighted.{Weighted}
 use Rattle.measure.specs.Points.{point_of}
-use Rattle.form.specs.Certificate.{fraction_weight}
-use Rattle.joint_program.specs.Reading.{reading_with}
+use Rattle.clearing_model.specs.Certificate.{fraction_weight}
+use Rattle.master_program.specs.Reading.{reading_with}
 use Rattle.clearing.specs.Outcome.{weighted_of, is_value, are_values, has_values}
 
 pub value_is : (x : Frac128) (f : Fraction) → fraction_of x ≡ f → x ≡ value_of f

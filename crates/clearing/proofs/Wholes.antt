@@ -14,9 +14,9 @@ use Rattle.frac.specs.Value.{fraction_of}
 use Rattle.frac.specs.ValueOf.{value_of}
 use Rattle.form.specs.declared.limits.TheConstants.{MAX_QUANTITY}
 use Rattle.form.specs.declared.orders.Order.{Order}
-use Rattle.form.specs.Balance.{AreBalanced}
-use Rattle.form.specs.Clearing.{Filled, SignedFill, AreFills, as_signed, signed_premium, premium}
-use Rattle.form.specs.Certificate.{IsFill, AreFractionFills, IsPremiumLessLiability, signed_over}
+use Rattle.clearing_model.specs.Balance.{AreBalanced}
+use Rattle.clearing_model.specs.Clearing.{Filled, SignedFill, AreFills, as_signed, signed_premium, premium}
+use Rattle.clearing_model.specs.Certificate.{IsFill, AreFractionFills, IsPremiumLessLiability, signed_over}
 use Rattle.market_laws.proofs.Legs.{signed_sums_agree}
 use Rattle.cert_check.specs.Conditions.{OwesNothing}
 use Rattle.clearing.specs.Outcome.{whole_fills, is_value}

@@ -8,9 +8,9 @@ use Rattle.frac.specs.Value.{fraction_of}
 use Rattle.form.specs.declared.limits.TheConstants.{MAX_PRICE}
 use Rattle.form.specs.declared.orders.Order.{Order}
 use Rattle.form.specs.declared.orders.Batch.{Batch}
-use Rattle.form.specs.Clearing.{AreOn}
+use Rattle.clearing_model.specs.Clearing.{AreOn}
 use Rattle.form.specs.Limits.{IsOrderWithin, IsWithinLimits}
-use Rattle.line_cover.specs.Line.{and_then}
+use Rattle.exact_num.specs.Steps.{and_then}
 use Rattle.cert_check.specs.declared.outcome.Mark.TheVariants.{Wide, Budget}
 use Rattle.cert_check.specs.declared.outcome.No.{No}
 use Rattle.cert_check.specs.declared.outcome.No.TheVariants as no
@@ -21,9 +21,10 @@ use Rattle.cert_check.specs.Cover.{surplus_holds, mark_covers, fallback_holds}
 use Rattle.cert_check.specs.Events.{cover_holds, verdict_of}
 use Rattle.cert_check.proofs.Yes.{said}
 use Rattle.each_match.specs.Match.{match_by_option}
-use Rattle.joint_program.specs.Reading.{Reading}
+use Rattle.master_program.specs.Reading.{Reading}
 use Rattle.rounds.proofs.Cleared.{cleared_is_greatest, cleared_passes_the_verdict}
-use Rattle.rounds.specs.Run.{JointEnd, cleared, stopped_at, out_of_units, without_optimum, joint_run}
+use Rattle.rounds.specs.Run.{joint_run}
+use Rattle.table_run.specs.Ending.{Ending, done, wide_at, no_unit_left, unbounded}
 use Rattle.clearing.specs.Outcome.{measure_of, proved, fallback, has_values, outcome_at, outcome_of}
 use Rattle.clearing.specs.Laws.{IsOnOne, OutcomesAreJudgedYes}
 use Rattle.clearing.proofs.Fitting.{surplus_fits, balances_fit}
@@ -31,7 +32,7 @@ use Rattle.clearing.proofs.Judged.{not_wide, after_fills, is_yes}
 use Rattle.clearing.proofs.Outcomes.{IsFallback, is_fallback, amounts_small, wide_meets, budget_meets, claims_the_reading, are_on}
 
 -- ---- what a run clears
-proved_is_yes : (batch : Batch) (r : Reading) (limit units : ℕ) → IsOnOne batch → has_values r ≡ true → joint_run largest largest limit 0 batch.orders ≡ cleared r units → verdict_of largest batch (proved r units) ≡ Yes
+proved_is_yes : (batch : Batch) (r : Reading) (limit units : ℕ) → IsOnOne batch → has_values r ≡ true → joint_run largest largest limit 0 batch.orders ≡ done r units → verdict_of largest batch (proved r units) ≡ Yes
 proved_is_yes batch r limit units on test run =
     let are : AreOn 1 batch.orders = subst (λ n. AreOn n batch.orders) on.1 (are_on batch on.0) in
     cleared_passes_the_verdict largest limit 0 units batch r on.1 are run (proved r units) (measure_of r.measure)
@@ -75,16 +76,16 @@ budget_is_yes batch units within =
     (λ v. after_fills batch outcome v (not_wide no.Cover (cover_holds largest batch outcome) Yes v (λ u e. cover_fits batch outcome u within (is_fallback batch Budget units within) refl e) (λ holds e. cc)))
 
 -- ---- each outcome
-at_cleared : (batch : Batch) (units spent : ℕ) (r : Reading) (test : Bool) → has_values r ≡ test → IsOnOne batch → joint_run largest largest units 0 batch.orders ≡ cleared r spent
+at_cleared : (batch : Batch) (units spent : ℕ) (r : Reading) (test : Bool) → has_values r ≡ test → IsOnOne batch → joint_run largest largest units 0 batch.orders ≡ done r spent
     → verdict_of largest batch (if test then proved r spent else fallback batch.orders Budget units) ≡ Yes
 at_cleared batch units spent r true is on run = proved_is_yes batch r units spent on is run
 at_cleared batch units spent r false is on run = budget_is_yes batch units on.0
 
-at_end : (batch : Batch) (units : ℕ) (end : JointEnd) → IsOnOne batch → joint_run largest largest units 0 batch.orders ≡ end → verdict_of largest batch (outcome_at batch.orders units end) ≡ Yes
-at_end batch units (cleared r spent) on is = at_cleared batch units spent r (has_values r) refl on is
-at_end batch units (stopped_at spent w) on is = wide_is_yes batch w spent on.0
-at_end batch units (out_of_units spent) on is = budget_is_yes batch units on.0
-at_end batch units (without_optimum spent) on is = budget_is_yes batch units on.0
+at_end : (batch : Batch) (units : ℕ) (end : Ending Reading) → IsOnOne batch → joint_run largest largest units 0 batch.orders ≡ end → verdict_of largest batch (outcome_at batch.orders units end) ≡ Yes
+at_end batch units (done r spent) on is = at_cleared batch units spent r (has_values r) refl on is
+at_end batch units (wide_at spent w) on is = wide_is_yes batch w spent on.0
+at_end batch units (no_unit_left spent) on is = budget_is_yes batch units on.0
+at_end batch units (unbounded d spent) on is = budget_is_yes batch units on.0
 
 pub outcomes_are_judged_yes : OutcomesAreJudgedYes
 unfolding outcome_of

@@ -4,7 +4,7 @@ use Rattle.std.specs.List.{All}
 use Rattle.frac.specs.Range.{limit as largest}
 use Rattle.frac.specs.Value.{fraction_of}
 use Rattle.form.specs.declared.orders.Batch.{Batch}
-use Rattle.form.specs.Certificate.{AreFractionFills}
+use Rattle.clearing_model.specs.Certificate.{AreFractionFills}
 use Rattle.form.specs.Limits.{IsWithinLimits}
 use Rattle.cert_check.specs.declared.outcome.Outcome.{Outcome}
 use Rattle.cert_check.specs.declared.outcome.Judgement.TheVariants.{Yes}

@@ -4,12 +4,13 @@ use Rattle.exact_num.specs.Fraction.{Fraction, whole}
 use Rattle.frac.specs.declared.bits128.Frac128.{Frac128}
 use Rattle.frac.specs.Range.{limit as largest}
 use Rattle.frac.specs.Value.{fraction_of}
-use Rattle.frac.specs.ValueOf.{value_of, is_lowest, has_128_bits}
+use Rattle.frac.specs.ValueOf.{value_of, has_128_bits}
+use Rattle.exact_num.specs.Tests.{is_lowest}
 use Rattle.form.specs.declared.orders.Order.{Order}
 use Rattle.form.specs.declared.orders.Batch.{Batch}
 use Rattle.form.specs.StateOf.{state_of}
-use Rattle.form.specs.Certificate.{Point, fraction_weight}
-use Rattle.form.specs.Clearing.{premium}
+use Rattle.clearing_model.specs.Certificate.{Point, fraction_weight}
+use Rattle.clearing_model.specs.Clearing.{premium}
 use Rattle.measure.specs.declared.measures.Weighted.{Weighted}
 use Rattle.measure.specs.declared.measures.Measure.{Measure}
 use Rattle.measure.specs.Points.{point_of}
@@ -19,8 +20,9 @@ use Rattle.cert_check.specs.declared.outcome.Mark.TheVariants.{Optimal, Wide, Bu
 use Rattle.cert_check.specs.declared.outcome.Outcome.{Outcome}
 use Rattle.each_match.specs.Match.{match_by_option}
 use Rattle.each_match.specs.Laws.{matched}
-use Rattle.joint_program.specs.Reading.{Reading, reading_with}
-use Rattle.rounds.specs.Run.{JointEnd, cleared, stopped_at, out_of_units, without_optimum, joint_run}
+use Rattle.master_program.specs.Reading.{Reading, reading_with}
+use Rattle.rounds.specs.Run.{joint_run}
+use Rattle.table_run.specs.Ending.{Ending, done, wide_at, no_unit_left, unbounded}
 
 -- a point of the model as one of the code
 abbrev pub weighted_of : Point → Weighted
@@ -67,11 +69,11 @@ has_values r =
 
 -- the outcome at the end of a run with a limit on its units. An end without an optimum, and a reading whose numbers are not
 -- all numbers of the code, have the match too: no answer of a clear comes from them
-abbrev pub outcome_at : List Order → ℕ → JointEnd → Outcome
-outcome_at orders units (cleared r spent) = if has_values r then proved r spent else fallback orders Budget units
-outcome_at orders units (stopped_at spent wide) = fallback orders (Wide wide) spent
-outcome_at orders units (out_of_units spent) = fallback orders Budget units
-outcome_at orders units (without_optimum spent) = fallback orders Budget units
+abbrev pub outcome_at : List Order → ℕ → Ending Reading → Outcome
+outcome_at orders units (done r spent) = if has_values r then proved r spent else fallback orders Budget units
+outcome_at orders units (wide_at spent wide) = fallback orders (Wide wide) spent
+outcome_at orders units (no_unit_left spent) = fallback orders Budget units
+outcome_at orders units (unbounded d spent) = fallback orders Budget units
 
 -- the outcome of a batch on one underlying, with at most so many units
 unfoldable pub outcome_of : Batch → ℕ → Outcome
@@ -84,10 +86,10 @@ claimed outcome measure =
 
 -- the mark of an outcome and its units are those of the end of the run: what was cleared, the step that did not fit, or a unit
 -- wanted beyond the limit
-abbrev pub ends_as : JointEnd → ℕ → Outcome → Mark → Type 0
-ends_as end units outcome (Optimal cover measure) = end ≡ cleared (claimed outcome measure) outcome.units
-ends_as end units outcome (Wide wide) = end ≡ stopped_at outcome.units wide
-ends_as end units outcome Budget = ((spent : ℕ) × (end ≡ out_of_units spent)) × (outcome.units ≡ units)
+abbrev pub ends_as : Ending Reading → ℕ → Outcome → Mark → Type 0
+ends_as end units outcome (Optimal cover measure) = end ≡ done (claimed outcome measure) outcome.units
+ends_as end units outcome (Wide wide) = end ≡ wide_at outcome.units wide
+ends_as end units outcome Budget = ((spent : ℕ) × (end ≡ no_unit_left spent)) × (outcome.units ≡ units)
 
 abbrev pub IsMarked : Batch → ℕ → Outcome → Type 0
 IsMarked batch units outcome = ends_as (joint_run largest largest units 0 batch.orders) units outcome outcome.mark

@@ -1,6 +1,6 @@
 -- The premiums of whole fills, side by side.
 use Rattle.std.specs.Prelude.{ℕ, ◌+◌, ◌*◌, List, [], ◌∷◌}
-use Rattle.form.specs.Clearing.{Filled, bought, sold}
+use Rattle.clearing_model.specs.Clearing.{Filled, bought, sold}
 use Rattle.form.specs.declared.orders.Side.{Side}
 use Rattle.form.specs.declared.orders.Side.TheVariants.{Buy, Sell}
 

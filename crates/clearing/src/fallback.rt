@@ -4,7 +4,7 @@ ghost use Rattle.std.specs.List.{All, zip};
 ghost use Rattle.exact_num.specs.Fraction.{whole};
 ghost use Rattle.frac.specs.Range.{limit as largest};
 ghost use Rattle.frac.specs.ValueOf.{value_of};
-ghost use Rattle.form.specs.Clearing.{premium};
+ghost use Rattle.clearing_model.specs.Clearing.{premium};
 ghost use Rattle.form.specs.Limits.{IsWithinLimits};
 ghost use Rattle.form.specs.declared.limits.TheConstants.{MAX_ORDERS, MAX_PRICE, MAX_QUANTITY};
 ghost use Rattle.clearing.specs.Outcome.{fallback, whole_fills};

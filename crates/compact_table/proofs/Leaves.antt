@@ -6,9 +6,10 @@ use Rattle.std.specs.declared.cmp.Ordering.TheVariants.{Less, Equal, Greater}
 use Rattle.exact_num.specs.declared.misfit.Wide.{Wide}
 use Rattle.exact_num.specs.Fraction.{Fraction, fraction_cmp}
 use Rattle.exact_num.specs.Fits.{after}
+use Rattle.exact_num.specs.Tests.{is_above_zero}
 use Rattle.table_run.specs.Places.{at}
 use Rattle.table_run.specs.Table.{Row, entries_at, right_side}
-use Rattle.table_run.specs.Choice.{is_above_zero, Ratio, ratio_of, joined, by_order, lesser, least}
+use Rattle.table_run.specs.Choice.{Ratio, ratio_of, joined, by_order, lesser, least}
 use Rattle.compact_run.specs.Steps.{short_quotient, short_ratio_in}
 use Rattle.compact_run.specs.Turn.{short_ratios}
 use Rattle.compact_table.specs.Candidates.{best_with, beside_basics, short_leaving_of, IsPivot}

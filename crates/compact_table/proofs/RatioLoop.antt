@@ -7,7 +7,8 @@ use Rattle.exact_num.specs.Fraction.{Fraction}
 use Rattle.exact_num.specs.Fits.{after, meaning}
 use Rattle.table_run.specs.Places.{at}
 use Rattle.table_run.specs.Table.{Row, row_of}
-use Rattle.table_run.specs.Choice.{is_above_zero, Ratio, joined, least}
+use Rattle.table_run.specs.Choice.{Ratio, joined, least}
+use Rattle.exact_num.specs.Tests.{is_above_zero}
 use Rattle.compact_run.specs.Steps.{short_quotient, short_ratio_in}
 use Rattle.compact_run.specs.Turn.{short_ratios}
 use Rattle.compact_table.specs.Candidates.{best_with, with_ratio, beside_basics, short_leaving_of}

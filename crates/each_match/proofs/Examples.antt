@@ -4,7 +4,7 @@ use Rattle.form.specs.declared.limits.TheConstants.{MAX_PRICE}
 use Rattle.form.specs.declared.orders.Order.{Order}
 use Rattle.form.specs.declared.orders.Side.{Side}
 use Rattle.form.specs.declared.orders.Side.TheVariants.{Buy, Sell}
-use Rattle.form.specs.Clearing.{premium}
+use Rattle.clearing_model.specs.Clearing.{premium}
 use Rattle.form.specs.FormOf.{form_of}
 use Rattle.each_match.specs.Laws.{matched}
 use Rattle.each_match.specs.Match.{match_by_option}

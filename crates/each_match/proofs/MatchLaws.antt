@@ -6,8 +6,9 @@ use Rattle.std.proofs.lemmas.Int.{ints}
 use Rattle.arithmetic.proofs.Products.{products}
 use Rattle.arithmetic.proofs.Sums.{All-head, All-tail}
 use Rattle.form.specs.declared.orders.Order.{Order}
-use Rattle.form.specs.Balance.{is_same_bundle, one_if}
-use Rattle.form.specs.Clearing.{Filled, AreFills, buys_less_sells}
+use Rattle.form.specs.Vector.{is_same_bundle}
+use Rattle.clearing_model.specs.Balance.{one_if}
+use Rattle.clearing_model.specs.Clearing.{Filled, AreFills, buys_less_sells}
 use Rattle.form.specs.Payoff.{BundleLeg, bundle_of, bundle_payoff}
 use Rattle.market_laws.proofs.Legs.{signed_sums_agree}
 use Rattle.each_match.specs.Match.{match_by_option}

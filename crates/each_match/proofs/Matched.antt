@@ -9,10 +9,11 @@ use Rattle.arithmetic.proofs.Products.{products}
 use Rattle.form.specs.declared.orders.Order.{Order}
 use Rattle.form.specs.declared.orders.Side.{Side}
 use Rattle.form.specs.declared.orders.Side.TheVariants.{Buy, Sell}
-use Rattle.form.specs.Balance.{is_same_option}
-use Rattle.form.specs.Clearing.{for_side}
+use Rattle.form.specs.Vector.{is_same_option}
+use Rattle.clearing_model.specs.Clearing.{for_side}
 use Rattle.form.specs.Payoff.{BundleLeg, bundle_of, option_of, one}
-use Rattle.form.proofs.SameOption.{and_parts, same_option_is}
+use Rattle.form.proofs.SameOption.{same_option_is}
+use Rattle.std.proofs.lemmas.Bool.{and_parts}
 use Rattle.each_match.specs.Match.{crosses, traded, traded_at, after_trade, after_buy, match_by_option}
 use Rattle.each_match.specs.Offers.{Offer, ranked_offers}
 use Rattle.each_match.proofs.Sides.{Each, IsOffered, ranked_are_offered}

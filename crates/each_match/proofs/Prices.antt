@@ -11,10 +11,11 @@ use Rattle.arithmetic.proofs.Sums.{All-head, All-tail}
 use Rattle.form.specs.declared.orders.Order.{Order}
 use Rattle.form.specs.declared.orders.Side.{Side}
 use Rattle.form.specs.declared.orders.Side.TheVariants.{Buy, Sell}
-use Rattle.form.specs.Balance.{is_same_bundle, AreBalanced}
-use Rattle.form.specs.Clearing.{Filled, for_side, premium}
+use Rattle.form.specs.Vector.{is_same_bundle}
+use Rattle.clearing_model.specs.Balance.{AreBalanced}
+use Rattle.clearing_model.specs.Clearing.{Filled, for_side, premium}
 use Rattle.form.specs.Payoff.{BundleLeg, bundle_of}
-use Rattle.form.proofs.SameOption.{and_parts}
+use Rattle.std.proofs.lemmas.Bool.{and_parts}
 use Rattle.market_laws.proofs.Balance.{same_bundle_is, bundle_is_same, balanced_sum_is_zero}
 use Rattle.each_match.specs.Laws.{matched, IsBetter, IsFilledAt, MatchHasPrices, MatchIsTheBest}
 use Rattle.each_match.specs.Match.{match_by_option}

@@ -13,7 +13,7 @@ use Rattle.form.specs.declared.limits.TheConstants.{MAX_PRICE}
 use Rattle.form.specs.declared.orders.Order.{Order}
 use Rattle.form.specs.declared.orders.Side.{Side}
 use Rattle.form.specs.declared.orders.Side.TheVariants.{Buy, Sell}
-use Rattle.form.specs.Balance.{is_same_option}
+use Rattle.form.specs.Vector.{is_same_option}
 use Rattle.form.specs.Payoff.{BundleLeg, bundle_of, option_of}
 use Rattle.form.proofs.SameOption.{option_is_same}
 use Rattle.each_match.specs.Laws.{ArePricesWithin}

@@ -6,7 +6,7 @@ use Rattle.arithmetic.proofs.Products.{products}
 use Rattle.form.specs.declared.orders.Order.{Order}
 use Rattle.form.specs.declared.orders.Side.{Side}
 use Rattle.form.specs.declared.orders.Side.TheVariants.{Buy, Sell}
-use Rattle.form.specs.Clearing.{for_side, signed_sum, as_signed}
+use Rattle.clearing_model.specs.Clearing.{for_side, signed_sum, as_signed}
 
 -- f times the fill, summed over the buys less the sells
 abbrev pub total : (Order → ℤ) → List Order → List ℕ → ℤ

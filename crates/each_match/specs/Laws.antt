@@ -6,8 +6,8 @@ use Rattle.form.specs.declared.limits.TheConstants.{MAX_PRICE}
 use Rattle.form.specs.declared.orders.Order.{Order}
 use Rattle.form.specs.declared.orders.Side.{Side}
 use Rattle.form.specs.declared.orders.Side.TheVariants.{Buy, Sell}
-use Rattle.form.specs.Balance.{AreBalanced}
-use Rattle.form.specs.Clearing.{Filled, AreFills, net, premium, Covers}
+use Rattle.clearing_model.specs.Balance.{AreBalanced}
+use Rattle.clearing_model.specs.Clearing.{Filled, AreFills, net, premium, Covers}
 use Rattle.form.specs.Payoff.{BundleLeg, bundle_of}
 use Rattle.each_match.specs.Match.{match_by_option}
 

@@ -6,7 +6,7 @@
 use Rattle.std.specs.Prelude.{ℕ, ◌+◌, ◌-◌, min, nat_lt, List, length, replicate, slice_get, slice_index, slice_set, fold, Bool, ◌&&◌, if◌then◌else◌, Option, None, Some}
 use Rattle.form.specs.declared.orders.Order.{Order}
 use Rattle.form.specs.declared.orders.Side.TheVariants.{Buy, Sell}
-use Rattle.form.specs.Balance.{is_same_option}
+use Rattle.form.specs.Vector.{is_same_option}
 use Rattle.form.specs.Payoff.{option_of}
 use Rattle.each_match.specs.Offers.{Offer, ranked_offers}
 

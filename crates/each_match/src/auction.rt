@@ -1,8 +1,8 @@
 // The double auction.
 ghost use Rattle.std.specs.Prelude.{◌≡◌, ◌+◌, ◌^◌, ◌<◌, ◌≤ℤ◌, ℕ, List, pos, length, IfOk};
 ghost use Rattle.std.specs.List.{All, zip};
-ghost use Rattle.form.specs.Balance.{AreBalanced};
-ghost use Rattle.form.specs.Clearing.{AreFills, net, premium};
+ghost use Rattle.clearing_model.specs.Balance.{AreBalanced};
+ghost use Rattle.clearing_model.specs.Clearing.{AreFills, net, premium};
 ghost use Rattle.each_match.specs.Laws.{ArePricesWithin, IsBestBalanced};
 ghost use Rattle.each_match.specs.Offers.{Offer};
 ghost use Rattle.each_match.specs.Match.{crosses, traded, after_trade, after_buy, match_by_option};

@@ -3,14 +3,13 @@ use Rattle.std.proofs.Common.{◌≡◌, ℕ, ◌*◌, ◌/◌, ◌<◌, ℤ, po
 use Rattle.std.proofs.lemmas.Int.{unsigned_abs-mul}
 use Rattle.std.specs.Int.{◌∣◌}
 use Rattle.std.proofs.Math.IntN.{+ℤ_comm}
-use Rattle.std.proofs.Math.Nat.{div-mul_cancel, dvd_trans, dvd-mul_right, dvd-mul_left_of_dvd, eq-one_of_dvd-one, mul-div_assoc, mul-pos}
+use Rattle.std.proofs.Math.Nat.{div-mul_cancel, dvd_trans, dvd-mul_right, dvd-mul_left_of_dvd, eq-one_of_dvd-one, mul-div_assoc, mul-pos, ℕ_set}
 use Rattle.arithmetic.specs.Gcd.{gcd}
 use Rattle.arithmetic.proofs.GcdLaws.{gcd_dvd_left, gcd_dvd_right, gcd_pos_left, gcd_pos_right, gcd_comm, coprime_of_div, coprime_of_dvd, coprime_of_mul, dvd_gcd, dvd_of_coprime, pos_of_quotient, gcd-one, dvd_part}
 use Rattle.arithmetic.proofs.Quotients.{int_div-mul_cancel, unsigned_abs-int_div}
 use Rattle.arithmetic.proofs.Integers.{*ℤ_distr, *ℤ_assoc, unsigned_abs-neg}
 use Rattle.exact_num.specs.Fraction.{Fraction, IsLowest, IsSameValue, over, negated, plain_sum}
 use Rattle.exact_num.specs.Fits.{sum_divisor, sum_left, sum_right, sum_total, sum_common, sum_below, sum_value}
-use Rattle.std.proofs.Math.Nat.{ℕ_set}
 use Rattle.std.proofs.Math.Bridge.{le_prop}
 
 -- ---- a fraction is in lowest terms in one way

@@ -1,6 +1,5 @@
 -- The four operations with a limit: the value, or the misfit with its operands.
-use Rattle.std.specs.Prelude.{ℕ, ◌*◌, ◌/◌, ℤ, pos, negsuc, ◌+ℤ◌, ◌*ℤ◌, neg_ℤ, unsigned_abs, int_div, Bool, ◌&&◌, nat_le, if◌then◌else◌}
-use Rattle.std.specs.Prelude.{Result, Ok, Err}
+use Rattle.std.specs.Prelude.{ℕ, ◌*◌, ◌/◌, ℤ, pos, negsuc, ◌+ℤ◌, ◌*ℤ◌, neg_ℤ, unsigned_abs, int_div, Bool, ◌&&◌, nat_le, if◌then◌else◌, Result, Ok, Err}
 use Rattle.arithmetic.specs.Gcd.{gcd_within, gcd}
 use Rattle.exact_num.specs.declared.misfit.Operator.{Operator}
 use Rattle.exact_num.specs.declared.misfit.Operator.TheVariants.{Add, Mul, Div, Whole}

@@ -1,8 +1,7 @@
 //! Laws of the definitions, each of them the contract of a function that does nothing. A type of
 //! exact numbers has them by its clauses, so generic code may use them of any.
 ghost use Rattle.exact_num.specs.CommonDenominator.{EachIsItsAmount};
-ghost use Rattle.exact_num.specs.Laws.{SumsAreExact, DifferencesAreExact, ProductsAreExact};
-ghost use Rattle.exact_num.specs.Laws.{QuotientsAreExact, ZeroAlwaysFits, OneAlwaysFits, IsOrder};
+ghost use Rattle.exact_num.specs.Laws.{SumsAreExact, DifferencesAreExact, ProductsAreExact, QuotientsAreExact, ZeroAlwaysFits, OneAlwaysFits, IsOrder};
 ghost use Rattle.exact_num.specs.Worked.{OperatorsAtTheLimit};
 
 /// A sum that fits is the exact sum, in lowest terms and within the limit.

@@ -11,7 +11,7 @@ use Rattle.cert_check.specs.declared.outcome.Outcome.{Outcome}
 use Rattle.form.specs.declared.limits.TheConstants.{MAX_QUANTITY}
 use Rattle.form.specs.declared.orders.Batch.{Batch}
 use Rattle.form.specs.declared.orders.Order.{Order}
-use Rattle.form.specs.Certificate.{IsFill, AreFractionFills}
+use Rattle.clearing_model.specs.Certificate.{IsFill, AreFractionFills}
 use Rattle.form.specs.Limits.{IsOrderWithin, IsWithinLimits}
 use Rattle.frac.specs.declared.bits128.Frac128.{Frac128}
 use Rattle.frac.specs.Value.{fraction_of}

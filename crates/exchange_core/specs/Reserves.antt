@@ -3,7 +3,7 @@ use Rattle.std.specs.Prelude.{ℕ, ℤ, pos, ◌+◌, ◌*◌, ◌-ℤ◌, List,
 use Rattle.cash_ledger.specs.Entries.{balance_of}
 use Rattle.form.specs.declared.orders.Order.{Order}
 use Rattle.form.specs.declared.orders.Side.{Side}
-use Rattle.form.specs.Clearing.{if_buy}
+use Rattle.clearing_model.specs.Clearing.{if_buy}
 use Rattle.exchange_core.specs.ExchangeState.{ExchangeState, all_live}
 
 -- what an order reserves: a buy its quantity times its price, and a sell nothing

@@ -3,15 +3,7 @@ pub mod Payoff
 pub mod States
 pub mod StateOf
 pub mod Steps
-pub mod Clearing
 pub mod Limits
-pub mod Balance
-pub mod Legs
-pub mod Measure
-pub mod Tree
-pub mod Line
-pub mod Written
-pub mod Certificate
 pub mod FormOf
 pub mod Padded
 pub mod Primitive

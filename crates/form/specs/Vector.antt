@@ -1,6 +1,7 @@
 -- Whole vectors: options as lists of whole numbers, states as lists of natural numbers, bundles of options, and what they
 -- pay. This file names no struct, so that ghost fields may cite it.
-use Rattle.std.specs.Prelude.{ℕ, ◌+◌, ◌≡◌, ◌<◌, ◌≤◌, List, [], ◌∷◌, length, map, drop, get_or, ℤ, pos, neg_ℤ, ◌+ℤ◌, ◌*ℤ◌}
+use Rattle.std.specs.Prelude.{ℕ, ◌+◌, ◌≡◌, ◌<◌, ◌≤◌, Bool, true, false, ◌&&◌, List, [], ◌∷◌, length, map, drop, get_or, ℤ, pos, neg_ℤ, ◌+ℤ◌, ◌*ℤ◌}
+use Rattle.std.specs.Ordering.{int_eq}
 use Rattle.std.specs.List.{sum, All}
 pub use Rattle.arithmetic.specs.Sums.{positive_part}
 
@@ -59,3 +60,19 @@ over_legs p (leg ∷ legs) = (leg.count *ℤ pos (p leg.option)) +ℤ over_legs 
 -- what a bundle pays at a state; it may be below 0
 abbrev pub bundle_payoff : List BundleLeg → List ℕ → ℤ
 bundle_payoff bundle z = over_legs (λ v. payoff v z) bundle
+
+-- ---- equality, as a test
+-- whether two options are the same
+abbrev pub is_same_option : List ℤ → List ℤ → Bool
+is_same_option [] [] = true
+is_same_option [] (b ∷ v) = false
+is_same_option (a ∷ u) [] = false
+is_same_option (a ∷ u) (b ∷ v) = int_eq a b && is_same_option u v
+
+-- whether two bundles have the same legs
+abbrev pub is_same_bundle : List BundleLeg → List BundleLeg → Bool
+is_same_bundle [] [] = true
+is_same_bundle [] (leg ∷ legs) = false
+is_same_bundle (leg ∷ legs) [] = false
+is_same_bundle (a ∷ legs) (b ∷ others) =
+    int_eq a.count b.count && is_same_option a.option b.option && is_same_bundle legs others

@@ -9,7 +9,6 @@ pub mod orders;
 pub mod payoffs;
 pub mod primitives;
 pub mod states;
-pub mod sums;
 
 pub use forms::Form;
 pub use limits::{MAX_ORDERS, MAX_PRICE, MAX_QUANTITY, MAX_STRIKE, MAX_UNDERLYINGS, MAX_WEIGHT};

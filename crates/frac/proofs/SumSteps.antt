@@ -1,7 +1,7 @@
 -- The steps of a sum.
 use Rattle.std.proofs.Common.{◌≡◌, ℕ, ◌*◌, ◌/◌, ◌≤◌, true, false, ◌&&◌, ℤ, pos, ◌*ℤ◌, ◌+ℤ◌, refl, ap, ◌∙◌}
 use Rattle.std.specs.Prelude.{Option, Some, None, unsigned_abs, nat_le, int_div, if◌then◌else◌}
-use Rattle.std.proofs.lemmas.Bool.{and_parts}
+use Rattle.std.proofs.lemmas.Bool.{and_parts, leb-true}
 use Rattle.std.proofs.Math.Nat.{le_trans, div-le_self}
 use Rattle.arithmetic.specs.Gcd.{gcd}
 use Rattle.arithmetic.proofs.Quotients.{unsigned_abs-int_div}
@@ -9,7 +9,6 @@ use Rattle.exact_num.specs.Fraction.{Fraction, over}
 use Rattle.exact_num.specs.Fits.{size_fits, sum_divisor, sum_left, sum_right, sum_total, sum_common, sum_below, sum_fits, sum_value}
 use Rattle.frac.specs.Range.{within, within_natural, total_within, sum_within}
 use Rattle.frac.proofs.Choices.{chosen_none, chosen_some}
-use Rattle.std.proofs.lemmas.Bool.{leb-true}
 use Rattle.exact_num.proofs.WholeNumbers.{sum_fits-wholes, sum_value-wholes}
 
 -- ---- the total: what the code's two numerators are

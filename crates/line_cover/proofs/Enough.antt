@@ -8,9 +8,9 @@ use Rattle.arithmetic.proofs.Sums.{All-head, All-tail}
 use Rattle.exact_num.specs.Fraction.{Fraction}
 use Rattle.exact_num.specs.CommonDenominator.{common_denominator, amount_over}
 use Rattle.form.specs.declared.orders.Order.{Order}
-use Rattle.form.specs.Clearing.{SignedFill, as_signed}
-use Rattle.form.specs.Line.{IsLineCover}
-use Rattle.form.specs.Certificate.{filled_over, signed_over, LineCloses}
+use Rattle.clearing_model.specs.Clearing.{SignedFill, as_signed}
+use Rattle.clearing_model.specs.Line.{IsLineCover}
+use Rattle.clearing_model.specs.Certificate.{filled_over, signed_over, LineCloses}
 use Rattle.market_laws.proofs.Line.{line_covers_hold}
 use Rattle.line_cover.specs.Laws.{IsEnoughOnLine}
 

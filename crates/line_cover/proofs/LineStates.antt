@@ -11,11 +11,11 @@ use Rattle.arithmetic.specs.Gcd.{gcd}
 use Rattle.arithmetic.proofs.GcdLaws.{gcd_pos_left, gcd_dvd_left, gcd_dvd_right, gcd_comm, coprime_of_div, pos_of_quotient}
 use Rattle.exact_num.specs.CommonDenominator.{common_denominator, amount_over, signed_amounts_over}
 use Rattle.form.specs.declared.orders.Order.{Order}
-use Rattle.form.specs.Certificate.{LineCloses}
+use Rattle.clearing_model.specs.Certificate.{LineCloses}
 use Rattle.form.specs.Vector.{IsState, strike_entry}
 use Rattle.form.specs.Payoff.{BundleLeg, option_of, bundle_of}
-use Rattle.form.specs.Clearing.{SignedFill}
-use Rattle.form.specs.Line.{weight_entry, HoldsAtPrice, HoldsAtBreak, HoldsAtBreaks}
+use Rattle.clearing_model.specs.Clearing.{SignedFill}
+use Rattle.clearing_model.specs.Line.{weight_entry, HoldsAtPrice, HoldsAtBreak, HoldsAtBreaks}
 use Rattle.market_laws.proofs.Line.{holds_at_multiples}
 use Rattle.line_cover.specs.Line.{bends, lowest_state, breakpoint_of, breakpoint_of_order}
 use Rattle.line_cover.specs.Laws.{order_of, LinesCloseAtStates, LineStatesAreBreakpoints, LineCoversHoldAtStates, LineStatesAreStates, LineStatesRise}

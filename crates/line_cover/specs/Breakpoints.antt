@@ -4,7 +4,7 @@ use Rattle.std.specs.List.{filter_map, fold, All}
 use Rattle.exact_num.specs.Fraction.{IsLowest, over}
 use Rattle.form.specs.declared.orders.Order.{Order}
 use Rattle.form.specs.Vector.{scale_of}
-use Rattle.form.specs.Clearing.{SignedFill, signed_net}
+use Rattle.clearing_model.specs.Clearing.{SignedFill, signed_net}
 use Rattle.line_cover.specs.Line.{breakpoint_of_order}
 
 -- the entry s of a state (t, s)

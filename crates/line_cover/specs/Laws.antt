@@ -5,9 +5,9 @@ use Rattle.exact_num.specs.Fraction.{Fraction, IsLowest}
 use Rattle.exact_num.specs.CommonDenominator.{common_denominator, amount_over}
 use Rattle.form.specs.declared.orders.Order.{Order}
 use Rattle.form.specs.Vector.{IsState}
-use Rattle.form.specs.Clearing.{SignedFill, HoldsAtEachState}
-use Rattle.form.specs.Line.{IsLineCover}
-use Rattle.form.specs.Certificate.{LineCloses, filled_over, signed_over}
+use Rattle.clearing_model.specs.Clearing.{SignedFill, HoldsAtEachState}
+use Rattle.clearing_model.specs.Line.{IsLineCover}
+use Rattle.clearing_model.specs.Certificate.{LineCloses, filled_over, signed_over}
 use Rattle.line_cover.specs.Line.{breakpoint_of_order, line_holds}
 use Rattle.line_cover.specs.Breakpoints.{first_state, last_state, line_states, Rise, HoldsAtState}
 

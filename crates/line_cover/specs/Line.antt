@@ -7,7 +7,7 @@ use Rattle.exact_num.specs.Fraction.{Fraction}
 use Rattle.exact_num.specs.Fits.{after}
 use Rattle.form.specs.declared.orders.Order.{Order}
 use Rattle.form.specs.Vector.{strike_entry}
-use Rattle.form.specs.Line.{weight_entry}
+use Rattle.clearing_model.specs.Line.{weight_entry}
 use Rattle.form.specs.Payoff.{option_of}
 use Rattle.line_cover.specs.Net.{excess}
 

@@ -7,7 +7,8 @@ use Rattle.form.specs.declared.orders.Side.{Side}
 use Rattle.form.specs.declared.orders.Side.TheVariants.{Buy, Sell}
 use Rattle.form.specs.declared.orders.Order.{Order}
 use Rattle.form.specs.Payoff.{option_of, scale_of}
-use Rattle.form.specs.Steps.{plus_product, less_product, payoff_of}
+use Rattle.form.specs.Steps.{payoff_of}
+use Rattle.exact_num.specs.Steps.{plus_product, less_product}
 
 -- the total and the product, which a sell subtracts
 abbrev pub add_for_side : ℕ → Fraction → Side → Fraction → Fraction → Result Fraction Wide

@@ -9,7 +9,7 @@ ghost use Rattle.form.specs.States.{vector_of};
 ghost use Rattle.line_cover.specs.Net.{add_for_side, add_payoff, add_payoffs, excess};
 
 use exact_num::{Exact, Wide};
-use form::sums::{less_product, plus_product};
+use exact_num::sums::{less_product, plus_product};
 use form::{Order, Side, State, payoff};
 use frac::{Frac128, whole};
 

@@ -4,7 +4,7 @@ ghost use Rattle.std.specs.Prelude.{◌≡◌, ◌≤ℤ◌, All, length, map, p
 ghost use Rattle.std.specs.List.{filter_map};
 ghost use Rattle.frac.specs.Range.{limit};
 ghost use Rattle.frac.specs.Value.{fraction_of};
-ghost use Rattle.form.specs.Certificate.{LineCloses};
+ghost use Rattle.clearing_model.specs.Certificate.{LineCloses};
 ghost use Rattle.form.specs.Limits.{HasItsForms};
 ghost use Rattle.form.specs.States.{vector_of};
 ghost use Rattle.line_cover.specs.Laws.{IsEnoughOnLine};

@@ -10,12 +10,12 @@ use Rattle.exact_num.specs.Fraction.{Fraction, IsDefined, whole}
 use Rattle.exact_num.specs.CommonDenominator.{common_denominator, amount_over, amounts_over, amounts_of, IsRatio}
 use Rattle.form.specs.declared.orders.Order.{Order}
 use Rattle.form.specs.Payoff.{IsState, scale_of}
-use Rattle.form.specs.Clearing.{Filled, SignedFill, as_signed, net, premium, signed_premium, AreFills, Covers, HoldsAtEachState}
-use Rattle.form.specs.Legs.{legs_of}
-use Rattle.form.specs.Line.{IsLineCover}
-use Rattle.form.specs.Measure.{IsWeighted, IsMeasure}
-use Rattle.form.specs.Written.{PlacedMultiplier, tree_over}
-use Rattle.form.specs.Certificate.{filled_over, signed_over, fractions_of, by_of, IsPremiumLessLiability, FillsCover, IsFill, AreFractionFills, Point, IsWeight, fraction_weight, points_over, IsFractionMeasure}
+use Rattle.clearing_model.specs.Clearing.{Filled, SignedFill, as_signed, net, premium, signed_premium, AreFills, Covers, HoldsAtEachState}
+use Rattle.clearing_model.specs.Legs.{legs_of}
+use Rattle.clearing_model.specs.Line.{IsLineCover}
+use Rattle.clearing_model.specs.Measure.{IsWeighted, IsMeasure}
+use Rattle.clearing_model.specs.Written.{PlacedMultiplier, tree_over}
+use Rattle.clearing_model.specs.Certificate.{filled_over, signed_over, fractions_of, by_of, IsPremiumLessLiability, FillsCover, IsFill, AreFractionFills, Point, IsWeight, fraction_weight, points_over, IsFractionMeasure}
 use Rattle.market_laws.specs.Laws.{TreeCertificateCovers, WrittenTreeCovers, LineCertificateCovers, BalancedFillsCover, CoverAndMeasureAreOptimal}
 use Rattle.arithmetic.proofs.Integers.{*ℤ_mono, *ℤ_cancel_le}
 use Rattle.arithmetic.proofs.Products.{products}

@@ -10,9 +10,9 @@ use Rattle.form.specs.declared.orders.Side.TheVariants.{Buy, Sell}
 use Rattle.form.specs.declared.orders.Order.{Order}
 use Rattle.exact_num.specs.Fraction.{Fraction, IsDefined}
 use Rattle.form.specs.Payoff.{IsState, scale_of, positive_part, payoff, BundleLeg, over_legs, bundle_of, bundle_payoff}
-use Rattle.form.specs.Clearing.{Filled, if_buy, if_sell, AreFills, Covers}
-use Rattle.form.specs.Legs.{filled_leg, legs_of}
-use Rattle.form.specs.Measure.{WeightedState, mass_of, IsWeighted, IsMeasure, price_of, gain, bound_of}
+use Rattle.clearing_model.specs.Clearing.{Filled, if_buy, if_sell, AreFills, Covers}
+use Rattle.clearing_model.specs.Legs.{filled_leg, legs_of}
+use Rattle.clearing_model.specs.Measure.{WeightedState, mass_of, IsWeighted, IsMeasure, price_of, gain, bound_of}
 use Rattle.market_laws.specs.Laws.{WeakDuality, ProvedIsGreatest}
 use Rattle.arithmetic.proofs.Integers.{*ℤ_mono}
 use Rattle.arithmetic.proofs.Products.{products}

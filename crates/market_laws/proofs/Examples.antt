@@ -4,8 +4,8 @@ use Rattle.exact_num.specs.CommonDenominator.{common_denominator, amounts_of}
 use Rattle.exact_num.specs.Fraction.{Fraction}
 use Rattle.form.specs.declared.orders.Side.TheVariants.{Buy, Sell}
 use Rattle.form.specs.Payoff.{payoff, BundleLeg, bundle_payoff}
-use Rattle.form.specs.Legs.{Long, Short, filled_leg}
-use Rattle.form.specs.Measure.{price_of, gain}
+use Rattle.clearing_model.specs.Legs.{Long, Short, filled_leg}
+use Rattle.clearing_model.specs.Measure.{price_of, gain}
 
 abbrev call : List ℤ
 call = negsuc 99 ∷ pos 1 ∷ []

@@ -5,8 +5,8 @@ use Rattle.form.specs.declared.orders.Side.{Side}
 use Rattle.form.specs.declared.orders.Side.TheVariants.{Buy, Sell}
 use Rattle.arithmetic.specs.Sums.{weigh}
 use Rattle.form.specs.Payoff.{BundleLeg, over_legs, bundle_of, payoff}
-use Rattle.form.specs.Clearing.{Filled, bought, sold, if_buy, if_sell, for_side, buys_less_sells, net, premium}
-use Rattle.form.specs.Legs.{Exposure, Long, Short, FilledLeg, exposure_of, filled_leg, legs_of}
+use Rattle.clearing_model.specs.Clearing.{Filled, bought, sold, if_buy, if_sell, for_side, buys_less_sells, net, premium}
+use Rattle.clearing_model.specs.Legs.{Exposure, Long, Short, FilledLeg, exposure_of, filled_leg, legs_of}
 use Rattle.market_laws.specs.Laws.{SignedSumsAgree}
 use Rattle.arithmetic.proofs.Products.{products}
 use Rattle.arithmetic.proofs.Sums.{weigh-append, weigh_pos}

@@ -11,9 +11,9 @@ use Rattle.form.specs.declared.orders.Side.{Side}
 use Rattle.form.specs.declared.orders.Side.TheVariants.{Buy, Sell}
 use Rattle.form.specs.Vector.{strike_entry}
 use Rattle.form.specs.Payoff.{dot, positive_part, payoff, BundleLeg, bundle_of, bundle_payoff}
-use Rattle.form.specs.Clearing.{Filled, SignedFill, as_signed, for_side, net, signed_net}
-use Rattle.form.specs.Legs.{FilledLeg, filled_leg, legs_of}
-use Rattle.form.specs.Line.{weight_entry, HoldsAtPrice, HoldsAtBreak, HoldsAtBreaks}
+use Rattle.clearing_model.specs.Clearing.{Filled, SignedFill, as_signed, for_side, net, signed_net}
+use Rattle.clearing_model.specs.Legs.{FilledLeg, filled_leg, legs_of}
+use Rattle.clearing_model.specs.Line.{weight_entry, HoldsAtPrice, HoldsAtBreak, HoldsAtBreaks}
 use Rattle.market_laws.specs.Laws.{LineCoversHold, HoldsAtMultiples}
 use Rattle.arithmetic.proofs.Integers.{*ℤ_mono, *ℤ_cancel_le, neg_ℤ-*ℤ}
 use Rattle.arithmetic.proofs.Products.{products}

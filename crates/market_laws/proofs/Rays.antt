@@ -6,8 +6,8 @@ use Rattle.std.proofs.lemmas.List.{length-map}
 use native.Mathlib.Nat.{mul-le-mul_left}
 use borrow.Author.Differences.{up, down}
 use Rattle.exact_num.specs.Fraction.{Fraction, IsDefined}
-use Rattle.form.specs.Clearing.{Filled, Covers}
-use Rattle.form.specs.Legs.{FilledLeg, legs_of}
+use Rattle.clearing_model.specs.Clearing.{Filled, Covers}
+use Rattle.clearing_model.specs.Legs.{FilledLeg, legs_of}
 use Rattle.market_laws.specs.Laws.{NothingOwedAtRays}
 use Rattle.arithmetic.proofs.Products.{products}
 use Rattle.arithmetic.proofs.Sums.{weigh-le}

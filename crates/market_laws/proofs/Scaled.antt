@@ -5,7 +5,7 @@ use Rattle.form.specs.declared.orders.Side.{Side}
 use Rattle.form.specs.declared.orders.Side.TheVariants.{Buy, Sell}
 use Rattle.form.specs.declared.orders.Order.{Order}
 use Rattle.form.specs.Payoff.{bundle_of, bundle_payoff}
-use Rattle.form.specs.Clearing.{bought, sold, if_buy, if_sell, buys_less_sells, net, premium}
+use Rattle.clearing_model.specs.Clearing.{bought, sold, if_buy, if_sell, buys_less_sells, net, premium}
 use Rattle.market_laws.specs.Laws.{CoverIsOfFractions}
 use Rattle.arithmetic.proofs.Integers.{*ℤ_cancel_le, *ℤ_mono}
 use Rattle.arithmetic.proofs.Products.{products}

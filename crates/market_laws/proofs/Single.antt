@@ -6,9 +6,9 @@ use Rattle.form.specs.declared.orders.Side.{Side}
 use Rattle.form.specs.declared.orders.Side.TheVariants.{Buy, Sell}
 use Rattle.form.specs.declared.orders.Order.{Order}
 use Rattle.form.specs.Payoff.{payoff, one, over_legs, bundle_of}
-use Rattle.form.specs.Clearing.{Filled}
-use Rattle.form.specs.Legs.{FilledLeg, filled_leg, legs_of}
-use Rattle.form.specs.Measure.{WeightedState, price_of}
+use Rattle.clearing_model.specs.Clearing.{Filled}
+use Rattle.clearing_model.specs.Legs.{FilledLeg, filled_leg, legs_of}
+use Rattle.clearing_model.specs.Measure.{WeightedState, price_of}
 use Rattle.market_laws.specs.Single.{OneLegPaysItsOption, GainsAreDifferences, LegsAreOrders, NetIsOfOptions, option_price, exposure_of_side, single_leg}
 use Rattle.arithmetic.proofs.Parts.{positive_part_is}
 use Rattle.arithmetic.proofs.Sums.{All-head}

@@ -2,10 +2,7 @@
 use Rattle.std.proofs.Common.{◌≡◌, ℕ, ◌+◌, ◌≤◌, List, [], ◌∷◌, ◌++◌, length, get_or, take, drop, suc, add-one, ◌-◌, ◌<◌, arith, append_assoc, length-drop, length-append, refl, ap, sym, ◌∙◌}
 use Rattle.std.proofs.lemmas.List.{take-append-drop, length-take-le, drop-drop, drop_all}
 use Rattle.std.proofs.Math.Seq.{drop-cons}
-use Rattle.form.specs.Written.{WrittenNode}
-use Rattle.form.specs.Written.{SplitNode, LeafNode}
-use Rattle.form.specs.Written.{PlacedMultiplier}
-use Rattle.form.specs.Written.{WrittenTree, Ends, Parts, nodes_of, multipliers_of, Reads, ReadsNone}
+use Rattle.clearing_model.specs.Written.{WrittenNode, SplitNode, LeafNode, PlacedMultiplier, WrittenTree, Ends, Parts, nodes_of, multipliers_of, Reads, ReadsNone}
 use Rattle.market_laws.specs.Laws.{TreesReadOneWay}
 
 -- lists of one length at the head of two equal lists are equal

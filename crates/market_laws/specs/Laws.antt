@@ -6,14 +6,14 @@ use Rattle.exact_num.specs.CommonDenominator.{IsRatio, amounts_of}
 use Rattle.form.specs.declared.orders.Order.{Order}
 use Rattle.form.specs.Payoff.{dot, positive_part, payoff}
 use Rattle.form.specs.Vector.{call_of, put_of}
-use Rattle.form.specs.Clearing.{Filled, SignedFill, as_signed, buys_less_sells, net, premium, signed_sum, AreFills, Covers, IsGreatest, HoldsAtEachState}
-use Rattle.form.specs.Balance.{AreBalanced}
-use Rattle.form.specs.Legs.{legs_of}
-use Rattle.form.specs.Measure.{WeightedState, IsMeasure, bound_of, Proves}
-use Rattle.form.specs.Tree.{Tree, IsClosed}
-use Rattle.form.specs.Line.{HoldsAtPrice, IsLineCover}
-use Rattle.form.specs.Written.{WrittenNode, PlacedMultiplier, WrittenTree, nodes_of, multipliers_of}
-use Rattle.form.specs.Certificate.{fractions_of, TreeCloses, ClosesAsWritten, LineCloses, IsPremiumLessLiability, FillsCover, AreFractionFills, by_of, Point, IsFractionMeasure, MeasureProves}
+use Rattle.clearing_model.specs.Clearing.{Filled, SignedFill, as_signed, buys_less_sells, net, premium, signed_sum, AreFills, Covers, IsGreatest, HoldsAtEachState}
+use Rattle.clearing_model.specs.Balance.{AreBalanced}
+use Rattle.clearing_model.specs.Legs.{legs_of}
+use Rattle.clearing_model.specs.Measure.{WeightedState, IsMeasure, bound_of, Proves}
+use Rattle.clearing_model.specs.Tree.{Tree, IsClosed}
+use Rattle.clearing_model.specs.Line.{HoldsAtPrice, IsLineCover}
+use Rattle.clearing_model.specs.Written.{WrittenNode, PlacedMultiplier, WrittenTree, nodes_of, multipliers_of}
+use Rattle.clearing_model.specs.Certificate.{fractions_of, TreeCloses, ClosesAsWritten, LineCloses, IsPremiumLessLiability, FillsCover, AreFractionFills, by_of, Point, IsFractionMeasure, MeasureProves}
 
 -- at the settlement (t, s) a call pays, times t, what the basket is worth above the strike at the prices s / t, and a put
 -- what it is worth below

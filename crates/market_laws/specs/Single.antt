@@ -6,9 +6,9 @@ use Rattle.form.specs.declared.orders.Side.{Side}
 use Rattle.form.specs.declared.orders.Side.TheVariants.{Buy, Sell}
 use Rattle.form.specs.declared.orders.Order.{Order}
 use Rattle.form.specs.Payoff.{payoff, one, bundle_of, bundle_payoff}
-use Rattle.form.specs.Clearing.{Filled, bought, sold, net}
-use Rattle.form.specs.Legs.{Exposure, Long, Short, FilledLeg, legs_of}
-use Rattle.form.specs.Measure.{WeightedState, price_of, gain}
+use Rattle.clearing_model.specs.Clearing.{Filled, bought, sold, net}
+use Rattle.clearing_model.specs.Legs.{Exposure, Long, Short, FilledLeg, legs_of}
+use Rattle.clearing_model.specs.Measure.{WeightedState, price_of, gain}
 
 -- the price of an option, over W: the sum of weight times payoff
 abbrev pub option_price : List ℤ → List WeightedState → ℤ

@@ -4,8 +4,8 @@ use Rattle.std.proofs.lemmas.Int.{ints}
 use Rattle.arithmetic.proofs.Integers.{*ℤ_cancel_le, *ℤ_mono}
 use Rattle.arithmetic.proofs.Products.{products}
 use Rattle.exact_num.specs.CommonDenominator.{common_denominator, amounts_of}
-use Rattle.form.specs.Measure.{bound_of as model_bound}
-use Rattle.form.specs.Certificate.{fraction_weight, points_over}
+use Rattle.clearing_model.specs.Measure.{bound_of as model_bound}
+use Rattle.clearing_model.specs.Certificate.{fraction_weight, points_over}
 use Rattle.market_laws.proofs.Certificate.{are_fills, is_measure}
 use Rattle.market_laws.proofs.Duality.{duality}
 use Rattle.measure.specs.Laws.{NoCoverIsAboveTheBound}

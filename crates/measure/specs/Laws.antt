@@ -5,8 +5,8 @@ use Rattle.exact_num.specs.Fraction.{Fraction, IsDefined, IsLowest, IsSameValue,
 use Rattle.exact_num.specs.CommonDenominator.{common_denominator, IsRatio}
 use Rattle.form.specs.declared.orders.Order.{Order}
 use Rattle.form.specs.Payoff.{one}
-use Rattle.form.specs.Measure.{price_of as model_price}
-use Rattle.form.specs.Certificate.{FillsCover, Point, fraction_weight, points_over, HasUnitMass, IsFractionMeasure, MeasureProves}
+use Rattle.clearing_model.specs.Measure.{price_of as model_price}
+use Rattle.clearing_model.specs.Certificate.{FillsCover, Point, fraction_weight, points_over, HasUnitMass, IsFractionMeasure, MeasureProves}
 use Rattle.measure.specs.Sums.{has_unit_mass, price_of, bound_of}
 
 -- the points give the option this price

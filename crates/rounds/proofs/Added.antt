@@ -5,7 +5,7 @@ use Rattle.std.proofs.Math.Seq.{drop-cons}
 use Rattle.exact_num.specs.declared.misfit.Wide.{Wide as Misfit}
 use Rattle.exact_num.specs.Fraction.{Fraction}
 use Rattle.exact_num.specs.Fits.{after, meaning}
-use Rattle.joint_program.specs.Master.{all_of}
+use Rattle.master_program.specs.Master.{all_of}
 use Rattle.rounds.specs.Built.{added}
 
 -- what follows a first value is added behind it

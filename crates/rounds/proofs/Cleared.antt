@@ -3,21 +3,22 @@ use Rattle.std.proofs.Common.{◌≡◌, ℕ, List, Bool, IfOk, Result, Ok, Err,
 use Rattle.exact_num.specs.declared.misfit.Wide.{Wide as Misfit}
 use Rattle.frac.specs.Range.{limit}
 use Rattle.table_run.specs.Program.{LinearProgram}
-use Rattle.table_run.specs.Run.{Ending, run, optimal, unbounded, misfit_at, out_of_budget}
+use Rattle.table_run.specs.Ending.{Ending, done, unbounded, wide_at, no_unit_left}
+use Rattle.table_run.specs.Run.{Optimum, run, optimum}
 use Rattle.form.specs.declared.orders.Order.{Order}
 use Rattle.form.specs.declared.orders.Batch.{Batch}
-use Rattle.form.specs.Clearing.{AreOn}
+use Rattle.clearing_model.specs.Clearing.{AreOn}
 use Rattle.line_cover.specs.Breakpoints.{first_state, later_states}
 use Rattle.cert_check.specs.declared.outcome.No.{No}
 use Rattle.cert_check.specs.declared.outcome.Judgement.{Judgement}
 use Rattle.cert_check.specs.declared.outcome.Judgement.TheVariants.{Yes, No as Refused, Wide as TooWide}
 use Rattle.cert_check.specs.Events.{verdict_of}
-use Rattle.joint_program.specs.Master.{master}
-use Rattle.joint_program.specs.Reading.{Reading, reading_of, reading_with}
-use Rattle.joint_laws.specs.Certified.{IsGreatestByLine}
-use Rattle.joint_laws.proofs.Lines.{greatest_by_line, later_are_states}
-use Rattle.joint_laws.proofs.Read.{no_run_is_unbounded, runs_are_certified}
-use Rattle.rounds.specs.Run.{cleared, without_optimum, sums_hold, on_sums, on_reading, on_ending, solved, joint_run}
+use Rattle.master_program.specs.Master.{master}
+use Rattle.master_program.specs.Reading.{Reading, reading_of, reading_with}
+use Rattle.master_program.specs.Certified.{IsGreatestByLine}
+use Rattle.master_program.proofs.Lines.{greatest_by_line, later_are_states}
+use Rattle.master_program.proofs.Read.{no_run_is_unbounded, runs_are_certified}
+use Rattle.rounds.specs.Run.{sums_hold, on_sums, on_reading, on_ending, solved, joint_run}
 use Rattle.exact_num.specs.Fraction.{Fraction}
 use Rattle.simplex.specs.declared.stop.Stop.{Stop}
 use Rattle.rounds.specs.declared.joint.Joint.{Joint}
@@ -31,29 +32,29 @@ record Clears (wide_limit : ℕ) (orders : List Order) (r : Reading) : Type 0 wh
   holds : Bool
   sums : sums_hold wide_limit orders r ≡ Ok holds
 
-by_sums : (wide_limit spent units : ℕ) (orders : List Order) (r s : Reading) (sums : Result Bool Misfit) → sums_hold wide_limit orders s ≡ sums → IsGreatestByLine orders s → on_sums s spent sums ≡ cleared r units → Clears wide_limit orders r
+by_sums : (wide_limit spent units : ℕ) (orders : List Order) (r s : Reading) (sums : Result Bool Misfit) → sums_hold wide_limit orders s ≡ sums → IsGreatestByLine orders s → on_sums s spent sums ≡ done r units → Clears wide_limit orders r
 by_sums wide_limit spent units orders r s (Err w) is g e = cc
 by_sums wide_limit spent units orders r s (Ok holds) is g e =
     let same : s ≡ r = cc in
     subst (λ (t : Reading). Clears wide_limit orders t) same (record { greatest = g; holds = holds; sums = is })
 
-by_reading : (wide_limit spent units : ℕ) (orders : List Order) (r : Reading) (read : Result Reading Misfit) → ((s : Reading) → read ≡ Ok s → IsGreatestByLine orders s) → on_reading wide_limit orders spent read ≡ cleared r units → Clears wide_limit orders r
+by_reading : (wide_limit spent units : ℕ) (orders : List Order) (r : Reading) (read : Result Reading Misfit) → ((s : Reading) → read ≡ Ok s → IsGreatestByLine orders s) → on_reading wide_limit orders spent read ≡ done r units → Clears wide_limit orders r
 by_reading wide_limit spent units orders r (Err w) g e = cc
 by_reading wide_limit spent units orders r (Ok s) g e = by_sums wide_limit spent units orders r s (sums_hold wide_limit orders s) refl (g s refl) e
 
-by_ending : (wide_limit limit left spent units : ℕ) (orders : List Order) (r : Reading) (p : LinearProgram) (ending : Ending) → master wide_limit limit orders (later_states orders) ≡ Ok p → run limit p left spent ≡ ending → on_ending wide_limit limit orders ending ≡ cleared r units → Clears wide_limit orders r
-by_ending wide_limit limit left spent units orders r p (optimal x y reduced value at) m is e =
+by_ending : (wide_limit limit left spent units : ℕ) (orders : List Order) (r : Reading) (p : LinearProgram) (ending : Ending Optimum) → master wide_limit limit orders (later_states orders) ≡ Ok p → run limit p left spent ≡ ending → on_ending wide_limit limit orders ending ≡ done r units → Clears wide_limit orders r
+by_ending wide_limit limit left spent units orders r p (done (optimum x y reduced value) at) m is e =
     by_reading wide_limit at units orders r (reading_of limit first_state orders (later_states orders) x y reduced value)
     (λ s read. greatest_by_line orders s (runs_are_certified wide_limit limit 1 left spent at orders (later_states orders) p x y reduced value s (later_are_states orders) m is read)) e
 by_ending wide_limit limit left spent units orders r p (unbounded d at) m is e = cc
-by_ending wide_limit limit left spent units orders r p (misfit_at at w) m is e = cc
-by_ending wide_limit limit left spent units orders r p (out_of_budget at) m is e = cc
+by_ending wide_limit limit left spent units orders r p (wide_at at w) m is e = cc
+by_ending wide_limit limit left spent units orders r p (no_unit_left at) m is e = cc
 
-by_master : (wide_limit limit left spent units : ℕ) (orders : List Order) (r : Reading) (built : Result LinearProgram Misfit) → master wide_limit limit orders (later_states orders) ≡ built → on_ending wide_limit limit orders (solved limit left spent built) ≡ cleared r units → Clears wide_limit orders r
+by_master : (wide_limit limit left spent units : ℕ) (orders : List Order) (r : Reading) (built : Result LinearProgram Misfit) → master wide_limit limit orders (later_states orders) ≡ built → on_ending wide_limit limit orders (solved limit left spent built) ≡ done r units → Clears wide_limit orders r
 by_master wide_limit limit left spent units orders r (Err w) m e = cc
 by_master wide_limit limit left spent units orders r (Ok p) m e = by_ending wide_limit limit left spent units orders r p (run limit p left spent) m refl e
 
-clears : (wide_limit limit left spent units : ℕ) (orders : List Order) (r : Reading) → joint_run wide_limit limit left spent orders ≡ cleared r units → Clears wide_limit orders r
+clears : (wide_limit limit left spent units : ℕ) (orders : List Order) (r : Reading) → joint_run wide_limit limit left spent orders ≡ done r units → Clears wide_limit orders r
 unfolding joint_run
 clears wide_limit limit left spent units orders r e = by_master wide_limit limit left spent units orders r (master wide_limit limit orders (later_states orders)) refl e
 
@@ -61,21 +62,21 @@ pub cleared_is_greatest : ClearedIsGreatest
 cleared_is_greatest wide_limit limit left spent units orders r e = (clears wide_limit limit left spent units orders r e).greatest
 
 -- ---- no run is without an optimum
-sums_end : (s : Reading) (spent units : ℕ) (sums : Result Bool Misfit) → on_sums s spent sums ≡ without_optimum units → ⊥
+sums_end : (s : Reading) (spent units : ℕ) (sums : Result Bool Misfit) → on_sums s spent sums ≡ unbounded d units → ⊥
 sums_end s spent units (Err w) e = cc
 sums_end s spent units (Ok holds) e = cc
 
-reading_ends : (wide_limit spent units : ℕ) (orders : List Order) (read : Result Reading Misfit) → on_reading wide_limit orders spent read ≡ without_optimum units → ⊥
+reading_ends : (wide_limit spent units : ℕ) (orders : List Order) (read : Result Reading Misfit) → on_reading wide_limit orders spent read ≡ unbounded d units → ⊥
 reading_ends wide_limit spent units orders (Err w) e = cc
 reading_ends wide_limit spent units orders (Ok s) e = sums_end s spent units (sums_hold wide_limit orders s) e
 
-ending_ends : (wide_limit limit left spent units : ℕ) (orders : List Order) (p : LinearProgram) (ending : Ending) → master wide_limit limit orders (later_states orders) ≡ Ok p → run limit p left spent ≡ ending → on_ending wide_limit limit orders ending ≡ without_optimum units → ⊥
-ending_ends wide_limit limit left spent units orders p (optimal x y reduced value at) m is e = reading_ends wide_limit at units orders (reading_of limit first_state orders (later_states orders) x y reduced value) e
+ending_ends : (wide_limit limit left spent units : ℕ) (orders : List Order) (p : LinearProgram) (ending : Ending Optimum) → master wide_limit limit orders (later_states orders) ≡ Ok p → run limit p left spent ≡ ending → on_ending wide_limit limit orders ending ≡ unbounded d units → ⊥
+ending_ends wide_limit limit left spent units orders p (done (optimum x y reduced value) at) m is e = reading_ends wide_limit at units orders (reading_of limit first_state orders (later_states orders) x y reduced value) e
 ending_ends wide_limit limit left spent units orders p (unbounded d at) m is e = no_run_is_unbounded wide_limit limit left spent at orders (later_states orders) p d m is
-ending_ends wide_limit limit left spent units orders p (misfit_at at w) m is e = cc
-ending_ends wide_limit limit left spent units orders p (out_of_budget at) m is e = cc
+ending_ends wide_limit limit left spent units orders p (wide_at at w) m is e = cc
+ending_ends wide_limit limit left spent units orders p (no_unit_left at) m is e = cc
 
-master_ends : (wide_limit limit left spent units : ℕ) (orders : List Order) (built : Result LinearProgram Misfit) → master wide_limit limit orders (later_states orders) ≡ built → on_ending wide_limit limit orders (solved limit left spent built) ≡ without_optimum units → ⊥
+master_ends : (wide_limit limit left spent units : ℕ) (orders : List Order) (built : Result LinearProgram Misfit) → master wide_limit limit orders (later_states orders) ≡ built → on_ending wide_limit limit orders (solved limit left spent built) ≡ unbounded d units → ⊥
 master_ends wide_limit limit left spent units orders (Err w) m e = cc
 master_ends wide_limit limit left spent units orders (Ok p) m e = ending_ends wide_limit limit left spent units orders p (run limit p left spent) m refl e
 

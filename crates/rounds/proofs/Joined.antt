@@ -9,8 +9,8 @@ use Rattle.table_run.specs.Places.{fraction_zero}
 use Rattle.table_run.specs.Table.{unit_row}
 use Rattle.form.specs.declared.orders.Order.{Order}
 use Rattle.form.specs.Vector.{scale_of}
-use Rattle.joint_program.specs.Laws.{unit_rows}
-use Rattle.joint_program.specs.Master.{all_of, cost_steps, quantity_steps, entry_steps, quantity_rows, row_steps, rows_steps, master}
+use Rattle.master_program.specs.Laws.{unit_rows}
+use Rattle.master_program.specs.Master.{all_of, cost_steps, quantity_steps, entry_steps, quantity_rows, row_steps, rows_steps, master}
 use Rattle.rounds.specs.declared.building.Unbuilt.{Unbuilt}
 use Rattle.rounds.specs.declared.building.Unbuilt.TheVariants.{Wide, Memory}
 use Rattle.rounds.specs.Built.{IsBuilt, HasAdded, added}

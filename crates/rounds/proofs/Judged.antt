@@ -6,10 +6,11 @@ use Rattle.frac.specs.Range.{limit}
 use Rattle.frac.specs.Value.{fraction_of}
 use Rattle.frac.specs.declared.bits128.Frac128.{Frac128}
 use Rattle.form.specs.declared.orders.Batch.{Batch}
-use Rattle.form.specs.Clearing.{AreOn}
+use Rattle.clearing_model.specs.Clearing.{AreOn}
 use Rattle.simplex.specs.declared.stop.Stop.{Stop}
 use Rattle.simplex.specs.declared.stop.Stop.TheVariants.{Wide, Budget, Memory}
-use Rattle.line_cover.specs.Line.{and_then, line_holds}
+use Rattle.line_cover.specs.Line.{line_holds}
+use Rattle.exact_num.specs.Steps.{and_then}
 use Rattle.measure.specs.declared.measures.Measure.{Measure}
 use Rattle.measure.specs.Points.{point_of}
 use Rattle.measure.specs.Sums.{has_unit_mass}
@@ -24,12 +25,13 @@ use Rattle.cert_check.specs.declared.outcome.Judgement.TheVariants.{Yes, No as R
 use Rattle.cert_check.specs.Cover.{surplus_holds}
 use Rattle.cert_check.specs.Events.{check, bound_holds, verdict_of}
 use Rattle.cert_check.specs.Shape.{has_shape, are_fills}
-use Rattle.joint_program.specs.Reading.{Reading, reading_with}
-use Rattle.joint_laws.specs.Certified.{IsGreatestByLine}
-use Rattle.joint_laws.specs.Verdict.{IsOutcomeOf}
-use Rattle.joint_laws.proofs.Verdict.{line_readings_are_not_refused}
+use Rattle.master_program.specs.Reading.{Reading, reading_with}
+use Rattle.master_program.specs.Certified.{IsGreatestByLine}
+use Rattle.master_program.specs.Verdict.{IsOutcomeOf}
+use Rattle.master_program.proofs.Verdict.{line_readings_are_not_refused}
 use Rattle.rounds.specs.Answers.{IsJointAnswer, IsJudged}
-use Rattle.rounds.specs.Run.{on_sums, sums_hold, cleared}
+use Rattle.rounds.specs.Run.{on_sums, sums_hold}
+use Rattle.table_run.specs.Ending.{done}
 
 -- what a judgement says of the sums
 abbrev pub sums_of : Judgement → Result Bool Misfit
@@ -103,5 +105,5 @@ stops_as_judged value r unit sums judgement (Wide at w) e h =
 stops_as_judged value r unit sums judgement Budget e h = absurd h
 stops_as_judged value r unit sums judgement Memory e h = tt
 
-pub clears_as_judged : (r : Reading) (unit : ℕ) (sums : Result Bool Misfit) (judgement : Judgement) → sums ≡ sums_of judgement → judgement ≡ Yes → on_sums r unit sums ≡ cleared r unit
+pub clears_as_judged : (r : Reading) (unit : ℕ) (sums : Result Bool Misfit) (judgement : Judgement) → sums ≡ sums_of judgement → judgement ≡ Yes → on_sums r unit sums ≡ done r unit
 clears_as_judged r unit sums judgement e h = ap (on_sums r unit) (e ∙ ap sums_of h)

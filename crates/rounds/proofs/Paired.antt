@@ -1,8 +1,8 @@
 -- One turn of a loop over two lists at once.
 use Rattle.std.proofs.Common.{◌≡◌, ℕ, zero, suc, ◌+◌, ◌<◌, ◌≤◌, List, [], ◌∷◌, ◌++◌, length, get_or, map, zip, drop, add-one, arith, Bool, true, false, if◌then◌else◌, refl, ap}
 use Rattle.std.proofs.lemmas.List.{drop_all}
-use Rattle.form.specs.Certificate.{Point}
-use Rattle.joint_program.specs.Reading.{has_weight, weighty}
+use Rattle.clearing_model.specs.Certificate.{Point}
+use Rattle.master_program.specs.Reading.{has_weight, weighty}
 
 -- the pair at i comes first, and then those after it
 pub pair_first : {A B : Type 0} (xs : List A) (ys : List B) (i : ℕ) (x : A) (y : B) → length ys ≡ length xs → i < length xs → x ≡ get_or xs i x → y ≡ get_or ys i y → drop i (zip xs ys) ≡ (x, y) ∷ drop (i + 1) (zip xs ys)

@@ -6,8 +6,8 @@ use Rattle.exact_num.specs.Fraction.{Fraction}
 use Rattle.exact_num.specs.Fits.{after, meaning}
 use Rattle.table_run.specs.Places.{at}
 use Rattle.form.specs.declared.orders.Order.{Order}
-use Rattle.form.specs.Certificate.{Point}
-use Rattle.joint_program.specs.Reading.{liability_of, points_of, reading_of, reading_with, weighty}
+use Rattle.clearing_model.specs.Certificate.{Point}
+use Rattle.master_program.specs.Reading.{liability_of, points_of, reading_of, reading_with, weighty}
 
 pub read_is : {A : Type 0} (value : A → Fraction) (limit : ℕ) (first : List ℕ) (later : List (List ℕ)) (orders : List Order) (xs ys rs fills weights : List A) (slack w v L : A) (liability : Result A Wide) (measure : List Point)
     → fills ≡ take (length orders) xs → at (map value xs) (length orders) ≡ value slack

@@ -5,7 +5,8 @@ use Rattle.std.proofs.lemmas.List.{length-map, length-append}
 use Rattle.exact_num.specs.Fraction.{Fraction}
 use Rattle.table_run.specs.Places.{at}
 use Rattle.table_run.specs.Optimum.{IsProgram, IsNotBelowZero}
-use Rattle.table_run.specs.Run.{Ending, misfit_at, out_of_budget}
+use Rattle.table_run.specs.Ending.{Ending, wide_at, no_unit_left}
+use Rattle.table_run.specs.Run.{Optimum}
 use Rattle.form.specs.declared.orders.Order.{Order}
 use Rattle.form.specs.declared.states.State.{State}
 use Rattle.form.specs.States.{vector_of}
@@ -17,12 +18,12 @@ use Rattle.simplex.specs.declared.stop.Stop.TheVariants.{Wide, Budget, Memory}
 use Rattle.simplex.specs.Answers.{IsAnswer, solved_ending}
 use Rattle.rounds.specs.declared.joint.Joint.{Joint}
 use Rattle.rounds.specs.Answers.{IsJointAnswer}
-use Rattle.rounds.specs.Run.{JointEnd, joint_run, on_ending, solved}
+use Rattle.rounds.specs.Run.{joint_run, on_ending, solved}
 use Rattle.line_cover.specs.Line.{breakpoint_of_order}
 use Rattle.line_cover.specs.Breakpoints.{is_below, insert, in_rising_price, last_state, later_states}
-use Rattle.joint_program.specs.Master.{zero_prices, plain_master, master}
-use Rattle.joint_program.proofs.Steps.{steps_give_master}
-use Rattle.joint_program.proofs.Bounded.{master_is_program}
+use Rattle.master_program.specs.Master.{zero_prices, plain_master, master}
+use Rattle.master_program.proofs.Steps.{steps_give_master}
+use Rattle.master_program.proofs.Bounded.{master_is_program}
 
 -- ---- the program that was built is the master program
 pub is_master : {A : Type 0} (value : A → Fraction) (p : Program A) (payoff_limit limit : ℕ) (orders : List Order) (states : List (List ℕ)) → master payoff_limit limit orders states ≡ Ok (as_program value p) → as_program value p ≡ plain_master (zero_prices 1) orders states
@@ -101,17 +102,17 @@ pub joint_is : (wide_limit limit left spent : ℕ) (orders : List Order) (states
 unfolding joint_run
 joint_is wide_limit limit left spent orders states is = ap (λ zs. on_ending wide_limit limit orders (solved limit left spent (master wide_limit limit orders zs))) (sym is)
 
-pub stops_as_solved : {A : Type 0} (value : A → Fraction) (wide_limit limit : ℕ) (orders : List Order) (end : JointEnd) (ending : Ending) (result : Result (Solved A) Stop) (stop : Stop) (spent : ℕ) → end ≡ on_ending wide_limit limit orders ending → result ≡ Err stop → IsAnswer value ending result spent → IsJointAnswer value end (Err stop) spent
+pub stops_as_solved : {A : Type 0} (value : A → Fraction) (wide_limit limit : ℕ) (orders : List Order) (end : Ending Reading) (ending : Ending Optimum) (result : Result (Solved A) Stop) (stop : Stop) (spent : ℕ) → end ≡ on_ending wide_limit limit orders ending → result ≡ Err stop → IsAnswer value ending result spent → IsJointAnswer value end (Err stop) spent
 stops_as_solved {A} value wide_limit limit orders end ending result (Wide unit w) spent e err h =
-    let is : (ending ≡ misfit_at unit w) × (spent ≡ unit) = subst (λ (r : Result (Solved A) Stop). IsAnswer value ending r spent) err h in
+    let is : (ending ≡ wide_at unit w) × (spent ≡ unit) = subst (λ (r : Result (Solved A) Stop). IsAnswer value ending r spent) err h in
     (e ∙ ap (on_ending wide_limit limit orders) is.0, is.1)
 stops_as_solved {A} value wide_limit limit orders end ending result Budget spent e err h =
-    let is : ending ≡ out_of_budget spent = subst (λ (r : Result (Solved A) Stop). IsAnswer value ending r spent) err h in
+    let is : ending ≡ no_unit_left spent = subst (λ (r : Result (Solved A) Stop). IsAnswer value ending r spent) err h in
     e ∙ ap (on_ending wide_limit limit orders) is
 stops_as_solved {A} value wide_limit limit orders end ending result Memory spent e err h = tt
 
-pub solved_as : {A : Type 0} (value : A → Fraction) (ending : Ending) (result : Result (Solved A) Stop) (solution : Solved A) (spent : ℕ) → result ≡ Ok solution → IsAnswer value ending result spent → ending ≡ solved_ending value solution spent
+pub solved_as : {A : Type 0} (value : A → Fraction) (ending : Ending Optimum) (result : Result (Solved A) Stop) (solution : Solved A) (spent : ℕ) → result ≡ Ok solution → IsAnswer value ending result spent → ending ≡ solved_ending value solution spent
 solved_as {A} value ending result solution spent ok h = subst (λ (r : Result (Solved A) Stop). IsAnswer value ending r spent) ok h
 
-pub answers_as : {A : Type 0} (value : A → Fraction) (a b : JointEnd) (result : Result (Joint A) Stop) (spent : ℕ) → a ≡ b → IsJointAnswer value b result spent → IsJointAnswer value a result spent
-answers_as value a b result spent e h = subst (λ (end : JointEnd). IsJointAnswer value end result spent) (sym e) h
+pub answers_as : {A : Type 0} (value : A → Fraction) (a b : Ending Reading) (result : Result (Joint A) Stop) (spent : ℕ) → a ≡ b → IsJointAnswer value b result spent → IsJointAnswer value a result spent
+answers_as value a b result spent e h = subst (λ (end : Ending Reading). IsJointAnswer value end result spent) (sym e) h

@@ -4,8 +4,8 @@ use Rattle.exact_num.specs.Fits.{operations}
 use Rattle.table_run.specs.Run.{table_run}
 use Rattle.form.specs.FormOf.{form_of}
 use Rattle.line_cover.specs.Breakpoints.{insert, in_rising_price}
-use Rattle.joint_program.specs.Master.{master_steps}
-use Rattle.joint_program.specs.Reading.{reading_steps}
+use Rattle.master_program.specs.Master.{master_steps}
+use Rattle.master_program.specs.Reading.{reading_steps}
 use Rattle.rounds.specs.Run.{joint_run}
 use Rattle.rounds.specs.Worked.{OneOptionCleared, OneUnitIsTooFew, EqualPricesAreLeft, NoOrderCleared, LowerStrikeCleared, ButterflyCleared, DearCoverIsLeft, LargeBatchIsTooWide}
 

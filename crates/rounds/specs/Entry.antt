@@ -5,7 +5,7 @@ use Rattle.exact_num.specs.Fraction.{Fraction}
 use Rattle.exact_num.specs.Fits.{sub_of, mul_of, whole_of, after}
 use Rattle.form.specs.declared.orders.Order.{Order}
 use Rattle.form.specs.Vector.{scale_of}
-use Rattle.joint_program.specs.Master.{first_payoff}
+use Rattle.master_program.specs.Master.{first_payoff}
 
 -- t times what the order pays at the first state
 abbrev pub put_aside : ℕ → List ℕ → Order → Result Fraction Wide

@@ -8,7 +8,7 @@ use Rattle.table_run.specs.Places.{fraction_zero}
 use Rattle.table_run.specs.Program.{LinearProgram}
 use Rattle.form.specs.declared.orders.Order.{Order}
 use Rattle.form.specs.Vector.{scale_of}
-use Rattle.joint_program.specs.Master.{all_of, cost_steps, quantity_steps, quantity_rows, rows_steps}
+use Rattle.master_program.specs.Master.{all_of, cost_steps, quantity_steps, quantity_rows, rows_steps}
 
 -- the costs of the orders and of the slack
 abbrev pub costs_steps : ℕ → List Order → Result (List Fraction) Wide

@@ -6,18 +6,19 @@ use Rattle.exact_num.specs.declared.misfit.Operator.TheVariants.{Add}
 use Rattle.frac.specs.Range.{limit}
 use Rattle.table_run.specs.Worked.{wholes}
 use Rattle.form.specs.declared.orders.Order.{Order}
-use Rattle.joint_program.specs.Worked.{at_price, slope, one_option, equal_prices, lower_strike, butterfly, dear_cover, large_batch}
-use Rattle.rounds.specs.Run.{JointEnd, cleared, stopped_at, out_of_units, joint_run}
+use Rattle.master_program.specs.Worked.{at_price, slope, one_option, equal_prices, lower_strike, butterfly, dear_cover, large_batch}
+use Rattle.rounds.specs.Run.{joint_run}
+use Rattle.table_run.specs.Ending.{Ending, done, wide_at, no_unit_left}
 
 -- the run with so many units
-abbrev pub worked_run : ℕ → List Order → JointEnd
+abbrev pub worked_run : ℕ → List Order → Ending Reading
 worked_run units orders = joint_run limit limit units 0 orders
 
 -- buy call 10 at 7, sell call 10 at 5: both are filled, in two turns
 abbrev pub OneOptionCleared : Type 0
 OneOptionCleared =
     worked_run 2 one_option
-    ≡ cleared (record {
+    ≡ done (record {
       fills = wholes (pos 1 ∷ pos 1 ∷ []);
       liability = whole (pos 0);
       surplus = whole (pos 2);
@@ -26,13 +27,13 @@ OneOptionCleared =
 
 -- with one unit alone the second turn is wanted
 abbrev pub OneUnitIsTooFew : Type 0
-OneUnitIsTooFew = worked_run 1 one_option ≡ out_of_units 1
+OneUnitIsTooFew = worked_run 1 one_option ≡ no_unit_left 1
 
 -- buy call 10 at 5, sell call 10 at 5: nothing is earned, so nothing is filled
 abbrev pub EqualPricesAreLeft : Type 0
 EqualPricesAreLeft =
     worked_run 100 equal_prices
-    ≡ cleared (record {
+    ≡ done (record {
       fills = wholes (pos 0 ∷ pos 0 ∷ []);
       liability = whole (pos 0);
       surplus = whole (pos 0);
@@ -43,13 +44,13 @@ EqualPricesAreLeft =
 abbrev pub NoOrderCleared : Type 0
 NoOrderCleared =
     worked_run 100 []
-    ≡ cleared (record { fills = []; liability = whole (pos 0); surplus = whole (pos 0); measure = (at_price 0, whole (pos 1)) ∷ [] }) 0
+    ≡ done (record { fills = []; liability = whole (pos 0); surplus = whole (pos 0); measure = (at_price 0, whole (pos 1)) ∷ [] }) 0
 
 -- buy call 10 at 6, sell call 5 at 5: the call of the lower strike covers the other
 abbrev pub LowerStrikeCleared : Type 0
 LowerStrikeCleared =
     worked_run 100 lower_strike
-    ≡ cleared (record {
+    ≡ done (record {
       fills = wholes (pos 1 ∷ pos 1 ∷ []);
       liability = whole (pos 0);
       surplus = whole (pos 1);
@@ -60,7 +61,7 @@ LowerStrikeCleared =
 abbrev pub ButterflyCleared : Type 0
 ButterflyCleared =
     worked_run 100 butterfly
-    ≡ cleared (record {
+    ≡ done (record {
       fills = whole (pos 1) ∷ over (pos 2) 7 ∷ over (pos 5) 7 ∷ [];
       liability = whole (pos 0);
       surplus = over (pos 6) 7;
@@ -71,7 +72,7 @@ ButterflyCleared =
 abbrev pub DearCoverIsLeft : Type 0
 DearCoverIsLeft =
     worked_run 100 dear_cover
-    ≡ cleared (record {
+    ≡ done (record {
       fills = wholes (pos 0 ∷ pos 0 ∷ []);
       liability = whole (pos 0);
       surplus = whole (pos 0);
@@ -82,4 +83,4 @@ DearCoverIsLeft =
 abbrev pub LargeBatchIsTooWide : Type 0
 LargeBatchIsTooWide =
     worked_run 100 large_batch
-    ≡ stopped_at 6 (misfit Add (over (pos 398748100250250500749500501) 1000000000000) (over (pos 99599999800200000) 997999999001))
+    ≡ wide_at 6 (misfit Add (over (pos 398748100250250500749500501) 1000000000000) (over (pos 99599999800200000) 997999999001))

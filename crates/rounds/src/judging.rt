@@ -2,12 +2,12 @@
 ghost use Rattle.std.specs.Prelude.{◌≡◌, ◌≤◌, ◌∷◌, ◌++◌, IfOk, map, length, vec_len};
 ghost use Rattle.frac.specs.Range.{limit};
 ghost use Rattle.frac.specs.Value.{fraction_of};
-ghost use Rattle.form.specs.Clearing.{AreOn};
+ghost use Rattle.clearing_model.specs.Clearing.{AreOn};
 ghost use Rattle.cert_check.specs.declared.outcome.Cover.TheVariants.{Line};
 ghost use Rattle.cert_check.specs.declared.outcome.No.{No};
 ghost use Rattle.cert_check.specs.declared.outcome.Judgement.TheVariants.{No as Refused};
 ghost use Rattle.cert_check.specs.Events.{verdict_of};
-ghost use Rattle.joint_laws.specs.Certified.{IsGreatestByLine};
+ghost use Rattle.master_program.specs.Certified.{IsGreatestByLine};
 ghost use Rattle.rounds.specs.Answers.{IsJointAnswer, IsJudged, reading_in};
 ghost use Rattle.rounds.specs.Run.{on_sums, sums_hold};
 

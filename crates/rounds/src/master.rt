@@ -4,8 +4,8 @@ ghost use Rattle.std.specs.List.{All};
 ghost use Rattle.exact_num.specs.Fits.{meaning};
 ghost use Rattle.form.specs.States.{vector_of};
 ghost use Rattle.simplex.specs.Programs.{as_program};
-ghost use Rattle.joint_program.specs.Laws.{unit_rows};
-ghost use Rattle.joint_program.specs.Master.{all_of, cost_steps, entry_steps, first_payoff, master, quantity_steps, row_steps, rows_steps, signed_for};
+ghost use Rattle.master_program.specs.Laws.{unit_rows};
+ghost use Rattle.master_program.specs.Master.{all_of, cost_steps, entry_steps, first_payoff, master, quantity_steps, row_steps, rows_steps, signed_for};
 ghost use Rattle.rounds.specs.Built.{HasAdded, IsBuilt};
 ghost use Rattle.rounds.specs.Entry.{put_aside, whole_less};
 ghost use Rattle.rounds.specs.Parts.{coefficients_steps, costs_steps, right_sides_steps, slack_steps};
@@ -35,7 +35,7 @@ pub(crate) fn first_payoff(order: &Order) -> i128
 }
 
 /// What one unit of an order earns when its payoff at the first state is put aside.
-#[tactic(auto, unfolding(joint_program::specs::Master::cost_steps))]
+#[tactic(auto, unfolding(master_program::specs::Master::cost_steps))]
 fn cost<N: Exact>(order: &Order) -> Result<N, Wide>
     ensures { meaning N.fraction result ≡ cost_steps (unsigned_abs N.LIMIT) order.now }
 {
@@ -63,7 +63,7 @@ fn less<N: Exact>(v: i128, number: N) -> Result<N, Wide>
 }
 
 /// What one unit of an order owes at a state above what is put aside for it.
-#[tactic(auto, unfolding(joint_program::specs::Master::entry_steps))]
+#[tactic(auto, unfolding(master_program::specs::Master::entry_steps))]
 fn entry<N: Exact>(order: &Order, state: &State) -> Result<N, Wide>
     requires { order.now.form.count ≡ state.now.count }
     ensures { meaning N.fraction result ≡ entry_steps (2 ^ 127 - 1) (unsigned_abs N.LIMIT) (vector_of state.now) order.now }

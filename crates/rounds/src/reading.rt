@@ -5,7 +5,7 @@ ghost use Rattle.exact_num.specs.Fits.{meaning};
 ghost use Rattle.form.specs.States.{vector_of};
 ghost use Rattle.measure.specs.Points.{point_of};
 ghost use Rattle.table_run.specs.Places.{fraction_zero};
-ghost use Rattle.joint_program.specs.Reading.{add_all_owed, add_owed, liability_of, points_of, reading_of, weighty};
+ghost use Rattle.master_program.specs.Reading.{add_all_owed, add_owed, liability_of, points_of, reading_of, weighty};
 ghost use Rattle.rounds.specs.Answers.{reading_in};
 ghost use Rattle.rounds.specs.Built.{IsBuilt};
 
@@ -14,14 +14,14 @@ use crate::joint::Joint;
 use crate::master::{first_payoff, for_side};
 use cert_check::Cover;
 use exact_num::{Exact, Wide};
-use form::sums::plus_product;
+use exact_num::sums::plus_product;
 use form::{Order, State};
 use frac::Frac128;
 use measure::{Measure, Points, Weighted};
 use std::alloc::{AllocError, Global};
 
 /// The total and what the fill of an order owes at the price 0.
-#[tactic(auto, unfolding(joint_program::specs::Reading::add_owed))]
+#[tactic(auto, unfolding(master_program::specs::Reading::add_owed))]
 fn add_owed<N: Exact>(total: N, order: &Order, fill: N) -> Result<N, Wide>
     ensures { meaning N.fraction result ≡ add_owed (unsigned_abs N.LIMIT) (N.fraction total) (order.now, N.fraction fill) }
 {
@@ -43,7 +43,7 @@ fn owed<N: Exact>(orders: &[Order], fills: &[N]) -> Result<N, Wide>
 }
 
 /// What the fills owe at the price 0, and the slack.
-#[tactic(auto, unfolding(joint_program::specs::Reading::liability_of))]
+#[tactic(auto, unfolding(master_program::specs::Reading::liability_of))]
 fn liability<N: Exact>(orders: &[Order], fills: &[N], slack: N) -> Result<N, Wide>
     requires { length fills.now ≡ length orders.now }
     ensures { meaning N.fraction result ≡ liability_of (unsigned_abs N.LIMIT) orders.now (map N.fraction fills.now) (N.fraction slack) }

@@ -11,7 +11,7 @@ use Rattle.sign_tree.specs.Read.{node_of, placed_of, sign_of}
 use Rattle.sign_tree.proofs.LegLists.{none_signed, length-fraction_legs}
 use Rattle.sign_tree.proofs.Sides.{legs_are_of}
 use Rattle.exact_num.specs.Fraction.{Fraction}
-use Rattle.form.specs.Written.{WrittenNode, PlacedMultiplier}
+use Rattle.clearing_model.specs.Written.{WrittenNode, PlacedMultiplier}
 use Rattle.sign_tree.specs.Walk.{FractionLeg, walk, closes_of}
 use Rattle.sign_tree.specs.declared.closing.Left.{Left}
 use Rattle.sign_tree.specs.declared.closing.Stop.{Stop}

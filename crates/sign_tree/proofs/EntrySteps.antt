@@ -3,8 +3,8 @@ use Rattle.std.proofs.Common.{◌≡◌, ℕ, min, zero, suc, ◌+◌, ◌-◌, 
 use Rattle.std.specs.Int.{int_signum}
 use Rattle.std.specs.Prelude.{int_lt}
 use Rattle.exact_num.specs.Fraction.{Fraction}
-use Rattle.form.specs.Tree.{Sign}
-use Rattle.form.specs.Written.{PlacedMultiplier}
+use Rattle.clearing_model.specs.Tree.{Sign}
+use Rattle.clearing_model.specs.Written.{PlacedMultiplier}
 use Rattle.sign_tree.specs.Walk.{FractionLeg, entry_sum, entries_close}
 
 -- what is not above 0 has a sign that is not

@@ -11,10 +11,10 @@ use Rattle.std.proofs.lemmas.List.Kept.{AllPairs-cons}
 use Rattle.arithmetic.proofs.Sums.{All-head, All-tail}
 use Rattle.exact_num.specs.Fraction.{Fraction}
 use Rattle.exact_num.proofs.Fractions.{at_most_to}
-use Rattle.form.specs.Legs.{Exposure, Long, Short}
-use Rattle.form.specs.Tree.{Sign, Unsigned, Plus, Minus, IsAllowed, AreAllowed, IsUnsignedLong}
-use Rattle.form.specs.Written.{PlacedMultiplier, multiplier_at, multipliers_from, MayCarry, MayCarryAt, IsPlaced}
-use Rattle.form.proofs.SameOption.{and_parts}
+use Rattle.clearing_model.specs.Legs.{Exposure, Long, Short}
+use Rattle.clearing_model.specs.Tree.{Sign, Unsigned, Plus, Minus, IsAllowed, AreAllowed, IsUnsignedLong}
+use Rattle.clearing_model.specs.Written.{PlacedMultiplier, multiplier_at, multipliers_from, MayCarry, MayCarryAt, IsPlaced}
+use Rattle.std.proofs.lemmas.Bool.{and_parts}
 use Rattle.sign_tree.specs.Walk.{FractionLeg, exposures_of, is_unsigned, is_within, splits_at, carries_at, is_placed, are_placed}
 use Rattle.sign_tree.proofs.LeafSums.{amount_of, HasAmount, legs_over, LegHasAmount, MultiplierHasAmount, RiseFrom}
 

@@ -11,10 +11,10 @@ use Rattle.frac.specs.Value.{fraction_of}
 use Rattle.form.specs.declared.orders.Side.{Side}
 use Rattle.form.specs.declared.orders.Side.TheVariants.{Buy, Sell}
 use Rattle.form.specs.declared.orders.Order.{Order}
-use Rattle.form.proofs.ListSteps.{drop_map}
+use Rattle.arithmetic.proofs.Lists.{drop_map}
 use Rattle.sign_tree.specs.Read.{sign_of}
-use Rattle.form.specs.Legs.{Exposure}
-use Rattle.form.specs.Tree.{Sign, Unsigned}
+use Rattle.clearing_model.specs.Legs.{Exposure}
+use Rattle.clearing_model.specs.Tree.{Sign, Unsigned}
 use Rattle.sign_tree.specs.Walk.{exposures_of, exposure_of_order, exposure_of_side, leg_of, fraction_legs, is_unsigned, is_within, splits_at, may_split, carries_at}
 
 -- the lists of a batch have one length

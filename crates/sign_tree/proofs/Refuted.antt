@@ -10,10 +10,10 @@ use Rattle.exact_num.specs.CommonDenominator.{common_denominator, amount_over}
 use Rattle.exact_num.specs.Fits.{after}
 use Rattle.exact_num.proofs.After.{after_value}
 use Rattle.form.specs.declared.orders.Order.{Order}
-use Rattle.form.specs.Legs.{FilledLeg}
-use Rattle.form.specs.Tree.{Sign, Unsigned, Plus, Minus, IsClosed, IsClosedUnder}
-use Rattle.form.specs.Written.{WrittenNode, PlacedMultiplier, WrittenTree, Ends, Parts, nodes_of, multipliers_of, tree_over, IsFormed}
-use Rattle.form.specs.Certificate.{by_of, ClosesAsWritten}
+use Rattle.clearing_model.specs.Legs.{FilledLeg}
+use Rattle.clearing_model.specs.Tree.{Sign, Unsigned, Plus, Minus, IsClosed, IsClosedUnder}
+use Rattle.clearing_model.specs.Written.{WrittenNode, PlacedMultiplier, WrittenTree, Ends, Parts, nodes_of, multipliers_of, tree_over, IsFormed}
+use Rattle.clearing_model.specs.Certificate.{by_of, ClosesAsWritten}
 use Rattle.sign_tree.specs.Walk.{FractionLeg, fraction_legs, exposures_of, may_split, are_placed, leaf_closes, walk}
 use Rattle.sign_tree.specs.Laws.{OpenWalksCloseNoTree}
 use Rattle.sign_tree.proofs.LeafSums.{legs_over}

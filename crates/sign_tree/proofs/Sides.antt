@@ -5,8 +5,8 @@ use Rattle.exact_num.specs.Fraction.{Fraction}
 use Rattle.frac.specs.declared.bits128.Frac128.{Frac128}
 use Rattle.frac.specs.Value.{fraction_of}
 use Rattle.form.specs.declared.orders.Order.{Order}
-use Rattle.form.specs.Tree.{Sign}
-use Rattle.form.specs.Written.{WrittenNode, SplitNode, PlacedMultiplier}
+use Rattle.clearing_model.specs.Tree.{Sign}
+use Rattle.clearing_model.specs.Written.{WrittenNode, SplitNode, PlacedMultiplier}
 use Rattle.sign_tree.specs.declared.closing.Stop.{Stop}
 use Rattle.sign_tree.specs.declared.closing.Stop.TheVariants.{Open as OpenStop, Wide as WideStop}
 use Rattle.sign_tree.specs.Read.{sign_of}

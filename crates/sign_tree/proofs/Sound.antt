@@ -9,12 +9,12 @@ use Rattle.exact_num.specs.CommonDenominator.{common_denominator, amount_over}
 use Rattle.exact_num.proofs.After.{after_value}
 use Rattle.exact_num.specs.Fits.{after}
 use Rattle.form.specs.declared.orders.Order.{Order}
-use Rattle.form.specs.Legs.{FilledLeg, legs_of}
-use Rattle.form.specs.Tree.{Sign, Unsigned, Plus, Minus, IsClosed, IsClosedUnder}
-use Rattle.form.specs.Written.{WrittenNode, SplitNode, LeafNode, PlacedMultiplier, WrittenTree, Ends, Parts, nodes_of, multipliers_of, tree_over, IsWritten, IsFormed}
-use Rattle.form.specs.Certificate.{filled_over, by_of, ClosesAsWritten}
-use Rattle.form.proofs.SameOption.{and_parts}
-use Rattle.form.proofs.StepRatios.{Stands}
+use Rattle.clearing_model.specs.Legs.{FilledLeg, legs_of}
+use Rattle.clearing_model.specs.Tree.{Sign, Unsigned, Plus, Minus, IsClosed, IsClosedUnder}
+use Rattle.clearing_model.specs.Written.{WrittenNode, SplitNode, LeafNode, PlacedMultiplier, WrittenTree, Ends, Parts, nodes_of, multipliers_of, tree_over, IsWritten, IsFormed}
+use Rattle.clearing_model.specs.Certificate.{filled_over, by_of, ClosesAsWritten}
+use Rattle.std.proofs.lemmas.Bool.{and_parts}
+use Rattle.exact_num.proofs.Stands.{Stands}
 use Rattle.sign_tree.specs.Walk.{FractionLeg, fraction_legs, exposures_of, may_split, splits_at, are_placed, entries_close, leaf_closes, walk}
 use Rattle.sign_tree.specs.Laws.{WalksCloseTrees}
 use Rattle.sign_tree.proofs.LeafSums.{legs_over, LegHasAmount, then_holds, entries_within}

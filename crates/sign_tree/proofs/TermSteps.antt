@@ -7,8 +7,8 @@ use Rattle.exact_num.specs.Fits.{after, meaning}
 use Rattle.frac.specs.declared.bits128.Frac128.{Frac128}
 use Rattle.frac.specs.Value.{fraction_of}
 use Rattle.form.specs.declared.orders.Order.{Order}
-use Rattle.form.specs.Tree.{Sign}
-use Rattle.form.specs.Written.{PlacedMultiplier}
+use Rattle.clearing_model.specs.Tree.{Sign}
+use Rattle.clearing_model.specs.Written.{PlacedMultiplier}
 use Rattle.exact_num.proofs.After.{after_ok, after_err}
 use Rattle.form.proofs.Vectors.{entry_of_option}
 use Rattle.sign_tree.specs.Read.{sign_of}

@@ -4,9 +4,9 @@ use Rattle.std.specs.List.{All}
 use Rattle.exact_num.specs.Fraction.{Fraction, IsLowest}
 use Rattle.exact_num.specs.CommonDenominator.{common_denominator, amount_over}
 use Rattle.form.specs.declared.orders.Order.{Order}
-use Rattle.form.specs.Clearing.{HoldsAtEachState}
-use Rattle.form.specs.Written.{WrittenNode, PlacedMultiplier}
-use Rattle.form.specs.Certificate.{filled_over, by_of, ClosesAsWritten}
+use Rattle.clearing_model.specs.Clearing.{HoldsAtEachState}
+use Rattle.clearing_model.specs.Written.{WrittenNode, PlacedMultiplier}
+use Rattle.clearing_model.specs.Certificate.{filled_over, by_of, ClosesAsWritten}
 use Rattle.form.specs.declared.orders.Batch.{Batch}
 use Rattle.frac.specs.declared.bits128.Frac128.{Frac128}
 use Rattle.frac.specs.Value.{fraction_of}

@@ -1,8 +1,8 @@
 -- Trees, fills and signs of the code as those of the model.
 use Rattle.std.specs.Prelude.{zero, suc, ℤ, pos, negsuc}
 use Rattle.frac.specs.Value.{fraction_of}
-use Rattle.form.specs.Written.{WrittenNode, SplitNode, LeafNode, PlacedMultiplier}
-use Rattle.form.specs.Tree.{Sign, Unsigned, Plus, Minus}
+use Rattle.clearing_model.specs.Written.{WrittenNode, SplitNode, LeafNode, PlacedMultiplier}
+use Rattle.clearing_model.specs.Tree.{Sign, Unsigned, Plus, Minus}
 use Rattle.sign_tree.specs.declared.trees.Node.{Node}
 use Rattle.sign_tree.specs.declared.trees.Node.TheVariants.{Split, Leaf}
 use Rattle.sign_tree.specs.declared.trees.Multiplier.{Multiplier}

@@ -2,7 +2,7 @@
 use Rattle.std.specs.Prelude.{ℕ, ◌-◌, ◌<◌, ◌≡◌, true, false, Bool, List, [], ◌∷◌, length, map, get_or, ℤ, pos, Result, Ok, Err}
 use Rattle.exact_num.specs.declared.misfit.Wide.{Wide as Misfit}
 use Rattle.form.specs.declared.orders.Order.{Order}
-use Rattle.form.specs.Written.{WrittenNode, PlacedMultiplier}
+use Rattle.clearing_model.specs.Written.{WrittenNode, PlacedMultiplier}
 use Rattle.sign_tree.specs.declared.closing.Left.{Left}
 use Rattle.sign_tree.specs.declared.closing.Stop.{Stop}
 use Rattle.sign_tree.specs.declared.closing.Stop.TheVariants.{Open as OpenStop, Wide as WideStop}

@@ -1,7 +1,6 @@
 -- The walk over a written tree, each step with a limit. A tree is closed where the walk ends with the lists, and open where it
 -- fails before a step does not fit.
-use Rattle.std.specs.Prelude.{ℕ, zero, suc, ◌+◌, ◌-◌, ◌==◌, nat_le, nat_lt, Bool, true, false, ◌&&◌, not, if◌then◌else◌, List, [], ◌∷◌, length, map, take, drop, zip, get_or, replicate, slice_set, ℤ, pos, ◌*ℤ◌, Result, Ok}
-use Rattle.std.specs.Prelude.{int_lt, int_le}
+use Rattle.std.specs.Prelude.{ℕ, zero, suc, ◌+◌, ◌-◌, ◌==◌, nat_le, nat_lt, Bool, true, false, ◌&&◌, not, if◌then◌else◌, List, [], ◌∷◌, length, map, take, drop, zip, get_or, replicate, slice_set, ℤ, pos, ◌*ℤ◌, Result, Ok, int_lt, int_le}
 use Rattle.exact_num.specs.declared.misfit.Wide.{Wide}
 use Rattle.exact_num.specs.Fraction.{Fraction, whole}
 use Rattle.exact_num.specs.Fits.{sub_of, after}
@@ -9,10 +8,10 @@ use Rattle.form.specs.declared.orders.Side.{Side}
 use Rattle.form.specs.declared.orders.Side.TheVariants.{Buy, Sell}
 use Rattle.form.specs.declared.orders.Order.{Order}
 use Rattle.form.specs.Payoff.{option_of, positive_part}
-use Rattle.form.specs.Steps.{plus_product, less_product}
-use Rattle.form.specs.Legs.{Exposure, Long, Short}
-use Rattle.form.specs.Tree.{Sign, Unsigned, Plus, Minus}
-use Rattle.form.specs.Written.{WrittenNode, SplitNode, LeafNode, PlacedMultiplier}
+use Rattle.exact_num.specs.Steps.{plus_product, less_product}
+use Rattle.clearing_model.specs.Legs.{Exposure, Long, Short}
+use Rattle.clearing_model.specs.Tree.{Sign, Unsigned, Plus, Minus}
+use Rattle.clearing_model.specs.Written.{WrittenNode, SplitNode, LeafNode, PlacedMultiplier}
 
 -- a leg of a batch: long or short, how much of it is filled, and its option
 pub record FractionLeg : Type 0 where

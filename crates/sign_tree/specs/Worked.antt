@@ -5,8 +5,8 @@ use Rattle.exact_num.specs.declared.misfit.Operator.TheVariants.{Mul}
 use Rattle.exact_num.specs.declared.misfit.Wide.{Wide}
 use Rattle.exact_num.specs.Fraction.{Fraction, over, whole}
 use Rattle.exact_num.specs.Fits.{misfit}
-use Rattle.form.specs.Legs.{Exposure, Long, Short}
-use Rattle.form.specs.Written.{WrittenNode, SplitNode, LeafNode, PlacedMultiplier}
+use Rattle.clearing_model.specs.Legs.{Exposure, Long, Short}
+use Rattle.clearing_model.specs.Written.{WrittenNode, SplitNode, LeafNode, PlacedMultiplier}
 use Rattle.sign_tree.specs.Walk.{FractionLeg, closes_of}
 
 abbrev leg : Exposure → List ℤ → FractionLeg

@@ -5,14 +5,15 @@ use Rattle.std.proofs.lemmas.Bool.Decides.{nat_tests}
 use Rattle.exact_num.specs.declared.misfit.Wide.{Wide}
 use Rattle.table_run.specs.Table.{Table}
 use Rattle.table_run.specs.Choice.{entering}
-use Rattle.table_run.specs.Run.{misfit_at, out_of_budget, unbounded, read_off, direction, turn, moved, unlimited, stopped, run_from}
+use Rattle.table_run.specs.Ending.{wide_at, no_unit_left, unbounded}
+use Rattle.table_run.specs.Run.{read_off, direction, turn, moved, unlimited, stopped, run_from}
 
 pub run_ends : (limit n m left spent : ℕ) (t : Table) → entering t ≡ None → run_from limit n m left spent t ≡ read_off n m t spent
 unfolding run_from
 run_ends limit n m zero spent t h = rw h refl
 run_ends limit n m (suc left) spent t h = rw h refl
 
-pub run_is_out : (limit n m left spent : ℕ) (t : Table) (e : ℕ) → entering t ≡ Some e → left ≡ 0 → run_from limit n m left spent t ≡ out_of_budget spent
+pub run_is_out : (limit n m left spent : ℕ) (t : Table) (e : ℕ) → entering t ≡ Some e → left ≡ 0 → run_from limit n m left spent t ≡ no_unit_left spent
 unfolding run_from
 run_is_out limit n m zero spent t e h z = rw h refl
 run_is_out limit n m (suc left) spent t e h z = absurd (omega arith)
@@ -27,7 +28,7 @@ unfolding run_from
 run_is_unbounded limit n m zero spent t e h k p = absurd (omega arith)
 run_is_unbounded limit n m (suc left) spent t e h k p = rw (h, k) refl
 
-pub run_misfits : (limit n m left spent : ℕ) (t : Table) (e : ℕ) (w : Wide) → entering t ≡ Some e → turn limit e t ≡ stopped w → 0 < left → run_from limit n m left spent t ≡ misfit_at (spent + 1) w
+pub run_misfits : (limit n m left spent : ℕ) (t : Table) (e : ℕ) (w : Wide) → entering t ≡ Some e → turn limit e t ≡ stopped w → 0 < left → run_from limit n m left spent t ≡ wide_at (spent + 1) w
 unfolding run_from
 run_misfits limit n m zero spent t e w h k p = absurd (omega arith)
 run_misfits limit n m (suc left) spent t e w h k p = rw (h, k) refl

@@ -9,7 +9,8 @@ use Rattle.exact_num.specs.Fraction.{Fraction, IsLowest}
 use Rattle.table_run.specs.Places.{at}
 use Rattle.table_run.specs.Program.{LinearProgram}
 use Rattle.table_run.specs.Table.{Table, first_table}
-use Rattle.table_run.specs.Run.{Ending, misfit_at, run_from, run}
+use Rattle.table_run.specs.Ending.{Ending, wide_at}
+use Rattle.table_run.specs.Run.{Optimum, run_from, run}
 use Rattle.table_run.specs.Optimum.{IsProgram, IsNotBelowZero, IsAsSaid}
 use Rattle.table_run.specs.Choose.{bases_of}
 use Rattle.table_run.proofs.Optima.{ends_are_as_said}
@@ -44,15 +45,15 @@ is_program value p low a b c sign =
     }
 
 -- ---- the run from the first table is that of the program
-pub run_is : (limit : ℕ) (p : LinearProgram) (left spent : ℕ) (t : Table) (ending : Ending) → t ≡ first_table p → ending ≡ run_from limit p.variables p.rows left spent t → ending ≡ run limit p left spent
+pub run_is : (limit : ℕ) (p : LinearProgram) (left spent : ℕ) (t : Table) (ending : Ending Optimum) → t ≡ first_table p → ending ≡ run_from limit p.variables p.rows left spent t → ending ≡ run limit p left spent
 unfolding run
 run_is limit p left spent t ending first h = h ∙ ap (run_from limit p.variables p.rows left spent) first
 
 -- ---- the answers
-pub stop_answers : {A : Type 0} (value : A → Fraction) (n m spent : ℕ) (t : Table) (ending : Ending) (result : Result End RunStop) (stopped : RunStop) → result ≡ Err stopped → ending_of n m result spent t ≡ ending → ((unit : ℕ) (wide : Wide) → result ≡ Err (RunWide unit wide) → spent ≡ unit) → IsAnswer value ending (Err (stop_of stopped)) spent
+pub stop_answers : {A : Type 0} (value : A → Fraction) (n m spent : ℕ) (t : Table) (ending : Ending Optimum) (result : Result End RunStop) (stopped : RunStop) → result ≡ Err stopped → ending_of n m result spent t ≡ ending → ((unit : ℕ) (wide : Wide) → result ≡ Err (RunWide unit wide) → spent ≡ unit) → IsAnswer value ending (Err (stop_of stopped)) spent
 stop_answers value n m spent t ending result (RunWide unit wide) is_err h units =
     let at_unit = units unit wide is_err in
-    (sym h ∙ ap (λ r. ending_of n m r spent t) is_err ∙ ap (λ k. misfit_at k wide) at_unit, at_unit)
+    (sym h ∙ ap (λ r. ending_of n m r spent t) is_err ∙ ap (λ k. wide_at k wide) at_unit, at_unit)
 stop_answers value n m spent t ending result RunBudget is_err h units = sym h ∙ ap (λ r. ending_of n m r spent t) is_err
 
 pub stop_enough : (limit left before n m spent : ℕ) (p : LinearProgram) (t : Table) (result : Result End RunStop) (stopped : RunStop) → IsProgram p → result ≡ Err stopped → ending_of n m result spent t ≡ run limit p left before → stop_of stopped ≡ OutOfBudget → left < bases_of p

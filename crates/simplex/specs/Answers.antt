@@ -3,7 +3,8 @@ use Rattle.std.specs.Prelude.{◌≡◌, ℕ, map, Result, Ok, Err}
 use Rattle.exact_num.specs.Fraction.{Fraction}
 use Rattle.table_run.specs.Program.{LinearProgram}
 use Rattle.table_run.specs.Table.{Table}
-use Rattle.table_run.specs.Run.{Ending, optimal, unbounded, misfit_at, out_of_budget, read_off, direction}
+use Rattle.table_run.specs.Ending.{Ending, done, unbounded, wide_at, no_unit_left}
+use Rattle.table_run.specs.Run.{Optimum, optimum, read_off, direction}
 use Rattle.table_run.specs.Optimum.{IsOptimum, IsDirection}
 use Rattle.simplex.specs.declared.run.End.{End}
 use Rattle.simplex.specs.declared.run.End.TheVariants.{Optimal as AtOptimum, Unbounded as AtNoLimit}
@@ -15,23 +16,23 @@ use Rattle.simplex.specs.declared.stop.Stop.{Stop}
 use Rattle.simplex.specs.declared.stop.Stop.TheVariants.{Wide, Budget, Memory}
 
 -- how the run of n variables and m rows ended, with the units spent and the table at the end
-abbrev pub ending_of : ℕ → ℕ → Result End RunStop → ℕ → Table → Ending
+abbrev pub ending_of : ℕ → ℕ → Result End RunStop → ℕ → Table → Ending Optimum
 ending_of n m (Ok AtOptimum) spent t = read_off n m t spent
 ending_of n m (Ok (AtNoLimit e)) spent t = unbounded (direction n e t) spent
-ending_of n m (Err (RunWide unit wide)) spent t = misfit_at spent wide
-ending_of n m (Err RunBudget) spent t = out_of_budget spent
+ending_of n m (Err (RunWide unit wide)) spent t = wide_at spent wide
+ending_of n m (Err RunBudget) spent t = no_unit_left spent
 
 -- the end that is read off, with the units spent
-abbrev pub solved_ending : {A : Type 0} → (A → Fraction) → Solved A → ℕ → Ending
+abbrev pub solved_ending : {A : Type 0} → (A → Fraction) → Solved A → ℕ → Ending Optimum
 solved_ending value (Optimal x y reduced v) spent =
-    optimal (map value x.items) (map value y.items) (map value reduced.items) (value v) spent
+    done (optimum (map value x.items) (map value y.items) (map value reduced.items) (value v)) spent
 solved_ending value (Unbounded d) spent = unbounded (map value d.items) spent
 
 -- the answer is the end of the run, and the units are those spent; want of memory says nothing
-abbrev pub IsAnswer : {A : Type 0} → (A → Fraction) → Ending → Result (Solved A) Stop → ℕ → Type 0
+abbrev pub IsAnswer : {A : Type 0} → (A → Fraction) → Ending Optimum → Result (Solved A) Stop → ℕ → Type 0
 IsAnswer value ending (Ok solved) spent = ending ≡ solved_ending value solved spent
-IsAnswer value ending (Err (Wide unit wide)) spent = (ending ≡ misfit_at unit wide) × (spent ≡ unit)
-IsAnswer value ending (Err Budget) spent = ending ≡ out_of_budget spent
+IsAnswer value ending (Err (Wide unit wide)) spent = (ending ≡ wide_at unit wide) × (spent ≡ unit)
+IsAnswer value ending (Err Budget) spent = ending ≡ no_unit_left spent
 IsAnswer value ending (Err Memory) spent = Unit {0}
 
 -- what the answer says of the program is so

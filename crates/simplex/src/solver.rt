@@ -3,7 +3,8 @@ ghost use Rattle.std.specs.Prelude.{◌≡◌, ◌+◌, ◌-◌, ◌*◌, ◌<�
 ghost use Rattle.std.specs.List.{All};
 ghost use Rattle.table_run.specs.Choose.{bases_of};
 ghost use Rattle.table_run.specs.Optimum.{IsNotBelowZero};
-ghost use Rattle.table_run.specs.Run.{direction, read_off, run as run_of, unbounded};
+ghost use Rattle.table_run.specs.Ending.{unbounded};
+ghost use Rattle.table_run.specs.Run.{direction, read_off, run as run_of};
 ghost use Rattle.simplex.specs.Answers.{HoldsOf, IsAnswer, solved_ending};
 ghost use Rattle.simplex.specs.Programs.{as_program};
 ghost use Rattle.simplex.specs.Tables.{as_table};

@@ -3,15 +3,16 @@ use Rattle.std.proofs.Common.{ℕ, zero, suc, ◌+◌, arith}
 use Rattle.std.specs.Prelude.{Option, Some, None}
 use Rattle.table_run.specs.Table.{Table, first_table}
 use Rattle.table_run.specs.Choice.{entering}
-use Rattle.table_run.specs.Run.{Ending, optimal, unbounded, misfit_at, out_of_budget, Turn, moved, unlimited, stopped, turn, on_entering, on_turn, read_off, direction, run_from, run}
+use Rattle.table_run.specs.Ending.{Ending, done, unbounded, wide_at, no_unit_left}
+use Rattle.table_run.specs.Run.{Optimum, optimum, Turn, moved, unlimited, stopped, turn, on_entering, on_turn, read_off, direction, run_from, run}
 use Rattle.table_run.specs.Units.{IsCounted, UnitsAreCounted}
 
 -- an end counted after one more unit
-more : (left spent : ℕ) (e : Ending) → IsCounted left (spent + 1) e → IsCounted (suc left) spent e
-more left spent (optimal x y reduced value units) h = (omega (arith, h.0), omega (arith, h.1))
+more : (left spent : ℕ) (e : Ending Optimum) → IsCounted left (spent + 1) e → IsCounted (suc left) spent e
+more left spent (done (optimum x y reduced value) units) h = (omega (arith, h.0), omega (arith, h.1))
 more left spent (unbounded d units) h = (omega (arith, h.0), omega (arith, h.1))
-more left spent (misfit_at units wide) h = (omega (arith, h.0), omega (arith, h.1))
-more left spent (out_of_budget units) h = omega (arith, h)
+more left spent (wide_at units wide) h = (omega (arith, h.0), omega (arith, h.1))
+more left spent (no_unit_left units) h = omega (arith, h)
 
 read_counted : (left n m : ℕ) (t : Table) (spent : ℕ) → IsCounted left spent (read_off n m t spent)
 unfolding read_off
@@ -21,19 +22,19 @@ counted : (limit n m left spent : ℕ) (t : Table) → IsCounted left spent (run
 unfolding run_from
 counted limit n m zero spent t = step (entering t)
   where
-    step : (o : Option ℕ) → IsCounted 0 spent (on_entering o (read_off n m t spent) (λ e. out_of_budget spent))
+    step : (o : Option ℕ) → IsCounted 0 spent (on_entering o (read_off n m t spent) (λ e. no_unit_left spent))
     step None = read_counted 0 n m t spent
     step (Some e) = omega arith
 counted limit n m (suc left) spent t = step (entering t) (λ u. counted limit n m left (spent + 1) u)
   where
     act : (e : ℕ) (w : Turn) → ((u : Table) → IsCounted left (spent + 1) (run_from limit n m left (spent + 1) u))
-        → IsCounted (suc left) spent (on_turn w (λ next. run_from limit n m left (spent + 1) next) (unbounded (direction n e t) (spent + 1)) (λ w. misfit_at (spent + 1) w))
+        → IsCounted (suc left) spent (on_turn w (λ next. run_from limit n m left (spent + 1) next) (unbounded (direction n e t) (spent + 1)) (λ w. wide_at (spent + 1) w))
     act e (moved u) later = more left spent (run_from limit n m left (spent + 1) u) (later u)
     act e unlimited later = (omega arith, omega arith)
     act e (stopped w) later = (omega arith, omega arith)
 
     step : (o : Option ℕ) → ((u : Table) → IsCounted left (spent + 1) (run_from limit n m left (spent + 1) u))
-        → IsCounted (suc left) spent (on_entering o (read_off n m t spent) (λ e. on_turn (turn limit e t) (λ next. run_from limit n m left (spent + 1) next) (unbounded (direction n e t) (spent + 1)) (λ w. misfit_at (spent + 1) w)))
+        → IsCounted (suc left) spent (on_entering o (read_off n m t spent) (λ e. on_turn (turn limit e t) (λ next. run_from limit n m left (spent + 1) next) (unbounded (direction n e t) (spent + 1)) (λ w. wide_at (spent + 1) w)))
     step None later = read_counted (suc left) n m t spent
     step (Some e) later = act e (turn limit e t) later
 

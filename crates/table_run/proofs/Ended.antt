@@ -8,12 +8,14 @@ use Rattle.exact_num.specs.Fits.{size_fits, sum_fits, sum_value, add_of, sub_of,
 use Rattle.table_run.specs.Places.{at}
 use Rattle.table_run.specs.Program.{LinearProgram}
 use Rattle.table_run.specs.Table.{Row, Table, entries_at, first_table, right_side, row_of}
-use Rattle.table_run.specs.Choice.{entering, ratio_in, ratios, least, is_above_zero, joined}
+use Rattle.table_run.specs.Choice.{entering, ratio_in, ratios, least, joined}
+use Rattle.exact_num.specs.Tests.{is_above_zero}
 use Rattle.table_run.specs.Pivot.{each, each_pair, divided, less_product, cleared, row_after, rows_after, pivoted}
-use Rattle.table_run.specs.Run.{Ending, optimal, unbounded, misfit_at, out_of_budget, Turn, moved, unlimited, stopped, turn, run, run_from, on_entering, on_turn, read_off, direction}
+use Rattle.table_run.specs.Ending.{Ending, done, unbounded, wide_at, no_unit_left, HasNoMisfit}
+use Rattle.table_run.specs.Run.{Optimum, optimum, Turn, moved, unlimited, stopped, turn, run, run_from, on_entering, on_turn, read_off, direction}
 use Rattle.table_run.specs.Optimum.{IsProgram}
 use Rattle.table_run.specs.Choose.{choose}
-use Rattle.table_run.specs.Limits.{IsFound, IsWithoutMisfit, RunsEnd}
+use Rattle.table_run.specs.Limits.{IsFound, RunsEnd}
 use Rattle.table_run.proofs.Suffice.{units_suffice}
 
 -- f answers Ok with some limit, and then with each greater one
@@ -146,37 +148,37 @@ turn_fits e t = step (ratios_fits t.columns e 0 t.rows)
         (l + v.0, moved v.1, tt, λ l' low. let p = h l' (omega (arith, low)) in let r = v.2 l' (omega (arith, low)) in rw (p, r) refl)
 
 -- ---- the run
-read_fits : (n m spent : ℕ) (t : Table) → IsWithoutMisfit (read_off n m t spent)
+read_fits : (n m spent : ℕ) (t : Table) → HasNoMisfit (read_off n m t spent)
 unfolding read_off
 read_fits n m spent t = tt
 
-run_fits : (n m left spent : ℕ) (t : Table) → (l : ℕ) × ((l' : ℕ) → l ≤ l' → IsWithoutMisfit (run_from l' n m left spent t))
+run_fits : (n m left spent : ℕ) (t : Table) → (l : ℕ) × ((l' : ℕ) → l ≤ l' → HasNoMisfit (run_from l' n m left spent t))
 unfolding run_from
 run_fits n m zero spent t = (0, λ l' low. step (entering t))
   where
-    step : (o : Option ℕ) → IsWithoutMisfit (on_entering o (read_off n m t spent) (λ e. out_of_budget spent))
+    step : (o : Option ℕ) → HasNoMisfit (on_entering o (read_off n m t spent) (λ e. no_unit_left spent))
     step None = read_fits n m spent t
     step (Some e) = tt
 run_fits n m (suc left) spent t = step (entering t) (λ u. run_fits n m left (spent + 1) u)
   where
-    act : (e : ℕ) → ((u : Table) → (l : ℕ) × ((l' : ℕ) → l ≤ l' → IsWithoutMisfit (run_from l' n m left (spent + 1) u))) → (l : ℕ) (w : Turn) → Goes w → ((l' : ℕ) → l ≤ l' → turn l' e t ≡ w)
-        → (l : ℕ) × ((l' : ℕ) → l ≤ l' → IsWithoutMisfit (on_turn (turn l' e t) (λ next. run_from l' n m left (spent + 1) next) (unbounded (direction n e t) (spent + 1)) (λ w. misfit_at (spent + 1) w)))
+    act : (e : ℕ) → ((u : Table) → (l : ℕ) × ((l' : ℕ) → l ≤ l' → HasNoMisfit (run_from l' n m left (spent + 1) u))) → (l : ℕ) (w : Turn) → Goes w → ((l' : ℕ) → l ≤ l' → turn l' e t ≡ w)
+        → (l : ℕ) × ((l' : ℕ) → l ≤ l' → HasNoMisfit (on_turn (turn l' e t) (λ next. run_from l' n m left (spent + 1) next) (unbounded (direction n e t) (spent + 1)) (λ w. wide_at (spent + 1) w)))
     act e later l (moved u) goes h = let v = later u in (l + v.0, λ l' low. let p = h l' (omega (arith, low)) in rw p (v.1 l' (omega (arith, low))))
     act e later l unlimited goes h = (l, λ l' low. let p = h l' low in rw p tt)
     act e later l (stopped w) goes h = absurd goes
 
-    step : (o : Option ℕ) → ((u : Table) → (l : ℕ) × ((l' : ℕ) → l ≤ l' → IsWithoutMisfit (run_from l' n m left (spent + 1) u)))
-        → (l : ℕ) × ((l' : ℕ) → l ≤ l' → IsWithoutMisfit (on_entering o (read_off n m t spent) (λ e. on_turn (turn l' e t) (λ next. run_from l' n m left (spent + 1) next) (unbounded (direction n e t) (spent + 1)) (λ w. misfit_at (spent + 1) w))))
+    step : (o : Option ℕ) → ((u : Table) → (l : ℕ) × ((l' : ℕ) → l ≤ l' → HasNoMisfit (run_from l' n m left (spent + 1) u)))
+        → (l : ℕ) × ((l' : ℕ) → l ≤ l' → HasNoMisfit (on_entering o (read_off n m t spent) (λ e. on_turn (turn l' e t) (λ next. run_from l' n m left (spent + 1) next) (unbounded (direction n e t) (spent + 1)) (λ w. wide_at (spent + 1) w))))
     step None later = (0, λ l' low. read_fits n m spent t)
     step (Some e) later = let v = turn_fits e t in act e later v.0 v.1 v.2 v.3
 
-found : (limit : ℕ) (p : LinearProgram) (w : Ending) → IsProgram p → run limit p (choose (p.variables + p.rows) p.rows) 0 ≡ w → IsWithoutMisfit w → IsFound w
-found limit p (optimal x y reduced value units) g h k = tt
+found : (limit : ℕ) (p : LinearProgram) (w : Ending Optimum) → IsProgram p → run limit p (choose (p.variables + p.rows) p.rows) 0 ≡ w → HasNoMisfit w → IsFound w
+found limit p (done (optimum x y reduced value) units) g h k = tt
 found limit p (unbounded d units) g h k = tt
-found limit p (misfit_at units wide) g h k = k
-found limit p (out_of_budget units) g h k = let few = units_suffice limit p (choose (p.variables + p.rows) p.rows) 0 units g h in absurd (omega (arith, few))
+found limit p (wide_at units wide) g h k = k
+found limit p (no_unit_left units) g h k = let few = units_suffice limit p (choose (p.variables + p.rows) p.rows) 0 units g h in absurd (omega (arith, few))
 
-no_misfit : (limit : ℕ) (p : LinearProgram) (left : ℕ) → IsWithoutMisfit (run_from limit p.variables p.rows left 0 (first_table p)) → IsWithoutMisfit (run limit p left 0)
+no_misfit : (limit : ℕ) (p : LinearProgram) (left : ℕ) → HasNoMisfit (run_from limit p.variables p.rows left 0 (first_table p)) → HasNoMisfit (run limit p left 0)
 unfolding run
 no_misfit limit p left h = h
 

@@ -8,36 +8,38 @@ use Rattle.std.proofs.lemmas.Bool.Decides.{nat_tests}
 use Rattle.exact_num.specs.declared.misfit.Wide.{Wide}
 use Rattle.exact_num.specs.Fraction.{Fraction, IsLowest, whole}
 use Rattle.exact_num.proofs.Values.{whole_is_lowest}
-use Rattle.exact_num.proofs.Rationals.{Q, ◌+Q◌, ◌*Q◌, value, value_zero, add_0, zero_add_Q, zero_mul_Q, one_mul_Q, one_not_zero}
-use Rattle.exact_num.proofs.Totals.{total, total-zero, total-front, unit, unit-same, unit-other}
+use Rattle.exact_num.proofs.Rationals.{value_zero, add_0, zero_add_Q, zero_mul_Q, one_mul_Q, one_not_zero}
+use Rattle.exact_num.specs.Rationals.{Q, ◌+Q◌, ◌*Q◌, value, total, unit}
+use Rattle.exact_num.proofs.Totals.{total-zero, total-front, unit-same, unit-other}
 use Rattle.table_run.specs.Places.{at, listed}
 use Rattle.table_run.specs.Table.{Row, Table, entries_at, where_basic, basic_at}
 use Rattle.table_run.specs.Choice.{entering}
-use Rattle.table_run.specs.Run.{Ending, unbounded, misfit_at, out_of_budget, Turn, moved, unlimited, stopped, turn, on_turn, on_entering, run_from, read_off, direction}
-use Rattle.table_run.proofs.Pivot.{Tab, IsGood}
+use Rattle.table_run.specs.Ending.{Ending, unbounded, wide_at, no_unit_left}
+use Rattle.table_run.specs.Run.{Optimum, Turn, moved, unlimited, stopped, turn, on_turn, on_entering, run_from, read_off, direction}
+use Rattle.table_run.specs.Tableau.{Tableau, IsFeasible}
 
 -- ---- a property of tables that each turn keeps, and what it makes of the end
-pub run_keeps : (P : Table → Type 0) (E : Ending → Type 0) (limit n m : ℕ)
+pub run_keeps : (P : Table → Type 0) (E : Ending Optimum → Type 0) (limit n m : ℕ)
     → ((t u : Table) (e : ℕ) → P t → entering t ≡ Some e → turn limit e t ≡ moved u → P u)
     → ((t : Table) (spent : ℕ) → P t → entering t ≡ None → E (read_off n m t spent))
     → ((t : Table) (e spent : ℕ) → P t → entering t ≡ Some e → turn limit e t ≡ unlimited → E (unbounded (direction n e t) spent))
-    → ((spent : ℕ) (w : Wide) → E (misfit_at spent w))
-    → ((spent : ℕ) → E (out_of_budget spent))
+    → ((spent : ℕ) (w : Wide) → E (wide_at spent w))
+    → ((spent : ℕ) → E (no_unit_left spent))
     → (left spent : ℕ) (t : Table) → P t → E (run_from limit n m left spent t)
 unfolding run_from
 run_keeps P E limit n m kept ends rays stops outs zero spent t p = step (entering t) refl
   where
-    step : (o : Option ℕ) → entering t ≡ o → E (on_entering o (read_off n m t spent) (λ e. out_of_budget spent))
+    step : (o : Option ℕ) → entering t ≡ o → E (on_entering o (read_off n m t spent) (λ e. no_unit_left spent))
     step None h = ends t spent p h
     step (Some e) h = outs spent
 run_keeps P E limit n m kept ends rays stops outs (suc left) spent t p = step (entering t) refl (λ u q. run_keeps P E limit n m kept ends rays stops outs left (spent + 1) u q)
   where
-    act : (e : ℕ) → entering t ≡ Some e → ((u : Table) → P u → E (run_from limit n m left (spent + 1) u)) → (w : Turn) → turn limit e t ≡ w → E (on_turn w (λ next. run_from limit n m left (spent + 1) next) (unbounded (direction n e t) (spent + 1)) (λ w. misfit_at (spent + 1) w))
+    act : (e : ℕ) → entering t ≡ Some e → ((u : Table) → P u → E (run_from limit n m left (spent + 1) u)) → (w : Turn) → turn limit e t ≡ w → E (on_turn w (λ next. run_from limit n m left (spent + 1) next) (unbounded (direction n e t) (spent + 1)) (λ w. wide_at (spent + 1) w))
     act e h later (moved u) k = later u (kept t u e p h k)
     act e h later unlimited k = rays t e (spent + 1) p h k
     act e h later (stopped w) k = stops (spent + 1) w
 
-    step : (o : Option ℕ) → entering t ≡ o → ((u : Table) → P u → E (run_from limit n m left (spent + 1) u)) → E (on_entering o (read_off n m t spent) (λ e. on_turn (turn limit e t) (λ next. run_from limit n m left (spent + 1) next) (unbounded (direction n e t) (spent + 1)) (λ w. misfit_at (spent + 1) w)))
+    step : (o : Option ℕ) → entering t ≡ o → ((u : Table) → P u → E (run_from limit n m left (spent + 1) u)) → E (on_entering o (read_off n m t spent) (λ e. on_turn (turn limit e t) (λ next. run_from limit n m left (spent + 1) next) (unbounded (direction n e t) (spent + 1)) (λ w. wide_at (spent + 1) w)))
     step None h later = ends t spent p h
     step (Some e) h later = act e h later (turn limit e t) refl
 
@@ -97,7 +99,7 @@ where_basic_is f v j (row ∷ rows) h apart =
         later ∙ sym (zero_add_Q _) ∙ ap (λ w. w +Q total (length rows) (λ i. unit (basic_at rows i) j *Q v (suc i))) (sym (ap (λ w. w *Q v 0) (unit-other row.basic j ne) ∙ zero_mul_Q (v 0)))
 
 -- the basic variables of a good table differ
-pub apart_of_good : (m n : ℕ) (T : Tab) → IsGood m n T → (i k : ℕ) → i < m → k < m → T.basic i ≡ T.basic k → i ≡ k
+pub apart_of_good : (m n : ℕ) (T : Tableau) → IsFeasible m n T → (i k : ℕ) → i < m → k < m → T.basic i ≡ T.basic k → i ≡ k
 apart_of_good m n T g i k p q e =
     elim (ℕ_discrete i k) [
       | yes same ↦ same

@@ -1,41 +1,41 @@
 -- As many units as there are ways to choose the basic variables are enough.
-use Rattle.std.proofs.Common.{◌≡◌, ℕ, zero, suc, ◌+◌, ◌<◌, ◌≤◌, arith, refl, sym, ◌∙◌, ap, subst, true}
+use Rattle.std.proofs.Common.{◌≡◌, ℕ, zero, suc, ◌+◌, ◌<◌, ◌≤◌, arith, refl, sym, ◌∙◌, ap, subst, true, inl, inr}
 use Rattle.std.specs.Prelude.{Option, Some, None}
 use Rattle.std.proofs.Math.Decide.{ℕ_discrete}
 use Rattle.std.proofs.lemmas.Bool.{cases_lt}
-use Rattle.std.proofs.Common.{inl, inr}
 use Rattle.table_run.specs.Program.{LinearProgram}
 use Rattle.table_run.specs.Table.{Table, first_table, basic_at}
 use Rattle.table_run.specs.Choice.{entering}
-use Rattle.table_run.specs.Run.{Turn, moved, unlimited, stopped, turn, run, run_from, read_off, out_of_budget, on_entering, on_turn, unbounded, direction, misfit_at}
+use Rattle.table_run.specs.Ending.{no_unit_left, unbounded, wide_at}
+use Rattle.table_run.specs.Run.{Turn, moved, unlimited, stopped, turn, run, run_from, read_off, on_entering, on_turn, direction}
 use Rattle.table_run.specs.Optimum.{IsProgram}
 use Rattle.table_run.specs.Turns.{table_after, HaveSameBasics}
 use Rattle.table_run.specs.Choose.{choose, UnitsSuffice}
-use Rattle.table_run.proofs.Entries.{tab_of}
+use Rattle.table_run.specs.Tableau.{tableau_of}
 use Rattle.table_run.proofs.Ends.{apart_of_good}
 use Rattle.table_run.proofs.Optima.{Keeps}
 use Rattle.table_run.proofs.Tables.{tables_keep, tables, tables_are, contains_in, in_contains, basics_differ_at, after_suc}
 use Rattle.table_run.proofs.Counting.{count, rank, rank_below, rank_tells, among, among_is, among_out, count_among, pigeons}
 
 -- ---- the tables of a run that ends for want of units
-no_optimum : (n m : ℕ) (t : Table) (spent u : ℕ) → read_off n m t spent ≡ out_of_budget u → ⊥
+no_optimum : (n m : ℕ) (t : Table) (spent u : ℕ) → read_off n m t spent ≡ no_unit_left u → ⊥
 unfolding read_off
 no_optimum n m t spent u h = cc
 
 next_is : (limit : ℕ) (p : LinearProgram) (k e : ℕ) (t v : Table) → table_after limit p k ≡ Some t → entering t ≡ Some e → turn limit e t ≡ moved v → table_after limit p (suc k) ≡ Some v
 next_is limit p k e t v here enters step = sym (after_suc limit p k) ∙ rw (here, enters, step) refl
 
-budget_out : (limit : ℕ) (p : LinearProgram) (left spent k : ℕ) (t : Table) (u : ℕ) → table_after limit p k ≡ Some t → run_from limit p.variables p.rows left spent t ≡ out_of_budget u → (v : Table) × (table_after limit p (k + left) ≡ Some v)
+budget_out : (limit : ℕ) (p : LinearProgram) (left spent k : ℕ) (t : Table) (u : ℕ) → table_after limit p k ≡ Some t → run_from limit p.variables p.rows left spent t ≡ no_unit_left u → (v : Table) × (table_after limit p (k + left) ≡ Some v)
 unfolding run_from
 budget_out limit p zero spent k t u here h = let e : k + 0 ≡ k = omega arith in (t, ap (table_after limit p) e ∙ here)
 budget_out limit p (suc left) spent k t u here h = step (entering t) refl h (λ v there goes. budget_out limit p left (spent + 1) (suc k) v u there goes)
   where
-    act : (e : ℕ) → entering t ≡ Some e → (w : Turn) → turn limit e t ≡ w → on_turn w (λ next. run_from limit p.variables p.rows left (spent + 1) next) (unbounded (direction p.variables e t) (spent + 1)) (λ w. misfit_at (spent + 1) w) ≡ out_of_budget u → (v : Table) × (table_after limit p (suc k) ≡ Some v) × (run_from limit p.variables p.rows left (spent + 1) v ≡ out_of_budget u)
+    act : (e : ℕ) → entering t ≡ Some e → (w : Turn) → turn limit e t ≡ w → on_turn w (λ next. run_from limit p.variables p.rows left (spent + 1) next) (unbounded (direction p.variables e t) (spent + 1)) (λ w. wide_at (spent + 1) w) ≡ no_unit_left u → (v : Table) × (table_after limit p (suc k) ≡ Some v) × (run_from limit p.variables p.rows left (spent + 1) v ≡ no_unit_left u)
     act e enters (moved v) turns goes = (v, next_is limit p k e t v here enters turns, goes)
     act e enters unlimited turns goes = cc
     act e enters (stopped w) turns goes = cc
 
-    step : (o : Option ℕ) → entering t ≡ o → on_entering o (read_off p.variables p.rows t spent) (λ e. on_turn (turn limit e t) (λ next. run_from limit p.variables p.rows left (spent + 1) next) (unbounded (direction p.variables e t) (spent + 1)) (λ w. misfit_at (spent + 1) w)) ≡ out_of_budget u → ((v : Table) → table_after limit p (suc k) ≡ Some v → run_from limit p.variables p.rows left (spent + 1) v ≡ out_of_budget u → (z : Table) × (table_after limit p (suc k + left) ≡ Some z)) → (v : Table) × (table_after limit p (k + suc left) ≡ Some v)
+    step : (o : Option ℕ) → entering t ≡ o → on_entering o (read_off p.variables p.rows t spent) (λ e. on_turn (turn limit e t) (λ next. run_from limit p.variables p.rows left (spent + 1) next) (unbounded (direction p.variables e t) (spent + 1)) (λ w. wide_at (spent + 1) w)) ≡ no_unit_left u → ((v : Table) → table_after limit p (suc k) ≡ Some v → run_from limit p.variables p.rows left (spent + 1) v ≡ no_unit_left u → (z : Table) × (table_after limit p (suc k + left) ≡ Some z)) → (v : Table) × (table_after limit p (k + suc left) ≡ Some v)
     step None enters goes later = absurd (no_optimum p.variables p.rows t spent u goes)
     step (Some e) enters goes later =
         let w = act e enters (turn limit e t) refl goes in
@@ -48,7 +48,7 @@ key : (p : LinearProgram) → Table → ℕ
 key p t = rank (p.variables + p.rows) (among p.rows (basic_at t.rows)) p.rows
 
 counted : (p : LinearProgram) (t : Table) → Keeps p t → count (p.variables + p.rows) (among p.rows (basic_at t.rows)) ≡ p.rows
-counted p t k = count_among (p.variables + p.rows) p.rows (basic_at t.rows) k.good.inside (apart_of_good p.rows (p.variables + p.rows) (tab_of t) k.good)
+counted p t k = count_among (p.variables + p.rows) p.rows (basic_at t.rows) k.good.inside (apart_of_good p.rows (p.variables + p.rows) (tableau_of t) k.good)
 
 key_below : (p : LinearProgram) (t : Table) → Keeps p t → key p t < choose (p.variables + p.rows) p.rows
 unfolding key

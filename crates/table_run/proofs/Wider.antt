@@ -8,10 +8,12 @@ use Rattle.exact_num.specs.Fits.{size_fits, sum_fits, sum_value, add_of, sub_of,
 use Rattle.table_run.specs.Places.{at}
 use Rattle.table_run.specs.Program.{LinearProgram}
 use Rattle.table_run.specs.Table.{Row, Table, entries_at, first_table, right_side, row_of}
-use Rattle.table_run.specs.Choice.{Ratio, entering, ratio_in, ratios, least, is_above_zero, joined}
+use Rattle.table_run.specs.Choice.{Ratio, entering, ratio_in, ratios, least, joined}
+use Rattle.exact_num.specs.Tests.{is_above_zero}
 use Rattle.table_run.specs.Pivot.{each, each_pair, divided, less_product, cleared, row_after, rows_after, pivoted}
-use Rattle.table_run.specs.Run.{Ending, unbounded, misfit_at, Turn, moved, unlimited, stopped, turn, on_entering, on_turn, read_off, direction, run_from, run}
-use Rattle.table_run.specs.Limits.{IsWithoutMisfit, SameWithGreaterLimit}
+use Rattle.table_run.specs.Ending.{Ending, unbounded, wide_at, HasNoMisfit}
+use Rattle.table_run.specs.Run.{Optimum, Turn, moved, unlimited, stopped, turn, on_entering, on_turn, read_off, direction, run_from, run}
+use Rattle.table_run.specs.Limits.{SameWithGreaterLimit}
 use Rattle.table_run.specs.Turns.{table_after, BasicsDiffer}
 use Rattle.exact_num.proofs.After.{after_value, after_more}
 use Rattle.exact_num.proofs.GreaterLimit.{add_more, mul_more, div_more}
@@ -98,25 +100,25 @@ unfolding turn
 unlimited_more l l' e t h k = let f = ratios_more l l' t.columns e 0 t.rows [] h (unlimited_out l e t k) in rw f refl
 
 -- ---- the run
-run_more : (l l' n m left spent : ℕ) (t : Table) → l ≤ l' → IsWithoutMisfit (run_from l n m left spent t) → run_from l' n m left spent t ≡ run_from l n m left spent t
+run_more : (l l' n m left spent : ℕ) (t : Table) → l ≤ l' → HasNoMisfit (run_from l n m left spent t) → run_from l' n m left spent t ≡ run_from l n m left spent t
 unfolding run_from
 run_more l l' n m zero spent t h k = refl
 run_more l l' n m (suc left) spent t h k = step (entering t) k (λ u. run_more l l' n m left (spent + 1) u h)
   where
-    go : ℕ → Table → Ending
+    go : ℕ → Table → Ending Optimum
     go limit next = run_from limit n m left (spent + 1) next
 
-    act : (e : ℕ) (w : Turn) → turn l e t ≡ w → IsWithoutMisfit (on_turn w (go l) (unbounded (direction n e t) (spent + 1)) (λ w. misfit_at (spent + 1) w))
-        → ((u : Table) → IsWithoutMisfit (go l u) → go l' u ≡ go l u)
-        → on_turn (turn l' e t) (go l') (unbounded (direction n e t) (spent + 1)) (λ w. misfit_at (spent + 1) w) ≡ on_turn w (go l) (unbounded (direction n e t) (spent + 1)) (λ w. misfit_at (spent + 1) w)
+    act : (e : ℕ) (w : Turn) → turn l e t ≡ w → HasNoMisfit (on_turn w (go l) (unbounded (direction n e t) (spent + 1)) (λ w. wide_at (spent + 1) w))
+        → ((u : Table) → HasNoMisfit (go l u) → go l' u ≡ go l u)
+        → on_turn (turn l' e t) (go l') (unbounded (direction n e t) (spent + 1)) (λ w. wide_at (spent + 1) w) ≡ on_turn w (go l) (unbounded (direction n e t) (spent + 1)) (λ w. wide_at (spent + 1) w)
     act e (moved u) f k later = let g = turn_more l l' e t u h f in rw g (later u k)
     act e unlimited f k later = let g = unlimited_more l l' e t h f in rw g refl
     act e (stopped w) f k later = absurd k
 
-    step : (o : Option ℕ) → IsWithoutMisfit (on_entering o (read_off n m t spent) (λ e. on_turn (turn l e t) (go l) (unbounded (direction n e t) (spent + 1)) (λ w. misfit_at (spent + 1) w)))
-        → ((u : Table) → IsWithoutMisfit (go l u) → go l' u ≡ go l u)
-        → on_entering o (read_off n m t spent) (λ e. on_turn (turn l' e t) (go l') (unbounded (direction n e t) (spent + 1)) (λ w. misfit_at (spent + 1) w))
-        ≡ on_entering o (read_off n m t spent) (λ e. on_turn (turn l e t) (go l) (unbounded (direction n e t) (spent + 1)) (λ w. misfit_at (spent + 1) w))
+    step : (o : Option ℕ) → HasNoMisfit (on_entering o (read_off n m t spent) (λ e. on_turn (turn l e t) (go l) (unbounded (direction n e t) (spent + 1)) (λ w. wide_at (spent + 1) w)))
+        → ((u : Table) → HasNoMisfit (go l u) → go l' u ≡ go l u)
+        → on_entering o (read_off n m t spent) (λ e. on_turn (turn l' e t) (go l') (unbounded (direction n e t) (spent + 1)) (λ w. wide_at (spent + 1) w))
+        ≡ on_entering o (read_off n m t spent) (λ e. on_turn (turn l e t) (go l) (unbounded (direction n e t) (spent + 1)) (λ w. wide_at (spent + 1) w))
     step None k later = refl
     step (Some e) k later = act e (turn l e t) refl k later
 

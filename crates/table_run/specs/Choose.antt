@@ -1,7 +1,8 @@
 -- How many units are enough: as many as there are ways to choose the basic variables.
 use Rattle.std.specs.Prelude.{◌≡◌, ℕ, zero, suc, ◌+◌, ◌<◌}
 use Rattle.table_run.specs.Program.{LinearProgram}
-use Rattle.table_run.specs.Run.{run, out_of_budget}
+use Rattle.table_run.specs.Ending.{no_unit_left}
+use Rattle.table_run.specs.Run.{run}
 use Rattle.table_run.specs.Optimum.{IsProgram}
 
 -- the number of ways to choose k of n things
@@ -18,4 +19,4 @@ bases_of p = choose (p.variables + p.rows) p.rows
 abbrev pub UnitsSuffice : Type 0
 UnitsSuffice =
     (limit : ℕ) (p : LinearProgram) (left spent units : ℕ) → IsProgram p
-    → run limit p left spent ≡ out_of_budget units → left < bases_of p
+    → run limit p left spent ≡ no_unit_left units → left < bases_of p

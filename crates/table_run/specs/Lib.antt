@@ -3,10 +3,12 @@ pub mod Program
 pub mod Table
 pub mod Choice
 pub mod Pivot
+pub mod Ending
 pub mod Run
 pub mod Units
 pub mod Optimum
 pub mod Turns
+pub mod Tableau
 pub mod Choose
 pub mod Limits
 pub mod Worked

@@ -3,7 +3,8 @@ use Rattle.std.specs.Prelude.{◌≡◌, ℕ, ◌*◌, ◌<◌, List, length, po
 use Rattle.exact_num.specs.Fraction.{Fraction, IsLowest, IsSameValue, AtMost, negated, plain_sum, plain_dot}
 use Rattle.table_run.specs.Places.{at, fraction_zero}
 use Rattle.table_run.specs.Program.{LinearProgram, row, column}
-use Rattle.table_run.specs.Run.{Ending, run, optimal, unbounded, misfit_at, out_of_budget}
+use Rattle.table_run.specs.Ending.{Ending, done, unbounded, wide_at, no_unit_left}
+use Rattle.table_run.specs.Run.{Optimum, run, optimum}
 
 abbrev pub IsNotBelowZero : Fraction → Type 0
 IsNotBelowZero x = pos 0 ≤ℤ x.numerator
@@ -44,11 +45,11 @@ pub record IsDirection (p : LinearProgram) (d : List Fraction) : Type 0 where
   pub earns : pos 0 <ℤ (plain_dot p.costs d).numerator
 
 -- the end is what it says of the program
-abbrev pub IsAsSaid : LinearProgram → Ending → Type 0
-IsAsSaid p (optimal x y reduced value units) = IsOptimum p x y reduced value
+abbrev pub IsAsSaid : LinearProgram → Ending Optimum → Type 0
+IsAsSaid p (done (optimum x y reduced value) units) = IsOptimum p x y reduced value
 IsAsSaid p (unbounded d units) = IsDirection p d
-IsAsSaid p (misfit_at units wide) = Unit {0}
-IsAsSaid p (out_of_budget units) = Unit {0}
+IsAsSaid p (wide_at units wide) = Unit {0}
+IsAsSaid p (no_unit_left units) = Unit {0}
 
 -- each run ends as it says
 abbrev pub EndsAreAsSaid : Type 0

@@ -2,18 +2,16 @@
 use Rattle.std.specs.Prelude.{ℕ, zero, suc, ◌+◌, List, [], ◌∷◌, take, drop, pos, if◌then◌else◌, nat_eq, Option, Some, None, Result, Ok, Err}
 use Rattle.exact_num.specs.declared.misfit.Wide.{Wide}
 use Rattle.exact_num.specs.Fraction.{Fraction, whole, negated}
+use Rattle.table_run.specs.Ending.{Ending, done, unbounded, wide_at, no_unit_left}
 use Rattle.table_run.specs.Places.{at, listed}
 use Rattle.table_run.specs.Program.{LinearProgram}
 use Rattle.table_run.specs.Table.{Table, right_side, where_basic, first_table, unit_row, rows_from}
 use Rattle.table_run.specs.Choice.{Ratio, entering, ratios, least, first_below, ratio_in}
 use Rattle.table_run.specs.Pivot.{pivoted, each, each_pair, divided, cleared, rows_after}
 
--- how a run ends, with the units spent
-pub data Ending : Type 0 where
-  optimal : (x y reduced : List Fraction) (value : Fraction) (spent : ℕ) → Ending
-  unbounded : (direction : List Fraction) (spent : ℕ) → Ending
-  misfit_at : (spent : ℕ) (wide : Wide) → Ending
-  out_of_budget : (spent : ℕ) → Ending
+-- what an optimum tells: the solution, the dual values, the reduced costs and the value
+pub data Optimum : Type 0 where
+  optimum : (x y reduced : List Fraction) (value : Fraction) → Optimum
 
 -- ---- what is read off at the end, of n variables and m rows
 -- the right side of the row where a variable is basic, and 0 for the others
@@ -30,8 +28,8 @@ reduced_costs n t = take n t.objective
 abbrev pub value_of : Table → Fraction
 value_of t = right_side t.columns t.objective
 
-unfoldable pub read_off : ℕ → ℕ → Table → ℕ → Ending
-read_off n m t spent = optimal (solution n t) (dual n m t) (reduced_costs n t) (value_of t) spent
+unfoldable pub read_off : ℕ → ℕ → Table → ℕ → Ending Optimum
+read_off n m t spent = done (optimum (solution n t) (dual n m t) (reduced_costs n t) (value_of t)) spent
 
 -- 1 at the entering column, and what its row then asks of each basic variable
 unfoldable pub direction : ℕ → ℕ → Table → List Fraction
@@ -63,28 +61,28 @@ turn limit e t = on_ratios (ratios limit t.columns e 0 t.rows) (λ qs. leave lim
 
 -- ---- turn after turn
 -- what follows where no column enters, and where one does
-abbrev pub on_entering : Option ℕ → Ending → (ℕ → Ending) → Ending
+abbrev pub on_entering : Option ℕ → Ending Optimum → (ℕ → Ending Optimum) → Ending Optimum
 on_entering None ended next = ended
 on_entering (Some e) ended next = next e
 
 -- what follows a turn
-abbrev pub on_turn : Turn → (Table → Ending) → Ending → (Wide → Ending) → Ending
+abbrev pub on_turn : Turn → (Table → Ending Optimum) → Ending Optimum → (Wide → Ending Optimum) → Ending Optimum
 on_turn (moved next) go end wide = go next
 on_turn unlimited go end wide = end
 on_turn (stopped w) go end wide = wide w
 
 -- the run from a table on, with `left` units left and `spent` units spent
-unfoldable pub run_from : ℕ → ℕ → ℕ → ℕ → ℕ → Table → Ending
-run_from limit n m zero spent t = on_entering (entering t) (read_off n m t spent) (λ e. out_of_budget spent)
+unfoldable pub run_from : ℕ → ℕ → ℕ → ℕ → ℕ → Table → Ending Optimum
+run_from limit n m zero spent t = on_entering (entering t) (read_off n m t spent) (λ e. no_unit_left spent)
 run_from limit n m (suc left) spent t =
     on_entering (entering t) (read_off n m t spent)
     (λ e. on_turn (turn limit e t)
     (λ next. run_from limit n m left (spent + 1) next)
     (unbounded (direction n e t) (spent + 1))
-    (λ w. misfit_at (spent + 1) w))
+    (λ w. wide_at (spent + 1) w))
 
 -- the run of a program with `left` units left and `spent` units spent before
-unfoldable pub run : ℕ → LinearProgram → ℕ → ℕ → Ending
+unfoldable pub run : ℕ → LinearProgram → ℕ → ℕ → Ending Optimum
 run limit p left spent = run_from limit p.variables p.rows left spent (first_table p)
 
 -- opens the definitions of the run, for a proof that computes with numerals

@@ -1,8 +1,7 @@
 //! Whole numbers of at most 2^127 - 1 in size: what leaves that range is None.
 //!
 //! Where all numbers fit in 64 bits, nothing is tested or divided in 128.
-ghost use Rattle.std.specs.Prelude.{◌≡◌, ◌<◌, ◌*◌, ◌/◌, ◌^◌};
-ghost use Rattle.std.specs.Prelude.{pos, ◌+ℤ◌, ◌*ℤ◌, unsigned_abs, int_div};
+ghost use Rattle.std.specs.Prelude.{◌≡◌, ◌<◌, ◌*◌, ◌/◌, ◌^◌, pos, ◌+ℤ◌, ◌*ℤ◌, unsigned_abs, int_div};
 ghost use Rattle.arithmetic.specs.Gcd.{gcd as gcd_of};
 ghost use Rattle.exact_num.specs.Fits.{size_fits, signed_by};
 ghost use Rattle.frac.specs.Range.{limit, within, within_natural};

@@ -2,7 +2,7 @@ use Rattle.std.proofs.Common.{◌≡◌, map, sym, subst}
 use Rattle.std.proofs.lemmas.Result.{IfOk-weaker}
 use Rattle.frac.specs.Range.{limit as largest}
 use Rattle.frac.specs.Value.{fraction_of}
-use Rattle.form.specs.Certificate.{AreFractionFills}
+use Rattle.clearing_model.specs.Certificate.{AreFractionFills}
 use Rattle.cert_check.specs.declared.outcome.Outcome.{Outcome}
 use Rattle.cert_check.specs.declared.outcome.Judgement.TheVariants.{Yes}
 use Rattle.cert_check.specs.Conditions.{IfOptimal}

@@ -4,7 +4,7 @@ use mir.Syntax.{w128}
 use Rattle.std.specs.List.{zip}
 use Rattle.exact_num.specs.Fraction.{whole}
 use Rattle.frac.specs.ValueOf.{value_of}
-use Rattle.form.specs.Clearing.{premium}
+use Rattle.clearing_model.specs.Clearing.{premium}
 use Rattle.clearing.specs.Outcome.{whole_fills}
 use Rattle.std.proofs.lemmas.List.Elements.{All-weaker}
 use Rattle.form.specs.Limits.{IsOrderWithin}

@@ -1,8 +1,8 @@
 use Rattle.std.proofs.Common.{◌≡◌, ℕ, List, pos, ◌≤ℤ◌, ◌∙◌, sym, ap, subst}
 use Rattle.std.proofs.lemmas.Result.{IfOk-weaker}
 use Rattle.std.specs.List.{zip}
-use Rattle.form.specs.Balance.{AreBalanced}
-use Rattle.form.specs.Clearing.{AreFills, net, premium}
+use Rattle.clearing_model.specs.Balance.{AreBalanced}
+use Rattle.clearing_model.specs.Clearing.{AreFills, net, premium}
 use Rattle.each_match.specs.Match.{match_by_option}
 use Rattle.each_match.proofs.MatchLaws.{match_is_within, match_is_balanced, match_owes_nothing, match_earns}
 use Rattle.each_match.proofs.Prices.{match_is_the_best}

@@ -4,8 +4,8 @@ use Rattle.table_run.specs.Run.{table_run}
 use Rattle.form.specs.FormOf.{form_of}
 use Rattle.frac.specs.ValueOf.{value_of}
 use Rattle.line_cover.specs.Breakpoints.{insert, in_rising_price}
-use Rattle.joint_program.specs.Master.{master_steps}
-use Rattle.joint_program.specs.Reading.{reading_steps}
+use Rattle.master_program.specs.Master.{master_steps}
+use Rattle.master_program.specs.Reading.{reading_steps}
 use Rattle.rounds.specs.Run.{joint_run}
 use Rattle.clearing.specs.Outcome.{proved, outcome_of}
 use Rattle.exchange_core.proofs.laws.butterfly_is_paid.Goals as goal

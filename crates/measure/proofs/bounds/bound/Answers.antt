@@ -1,6 +1,6 @@
 use Rattle.std.proofs.Common.{map, rules}
 use Rattle.frac.specs.Range.{limit}
-use Rattle.form.specs.Certificate.{IsFractionMeasure, MeasureProves}
+use Rattle.clearing_model.specs.Certificate.{IsFractionMeasure, MeasureProves}
 use Rattle.measure.specs.Laws.{NoCoverIsAbove}
 use Rattle.measure.specs.Points.{point_of}
 use Rattle.measure.specs.Sums.{bound_of}

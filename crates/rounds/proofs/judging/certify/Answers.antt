@@ -5,11 +5,12 @@ use Rattle.frac.specs.Range.{limit}
 use Rattle.measure.specs.declared.measures.Measure.{Measure}
 use Rattle.measure.specs.Points.{point_of}
 use Rattle.cert_check.specs.Events.{verdict_of}
-use Rattle.joint_program.specs.Reading.{reading_with}
+use Rattle.master_program.specs.Reading.{reading_with}
 use Rattle.cert_check.specs.declared.outcome.Cover.TheVariants.{Line}
 use Rattle.simplex.specs.declared.stop.Stop.{Stop}
 use Rattle.rounds.specs.Answers.{IsJudged, reading_in}
-use Rattle.rounds.specs.Run.{cleared, sums_hold}
+use Rattle.rounds.specs.Run.{sums_hold}
+use Rattle.table_run.specs.Ending.{done}
 use Rattle.rounds.proofs.Judged.{measures_same, line_outcome, claimed, no_refusal, sums_are, stops_as_judged, clears_as_judged}
 use Rattle.rounds.proofs.judging.certify.Goals as goal
 
@@ -51,4 +52,4 @@ returns-clause-answer g c =
     let judged = subst (λ (a : Result (Unit {0}) Stop). IsJudged judgement a c.args.unit) c.in_ok-judge.was c.judge.ensures in
     let same : joint.measure ≡ c.in-Optimal.measure = measures_same Line c.in-Optimal.cover joint.measure c.in-Optimal.measure c.in-Optimal.is in
     clears_as_judged r c.args.unit (sums_hold limit batch.orders r) judgement sums judged
-    ∙ ap (λ (m : Measure). cleared (reading_with r.fills r.surplus (map point_of m.points) r.liability) c.args.unit) same
+    ∙ ap (λ (m : Measure). done (reading_with r.fills r.surplus (map point_of m.points) r.liability) c.args.unit) same

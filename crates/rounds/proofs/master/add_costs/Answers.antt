@@ -1,6 +1,6 @@
 use Rattle.std.proofs.Common.{◌∙◌, unsigned_abs, map}
 use Rattle.std.proofs.lemmas.Result.{err_from_is_err_and}
-use Rattle.joint_program.specs.Master.{cost_steps}
+use Rattle.master_program.specs.Master.{cost_steps}
 use Rattle.rounds.proofs.Added.{goes_on, stops, ends}
 use Rattle.rounds.proofs.master.add_costs.Goals as goal
 

@@ -1,5 +1,5 @@
 use Rattle.std.proofs.Common.{◌≡◌, drop, map, unsigned_abs}
-use Rattle.joint_program.specs.Master.{all_of, cost_steps}
+use Rattle.master_program.specs.Master.{all_of, cost_steps}
 use Rattle.rounds.specs.Built.{added}
 use Rattle.rounds.proofs.master.add_costs.Given as goal
 

@@ -1,7 +1,7 @@
 use Rattle.std.proofs.Common.{◌∙◌, ◌^◌, ◌-◌, unsigned_abs, map}
 use Rattle.std.proofs.lemmas.Result.{err_from_is_err_and}
 use Rattle.form.specs.States.{vector_of}
-use Rattle.joint_program.specs.Master.{entry_steps}
+use Rattle.master_program.specs.Master.{entry_steps}
 use Rattle.rounds.proofs.Added.{goes_on, stops, ends}
 use Rattle.rounds.proofs.master.add_entries.Goals as goal
 

@@ -1,6 +1,6 @@
 use Rattle.std.proofs.Common.{◌≡◌, ◌^◌, ◌-◌, drop, map, unsigned_abs}
 use Rattle.form.specs.States.{vector_of}
-use Rattle.joint_program.specs.Master.{all_of, entry_steps}
+use Rattle.master_program.specs.Master.{all_of, entry_steps}
 use Rattle.rounds.specs.Built.{added}
 use Rattle.rounds.proofs.master.add_entries.Given as goal
 

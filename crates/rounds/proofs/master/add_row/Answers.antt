@@ -1,7 +1,7 @@
 use Rattle.std.proofs.Common.{◌^◌, ◌-◌, map, unsigned_abs, ap}
 use Rattle.std.proofs.lemmas.Result.{err_from_is_err_and}
 use Rattle.form.specs.States.{vector_of}
-use Rattle.joint_program.specs.Master.{all_of, entry_steps}
+use Rattle.master_program.specs.Master.{all_of, entry_steps}
 use Rattle.rounds.specs.Built.{added}
 use Rattle.rounds.specs.Parts.{slack_steps}
 use Rattle.rounds.proofs.Joined.{list_goes_on, list_stops, built_as, row_is}

@@ -2,7 +2,7 @@ use Rattle.std.proofs.Common.{◌+◌, ◌-◌, ◌++◌, List, map, ap, sym, �
 use Rattle.std.proofs.lemmas.List.{append-nil}
 use Rattle.exact_num.specs.Fraction.{Fraction}
 use Rattle.table_run.specs.Table.{unit_row}
-use Rattle.joint_program.specs.Laws.{unit_rows}
+use Rattle.master_program.specs.Laws.{unit_rows}
 use Rattle.rounds.proofs.Joined.{unit_row_first, unit_rows_end}
 use Rattle.rounds.proofs.master.add_unit_rows.Goals as goal
 

@@ -1,5 +1,5 @@
 use Rattle.std.proofs.Common.{◌≡◌, ◌+◌, ◌-◌, ◌++◌, map}
-use Rattle.joint_program.specs.Laws.{unit_rows}
+use Rattle.master_program.specs.Laws.{unit_rows}
 use Rattle.rounds.proofs.master.add_unit_rows.Given as goal
 
 -- the rows that are left, behind those that were added, are all

@@ -1,9 +1,9 @@
 use Rattle.std.proofs.Common.{◌+◌, ◌^◌, ◌-◌, ◌++◌, List, length, map, unsigned_abs, ap, sym, ◌∙◌}
 use Rattle.exact_num.specs.Fraction.{Fraction}
 use Rattle.form.specs.States.{vector_of}
-use Rattle.joint_program.specs.Laws.{unit_rows}
-use Rattle.joint_program.specs.Master.{rows_steps}
-use Rattle.joint_program.proofs.UnitRows.{quantity_rows_are_unit_rows}
+use Rattle.master_program.specs.Laws.{unit_rows}
+use Rattle.master_program.specs.Master.{rows_steps}
+use Rattle.master_program.proofs.UnitRows.{quantity_rows_are_unit_rows}
 use Rattle.rounds.specs.Built.{added}
 use Rattle.rounds.proofs.master.coefficients.Goals as goal
 

@@ -1,9 +1,9 @@
 use Rattle.std.proofs.Common.{◌+◌, ◌≤◌, ◌<◌, ◌++◌, [], ◌∷◌, List, drop, length, map, zip, arith, sym, ap, ◌∙◌, append_assoc}
 use Rattle.std.proofs.lemmas.List.{length-map, append-nil}
-use Rattle.form.specs.Certificate.{Point}
+use Rattle.clearing_model.specs.Certificate.{Point}
 use Rattle.form.specs.States.{vector_of}
 use Rattle.measure.specs.Points.{point_of}
-use Rattle.joint_program.specs.Reading.{weighty}
+use Rattle.master_program.specs.Reading.{weighty}
 use Rattle.rounds.proofs.Paired.{pair_first, no_pairs, item_of, weighty_more}
 use Rattle.rounds.proofs.reading.add_points.Goals as goal
 

@@ -1,7 +1,7 @@
 use Rattle.std.proofs.Common.{◌≡◌, ◌++◌, drop, map, zip}
 use Rattle.form.specs.States.{vector_of}
 use Rattle.measure.specs.Points.{point_of}
-use Rattle.joint_program.specs.Reading.{weighty}
+use Rattle.master_program.specs.Reading.{weighty}
 use Rattle.rounds.proofs.reading.add_points.Given as goal
 
 -- the points that are left, behind those that were added, are all

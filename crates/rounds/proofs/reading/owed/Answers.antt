@@ -1,7 +1,7 @@
 use Rattle.std.proofs.Common.{◌+◌, ◌<◌, drop, length, map, zip, unsigned_abs, arith, sym, ap, ◌∙◌}
 use Rattle.std.proofs.lemmas.Result.{err_from_is_err_and}
 use Rattle.std.proofs.lemmas.List.{length-map}
-use Rattle.joint_program.specs.Reading.{add_owed, add_all_owed}
+use Rattle.master_program.specs.Reading.{add_owed, add_all_owed}
 use Rattle.exact_num.proofs.After.{after_ok, after_err}
 use Rattle.rounds.proofs.Owed.{owed_more, none_owed}
 use Rattle.rounds.proofs.Paired.{pair_first, no_pairs, item_of}

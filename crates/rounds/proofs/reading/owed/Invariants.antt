@@ -1,6 +1,6 @@
 use Rattle.std.proofs.Common.{◌≡◌, drop, map, zip, unsigned_abs}
 use Rattle.table_run.specs.Places.{fraction_zero}
-use Rattle.joint_program.specs.Reading.{add_all_owed}
+use Rattle.master_program.specs.Reading.{add_all_owed}
 use Rattle.rounds.proofs.reading.owed.Given as goal
 
 -- the sum from here on is the sum

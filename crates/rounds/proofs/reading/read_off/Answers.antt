@@ -2,7 +2,7 @@ use Rattle.std.proofs.Common.{◌<◌, length, map, drop, unsigned_abs, arith, a
 use Rattle.form.specs.States.{vector_of}
 use Rattle.simplex.proofs.EntrySteps.{at-map}
 use Rattle.measure.specs.Points.{point_of}
-use Rattle.joint_program.specs.Reading.{liability_of}
+use Rattle.master_program.specs.Reading.{liability_of}
 use Rattle.rounds.proofs.ReadOff.{read_is}
 use Rattle.rounds.proofs.reading.read_off.Goals as goal
 

@@ -1,8 +1,8 @@
 use Rattle.std.proofs.Common.{◌∙◌, sym, map, unsigned_abs}
 use Rattle.cert_check.proofs.Shapes.{order_is_on}
 use Rattle.line_cover.specs.Breakpoints.{first_state, later_states}
-use Rattle.joint_program.specs.Reading.{reading_of}
-use Rattle.joint_laws.proofs.Lines.{line_readings_are_greatest}
+use Rattle.master_program.specs.Reading.{reading_of}
+use Rattle.master_program.proofs.Lines.{line_readings_are_greatest}
 use Rattle.rounds.specs.Answers.{reading_in}
 use Rattle.rounds.proofs.Solve.{first_is, later_are}
 use Rattle.rounds.proofs.solving.certify_optimum.Goals as goal

@@ -6,9 +6,9 @@ use Rattle.form.specs.declared.orders.Order.{Order}
 use Rattle.form.specs.States.{vector_of}
 use Rattle.simplex.specs.Answers.{HoldsOf, IsAnswer}
 use Rattle.line_cover.specs.Breakpoints.{first_state, later_states}
-use Rattle.joint_program.specs.Master.{master, plain_master, zero_prices}
-use Rattle.joint_program.proofs.Bounded.{master_is_bounded}
-use Rattle.form.specs.Clearing.{AreOn}
+use Rattle.master_program.specs.Master.{master, plain_master, zero_prices}
+use Rattle.master_program.proofs.Bounded.{master_is_bounded}
+use Rattle.clearing_model.specs.Clearing.{AreOn}
 use Rattle.cert_check.proofs.Shapes.{order_is_on}
 use Rattle.rounds.proofs.Cleared.{answer_is_greatest, answer_passes}
 use Rattle.rounds.specs.Run.{on_ending, solved}

@@ -1,7 +1,8 @@
 use Rattle.std.proofs.Common.{◌≡◌, ◌-◌, ℕ, ◌∙◌, sym, ap, arith, unsigned_abs}
 use Rattle.std.specs.Prelude.{Ok, Bool}
 use Rattle.table_run.specs.Table.{Table}
-use Rattle.table_run.specs.Run.{run_from, out_of_budget, unbounded, direction, misfit_at, turn, moved, unlimited}
+use Rattle.table_run.specs.Ending.{no_unit_left, unbounded, wide_at}
+use Rattle.table_run.specs.Run.{run_from, direction, turn, moved, unlimited}
 use Rattle.simplex.specs.Tables.{as_table, turn_answer}
 use Rattle.simplex.proofs.RunSteps.{run_ends, run_is_out, run_moves, run_is_unbounded, run_misfits, spent_one, spent_none}
 use Rattle.simplex.proofs.run.run.Goals as goal
@@ -14,7 +15,7 @@ pub returns-then-not-spend-clause-run : goal.returns-then-not-spend-clause-run
 returns-then-not-spend-clause-run g c n m =
     let s = spent_none c.spend.result c.loop-e.budget.spent c.loop-e.budget.limit c.spend.new.self.spent c.spend.ensures.answer c.spend.ensures.spent c.if-not-spend.true in
     let enters = sym c.entering.ensures.column ∙ c.in-Some.is in
-    ap out_of_budget s.1 ∙ sym (run_is_out (unsigned_abs g.N.Exact.LIMIT) n m (c.loop-e.budget.limit - c.loop-e.budget.spent) _ _ _ enters (omega (arith, s.0))) ∙ c.loop-e.invariant.rest n m
+    ap no_unit_left s.1 ∙ sym (run_is_out (unsigned_abs g.N.Exact.LIMIT) n m (c.loop-e.budget.limit - c.loop-e.budget.spent) _ _ _ enters (omega (arith, s.0))) ∙ c.loop-e.invariant.rest n m
 
 pub returns-in-Ok-false-clause-run : goal.returns-in-Ok-false-clause-run
 returns-in-Ok-false-clause-run g c n m =
@@ -33,7 +34,7 @@ pub returns-in-Err-clause-run : goal.returns-in-Err-clause-run
 returns-in-Err-clause-run g c n m =
     let s = spent_one c.spend.result c.loop-e.budget.spent c.loop-e.budget.limit c.spend.new.self.spent c.spend.ensures.answer c.spend.ensures.spent c.if-not-spend.false in
     let enters = sym c.entering.ensures.column ∙ c.in-Some.is in
-    ap (λ (k : ℕ). misfit_at k c.in-Err.wide) s.1
+    ap (λ (k : ℕ). wide_at k c.in-Err.wide) s.1
     ∙ sym (run_misfits (unsigned_abs g.N.Exact.LIMIT) n m (c.loop-e.budget.limit - c.loop-e.budget.spent) _ _ _ _ enters (sym c.in-Err.ensures.turn) (omega (arith, s.0)))
     ∙ c.loop-e.invariant.rest n m
 

@@ -1,5 +1,6 @@
 use Rattle.std.proofs.Common.{ℕ, ◌∙◌, sym, ap, arith, length, map, vec_len}
-use Rattle.table_run.specs.Run.{read_off, optimal, solution, dual, reduced_costs}
+use Rattle.table_run.specs.Ending.{done}
+use Rattle.table_run.specs.Run.{read_off, optimum, solution, dual, reduced_costs}
 use Rattle.simplex.specs.Tables.{as_table}
 use Rattle.simplex.proofs.RowSteps.{slice_written}
 use Rattle.simplex.proofs.solver.optimum.Goals as goal
@@ -19,4 +20,4 @@ returns g c spent =
     let x = ap (map value) written_x ∙ c.write_solution.ensures ∙ ap (λ (k : ℕ). solution k t) c.as_mut_slice.ensures.len in
     let y = ap (map value) written_y ∙ c.write_dual.ensures.dual ∙ ap (λ (k : ℕ). dual k (length c.as_mut_slice-3.result.now) t) variables ∙ ap (λ (k : ℕ). dual (vec_len c.args.x) k t) c.as_mut_slice-3.ensures.len in
     let reduced = ap (map value) written_reduced ∙ c.write_dual.ensures.reduced ∙ ap (λ (k : ℕ). reduced_costs k t) variables in
-    λ i. optimal (x i) (y i) (reduced i) (c.value-value.ensures i) spent
+    λ i. done (optimum (x i) (y i) (reduced i) (c.value-value.ensures i)) spent

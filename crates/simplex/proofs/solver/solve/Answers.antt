@@ -2,7 +2,8 @@ use Rattle.std.proofs.Common.{ℕ, ◌∙◌, sym, ap, arith, vec_len}
 use Rattle.std.specs.Prelude.{Ok}
 use Rattle.std.proofs.lemmas.Result.{err_from_is_err_and}
 use Rattle.table_run.specs.Table.{Table, first_table}
-use Rattle.table_run.specs.Run.{read_off, unbounded, direction}
+use Rattle.table_run.specs.Ending.{unbounded}
+use Rattle.table_run.specs.Run.{read_off, direction}
 use Rattle.simplex.specs.Programs.{as_program}
 use Rattle.simplex.specs.Tables.{as_table}
 use Rattle.simplex.specs.Answers.{ending_of}

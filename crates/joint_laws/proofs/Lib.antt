@@ -1,9 +1,0 @@
-pub mod Primal
-pub mod Dual
-pub mod Certifies
-pub mod Dropped
-pub mod Liability
-pub mod Read
-pub mod Lines
-pub mod Verdict
-pub mod Solves

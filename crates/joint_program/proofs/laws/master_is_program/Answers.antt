@@ -1,5 +1,0 @@
-use Rattle.joint_program.proofs.Bounded.{master_is_program}
-use Rattle.joint_program.proofs.laws.master_is_program.Goals as goal
-
-pub returns : goal.returns
-returns c = master_is_program

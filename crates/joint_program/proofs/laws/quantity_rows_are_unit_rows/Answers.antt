@@ -1,5 +1,0 @@
-use Rattle.joint_program.proofs.UnitRows.{quantity_rows_are_unit_rows}
-use Rattle.joint_program.proofs.laws.quantity_rows_are_unit_rows.Goals as goal
-
-pub returns : goal.returns
-returns c = quantity_rows_are_unit_rows

@@ -1,5 +1,0 @@
-use Rattle.joint_program.proofs.SolvedWider.{solves_are_the_same}
-use Rattle.joint_program.proofs.laws.solves_are_the_same.Goals as goal
-
-pub returns : goal.returns
-returns c = solves_are_the_same

@@ -1,5 +1,0 @@
-use Rattle.joint_program.proofs.Steps.{steps_give_master}
-use Rattle.joint_program.proofs.laws.steps_give_master.Goals as goal
-
-pub returns : goal.returns
-returns c = steps_give_master

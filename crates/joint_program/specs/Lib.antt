@@ -1,5 +1,0 @@
-pub mod Master
-pub mod Reading
-pub mod Solve
-pub mod Laws
-pub mod Worked

@@ -1,0 +1,17 @@
+pub mod Matrix
+pub mod Sums
+pub mod Bounded
+pub mod Steps
+pub mod UnitRows
+pub mod Wider
+pub mod SolvedWider
+pub mod WorkedBatches
+pub mod Primal
+pub mod Dual
+pub mod Certifies
+pub mod Dropped
+pub mod Liability
+pub mod Read
+pub mod Lines
+pub mod Verdict
+pub mod Solves
