@@ -15,3 +15,4 @@ pub mod WholeNumbers
 pub mod After
 pub mod GreaterLimit
 pub mod GreaterLimits
+pub mod WithinLimits
