@@ -4,8 +4,7 @@ use Prim.Native.Nat.{ℕ, suc, ◌+◌, ◌*◌, ◌≤◌}
 use native.Mathlib.Nat.{zero-mul, suc-mul}
 use native.Mathlib.Omega.{arith}
 use mathlib.Core.List.{List, [], ◌∷◌, ◌++◌}
-use lib.ListN.{length, take, take-append-drop, length-drop}
-use lib.ListN.{drop as drop_l}
+use lib.ListN.{length, take, take-append-drop, length-drop, drop as drop_l}
 use seplogic.Ra.Ura.{Ura}
 use base.Fraction.{full_share}
 use base.Logic.{ent, sep}

@@ -4,8 +4,7 @@ use Prim.Native.Nat.{ℕ, zero, suc, ◌+◌, ◌*◌, ◌≤◌}
 use native.Mathlib.Nat.{zero-mul, suc-mul}
 use native.Mathlib.Omega.{arith}
 use mathlib.Core.List.{List, [], ◌∷◌, ◌++◌}
-use lib.ListN.{length, take-append-drop}
-use lib.ListN.{drop as drop_l}
+use lib.ListN.{length, take-append-drop, drop as drop_l}
 use seplogic.Ra.Ura.{Ura}
 use mir.Syntax.{ty_ptr}
 use mir.Val.{Val, vptr}
