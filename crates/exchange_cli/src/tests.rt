@@ -6,7 +6,8 @@ use std::process::Abort;
 use std::test::Fail;
 
 // The worked batch "one option matched", and its replies.
-static MATCHED: &str = "open,1\nopen,2\ndeposit,1,100\nmarket,1,1\nbuy,1,1,call,10,7,1,1\nsell,2,1,call,10,5,1,1\nclear,1,100\nbalance,0";
+static MATCHED: &str =
+    "open,1\nopen,2\ndeposit,1,100\nmarket,1,1\nbuy,1,1,call,10,7,1,1\nsell,2,1,call,10,5,1,1\nclear,1,100\nbalance,0";
 
 static MATCHED_REPLIES: &str = r#"{"account":1,"line":1,"reply":"opened"}
 {"account":2,"line":2,"reply":"opened"}
