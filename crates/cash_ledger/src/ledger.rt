@@ -125,7 +125,8 @@ impl Ledger {
         ensures entries { self.new.entries ≡ self.old.entries }
         ensures reserves { KeepsReserves self.old self.new }
         ensures spare { self.new.spare ≡ self.old.spare }
-        ensures refused { TellsFirst unless_memory result (open_refusals self.old.accounts account) }
+        ensures refused { TellsFirst unless_memory result
+            (open_refusals self.old.accounts account) }
         ensures err { OnErr result (self.new ≡ self.old) }
     {
         if self.accounts.holding(account).is_some() {
@@ -170,7 +171,8 @@ impl Ledger {
     fn post(&mut self, entry: Entry) -> Result<i128, LedgerRefusal>
         requires open { is_open self.old.accounts entry.account ≡ true }
         requires bounded { IsBounded entry }
-        ensures balance { IfOk result (λ balance. balance ≡ balance_of entry.account self.new.entries) }
+        ensures balance { IfOk result (λ balance.
+            balance ≡ balance_of entry.account self.new.entries) }
         ensures accounts { self.new.accounts ≡ self.old.accounts }
         ensures entries { OnOk result (self.new.entries ≡ self.old.entries ++ entry ∷ []) }
         ensures reserves { KeepsReserves self.old self.new }
@@ -193,7 +195,8 @@ impl Ledger {
         ensures entries { OnOk result (self.new.entries
             ≡ self.old.entries ++ deposit_of account amount ∷ []) }
         ensures reserves { KeepsReserves self.old self.new }
-        ensures refused { TellsFirst unless_memory result (account_refusals self.old.accounts account) }
+        ensures refused { TellsFirst unless_memory result
+            (account_refusals self.old.accounts account) }
         ensures err { OnErr result (self.new ≡ self.old) }
     {
         if self.balance(account).is_none() {

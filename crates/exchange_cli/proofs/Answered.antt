@@ -20,7 +20,7 @@ use Rattle.exchange_cli.specs.Output.{reply_to, line_output, output_from, output
 use Rattle.exchange_cli.specs.Promises.{IsCoveredIn, IsGreatestIn, IsMarkedIn, KeepsPromises, TellAnswers, WroteFront, OutputIsAnswers, OfEachAnswer}
 use Rattle.exchange_cli.specs.Replies.{Answer, answer_to, answers_from, answers_text, answers}
 use Rattle.exchange_cli.specs.Texts.{reply_text}
-use Rattle.exchange_cli.proofs.Within.{line_is_within}
+use Rattle.exchange_cli.proofs.Within.{command_within}
 
 -- what is kept of an exchange is kept by each line
 answer_keeps : (state : ExchangeState) (said : Result Command Refusal) → IsKept state → IfOk said IsWithin → IsKept (reply_to state said).1
@@ -36,7 +36,7 @@ module _ (Q : Answer → Type 0) (each : (number : ℕ) (state : ExchangeState) 
       let said : Result Command Refusal = command_of (b ∷ bs) in
       let after : ExchangeState = (reply_to state said).1 in
       All-cons Q (answer_to number state said) (answers_from (number + 1) after lines) (each number state said kept)
-      (lines_have (number + 1) after lines (answer_keeps state said kept (line_is_within (b ∷ bs))))
+      (lines_have (number + 1) after lines (answer_keeps state said kept (command_within (b ∷ bs))))
 
   answers_have : (input : List ℕ) → All Q (answers input)
   answers_have input = lines_have 1 empty_exchange (map without_return (lines_of input)) empty_is_kept

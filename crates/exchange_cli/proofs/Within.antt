@@ -182,5 +182,5 @@ fields_within (word ∷ fields) =
     (either IsWithin (bytes_eq word (codes "clear")) _ _ (pair_within MAX_MARKET MAX_BUDGET fields (λ n. Clear n.0 n.1) (λ n h. h))
     (either IsWithin (bytes_eq word (codes "balance")) _ _ (balance_within fields) tt)))))))))
 
-pub line_is_within : (line : List ℕ) → IfOk (command_of line) IsWithin
-line_is_within line = fields_within (slice_split (λ b. b == 44) line)
+pub command_within : (line : List ℕ) → IfOk (command_of line) IsWithin
+command_within line = fields_within (slice_split (λ b. b == 44) line)

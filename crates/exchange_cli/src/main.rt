@@ -26,7 +26,8 @@ fn words_of(rt: &HostRuntime) -> Result<Vec<String>, Status> {
     let mut words = Vec::new(rt.alloc());
     for word in std::env::args(rt)
         .map_err(|error| Status::of_unread_words(error.kind()))?
-        .skip(1) {
+        .skip(1)
+    {
         words.push(word).map_err(|_| Status::Memory)?;
     }
     Ok(words)

@@ -142,7 +142,8 @@ pub fn exchange<S: Source, K: Sink>(
         AppendsFront (K.written sink.old) (K.written sink.new) (output input)) }
 
     // What was written is the text of answers that keep what is promised, or a front of it.
-    ensures told { result ≡ Status.Done → Wrote (K.written sink.old) (K.written sink.new) TellAnswers }
+    ensures told { result ≡ Status.Done →
+        Wrote (K.written sink.old) (K.written sink.new) TellAnswers }
     ensures told_front { (result ≡ Status.WriteFault) ⊎ (result ≡ Status.Memory) →
         WroteFront (K.written sink.old) (K.written sink.new) TellAnswers }
 

@@ -2,10 +2,12 @@ use crate::sessions::SESSIONS;
 use crate::{MAX_INPUT, Status, exchange};
 use port_io::{MemSink, MemSource, SureSink, SureSource};
 use std::alloc::{AllocError, Global};
+use std::process::Abort;
 use std::test::Fail;
 
 // The worked batch "one option matched", and its replies.
-static MATCHED: &str = "open,1\nopen,2\ndeposit,1,100\nmarket,1,1\nbuy,1,1,call,10,7,1,1\nsell,2,1,call,10,5,1,1\nclear,1,100\nbalance,0";
+static MATCHED: &str =
+    "open,1\nopen,2\ndeposit,1,100\nmarket,1,1\nbuy,1,1,call,10,7,1,1\nsell,2,1,call,10,5,1,1\nclear,1,100\nbalance,0";
 
 static MATCHED_REPLIES: &str = r#"{"account":1,"line":1,"reply":"opened"}
 {"account":2,"line":2,"reply":"opened"}
@@ -40,7 +42,7 @@ fn run(
         texts.push(String::from_str(alloc, word)?)?;
     }
     let mut source = MemSource::new(input.to_vec(alloc)?, 10, vec![in alloc; read]?);
-    let mut sink = MemSink::new(alloc, 1_000_000, 1000, vec![in alloc; write]?)?;
+    let mut sink = MemSink::new(alloc, 1_000_000, 1_000_000, vec![in alloc; write]?)?;
     let status = exchange(alloc, &texts, &mut source, &mut sink);
     Ok((status, sink))
 }
@@ -59,7 +61,7 @@ fn session(alloc: Global, text: &str) -> Result<(String, String), AllocError> {
 }
 
 // Compares what was written with what is wanted: at the first line that differs the test tells the two.
-fn assert_lines(rt: &HostRuntime, written: &[u8], wanted: &str) {
+fn assert_lines(rt: &impl Abort, written: &[u8], wanted: &str) {
     let written = str::from_utf8(written).unwrap_or("no text");
     for (had, line) in written.split('\n').zip(wanted.split('\n')) {
         assert_eq!(rt; had, line);

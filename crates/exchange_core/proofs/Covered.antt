@@ -81,16 +81,16 @@ step_is_optimal =
     (λ batch units one. both batch (outcome_of batch units) (outcome_of batch units).mark (optimal_is_greatest batch units one) (outcomes_are_measured batch units one))
 
 -- ---- the mark
-effect_is_marked : (state : ExchangeState) (command : Command) → IsMarkedFor command (effect state command).0
-effect_is_marked state (Open account) = tt
-effect_is_marked state (Deposit account amount) = tt
-effect_is_marked state (Withdraw account amount) = tt
-effect_is_marked state (Market market underlyings) = tt
-effect_is_marked state (Trade side account market kind strike price quantity count weights) = tt
-effect_is_marked state (Cancel account order) = tt
-effect_is_marked state (Clear market budget) = outcomes_are_marked (batch_in state market) budget
-effect_is_marked state (BalanceOf account) = tt
+effect_marked : (state : ExchangeState) (command : Command) → IsMarkedFor command (effect state command).0
+effect_marked state (Open account) = tt
+effect_marked state (Deposit account amount) = tt
+effect_marked state (Withdraw account amount) = tt
+effect_marked state (Market market underlyings) = tt
+effect_marked state (Trade side account market kind strike price quantity count weights) = tt
+effect_marked state (Cancel account order) = tt
+effect_marked state (Clear market budget) = outcomes_are_marked (batch_in state market) budget
+effect_marked state (BalanceOf account) = tt
 
 pub step_is_marked : StepIsMarked
 step_is_marked state command =
-    unless_refused (λ batch outcome. IsMarked batch (budget_of command) outcome) state (refusal_of state command) (effect state command) (λ none. effect_is_marked state command)
+    unless_refused (λ batch outcome. IsMarked batch (budget_of command) outcome) state (refusal_of state command) (effect state command) (λ none. effect_marked state command)

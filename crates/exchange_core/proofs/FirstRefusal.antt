@@ -80,8 +80,7 @@ place_none state order none =
     let market = book_refusals.order_refusals state.book order in
     let room = book_refusals.room_refusals state.book order.market in
     let parts = none_in_both (by_book market) (by_ledger (by_account state order) ++ by_book room) none in
-    let others = none_in_both (by_ledger (by_account state order)) (by_book room) parts.1 in
-    (
+    let others = none_in_both (by_ledger (by_account state order)) (by_book room) parts.1 in (
       first_behind market room (none_unnamed _ market (refl, (refl, (refl, tt))) parts.0) ∙ none_unnamed _ room (refl, (refl, tt)) others.1,
       cost_open order.side state.accounts order.account (free_in state order.account) (order.quantity * order.price) (cost_unnamed order.side state.accounts order.account (free_in state order.account) (order.quantity * order.price) others.0),
     )

@@ -30,7 +30,11 @@ impl Model for Market {
 
     ghost Value = { MarketState };
 
-    ghost view = { λ m. record { underlyings = m.underlyings; settled = m.settled; live = m.live } };
+    ghost view = { λ m. record {
+      underlyings = m.underlyings;
+      settled = m.settled;
+      live = m.live;
+    } };
 }
 
 impl Market {

@@ -96,7 +96,8 @@ impl Markets {
     // Takes the order with the number out of a market that is there. The others keep their places.
     pub(crate) fn remove(&mut self, market: u32, number: u64)
         requires { IsSome (lookup (nat_eq market) self.old) }
-        ensures { self.new ≡ with_live_in market (without number (live_in market self.old)) self.old }
+        ensures { self.new
+            ≡ with_live_in market (without number (live_in market self.old)) self.old }
     {
         self.by_number.get_mut(&market).unwrap().remove(number);
     }

@@ -47,7 +47,8 @@ pub fn write_all<K: Sink>(sink: &mut K, piece: &[u8]) -> Result<(), WriteStop>
     ensures calm { OnOk result (K.faults sink.new ≡ K.faults sink.old) }
 
     ensures fault { OnErr result (Rose (K.faults sink.old) (K.faults sink.new)) }
-    ensures front { OnErr result (AppendsFront (K.written sink.old) (K.written sink.new) piece.now) }
+    ensures front { OnErr result
+        (AppendsFront (K.written sink.old) (K.written sink.new) piece.now) }
 
     ensures later { K.faults sink.old ≤ K.faults sink.new }
 {

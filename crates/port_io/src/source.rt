@@ -74,12 +74,15 @@ pub fn read_all<S: Source>(alloc: Global, source: &mut S, limit: usize) -> Resul
     ensures within { IfOk result (λ bytes. length bytes.items ≤ limit) }
     ensures calm { OnOk result (S.faults source.new ≡ S.faults source.old) }
 
-    ensures fault { IsErrOf result ReadStop.ReadFault → Rose (S.faults source.old) (S.faults source.new) }
+    ensures fault { IsErrOf result ReadStop.ReadFault →
+        Rose (S.faults source.old) (S.faults source.new) }
     ensures in_time { IsErrOf result ReadStop.ReadFault →
-        (S.taken source.new ≤ S.taken source.old + limit) × TakesUpTo (S.left source.old) (S.left source.new) limit }
+        (S.taken source.new ≤ S.taken source.old + limit)
+        × TakesUpTo (S.left source.old) (S.left source.new) limit }
     ensures too_long { IsErrOf result ReadStop.TooLong →
         IfSome (S.left source.old) (λ left. limit < length left) }
-    ensures no_fault_before { IsErrOf result ReadStop.TooLong → S.faults source.new ≡ S.faults source.old }
+    ensures no_fault_before { IsErrOf result ReadStop.TooLong →
+        S.faults source.new ≡ S.faults source.old }
     ensures too_many { IsErrOf result ReadStop.TooLong →
         raised (S.taken source.old) (limit + 1) ≤ S.taken source.new }
 

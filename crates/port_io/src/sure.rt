@@ -46,11 +46,15 @@ impl Source for SureSource {
     fn read(&mut self, buf: &mut [u8]) -> ReadAnswer
         requires { 0 < length buf.old }
         ensures fits { GotWithin result (length buf.new) }
-        ensures bytes { Takes (⟦<SureSource as Source>⟧.left self.old) (⟦<SureSource as Source>⟧.left self.new) result buf.new }
-        ensures count { ⟦<SureSource as Source>⟧.taken self.new ≡ taken_after (⟦<SureSource as Source>⟧.taken self.old) result }
+        ensures bytes { Takes
+            (⟦<SureSource as Source>⟧.left self.old)
+            (⟦<SureSource as Source>⟧.left self.new) result buf.new }
+        ensures count { ⟦<SureSource as Source>⟧.taken self.new
+            ≡ taken_after (⟦<SureSource as Source>⟧.taken self.old) result }
         ensures cause { ReadCause 0 0 result }
 
-        ensures whole { IfSome (⟦<SureSource as Source>⟧.left self.old) (λ left. result ≡ as_many_as_fit (length buf.old) left) }
+        ensures whole { IfSome (⟦<SureSource as Source>⟧.left self.old) (λ left.
+            result ≡ as_many_as_fit (length buf.old) left) }
     {
         let left = self.bytes.len() - self.given;
         if left == 0 {
