@@ -7,8 +7,7 @@ ghost use Rattle.std.specs.Ordering.{is_eq, as_partial_cmp};
 ghost use Rattle.std.proofs.Common.{lit≤};
 ghost use Rattle.exact_num.specs.Fraction.{over, IsLowest};
 ghost use Rattle.exact_num.specs.Laws.{IsWithin};
-ghost use Rattle.exact_num.proofs.Order.{values_in_order, values_equal};
-ghost use Rattle.exact_num.proofs.Order.{values_partly_equal, values_partly_ordered};
+ghost use Rattle.exact_num.proofs.Order.{values_in_order, values_equal, values_partly_equal, values_partly_ordered};
 ghost use Rattle.arithmetic.proofs.Integers.{le_pos};
 ghost use Rattle.frac.specs.Range.{narrow_limit, sum_within, product_within};
 
