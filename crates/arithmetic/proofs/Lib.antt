@@ -9,3 +9,4 @@ pub mod Sums
 pub mod Parts
 pub mod Along
 pub mod Dots
+pub mod Signed

@@ -16,3 +16,4 @@ pub mod After
 pub mod GreaterLimit
 pub mod GreaterLimits
 pub mod WithinLimits
+pub mod Amounts
