@@ -5,7 +5,7 @@ use Rattle.arithmetic.proofs.Sums.{All-head, All-tail}
 use Rattle.exact_num.specs.declared.misfit.Wide.{Wide as Misfit}
 use Rattle.exact_num.specs.Fraction.{Fraction}
 use Rattle.exact_num.proofs.After.{after_value}
-use Rattle.frac.specs.declared.bits128.Frac128.{Frac128}
+use Rattle.frac.specs.declared.frac128.Frac128.{Frac128}
 use Rattle.frac.specs.Range.{limit}
 use Rattle.frac.specs.Value.{fraction_of}
 use Rattle.form.specs.declared.orders.Order.{Order}

@@ -18,10 +18,9 @@ use Rattle.frac.specs.Range.{limit}
 use Rattle.form.specs.declared.orders.Order.{Order}
 use Rattle.clearing_model.specs.Clearing.{for_side, signed_premium}
 use Rattle.clearing_model.specs.Certificate.{signed_over, IsPremiumLessLiability}
-use Rattle.exact_num.proofs.Stands.{Stands, sum_stands, negated_stands}
+use Rattle.exact_num.proofs.Stands.{Stands, sum_stands, negated_stands, zero_stands}
 use Rattle.line_cover.specs.Net.{add_for_side}
 use Rattle.line_cover.proofs.Sound.{side_stands}
-use Rattle.exact_num.proofs.Stands.{zero_stands}
 use Rattle.exact_num.specs.Tests.{is_same}
 use Rattle.arithmetic.proofs.Tests.{and_true, int_le-true}
 use Rattle.exact_num.proofs.Tested.{ratio_is_same}

@@ -6,6 +6,4 @@ pub mod Outcomes
 pub mod Judged
 pub mod Fitting
 pub mod Yes
-pub mod RunSizes
-pub mod RunValues
 pub mod Marked

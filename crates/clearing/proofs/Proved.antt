@@ -14,7 +14,7 @@ use Rattle.simplex.specs.declared.stop.Stop.TheVariants.{Wide as WideStop, Budge
 use Rattle.rounds.specs.Answers.{IsJointAnswer}
 use Rattle.rounds.specs.Run.{joint_run}
 use Rattle.table_run.specs.Ending.{Ending, done, wide_at, no_unit_left}
-use Rattle.frac.specs.declared.bits128.Frac128.{Frac128}
+use Rattle.frac.specs.declared.frac128.Frac128.{Frac128}
 use Rattle.frac.specs.Value.{fraction_of}
 use Rattle.frac.proofs.ValueOf.{value-fraction_of}
 use Rattle.measure.specs.declared.measures.Weighted.{Weighted}

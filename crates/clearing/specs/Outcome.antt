@@ -1,7 +1,7 @@
 -- The outcome of a batch: what the reference run clears, or where it stops, the match of each option by itself.
 use Rattle.std.specs.Prelude.{ℕ, ◌≡◌, List, [], ◌∷◌, map, pos, Bool, true, ◌&&◌, if◌then◌else◌}
 use Rattle.exact_num.specs.Fraction.{Fraction, whole}
-use Rattle.frac.specs.declared.bits128.Frac128.{Frac128}
+use Rattle.frac.specs.declared.frac128.Frac128.{Frac128}
 use Rattle.frac.specs.Range.{limit as largest}
 use Rattle.frac.specs.Value.{fraction_of}
 use Rattle.frac.specs.ValueOf.{value_of, has_128_bits}

@@ -18,3 +18,4 @@ pub mod Tested
 pub mod Stands
 pub mod GreaterLimit
 pub mod GreaterLimits
+pub mod WithinLimits

@@ -16,6 +16,8 @@ use Rattle.order_book.specs.declared.limits.TheConstants.{MAX_BATCHES}
 use Rattle.order_book.specs.Book.{BookState, batch_of, info_of, market_of}
 use Rattle.order_book.specs.Kept.{IsBookKept}
 use Rattle.order_book.specs.Markets.{MarketState}
+use Rattle.order_book.specs.Refusals.{is_settled}
+use Rattle.refusals.specs.Refusals.{first_of}
 use Rattle.order_book.proofs.BookKept.{batch_within, market_kept}
 use Rattle.order_book.proofs.MarketLists.{at_found}
 use Rattle.exchange_core.specs.declared.command.Command.{Command}
@@ -26,8 +28,8 @@ use Rattle.exchange_core.specs.declared.reply.Reply.{Reply}
 use Rattle.exchange_core.specs.Covered.{IfCleared, OfEachCleared, IsProvedGreatest, IsMarkedFor, StepIsCovered, StepIsMarked, StepIsOptimal, budget_of}
 use Rattle.exchange_core.specs.ExchangeState.{ExchangeState}
 use Rattle.exchange_core.specs.Kept.{IsKept, IsOnOne}
-use Rattle.exchange_core.specs.Refusals.{first_of, is_settled, refusal_of}
-use Rattle.exchange_core.specs.Step.{batch_in, effect, refused}
+use Rattle.exchange_core.specs.Refusals.{refusal_of}
+use Rattle.exchange_core.specs.Step.{batch_in, effect, refusal_effect}
 
 -- the refusals of a clear behind the first
 abbrev unsettled : BookState → ℕ → List (Bool × Refusal)
@@ -44,7 +46,7 @@ on_one book kept single market others (Some m) at none =
 module _ (P : Batch → Outcome → Type 0) where
   -- a refusal clears nothing
   unless_refused : (state : ExchangeState) (refusal : Option Refusal) (accepted : Reply × ExchangeState) → (refusal ≡ None → IfCleared P accepted.0)
-      → IfCleared P (option_map_or (refused state) refusal accepted).0
+      → IfCleared P (option_map_or (refusal_effect state) refusal accepted).0
   unless_refused state None accepted h = h refl
   unless_refused state (Some refusal) accepted h = tt
 

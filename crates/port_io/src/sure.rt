@@ -1,5 +1,8 @@
 // A source and a sink that never fail.
 ghost use Rattle.std.specs.Prelude.{◌≡◌, ◌≤◌, ◌<◌, Some, None, IfSome, drop, length};
+ghost use Rattle.std.proofs.Common.{lit≤};
+ghost use Rattle.std.proofs.Math.Nat.{min-le_right};
+ghost use Rattle.port_io.specs.Faults.{as_count, last_count};
 ghost use Rattle.port_io.specs.Reads.{GotWithin, Takes, taken_after, ReadCause, as_many_as_fit};
 ghost use Rattle.port_io.specs.Writes.{TookWithin, Writes, WriteCause};
 
@@ -32,9 +35,13 @@ impl SureSource {
 impl Source for SureSource {
     ghost left = { λ s. Some (drop s.given s.bytes.items) };
 
-    ghost taken = { λ s. s.taken };
+    ghost taken = { λ s. as_count s.taken };
 
     ghost faults = { λ _. 0 };
+
+    ghost taken_stops = { λ s. min-le_right s.taken last_count };
+
+    ghost faults_stop = { λ _. lit≤ tt };
 
     fn read(&mut self, buf: &mut [u8]) -> ReadAnswer
         requires { 0 < length buf.old }
@@ -72,6 +79,8 @@ impl Sink for SureSink {
     ghost written = { λ _. None };
 
     ghost faults = { λ _. 0 };
+
+    ghost faults_stop = { λ _. lit≤ tt };
 
     fn write(&mut self, piece: &[u8]) -> WriteAnswer
         requires { 0 < length piece.now }
