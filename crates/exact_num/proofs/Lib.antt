@@ -19,3 +19,4 @@ pub mod Stands
 pub mod GreaterLimit
 pub mod GreaterLimits
 pub mod WithinLimits
+pub mod Amounts

@@ -19,9 +19,9 @@ use Rattle.master_program.proofs.WithinSizes.{solves_are_lowest, solves_are_with
 use Rattle.rounds.specs.Run.{joint_run}
 use Rattle.rounds.proofs.Cleared.{cleared_by, cleared_is_greatest, no_run_is_without_optimum}
 use Rattle.clearing.specs.Laws.{OutcomesAreMarked}
-use Rattle.clearing.specs.Outcome.{is_value, are_values, has_values, measure_of, proved, claimed, outcome_at, outcome_of, IsMarked}
+use Rattle.clearing.specs.Outcome.{is_value, are_values, has_values, measure_of, optimal_outcome, claim_of, outcome_at, outcome_of, IsMarked}
 use Rattle.clearing.proofs.Outcomes.{claims_the_reading}
-use Rattle.clearing.proofs.Proved.{stopped_is_marked, out_is_marked}
+use Rattle.clearing.proofs.OutcomeEnds.{IsMarked-wide_at, IsMarked-no_unit_left}
 
 -- ---- numbers of the code
 record IsNumber (x : Fraction) : Type 0 where
@@ -67,14 +67,14 @@ run_has_values left before orders r spent h =
 
 -- ---- the mark
 at_end : (batch : Batch) (units : ℕ) (end : Ending Reading) → joint_run largest largest units 0 batch.orders ≡ end → IsMarked batch units (outcome_at batch.orders units end)
-unfolding proved
+unfolding optimal_outcome
 at_end batch units (done r spent) is =
     let test = run_has_values units 0 batch.orders r spent is in
     let claims = claims_the_reading batch.orders r spent (cleared_is_greatest largest largest units 0 spent batch.orders r is) test in
-    let same : r ≡ claimed (proved r spent) (measure_of r.measure) = λ i. reading_with (sym claims.fills i) (sym claims.surplus i) (sym claims.points i) (sym claims.liability i) in
+    let same : r ≡ claim_of (optimal_outcome r spent) (measure_of r.measure) = λ i. reading_with (sym claims.fills i) (sym claims.surplus i) (sym claims.points i) (sym claims.liability i) in
     rw test (is ∙ ap (λ s. done s spent) same)
-at_end batch units (wide_at spent w) is = stopped_is_marked batch units spent w is
-at_end batch units (no_unit_left spent) is = out_is_marked batch units spent is
+at_end batch units (wide_at spent w) is = IsMarked-wide_at batch units spent w is
+at_end batch units (no_unit_left spent) is = IsMarked-no_unit_left batch units spent is
 at_end batch units (unbounded d spent) is = absurd (no_run_is_without_optimum largest largest units 0 spent batch.orders d is)
 
 pub outcomes_are_marked : OutcomesAreMarked
