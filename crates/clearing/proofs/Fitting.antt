@@ -20,7 +20,8 @@ use Rattle.form.specs.Payoff.{option_of}
 use Rattle.exact_num.specs.Steps.{and_then}
 use Rattle.line_cover.specs.Net.{add_for_side}
 use Rattle.exact_num.specs.Tests.{is_same}
-use Rattle.cert_check.specs.Cover.{add_premiums, surplus_holds, add_fill, add_all_same, balances_at, balances_all, fallback_holds}
+use Rattle.cert_check.specs.Cover.{add_premiums, add_fill, add_all_same, balances_at, balances_all, fallback_holds}
+use Rattle.cert_check.specs.Tests.{surplus_holds}
 use Rattle.clearing.proofs.Wholes.{wholes}
 
 -- a step gives a whole number of at most this size

@@ -15,7 +15,7 @@ use Rattle.exact_num.proofs.Fractions.{divides, common_positive}
 use Rattle.exact_num.proofs.Ratios.{dot_part, sum_part, neg_part, whole_part, same_part, one_part, sign_part, more_parts, append_parts}
 use Rattle.table_run.specs.Places.{at, listed}
 use Rattle.table_run.specs.Program.{column}
-use Rattle.table_run.specs.Optimum.{IsNotBelowZero}
+use Rattle.exact_num.specs.Fraction.{IsNotBelowZero}
 use Rattle.form.specs.declared.orders.Side.{Side}
 use Rattle.form.specs.declared.orders.Side.TheVariants.{Buy, Sell}
 use Rattle.form.specs.declared.orders.Order.{Order}

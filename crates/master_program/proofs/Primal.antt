@@ -14,7 +14,7 @@ use Rattle.exact_num.proofs.Fractions.{divides, common_positive, amount_is_exact
 use Rattle.exact_num.proofs.Ratios.{dot_part, same_part, sign_part, append_parts}
 use Rattle.table_run.specs.Places.{at}
 use Rattle.table_run.specs.Program.{row}
-use Rattle.table_run.specs.Optimum.{IsNotBelowZero}
+use Rattle.exact_num.specs.Fraction.{IsNotBelowZero}
 use Rattle.form.specs.declared.orders.Order.{Order}
 use Rattle.form.specs.Vector.{scale_of}
 use Rattle.clearing_model.specs.Clearing.{signed_net, signed_premium}

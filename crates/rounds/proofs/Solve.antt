@@ -4,7 +4,8 @@ use Rattle.std.specs.List.{cons_option}
 use Rattle.std.proofs.lemmas.List.{length-map, length-append}
 use Rattle.exact_num.specs.Fraction.{Fraction}
 use Rattle.table_run.specs.Places.{at}
-use Rattle.table_run.specs.Optimum.{IsProgram, IsNotBelowZero}
+use Rattle.table_run.specs.Optimum.{IsProgram}
+use Rattle.exact_num.specs.Fraction.{IsNotBelowZero}
 use Rattle.table_run.specs.Ending.{Ending, wide_at, no_unit_left}
 use Rattle.table_run.specs.Run.{Optimum}
 use Rattle.form.specs.declared.orders.Order.{Order}

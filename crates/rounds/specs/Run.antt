@@ -11,8 +11,8 @@ use Rattle.line_cover.specs.Line.{line_holds}
 use Rattle.exact_num.specs.Steps.{and_then}
 use Rattle.line_cover.specs.Breakpoints.{first_state, later_states}
 use Rattle.measure.specs.Sums.{has_unit_mass}
-use Rattle.cert_check.specs.Cover.{surplus_holds}
-use Rattle.cert_check.specs.Events.{bound_holds}
+use Rattle.cert_check.specs.Tests.{surplus_holds}
+use Rattle.cert_check.specs.Tests.{bound_holds}
 use Rattle.master_program.specs.Master.{master}
 use Rattle.master_program.specs.Reading.{Reading, reading_of}
 

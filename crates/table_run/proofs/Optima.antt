@@ -15,7 +15,8 @@ use Rattle.table_run.specs.Program.{LinearProgram, row, column}
 use Rattle.table_run.specs.Table.{Row, Table, entries_at, first_table, right_side, rows_from, where_basic, basic_at}
 use Rattle.table_run.specs.Choice.{entering, least}
 use Rattle.table_run.specs.Run.{moved, unlimited, turn, run, read_off, direction}
-use Rattle.table_run.specs.Optimum.{IsProgram, IsOptimum, IsDirection, AreNotBelowZero, IsNotBelowZero, IsAsSaid, EndsAreAsSaid}
+use Rattle.table_run.specs.Optimum.{IsProgram, IsOptimum, IsDirection, AreNotBelowZero, IsAsSaid, EndsAreAsSaid}
+use Rattle.exact_num.specs.Fraction.{IsNotBelowZero}
 use Rattle.table_run.proofs.Entries.{IsTable, turn_out}
 use Rattle.table_run.specs.Tableau.{tableau_of, Tableau, IsFeasible, IsPivot, HaveSameSolutions, Solves, row_at}
 use Rattle.table_run.proofs.Pivot.{point, row_at-point, point_solves, point_earns, tied_refl, tied_trans, tied_after, good_after}
