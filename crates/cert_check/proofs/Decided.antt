@@ -3,9 +3,9 @@ use Rattle.std.proofs.Common.{◌≡◌, Bool, true, false, List, [], ◌∷◌,
 use Rattle.std.proofs.lemmas.List.Elements.{All-nil, All-cons}
 use Rattle.arithmetic.proofs.Sums.{All-head, All-tail}
 use Rattle.exact_num.specs.declared.misfit.Wide.{Wide as Misfit}
-use Rattle.exact_num.specs.Fraction.{Fraction}
+use Rattle.exact_num.specs.Fraction.{Fraction, IsNotBelowZero}
 use Rattle.exact_num.proofs.After.{after_value}
-use Rattle.frac.specs.declared.bits128.Frac128.{Frac128}
+use Rattle.frac.specs.declared.frac128.Frac128.{Frac128}
 use Rattle.frac.specs.Range.{limit}
 use Rattle.frac.specs.Value.{fraction_of}
 use Rattle.form.specs.declared.orders.Order.{Order}
@@ -15,7 +15,6 @@ use Rattle.line_cover.proofs.Sound.{lines_that_hold_close, lines_that_fail_do_no
 use Rattle.frac.proofs.Lowest.{lowest_of}
 use Rattle.exact_num.proofs.Loops.{both, not_both}
 use Rattle.exact_num.proofs.Order.{same_parts}
-use Rattle.exact_num.specs.Fraction.{IsNotBelowZero}
 use Rattle.sign_tree.specs.Read.{node_of, placed_of}
 use Rattle.sign_tree.proofs.Sound.{walks_close_trees}
 use Rattle.sign_tree.proofs.Refuted.{open_walks_close_no_tree}
@@ -37,9 +36,8 @@ use Rattle.cert_check.specs.declared.outcome.Judgement.{Judgement}
 use Rattle.cert_check.specs.declared.outcome.Judgement.TheVariants.{Yes, No as Refused, Wide as TooWide}
 use Rattle.cert_check.specs.Shape.{has_shape, are_fills}
 use Rattle.cert_check.specs.Cover.{mark_covers}
-use Rattle.cert_check.specs.Tests.{surplus_holds}
+use Rattle.cert_check.specs.Tests.{surplus_holds, bound_holds}
 use Rattle.cert_check.specs.Events.{check, judge_mark, cover_condition_holds}
-use Rattle.cert_check.specs.Tests.{bound_holds}
 use Rattle.cert_check.specs.Conditions.{IfOptimal, IsEnough, LeavesSurplus, Meets}
 use Rattle.cert_check.specs.Laws.{Says, VerdictsDecide}
 use Rattle.cert_check.proofs.Shapes.{shape_met, shape_unmet, fills_met, fills_unmet}

@@ -17,3 +17,6 @@ pub mod Loops
 pub mod Tested
 pub mod Stands
 pub mod GreaterLimit
+pub mod GreaterLimits
+pub mod WithinLimits
+pub mod Amounts

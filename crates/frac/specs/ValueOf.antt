@@ -6,7 +6,7 @@ use Rattle.arithmetic.specs.Gcd.{gcd}
 use Rattle.exact_num.specs.Fraction.{Fraction}
 use Rattle.exact_num.specs.Tests.{is_lowest}
 use Rattle.exact_num.proofs.Values.{whole_is_lowest}
-use Rattle.frac.specs.declared.bits128.Frac128.{Frac128}
+use Rattle.frac.specs.declared.frac128.Frac128.{Frac128}
 
 -- whether its parts are of 128 bits
 abbrev pub has_128_bits : Fraction → Bool

@@ -3,9 +3,9 @@ use Rattle.std.proofs.Common.{◌≡◌, Bool, true, false, List, [], ◌∷◌,
 use Rattle.std.proofs.lemmas.List.{length-map}
 use Rattle.std.proofs.lemmas.List.Elements.{All-nil, All-cons}
 use Rattle.exact_num.specs.declared.misfit.Wide.{Wide as Misfit}
-use Rattle.exact_num.specs.Fraction.{IsLowest}
+use Rattle.exact_num.specs.Fraction.{IsLowest, IsNotBelowZero}
 use Rattle.exact_num.specs.CommonDenominator.{common_denominator, amount_over}
-use Rattle.frac.specs.declared.bits128.Frac128.{Frac128}
+use Rattle.frac.specs.declared.frac128.Frac128.{Frac128}
 use Rattle.frac.specs.Range.{limit}
 use Rattle.frac.specs.Value.{fraction_of}
 use Rattle.frac.proofs.Lowest.{lowest_of}
@@ -23,7 +23,6 @@ use Rattle.sign_tree.specs.Read.{node_of, placed_of}
 use Rattle.sign_tree.specs.Walk.{fraction_legs, closes_of}
 use Rattle.sign_tree.specs.Verdict.{tree_verdict}
 use Rattle.sign_tree.specs.Laws.{IsClosedOver, IsEnough}
-use Rattle.exact_num.specs.Fraction.{IsNotBelowZero}
 use Rattle.sign_tree.proofs.Sound.{walks_close_trees}
 use Rattle.sign_tree.proofs.Refuted.{open_walks_close_no_tree}
 

@@ -3,7 +3,7 @@ use Rattle.std.proofs.Common.{◌≡◌, ℕ, ◌*◌, ◌≤◌, List, [], ◌�
 use Rattle.std.proofs.lemmas.List.{length-map}
 use Rattle.std.proofs.lemmas.List.Elements.{All-nil, All-cons, All-append}
 use Rattle.arithmetic.proofs.Sums.{All-head, All-tail, All-of_map}
-use Rattle.exact_num.specs.Fraction.{Fraction, IsLowest}
+use Rattle.exact_num.specs.Fraction.{Fraction, IsLowest, IsNotBelowZero}
 use Rattle.exact_num.specs.CommonDenominator.{common_denominator, amount_over}
 use Rattle.exact_num.proofs.Fractions.{common_positive}
 use Rattle.exact_num.proofs.Tested.{lowest_are_defined}
@@ -17,7 +17,6 @@ use Rattle.clearing_model.specs.Certificate.{filled_over, by_of}
 use Rattle.exact_num.proofs.Stands.{Stands, amounts_stand}
 use Rattle.market_laws.proofs.Single.{one_leg}
 use Rattle.sign_tree.specs.Walk.{FractionLeg, fraction_legs, leg_of, exposure_of_side}
-use Rattle.exact_num.specs.Fraction.{IsNotBelowZero}
 use Rattle.sign_tree.proofs.LeafSums.{amount_of, has_amount, leg_over, legs_over, LegHasAmount, MultiplierHasAmount}
 
 -- the legs of the walk are those of the fills
