@@ -5,13 +5,13 @@ use Rattle.std.specs.List.{All}
 use Rattle.std.proofs.lemmas.Int.{ints}
 use Rattle.std.proofs.lemmas.List.{length-map}
 use Rattle.exact_num.specs.declared.misfit.Wide.{Wide}
-use Rattle.exact_num.specs.Fraction.{Fraction, IsLowest}
+use Rattle.exact_num.specs.Fraction.{Fraction, IsLowest, IsNotBelowZero}
 use Rattle.table_run.specs.Places.{at}
 use Rattle.table_run.specs.Program.{LinearProgram}
 use Rattle.table_run.specs.Table.{Table, first_table}
 use Rattle.table_run.specs.Ending.{Ending, wide_at}
 use Rattle.table_run.specs.Run.{Optimum, run_from, run}
-use Rattle.table_run.specs.Optimum.{IsProgram, IsNotBelowZero, IsAsSaid}
+use Rattle.table_run.specs.Optimum.{IsProgram, IsAsSaid}
 use Rattle.table_run.specs.Choose.{bases_of}
 use Rattle.table_run.proofs.Optima.{ends_are_as_said}
 use Rattle.table_run.proofs.Suffice.{units_suffice}

@@ -2,7 +2,7 @@
 ghost use Rattle.std.specs.Prelude.{◌≡◌, ◌+◌, ◌-◌, ◌*◌, ◌<◌, ◌≤◌, ℕ, unsigned_abs, vec_len};
 ghost use Rattle.std.specs.List.{All};
 ghost use Rattle.table_run.specs.Choose.{bases_of};
-ghost use Rattle.table_run.specs.Optimum.{IsNotBelowZero};
+ghost use Rattle.exact_num.specs.Fraction.{IsNotBelowZero};
 ghost use Rattle.table_run.specs.Ending.{unbounded};
 ghost use Rattle.table_run.specs.Run.{direction, read_off, run as run_of};
 ghost use Rattle.simplex.specs.Answers.{HoldsOf, IsAnswer, solved_ending};
