@@ -12,3 +12,4 @@ pub mod Multiples
 pub mod StateOf
 pub mod Directions
 pub mod WorkedStates
+pub mod MadeEntries

@@ -6,3 +6,4 @@ pub mod ProductSteps
 pub mod ShareSteps
 pub mod WholeSteps
 pub mod ValueOf
+pub mod PartSteps

@@ -8,6 +8,7 @@ ghost use Rattle.arithmetic.proofs.Integers.{le_pred, le_pos};
 ghost use Rattle.frac.specs.Range.{limit};
 
 mod order;
+mod parts;
 mod products;
 mod sizes;
 mod sums;
