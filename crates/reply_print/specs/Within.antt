@@ -4,6 +4,7 @@ use Rattle.std.specs.List.{AllByRecursion}
 use Rattle.exact_num.specs.Fraction.{IsLowest, over}
 use Rattle.form.specs.declared.orders.Side.{Side}
 use Rattle.form.specs.declared.orders.Side.TheVariants.{Buy, Sell}
+use Rattle.form.specs.declared.limits.TheConstants.{MAX_UNDERLYINGS, MAX_PRICE, MAX_QUANTITY, MAX_ORDERS}
 use Rattle.form.specs.Limits.{IsListed}
 use Rattle.form.specs.Payoff.{option_of}
 use Rattle.measure.specs.declared.measures.Weighted.{Weighted}
@@ -42,7 +43,7 @@ abbrev pub IsBatchNumber : ℕ → Type 0
 IsBatchNumber number = IsFrom 1 2000000 number
 
 abbrev pub IsMarketSize : ℕ → Type 0
-IsMarketSize underlyings = IsFrom 1 8 underlyings
+IsMarketSize underlyings = IsFrom 1 MAX_UNDERLYINGS underlyings
 
 -- at most 2^127 - 1 in size
 abbrev pub IsSmall : ℤ → Type 0
@@ -62,8 +63,8 @@ IsBundleWithin legs = IsFrom 1 4 (length legs) × AllByRecursion IsLegWithin leg
 
 abbrev pub IsOrderWithin : Order → Type 0
 IsOrderWithin order =
-    IsOrderNumber order.id × IsAccount order.account × IsBundleWithin order.legs × (order.price ≤ 1000000000000) × IsFrom 1 1000000 order.quantity
-    × (order.quantity * sizes_of order.legs ≤ 1000000)
+    IsOrderNumber order.id × IsAccount order.account × IsBundleWithin order.legs × (order.price ≤ MAX_PRICE) × IsFrom 1 MAX_QUANTITY order.quantity
+    × (order.quantity * sizes_of order.legs ≤ MAX_QUANTITY)
 
 -- ---- certificates
 
@@ -102,7 +103,7 @@ abbrev pub IsOutcomeWithin : Outcome → Type 0
 IsOutcomeWithin outcome = (outcome.units ≤ 20000) × IsMarkWithin outcome.mark
 
 abbrev pub IsBatchWithin : Batch → Type 0
-IsBatchWithin batch = IsMarketSize batch.underlyings × (length batch.orders ≤ 256) × AllByRecursion IsOrderWithin batch.orders
+IsBatchWithin batch = IsMarketSize batch.underlyings × (length batch.orders ≤ MAX_ORDERS) × AllByRecursion IsOrderWithin batch.orders
 
 -- ---- replies
 

@@ -3,7 +3,7 @@
 use form::{Form, Side};
 use std::marker::Model;
 
-/// An option and how many of it.
+/// An option and how often it counts; the count is not 0.
 #[derive(Clone, Copy, Debug, PartialEq, Eq)]
 pub struct Leg {
     pub count: i16,
@@ -43,7 +43,7 @@ impl Legs {
     }
 }
 
-/// An order for a bundle.
+/// An order for a bundle, at a limit price in ticks.
 #[derive(Debug, Drop)]
 pub struct Order {
     pub id: u64,

@@ -65,7 +65,7 @@ fn reply_value(alloc: Global, line: u32, reply: &Reply) -> Result<Value, AllocEr
     }
 }
 
-/// The line of a reply, without its line feed.
+/// The line of a reply, without its line feed, for a line and a reply within their ranges.
 pub fn print(alloc: Global, line: u32, reply: &Reply) -> Result<Vec<u8>, AllocError>
     requires { IsWithin line reply.now }
     ensures { IfOk result (λ text. text.items ≡ reply_line line reply.now) }

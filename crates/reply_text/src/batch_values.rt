@@ -1,11 +1,11 @@
 // The orders and the batch that are taken out of a line, where they are within their ranges.
-ghost use Rattle.std.specs.Prelude.{◌≡◌, ◌∷◌, [], ◌≤◌, IfOk, length, option_map, option_and_then, pos, unsigned_abs, nat_le, ◌*◌, ◌&&◌, codes, Some};
+ghost use Rattle.std.specs.Prelude.{◌≡◌, ◌∷◌, [], ◌≤◌, IfOk, length, option_map, pos, unsigned_abs, nat_le};
 ghost use Rattle.std.specs.List.{list_all};
-ghost use Rattle.serde_json.specs.View.{view, items_view};
+ghost use Rattle.serde_json.specs.View.{view};
 ghost use Rattle.reply_print.specs.Within.{sizes_of};
-ghost use Rattle.reply_text.specs.BatchValues.{entry_from as entry_found, is_zero, has_limits as limits_kept, listed_form as form_listed, form_at as form_found, counted, leg_of, leg_from as leg_found, bundle_from as bundle_found, side_from, order_for as order_for_legs, order_from as order_found};
+ghost use Rattle.reply_text.specs.BatchValues.{entry_from as entry_found, is_zero, has_limits as limits_kept, listed_form as form_listed, form_at as form_found, count_at as count_found, leg_of, leg_from as leg_found, bundle_from as bundle_found, side_at as side_found, is_bundle, order_for as order_for_legs, order_from as order_found};
 ghost use Rattle.reply_text.specs.ReplyValues.{batch_from as batch_found};
-ghost use Rattle.reply_text.specs.Taking.{items_map, take_at};
+ghost use Rattle.reply_text.specs.Taking.{values_map};
 
 use crate::taking::{account_at, items_at, natural_at, order_at, size_at};
 use form::{Form, MAX_ORDERS, MAX_PRICE, MAX_QUANTITY, MAX_STRIKE, MAX_WEIGHT, Side};
@@ -24,7 +24,7 @@ fn entry_from(value: &Value) -> Option<i64>
 }
 
 fn all_entries(alloc: Global, items: &[Value]) -> Result<Option<Vec<i64>>, AllocError>
-    ensures { IfOk result (λ o. option_map (λ v. v.items) o ≡ items_map entry_found (items_view items.now)) }
+    ensures { IfOk result (λ o. option_map (λ v. v.items) o ≡ values_map entry_found items.now) }
 {
     let mut entries = Vec::new(alloc);
     for item in items {
@@ -37,7 +37,7 @@ fn all_entries(alloc: Global, items: &[Value]) -> Result<Option<Vec<i64>>, Alloc
 }
 
 fn are_small(weights: &[i64]) -> bool
-    ensures { result ≡ list_all (λ w. nat_le (unsigned_abs w) 1000) weights.now }
+    ensures { result ≡ list_all (λ w. nat_le (unsigned_abs w) MAX_WEIGHT) weights.now }
 {
     weights
         .iter()
@@ -86,7 +86,7 @@ fn form_at(alloc: Global, value: &Value) -> Result<Option<Form>, AllocError>
 
 // A count that is not 0.
 fn count_at(value: &Value) -> Option<i16>
-    ensures { result ≡ take_at (codes "count") (λ e. option_and_then counted (entry_found e)) (view value.now) }
+    ensures { result ≡ count_found (view value.now) }
 {
     let count = value.get("count").and_then(Value::as_i64)?;
     let size = count.unsigned_abs();
@@ -110,7 +110,7 @@ fn leg_from(alloc: Global, value: &Value) -> Result<Option<Leg>, AllocError>
 }
 
 fn all_legs(alloc: Global, items: &[Value]) -> Result<Option<Vec<Leg>>, AllocError>
-    ensures { IfOk result (λ o. option_map (λ v. v.items) o ≡ items_map leg_found (items_view items.now)) }
+    ensures { IfOk result (λ o. option_map (λ v. v.items) o ≡ values_map leg_found items.now) }
 {
     let mut legs = Vec::new(alloc);
     for item in items {
@@ -152,7 +152,7 @@ fn legs_from(alloc: Global, value: &Value, single: bool) -> Result<Option<Legs>,
 }
 
 fn side_at(value: &Value) -> Option<Side>
-    ensures { result ≡ take_at (codes "side") (λ e. Some (side_from e)) (view value.now) }
+    ensures { result ≡ side_found (view value.now) }
 {
     let side = value.get("side")?;
     Some(if is_word(side, "sell") {
@@ -176,7 +176,7 @@ fn sizes(legs: &[Leg]) -> u64
 
 // One to four legs, and no more of them than an order may have.
 fn are_within(legs: &[Leg], quantity: u32) -> bool
-    ensures { result ≡ ((nat_le 1 (length legs.now) && nat_le (length legs.now) 4) && nat_le (quantity * sizes_of legs.now) 1000000) }
+    ensures { result ≡ is_bundle legs.now quantity }
 {
     if legs.is_empty() || legs.len() > 4 {
         return false;
@@ -222,7 +222,7 @@ fn all_orders(
     items: &[Value],
     single: bool,
 ) -> Result<Option<Vec<Order>>, AllocError>
-    ensures { IfOk result (λ o. option_map (λ v. v.items) o ≡ items_map (order_found single) (items_view items.now)) }
+    ensures { IfOk result (λ o. option_map (λ v. v.items) o ≡ values_map (order_found single) items.now) }
 {
     let mut orders = Vec::new(alloc);
     for item in items {

@@ -6,7 +6,7 @@ ghost use Rattle.reply_shape.specs.Numbers.{fraction_from as fraction_read};
 ghost use Rattle.frac.specs.ValueOf.{value_from};
 ghost use Rattle.reply_text.specs.BatchValues.{fraction_from as fraction_found, whole_from};
 ghost use Rattle.reply_text.specs.OutcomeValues.{state_at as state_found, point_from as point_found, multiplier_from as multiplier_found, leaf_from as leaf_found, node_from as node_found, nodes_from, signs_of, cover_from as cover_found, certificate_from as certificate_found, pair_from as pair_found, operator_of as operator_named, wide_from as wide_found};
-ghost use Rattle.reply_text.specs.Taking.{items_map, take_at};
+ghost use Rattle.reply_text.specs.Taking.{values_map, take_at};
 
 use crate::taking::{LIMIT, items_at, natural_at, whole_within};
 use cert_check::{Cover, Mark};
@@ -59,7 +59,7 @@ pub(crate) fn all_fractions(
     alloc: Global,
     items: &[Value],
 ) -> Result<Option<Vec<Frac128>>, AllocError>
-    ensures { IfOk result (λ o. option_map (λ v. v.items) o ≡ items_map fraction_found (items_view items.now)) }
+    ensures { IfOk result (λ o. option_map (λ v. v.items) o ≡ values_map fraction_found items.now) }
 {
     let mut fractions = Vec::new(alloc);
     for item in items {
@@ -79,7 +79,7 @@ fn entry_from(value: &Value) -> Option<i128>
 }
 
 fn all_entries(alloc: Global, items: &[Value]) -> Result<Option<Vec<i128>>, AllocError>
-    ensures { IfOk result (λ o. option_map (λ v. v.items) o ≡ items_map (whole_from limit) (items_view items.now)) }
+    ensures { IfOk result (λ o. option_map (λ v. v.items) o ≡ values_map (whole_from limit) items.now) }
 {
     let mut entries = Vec::new(alloc);
     for item in items {
@@ -116,7 +116,7 @@ fn point_from(alloc: Global, value: &Value) -> Result<Option<Weighted>, AllocErr
 }
 
 fn all_points(alloc: Global, items: &[Value]) -> Result<Option<Vec<Weighted>>, AllocError>
-    ensures { IfOk result (λ o. option_map (λ v. v.items) o ≡ items_map point_found (items_view items.now)) }
+    ensures { IfOk result (λ o. option_map (λ v. v.items) o ≡ values_map point_found items.now) }
 {
     let mut points = Vec::new(alloc);
     for item in items {
@@ -137,7 +137,7 @@ fn multiplier_from(value: &Value) -> Option<Multiplier>
 }
 
 fn all_multipliers(alloc: Global, items: &[Value]) -> Result<Option<Vec<Multiplier>>, AllocError>
-    ensures { IfOk result (λ o. option_map (λ v. v.items) o ≡ items_map multiplier_found (items_view items.now)) }
+    ensures { IfOk result (λ o. option_map (λ v. v.items) o ≡ values_map multiplier_found items.now) }
 {
     let mut multipliers = Vec::new(alloc);
     for item in items {

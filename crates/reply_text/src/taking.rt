@@ -6,6 +6,7 @@ ghost use Rattle.reply_text.specs.BatchValues.{bounded, whole_from};
 ghost use Rattle.reply_text.specs.ReplyValues.{account_at as account_found, market_at as market_found, size_at as size_found};
 ghost use Rattle.reply_text.specs.Taking.{natural_at as natural_found, take_at, from_to as number_from_to, items_at as items_found};
 
+use form::MAX_UNDERLYINGS;
 use reply_shape::numbers::value_of_digits;
 use serde_json::Value;
 
@@ -78,7 +79,7 @@ pub(crate) fn market_at(value: &Value) -> Option<u32>
 pub(crate) fn size_at(value: &Value) -> Option<u8>
     ensures { result ≡ size_found (view value.now) }
 {
-    let underlyings = natural_at(value, 1, 8, "underlyings")?;
+    let underlyings = natural_at(value, 1, u64::from(MAX_UNDERLYINGS), "underlyings")?;
     Some(underlyings as u8)
 }
 
