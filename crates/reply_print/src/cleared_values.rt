@@ -1,4 +1,5 @@
-// The JSON values of cleared batches. Members go in from the last to the first, each before those that are there.
+// The JSON values of cleared batches. Members go in from the last to the first, each before
+// those that are there.
 ghost use Rattle.std.specs.Prelude.{◌≡◌, ◌≤◌, IfOk, codes};
 ghost use Rattle.serde_json.specs.Data.{object, put, string, number, unsigned};
 ghost use Rattle.serde_json.specs.View.{view, members_view};
@@ -30,7 +31,8 @@ fn with(
     key: &str,
     value: Value,
 ) -> Result<Map<String, Value>, AllocError>
-    ensures { IfOk result (λ m. members_view m.entries ≡ put key.now (view value) (members_view map.entries)) }
+    ensures { IfOk result (λ m. members_view m.entries
+        ≡ put key.now (view value) (members_view map.entries)) }
 {
     serde_json::put(&mut map, alloc, key, value)?;
     Ok(map)
@@ -42,7 +44,8 @@ fn with_number(
     key: &str,
     n: u32,
 ) -> Result<Map<String, Value>, AllocError>
-    ensures { IfOk result (λ m. members_view m.entries ≡ put key.now (number (unsigned n)) (members_view map.entries)) }
+    ensures { IfOk result (λ m. members_view m.entries
+        ≡ put key.now (number (unsigned n)) (members_view map.entries)) }
 {
     with(alloc, map, key, Value::from(n))
 }
@@ -53,7 +56,8 @@ fn with_words(
     key: &str,
     text: &str,
 ) -> Result<Map<String, Value>, AllocError>
-    ensures { IfOk result (λ m. members_view m.entries ≡ put key.now (string text.now) (members_view map.entries)) }
+    ensures { IfOk result (λ m. members_view m.entries
+        ≡ put key.now (string text.now) (members_view map.entries)) }
 {
     let value = Value::try_from_str(alloc, text)?;
     with(alloc, map, key, value)
@@ -83,8 +87,10 @@ fn last_members(
     single: bool,
 ) -> Result<Map<String, Value>, AllocError>
     ensures { IfOk result (λ m. members_view m.entries
-        ≡ put (codes "underlyings") (number (unsigned underlyings)) (put (codes "units") (number (unsigned units))
-        (put (codes "version") (number (unsigned (version_of single))) (members_view map.entries)))) }
+        ≡ put (codes "underlyings") (number (unsigned underlyings))
+        (put (codes "units") (number (unsigned units))
+        (put (codes "version") (number (unsigned (version_of single)))
+        (members_view map.entries)))) }
 {
     let map = with_number(alloc, map, "version", version(single))?;
     let map = with_number(alloc, map, "units", units)?;
@@ -100,7 +106,8 @@ fn end_members(
 ) -> Result<Map<String, Value>, AllocError>
     requires within { IsMarkWithin outcome.now.mark }
     requires single { single ≡ are_single batch.now.orders }
-    ensures { IfOk result (λ m. members_view m.entries ≡ fields_data (cleared_end batch.now outcome.now outcome.now.mark single)) }
+    ensures { IfOk result (λ m. members_view m.entries
+        ≡ fields_data (cleared_end batch.now outcome.now outcome.now.mark single)) }
 {
     let map = wide_members(alloc, &outcome.mark)?;
     let map = last_members(alloc, map, batch.underlyings, outcome.units, single)?;
@@ -138,7 +145,8 @@ fn middle_members(
 ) -> Result<Map<String, Value>, AllocError>
     requires within { IsMarkWithin outcome.now.mark }
     ensures { IfOk result (λ m. members_view m.entries
-        ≡ fields_data (cleared_middle outcome.now.mark (are_single batch.now.orders) line market batch.now outcome.now)) }
+        ≡ fields_data (cleared_middle outcome.now.mark (are_single batch.now.orders)
+        line market batch.now outcome.now)) }
 {
     let single = is_version_1(batch.orders.as_slice());
     let map = end_members(alloc, batch, outcome, single)?;
@@ -155,7 +163,8 @@ fn certified(
     mark: &Mark,
 ) -> Result<Map<String, Value>, AllocError>
     requires within { IsMarkWithin mark.now }
-    ensures { IfOk result (λ m. members_view m.entries ≡ with_certificate mark.now (members_view map.entries)) }
+    ensures { IfOk result (λ m. members_view m.entries
+        ≡ with_certificate mark.now (members_view map.entries)) }
 {
     match mark {
         Mark::Optimal { cover, measure } => {
@@ -176,7 +185,8 @@ pub(crate) fn cleared_value(
     outcome: &Outcome,
 ) -> Result<Value, AllocError>
     requires within { IsMarkWithin outcome.now.mark }
-    ensures { IfOk result (λ v. view v ≡ piece_data (cleared_piece line number market batch.now outcome.now)) }
+    ensures { IfOk result (λ v. view v
+        ≡ piece_data (cleared_piece line number market batch.now outcome.now)) }
 {
     let map = middle_members(alloc, line, market, batch, outcome)?;
     let map = certified(alloc, map, &outcome.mark)?;

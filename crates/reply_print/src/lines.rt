@@ -21,7 +21,8 @@ fn settled_value(
     lapsed: u32,
     payouts: &[PaidOut],
 ) -> Result<Value, AllocError>
-    ensures { IfOk result (λ v. view v ≡ piece_data (settled_piece line market lapsed payouts.now)) }
+    ensures { IfOk result (λ v. view v
+        ≡ piece_data (settled_piece line market lapsed payouts.now)) }
 {
     let payouts = payouts_value(alloc, payouts)?;
     json!(in alloc; {"lapsed": lapsed, "line": line, "market": market, "payouts": payouts, "reply": "settled"})

@@ -132,7 +132,8 @@ fn nodes_value(
     multipliers: &[Multiplier],
 ) -> Result<Value, AllocError>
     requires { leaves_of nodes.now ≡ length multipliers.now }
-    ensures { IfOk result (λ v. view v ≡ piece_data (list (node_pieces nodes.now multipliers.now))) }
+    ensures { IfOk result (λ v. view v
+        ≡ piece_data (list (node_pieces nodes.now multipliers.now))) }
 {
     let mut values = Vec::new(alloc);
     let mut from = 0;

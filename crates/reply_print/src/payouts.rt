@@ -3,7 +3,8 @@
 use form::Side;
 use std::marker::Model;
 
-/// What the position of an order in a batch is paid, in ticks, or what it pays where the side is Sell.
+/// What the position of an order in a batch is paid, in ticks, or what it pays where the side is
+/// Sell.
 #[derive(Clone, Copy, Debug, PartialEq, Eq)]
 pub struct PaidOut {
     pub batch: u32,

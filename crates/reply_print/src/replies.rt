@@ -52,7 +52,8 @@ pub enum Reply {
         balance: i128,
         reserved: i128,
     },
-    /// The line was refused, by the number of the refusal; `field` is 0 but where a field is out of its range.
+    /// The line was refused, by the number of the refusal; `field` is 0 but where a field is out of
+    /// its range.
     Refused {
         number: u32,
         field: u8,

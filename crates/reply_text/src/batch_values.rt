@@ -222,7 +222,8 @@ fn all_orders(
     items: &[Value],
     single: bool,
 ) -> Result<Option<Vec<Order>>, AllocError>
-    ensures { IfOk result (λ o. option_map (λ v. v.items) o ≡ values_map (order_found single) items.now) }
+    ensures { IfOk result (λ o. option_map (λ v. v.items) o
+        ≡ values_map (order_found single) items.now) }
 {
     let mut orders = Vec::new(alloc);
     for item in items {

@@ -24,8 +24,8 @@ use std::alloc::{AllocError, Global};
 // The highest place of a leg in a batch.
 const MAX_PLACE: u64 = 1_024;
 
-// The fraction of the texts of its parts, where they are in lowest terms and at most 2^127 - 1 in size.
-#[tactic(auto, using(crate::proofs::FractionSteps::above_too_large, crate::proofs::FractionSteps::below_too_large, crate::proofs::FractionSteps::from_above))]
+// The fraction of the texts of its parts, where they are in lowest terms and at most 2^127 - 1 in
+// size.
 fn fraction_of_parts(above: &[u8], below: Option<&[u8]>) -> Option<Frac128>
     ensures { result ≡ value_from (fraction_read above.now (option_map (λ b. b.now) below.entry)) }
 {
@@ -79,7 +79,8 @@ fn entry_from(value: &Value) -> Option<i128>
 }
 
 fn all_entries(alloc: Global, items: &[Value]) -> Result<Option<Vec<i128>>, AllocError>
-    ensures { IfOk result (λ o. option_map (λ v. v.items) o ≡ values_map (whole_from limit) items.now) }
+    ensures { IfOk result (λ o. option_map (λ v. v.items) o
+        ≡ values_map (whole_from limit) items.now) }
 {
     let mut entries = Vec::new(alloc);
     for item in items {
@@ -137,7 +138,8 @@ fn multiplier_from(value: &Value) -> Option<Multiplier>
 }
 
 fn all_multipliers(alloc: Global, items: &[Value]) -> Result<Option<Vec<Multiplier>>, AllocError>
-    ensures { IfOk result (λ o. option_map (λ v. v.items) o ≡ values_map multiplier_found items.now) }
+    ensures { IfOk result (λ o. option_map (λ v. v.items) o
+        ≡ values_map multiplier_found items.now) }
 {
     let mut multipliers = Vec::new(alloc);
     for item in items {
@@ -151,7 +153,8 @@ fn all_multipliers(alloc: Global, items: &[Value]) -> Result<Option<Vec<Multipli
 
 // A leaf and its multipliers. More of them than its count can hold are want of memory.
 fn leaf_from(alloc: Global, value: &Value) -> Result<Option<(Node, Vec<Multiplier>)>, AllocError>
-    ensures { IfOk result (λ o. option_map (λ p. (p.0, p.1.items)) o ≡ leaf_found (view value.now)) }
+    ensures { IfOk result (λ o. option_map (λ p. (p.0, p.1.items)) o
+        ≡ leaf_found (view value.now)) }
 {
     let Some(items) = items_at(value, "leaf") else {
         return Ok(None);
@@ -168,7 +171,8 @@ fn leaf_from(alloc: Global, value: &Value) -> Result<Option<(Node, Vec<Multiplie
 
 // A node, and the multipliers of a leaf.
 fn node_from(alloc: Global, value: &Value) -> Result<Option<(Node, Vec<Multiplier>)>, AllocError>
-    ensures { IfOk result (λ o. option_map (λ p. (p.0, p.1.items)) o ≡ node_found (view value.now)) }
+    ensures { IfOk result (λ o. option_map (λ p. (p.0, p.1.items)) o
+        ≡ node_found (view value.now)) }
 {
     if value.get("split").is_none() {
         return leaf_from(alloc, value);
@@ -242,7 +246,8 @@ fn certificate_from(alloc: Global, value: &Value) -> Result<Option<Mark>, AllocE
 }
 
 pub(crate) fn certificate_at(alloc: Global, value: &Value) -> Result<Option<Mark>, AllocError>
-    ensures { IfOk result (λ o. o ≡ take_at (codes "certificate") certificate_found (view value.now)) }
+    ensures { IfOk result (λ o. o
+        ≡ take_at (codes "certificate") certificate_found (view value.now)) }
 {
     match value.get("certificate") {
         Some(found) => certificate_from(alloc, found),

@@ -100,7 +100,8 @@ pub(crate) fn order_at(value: &Value) -> Option<u64>
 
 // The items of the list at a key.
 pub(crate) fn items_at<'a>(value: &'a Value, key: &str) -> Option<&'a [Value]>
-    ensures { option_map (λ items. items_view items.now) result ≡ items_found key.now (view value.now) }
+    ensures { option_map (λ items. items_view items.now) result
+        ≡ items_found key.now (view value.now) }
 {
     let items = value.get(key).and_then(Value::as_array)?;
     Some(items.as_slice())

@@ -1,4 +1,4 @@
-use Rattle.std.proofs.Common.{◌≡◌, ℕ, ℤ, pos, ◌≤ℤ◌, unsigned_abs, ap, ap₂, sym, ◌∙◌, arith, to_z-of_z}
+use Rattle.std.proofs.Common.{ℕ, ℤ, pos, ◌≤ℤ◌, unsigned_abs, ap, ap₂, sym, ◌∙◌, arith, to_z-of_z}
 use Rattle.std.proofs.lemmas.Int.{ints}
 use Rattle.exact_num.specs.Fraction.{over}
 use Rattle.frac.specs.ValueOf.{value_from}
