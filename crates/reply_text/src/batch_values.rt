@@ -165,7 +165,8 @@ fn side_at(value: &Value) -> Option<Side>
 // The sum of the sizes of the counts of at most four legs.
 fn sizes(legs: &[Leg]) -> u64
     requires { length legs.now ≤ 4 }
-    ensures { result ≡ sizes_of legs.now }
+    ensures sum { result ≡ sizes_of legs.now }
+    ensures bound { result ≤ 131072 }
 {
     let mut sum = 0u64;
     for leg in legs {
