@@ -6,6 +6,9 @@ pub mod Comparisons
 pub mod GcdLaws
 pub mod BinaryGcd
 pub mod Sums
+pub mod Lists
+pub mod Tests
 pub mod Parts
 pub mod Along
 pub mod Dots
+pub mod Signed

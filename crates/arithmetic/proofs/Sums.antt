@@ -1,8 +1,9 @@
 -- Weighted sums over lists.
 use Rattle.std.proofs.Common.{◌≡◌, ℕ, ◌+◌, ◌*◌, ◌≤◌, ◌<◌, List, [], ◌∷◌, length, get_or, take, zero, suc, add-one, arith, refl, All, ◌++◌, ap, map, zip, ℤ, pos, ◌+ℤ◌, ◌*ℤ◌}
 use Rattle.std.proofs.lemmas.Int.{ints}
+use Rattle.std.proofs.lemmas.List.Elements.{All-nil, All-cons}
 use native.Mathlib.Nat.{mul-le-mul_left}
-use Rattle.arithmetic.specs.Sums.{weigh, weigh_ℤ}
+use Rattle.arithmetic.specs.Sums.{weigh, weigh_ℤ, total}
 use Rattle.arithmetic.proofs.Products.{products}
 
 pub All-head : {A : Type 0} (P : A → Type 0) (x : A) (xs : List A) → All P (x ∷ xs) → P x
@@ -75,3 +76,21 @@ weigh_ℤ_more c f xs i d h = rw add-one (go xs i h)
     go [] i h = absurd (omega arith)
     go (x ∷ xs) zero h = omega (arith, ints)
     go (x ∷ xs) (suc i) h = omega (arith, ints, go xs i (omega arith))
+
+-- ---- plain sums
+pub total-map : {A B : Type 0} (v : B → ℤ) (f : A → B) (xs : List A) → total v (map f xs) ≡ total (λ x. v (f x)) xs
+total-map v f [] = refl
+total-map v f (x ∷ xs) = ap (λ s. v (f x) +ℤ s) (total-map v f xs)
+
+pub total_same : {A : Type 0} (v w : A → ℤ) → ((x : A) → v x ≡ w x) → (xs : List A) → total v xs ≡ total w xs
+total_same v w h [] = refl
+total_same v w h (x ∷ xs) = rw (h x) (ap (λ s. w x +ℤ s) (total_same v w h xs))
+
+pub total_weighs : {A : Type 0} (c f : A → ℕ) (xs : List A) → total (λ x. pos (c x * f x)) xs ≡ pos (weigh c f xs)
+total_weighs c f [] = refl
+total_weighs c f (x ∷ xs) = omega (arith, ints, total_weighs c f xs)
+
+-- what holds of what f makes of each item
+pub All-of_map : {A B : Type 0} (P : B → Type 0) (f : A → B) (xs : List A) → All P (map f xs) → All (λ x. P (f x)) xs
+All-of_map P f [] h = All-nil (λ x. P (f x))
+All-of_map P f (x ∷ xs) h = All-cons (λ x. P (f x)) x xs (All-head P (f x) (map f xs) h) (All-of_map P f xs (All-tail P (f x) (map f xs) h))

@@ -5,13 +5,15 @@ use Rattle.arithmetic.proofs.Sums.{All-head, All-tail}
 use Rattle.exact_num.specs.declared.misfit.Wide.{Wide as Misfit}
 use Rattle.exact_num.specs.Fraction.{Fraction}
 use Rattle.exact_num.proofs.After.{after_value}
-use Rattle.frac.specs.declared.bits128.Frac128.{Frac128}
+use Rattle.frac.specs.declared.frac128.Frac128.{Frac128}
 use Rattle.frac.specs.Range.{limit}
 use Rattle.frac.specs.Value.{fraction_of}
 use Rattle.form.specs.declared.orders.Order.{Order}
 use Rattle.form.specs.declared.orders.Batch.{Batch}
 use Rattle.clearing_model.specs.Certificate.{IsFill, AreFractionFills, HasUnitMass, MeasureProves}
-use Rattle.line_cover.proofs.Sound.{both, not_both, lowest_of, lines_that_hold_close, lines_that_fail_do_not_close}
+use Rattle.line_cover.proofs.Sound.{lines_that_hold_close, lines_that_fail_do_not_close}
+use Rattle.frac.proofs.Lowest.{lowest_of}
+use Rattle.exact_num.proofs.Loops.{both, not_both}
 use Rattle.sign_tree.specs.Laws.{IsNotBelowZero}
 use Rattle.sign_tree.specs.Read.{node_of, placed_of}
 use Rattle.sign_tree.proofs.Sound.{walks_close_trees}
@@ -19,8 +21,10 @@ use Rattle.sign_tree.proofs.Refuted.{open_walks_close_no_tree}
 use Rattle.sign_tree.proofs.Decided.{multipliers_lowest}
 use Rattle.measure.specs.declared.measures.Measure.{Measure}
 use Rattle.measure.specs.Points.{point_of}
-use Rattle.measure.specs.Sums.{is_same, has_unit_mass, bound_of}
-use Rattle.measure.proofs.Sound.{same_passes, masses_are_exact, bounds_are_exact, bound_is_lowest, weights_lowest}
+use Rattle.measure.specs.Sums.{has_unit_mass, bound_of}
+use Rattle.exact_num.specs.Tests.{is_same}
+use Rattle.measure.proofs.Sound.{masses_are_exact, bounds_are_exact, bound_is_lowest, weights_lowest}
+use Rattle.exact_num.proofs.Tested.{same_passes}
 use Rattle.cert_check.specs.declared.outcome.Cover.{Cover}
 use Rattle.cert_check.specs.declared.outcome.Cover.TheVariants.{Line, Tree}
 use Rattle.cert_check.specs.declared.outcome.Mark.{Mark}

@@ -23,12 +23,12 @@ use Rattle.clearing_model.specs.Clearing.{Filled, SignedFill, for_side, signed_s
 use Rattle.form.specs.Vector.{is_same_option, is_same_bundle}
 use Rattle.clearing_model.specs.Balance.{one_if, balance_of}
 use Rattle.clearing_model.specs.Certificate.{AreFractionFills, signed_over}
-use Rattle.form.proofs.StepRatios.{Stands, sum_stands, negated_stands}
+use Rattle.exact_num.proofs.Stands.{Stands, sum_stands, negated_stands, zero_stands}
 use Rattle.market_laws.proofs.Legs.{signed_sums_agree}
 use Rattle.market_laws.proofs.Certificate.{signed_is}
-use Rattle.line_cover.proofs.Sound.{zero_stands, both, not_both}
-use Rattle.measure.specs.Sums.{is_same}
-use Rattle.measure.proofs.Sound.{ratio_is_same}
+use Rattle.exact_num.proofs.Loops.{both, not_both}
+use Rattle.exact_num.specs.Tests.{is_same}
+use Rattle.exact_num.proofs.Tested.{ratio_is_same}
 use Rattle.cert_check.specs.Cover.{add_fill, add_same, add_all_same, balances_at, balances_all, fallback_holds}
 use Rattle.cert_check.specs.Conditions.{OwesNothing}
 use Rattle.cert_check.proofs.Surplus.{same_is}

@@ -10,7 +10,7 @@ use Rattle.std.proofs.lemmas.List.{length-map}
 use Rattle.std.proofs.lemmas.List.Elements.{All-nil, All-cons}
 use Rattle.arithmetic.proofs.Sums.{All-head, All-tail}
 use Rattle.exact_num.specs.Fraction.{whole}
-use Rattle.frac.specs.declared.bits128.Frac128.{Frac128}
+use Rattle.frac.specs.declared.frac128.Frac128.{Frac128}
 use Rattle.frac.specs.Value.{fraction_of}
 use Rattle.form.specs.declared.orders.Order.{Order}
 use Rattle.form.specs.declared.orders.Batch.{Batch}
@@ -22,14 +22,15 @@ use Rattle.form.proofs.Vectors.{length-option_of}
 use Rattle.measure.specs.declared.measures.Weighted.{Weighted}
 use Rattle.measure.specs.declared.measures.Measure.{Measure}
 use Rattle.measure.specs.Points.{point_of}
-use Rattle.measure.proofs.Sound.{and_true, le_is_true}
+use Rattle.arithmetic.proofs.Tests.{and_true, int_le-true}
 use Rattle.cert_check.specs.declared.outcome.Cover.{Cover}
 use Rattle.cert_check.specs.declared.outcome.Cover.TheVariants.{Line, Tree}
 use Rattle.cert_check.specs.declared.outcome.Mark.{Mark}
 use Rattle.cert_check.specs.declared.outcome.Mark.TheVariants.{Optimal, Wide, Budget}
 use Rattle.cert_check.specs.declared.outcome.Outcome.{Outcome}
 use Rattle.cert_check.specs.Conditions.{IfOptimal, IsCoverOn, IsOfBatch}
-use Rattle.cert_check.specs.Shape.{forms_have, states_have, cover_fits, mark_fits, has_shape, is_fill, are_fills, is_at_most}
+use Rattle.cert_check.specs.Shape.{forms_have, states_have, cover_fits, mark_fits, has_shape, is_fill, are_fills}
+use Rattle.exact_num.specs.Tests.{is_at_most}
 
 equal_is_true : (a b : ℕ) → a ≡ b → (a == b) ≡ true
 equal_is_true a b h = grind (arith, nat_tests)
@@ -166,8 +167,8 @@ fills_pass (o ∷ os) (f ∷ fs) are =
     let here = All-head IsFill (o, fraction_of f) (zip os (map fraction_of fs)) are in
     let least : f.numerator ≤ℤ pos (o.quantity * f.denominator) = here.2 in
     let most : (f.numerator *ℤ pos 1) ≤ℤ (pos o.quantity *ℤ pos f.denominator) = omega (arith, ints) in
-    let fits : is_at_most (fraction_of f) (whole (pos o.quantity)) ≡ true = le_is_true (f.numerator *ℤ pos 1) (pos o.quantity *ℤ pos f.denominator) most in
-    let passes = and_true (int_le (pos 0) f.numerator) (is_at_most (fraction_of f) (whole (pos o.quantity))) (le_is_true (pos 0) f.numerator here.1) fits in
+    let fits : is_at_most (fraction_of f) (whole (pos o.quantity)) ≡ true = int_le-true (f.numerator *ℤ pos 1) (pos o.quantity *ℤ pos f.denominator) most in
+    let passes = and_true (int_le (pos 0) f.numerator) (is_at_most (fraction_of f) (whole (pos o.quantity))) (int_le-true (pos 0) f.numerator here.1) fits in
     and_true (is_fill o (fraction_of f)) (are_fills os fs) passes (fills_pass os fs (All-tail IsFill (o, fraction_of f) (zip os (map fraction_of fs)) are))
 
 pub fills_met : (os : List Order) (fs : List Frac128) → length fs ≡ length os → are_fills os fs ≡ true → AreFractionFills os (map fraction_of fs)

@@ -18,11 +18,12 @@ use Rattle.frac.specs.Range.{limit}
 use Rattle.form.specs.declared.orders.Order.{Order}
 use Rattle.clearing_model.specs.Clearing.{for_side, signed_premium}
 use Rattle.clearing_model.specs.Certificate.{signed_over, IsPremiumLessLiability}
-use Rattle.form.proofs.StepRatios.{Stands, sum_stands, negated_stands}
+use Rattle.exact_num.proofs.Stands.{Stands, sum_stands, negated_stands, zero_stands}
 use Rattle.line_cover.specs.Net.{add_for_side}
-use Rattle.line_cover.proofs.Sound.{side_stands, zero_stands}
-use Rattle.measure.specs.Sums.{is_same}
-use Rattle.measure.proofs.Sound.{and_true, le_is_true, ratio_is_same}
+use Rattle.line_cover.proofs.Sound.{side_stands}
+use Rattle.exact_num.specs.Tests.{is_same}
+use Rattle.arithmetic.proofs.Tests.{and_true, int_le-true}
+use Rattle.exact_num.proofs.Tested.{ratio_is_same}
 use Rattle.cert_check.specs.Cover.{add_premiums, surplus_holds}
 
 pub same_is : (x y : Fraction) → IsLowest x → IsLowest y → is_same x y ≡ true → x ≡ y
@@ -84,6 +85,6 @@ surplus_is_not os fs L S low lowest_L h is least =
     let sum = surplus_sum os fs L S false low lowest_L h in
     let one = common_positive (L ∷ fs) (All-cons IsDefined L fs lowest_L.positive (λ k d lt. (low k d lt).positive)) in
     let same = ratio_is_same sum.left S (signed_premium (signed_over D os fs) -ℤ amount_over D L) D one sum.stands.ratio is in
-    let passes = and_true (is_same sum.left S) (int_le (pos 0) S.numerator) same (le_is_true (pos 0) S.numerator least) in
+    let passes = and_true (is_same sum.left S) (int_le (pos 0) S.numerator) same (int_le-true (pos 0) S.numerator least) in
     let test = sum.test in
     cc (passes, test)

@@ -9,10 +9,11 @@ use Rattle.form.specs.declared.orders.Order.{Order}
 use Rattle.form.specs.Payoff.{option_of}
 use Rattle.form.specs.Vector.{is_same_option}
 use Rattle.line_cover.specs.Net.{add_for_side}
-use Rattle.line_cover.specs.Line.{and_then, line_holds}
+use Rattle.line_cover.specs.Line.{line_holds}
+use Rattle.exact_num.specs.Steps.{and_then}
 use Rattle.sign_tree.specs.Read.{node_of, placed_of}
 use Rattle.sign_tree.specs.Walk.{fraction_legs, closes_of}
-use Rattle.measure.specs.Sums.{is_same}
+use Rattle.exact_num.specs.Tests.{is_same}
 use Rattle.cert_check.specs.declared.outcome.Cover.{Cover}
 use Rattle.cert_check.specs.declared.outcome.Cover.TheVariants.{Line, Tree}
 use Rattle.cert_check.specs.declared.outcome.Mark.{Mark}

@@ -7,9 +7,10 @@ use Rattle.frac.specs.Value.{fraction_of}
 use Rattle.form.specs.declared.orders.Order.{Order}
 use Rattle.form.specs.declared.orders.Batch.{Batch}
 use Rattle.clearing_model.specs.Certificate.{Point}
-use Rattle.line_cover.specs.Line.{and_then}
+use Rattle.exact_num.specs.Steps.{and_then}
 use Rattle.measure.specs.Points.{point_of}
-use Rattle.measure.specs.Sums.{is_same, has_unit_mass, bound_of}
+use Rattle.measure.specs.Sums.{has_unit_mass, bound_of}
+use Rattle.exact_num.specs.Tests.{is_same}
 use Rattle.cert_check.specs.declared.outcome.Mark.{Mark}
 use Rattle.cert_check.specs.declared.outcome.Mark.TheVariants.{Optimal, Wide as WideMark, Budget}
 use Rattle.cert_check.specs.declared.outcome.No.{No}

@@ -2,7 +2,7 @@
 use Rattle.std.specs.Prelude.{ℕ, ◌+◌, ◌==◌, List, [], ◌∷◌, length, int_le, nat_lt, Bool, true, ◌&&◌, pos, ◌*ℤ◌}
 use Rattle.exact_num.specs.Fraction.{Fraction, whole}
 use Rattle.frac.specs.Value.{fraction_of}
-use Rattle.frac.specs.declared.bits128.Frac128.{Frac128}
+use Rattle.frac.specs.declared.frac128.Frac128.{Frac128}
 use Rattle.form.specs.declared.orders.Order.{Order}
 use Rattle.form.specs.declared.orders.Batch.{Batch}
 use Rattle.measure.specs.declared.measures.Weighted.{Weighted}

@@ -7,7 +7,7 @@ ghost use Rattle.frac.specs.Range.{limit};
 ghost use Rattle.frac.specs.Value.{fraction_of};
 ghost use Rattle.form.specs.Limits.{HasItsForms};
 ghost use Rattle.line_cover.specs.Net.{add_for_side};
-ghost use Rattle.measure.specs.Sums.{is_same};
+ghost use Rattle.exact_num.specs.Tests.{is_same};
 ghost use Rattle.cert_check.specs.Cover.{add_premiums, cover_closes, mark_covers, surplus_holds};
 ghost use Rattle.cert_check.specs.Shape.{cover_fits, mark_fits};
 ghost use Rattle.line_cover.specs.Verdict.{line_verdict};

@@ -17,9 +17,9 @@ use Rattle.form.specs.declared.orders.Side.{Side}
 use Rattle.form.specs.declared.orders.Side.TheVariants.{Buy, Sell}
 use Rattle.form.specs.Vector.{is_same_option}
 use Rattle.form.specs.Payoff.{option_of}
-use Rattle.line_cover.specs.Line.{and_then}
+use Rattle.exact_num.specs.Steps.{and_then}
 use Rattle.line_cover.specs.Net.{add_for_side}
-use Rattle.measure.specs.Sums.{is_same}
+use Rattle.exact_num.specs.Tests.{is_same}
 use Rattle.cert_check.specs.Cover.{add_premiums, surplus_holds, add_fill, add_all_same, balances_at, balances_all, fallback_holds}
 use Rattle.clearing.proofs.Wholes.{wholes}
 

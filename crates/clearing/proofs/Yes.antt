@@ -10,7 +10,7 @@ use Rattle.form.specs.declared.orders.Order.{Order}
 use Rattle.form.specs.declared.orders.Batch.{Batch}
 use Rattle.clearing_model.specs.Clearing.{AreOn}
 use Rattle.form.specs.Limits.{IsOrderWithin, IsWithinLimits}
-use Rattle.line_cover.specs.Line.{and_then}
+use Rattle.exact_num.specs.Steps.{and_then}
 use Rattle.cert_check.specs.declared.outcome.Mark.TheVariants.{Wide, Budget}
 use Rattle.cert_check.specs.declared.outcome.No.{No}
 use Rattle.cert_check.specs.declared.outcome.No.TheVariants as no
@@ -25,17 +25,17 @@ use Rattle.master_program.specs.Reading.{Reading}
 use Rattle.rounds.proofs.Cleared.{cleared_is_greatest, cleared_passes_the_verdict}
 use Rattle.rounds.specs.Run.{joint_run}
 use Rattle.table_run.specs.Ending.{Ending, done, wide_at, no_unit_left, unbounded}
-use Rattle.clearing.specs.Outcome.{measure_of, proved, fallback, has_values, outcome_at, outcome_of}
+use Rattle.clearing.specs.Outcome.{measure_of, optimal_outcome, fallback, has_values, outcome_at, outcome_of}
 use Rattle.clearing.specs.Laws.{IsOnOne, OutcomesAreJudgedYes}
 use Rattle.clearing.proofs.Fitting.{surplus_fits, balances_fit}
 use Rattle.clearing.proofs.Judged.{not_wide, after_fills, is_yes}
 use Rattle.clearing.proofs.Outcomes.{IsFallback, is_fallback, amounts_small, wide_meets, budget_meets, claims_the_reading, are_on}
 
 -- ---- what a run clears
-proved_is_yes : (batch : Batch) (r : Reading) (limit units : ℕ) → IsOnOne batch → has_values r ≡ true → joint_run largest largest limit 0 batch.orders ≡ done r units → verdict_of largest batch (proved r units) ≡ Yes
-proved_is_yes batch r limit units on test run =
+optimal_outcome-yes : (batch : Batch) (r : Reading) (limit units : ℕ) → IsOnOne batch → has_values r ≡ true → joint_run largest largest limit 0 batch.orders ≡ done r units → verdict_of largest batch (optimal_outcome r units) ≡ Yes
+optimal_outcome-yes batch r limit units on test run =
     let are : AreOn 1 batch.orders = subst (λ n. AreOn n batch.orders) on.1 (are_on batch on.0) in
-    cleared_passes_the_verdict largest limit 0 units batch r on.1 are run (proved r units) (measure_of r.measure)
+    cleared_passes_the_verdict largest limit 0 units batch r on.1 are run (optimal_outcome r units) (measure_of r.measure)
     (claims_the_reading batch.orders r units (cleared_is_greatest largest largest limit 0 units batch.orders r run) test)
 
 -- ---- the fallback
@@ -77,8 +77,8 @@ budget_is_yes batch units within =
 
 -- ---- each outcome
 at_cleared : (batch : Batch) (units spent : ℕ) (r : Reading) (test : Bool) → has_values r ≡ test → IsOnOne batch → joint_run largest largest units 0 batch.orders ≡ done r spent
-    → verdict_of largest batch (if test then proved r spent else fallback batch.orders Budget units) ≡ Yes
-at_cleared batch units spent r true is on run = proved_is_yes batch r units spent on is run
+    → verdict_of largest batch (if test then optimal_outcome r spent else fallback batch.orders Budget units) ≡ Yes
+at_cleared batch units spent r true is on run = optimal_outcome-yes batch r units spent on is run
 at_cleared batch units spent r false is on run = budget_is_yes batch units on.0
 
 at_end : (batch : Batch) (units : ℕ) (end : Ending Reading) → IsOnOne batch → joint_run largest largest units 0 batch.orders ≡ end → verdict_of largest batch (outcome_at batch.orders units end) ≡ Yes

@@ -1,7 +1,7 @@
 -- Fills of a batch, what they earn and owe, and the surplus that they cover.
 use Rattle.std.specs.Prelude.{ℕ, ◌*◌, ◌≡◌, ◌≤◌, List, [], ◌∷◌, length, map, ℤ, pos, neg_ℤ, ◌+ℤ◌, ◌-ℤ◌, ◌*ℤ◌, ◌≤ℤ◌}
 use Rattle.std.specs.List.{zip, All}
-use Rattle.arithmetic.specs.Sums.{weigh_ℤ}
+use Rattle.arithmetic.specs.Sums.{weigh_ℤ, total}
 use Rattle.exact_num.specs.Fraction.{Fraction, IsDefined, AtMost}
 use Rattle.form.specs.declared.orders.Side.{Side}
 use Rattle.form.specs.declared.orders.Side.TheVariants.{Buy, Sell}
@@ -83,8 +83,7 @@ for_side Sell x = neg_ℤ x
 
 -- amount times f, added up over the buys, with a minus for the sells
 abbrev pub signed_sum : (Order → ℤ) → List SignedFill → ℤ
-signed_sum f [] = pos 0
-signed_sum f (fill ∷ fills) = for_side fill.0.side (f fill.0 *ℤ fill.1) +ℤ signed_sum f fills
+signed_sum f fills = total (λ (fill : SignedFill). for_side fill.0.side (f fill.0 *ℤ fill.1)) fills
 
 abbrev pub signed_net : List SignedFill → List ℕ → ℤ
 signed_net fills z = signed_sum (λ o. bundle_payoff (bundle_of o) z) fills

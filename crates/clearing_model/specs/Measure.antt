@@ -1,7 +1,7 @@
 -- Weighted states, the prices that they give, and the bound on every surplus.
 use Rattle.std.specs.Prelude.{ℕ, ◌*◌, ◌≡◌, ◌≤◌, List, [], ◌∷◌, ℤ, pos, ◌+ℤ◌, ◌-ℤ◌, ◌*ℤ◌, ◌≤ℤ◌}
 use Rattle.std.specs.List.{All}
-use Rattle.arithmetic.specs.Sums.{weigh}
+use Rattle.arithmetic.specs.Sums.{weigh, total}
 use Rattle.exact_num.specs.Fraction.{Fraction}
 use Rattle.exact_num.specs.CommonDenominator.{IsRatio}
 use Rattle.form.specs.declared.orders.Side.{Side}
@@ -15,8 +15,7 @@ WeightedState = List ℕ × ℤ
 
 -- the sum of weight times t: over W, the price of what always pays 1
 abbrev pub mass_of : List WeightedState → ℤ
-mass_of [] = pos 0
-mass_of (point ∷ points) = (point.1 *ℤ pos (scale_of point.0)) +ℤ mass_of points
+mass_of points = total (λ (point : WeightedState). point.1 *ℤ pos (scale_of point.0)) points
 
 -- a state whose weight is not below 0
 abbrev pub IsWeighted : ℕ → WeightedState → Type 0
@@ -28,8 +27,7 @@ IsMeasure n points W = (1 ≤ W) × All (IsWeighted n) points × (mass_of points
 
 -- the price of a bundle, over W: the sum of weight times payoff
 abbrev pub price_of : List BundleLeg → List WeightedState → ℤ
-price_of bundle [] = pos 0
-price_of bundle (point ∷ points) = (point.1 *ℤ bundle_payoff bundle point.0) +ℤ price_of bundle points
+price_of bundle points = total (λ (point : WeightedState). point.1 *ℤ bundle_payoff bundle point.0) points
 
 -- for a buy how far the limit is above the price, and for a sell how far below, or 0
 abbrev pub gain : Side → ℤ → ℤ → ℕ

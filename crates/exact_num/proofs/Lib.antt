@@ -13,4 +13,10 @@ pub mod Rationals
 pub mod Totals
 pub mod WholeNumbers
 pub mod After
+pub mod Loops
+pub mod Tested
+pub mod Stands
 pub mod GreaterLimit
+pub mod GreaterLimits
+pub mod WithinLimits
+pub mod Amounts

@@ -10,6 +10,7 @@ use Rattle.arithmetic.proofs.Integers.{*ℤ_cancel, *ℤ_cancel_le, *ℤ_mono}
 use Rattle.arithmetic.proofs.Quotients.{int_div-mul_cancel, unsigned_abs-int_div}
 use Rattle.arithmetic.proofs.Products.{products}
 use Rattle.arithmetic.proofs.Ring.{ring, V, K, ◌⊕◌, ◌⊗◌}
+use Rattle.exact_num.specs.Rationals.{Q, value, ◌+Q◌, ◌*Q◌, neg_Q, whole_Q, 0Q, 1Q, quotient_of, reduced_is_lowest, IsNotBelow0, IsAbove0, IsBelow0, IsAtMost, inv_Q}
 use Rattle.exact_num.specs.Fraction.{Fraction, IsLowest, IsSameValue, AtMost, whole, negated, reduced, plain_sum, plain_product, plain_dot}
 use Rattle.exact_num.specs.Fits.{add_of, sub_of, mul_of, div_of, sum_value, sum_fits, product_value, product_fits, inverse, signed_by}
 use Rattle.exact_num.proofs.Values.{lowest_prop, whole_is_lowest, negated_is_lowest, sum_is, sum_is_lowest}
@@ -17,31 +18,12 @@ use Rattle.exact_num.proofs.ProductValues.{positive_size, product_is, product_is
 use Rattle.exact_num.proofs.Order.{lowest_is_unique}
 use Rattle.exact_num.proofs.Answered.{answer_is}
 
-pub record Q : Type 0 where
-  pub fraction : Fraction
-  pub lowest : IsLowest fraction
-
 pub same_fraction : (x y : Q) → x.fraction ≡ y.fraction → x ≡ y
 same_fraction x y e = λ i. record { fraction = e i; lowest = to_path_p (λ i. IsLowest (e i)) {a = x.lowest} {b = y.lowest} (lowest_prop _ _ _) i }
 
 -- x is p / d
 abbrev pub Is : Q → ℤ → ℕ → Type 0
 Is x p d = (0 < d) × (x.fraction.numerator *ℤ pos d ≡ p *ℤ pos x.fraction.denominator)
-
--- ---- the value of a fraction, where its denominator is above 0
-lowest_of : (n : ℤ) (d : ℕ) → 0 < d → IsLowest (reduced n d)
-unfolding reduced
-lowest_of n d p =
-    let a = unsigned_abs n in
-    let g = gcd a d in
-    record {
-      positive = pos_of_quotient d g p (gcd_pos_right a d p) (gcd_dvd_right a d);
-      coprime = ap (λ (m : ℕ). gcd m (d / g)) (unsigned_abs-int_div n g) ∙ coprime_of_div a d (gcd_pos_right a d p);
-    }
-
-pub quotient_of : ℤ → ℕ → Q
-quotient_of n zero = record { fraction = whole (pos 0); lowest = whole_is_lowest (pos 0) }
-quotient_of n (suc d) = record { fraction = reduced n (suc d); lowest = lowest_of n (suc d) (omega arith) }
 
 pub quotient_is : (n : ℤ) (d : ℕ) → 0 < d → Is (quotient_of n d) n d
 unfolding quotient_of reduced
@@ -54,9 +36,6 @@ quotient_is n (suc d) p =
     let q : ℤ = int_div n (pos g) in
     let e : ℕ = suc d / g in
     (p, ap (λ (m : ℕ). q *ℤ pos m) (sym below) ∙ ring (q ∷ pos e ∷ pos g ∷ []) (V 0 ⊗ (V 1 ⊗ V 2)) ((V 0 ⊗ V 2) ⊗ V 1) refl ∙ ap (λ (z : ℤ). z *ℤ pos e) above)
-
-pub value : Fraction → Q
-value x = quotient_of x.numerator x.denominator
 
 pub value_is : (x : Fraction) → 0 < x.denominator → Is (value x) x.numerator x.denominator
 unfolding value
@@ -80,27 +59,7 @@ same_of x y p r d e h k same =
     ∙ ring (c ∷ pos e ∷ pos d ∷ pos b ∷ []) ((V 0 ⊗ V 1) ⊗ (V 2 ⊗ V 3)) ((V 0 ⊗ V 3) ⊗ (V 2 ⊗ V 1)) refl) in
     same_fraction x y (lowest_is_unique _ _ x.lowest y.lowest cross)
 
--- ---- the operations
-infixl 60 ◌+Q◌
-infixl 70 ◌*Q◌
-pub ◌+Q◌ : Q → Q → Q
-x +Q y = value (plain_sum x.fraction y.fraction)
-
-pub ◌*Q◌ : Q → Q → Q
-x *Q y = value (plain_product x.fraction y.fraction)
-
-pub neg_Q : Q → Q
-neg_Q x = value (negated x.fraction)
-
-pub whole_Q : ℤ → Q
-whole_Q z = value (whole z)
-
-pub 0Q : Q
-0Q = whole_Q (pos 0)
-
-pub 1Q : Q
-1Q = whole_Q (pos 1)
-
+-- ---- what the operations give
 pub sum_Q_is : (x y : Q) (p r : ℤ) (d e : ℕ) → Is x p d → Is y r e → Is (x +Q y) (p *ℤ pos e +ℤ r *ℤ pos d) (d * e)
 unfolding ◌+Q◌
 sum_Q_is x y p r d e h k =
@@ -309,15 +268,6 @@ example_step : (a f b z E G : Q) → (a +Q neg_Q (f *Q b)) *Q z +Q (E +Q neg_Q (
 example_step a f b z E G = simp rationals
 
 -- ---- the signs
-abbrev pub IsNotBelow0 : Q → Type 0
-IsNotBelow0 x = pos 0 ≤ℤ x.fraction.numerator
-
-abbrev pub IsAbove0 : Q → Type 0
-IsAbove0 x = pos 0 <ℤ x.fraction.numerator
-
-abbrev pub IsBelow0 : Q → Type 0
-IsBelow0 x = x.fraction.numerator <ℤ pos 0
-
 not_below_mul : (p : ℤ) (n : ℕ) → pos 0 ≤ℤ p → pos 0 ≤ℤ (p *ℤ pos n)
 not_below_mul p n h = omega (arith, ints, *ℤ_mono n (pos 0) p h)
 
@@ -381,9 +331,6 @@ zero_has x e =
     zero_numerator x.fraction.numerator x.fraction.denominator x.lowest.positive z.1
 
 -- ---- the order
-abbrev pub IsAtMost : Q → Q → Type 0
-IsAtMost x y = IsNotBelow0 (y +Q neg_Q x)
-
 cross_order : (a c : ℤ) (b d : ℕ) → (a *ℤ pos d) ≤ℤ (c *ℤ pos b) → pos 0 ≤ℤ (c *ℤ pos b +ℤ neg_ℤ a *ℤ pos d)
 cross_order a c b d h = omega (arith, ints, products, h)
 
@@ -412,9 +359,6 @@ at_most_trans x y z h k =
     subst IsNotBelow0 e (add_not_below _ _ k h)
 
 -- ---- the inverse
-pub inv_Q : Q → Q
-inv_Q x = value (inverse x.fraction)
-
 inv_Q_is : (x : Q) → x.fraction.numerator ≢ pos 0 → Is (inv_Q x) (signed_by x.fraction.numerator (pos x.fraction.denominator)) (unsigned_abs x.fraction.numerator)
 unfolding inv_Q inverse
 inv_Q_is x ne = value_is (inverse x.fraction) (positive_size x.fraction.numerator ne)

@@ -1,11 +1,9 @@
 -- Operators at the limit of 128 bits, worked by hand.
-use Rattle.std.specs.Prelude.{◌≡◌, ℕ, ◌-◌, ◌^◌, pos, negsuc, Ok, Err}
+use Rattle.std.specs.Prelude.{◌≡◌, ◌-◌, ◌^◌, pos, negsuc, Ok, Err}
 use Rattle.exact_num.specs.declared.misfit.Operator.TheVariants.{Add, Mul, Div, Whole}
 use Rattle.exact_num.specs.Fraction.{over, whole}
+use Rattle.exact_num.specs.Limit.{limit}
 use Rattle.exact_num.specs.Fits.{add_of, mul_of, div_of, whole_of, misfit}
-
-abbrev pub limit : ℕ
-limit = 2 ^ 127 - 1
 
 pub record OperatorsAtTheLimit : Type 0 where
   -- 1 / 2^126 and 1 / (2^126 - 1) have no sum

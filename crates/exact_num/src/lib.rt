@@ -9,7 +9,9 @@ pub mod divisor;
 pub mod laws;
 pub mod misfit;
 pub mod number;
+pub mod sums;
 
 pub use divisor::gcd;
 pub use misfit::{Operator, Wide};
 pub use number::Exact;
+pub use sums::{less_product, plus_product};

@@ -21,7 +21,8 @@ use Rattle.exact_num.proofs.Fractions.{amount_is_exact}
 use Rattle.exact_num.proofs.Order.{lowest_is_unique}
 use Rattle.exact_num.proofs.Values.{whole_is_lowest}
 use Rattle.exact_num.proofs.WholeNumbers.{mul_whole_is}
-use Rattle.form.specs.Primitive.{IsDirection, IsCommonMultiple, IsPrimitiveOf, IsPrimitiveDirection, multiple_with, multiple_from, common_multiple_of, multiples_of, primitive_vector, primitive_of}
+use Rattle.exact_num.specs.Steps.{fold_steps}
+use Rattle.form.specs.Primitive.{IsDirection, IsCommonMultiple, IsPrimitiveOf, IsPrimitiveDirection, multiple_with, common_multiple_of, multiples_of, primitive_vector, primitive_of}
 use Rattle.form.specs.Vector.{IsState}
 use Rattle.form.proofs.Divisors.{primitive_vectors_are_primitive}
 use Rattle.form.proofs.Multiples.{multiples_above}
@@ -59,7 +60,7 @@ record Reaches (n : ℕ) (fs : List Fraction) (D : Fraction) : Type 0 where
   multiple : IsCommonMultiple fs value
   least : (m : ℕ) → n ∣ m → IsCommonMultiple fs m → value ∣ m
 
-reaches : (limit n : ℕ) (fs : List Fraction) (D : Fraction) → 1 ≤ n → All IsLowest fs → multiple_from limit (whole (pos n)) fs ≡ Ok D → Reaches n fs D
+reaches : (limit n : ℕ) (fs : List Fraction) (D : Fraction) → 1 ≤ n → All IsLowest fs → fold_steps (multiple_with limit) (whole (pos n)) fs ≡ Ok D → Reaches n fs D
 reaches limit n [] D one lowest h = record {
   value = n;
   is = cc;
@@ -71,10 +72,10 @@ reaches limit n [] D one lowest h = record {
 reaches limit n (f ∷ fs) D one lowest h =
     let d = f.denominator in
     let k = (n / gcd n d) * d in
-    let step = after_value (multiple_with limit (whole (pos n)) f) (λ more. multiple_from limit more fs) D h in
+    let step = after_value (multiple_with limit (whole (pos n)) f) (λ more. fold_steps (multiple_with limit) more fs) D h in
     let is : step.value ≡ whole (pos k) = mul_whole_is limit (pos (n / gcd n d)) (pos d) step.value step.first in
     let above : 0 < k = least_multiple_above n d one (All-head IsLowest f fs lowest).positive in
-    let rest = reaches limit k fs D above (All-tail IsLowest f fs lowest) (ap (λ (x : Fraction). multiple_from limit x fs) (sym is) ∙ step.rest) in
+    let rest = reaches limit k fs D above (All-tail IsLowest f fs lowest) (ap (λ (x : Fraction). fold_steps (multiple_with limit) x fs) (sym is) ∙ step.rest) in
     record {
       value = rest.value;
       is = rest.is;

@@ -4,8 +4,6 @@ pub mod SameOption
 pub mod SameForm
 pub mod WholeSteps
 pub mod DotSteps
-pub mod ListSteps
-pub mod StepRatios
 pub mod Divisors
 pub mod LowestStates
 pub mod Multiples

@@ -8,13 +8,13 @@ use Rattle.form.specs.FormOf.{form_of}
 use Rattle.form.specs.Payoff.{option_of}
 use Rattle.form.proofs.Vectors.{forms_are_options, length-option_of}
 
-range_prop : (n : ℕ) → IsProp ((2 ≤ n) × (n ≤ 9))
+pub range_prop : (n : ℕ) → IsProp ((2 ≤ n) × (n ≤ 9))
 range_prop n = hlevel props
 
-nine_prop : (entries : List ℤ) → IsProp (length entries ≡ 9)
+pub nine_prop : (entries : List ℤ) → IsProp (length entries ≡ 9)
 nine_prop entries = hlevel props
 
-past_prop : (n : ℕ) (entries : List ℤ) → IsProp ((k : ℕ) → n ≤ k → get_or entries k (pos 0) ≡ pos 0)
+pub past_prop : (n : ℕ) (entries : List ℤ) → IsProp ((k : ℕ) → n ≤ k → get_or entries k (pos 0) ≡ pos 0)
 past_prop n entries = hlevel props
 
 pub form_is_option : (a b : Form) → option_of a ≡ option_of b → a ≡ b

@@ -3,14 +3,12 @@ use Rattle.std.proofs.Common.{◌≡◌, Bool, true, false, ◌&&◌, List, [], 
 use Rattle.std.proofs.lemmas.Bool.Decides.{Decides-int_eq, nat_tests}
 use Rattle.std.specs.Ordering.{int_eq}
 use lib.Pointwise.{pointwise, pointwise_decides}
+use Rattle.std.proofs.lemmas.Bool.{and_parts}
+use Rattle.arithmetic.proofs.Tests.{both_so}
 use Rattle.form.specs.Vector.{is_same_option}
 use Rattle.form.specs.declared.forms.Form.{Form}
 use Rattle.form.specs.Payoff.{option_of}
 use Rattle.form.proofs.Vectors.{forms_are_options}
-
-pub and_parts : (a b : Bool) → (a && b) ≡ true → (a ≡ true) × (b ≡ true)
-and_parts true b h = (refl, h)
-and_parts false b h = cc
 
 pub same_option_is : (u v : List ℤ) → is_same_option u v ≡ true → u ≡ v
 same_option_is [] [] h = refl
@@ -26,15 +24,9 @@ pub option_is_same : (v : List ℤ) → is_same_option v v ≡ true
 option_is_same [] = refl
 option_is_same (a ∷ v) = rw ((Decides-int_eq a a).1 refl) (option_is_same v)
 
-equal_tests : (a b : Bool) → (a ≡ true → b ≡ true) → (b ≡ true → a ≡ true) → a ≡ b
-equal_tests true true f g = refl
-equal_tests true false f g = sym (f refl)
-equal_tests false true f g = g refl
-equal_tests false false f g = refl
-
 -- two forms are equal, as `==` tests it, exactly where their options are the same
 pub forms_equal : (a b : Form) → (nat_eq a.count b.count && pointwise int_eq a.entries b.entries) ≡ is_same_option (option_of a) (option_of b)
-forms_equal a b = equal_tests _ _
+forms_equal a b = both_so _ _
     (λ h.
     let parts = and_parts (nat_eq a.count b.count) (pointwise int_eq a.entries b.entries) h in
     let counts : a.count ≡ b.count = grind (arith, nat_tests, parts.0) in

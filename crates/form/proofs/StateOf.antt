@@ -10,16 +10,8 @@ use Rattle.form.specs.declared.states.State.{State}
 use Rattle.form.specs.Vector.{positive_part}
 use Rattle.form.specs.States.{vector_of}
 use Rattle.form.specs.StateOf.{state_of, made_or_first, is_state, to_nine, nine_length, nine_zeros}
+use Rattle.form.proofs.SameForm.{range_prop, nine_prop, past_prop}
 use Rattle.form.proofs.DotSteps.{length-vector_of, get_or-vector_of}
-
-range_prop : (n : ℕ) → IsProp ((2 ≤ n) × (n ≤ 9))
-range_prop n = hlevel props
-
-nine_prop : (entries : List ℤ) → IsProp (length entries ≡ 9)
-nine_prop entries = hlevel props
-
-past_prop : (n : ℕ) (entries : List ℤ) → IsProp ((k : ℕ) → n ≤ k → get_or entries k (pos 0) ≡ pos 0)
-past_prop n entries = hlevel props
 
 sign_prop : (entries : List ℤ) → IsProp ((k : ℕ) → pos 0 ≤ℤ get_or entries k (pos 0))
 sign_prop entries = hlevel props

@@ -5,6 +5,7 @@ use Rattle.std.specs.List.{sum, All}
 use Rattle.exact_num.specs.declared.misfit.Wide.{Wide}
 use Rattle.exact_num.specs.Fraction.{Fraction, whole}
 use Rattle.exact_num.specs.Fits.{mul_of, after}
+use Rattle.exact_num.specs.Steps.{fold_steps}
 use Rattle.exact_num.specs.CommonDenominator.{amounts_over}
 use Rattle.arithmetic.specs.Gcd.{gcd}
 use Rattle.form.specs.Vector.{positive_part, IsState}
@@ -30,14 +31,9 @@ abbrev pub multiple_with : ℕ → Fraction → Fraction → Result Fraction Wid
 multiple_with limit D f =
     mul_of limit (whole (pos (unsigned_abs D.numerator / gcd (unsigned_abs D.numerator) f.denominator))) (whole (pos f.denominator))
 
--- D, and the denominators taken into it in order
-abbrev pub multiple_from : ℕ → Fraction → List Fraction → Result Fraction Wide
-multiple_from limit D [] = Ok D
-multiple_from limit D (f ∷ fs) = after (multiple_with limit D f) (λ more. multiple_from limit more fs)
-
--- the least common multiple of the denominators
+-- the least common multiple of the denominators: each is taken into it in order
 abbrev pub common_multiple_of : ℕ → List Fraction → Result Fraction Wide
-common_multiple_of limit fs = multiple_from limit (whole (pos 1)) fs
+common_multiple_of limit fs = fold_steps (multiple_with limit) (whole (pos 1)) fs
 
 -- each fraction times D, in order
 abbrev pub multiples_of : ℕ → Fraction → List Fraction → Result (List ℕ) Wide

@@ -1,23 +1,16 @@
--- Sums of products and payoffs step by step, each step with a limit.
-use Rattle.std.specs.Prelude.{ℕ, List, [], ◌∷◌, ℤ, pos, Result, Ok, ◌≡◌}
+-- Payoffs step by step, each step with a limit.
+use Rattle.std.specs.Prelude.{ℕ, List, zip, ℤ, pos, Result, Ok, ◌≡◌}
 use Rattle.exact_num.specs.declared.misfit.Wide.{Wide}
 use Rattle.exact_num.specs.Fraction.{Fraction, whole}
-use Rattle.exact_num.specs.Fits.{add_of, sub_of, mul_of, after}
+use Rattle.exact_num.specs.Fits.{after}
+use Rattle.exact_num.specs.Steps.{fold_steps, plus_product, less_product}
+use Rattle.form.specs.declared.orders.Side.{Side}
+use Rattle.form.specs.declared.orders.Side.TheVariants.{Buy, Sell}
 use Rattle.form.specs.Vector.{positive_part, payoff}
 
--- the total and the product of a and b
-abbrev pub plus_product : ℕ → Fraction → Fraction → Fraction → Result Fraction Wide
-plus_product limit total a b = after (mul_of limit a b) (λ p. add_of limit total p)
-
--- the total less that product
-abbrev pub less_product : ℕ → Fraction → Fraction → Fraction → Result Fraction Wide
-less_product limit total a b = after (mul_of limit a b) (λ p. sub_of limit total p)
-
--- the total, and the products of the entries added to it in order
-abbrev pub dot_from : ℕ → Fraction → List ℤ → List ℕ → Result Fraction Wide
-dot_from limit total [] z = Ok total
-dot_from limit total (a ∷ v) [] = Ok total
-dot_from limit total (a ∷ v) (x ∷ z) = after (plus_product limit total (whole a) (whole (pos x))) (λ sum. dot_from limit sum v z)
+-- the total and the product of an entry of an option and one of a state
+abbrev pub add_entry : ℕ → Fraction → ℤ × ℕ → Result Fraction Wide
+add_entry limit total entries = plus_product limit total (whole entries.0) (whole (pos entries.1))
 
 -- the number where it is above 0, and else 0
 abbrev pub or_zero : Fraction → Fraction
@@ -25,7 +18,12 @@ or_zero x = whole (pos (positive_part x.numerator))
 
 -- the payoff of the option at the state: a sum of whole numbers, or 0 where that is below 0
 unfoldable pub payoff_of : ℕ → List ℤ → List ℕ → Result Fraction Wide
-payoff_of limit v z = after (dot_from limit (whole (pos 0)) v z) (λ sum. Ok (or_zero sum))
+payoff_of limit v z = after (fold_steps (add_entry limit) (whole (pos 0)) (zip v z)) (λ sum. Ok (or_zero sum))
+
+-- the total and the product, which a sell subtracts
+abbrev pub add_for_side : ℕ → Fraction → Side → Fraction → Fraction → Result Fraction Wide
+add_for_side limit total Buy a b = plus_product limit total a b
+add_for_side limit total Sell a b = less_product limit total a b
 
 -- where each step fits, that is what the option pays
 abbrev pub PayoffsAreExact : Type 0

@@ -1,13 +1,11 @@
 -- Payoffs and primitive vectors, worked by hand.
-use Rattle.std.specs.Prelude.{◌≡◌, ℕ, ◌-◌, ◌^◌, [], ◌∷◌, pos, negsuc, Ok, Err}
+use Rattle.std.specs.Prelude.{◌≡◌, ◌^◌, [], ◌∷◌, pos, negsuc, Ok, Err}
 use Rattle.exact_num.specs.declared.misfit.Operator.TheVariants.{Mul}
 use Rattle.exact_num.specs.Fraction.{over, whole}
+use Rattle.exact_num.specs.Limit.{limit}
 use Rattle.exact_num.specs.Fits.{misfit}
 use Rattle.form.specs.Steps.{payoff_of}
 use Rattle.form.specs.Primitive.{primitive_of}
-
-abbrev pub limit : ℕ
-limit = 2 ^ 127 - 1
 
 pub record StatesByHand : Type 0 where
   -- the call with strike 10 pays 2 at the price 12, and nothing at the price 15/2

@@ -9,8 +9,8 @@ pub mod options;
 pub mod orders;
 pub mod payoffs;
 pub mod primitives;
+pub mod sides;
 pub mod states;
-pub mod sums;
 
 pub use forms::Form;
 pub use limits::{MAX_ORDERS, MAX_PRICE, MAX_QUANTITY, MAX_STRIKE, MAX_UNDERLYINGS, MAX_WEIGHT};
@@ -18,4 +18,5 @@ pub use options::{call, put};
 pub use orders::{Batch, Order, Orders, Side};
 pub use payoffs::payoff;
 pub use primitives::primitive;
+pub use sides::add_for_side;
 pub use states::State;

@@ -1,11 +1,13 @@
 //! What options pay at states.
 
-ghost use Rattle.std.specs.Prelude.{◌≡◌, ◌-◌, ◌^◌, ◌≤◌, unsigned_abs, option_and_then, if◌then◌else◌, IfOk};
+ghost use Rattle.std.specs.Prelude.{◌≡◌, ◌≤◌, unsigned_abs, option_and_then, if◌then◌else◌, IfOk};
 ghost use Rattle.exact_num.specs.Fraction.{whole};
+ghost use Rattle.exact_num.specs.Limit.{limit};
 ghost use Rattle.exact_num.specs.Fits.{add_of, meaning, misfit, mul_of, size_fits};
 ghost use Rattle.form.specs.Payoff.{option_of};
 ghost use Rattle.form.specs.States.{vector_of};
-ghost use Rattle.form.specs.Steps.{payoff_of, plus_product};
+ghost use Rattle.form.specs.Steps.{payoff_of};
+ghost use Rattle.exact_num.specs.Steps.{plus_product};
 
 use crate::forms::Form;
 use crate::states::State;
@@ -15,8 +17,8 @@ use exact_num::{Operator, Wide};
 /// product of two entries or their sum so far is above `2^127 - 1` in size. Takes no memory.
 pub fn payoff(form: &Form, state: &State) -> Result<i128, Wide>
     requires { form.now.count ≡ state.now.count }
-    ensures payoff { meaning whole result ≡ payoff_of (2 ^ 127 - 1) (option_of form.now) (vector_of state.now) }
-    ensures fits { IfOk result (λ h. unsigned_abs h ≤ 2 ^ 127 - 1) }
+    ensures payoff { meaning whole result ≡ payoff_of limit (option_of form.now) (vector_of state.now) }
+    ensures fits { IfOk result (λ h. unsigned_abs h ≤ limit) }
 {
     let mut total: i128 = 0;
     for i in 0..form.count as usize {
@@ -27,9 +29,9 @@ pub fn payoff(form: &Form, state: &State) -> Result<i128, Wide>
 
 /// The total and the product of the two entries.
 fn add_product(total: i128, a: i64, x: i128) -> Result<i128, Wide>
-    requires { unsigned_abs total ≤ 2 ^ 127 - 1 }
-    ensures sum { meaning whole result ≡ plus_product (2 ^ 127 - 1) (whole total) (whole a) (whole x) }
-    ensures fits { IfOk result (λ s. unsigned_abs s ≤ 2 ^ 127 - 1) }
+    requires { unsigned_abs total ≤ limit }
+    ensures sum { meaning whole result ≡ plus_product limit (whole total) (whole a) (whole x) }
+    ensures fits { IfOk result (λ s. unsigned_abs s ≤ limit) }
 {
     let product = whole_product(a.into(), x)?;
     whole_sum(total, product)
@@ -37,25 +39,25 @@ fn add_product(total: i128, a: i64, x: i128) -> Result<i128, Wide>
 
 /// The product of two whole numbers, as exact numbers of 128 bits have it.
 fn whole_product(a: i128, b: i128) -> Result<i128, Wide>
-    ensures product { meaning whole result ≡ mul_of (2 ^ 127 - 1) (whole a) (whole b) }
-    ensures fits { IfOk result (λ p. unsigned_abs p ≤ 2 ^ 127 - 1) }
+    ensures product { meaning whole result ≡ mul_of limit (whole a) (whole b) }
+    ensures fits { IfOk result (λ p. unsigned_abs p ≤ limit) }
 {
     fitting(a.checked_mul(b)).ok_or(wide(Operator::Mul, a, b))
 }
 
 /// The sum of two whole numbers, likewise.
 fn whole_sum(a: i128, b: i128) -> Result<i128, Wide>
-    requires left { unsigned_abs a ≤ 2 ^ 127 - 1 }
-    requires right { unsigned_abs b ≤ 2 ^ 127 - 1 }
-    ensures sum { meaning whole result ≡ add_of (2 ^ 127 - 1) (whole a) (whole b) }
-    ensures fits { IfOk result (λ s. unsigned_abs s ≤ 2 ^ 127 - 1) }
+    requires left { unsigned_abs a ≤ limit }
+    requires right { unsigned_abs b ≤ limit }
+    ensures sum { meaning whole result ≡ add_of limit (whole a) (whole b) }
+    ensures fits { IfOk result (λ s. unsigned_abs s ≤ limit) }
 {
     fitting(a.checked_add(b)).ok_or(wide(Operator::Add, a, b))
 }
 
 /// The number, where there is one and its size is at most `2^127 - 1`.
 fn fitting(number: Option<i128>) -> Option<i128>
-    ensures { result ≡ option_and_then (λ n. if size_fits (2 ^ 127 - 1) n then Some n else None) number }
+    ensures { result ≡ option_and_then (λ n. if size_fits limit n then Some n else None) number }
 {
     match number {
         Some(n) if n != i128::MIN => Some(n),

@@ -1,9 +1,9 @@
 pub mod Choices
 pub mod Turns
 pub mod Equality
+pub mod Lowest
 pub mod SumSteps
 pub mod ProductSteps
 pub mod ShareSteps
-pub mod WholeSteps
 pub mod ValueOf
 pub mod PartSteps

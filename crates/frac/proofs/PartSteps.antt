@@ -3,9 +3,10 @@ use Rattle.std.proofs.Common.{◌≡◌, ◌≤ℤ◌, ℤ, pos, negsuc, unsigne
 use Rattle.std.proofs.lemmas.Bool.{lt-ltb}
 use Rattle.std.proofs.lemmas.Int.{ints}
 use Rattle.arithmetic.specs.Sums.{positive_part}
-use Rattle.frac.specs.declared.bits128.Frac128.{Frac128}
+use Rattle.frac.specs.declared.frac128.Frac128.{Frac128}
 use Rattle.frac.specs.Value.{fraction_of}
-use Rattle.frac.specs.ValueOf.{value_from, is_lowest, has_128_bits}
+use Rattle.exact_num.specs.Tests.{is_lowest}
+use Rattle.frac.specs.ValueOf.{value_from, has_128_bits}
 use Rattle.frac.proofs.ValueOf.{value-fraction_of}
 
 pub value_from-fraction_of : (x : Frac128) → value_from (fraction_of x) ≡ Some x

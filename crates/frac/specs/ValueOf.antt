@@ -4,12 +4,9 @@ use Rattle.std.proofs.Common.{lit≤}
 use Rattle.std.proofs.lemmas.Bool.{and_parts, eqb-true, ltb-true}
 use Rattle.arithmetic.specs.Gcd.{gcd}
 use Rattle.exact_num.specs.Fraction.{Fraction}
+use Rattle.exact_num.specs.Tests.{is_lowest}
 use Rattle.exact_num.proofs.Values.{whole_is_lowest}
-use Rattle.frac.specs.declared.bits128.Frac128.{Frac128}
-
--- whether a fraction is in lowest terms
-abbrev pub is_lowest : Fraction → Bool
-is_lowest x = nat_lt 0 x.denominator && nat_eq (gcd (unsigned_abs x.numerator) x.denominator) 1
+use Rattle.frac.specs.declared.frac128.Frac128.{Frac128}
 
 -- whether its parts are of 128 bits
 abbrev pub has_128_bits : Fraction → Bool

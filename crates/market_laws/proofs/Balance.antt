@@ -8,7 +8,8 @@ use Rattle.std.specs.Ordering.{int_eq}
 use mathlib.Core.Bool.{not}
 use Rattle.form.specs.Payoff.{BundleLeg, bundle_of, bundle_payoff}
 use Rattle.clearing_model.specs.Clearing.{Filled, bought, sold, buys_less_sells}
-use Rattle.form.proofs.SameOption.{and_parts, same_option_is, option_is_same}
+use Rattle.form.proofs.SameOption.{same_option_is, option_is_same}
+use Rattle.std.proofs.lemmas.Bool.{and_parts}
 use Rattle.form.specs.Vector.{is_same_option, is_same_bundle}
 use Rattle.clearing_model.specs.Balance.{one_if, balance_of, AreBalanced}
 use Rattle.market_laws.specs.Laws.{BalancedOwesNothing}

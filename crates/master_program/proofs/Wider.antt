@@ -3,43 +3,31 @@ use Rattle.std.proofs.Common.{◌≡◌, ℕ, ◌≤◌, List, [], ◌∷◌, �
 use Rattle.std.specs.Prelude.{Result, Ok}
 use Rattle.exact_num.specs.declared.misfit.Wide.{Wide}
 use Rattle.exact_num.specs.Fraction.{Fraction, negated}
-use Rattle.exact_num.specs.Fits.{add_of, mul_of, whole_of, after}
-use Rattle.exact_num.proofs.After.{after_more}
-use Rattle.exact_num.proofs.GreaterLimit.{add_more, mul_more, whole_more}
+use Rattle.exact_num.specs.Fits.{after}
+use Rattle.exact_num.proofs.GreaterLimits.{Agree, same, both, whole_agrees, add_agrees, mul_agrees}
 use Rattle.table_run.specs.Places.{at, fraction_zero}
 use Rattle.form.specs.declared.orders.Order.{Order}
 use Rattle.form.specs.Vector.{scale_of}
+use Rattle.exact_num.specs.Steps.{plus_product, less_product}
 use Rattle.master_program.specs.Master.{all_of, signed_for, first_payoff, order_payoff, cost_steps, entry_steps, row_steps, rows_steps, quantity_steps, master}
 use Rattle.master_program.specs.Reading.{add_owed, add_all_owed, liability_of}
 use Rattle.master_program.specs.Laws.{SameWithGreaterLimit}
 
--- where the first gives a value, the second gives the same
-abbrev Agree : {A : Type 0} → Result A Wide → Result A Wide → Type 0
-Agree {A} r r' = (s : A) → r ≡ Ok s → r' ≡ Ok s
-
-same : {A : Type 0} (r : Result A Wide) → Agree r r
-same r s h = h
-
-both : {A B : Type 0} (r r' : Result A Wide) (f f' : A → Result B Wide) → Agree r r' → ((a : A) → Agree (f a) (f' a)) → Agree (after r f) (after r' f')
-both r r' f f' h k s e = after_more r r' f f' s h k e
-
-all_more : {A B : Type 0} (f f' : A → Result B Wide) → ((x : A) → Agree (f x) (f' x)) → (xs : List A) → Agree (all_of f xs) (all_of f' xs)
+pub all_more : {A B : Type 0} (f f' : A → Result B Wide) → ((x : A) → Agree (f x) (f' x)) → (xs : List A) → Agree (all_of f xs) (all_of f' xs)
 unfolding all_of
 all_more f f' h [] = same (Ok [])
 all_more f f' h (x ∷ xs) =
     both (f x) (f' x) (λ y. after (all_of f xs) (λ ys. Ok (y ∷ ys))) (λ y. after (all_of f' xs) (λ ys. Ok (y ∷ ys))) (h x)
     (λ y. both (all_of f xs) (all_of f' xs) (λ ys. Ok (y ∷ ys)) (λ ys. Ok (y ∷ ys)) (all_more f f' h xs) (λ ys. same (Ok (y ∷ ys))))
 
+-- the total and a product, or less a product
+pub plus_agrees : (l l' : ℕ) → l ≤ l' → (total a b : Fraction) → Agree (plus_product l total a b) (plus_product l' total a b)
+plus_agrees l l' le total a b = both _ _ _ _ (mul_agrees l l' le a b) (λ p. add_agrees l l' le total p)
+
+pub less_agrees : (l l' : ℕ) → l ≤ l' → (total a b : Fraction) → Agree (less_product l total a b) (less_product l' total a b)
+less_agrees l l' le total a b = both _ _ _ _ (mul_agrees l l' le a b) (λ p. add_agrees l l' le total (negated p))
+
 -- ---- the program
-whole_agrees : (l l' : ℕ) → l ≤ l' → (v : ℤ) → Agree (whole_of l v) (whole_of l' v)
-whole_agrees l l' le v s h = whole_more l l' v s le h
-
-add_agrees : (l l' : ℕ) → l ≤ l' → (x y : Fraction) → Agree (add_of l x y) (add_of l' x y)
-add_agrees l l' le x y s h = add_more l l' x y s le h
-
-mul_agrees : (l l' : ℕ) → l ≤ l' → (x y : Fraction) → Agree (mul_of l x y) (mul_of l' x y)
-mul_agrees l l' le x y s h = mul_more l l' x y s le h
-
 cost_agrees : (l l' : ℕ) → l ≤ l' → (o : Order) → Agree (cost_steps l o) (cost_steps l' o)
 unfolding cost_steps
 cost_agrees l l' le o =
@@ -82,7 +70,7 @@ owed_agrees : (l l' : ℕ) → l ≤ l' → (total : Fraction) (fill : Order × 
 unfolding add_owed
 owed_agrees l l' le total fill =
     both _ _ _ _ (whole_agrees l l' le (first_payoff fill.0))
-    (λ first. both _ _ _ _ (mul_agrees l l' le fill.1 (signed_for fill.0.side first)) (λ p. add_agrees l l' le total p))
+    (λ first. plus_agrees l l' le total fill.1 (signed_for fill.0.side first))
 
 all_owed_agree : (l l' : ℕ) → l ≤ l' → (total : Fraction) (fills : List (Order × Fraction)) → Agree (add_all_owed l total fills) (add_all_owed l' total fills)
 unfolding add_all_owed

@@ -92,5 +92,5 @@ LineSolvesAreGreatest =
 -- no solve rises without an end
 abbrev pub NoSolveRises : Type 0
 NoSolveRises =
-    (payoff_limit limit left spent n units : ℕ) (orders : List Order) (states : List (List ℕ))
+    (payoff_limit limit left spent n units : ℕ) (orders : List Order) (states : List (List ℕ)) (d : List Fraction)
     → master_solve payoff_limit limit left spent n orders states ≡ unbounded d units → ⊥

@@ -5,9 +5,9 @@ use Rattle.exact_num.specs.declared.misfit.Wide.{Wide}
 use Rattle.exact_num.specs.Fraction.{Fraction}
 use Rattle.exact_num.specs.Fits.{add_of, whole_of, after}
 use Rattle.table_run.specs.Places.{at, fraction_zero}
-use Rattle.table_run.specs.Choice.{is_above_zero}
+use Rattle.exact_num.specs.Tests.{is_above_zero}
 use Rattle.form.specs.declared.orders.Order.{Order}
-use Rattle.form.specs.Steps.{plus_product}
+use Rattle.exact_num.specs.Steps.{plus_product}
 use Rattle.clearing_model.specs.Certificate.{Point}
 use Rattle.master_program.specs.Master.{first_payoff, signed_for}
 

@@ -12,21 +12,18 @@ use Rattle.master_program.specs.Reading.{Reading, reading_of}
 abbrev pub reading_at : ℕ → List ℕ → List Order → List (List ℕ) → Optimum → Result Reading Wide
 reading_at limit first orders states (optimum x y reduced value) = reading_of limit first orders states x y reduced value
 
-abbrev pub on_reading : ℕ → Result Reading Wide → Ending Reading
-on_reading spent read = on_steps spent read (λ reading. done reading spent)
+abbrev pub on_optimum : ℕ → List ℕ → List Order → List (List ℕ) → Optimum → ℕ → Ending Reading
+on_optimum limit first orders states o spent = on_steps spent (reading_at limit first orders states o) (λ reading. done reading spent)
 
-abbrev pub on_ending : ℕ → List ℕ → List Order → List (List ℕ) → Ending Optimum → Ending Reading
-on_ending limit first orders states end = on_answer end (λ o spent. on_reading spent (reading_at limit first orders states o))
+-- the program is built and run, with `left` units left and `spent` units spent before
+abbrev pub master_run : (payoff_limit limit left spent : ℕ) → List Order → List (List ℕ) → Ending Optimum
+master_run payoff_limit limit left spent orders states =
+    on_steps spent (master payoff_limit limit orders states) (λ program. run limit program left spent)
 
-abbrev pub on_program : (limit left spent : ℕ) → List ℕ → List Order → List (List ℕ) → Result LinearProgram Wide → Ending Reading
-on_program limit left spent first orders states built =
-    on_steps spent built (λ program. on_ending limit first orders states (run limit program left spent))
-
--- the solve over the state of n underlyings where all prices are 0 and later states, with `left` units left and `spent` units
--- spent before
+-- the solve over the state of n underlyings where all prices are 0 and later states
 unfoldable pub master_solve : (payoff_limit limit left spent n : ℕ) → List Order → List (List ℕ) → Ending Reading
 master_solve payoff_limit limit left spent n orders states =
-    on_program limit left spent (zero_prices n) orders states (master payoff_limit limit orders states)
+    on_answer (master_run payoff_limit limit left spent orders states) (on_optimum limit (zero_prices n) orders states)
 
 -- a solve without a misfit is the same with each greater limit
 abbrev pub SolvesAreTheSame : Type 0

@@ -7,4 +7,5 @@
 //! nothing.
 #![tactic(auto)]
 
-pub mod laws;
+pub mod optimum;
+pub mod program;

@@ -1,3 +1,2 @@
-pub mod SumSteps
 pub mod Sound
 pub mod Duality

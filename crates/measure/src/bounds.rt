@@ -13,8 +13,7 @@ ghost use Rattle.measure.specs.Sums.{add_gain, bound_of, gain_at};
 
 use crate::measures::Measure;
 use crate::prices::price_of;
-use exact_num::{Exact, Wide};
-use form::sums::plus_product;
+use exact_num::{Exact, Wide, plus_product};
 use form::{Batch, Order, Side};
 use frac::{Frac128, whole};
 
@@ -33,7 +32,7 @@ pub fn bound(batch: &Batch, m: &Measure) -> Result<Frac128, Wide>
     sum(batch.orders.as_slice(), m)
 }
 
-/// The sum over these orders.
+// The sum over these orders.
 fn sum(orders: &[Order], m: &Measure) -> Result<Frac128, Wide>
     requires { All (λ order. All (λ point. point.state.count ≡ order.form.count) m.now.points) orders.now }
     ensures { meaning fraction_of result ≡ bound_of limit orders.now (map point_of m.now.points) }
@@ -45,10 +44,10 @@ fn sum(orders: &[Order], m: &Measure) -> Result<Frac128, Wide>
     Ok(total)
 }
 
-/// The total and the order's quantity times its gain, where it gains.
+// The total and the order's quantity times its gain, where it gains.
 fn add_gain(total: Frac128, m: &Measure, order: &Order) -> Result<Frac128, Wide>
     requires { All (λ point. point.state.count ≡ order.now.form.count) m.now.points }
-    ensures { meaning fraction_of result ≡ add_gain limit (fraction_of total) (map point_of m.now.points) order.now }
+    ensures { meaning fraction_of result ≡ add_gain limit (map point_of m.now.points) (fraction_of total) order.now }
 {
     let price = price_of(&order.form, m)?;
     let gain = gain_at(order.side, whole(order.price.into()), price)?;
@@ -59,7 +58,7 @@ fn add_gain(total: Frac128, m: &Measure, order: &Order) -> Result<Frac128, Wide>
     }
 }
 
-/// How far the limit is above the price for a buy, and below it for a sell.
+// How far the limit is above the price for a buy, and below it for a sell.
 fn gain_at(side: Side, limit_price: Frac128, price: Frac128) -> Result<Frac128, Wide>
     ensures { meaning fraction_of result ≡ gain_at limit side (fraction_of limit_price) (fraction_of price) }
 {

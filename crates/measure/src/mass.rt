@@ -1,17 +1,15 @@
 //! The test that weighted states are a measure.
 
-ghost use Rattle.std.specs.Prelude.{◌≡◌, map, pos, true, false};
+ghost use Rattle.std.specs.Prelude.{◌≡◌, map, true, false};
 ghost use Rattle.exact_num.specs.Fits.{meaning};
-ghost use Rattle.exact_num.specs.Fraction.{whole};
 ghost use Rattle.frac.specs.Range.{limit};
 ghost use Rattle.frac.specs.Value.{fraction_of};
 ghost use Rattle.clearing_model.specs.Certificate.{HasUnitMass};
 ghost use Rattle.measure.specs.Points.{point_of};
-ghost use Rattle.measure.specs.Sums.{add_mass, add_masses, are_weights, has_unit_mass, is_weight};
+ghost use Rattle.measure.specs.Sums.{add_mass, are_weights, has_unit_mass, is_weight, mass_of};
 
 use crate::measures::{Measure, Weighted};
-use exact_num::{Exact, Wide};
-use form::sums::plus_product;
+use exact_num::{Exact, Wide, plus_product};
 use frac::{Frac128, whole};
 
 /// Whether no weight is below 0 and the sum of `weight * t` is 1: true shows that it is so, and false that it is not.
@@ -29,7 +27,7 @@ pub fn is_measure(m: &Measure) -> Result<bool, Wide>
     Ok(sum == Frac128::one())
 }
 
-/// Whether no weight is below 0.
+// Whether no weight is below 0.
 fn are_weights(points: &[Weighted]) -> bool
     ensures { result ≡ are_weights (map point_of points.now) }
 {
@@ -41,9 +39,9 @@ fn are_weights(points: &[Weighted]) -> bool
     true
 }
 
-/// The sum of weight times t.
+// The sum of weight times t.
 fn mass(points: &[Weighted]) -> Result<Frac128, Wide>
-    ensures { meaning fraction_of result ≡ add_masses limit (whole (pos 0)) (map point_of points.now) }
+    ensures { meaning fraction_of result ≡ mass_of limit (map point_of points.now) }
 {
     let mut total = Frac128::zero();
     for point in points {
@@ -52,14 +50,14 @@ fn mass(points: &[Weighted]) -> Result<Frac128, Wide>
     Ok(total)
 }
 
-/// Whether the weight is not below 0.
+// Whether the weight is not below 0.
 fn is_weight(point: &Weighted) -> bool
     ensures { result ≡ is_weight (point_of point.now) }
 {
     point.weight.sign() >= 0
 }
 
-/// The total and weight times t of a point.
+// The total and weight times t of a point.
 fn add_mass(total: Frac128, point: &Weighted) -> Result<Frac128, Wide>
     ensures { meaning fraction_of result ≡ add_mass limit (fraction_of total) (point_of point.now) }
 {

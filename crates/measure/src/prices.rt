@@ -10,8 +10,7 @@ ghost use Rattle.measure.specs.Points.{point_of};
 ghost use Rattle.measure.specs.Sums.{add_price, price_of};
 
 use crate::measures::{Measure, Weighted};
-use exact_num::{Exact, Wide};
-use form::sums::plus_product;
+use exact_num::{Exact, Wide, plus_product};
 use form::{Form, payoff};
 use frac::{Frac128, whole};
 
@@ -25,7 +24,7 @@ pub fn price_of(form: &Form, m: &Measure) -> Result<Frac128, Wide>
     sum(form, m.points.as_slice())
 }
 
-/// The sum over these points.
+// The sum over these points.
 fn sum(form: &Form, points: &[Weighted]) -> Result<Frac128, Wide>
     requires { All (λ point. point.state.count ≡ form.now.count) points.now }
     ensures { meaning fraction_of result ≡ price_of limit (option_of form.now) (map point_of points.now) }
@@ -37,7 +36,7 @@ fn sum(form: &Form, points: &[Weighted]) -> Result<Frac128, Wide>
     Ok(total)
 }
 
-/// The total and weight times payoff at one point.
+// The total and weight times payoff at one point.
 fn add_price(total: Frac128, form: &Form, point: &Weighted) -> Result<Frac128, Wide>
     requires { point.now.state.count ≡ form.now.count }
     ensures { meaning fraction_of result ≡ add_price limit (option_of form.now) (fraction_of total) (point_of point.now) }

@@ -8,7 +8,7 @@ use Rattle.exact_num.specs.Fraction.{over}
 use Rattle.exact_num.specs.declared.misfit.Operator.{Operator}
 use Rattle.exact_num.specs.declared.misfit.Operator.TheVariants as operator
 use Rattle.exact_num.specs.declared.misfit.Wide.{Wide}
-use Rattle.frac.specs.declared.bits128.Frac128.{Frac128}
+use Rattle.frac.specs.declared.frac128.Frac128.{Frac128}
 use Rattle.frac.specs.Value.{fraction_of}
 use Rattle.form.specs.declared.forms.Form.{Form}
 use Rattle.form.specs.declared.orders.Side.{Side}

@@ -3,7 +3,8 @@ use Rattle.std.proofs.Common.{◌≡◌, ℕ, ◌-◌, ◌^◌, ◌<◌, ◌≤�
 use Rattle.std.proofs.lemmas.Bool.{leb-false, le-ltb}
 use Rattle.exact_num.specs.Fraction.{over}
 use Rattle.frac.specs.Range.{limit}
-use Rattle.frac.specs.ValueOf.{value_from, is_lowest}
+use Rattle.exact_num.specs.Tests.{is_lowest}
+use Rattle.frac.specs.ValueOf.{value_from}
 use Rattle.reply_text.specs.BatchValues.{bounded}
 
 and_false : (b : Bool) → (b && false) ≡ false

@@ -14,7 +14,7 @@ use crate::joint::Joint;
 use crate::master::{first_payoff, for_side};
 use cert_check::Cover;
 use exact_num::{Exact, Wide};
-use form::sums::plus_product;
+use exact_num::sums::plus_product;
 use form::{Order, State};
 use frac::Frac128;
 use measure::{Measure, Points, Weighted};

@@ -5,7 +5,7 @@ use Rattle.std.proofs.lemmas.List.Elements.{All-nil, All-cons}
 use Rattle.exact_num.specs.declared.misfit.Wide.{Wide as Misfit}
 use Rattle.exact_num.specs.Fraction.{IsLowest}
 use Rattle.exact_num.specs.CommonDenominator.{common_denominator, amount_over}
-use Rattle.frac.specs.declared.bits128.Frac128.{Frac128}
+use Rattle.frac.specs.declared.frac128.Frac128.{Frac128}
 use Rattle.frac.specs.Range.{limit}
 use Rattle.frac.specs.Value.{fraction_of}
 use Rattle.form.specs.declared.orders.Batch.{Batch}
@@ -25,9 +25,9 @@ use Rattle.sign_tree.specs.Laws.{IsClosedOver, IsEnough, IsNotBelowZero}
 use Rattle.sign_tree.proofs.Sound.{walks_close_trees}
 use Rattle.sign_tree.proofs.Refuted.{open_walks_close_no_tree}
 
-pub fills_lowest : (fs : List Frac128) → All IsLowest (map fraction_of fs)
-fills_lowest [] = All-nil IsLowest
-fills_lowest (f ∷ fs) = All-cons IsLowest (fraction_of f) (map fraction_of fs) f.lowest (fills_lowest fs)
+pub lowest_of : (fs : List Frac128) → All IsLowest (map fraction_of fs)
+lowest_of [] = All-nil IsLowest
+lowest_of (f ∷ fs) = All-cons IsLowest (fraction_of f) (map fraction_of fs) f.lowest (lowest_of fs)
 
 pub multipliers_lowest : (ms : List Multiplier) → All IsLowest (map by_of (map placed_of ms))
 multipliers_lowest [] = All-nil IsLowest
@@ -51,7 +51,7 @@ pub closed_over : (batch : Batch) (fills : List Frac128) (L : Frac128) (tree : S
     → All IsNotBelowZero (map fraction_of fills) → v ≡ Closed → IsClosedOver batch fills L tree
 closed_over batch fills L tree v len is least closed =
     walks_close_trees limit batch.underlyings batch.orders (map fraction_of fills) (fraction_of L) (map node_of tree.nodes) (map placed_of tree.multipliers)
-    (length-map fills fraction_of ∙ len) (fills_lowest fills) least L.lowest (multipliers_lowest tree.multipliers) (closed_is (walk_of batch fills L tree) (sym is ∙ closed))
+    (length-map fills fraction_of ∙ len) (lowest_of fills) least L.lowest (multipliers_lowest tree.multipliers) (closed_is (walk_of batch fills L tree) (sym is ∙ closed))
 
 pub enough_over : (batch : Batch) (fills : List Frac128) (L : Frac128) (tree : SignTree) → IsClosedOver batch fills L tree → IsEnough batch fills L tree
 enough_over batch fills L tree c =
@@ -67,4 +67,4 @@ pub not_closed_over : (batch : Batch) (fills : List Frac128) (L : Frac128) (tree
     → All IsNotBelowZero (map fraction_of fills) → v ≡ Open → IsClosedOver batch fills L tree → ⊥
 not_closed_over batch fills L tree v len is least opened =
     open_walks_close_no_tree limit batch.underlyings batch.orders (map fraction_of fills) (fraction_of L) (map node_of tree.nodes) (map placed_of tree.multipliers)
-    (length-map fills fraction_of ∙ len) (fills_lowest fills) least L.lowest (multipliers_lowest tree.multipliers) (open_is (walk_of batch fills L tree) (sym is ∙ opened))
+    (length-map fills fraction_of ∙ len) (lowest_of fills) least L.lowest (multipliers_lowest tree.multipliers) (open_is (walk_of batch fills L tree) (sym is ∙ opened))

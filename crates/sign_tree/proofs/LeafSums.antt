@@ -14,11 +14,11 @@ use Rattle.exact_num.specs.CommonDenominator.{amount_over}
 use Rattle.exact_num.proofs.After.{after_value}
 use Rattle.exact_num.proofs.Values.{whole_is_lowest}
 use Rattle.form.specs.Payoff.{positive_part}
-use Rattle.form.specs.Steps.{plus_product}
+use Rattle.exact_num.specs.Steps.{plus_product}
 use Rattle.clearing_model.specs.Legs.{Exposure, Long, Short, FilledLeg}
 use Rattle.clearing_model.specs.Tree.{Sign, Unsigned, Plus, Minus, term, entry_of, liability_at}
 use Rattle.clearing_model.specs.Written.{PlacedMultiplier, multiplier_at, multipliers_from}
-use Rattle.form.proofs.StepRatios.{Stands, plus_stands, less_stands, sum_stands, negated_stands, not_above}
+use Rattle.exact_num.proofs.Stands.{Stands, plus_stands, less_stands, sum_stands, negated_stands, not_above}
 use Rattle.sign_tree.specs.Walk.{FractionLeg, first_at, left_after, add_term, add_terms, less_liability, entry_sum, entries_close}
 
 -- what a fraction that is not below 0 is over D

@@ -6,12 +6,12 @@ use Rattle.std.proofs.lemmas.Bool.Decides.{nat_tests}
 use Rattle.std.proofs.Math.Bool.{and-false}
 use mathlib.Core.Bool.{not}
 use Rattle.exact_num.specs.Fraction.{Fraction}
-use Rattle.frac.specs.declared.bits128.Frac128.{Frac128}
+use Rattle.frac.specs.declared.frac128.Frac128.{Frac128}
 use Rattle.frac.specs.Value.{fraction_of}
 use Rattle.form.specs.declared.orders.Side.{Side}
 use Rattle.form.specs.declared.orders.Side.TheVariants.{Buy, Sell}
 use Rattle.form.specs.declared.orders.Order.{Order}
-use Rattle.form.proofs.ListSteps.{drop_map}
+use Rattle.arithmetic.proofs.Lists.{drop_map}
 use Rattle.sign_tree.specs.Read.{sign_of}
 use Rattle.clearing_model.specs.Legs.{Exposure}
 use Rattle.clearing_model.specs.Tree.{Sign, Unsigned}

@@ -14,7 +14,7 @@ use Rattle.form.specs.Payoff.{bundle_of, option_of}
 use Rattle.clearing_model.specs.Legs.{Exposure, Long, Short, FilledLeg, filled_leg, legs_of}
 use Rattle.clearing_model.specs.Written.{PlacedMultiplier}
 use Rattle.clearing_model.specs.Certificate.{filled_over, by_of}
-use Rattle.form.proofs.StepRatios.{Stands}
+use Rattle.exact_num.proofs.Stands.{Stands}
 use Rattle.sign_tree.specs.Walk.{FractionLeg, fraction_legs, leg_of, exposure_of_side}
 use Rattle.sign_tree.specs.Laws.{IsNotBelowZero}
 use Rattle.sign_tree.proofs.LeafSums.{amount_of, has_amount, leg_over, legs_over, LegHasAmount, MultiplierHasAmount}

@@ -18,8 +18,8 @@ use Rattle.sign_tree.specs.Walk.{FractionLeg, exposures_of, is_unsigned, is_with
 use Rattle.sign_tree.proofs.LeafSums.{amount_of, HasAmount, legs_over, LegHasAmount, MultiplierHasAmount, RiseFrom}
 use Rattle.sign_tree.proofs.LeafForms.{ComesBefore}
 
-int_le_holds : (a b : ℤ) → a ≤ℤ b → int_le a b ≡ true
-int_le_holds a b h = by_test (int_le a b) refl
+int_le-true : (a b : ℤ) → a ≤ℤ b → int_le a b ≡ true
+int_le-true a b h = by_test (int_le a b) refl
   where
     by_test : (t : Bool) → int_le a b ≡ t → int_le a b ≡ true
     by_test true e = e
@@ -69,7 +69,7 @@ allows_at D (leg ∷ legs) ms place (suc i) are =
 
 within_fill : (D : ℕ) (fill by : Fraction) → 1 ≤ D → HasAmount D fill → HasAmount D by → amount_of D by ≤ amount_of D fill → is_within Short fill by ≡ true
 within_fill D fill by one sf sb le =
-    int_le_holds (by.numerator *ℤ pos fill.denominator) (fill.numerator *ℤ pos by.denominator)
+    int_le-true (by.numerator *ℤ pos fill.denominator) (fill.numerator *ℤ pos by.denominator)
     (at_most_from by fill (pos (amount_of D by)) (pos (amount_of D fill)) D one sb.ratio sf.ratio (omega (arith, ints, le)))
 
 carries_here : (D : ℕ) (fill by : Fraction) (exposure : Exposure) (sign : Sign) → 1 ≤ D → HasAmount D fill → HasAmount D by → MayCarry exposure sign → IsAllowed exposure (amount_of D fill) (amount_of D by)
@@ -106,7 +106,7 @@ are_taken legs signs last [] rise each = refl
 are_taken legs signs last (m ∷ ms) rise each =
     let here = All-head (Passes legs signs) m ms each in
     let past : nat_lt last m.place ≡ true = lt-ltb last m.place (omega (arith, rise.0)) in
-    both_true (both_true (both_true past (int_le_holds (pos 0) m.by.numerator here.0)) here.1) (are_taken legs signs m.place ms rise.1 (All-tail (Passes legs signs) m ms each))
+    both_true (both_true (both_true past (int_le-true (pos 0) m.by.numerator here.0)) here.1) (are_taken legs signs m.place ms rise.1 (All-tail (Passes legs signs) m ms each))
 
 -- the multipliers of a leaf that is well formed and allowed are placed
 pub formed_are_placed : (D E : ℕ) (legs : List FractionLeg) (signs : List Sign) (ms : List PlacedMultiplier) → 1 ≤ D → All (LegHasAmount D) legs → All (MultiplierHasAmount D) ms → RiseFrom 1 ms

@@ -10,7 +10,7 @@ use Rattle.exact_num.specs.CommonDenominator.{amount_over}
 use Rattle.exact_num.proofs.After.{after_value}
 use Rattle.clearing_model.specs.Tree.{Sign, liability_at}
 use Rattle.clearing_model.specs.Written.{PlacedMultiplier}
-use Rattle.form.proofs.StepRatios.{Stands}
+use Rattle.exact_num.proofs.Stands.{Stands}
 use Rattle.sign_tree.specs.Walk.{FractionLeg, entry_sum, entries_close}
 use Rattle.sign_tree.proofs.LeafSums.{LegHasAmount, MultiplierHasAmount, RiseFrom, entry_over, entry_stands}
 

@@ -7,7 +7,7 @@ use Rattle.exact_num.specs.Fraction.{Fraction, IsLowest, whole}
 use Rattle.exact_num.specs.Fits.{mul_of}
 use Rattle.exact_num.proofs.Units.{add-zero, mul-zero, zero-mul, zero_is}
 use Rattle.exact_num.proofs.Values.{whole_is_lowest}
-use Rattle.form.specs.Steps.{plus_product, less_product}
+use Rattle.exact_num.specs.Steps.{plus_product, less_product}
 
 -- a number whose bits are 0 is 0
 pub zero_bits : (w : Width) (z : ℤ) → FitsSigned w z → to_z w 0 ≡ pos 0 → nat_eq (of_z w z) 0 ≡ true → z ≡ pos 0

@@ -8,7 +8,7 @@ use Rattle.clearing_model.specs.Clearing.{HoldsAtEachState}
 use Rattle.clearing_model.specs.Written.{WrittenNode, PlacedMultiplier}
 use Rattle.clearing_model.specs.Certificate.{filled_over, by_of, ClosesAsWritten}
 use Rattle.form.specs.declared.orders.Batch.{Batch}
-use Rattle.frac.specs.declared.bits128.Frac128.{Frac128}
+use Rattle.frac.specs.declared.frac128.Frac128.{Frac128}
 use Rattle.frac.specs.Value.{fraction_of}
 use Rattle.sign_tree.specs.declared.trees.SignTree.{SignTree}
 use Rattle.sign_tree.specs.Read.{node_of, placed_of}

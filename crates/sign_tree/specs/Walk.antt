@@ -8,7 +8,7 @@ use Rattle.form.specs.declared.orders.Side.{Side}
 use Rattle.form.specs.declared.orders.Side.TheVariants.{Buy, Sell}
 use Rattle.form.specs.declared.orders.Order.{Order}
 use Rattle.form.specs.Payoff.{option_of, positive_part}
-use Rattle.form.specs.Steps.{plus_product, less_product}
+use Rattle.exact_num.specs.Steps.{plus_product, less_product}
 use Rattle.clearing_model.specs.Legs.{Exposure, Long, Short}
 use Rattle.clearing_model.specs.Tree.{Sign, Unsigned, Plus, Minus}
 use Rattle.clearing_model.specs.Written.{WrittenNode, SplitNode, LeafNode, PlacedMultiplier}

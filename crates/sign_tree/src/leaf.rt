@@ -5,13 +5,13 @@ ghost use Rattle.exact_num.specs.Fits.{meaning, mul_of};
 ghost use Rattle.exact_num.specs.Fraction.{whole};
 ghost use Rattle.frac.specs.Value.{fraction_of};
 ghost use Rattle.frac.specs.Range.{limit};
-ghost use Rattle.form.specs.Steps.{less_product, plus_product};
+ghost use Rattle.exact_num.specs.Steps.{less_product, plus_product};
 ghost use Rattle.sign_tree.specs.Read.{placed_of, sign_of};
 ghost use Rattle.sign_tree.specs.Walk.{add_term, add_terms, are_placed, carries_at, entries_close, entry_sum, exposure_of_side, first_at, fraction_legs, is_placed, is_unsigned, is_within, leaf_closes, left_after};
 
 use crate::trees::Multiplier;
 use exact_num::{Exact, Wide};
-use form::sums::{less_product, plus_product};
+use exact_num::sums::{less_product, plus_product};
 use form::{Order, Side};
 use frac::{Frac128, whole};
 

@@ -6,7 +6,8 @@ use Rattle.exact_num.specs.declared.misfit.Wide.{Wide}
 use Rattle.exact_num.specs.Fraction.{Fraction}
 use Rattle.exact_num.specs.Fits.{after, written_back}
 use Rattle.table_run.specs.Places.{at}
-use Rattle.table_run.specs.Choice.{first_below, is_below_zero}
+use Rattle.table_run.specs.Choice.{first_below}
+use Rattle.exact_num.specs.Tests.{is_below_zero}
 use Rattle.table_run.specs.Pivot.{each, each_pair}
 
 -- the entry at i, and those after it

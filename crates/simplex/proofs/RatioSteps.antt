@@ -7,7 +7,8 @@ use Rattle.exact_num.specs.Fraction.{Fraction}
 use Rattle.exact_num.specs.Fits.{after, meaning, div_of}
 use Rattle.table_run.specs.Places.{at}
 use Rattle.table_run.specs.Table.{Row}
-use Rattle.table_run.specs.Choice.{is_above_zero, ratio_in, Ratio, ratios, joined, least}
+use Rattle.table_run.specs.Choice.{ratio_in, Ratio, ratios, joined, least}
+use Rattle.exact_num.specs.Tests.{is_above_zero}
 use Rattle.simplex.specs.Candidates.{best_with, with_ratio, leaving_of}
 use Rattle.simplex.proofs.EntrySteps.{front_of}
 

@@ -10,14 +10,16 @@ use Rattle.std.proofs.lemmas.List.{get_or-take}
 use Rattle.exact_num.specs.declared.misfit.Wide.{Wide}
 use Rattle.exact_num.specs.Fraction.{Fraction, IsLowest, whole, fraction_cmp}
 use Rattle.exact_num.specs.Fits.{div_of, after}
-use Rattle.exact_num.proofs.Rationals.{Q, ◌*Q◌, inv_Q, value, quotient_step, IsAtMost, at_most_refl, at_most_trans, at_most_value, at_most_antisymm, value_same, value_of_lowest, IsAbove0, IsBelow0}
+use Rattle.exact_num.proofs.Rationals.{quotient_step, at_most_refl, at_most_trans, at_most_value, at_most_antisymm, value_same, value_of_lowest}
+use Rattle.exact_num.specs.Rationals.{Q, ◌*Q◌, inv_Q, value, IsAtMost, IsAbove0, IsBelow0}
 use Rattle.table_run.specs.Places.{at}
 use Rattle.table_run.specs.Table.{Row, Table, entries_at, right_side, basic_at}
-use Rattle.table_run.specs.Choice.{Ratio, first_below, entering, is_below_zero, is_above_zero, ratio_in, ratios, joined, lesser, least, by_order}
+use Rattle.table_run.specs.Choice.{Ratio, first_below, entering, ratio_in, ratios, joined, lesser, least, by_order}
+use Rattle.exact_num.specs.Tests.{is_below_zero, is_above_zero}
 use Rattle.table_run.specs.Pivot.{pivoted}
 use Rattle.table_run.specs.Run.{turn, moved, unlimited, moved_or_stopped, on_ratios, leave}
-use Rattle.table_run.proofs.Pivot.{IsChoice}
-use Rattle.table_run.proofs.Entries.{IsTable, tab_of, by_first}
+use Rattle.table_run.specs.Tableau.{IsPivot, tableau_of}
+use Rattle.table_run.proofs.Entries.{IsTable, by_first}
 use Rattle.exact_num.proofs.After.{after_value}
 use Rattle.arithmetic.proofs.Comparisons.{equal_int_cmp}
 
@@ -284,7 +286,7 @@ value_above x p h = subst (λ (f : Fraction). pos 0 <ℤ f.numerator) (value_of_
 pub below_value : (x : Fraction) → IsLowest x → x.numerator <ℤ pos 0 → IsBelow0 (value x)
 below_value x p h = subst (λ (f : Fraction). f.numerator <ℤ pos 0) (sym (value_of_lowest x p)) h
 
-pub choice_out : (limit m n e : ℕ) (t : Table) (q : Ratio) (qs : List Ratio) → IsTable m n t → entering t ≡ Some e → ratios limit t.columns e 0 t.rows ≡ Ok (q ∷ qs) → IsChoice m n e (least q qs).place (tab_of t)
+pub choice_out : (limit m n e : ℕ) (t : Table) (q : Ratio) (qs : List Ratio) → IsTable m n t → entering t ≡ Some e → ratios limit t.columns e 0 t.rows ≡ Ok (q ∷ qs) → IsPivot m n e (least q qs).place (tableau_of t)
 choice_out limit m n e t q qs g enters h =
     let a = ratios_out limit t.columns e 0 t.rows (q ∷ qs) g.lowest h in
     let lows : (c : Ratio) → Has c (q ∷ qs) → IsLowest c.value = λ c w. (a.each_is c w).lowest in
@@ -292,7 +294,7 @@ choice_out limit m n e t q qs g enters h =
     let best = a.each_is (least q qs) l.0 in
     let is_row : (least q qs).place ≡ best.row = best.place ∙ omega arith in
     let column = entering_out m n e t g enters in
-    subst (λ r. IsChoice m n e r (tab_of t)) (sym is_row)
+    subst (λ r. IsPivot m n e r (tableau_of t)) (sym is_row)
     (record {
       row = omega (arith, best.inside, g.count);
       column = column.0;

@@ -8,14 +8,15 @@ use Rattle.std.proofs.lemmas.Bool.Decides.{nat_tests}
 use Rattle.exact_num.specs.declared.misfit.Wide.{Wide}
 use Rattle.exact_num.specs.Fraction.{Fraction, IsLowest, whole}
 use Rattle.exact_num.proofs.Values.{whole_is_lowest}
-use Rattle.exact_num.proofs.Rationals.{Q, ◌+Q◌, ◌*Q◌, value, value_zero, add_0, zero_add_Q, zero_mul_Q, one_mul_Q, one_not_zero}
-use Rattle.exact_num.proofs.Totals.{total, total-zero, total-front, unit, unit-same, unit-other}
+use Rattle.exact_num.proofs.Rationals.{value_zero, add_0, zero_add_Q, zero_mul_Q, one_mul_Q, one_not_zero}
+use Rattle.exact_num.specs.Rationals.{Q, ◌+Q◌, ◌*Q◌, value, total, unit}
+use Rattle.exact_num.proofs.Totals.{total-zero, total-front, unit-same, unit-other}
 use Rattle.table_run.specs.Places.{at, listed}
 use Rattle.table_run.specs.Table.{Row, Table, entries_at, where_basic, basic_at}
 use Rattle.table_run.specs.Choice.{entering}
 use Rattle.table_run.specs.Ending.{Ending, unbounded, wide_at, no_unit_left}
 use Rattle.table_run.specs.Run.{Optimum, Turn, moved, unlimited, stopped, turn, on_turn, on_entering, run_from, read_off, direction}
-use Rattle.table_run.proofs.Pivot.{Tab, IsGood}
+use Rattle.table_run.specs.Tableau.{Tableau, IsFeasible}
 
 -- ---- a property of tables that each turn keeps, and what it makes of the end
 pub run_keeps : (P : Table → Type 0) (E : Ending Optimum → Type 0) (limit n m : ℕ)
@@ -98,7 +99,7 @@ where_basic_is f v j (row ∷ rows) h apart =
         later ∙ sym (zero_add_Q _) ∙ ap (λ w. w +Q total (length rows) (λ i. unit (basic_at rows i) j *Q v (suc i))) (sym (ap (λ w. w *Q v 0) (unit-other row.basic j ne) ∙ zero_mul_Q (v 0)))
 
 -- the basic variables of a good table differ
-pub apart_of_good : (m n : ℕ) (T : Tab) → IsGood m n T → (i k : ℕ) → i < m → k < m → T.basic i ≡ T.basic k → i ≡ k
+pub apart_of_good : (m n : ℕ) (T : Tableau) → IsFeasible m n T → (i k : ℕ) → i < m → k < m → T.basic i ≡ T.basic k → i ≡ k
 apart_of_good m n T g i k p q e =
     elim (ℕ_discrete i k) [
       | yes same ↦ same

@@ -5,19 +5,17 @@ use Rattle.std.proofs.lemmas.List.{get_or_past}
 use Rattle.std.proofs.Math.Decide.{ℕ_discrete}
 use Rattle.std.proofs.lemmas.Bool.{cases_lt}
 use Rattle.std.proofs.lemmas.Bool.Decides.{nat_tests}
+use Rattle.table_run.specs.Tableau.{tableau_of, Tableau, IsAfterPivot}
 use Rattle.exact_num.specs.declared.misfit.Wide.{Wide}
 use Rattle.exact_num.specs.Fraction.{Fraction, IsLowest, whole}
 use Rattle.exact_num.specs.Fits.{mul_of, sub_of, div_of, after}
 use Rattle.exact_num.proofs.After.{after_value}
 use Rattle.exact_num.proofs.Values.{whole_is_lowest}
-use Rattle.exact_num.proofs.Rationals.{◌+Q◌, ◌*Q◌, neg_Q, inv_Q, value, difference_step, product_step, quotient_step}
+use Rattle.exact_num.proofs.Rationals.{difference_step, product_step, quotient_step}
+use Rattle.exact_num.specs.Rationals.{◌+Q◌, ◌*Q◌, neg_Q, inv_Q, value}
 use Rattle.table_run.specs.Places.{at}
 use Rattle.table_run.specs.Table.{Row, Table, basic_at, entries_at, row_of}
 use Rattle.table_run.specs.Pivot.{each, each_pair, less_product, divided, cleared, row_after, rows_after, pivoted}
-use Rattle.table_run.proofs.Pivot.{Tab, IsTurn}
-
-abbrev pub tab_of : Table → Tab
-tab_of t = record { entry = λ i j. value (at (entries_at t.rows i) j); basic = λ i. basic_at t.rows i; price = λ j. value (at t.objective j) }
 
 -- m rows and the objective row, of n + 1 fractions in lowest terms
 pub record IsTable (m n : ℕ) (t : Table) : Type 0 where
@@ -130,7 +128,7 @@ rows_out limit e r pivot rows us h =
 
 -- ---- a turn that fits
 turn_parts : (limit m n e r : ℕ) (t : Table) (pivot : List Fraction) (rows : List Row) (objective : List Fraction) → IsTable m n t → r < m → (at (entries_at t.rows r) e).numerator ≢ pos 0 → divided limit e (entries_at t.rows r) ≡ Ok pivot → rows_after limit e r pivot 0 t.rows ≡ Ok rows → cleared limit e pivot t.objective ≡ Ok objective
-    → IsTable m n (record { columns = t.columns; rows = rows; objective = objective }) × IsTurn m n e r (tab_of t) (tab_of (record { columns = t.columns; rows = rows; objective = objective }))
+    → IsTable m n (record { columns = t.columns; rows = rows; objective = objective }) × IsAfterPivot m n e r (tableau_of t) (tableau_of (record { columns = t.columns; rows = rows; objective = objective }))
 turn_parts limit m n e r t pivot rows objective g low ne is_pivot_row are_rows is_objective =
     let p = divided_out limit e n (entries_at t.rows r) pivot (g.widths r low) (g.lowest r) ne is_pivot_row in
     let q = rows_out limit e r pivot t.rows rows are_rows in
@@ -164,11 +162,11 @@ turn_parts limit m n e r t pivot rows objective g low ne is_pivot_row are_rows i
       },
     )
 
-pub turn_out : (limit m n e r : ℕ) (t u : Table) → IsTable m n t → r < m → (at (entries_at t.rows r) e).numerator ≢ pos 0 → pivoted limit e r t ≡ Ok u → IsTable m n u × IsTurn m n e r (tab_of t) (tab_of u)
+pub turn_out : (limit m n e r : ℕ) (t u : Table) → IsTable m n t → r < m → (at (entries_at t.rows r) e).numerator ≢ pos 0 → pivoted limit e r t ≡ Ok u → IsTable m n u × IsAfterPivot m n e r (tableau_of t) (tableau_of u)
 unfolding pivoted
 turn_out limit m n e r t u g low ne h =
     let a = after_value (divided limit e (entries_at t.rows r)) _ u h in
     let b = after_value (rows_after limit e r a.value 0 t.rows) _ u a.rest in
     let c = after_value (cleared limit e a.value t.objective) _ u b.rest in
     let is_u : record { columns = t.columns; rows = b.value; objective = c.value } ≡ u = cc in
-    subst (λ (w : Table). IsTable m n w × IsTurn m n e r (tab_of t) (tab_of w)) is_u (turn_parts limit m n e r t a.value b.value c.value g low ne a.first b.first c.first)
+    subst (λ (w : Table). IsTable m n w × IsAfterPivot m n e r (tableau_of t) (tableau_of w)) is_u (turn_parts limit m n e r t a.value b.value c.value g low ne a.first b.first c.first)

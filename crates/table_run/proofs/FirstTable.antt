@@ -6,14 +6,15 @@ use Rattle.std.proofs.Math.Nat.{mul-le-mul_right}
 use Rattle.std.proofs.Math.Decide.{ℕ_discrete}
 use Rattle.exact_num.specs.Fraction.{Fraction, IsLowest, whole, negated}
 use Rattle.exact_num.proofs.Values.{whole_is_lowest, negated_is_lowest}
-use Rattle.exact_num.proofs.Rationals.{neg_Q, 0Q, value, value_zero, value_one, value_negated, not_below_value, IsNotBelow0}
-use Rattle.exact_num.proofs.Totals.{unit, unit-same, unit-other}
+use Rattle.exact_num.proofs.Rationals.{value_zero, value_one, value_negated, not_below_value}
+use Rattle.exact_num.specs.Rationals.{neg_Q, 0Q, value, IsNotBelow0, unit}
+use Rattle.exact_num.proofs.Totals.{unit-same, unit-other}
 use Rattle.table_run.specs.Places.{at}
 use Rattle.table_run.specs.Program.{LinearProgram, row}
 use Rattle.table_run.specs.Table.{entries_at, unit_row, rows_from, first_table, basic_at}
 use Rattle.table_run.specs.Optimum.{IsProgram}
-use Rattle.table_run.proofs.Entries.{IsTable, tab_of, no_row}
-use Rattle.table_run.proofs.Pivot.{IsGood}
+use Rattle.table_run.proofs.Entries.{IsTable, no_row}
+use Rattle.table_run.specs.Tableau.{tableau_of, IsFeasible}
 
 -- ---- rows in three parts
 abbrev last : LinearProgram → ℕ → List Fraction
@@ -187,7 +188,7 @@ first_is_table p g =
       lowest_price = lowest-append (map negated p.costs) (replicate (p.rows + 1) (whole (pos 0))) (lowest-negated p.costs g.costs.lowest) (lowest-zeros (p.rows + 1));
     }
 
-pub first_is_good : (p : LinearProgram) → IsProgram p → IsGood p.rows (p.variables + p.rows) (tab_of (first_table p))
+pub first_is_good : (p : LinearProgram) → IsProgram p → IsFeasible p.rows (p.variables + p.rows) (tableau_of (first_table p))
 unfolding first_table
 first_is_good p g =
     record {

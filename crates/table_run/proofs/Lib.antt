@@ -12,3 +12,5 @@ pub mod Suffice
 pub mod Ended
 pub mod Counted
 pub mod WorkedPrograms
+pub mod Endings
+pub mod WithinSizes

@@ -1,4 +1,4 @@
--- Each run ends as it says: an optimum is feasible and has a dual of the same value, a direction is a unlimited.
+-- Each run ends as it says: an optimum is feasible and has a dual of the same value, along a direction the objective rises without an end.
 use Rattle.std.proofs.Common.{◌≡◌, ℕ, ◌+◌, ◌*◌, ◌<◌, ◌≤◌, List, length, take, drop, arith, refl, sym, ◌∙◌, ap, subst, ℤ, pos, ◌≤ℤ◌, ◌<ℤ◌, neg_ℤ}
 use Rattle.std.specs.Prelude.{Some, None, if◌then◌else◌, nat_eq, true, false, Bool}
 use Rattle.std.proofs.Math.Nat.{mul-pos}
@@ -7,16 +7,18 @@ use Rattle.std.proofs.lemmas.List.{get_or-take, get_or-drop, length-take-le, len
 use Rattle.std.proofs.lemmas.Bool.Decides.{nat_tests}
 use Rattle.exact_num.specs.Fraction.{Fraction, IsLowest, whole, negated, plain_sum, plain_dot}
 use Rattle.exact_num.proofs.Values.{whole_is_lowest, negated_is_lowest}
-use Rattle.exact_num.proofs.Rationals.{Q, ◌+Q◌, ◌*Q◌, neg_Q, 0Q, 1Q, value, value_zero, value_one, value_negated, value_sum, value_same, value_at_most, value_not_below, not_below_value, dot_positive, IsNotBelow0, IsBelow0, IsAtMost, at_most_of_sum, add_not_below, mul_not_below, one_not_below, neg_not_below, zero_has, add_0, zero_add_Q, mul_0, zero_mul_Q, mul_1, one_mul_Q, mul_neg, neg_neg, neg_mul, add_neg, add_comm, add_assoc, mul_comm_Q}
-use Rattle.exact_num.proofs.Totals.{total, total-ext, total-zero, total-split, total-unit, total-neg, value_dot, unit, unit-same, unit-other, unit-not-below, spread, spread-other, spread-not-below}
+use Rattle.exact_num.proofs.Rationals.{value_zero, value_one, value_negated, value_sum, value_same, value_at_most, value_not_below, not_below_value, dot_positive, at_most_of_sum, add_not_below, mul_not_below, one_not_below, neg_not_below, zero_has, add_0, zero_add_Q, mul_0, zero_mul_Q, mul_1, one_mul_Q, mul_neg, neg_neg, neg_mul, add_neg, add_comm, add_assoc, mul_comm_Q}
+use Rattle.exact_num.specs.Rationals.{Q, ◌+Q◌, ◌*Q◌, neg_Q, 0Q, 1Q, value, IsNotBelow0, IsBelow0, IsAtMost, total, unit, spread}
+use Rattle.exact_num.proofs.Totals.{total-ext, total-zero, total-split, total-unit, total-neg, value_dot, unit-same, unit-other, unit-not-below, spread-other, spread-not-below}
 use Rattle.table_run.specs.Places.{at, listed}
 use Rattle.table_run.specs.Program.{LinearProgram, row, column}
 use Rattle.table_run.specs.Table.{Row, Table, entries_at, first_table, right_side, rows_from, where_basic, basic_at}
 use Rattle.table_run.specs.Choice.{entering, least}
 use Rattle.table_run.specs.Run.{moved, unlimited, turn, run, read_off, direction}
 use Rattle.table_run.specs.Optimum.{IsProgram, IsOptimum, IsDirection, AreNotBelowZero, IsNotBelowZero, IsAsSaid, EndsAreAsSaid}
-use Rattle.table_run.proofs.Entries.{IsTable, tab_of, turn_out}
-use Rattle.table_run.proofs.Pivot.{Tab, IsGood, IsChoice, Tied, Solves, row_at, point, row_at-point, point_solves, point_earns, tied_refl, tied_trans, tied_after, good_after}
+use Rattle.table_run.proofs.Entries.{IsTable, turn_out}
+use Rattle.table_run.specs.Tableau.{tableau_of, Tableau, IsFeasible, IsPivot, HaveSameSolutions, Solves, row_at}
+use Rattle.table_run.proofs.Pivot.{point, row_at-point, point_solves, point_earns, tied_refl, tied_trans, tied_after, good_after}
 use Rattle.table_run.proofs.Choices.{moved_out, unlimited_out, unlimited_is, choice_out, entering_out, entering_none, value_above, below_value}
 use Rattle.table_run.proofs.FirstTable.{first_is_table, first_is_good, lowest-row, length-row, lowest-take, lowest-drop, entry_variable, entry_slack, entry_right, price_variable, price_other, basic_first}
 use Rattle.table_run.proofs.Ends.{run_keeps, listed_count, listed_at, holds_at, where_basic_lowest, where_basic_is, apart_of_good}
@@ -24,11 +26,11 @@ use Rattle.table_run.proofs.Ends.{run_keeps, listed_count, listed_at, holds_at, 
 -- ---- what each turn keeps
 pub record Keeps (p : LinearProgram) (t : Table) : Type 0 where
   pub table : IsTable p.rows (p.variables + p.rows) t
-  pub good : IsGood p.rows (p.variables + p.rows) (tab_of t)
-  pub tied : Tied p.rows (p.variables + p.rows) (tab_of (first_table p)) (tab_of t)
+  pub good : IsFeasible p.rows (p.variables + p.rows) (tableau_of t)
+  pub tied : HaveSameSolutions p.rows (p.variables + p.rows) (tableau_of (first_table p)) (tableau_of t)
 
 pub keeps_first : (p : LinearProgram) → IsProgram p → Keeps p (first_table p)
-keeps_first p g = record { table = first_is_table p g; good = first_is_good p g; tied = tied_refl p.rows (p.variables + p.rows) (tab_of (first_table p)) }
+keeps_first p g = record { table = first_is_table p g; good = first_is_good p g; tied = tied_refl p.rows (p.variables + p.rows) (tableau_of (first_table p)) }
 
 pub above_apart : (z : ℤ) → pos 0 <ℤ z → z ≡ pos 0 → ⊥
 above_apart z h e = omega (arith, ints, h, e)
@@ -39,43 +41,43 @@ keeps_turn p limit t u e k enters h =
     let n = p.variables + p.rows in
     let w = moved_out limit e t u h in
     let r = (least w.0 w.1).place in
-    let c : IsChoice m n e r (tab_of t) = choice_out limit m n e t w.0 w.1 k.table enters w.2 in
+    let c : IsPivot m n e r (tableau_of t) = choice_out limit m n e t w.0 w.1 k.table enters w.2 in
     let ne : (at (entries_at t.rows r) e).numerator ≡ pos 0 → ⊥ = above_apart _ (value_above _ (k.table.lowest r e) c.above) in
     let o = turn_out limit m n e r t u k.table c.row ne w.3 in
     record {
       table = o.0;
-      good = good_after m n e r (tab_of t) (tab_of u) k.good c o.1;
-      tied = tied_trans m n (tab_of (first_table p)) (tab_of t) (tab_of u) k.tied (tied_after m n e r (tab_of t) (tab_of u) c o.1);
+      good = good_after m n e r (tableau_of t) (tableau_of u) k.good c o.1;
+      tied = tied_trans m n (tableau_of (first_table p)) (tableau_of t) (tableau_of u) k.tied (tied_after m n e r (tableau_of t) (tableau_of u) c o.1);
     }
 
 -- ---- the point of a table, entry by entry
-pub read_at : (m n : ℕ) (t : Table) (k : ℕ) (c : Q) (f : Row → Fraction) (j : ℕ) → IsTable m n t → IsGood m n (tab_of t) → ((i : ℕ) → i < m → value (f (record { basic = basic_at t.rows i; entries = entries_at t.rows i })) ≡ neg_Q (value (at (entries_at t.rows i) k) *Q c)) → (k ≡ j → ⊥) → value (where_basic f j t.rows) ≡ point m (tab_of t) k c j
+pub read_at : (m n : ℕ) (t : Table) (k : ℕ) (c : Q) (f : Row → Fraction) (j : ℕ) → IsTable m n t → IsFeasible m n (tableau_of t) → ((i : ℕ) → i < m → value (f (record { basic = basic_at t.rows i; entries = entries_at t.rows i })) ≡ neg_Q (value (at (entries_at t.rows i) k) *Q c)) → (k ≡ j → ⊥) → value (where_basic f j t.rows) ≡ point m (tableau_of t) k c j
 unfolding point spread
 read_at m n t k c f j g good h ne =
-    where_basic_is f (λ i. neg_Q (value (at (entries_at t.rows i) k) *Q c)) j t.rows (λ i p. h i (omega (arith, p, g.count))) (λ i l p q e. apart_of_good m n (tab_of t) good i l (omega (arith, p, g.count)) (omega (arith, q, g.count)) e)
+    where_basic_is f (λ i. neg_Q (value (at (entries_at t.rows i) k) *Q c)) j t.rows (λ i p. h i (omega (arith, p, g.count))) (λ i l p q e. apart_of_good m n (tableau_of t) good i l (omega (arith, p, g.count)) (omega (arith, q, g.count)) e)
     ∙ ap (λ w. total w (λ i. unit (basic_at t.rows i) j *Q neg_Q (value (at (entries_at t.rows i) k) *Q c))) g.count
     ∙ sym (ap (λ w. total m (λ i. unit (basic_at t.rows i) j *Q neg_Q (value (at (entries_at t.rows i) k) *Q c)) +Q w) (ap (λ w. w *Q c) (unit-other k j ne) ∙ zero_mul_Q c) ∙ add_0 _)
 
-point_sign : (m n : ℕ) (T : Tab) (k : ℕ) (c : Q) (j : ℕ) → ((i : ℕ) → i < m → IsNotBelow0 (neg_Q (T.entry i k *Q c))) → IsNotBelow0 c → IsNotBelow0 (point m T k c j)
+point_sign : (m n : ℕ) (T : Tableau) (k : ℕ) (c : Q) (j : ℕ) → ((i : ℕ) → i < m → IsNotBelow0 (neg_Q (T.entry i k *Q c))) → IsNotBelow0 c → IsNotBelow0 (point m T k c j)
 unfolding point
 point_sign m n T k c j h p = add_not_below _ _ (spread-not-below m T.basic _ j h) (mul_not_below (unit k j) c (unit-not-below k j) p)
 
-point_sign_other : (m n : ℕ) (T : Tab) (k : ℕ) (c : Q) (j : ℕ) → ((i : ℕ) → i < m → IsNotBelow0 (neg_Q (T.entry i k *Q c))) → (k ≡ j → ⊥) → IsNotBelow0 (point m T k c j)
+point_sign_other : (m n : ℕ) (T : Tableau) (k : ℕ) (c : Q) (j : ℕ) → ((i : ℕ) → i < m → IsNotBelow0 (neg_Q (T.entry i k *Q c))) → (k ≡ j → ⊥) → IsNotBelow0 (point m T k c j)
 unfolding point
 point_sign_other m n T k c j h ne =
     subst IsNotBelow0 (sym (ap (λ w. spread m T.basic (λ i. neg_Q (T.entry i k *Q c)) j +Q w) (ap (λ w. w *Q c) (unit-other k j ne) ∙ zero_mul_Q c) ∙ add_0 _))
     (spread-not-below m T.basic _ j h)
 
 -- at a column that is not basic
-point_outside : (m n : ℕ) (T : Tab) (k : ℕ) (c : Q) (j : ℕ) → ((i : ℕ) → i < m → T.basic i ≡ j → ⊥) → point m T k c j ≡ unit k j *Q c
+point_outside : (m n : ℕ) (T : Tableau) (k : ℕ) (c : Q) (j : ℕ) → ((i : ℕ) → i < m → T.basic i ≡ j → ⊥) → point m T k c j ≡ unit k j *Q c
 unfolding point
 point_outside m n T k c j h = ap (λ w. w +Q unit k j *Q c) (spread-other m T.basic _ j h) ∙ zero_add_Q _
 
-not_basic : (m n : ℕ) (T : Tab) → IsGood m n T → (i : ℕ) → i < m → T.basic i ≡ n → ⊥
+not_basic : (m n : ℕ) (T : Tableau) → IsFeasible m n T → (i : ℕ) → i < m → T.basic i ≡ n → ⊥
 not_basic m n T g i p e = let low : T.basic i < n = g.inside i p in omega (arith, low, e)
 
 -- ---- the rows and the objective of the first table
-first_row_at : (p : LinearProgram) → IsProgram p → (i : ℕ) → i < p.rows → (z : ℕ → Q) → row_at (p.variables + p.rows) ((tab_of (first_table p)).entry i) z ≡ (total p.variables (λ j. value (at (row p i) j) *Q z j) +Q z (p.variables + i)) +Q value (at p.right_sides i) *Q z (p.variables + p.rows)
+first_row_at : (p : LinearProgram) → IsProgram p → (i : ℕ) → i < p.rows → (z : ℕ → Q) → row_at (p.variables + p.rows) ((tableau_of (first_table p)).entry i) z ≡ (total p.variables (λ j. value (at (row p i) j) *Q z j) +Q z (p.variables + i)) +Q value (at p.right_sides i) *Q z (p.variables + p.rows)
 unfolding row_at total first_table
 first_row_at p g i h z =
     let n = p.variables in
@@ -89,12 +91,12 @@ first_row_at p g i h z =
     ∙ total-unit m i (λ k. z (n + k)) h))
     ∙ ap (λ w. (total n (λ j. value (at (row p i) j) *Q z j) +Q z (n + i)) +Q w *Q z (n + m)) (entry_right p g i h)
 
-first_price_at : (p : LinearProgram) → IsProgram p → (z : ℕ → Q) → row_at (p.variables + p.rows) ((tab_of (first_table p)).price) z ≡ neg_Q (total p.variables (λ j. value (at p.costs j) *Q z j))
+first_price_at : (p : LinearProgram) → IsProgram p → (z : ℕ → Q) → row_at (p.variables + p.rows) ((tableau_of (first_table p)).price) z ≡ neg_Q (total p.variables (λ j. value (at p.costs j) *Q z j))
 unfolding row_at total first_table
 first_price_at p g z =
     let n = p.variables in
     let m = p.rows in
-    let a : ℕ → Q = (tab_of (first_table p)).price in
+    let a : ℕ → Q = (tableau_of (first_table p)).price in
     ap (λ w. total (n + m) (λ j. a j *Q z j) +Q w) (ap (λ w. w *Q z (n + m)) (price_other p g m) ∙ zero_mul_Q _) ∙ add_0 _
     ∙ total-split n m (λ j. a j *Q z j)
     ∙ ap (λ w. total n (λ j. a j *Q z j) +Q w) (total-zero m _ (λ k q. ap (λ w. w *Q z (n + k)) (price_other p g k) ∙ zero_mul_Q _)) ∙ add_0 _
@@ -119,14 +121,14 @@ dual_of d r c h =
     sym (zero_add_Q r) ∙ ap (λ w. w +Q r) (sym (add_neg d)) ∙ add_assoc d (neg_Q d) r ∙ ap (λ w. d +Q (neg_Q d +Q w)) (sym (mul_1 r)) ∙ ap (λ w. d +Q w) (h ∙ mul_1 c)
 
 -- ---- the dual, read off the objective row
-dual_at : (p : LinearProgram) (T : Tab) → IsProgram p → Tied p.rows (p.variables + p.rows) (tab_of (first_table p)) T → (k : ℕ) → k ≤ p.variables + p.rows → T.price k ≡ total p.rows (λ i. (tab_of (first_table p)).entry i k *Q T.price (p.variables + i)) +Q (tab_of (first_table p)).price k
+dual_at : (p : LinearProgram) (T : Tableau) → IsProgram p → HaveSameSolutions p.rows (p.variables + p.rows) (tableau_of (first_table p)) T → (k : ℕ) → k ≤ p.variables + p.rows → T.price k ≡ total p.rows (λ i. (tableau_of (first_table p)).entry i k *Q T.price (p.variables + i)) +Q (tableau_of (first_table p)).price k
 unfolding first_table
 dual_at p T g tied k low =
     let n = p.variables in
     let m = p.rows in
     let N = n + m in
-    let S : Tab = tab_of (first_table p) in
-    let good : IsGood m N S = first_is_good p g in
+    let S : Tableau = tableau_of (first_table p) in
+    let good : IsFeasible m N S = first_is_good p g in
     let z : ℕ → Q = point m S k 1Q in
     let earned : row_at N T.price z ≡ S.price k *Q 1Q = sym (tied.same z (point_solves m N S k 1Q good low)) ∙ point_earns m N S k 1Q good low in
     let summed : total m (λ i. T.price (S.basic i) *Q neg_Q (S.entry i k *Q 1Q)) ≡ neg_Q (total m (λ i. S.entry i k *Q T.price (n + i))) =
@@ -177,21 +179,21 @@ lowest-column : (p : LinearProgram) → IsProgram p → (j i : ℕ) → IsLowest
 lowest-column p g j = holds_at IsLowest (column p j) zero_lowest (λ i q. subst IsLowest (sym (listed_at (λ i. at p.coefficients (i * p.variables + j)) p.rows i (omega (arith, q, listed_count (λ i. at p.coefficients (i * p.variables + j)) 0 p.rows)))) (g.coefficients.lowest (i * p.variables + j)))
 
 -- the first table's entries once more, by its definition
-column_at : (p : LinearProgram) → IsProgram p → (i j : ℕ) → i < p.rows → j < p.variables → (tab_of (first_table p)).entry i j ≡ value (at (column p j) i)
+column_at : (p : LinearProgram) → IsProgram p → (i j : ℕ) → i < p.rows → j < p.variables → (tableau_of (first_table p)).entry i j ≡ value (at (column p j) i)
 unfolding first_table
 column_at p g i j h q =
     entry_variable p g i j h q
     ∙ ap value (part_at p.variables (i * p.variables) p.coefficients j q ∙ sym (listed_at (λ i. at p.coefficients (i * p.variables + j)) p.rows i h))
 
-first_price : (p : LinearProgram) → IsProgram p → (j : ℕ) → j < p.variables → (tab_of (first_table p)).price j ≡ neg_Q (value (at p.costs j))
+first_price : (p : LinearProgram) → IsProgram p → (j : ℕ) → j < p.variables → (tableau_of (first_table p)).price j ≡ neg_Q (value (at p.costs j))
 unfolding first_table
 first_price p g j q = price_variable p g j q
 
-first_price_last : (p : LinearProgram) → IsProgram p → (tab_of (first_table p)).price (p.variables + p.rows) ≡ 0Q
+first_price_last : (p : LinearProgram) → IsProgram p → (tableau_of (first_table p)).price (p.variables + p.rows) ≡ 0Q
 unfolding first_table
 first_price_last p g = price_other p g p.rows
 
-first_right : (p : LinearProgram) → IsProgram p → (i : ℕ) → i < p.rows → (tab_of (first_table p)).entry i (p.variables + p.rows) ≡ value (at p.right_sides i)
+first_right : (p : LinearProgram) → IsProgram p → (i : ℕ) → i < p.rows → (tableau_of (first_table p)).entry i (p.variables + p.rows) ≡ value (at p.right_sides i)
 unfolding first_table
 first_right p g i q = entry_right p g i q
 
@@ -205,7 +207,7 @@ optimum_is p t g k h =
     let n = p.variables in
     let m = p.rows in
     let N = n + m in
-    let T : Tab = tab_of t in
+    let T : Tableau = tableau_of t in
     let f : Row → Fraction = λ row. right_side t.columns row.entries in
     let x : List Fraction = listed (λ j. where_basic f j t.rows) 0 n in
     let y : List Fraction = take m (drop n t.objective) in
@@ -220,7 +222,7 @@ optimum_is p t g k h =
     let xs : AreNotBelowZero n x = values_not_below n x z (listed_count (λ j. where_basic f j t.rows) 0 n) lows read (λ j q. signs j (omega (arith, q))) in
     let ys : AreNotBelowZero m y = part_not_below m n t.objective (omega (arith, k.table.width)) k.table.lowest_price (λ j q. none (n + j) (omega (arith, q))) in
     let reads : AreNotBelowZero n (take n t.objective) = part_not_below n 0 t.objective (omega (arith, k.table.width)) k.table.lowest_price (λ j q. let e : 0 + j ≡ j = omega arith in subst (λ w. IsNotBelowZero (at t.objective w)) (sym e) (none j (omega (arith, q)))) in
-    let solves : Solves m N (tab_of (first_table p)) z = k.tied.back z (point_solves m N T N (neg_Q 1Q) k.good (omega arith)) in
+    let solves : Solves m N (tableau_of (first_table p)) z = k.tied.back z (point_solves m N T N (neg_Q 1Q) k.good (omega arith)) in
     let last : z N ≡ neg_Q 1Q = point_outside m N T N (neg_Q 1Q) N (not_basic m N T k.good) ∙ ap (λ w. w *Q neg_Q 1Q) (unit-same N N refl) ∙ one_mul_Q _ in
     let y_at : (i : ℕ) → i < m → value (at y i) ≡ T.price (n + i) = λ i q. ap value (part_at m n t.objective i q) in
     let final : value (right_side t.columns t.objective) ≡ T.price N = ap (λ w. value (at t.objective w)) k.table.columns in
@@ -240,7 +242,7 @@ optimum_is p t g k h =
           value_same (at (take n t.objective) j) (plain_sum d (negated (at p.costs j))) (reads.lowest j).positive (mul-pos below low_c.positive)
           (ap value (get_or-take n t.objective j (whole (pos 0)) q)
           ∙ dual_at p T g k.tied j (omega (arith, q))
-          ∙ ap (λ w. w +Q (tab_of (first_table p)).price j)
+          ∙ ap (λ w. w +Q (tableau_of (first_table p)).price j)
           (total-ext m _ (λ i. value (at (column p j) i) *Q T.price (n + i)) (λ i r. ap (λ w. w *Q T.price (n + i)) (column_at p g i j r q))
           ∙ sym (dot_at m (column p j) y (λ i. T.price (n + i)) (listed_count _ 0 m) (lowest-column p g j) ys y_at))
           ∙ ap (λ w. value d +Q w) (first_price p g j q ∙ sym (value_negated (at p.costs j) low_c.positive))
@@ -252,13 +254,13 @@ optimum_is p t g k h =
       owes =
           value_same (plain_dot p.right_sides y) (right_side t.columns t.objective) (dot_below p.right_sides y m g.right_sides.lowest ys) (k.table.lowest_price t.columns).positive
           (dot_at m p.right_sides y (λ i. T.price (n + i)) g.right_sides.count g.right_sides.lowest ys y_at
-          ∙ total-ext m _ (λ i. (tab_of (first_table p)).entry i N *Q T.price (n + i)) (λ i r. ap (λ w. w *Q T.price (n + i)) (sym (first_right p g i r)))
-          ∙ sym (add_0 _) ∙ ap (λ w. total m (λ i. (tab_of (first_table p)).entry i N *Q T.price (n + i)) +Q w) (sym (first_price_last p g))
+          ∙ total-ext m _ (λ i. (tableau_of (first_table p)).entry i N *Q T.price (n + i)) (λ i r. ap (λ w. w *Q T.price (n + i)) (sym (first_right p g i r)))
+          ∙ sym (add_0 _) ∙ ap (λ w. total m (λ i. (tableau_of (first_table p)).entry i N *Q T.price (n + i)) +Q w) (sym (first_price_last p g))
           ∙ sym (dual_at p T g k.tied N (omega arith)) ∙ sym final);
     }
 
 -- ---- the unlimited
-below_not_basic : (m n : ℕ) (T : Tab) → IsGood m n T → (e : ℕ) → IsBelow0 (T.price e) → (i : ℕ) → i < m → T.basic i ≡ e → ⊥
+below_not_basic : (m n : ℕ) (T : Tableau) → IsFeasible m n T → (e : ℕ) → IsBelow0 (T.price e) → (i : ℕ) → i < m → T.basic i ≡ e → ⊥
 below_not_basic m n T g e below i p same =
     let zero : (T.price e).fraction.numerator ≡ pos 0 = zero_has (T.price e) (ap T.price (sym same) ∙ g.priced i p) in
     omega (arith, ints, below, zero)
@@ -282,13 +284,13 @@ above_of_neg d w p e below =
     apart z h k = omega (arith, ints, h, k)
 
 -- an entry of the direction
-read_entry : (m n : ℕ) (t : Table) (e j : ℕ) → IsTable m n t → IsGood m n (tab_of t) → ((i : ℕ) → i < m → basic_at t.rows i ≡ e → ⊥) → IsLowest (if nat_eq j e then whole (pos 1) else where_basic (λ row. negated (at row.entries e)) j t.rows) × (value (if nat_eq j e then whole (pos 1) else where_basic (λ row. negated (at row.entries e)) j t.rows) ≡ point m (tab_of t) e 1Q j)
+read_entry : (m n : ℕ) (t : Table) (e j : ℕ) → IsTable m n t → IsFeasible m n (tableau_of t) → ((i : ℕ) → i < m → basic_at t.rows i ≡ e → ⊥) → IsLowest (if nat_eq j e then whole (pos 1) else where_basic (λ row. negated (at row.entries e)) j t.rows) × (value (if nat_eq j e then whole (pos 1) else where_basic (λ row. negated (at row.entries e)) j t.rows) ≡ point m (tableau_of t) e 1Q j)
 read_entry m n t e j g good apart = step (nat_eq j e) refl
   where
-    step : (b : Bool) → nat_eq j e ≡ b → IsLowest (if b then whole (pos 1) else where_basic (λ row. negated (at row.entries e)) j t.rows) × (value (if b then whole (pos 1) else where_basic (λ row. negated (at row.entries e)) j t.rows) ≡ point m (tab_of t) e 1Q j)
+    step : (b : Bool) → nat_eq j e ≡ b → IsLowest (if b then whole (pos 1) else where_basic (λ row. negated (at row.entries e)) j t.rows) × (value (if b then whole (pos 1) else where_basic (λ row. negated (at row.entries e)) j t.rows) ≡ point m (tableau_of t) e 1Q j)
     step true h =
         let same : e ≡ j = grind (arith, nat_tests) in
-        (whole_is_lowest (pos 1), value_one ∙ sym (ap (point m (tab_of t) e 1Q) (sym same) ∙ point_outside m n (tab_of t) e 1Q e apart ∙ ap (λ w. w *Q 1Q) (unit-same e e refl) ∙ mul_1 1Q))
+        (whole_is_lowest (pos 1), value_one ∙ sym (ap (point m (tableau_of t) e 1Q) (sym same) ∙ point_outside m n (tableau_of t) e 1Q e apart ∙ ap (λ w. w *Q 1Q) (unit-same e e refl) ∙ mul_1 1Q))
     step false h =
         let ne : e ≡ j → ⊥ = λ q. grind (arith, nat_tests) in (
           where_basic_lowest (λ row. negated (at row.entries e)) j t.rows (λ i q. negated_is_lowest _ (g.lowest i e)),
@@ -301,7 +303,7 @@ unlimited_holds limit p t e g k enters h =
     let n = p.variables in
     let m = p.rows in
     let N = n + m in
-    let T : Tab = tab_of t in
+    let T : Tableau = tableau_of t in
     let f : Row → Fraction = λ row. negated (at row.entries e) in
     let entry : ℕ → Fraction = λ j. if nat_eq j e then whole (pos 1) else where_basic f j t.rows in
     let d : List Fraction = listed entry 0 n in
@@ -313,7 +315,7 @@ unlimited_holds limit p t e g k enters h =
     let reads : (j : ℕ) → IsLowest (entry j) × (value (entry j) ≡ z j) = λ j. read_entry m N t e j k.table k.good (below_not_basic m N T k.good e below) in
     let read : (j : ℕ) → j < n → value (at d j) ≡ z j = λ j q. ap value (listed_at entry n j q) ∙ (reads j).1 in
     let ds : AreNotBelowZero n d = values_not_below n d z (listed_count entry 0 n) (λ j q. subst IsLowest (sym (listed_at entry n j q)) (reads j).0) read (λ j q. signs j) in
-    let solves : Solves m N (tab_of (first_table p)) z = k.tied.back z (point_solves m N T e 1Q k.good (omega (arith, column.0))) in
+    let solves : Solves m N (tableau_of (first_table p)) z = k.tied.back z (point_solves m N T e 1Q k.good (omega (arith, column.0))) in
     let last : z N ≡ 0Q = point_outside m N T e 1Q N (not_basic m N T k.good) ∙ ap (λ w. w *Q 1Q) (unit-other e N (λ w. omega (arith, w, column.0))) ∙ zero_mul_Q _ in
     record {
       sign = ds;

@@ -11,7 +11,7 @@ use Rattle.table_run.specs.Run.{Turn, moved, unlimited, stopped, turn, run, run_
 use Rattle.table_run.specs.Optimum.{IsProgram}
 use Rattle.table_run.specs.Turns.{table_after, HaveSameBasics}
 use Rattle.table_run.specs.Choose.{choose, UnitsSuffice}
-use Rattle.table_run.proofs.Entries.{tab_of}
+use Rattle.table_run.specs.Tableau.{tableau_of}
 use Rattle.table_run.proofs.Ends.{apart_of_good}
 use Rattle.table_run.proofs.Optima.{Keeps}
 use Rattle.table_run.proofs.Tables.{tables_keep, tables, tables_are, contains_in, in_contains, basics_differ_at, after_suc}
@@ -48,7 +48,7 @@ key : (p : LinearProgram) → Table → ℕ
 key p t = rank (p.variables + p.rows) (among p.rows (basic_at t.rows)) p.rows
 
 counted : (p : LinearProgram) (t : Table) → Keeps p t → count (p.variables + p.rows) (among p.rows (basic_at t.rows)) ≡ p.rows
-counted p t k = count_among (p.variables + p.rows) p.rows (basic_at t.rows) k.good.inside (apart_of_good p.rows (p.variables + p.rows) (tab_of t) k.good)
+counted p t k = count_among (p.variables + p.rows) p.rows (basic_at t.rows) k.good.inside (apart_of_good p.rows (p.variables + p.rows) (tableau_of t) k.good)
 
 key_below : (p : LinearProgram) (t : Table) → Keeps p t → key p t < choose (p.variables + p.rows) p.rows
 unfolding key

@@ -11,13 +11,13 @@ use Rattle.table_run.specs.Program.{LinearProgram}
 use Rattle.table_run.specs.Table.{Row, Table, first_table, basic_at}
 use Rattle.table_run.specs.Choice.{Ratio, entering, ratios, least}
 use Rattle.table_run.specs.Run.{Turn, moved, unlimited, stopped, turn}
+use Rattle.table_run.specs.Tableau.{TablesAreFeasible, TurnsAreByBlandsRule, tableau_of, IsPivot, IsBlandTurn}
 use Rattle.table_run.specs.Optimum.{IsProgram}
 use Rattle.table_run.specs.Turns.{moved_to, turned_by, next_table, table_after, basics, HaveSameBasics}
-use Rattle.table_run.proofs.Entries.{IsTable, tab_of, turn_out}
-use Rattle.table_run.proofs.Pivot.{IsChoice}
+use Rattle.table_run.proofs.Entries.{IsTable, turn_out}
 use Rattle.table_run.proofs.Choices.{moved_out, choice_out, ties_out, entering_out, value_above}
 use Rattle.table_run.proofs.Optima.{Keeps, keeps_first, keeps_turn, above_apart}
-use Rattle.table_run.proofs.Bland.{IsBland, IsIn, HaveSame, Turns, no_cycle}
+use Rattle.table_run.proofs.Bland.{IsIn, HaveSame, Turns, no_cycle}
 
 -- ---- a turn of the run is one by Bland's rule
 abbrev pub column_of : Option ℕ → ℕ
@@ -35,7 +35,7 @@ enters_at t = column_of (entering t)
 pub leaves_at : ℕ → Table → ℕ
 leaves_at limit t = place_of (ratios limit t.columns (column_of (entering t)) 0 t.rows)
 
-bland_turn : (p : LinearProgram) (limit : ℕ) (t u : Table) (e : ℕ) → Keeps p t → entering t ≡ Some e → turn limit e t ≡ moved u → IsBland p.rows (p.variables + p.rows) (enters_at t) (leaves_at limit t) (tab_of t) (tab_of u)
+bland_turn : (p : LinearProgram) (limit : ℕ) (t u : Table) (e : ℕ) → Keeps p t → entering t ≡ Some e → turn limit e t ≡ moved u → IsBlandTurn p.rows (p.variables + p.rows) (enters_at t) (leaves_at limit t) (tableau_of t) (tableau_of u)
 unfolding enters_at leaves_at
 bland_turn p limit t u e k enters h =
     let m = p.rows in
@@ -44,16 +44,16 @@ bland_turn p limit t u e k enters h =
     let r = (least w.0 w.1).place in
     let is_e : column_of (entering t) ≡ e = ap column_of enters in
     let is_r : place_of (ratios limit t.columns (column_of (entering t)) 0 t.rows) ≡ r = ap (λ c. place_of (ratios limit t.columns c 0 t.rows)) is_e ∙ ap place_of w.2 in
-    let c : IsChoice m n e r (tab_of t) = choice_out limit m n e t w.0 w.1 k.table enters w.2 in
+    let c : IsPivot m n e r (tableau_of t) = choice_out limit m n e t w.0 w.1 k.table enters w.2 in
     let o = turn_out limit m n e r t u k.table c.row (above_apart _ (value_above _ (k.table.lowest r e) c.above)) w.3 in
     let first = (entering_out m n e t k.table enters).2 in
-    let turn : IsBland m n e r (tab_of t) (tab_of u) = record {
+    let turn : IsBlandTurn m n e r (tableau_of t) (tableau_of u) = record {
       choice = c;
       turn = o.1;
       first = λ j l. not_below_value (at t.objective j) (k.table.lowest_price j).positive (first j l);
       ties = λ i l above same. ties_out limit m n e t w.0 w.1 k.table w.2 i l above same;
     } in
-    subst (λ c. IsBland m n c (place_of (ratios limit t.columns (column_of (entering t)) 0 t.rows)) (tab_of t) (tab_of u)) (sym is_e) (subst (λ c. IsBland m n e c (tab_of t) (tab_of u)) (sym is_r) turn)
+    subst (λ c. IsBlandTurn m n c (place_of (ratios limit t.columns (column_of (entering t)) 0 t.rows)) (tableau_of t) (tableau_of u)) (sym is_e) (subst (λ c. IsBlandTurn m n e c (tableau_of t) (tableau_of u)) (sym is_r) turn)
 
 -- ---- the tables
 -- the table of an answer, and else the first one
@@ -107,14 +107,14 @@ tables_are limit p i L u h k low =
     let w = there_before limit p (i + k) (i + L) u (omega (arith, low)) h in
     w.1 ∙ ap Some (sym (ap (given p) w.1))
 
-step_of : (limit : ℕ) (p : LinearProgram) (i k : ℕ) → IsProgram p → table_after limit p (i + k) ≡ Some (tables limit p i k) → table_after limit p (i + suc k) ≡ Some (tables limit p i (suc k)) → IsBland p.rows (p.variables + p.rows) (enters_at (tables limit p i k)) (leaves_at limit (tables limit p i k)) (tab_of (tables limit p i k)) (tab_of (tables limit p i (suc k)))
+step_of : (limit : ℕ) (p : LinearProgram) (i k : ℕ) → IsProgram p → table_after limit p (i + k) ≡ Some (tables limit p i k) → table_after limit p (i + suc k) ≡ Some (tables limit p i (suc k)) → IsBlandTurn p.rows (p.variables + p.rows) (enters_at (tables limit p i k)) (leaves_at limit (tables limit p i k)) (tableau_of (tables limit p i k)) (tableau_of (tables limit p i (suc k)))
 step_of limit p i k g here next =
     let e : i + suc k ≡ suc (i + k) = omega arith in
     let w = next_out limit (table_after limit p (i + k)) (tables limit p i (suc k)) (after_suc limit p (i + k) ∙ ap (table_after limit p) (sym e) ∙ next) in
     let same : w.0 ≡ tables limit p i k = some_same (sym w.1 ∙ here) in
     bland_turn p limit (tables limit p i k) (tables limit p i (suc k)) w.2 (tables_keep limit p g (i + k) (tables limit p i k) here) (subst (λ (t : Table). entering t ≡ Some w.2) same w.3) (subst (λ (t : Table). turn limit w.2 t ≡ moved (tables limit p i (suc k))) same w.4)
 
-turns_of : (limit : ℕ) (p : LinearProgram) (i L : ℕ) (u : Table) → IsProgram p → table_after limit p (i + L) ≡ Some u → Turns p.rows (p.variables + p.rows) L (λ k. tab_of (tables limit p i k))
+turns_of : (limit : ℕ) (p : LinearProgram) (i L : ℕ) (u : Table) → IsProgram p → table_after limit p (i + L) ≡ Some u → Turns p.rows (p.variables + p.rows) L (λ k. tableau_of (tables limit p i k))
 turns_of limit p i L u g h =
     record {
       e = λ k. enters_at (tables limit p i k);
@@ -128,19 +128,19 @@ basic_is [] k j h = absurd (omega (arith, h))
 basic_is (row ∷ rows) zero j h = refl
 basic_is (row ∷ rows) (suc k) j h = basic_is rows k j (omega (arith, h))
 
-pub contains_in : (m n : ℕ) (t : Table) → IsTable m n t → (j : ℕ) → Contains (basics t) j → IsIn m (tab_of t) j
+pub contains_in : (m n : ℕ) (t : Table) → IsTable m n t → (j : ℕ) → Contains (basics t) j → IsIn m (tableau_of t) j
 contains_in m n t g j h =
     let long = length-map t.rows (λ (row : Row). row.basic) in
     let low : h.0 < length t.rows = omega (arith, h.1, long) in
     (h.0, omega (arith, low, g.count), sym (basic_is t.rows h.0 j low) ∙ h.2)
 
-pub in_contains : (m n : ℕ) (t : Table) → IsTable m n t → (j : ℕ) → IsIn m (tab_of t) j → Contains (basics t) j
+pub in_contains : (m n : ℕ) (t : Table) → IsTable m n t → (j : ℕ) → IsIn m (tableau_of t) j → Contains (basics t) j
 in_contains m n t g j h =
     let long = length-map t.rows (λ (row : Row). row.basic) in
     let low : h.0 < length t.rows = omega (arith, h.1, g.count) in
     (h.0, omega (arith, low, long), basic_is t.rows h.0 j low ∙ h.2)
 
-pub same_in : (m n : ℕ) (t u : Table) → IsTable m n t → IsTable m n u → HaveSameBasics t u → HaveSame m (tab_of t) (tab_of u)
+pub same_in : (m n : ℕ) (t u : Table) → IsTable m n t → IsTable m n u → HaveSameBasics t u → HaveSame m (tableau_of t) (tableau_of u)
 same_in m n t u g h same =
     record {
       there = λ j w. contains_in m n u h j ((same j).0 (in_contains m n t g j w));
@@ -159,5 +159,16 @@ basics_differ_at limit p i j t u g less at_i at_j same =
     let last : tables limit p i L ≡ u = ap (given p) there in
     let k = (tables_keep limit p g i t at_i).table in
     let l = (tables_keep limit p g j u at_j).table in
-    no_cycle p.rows (p.variables + p.rows) L (λ k. tab_of (tables limit p i k)) (turns_of limit p i L u g there) (omega (arith, less))
-    (subst (λ w. HaveSame p.rows (tab_of w) (tab_of (tables limit p i L))) (sym first) (subst (λ w. HaveSame p.rows (tab_of t) (tab_of w)) (sym last) (same_in p.rows (p.variables + p.rows) t u k l same)))
+    no_cycle p.rows (p.variables + p.rows) L (λ k. tableau_of (tables limit p i k)) (turns_of limit p i L u g there) (omega (arith, less))
+    (subst (λ w. HaveSame p.rows (tableau_of w) (tableau_of (tables limit p i L))) (sym first) (subst (λ w. HaveSame p.rows (tableau_of t) (tableau_of w)) (sym last) (same_in p.rows (p.variables + p.rows) t u k l same)))
+
+-- ---- what the run has to do with the tableau
+pub tables_are_feasible : TablesAreFeasible
+tables_are_feasible limit k p t g h = let kept = tables_keep limit p g k t h in record { feasible = kept.good; same = kept.tied }
+
+pub turns_are_by_blands_rule : TurnsAreByBlandsRule
+turns_are_by_blands_rule limit k p t u g here next =
+    let w = next_out limit (table_after limit p k) u (after_suc limit p k ∙ next) in
+    let same : w.0 ≡ t = some_same (sym w.1 ∙ here) in
+    (enters_at t, leaves_at limit t,
+      bland_turn p limit t u w.2 (tables_keep limit p g k t here) (subst (λ (s : Table). entering s ≡ Some w.2) same w.3) (subst (λ (s : Table). turn limit w.2 s ≡ moved u) same w.4))

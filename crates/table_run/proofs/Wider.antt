@@ -8,7 +8,8 @@ use Rattle.exact_num.specs.Fits.{size_fits, sum_fits, sum_value, add_of, sub_of,
 use Rattle.table_run.specs.Places.{at}
 use Rattle.table_run.specs.Program.{LinearProgram}
 use Rattle.table_run.specs.Table.{Row, Table, entries_at, first_table, right_side, row_of}
-use Rattle.table_run.specs.Choice.{Ratio, entering, ratio_in, ratios, least, is_above_zero, joined}
+use Rattle.table_run.specs.Choice.{Ratio, entering, ratio_in, ratios, least, joined}
+use Rattle.exact_num.specs.Tests.{is_above_zero}
 use Rattle.table_run.specs.Pivot.{each, each_pair, divided, less_product, cleared, row_after, rows_after, pivoted}
 use Rattle.table_run.specs.Ending.{Ending, unbounded, wide_at, HasNoMisfit}
 use Rattle.table_run.specs.Run.{Optimum, Turn, moved, unlimited, stopped, turn, on_entering, on_turn, read_off, direction, run_from, run}

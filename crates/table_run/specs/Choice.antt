@@ -1,18 +1,13 @@
 -- The choices of a turn by Bland's rule: the entering column, the ratio test, the leaving row.
-use Rattle.std.specs.Prelude.{ℕ, ◌+◌, List, [], ◌∷◌, take, pos, int_lt, Bool, if◌then◌else◌, nat_lt, Option, Some, None, Result, Ok}
+use Rattle.std.specs.Prelude.{ℕ, ◌+◌, List, [], ◌∷◌, take, Bool, if◌then◌else◌, nat_lt, Option, Some, None, Result, Ok}
 use Rattle.std.specs.declared.cmp.Ordering.{Ordering}
 use Rattle.std.specs.declared.cmp.Ordering.TheVariants.{Less, Equal, Greater}
 use Rattle.exact_num.specs.declared.misfit.Wide.{Wide}
 use Rattle.exact_num.specs.Fraction.{Fraction, fraction_cmp}
 use Rattle.exact_num.specs.Fits.{div_of, after}
+use Rattle.exact_num.specs.Tests.{is_below_zero, is_above_zero}
 use Rattle.table_run.specs.Places.{at}
 use Rattle.table_run.specs.Table.{Table, Row, right_side}
-
-abbrev pub is_below_zero : Fraction → Bool
-is_below_zero x = int_lt x.numerator (pos 0)
-
-abbrev pub is_above_zero : Fraction → Bool
-is_above_zero x = int_lt (pos 0) x.numerator
 
 -- the place of the first entry below 0, counted from i
 unfoldable pub first_below : ℕ → List Fraction → Option ℕ

@@ -23,6 +23,10 @@ abbrev pub on_steps : {A B : Type 0} → ℕ → Result A Wide → (A → Ending
 on_steps spent (Ok a) next = next a
 on_steps spent (Err wide) next = wide_at spent wide
 
+-- the answer itself, where further steps fit that spend no unit
+abbrev pub where_fits : {A B : Type 0} → (A → Result B Wide) → A → ℕ → Ending A
+where_fits steps answer spent = on_steps spent (steps answer) (λ b. done answer spent)
+
 -- each number of the run did fit
 abbrev pub HasNoMisfit : {A : Type 0} → Ending A → Type 0
 HasNoMisfit (done answer spent) = Unit {0}

@@ -8,6 +8,8 @@ pub mod Run
 pub mod Units
 pub mod Optimum
 pub mod Turns
+pub mod Tableau
 pub mod Choose
 pub mod Limits
 pub mod Worked
+pub mod Sizes

@@ -48,15 +48,15 @@ too_wide =
       costs = wholes (pos 1 ∷ []);
     }
 
-abbrev pub TooWide : Type 0
-TooWide = worked too_wide ≡ wide_at 1 (misfit Add (over (pos 1) (2 ^ 126 - 1)) (over (minus 1) (2 ^ 126)))
+abbrev pub too_wide_end : Ending Optimum
+too_wide_end = wide_at 1 (misfit Add (over (pos 1) (2 ^ 126 - 1)) (over (minus 1) (2 ^ 126)))
 
 -- x under -x <= 0
 abbrev pub without_end : LinearProgram
 without_end = program_of (pos 1 ∷ []) (at_most (minus 1 ∷ []) (pos 0) ∷ [])
 
-abbrev pub WithoutEnd : Type 0
-WithoutEnd = worked without_end ≡ unbounded (wholes (pos 1 ∷ [])) 1
+abbrev pub without_end_end : Ending Optimum
+without_end_end = unbounded (wholes (pos 1 ∷ [])) 1
 
 -- ---- master programs of batches of call options: a variable for each order's fill and one for the
 -- liability at price 0; a row for each order's quantity and one for each later price where the
@@ -71,10 +71,8 @@ one_option_matched =
     ∷ at_most (pos 1 ∷ minus 1 ∷ pos 0 ∷ []) (pos 0)
     ∷ [])
 
-abbrev pub OneOptionMatched : Type 0
-OneOptionMatched =
-    worked one_option_matched
-    ≡ done (optimum (wholes (pos 1 ∷ pos 1 ∷ pos 0 ∷ [])) (wholes (pos 2 ∷ pos 0 ∷ pos 0 ∷ pos 5 ∷ [])) (wholes (pos 0 ∷ pos 0 ∷ pos 1 ∷ [])) (whole (pos 2))) 2
+abbrev pub one_option_matched_end : Ending Optimum
+one_option_matched_end = done (optimum (wholes (pos 1 ∷ pos 1 ∷ pos 0 ∷ [])) (wholes (pos 2 ∷ pos 0 ∷ pos 0 ∷ pos 5 ∷ [])) (wholes (pos 0 ∷ pos 0 ∷ pos 1 ∷ [])) (whole (pos 2))) 2
 
 -- no order
 abbrev pub empty_batch : LinearProgram
@@ -82,10 +80,8 @@ empty_batch =
     program_of (minus 1 ∷ [])
     (at_most (pos 0 ∷ []) (pos 0) ∷ [])
 
-abbrev pub EmptyBatch : Type 0
-EmptyBatch =
-    worked empty_batch
-    ≡ done (optimum (wholes (pos 0 ∷ [])) (wholes (pos 0 ∷ [])) (wholes (pos 1 ∷ [])) (whole (pos 0))) 0
+abbrev pub empty_batch_end : Ending Optimum
+empty_batch_end = done (optimum (wholes (pos 0 ∷ [])) (wholes (pos 0 ∷ [])) (wholes (pos 1 ∷ [])) (whole (pos 0))) 0
 
 -- buy call 10 at 5, sell call 10 at 5
 abbrev pub equal_prices_stay : LinearProgram
@@ -97,10 +93,8 @@ equal_prices_stay =
     ∷ at_most (pos 1 ∷ minus 1 ∷ pos 0 ∷ []) (pos 0)
     ∷ [])
 
-abbrev pub EqualPricesStay : Type 0
-EqualPricesStay =
-    worked equal_prices_stay
-    ≡ done (optimum (wholes (pos 0 ∷ pos 0 ∷ pos 0 ∷ [])) (wholes (pos 0 ∷ pos 0 ∷ pos 0 ∷ pos 5 ∷ [])) (wholes (pos 0 ∷ pos 0 ∷ pos 1 ∷ [])) (whole (pos 0))) 1
+abbrev pub equal_prices_stay_end : Ending Optimum
+equal_prices_stay_end = done (optimum (wholes (pos 0 ∷ pos 0 ∷ pos 0 ∷ [])) (wholes (pos 0 ∷ pos 0 ∷ pos 0 ∷ pos 5 ∷ [])) (wholes (pos 0 ∷ pos 0 ∷ pos 1 ∷ [])) (whole (pos 0))) 1
 
 -- buy call 10 at 6, sell call 5 at 5
 abbrev pub lower_strike_covers : LinearProgram
@@ -113,10 +107,8 @@ lower_strike_covers =
     ∷ at_most (pos 1 ∷ minus 1 ∷ pos 0 ∷ []) (pos 0)
     ∷ [])
 
-abbrev pub LowerStrikeCovers : Type 0
-LowerStrikeCovers =
-    worked lower_strike_covers
-    ≡ done (optimum (wholes (pos 1 ∷ pos 1 ∷ pos 0 ∷ [])) (wholes (pos 1 ∷ pos 0 ∷ pos 0 ∷ pos 0 ∷ pos 5 ∷ [])) (wholes (pos 0 ∷ pos 0 ∷ pos 1 ∷ [])) (whole (pos 1))) 2
+abbrev pub lower_strike_covers_end : Ending Optimum
+lower_strike_covers_end = done (optimum (wholes (pos 1 ∷ pos 1 ∷ pos 0 ∷ [])) (wholes (pos 1 ∷ pos 0 ∷ pos 0 ∷ pos 0 ∷ pos 5 ∷ [])) (wholes (pos 0 ∷ pos 0 ∷ pos 1 ∷ [])) (whole (pos 1))) 2
 
 -- buy call 10 at 6, sell call 5 at 8, sell call 12 at 4
 abbrev pub butterfly_by_two_sells : LinearProgram
@@ -131,10 +123,8 @@ butterfly_by_two_sells =
     ∷ at_most (pos 1 ∷ minus 1 ∷ minus 1 ∷ pos 0 ∷ []) (pos 0)
     ∷ [])
 
-abbrev pub ButterflyByTwoSells : Type 0
-ButterflyByTwoSells =
-    worked butterfly_by_two_sells
-    ≡ done (optimum (whole (pos 1) ∷ over (pos 2) 7 ∷ over (pos 5) 7 ∷ whole (pos 0) ∷ []) (over (pos 6) 7 ∷ whole (pos 0) ∷ whole (pos 0) ∷ whole (pos 0) ∷ whole (pos 0) ∷ over (pos 4) 7 ∷ whole (pos 4) ∷ []) (whole (pos 0) ∷ whole (pos 0) ∷ whole (pos 0) ∷ over (pos 3) 7 ∷ []) (over (pos 6) 7)) 3
+abbrev pub butterfly_by_two_sells_end : Ending Optimum
+butterfly_by_two_sells_end = done (optimum (whole (pos 1) ∷ over (pos 2) 7 ∷ over (pos 5) 7 ∷ whole (pos 0) ∷ []) (over (pos 6) 7 ∷ whole (pos 0) ∷ whole (pos 0) ∷ whole (pos 0) ∷ whole (pos 0) ∷ over (pos 4) 7 ∷ whole (pos 4) ∷ []) (whole (pos 0) ∷ whole (pos 0) ∷ whole (pos 0) ∷ over (pos 3) 7 ∷ []) (over (pos 6) 7)) 3
 
 -- buy call 10 at 6, sell call 12 at 4
 abbrev pub cover_too_dear : LinearProgram
@@ -147,10 +137,8 @@ cover_too_dear =
     ∷ at_most (pos 1 ∷ minus 1 ∷ pos 0 ∷ []) (pos 0)
     ∷ [])
 
-abbrev pub CoverTooDear : Type 0
-CoverTooDear =
-    worked cover_too_dear
-    ≡ done (optimum (wholes (pos 0 ∷ pos 0 ∷ pos 0 ∷ [])) (wholes (pos 0 ∷ pos 0 ∷ pos 0 ∷ pos 1 ∷ pos 4 ∷ [])) (wholes (pos 0 ∷ pos 0 ∷ pos 0 ∷ [])) (whole (pos 0))) 2
+abbrev pub cover_too_dear_end : Ending Optimum
+cover_too_dear_end = done (optimum (wholes (pos 0 ∷ pos 0 ∷ pos 0 ∷ [])) (wholes (pos 0 ∷ pos 0 ∷ pos 0 ∷ pos 1 ∷ pos 4 ∷ [])) (wholes (pos 0 ∷ pos 0 ∷ pos 0 ∷ [])) (whole (pos 0))) 2
 
 -- buy call 500001 at 400000000 and call 899999999 at 200000; sell call 0 on 1000 units at 1501501501,
 -- call 1000000000 on 999 units at 1000000000 and call 999999999 at 0
@@ -169,11 +157,22 @@ surplus_too_wide =
     ∷ at_most (pos 1 ∷ pos 1 ∷ minus 1000 ∷ minus 999 ∷ minus 1 ∷ pos 0 ∷ []) (pos 0)
     ∷ [])
 
-abbrev pub SurplusTooWide : Type 0
-SurplusTooWide =
-    worked surplus_too_wide
-    ≡ wide_at 6 (misfit Add (over (pos 398748100250250500749500501) 1000000000000) (over (pos 99599999800200000) 997999999001))
+abbrev pub surplus_too_wide_end : Ending Optimum
+surplus_too_wide_end = wide_at 6 (misfit Add (over (pos 398748100250250500749500501) 1000000000000) (over (pos 99599999800200000) 997999999001))
 
--- the same with a budget of 2 units: the third is not there
-abbrev pub ButterflyOutOfBudget : Type 0
-ButterflyOutOfBudget = run (2 ^ 127 - 1) butterfly_by_two_sells 2 0 ≡ no_unit_left 2
+-- ---- how they end
+-- a run within a limit and a number of units ends so, with 127 bits and 20,000 units; and with 2 units, for want of a third
+pub record EndAsWorked (run : ℕ → LinearProgram → ℕ → ℕ → Ending Optimum) : Type 0 where
+  pub too_wide_ends : run (2 ^ 127 - 1) too_wide 20000 0 ≡ too_wide_end
+  pub without_end_ends : run (2 ^ 127 - 1) without_end 20000 0 ≡ without_end_end
+  pub one_option_matched_ends : run (2 ^ 127 - 1) one_option_matched 20000 0 ≡ one_option_matched_end
+  pub empty_batch_ends : run (2 ^ 127 - 1) empty_batch 20000 0 ≡ empty_batch_end
+  pub equal_prices_stay_ends : run (2 ^ 127 - 1) equal_prices_stay 20000 0 ≡ equal_prices_stay_end
+  pub lower_strike_covers_ends : run (2 ^ 127 - 1) lower_strike_covers 20000 0 ≡ lower_strike_covers_end
+  pub butterfly_by_two_sells_ends : run (2 ^ 127 - 1) butterfly_by_two_sells 20000 0 ≡ butterfly_by_two_sells_end
+  pub cover_too_dear_ends : run (2 ^ 127 - 1) cover_too_dear 20000 0 ≡ cover_too_dear_end
+  pub surplus_too_wide_ends : run (2 ^ 127 - 1) surplus_too_wide 20000 0 ≡ surplus_too_wide_end
+  pub units_end : run (2 ^ 127 - 1) butterfly_by_two_sells 2 0 ≡ no_unit_left 2
+
+abbrev pub WorkedProgramsEnd : Type 0
+WorkedProgramsEnd = EndAsWorked run

@@ -2,9 +2,11 @@
 ghost use Rattle.table_run.specs.Choose.{UnitsSuffice};
 ghost use Rattle.table_run.specs.Limits.{RunsEnd, SameWithGreaterLimit};
 ghost use Rattle.table_run.specs.Optimum.{EndsAreAsSaid};
+ghost use Rattle.table_run.specs.Sizes.{RunsAreWithin};
+ghost use Rattle.table_run.specs.Tableau.{TablesAreFeasible, TurnsAreByBlandsRule};
 ghost use Rattle.table_run.specs.Turns.{BasicsDiffer};
 ghost use Rattle.table_run.specs.Units.{UnitsAreCounted};
-ghost use Rattle.table_run.specs.Worked.{ButterflyByTwoSells, ButterflyOutOfBudget, CoverTooDear, EmptyBatch, EqualPricesStay, LowerStrikeCovers, OneOptionMatched, SurplusTooWide, TooWide, WithoutEnd};
+ghost use Rattle.table_run.specs.Worked.{WorkedProgramsEnd};
 
 /// Where a run ends with an optimum, that is feasible and has a feasible dual of the same value;
 /// where it ends with a direction, the objective rises along it without an end. Whatever the limit.
@@ -17,6 +19,18 @@ pub fn runs_end_as_said()
 /// left.
 pub fn units_are_counted()
     ensures { UnitsAreCounted }
+{}
+
+/// Each table of a run, read as a tableau over the rationals, is feasible, and has the solutions of the first one and on these
+/// its objective.
+pub fn tables_are_feasible()
+    ensures { TablesAreFeasible }
+{}
+
+/// And each turn is a turn of the simplex method by Bland's rule: the first column whose objective entry is below 0 enters, and
+/// of the rows of the least ratio that of the smallest basic variable leaves. (Chvatal, Linear Programming, chapters 2 and 3.)
+pub fn turns_are_by_blands_rule()
+    ensures { TurnsAreByBlandsRule }
 {}
 
 /// The tables of a run without a limit have pairwise different sets of basic variables: Bland's
@@ -35,6 +49,11 @@ pub fn runs_end()
     ensures { RunsEnd }
 {}
 
+/// Of a program whose numbers are within the limit each number that a run finds is within it.
+pub fn runs_are_within()
+    ensures { RunsAreWithin }
+{}
+
 /// A run without a misfit is the same with each greater limit.
 pub fn same_with_greater_limit()
     ensures { SameWithGreaterLimit }
@@ -42,14 +61,5 @@ pub fn same_with_greater_limit()
 
 /// The definitions compute how the runs of the worked programs end.
 pub fn worked_programs_end()
-    ensures too_wide { TooWide }
-    ensures without_end { WithoutEnd }
-    ensures one_option_matched { OneOptionMatched }
-    ensures empty_batch { EmptyBatch }
-    ensures equal_prices_stay { EqualPricesStay }
-    ensures lower_strike_covers { LowerStrikeCovers }
-    ensures butterfly_by_two_sells { ButterflyByTwoSells }
-    ensures cover_too_dear { CoverTooDear }
-    ensures surplus_too_wide { SurplusTooWide }
-    ensures butterfly_out_of_budget { ButterflyOutOfBudget }
+    ensures { WorkedProgramsEnd }
 {}

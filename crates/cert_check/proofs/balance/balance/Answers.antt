@@ -4,7 +4,7 @@ use Rattle.frac.specs.Range.{limit}
 use Rattle.frac.specs.Value.{fraction_of}
 use Rattle.form.specs.Payoff.{option_of}
 use Rattle.line_cover.proofs.NetSteps.{fills_drop, none_left}
-use Rattle.measure.proofs.SumSteps.{goes_on, stops}
+use Rattle.exact_num.proofs.Loops.{goes_on, stops}
 use Rattle.cert_check.specs.Cover.{add_same, add_all_same}
 use Rattle.cert_check.proofs.balance.balance.Goals as goal
 

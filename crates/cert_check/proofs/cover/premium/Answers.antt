@@ -5,7 +5,7 @@ use Rattle.frac.specs.Range.{limit}
 use Rattle.frac.specs.Value.{fraction_of}
 use Rattle.line_cover.specs.Net.{add_for_side}
 use Rattle.line_cover.proofs.NetSteps.{fills_drop, none_left}
-use Rattle.measure.proofs.SumSteps.{goes_on, stops}
+use Rattle.exact_num.proofs.Loops.{goes_on, stops}
 use Rattle.cert_check.specs.Cover.{add_premiums}
 use Rattle.cert_check.proofs.cover.premium.Goals as goal
 

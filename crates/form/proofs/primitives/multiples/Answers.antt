@@ -6,7 +6,7 @@ use Rattle.std.proofs.lemmas.List.{length-map}
 use Rattle.std.proofs.lemmas.List.Elements.{All-head, All-drop}
 use mir.Syntax.{w128}
 use Rattle.exact_num.specs.Fraction.{Fraction}
-use Rattle.form.proofs.ListSteps.{drop_map}
+use Rattle.arithmetic.proofs.Lists.{drop_map}
 use Rattle.form.proofs.Multiples.{product_signs, multiples_more, multiples_stop, state_above}
 use Rattle.form.proofs.primitives.multiples.Goals as goal
 

@@ -2,7 +2,8 @@ use Rattle.std.proofs.Common.{map, Ok, ap, sym, ◌∙◌}
 use Rattle.std.proofs.lemmas.List.{length-map}
 use Rattle.frac.specs.Range.{limit}
 use Rattle.frac.specs.Value.{fraction_of}
-use Rattle.line_cover.proofs.Sound.{lowest_of, lines_that_hold_close, lines_that_fail_do_not_close}
+use Rattle.line_cover.proofs.Sound.{lines_that_hold_close, lines_that_fail_do_not_close}
+use Rattle.frac.proofs.Lowest.{lowest_of}
 use Rattle.line_cover.proofs.Enough.{enough_on_line}
 use Rattle.line_cover.proofs.verdict.holds_on_line.Goals as goal
 

@@ -1,5 +1,5 @@
 use Rattle.master_program.proofs.UnitRows.{quantity_rows_are_unit_rows}
-use Rattle.master_program.proofs.laws.quantity_rows_are_unit_rows.Goals as goal
+use Rattle.master_program.proofs.program.quantity_rows_are_unit_rows.Goals as goal
 
 pub returns : goal.returns
 returns c = quantity_rows_are_unit_rows

@@ -1,5 +1,5 @@
 use Rattle.master_program.proofs.WorkedBatches.{solves_end, no_order_is_matched, equal_prices_are_built, lower_strike_is_built, large_batch_is_built, one_option_is_matched, butterfly_is_matched, cover_is_too_dear, put_is_bought, basket_is_covered}
-use Rattle.master_program.proofs.laws.worked_batches_are_read.Goals as goal
+use Rattle.master_program.proofs.program.worked_batches_are_read.Goals as goal
 
 pub returns-clause-one_option_matched : goal.returns-clause-one_option_matched
 returns-clause-one_option_matched c = one_option_is_matched

@@ -1,5 +1,5 @@
 use Rattle.std.proofs.Common.{ap, refl, ◌∙◌}
-use Rattle.form.proofs.ListSteps.{drop_map}
+use Rattle.arithmetic.proofs.Lists.{drop_map}
 use Rattle.measure.specs.Points.{point_of}
 use Rattle.measure.specs.Sums.{are_weights}
 use Rattle.measure.proofs.mass.are_weights.Goals as goal

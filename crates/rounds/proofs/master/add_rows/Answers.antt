@@ -1,7 +1,7 @@
 use Rattle.std.proofs.Common.{◌+◌, ◌^◌, ◌-◌, map, drop, unsigned_abs, ap, ◌∙◌}
 use Rattle.std.proofs.lemmas.Result.{err_from_is_err_and}
 use Rattle.form.specs.States.{vector_of}
-use Rattle.form.proofs.ListSteps.{drop_map, drop_map_end}
+use Rattle.arithmetic.proofs.Lists.{drop_map, drop_map_end}
 use Rattle.master_program.specs.Master.{row_steps, rows_steps}
 use Rattle.rounds.specs.Built.{added}
 use Rattle.rounds.proofs.Joined.{list_goes_on, list_stops, rows_are, no_rows}

@@ -2,7 +2,7 @@ use Rattle.std.proofs.Common.{map, ap, refl, ◌∙◌}
 use Rattle.frac.specs.Value.{fraction_of}
 use Rattle.sign_tree.specs.Read.{placed_of, sign_of}
 use Rattle.sign_tree.specs.Walk.{are_placed, fraction_legs}
-use Rattle.form.proofs.ListSteps.{drop_map}
+use Rattle.arithmetic.proofs.Lists.{drop_map}
 use Rattle.sign_tree.proofs.leaf.are_placed.Goals as goal
 
 pub returns-then-not-is_placed : goal.returns-then-not-is_placed

@@ -1,0 +1,14 @@
+pub mod EntrySteps
+pub mod Signs
+pub mod RowSteps
+pub mod Nonzero
+pub mod Rotations
+pub mod ArenaSteps
+pub mod RatioLoop
+pub mod Beside
+pub mod Leaves
+pub mod Filling
+pub mod Among
+pub mod Starts
+pub mod Reading
+pub mod Turning

@@ -1,0 +1,10 @@
+use Rattle.std.proofs.Common.{◌+◌, unsigned_abs}
+use Rattle.std.specs.Option.{option_map}
+use Rattle.compact_table.specs.Candidates.{as_ratio, beside_basics}
+use Rattle.compact_table.specs.Lists.{fronts}
+use Rattle.compact_table.proofs.RatioLoop.{Chooses}
+use Rattle.compact_table.proofs.ratios.leaving.Given as goal
+
+abbrev pub invariant-loop-i : goal.invariant-loop-i
+invariant-loop-i g l =
+    Chooses (unsigned_abs g.N.Exact.LIMIT) l.columns l.h (beside_basics l.basics (fronts g.N.Exact.fraction (l.columns + 1) l.rows.rows)) l.i (option_map (as_ratio g.N.Exact.fraction) l.best)

@@ -1,0 +1,29 @@
+use Rattle.std.proofs.Common.{◌≡◌, ◌+◌, [], ◌∙◌, sym, ap, refl, arith, length, take, map, List, ℕ}
+use Rattle.std.proofs.lemmas.List.{length-map}
+use Rattle.exact_num.specs.Fraction.{negated, Fraction}
+use Rattle.compact_run.specs.Compact.{CompactTable, numbers, compact_first}
+use Rattle.table_run.specs.Table.{Row}
+use Rattle.compact_table.specs.Candidates.{beside_basics}
+use Rattle.compact_table.specs.Tables.{lists_of, objective_of}
+use Rattle.compact_table.specs.Lists.{front}
+use Rattle.compact_table.proofs.Filling.{slice_written}
+use Rattle.compact_table.proofs.Starts.{rows_given, fronts_long, none_long, first_objective, made}
+use Rattle.compact_table.proofs.table.Table.first.Goals as goal
+
+pub returns-clause-table : goal.returns-clause-table
+unfolding compact_first
+returns-clause-table g c =
+    let value = g.N.Exact.fraction in
+    let t = c.args.self.now in
+    let n = length t.kept.items in
+    let lists = lists_of value t in
+    let objective = objective_of value t in
+    let costs = take n objective in
+    let as_many : length lists ≡ length t.rows.rows = length-map t.rows.rows (front value (n + 1)) in
+    let slacks : t.basics.items ≡ numbers (n + 0) (length lists) = c.requires.basics ∙ ap (λ k. numbers n k) (sym as_many) ∙ ap (λ k. numbers k (length lists)) (omega arith) in
+    let long = fronts_long value n t.rows.width t.rows.rows (omega (arith, t.columns, t.width, t.kept.ok)) c.requires.widths in
+    let rows = ap (λ (bs : List ℕ). beside_basics bs lists) slacks ∙ sym (rows_given n costs [] lists (none_long n) long) in
+    let was = ap length c.as_mut_slice.ensures.value in
+    let written = slice_written c.turn_signs.new.numbers t.objective.items _ (sym c.as_mut_slice.ensures.len ∙ was) (omega (arith, c.turn_signs.auto.numbers, was)) in
+    let turned = ap (map value) written ∙ c.turn_signs.ensures ∙ ap (λ (xs : List g.row.N.Denot). map negated (map value xs)) c.as_mut_slice.ensures.value ∙ first_objective objective costs c.requires.objective in
+    λ i. made (c.requires.kept i) (rows i) (turned i)

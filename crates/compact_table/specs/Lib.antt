@@ -1,0 +1,5 @@
+pub mod Nonzero
+pub mod Lists
+pub mod Candidates
+pub mod Programs
+pub mod Tables

@@ -1,0 +1,63 @@
+-- What the table of the code stands for, and what its calls answer.
+use Rattle.std.specs.Prelude.{◌≡◌, ℕ, ◌+◌, List, [], ◌∷◌, ◌++◌, length, take, map, pos, Bool, true, false, nat_eq, if◌then◌else◌, Result, Ok, Err}
+use Rattle.std.specs.List.{All}
+use Rattle.exact_num.specs.declared.misfit.Wide.{Wide}
+use Rattle.exact_num.specs.Fraction.{Fraction, whole, negated}
+use Rattle.table_run.specs.Places.{at, fraction_zero}
+use Rattle.table_run.specs.Program.{LinearProgram}
+use Rattle.table_run.specs.Table.{where_basic}
+use Rattle.compact_run.specs.Compact.{CompactTable, variable_at, numbers}
+use Rattle.compact_run.specs.Turn.{CompactTurn, moved_on, without_limit, stopped_by}
+use Rattle.compact_table.specs.declared.table.Table.{Table}
+use Rattle.compact_table.specs.Lists.{fronts}
+use Rattle.compact_table.specs.Candidates.{apart}
+use Rattle.compact_table.specs.Programs.{program_of}
+
+-- with `value` the fraction that a number means: the rows and the objective row
+abbrev pub lists_of : {A : Type 0} → (A → Fraction) → Table A → List (List Fraction)
+lists_of value t = fronts value (length t.kept.items + 1) t.rows.rows
+
+abbrev pub objective_of : {A : Type 0} → (A → Fraction) → Table A → List Fraction
+objective_of value t = map value t.objective.items
+
+abbrev pub as_compact : {A : Type 0} → (A → Fraction) → Table A → CompactTable
+as_compact value t = apart t.kept.items t.basics.items (lists_of value t) (objective_of value t)
+
+-- ---- room
+-- how many rows have room, those there among them
+abbrev pub room_of : {A : Type 0} → Table A → ℕ
+room_of t = length t.rows.rows + t.rows.spare
+
+pub record SameRoom {A : Type 0} (old new : Table A) : Type 0 where
+  pub rows : room_of new ≡ room_of old
+  pub width : new.rows.width ≡ old.rows.width
+
+-- as many columns and rows, and the same room
+pub record SameShape {A : Type 0} (old new : Table A) : Type 0 where
+  pub columns : length new.kept.items ≡ length old.kept.items
+  pub rows : length new.rows.rows ≡ length old.rows.rows
+  pub spare : new.rows.spare ≡ old.rows.spare
+  pub width : new.rows.width ≡ old.rows.width
+
+-- ---- the program that is given
+abbrev pub program_in : {A : Type 0} → (A → Fraction) → Table A → LinearProgram
+program_in value t =
+    program_of (length t.kept.items) (lists_of value t) (take (length t.kept.items) (objective_of value t))
+
+-- a program is being given: the variables are kept, and each row has its own slack
+pub record IsGiven {A : Type 0} (value : A → Fraction) (t : Table A) : Type 0 where
+  pub kept : t.kept.items ≡ numbers 0 (length t.kept.items)
+  pub basics : t.basics.items ≡ numbers (length t.kept.items) (length t.rows.rows)
+  pub widths : All (λ row. length row ≡ t.rows.width) t.rows.rows
+  pub objective : objective_of value t ≡ take (length t.kept.items) (objective_of value t) ++ (fraction_zero ∷ [])
+
+-- ---- a turn: whether a row limited the entering variable, and the table after it
+abbrev pub turn_answer : Result Bool Wide → CompactTable → CompactTurn
+turn_answer (Ok true) c = moved_on c
+turn_answer (Ok false) c = without_limit
+turn_answer (Err w) c = stopped_by w
+
+-- what a step of 1 in the column at place h changes in variable j
+abbrev pub direction_entry : ℕ → CompactTable → ℕ → Fraction
+direction_entry h c j =
+    if nat_eq j (variable_at c h) then whole (pos 1) else where_basic (λ row. negated (at row.entries h)) j c.rows

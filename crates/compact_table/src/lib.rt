@@ -1,0 +1,13 @@
+//! The rows of a table of the columns that are not basic, and its turns, over exact numbers.
+#![tactic(auto)]
+
+mod candidate;
+mod columns;
+mod entries;
+mod ratios;
+mod room;
+mod row;
+mod rows;
+pub mod table;
+
+pub use table::Table;
