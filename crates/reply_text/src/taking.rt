@@ -2,7 +2,7 @@
 ghost use Rattle.std.specs.Prelude.{◌≡◌, ◌≤◌, ◌<◌, ◌^◌, IfSome, codes, option_map, pos, unsigned_abs};
 ghost use Rattle.serde_json.specs.View.{view, items_view};
 ghost use Rattle.reply_shape.specs.Numbers.{natural_value, whole_value, signed_value};
-ghost use Rattle.reply_text.specs.BatchValues.{bounded, whole_from};
+ghost use Rattle.reply_text.specs.BatchValues.{size_within, whole_from};
 ghost use Rattle.reply_text.specs.ReplyValues.{account_at as account_found, market_at as market_found, size_at as size_found};
 ghost use Rattle.reply_text.specs.Taking.{natural_at as natural_found, take_at, from_to as number_from_to, items_at as items_found};
 
@@ -16,7 +16,7 @@ pub(crate) const LIMIT: u128 = (1 << 127) - 1;
 // The number of this size and sign, where the size is at most a bound.
 fn signed_within(is_negative: bool, digits: &[u8], bound: u128) -> Option<i128>
     requires { bound < 2 ^ 127 }
-    ensures { result ≡ bounded bound (signed_value is_negative (natural_value digits.now)) }
+    ensures { result ≡ size_within bound (signed_value is_negative (natural_value digits.now)) }
 {
     let size = value_of_digits(digits);
     if size > bound {
@@ -29,7 +29,7 @@ fn signed_within(is_negative: bool, digits: &[u8], bound: u128) -> Option<i128>
 // The whole number of a text, where its size is at most a bound.
 pub(crate) fn whole_within(text: &[u8], bound: u128) -> Option<i128>
     requires { bound < 2 ^ 127 }
-    ensures { result ≡ bounded bound (whole_value text.now) }
+    ensures { result ≡ size_within bound (whole_value text.now) }
 {
     match text {
         [b'-', digits @ ..] => signed_within(true, digits, bound),

@@ -13,11 +13,11 @@ returns-in_err-value-clause-each_line c =
 
 pub returns-clause-line : goal.returns-clause-line
 returns-clause-line c =
-    let ok : IfOk c.judged.result (λ p. reading c.args.text.now ≡ Ok (p.0, p.1)) = search rules in
-    answers_line (λ p. p.0) (λ p. p.1) c.args.text.now c.judged.result ok
+    let ok : IfOk c.read_value.result (λ p. reading c.args.text.now ≡ Ok (p.0, p.1)) = search rules in
+    answers_line (λ p. p.0) (λ p. p.1) c.args.text.now c.read_value.result ok
 
 pub returns-clause-each_line : goal.returns-clause-each_line
 returns-clause-each_line c =
-    let ok : IfOk c.judged.result (λ p. reading c.args.text.now ≡ Ok (p.0, p.1)) = search rules in
-    let err : IfErr c.judged.result (λ e. (e ≡ Memory) ⊎ (reading c.args.text.now ≡ Err e)) = search rules in
-    answers_each_line (λ p. p.0) (λ p. p.1) c.args.text.now c.judged.result ok err
+    let ok : IfOk c.read_value.result (λ p. reading c.args.text.now ≡ Ok (p.0, p.1)) = search rules in
+    let err : IfErr c.read_value.result (λ e. (e ≡ Memory) ⊎ (reading c.args.text.now ≡ Err e)) = search rules in
+    answers_each_line (λ p. p.0) (λ p. p.1) c.args.text.now c.read_value.result ok err
