@@ -2,6 +2,7 @@
 #![tactic(auto)]
 
 pub mod forms;
+pub mod from_entries;
 pub mod laws;
 pub mod limits;
 pub mod options;

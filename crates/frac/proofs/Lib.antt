@@ -6,3 +6,4 @@ pub mod SumSteps
 pub mod ProductSteps
 pub mod ShareSteps
 pub mod ValueOf
+pub mod PartSteps

@@ -4,6 +4,7 @@
 
 pub mod frac128;
 pub mod frac64;
+mod parts;
 mod products;
 pub mod quotients;
 pub mod shares;
