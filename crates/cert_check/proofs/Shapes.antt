@@ -28,6 +28,7 @@ use Rattle.cert_check.specs.declared.outcome.Mark.{Mark}
 use Rattle.cert_check.specs.declared.outcome.Mark.TheVariants.{Optimal, Wide, Budget}
 use Rattle.cert_check.specs.declared.outcome.Outcome.{Outcome}
 use Rattle.cert_check.specs.Conditions.{IfOptimal, IsCoverOn, IsOfBatch}
+use Rattle.cert_check.specs.Tests.{HasSigns}
 use Rattle.cert_check.specs.Shape.{IsMarkOn, forms_have, states_have, cover_fits, mark_fits, has_shape, is_fill, are_fills}
 use Rattle.exact_num.specs.Tests.{is_at_most, is_not_below_zero}
 
@@ -106,6 +107,11 @@ same_underlyings : (n : ℕ) (mark : Mark) → IsMarkOn n mark → IfOptimal mar
 same_underlyings n (Optimal cover measure) on = (on.0, states_are n measure.points on.1)
 same_underlyings n (Wide w) on = tt
 same_underlyings n Budget on = tt
+
+-- signs, one for each order, are enough for any cover
+pub has_signs : (cover : Cover) (signs orders : ℕ) → signs ≡ orders → HasSigns cover signs orders
+has_signs Line signs orders same = tt
+has_signs (Tree tree) signs orders same = same
 
 mark_passes : (n : ℕ) (mark : Mark) → IfOptimal mark (AreOnTheSame n) → mark_fits n mark ≡ true
 mark_passes n (Optimal cover measure) is =

@@ -8,7 +8,7 @@ use Rattle.arithmetic.specs.Gcd.{gcd}
 use Rattle.arithmetic.proofs.GcdLaws.{gcd_dvd_left, gcd_dvd_right, gcd_pos_right, coprime_of_div, pos_of_quotient}
 use Rattle.arithmetic.proofs.Integers.{*ℤ_cancel, *ℤ_cancel_le, *ℤ_mono}
 use Rattle.arithmetic.proofs.Quotients.{int_div-mul_cancel, unsigned_abs-int_div}
-use Rattle.arithmetic.proofs.Products.{products}
+use Rattle.arithmetic.proofs.Products.{products, neg_cross}
 use Rattle.arithmetic.proofs.Ring.{ring, V, K, ◌⊕◌, ◌⊗◌}
 use Rattle.exact_num.specs.Rationals.{Q, value, ◌+Q◌, ◌*Q◌, neg_Q, whole_Q, 0Q, 1Q, quotient_of, reduced_is_lowest, IsNotBelow0, IsAbove0, IsBelow0, IsAtMost, inv_Q}
 use Rattle.exact_num.specs.Fraction.{Fraction, IsLowest, IsSameValue, AtMost, whole, negated, reduced, plain_sum, plain_product, plain_dot}
@@ -99,9 +99,6 @@ product_Q_is x y p r d e h k =
           ∙ ap (λ (z : ℤ). (p *ℤ pos b) *ℤ (z *ℤ pos t)) k.1
           ∙ ring (p ∷ pos b ∷ r ∷ pos f ∷ pos t ∷ []) ((V 0 ⊗ V 1) ⊗ ((V 2 ⊗ V 3) ⊗ V 4)) (((V 0 ⊗ V 2) ⊗ V 4) ⊗ (V 1 ⊗ V 3)) refl),
     )
-
-neg_cross : (a p : ℤ) (d b : ℕ) → a *ℤ pos d ≡ p *ℤ pos b → neg_ℤ a *ℤ pos d ≡ neg_ℤ p *ℤ pos b
-neg_cross a p d b h = omega (arith, ints, products, h)
 
 pub neg_Q_is : (x : Q) (p : ℤ) (d : ℕ) → Is x p d → Is (neg_Q x) (neg_ℤ p) d
 unfolding neg_Q

@@ -3,7 +3,7 @@ use Rattle.std.proofs.Common.{◌≡◌, ℕ, ◌*◌, ◌≤◌, List, [], ◌�
 use Rattle.std.proofs.lemmas.Int.{ints}
 use Rattle.arithmetic.specs.Sums.{dot_ℤ}
 use Rattle.arithmetic.proofs.Integers.{*ℤ_mono, *ℤ_cancel, *ℤ_cancel_le}
-use Rattle.arithmetic.proofs.Products.{products}
+use Rattle.arithmetic.proofs.Products.{products, neg_cross}
 use Rattle.exact_num.specs.Fraction.{Fraction, IsDefined, IsSameValue, AtMost, whole, negated, plain_sum, plain_product, plain_dot}
 use Rattle.exact_num.specs.CommonDenominator.{IsPart, AreParts}
 use Rattle.exact_num.proofs.Fractions.{at_most_to, defined_product}
@@ -27,9 +27,6 @@ sum_cross a b x y F d e h k = omega (arith, ints, products, ap (λ w. w *ℤ pos
 
 pub sum_part : (F : ℕ) (f g : Fraction) (x y : ℤ) → IsPart F f x → IsPart F g y → IsPart F (plain_sum f g) (x +ℤ y)
 sum_part F f g x y h k = (defined_product f g h.0 k.0, sum_cross f.numerator g.numerator x y F f.denominator g.denominator h.1 k.1)
-
-neg_cross : (n x : ℤ) (F d : ℕ) → n *ℤ pos F ≡ x *ℤ pos d → neg_ℤ n *ℤ pos F ≡ neg_ℤ x *ℤ pos d
-neg_cross n x F d h = omega (arith, ints, products, h)
 
 pub neg_part : (F : ℕ) (f : Fraction) (x : ℤ) → IsPart F f x → IsPart F (negated f) (neg_ℤ x)
 neg_part F f x h = (h.0, neg_cross f.numerator x F f.denominator h.1)

@@ -31,7 +31,7 @@ pub fn breakpoints(alloc: Global, batch: &Batch) -> Result<Vec<State>, AllocErro
     Ok(states)
 }
 
-/// The prices where the payoffs of the orders bend, each once and in rising order.
+// The prices where the payoffs of the orders bend, each once and in rising order.
 fn rising_breakpoints(alloc: Global, orders: &[Order]) -> Result<Vec<Price>, AllocError>
     requires { All (λ o. o.form.count ≡ 2) orders.now }
     ensures { IfOk result (λ prices. map price_vector prices.items ≡ in_rising_price (filter_map breakpoint_of_order orders.now)) }
@@ -45,7 +45,7 @@ fn rising_breakpoints(alloc: Global, orders: &[Order]) -> Result<Vec<Price>, All
     Ok(prices)
 }
 
-/// Puts a price into its place among rising ones, unless it is there.
+// Puts a price into its place among rising ones, unless it is there.
 fn insert(prices: &mut Vec<Price>, price: Price) -> Result<(), AllocError>
     ensures { OnOk result (map price_vector prices.new.items ≡ insert (map price_vector prices.old.items) (price_vector price)) }
 {
@@ -56,7 +56,7 @@ fn insert(prices: &mut Vec<Price>, price: Price) -> Result<(), AllocError>
     Ok(())
 }
 
-/// The place of the first price that is not below this one.
+// The place of the first price that is not below this one.
 fn first_not_below(prices: &[Price], price: &Price) -> Option<usize>
     ensures { result ≡ position (λ other. not (is_below (price_vector other) (price_vector price.now))) prices.now }
 {
