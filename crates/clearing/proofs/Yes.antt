@@ -17,8 +17,9 @@ use Rattle.cert_check.specs.declared.outcome.No.TheVariants as no
 use Rattle.cert_check.specs.declared.outcome.Outcome.{Outcome}
 use Rattle.cert_check.specs.declared.outcome.Judgement.TheVariants.{Yes, No as Refused}
 use Rattle.cert_check.specs.Conditions.{Meets}
-use Rattle.cert_check.specs.Cover.{surplus_holds, mark_covers, fallback_holds}
-use Rattle.cert_check.specs.Events.{cover_holds, verdict_of}
+use Rattle.cert_check.specs.Cover.{mark_covers, fallback_holds}
+use Rattle.cert_check.specs.Tests.{surplus_holds}
+use Rattle.cert_check.specs.Events.{cover_condition_holds, verdict_of}
 use Rattle.cert_check.proofs.Yes.{said}
 use Rattle.each_match.specs.Match.{match_by_option}
 use Rattle.master_program.specs.Reading.{Reading}
@@ -50,7 +51,7 @@ both_fit (Err v) second w f s e = f e
 
 cover_fits : (batch : Batch) (outcome : Outcome) (w : Misfit) → IsWithinLimits batch → IsFallback batch.orders outcome
     → mark_covers largest batch.underlyings batch.orders (map fraction_of outcome.fills) (fraction_of outcome.claim.liability) outcome.mark ≡ fallback_holds largest (zip batch.orders (map fraction_of outcome.fills)) batch.orders (fraction_of outcome.claim.liability)
-    → cover_holds largest batch outcome ≡ Err w → ⊥
+    → cover_condition_holds largest batch outcome ≡ Err w → ⊥
 cover_fits batch outcome w within f covers =
     let orders = batch.orders in
     let amounts = match_by_option orders in
@@ -66,14 +67,14 @@ unfolding fallback
 wide_is_yes batch w units within =
     let outcome = fallback batch.orders (Wide w) units in
     is_yes batch outcome (not_refused batch outcome (wide_meets batch w units within))
-    (λ v. after_fills batch outcome v (not_wide no.Cover (cover_holds largest batch outcome) Yes v (λ u e. cover_fits batch outcome u within (is_fallback batch (Wide w) units within) refl e) (λ holds e. cc)))
+    (λ v. after_fills batch outcome v (not_wide no.Cover (cover_condition_holds largest batch outcome) Yes v (λ u e. cover_fits batch outcome u within (is_fallback batch (Wide w) units within) refl e) (λ holds e. cc)))
 
 budget_is_yes : (batch : Batch) (units : ℕ) → IsWithinLimits batch → verdict_of largest batch (fallback batch.orders Budget units) ≡ Yes
 unfolding fallback
 budget_is_yes batch units within =
     let outcome = fallback batch.orders Budget units in
     is_yes batch outcome (not_refused batch outcome (budget_meets batch units within))
-    (λ v. after_fills batch outcome v (not_wide no.Cover (cover_holds largest batch outcome) Yes v (λ u e. cover_fits batch outcome u within (is_fallback batch Budget units within) refl e) (λ holds e. cc)))
+    (λ v. after_fills batch outcome v (not_wide no.Cover (cover_condition_holds largest batch outcome) Yes v (λ u e. cover_fits batch outcome u within (is_fallback batch Budget units within) refl e) (λ holds e. cc)))
 
 -- ---- each outcome
 at_cleared : (batch : Batch) (units spent : ℕ) (r : Reading) (test : Bool) → has_values r ≡ test → IsOnOne batch → joint_run largest largest units 0 batch.orders ≡ done r spent

@@ -19,7 +19,7 @@ use Rattle.exchange_core.specs.declared.refusal.Refusal.TheVariants.{NoAccount, 
 use Rattle.exchange_core.specs.ExchangeState.{ExchangeState, state_of}
 use Rattle.exchange_core.specs.Failures.{ledger_failure, book_failure, unless_memory}
 use Rattle.exchange_core.specs.Kept.{AreJoined}
-use Rattle.exchange_core.specs.Refusals.{by_ledger, by_book, cost_refusals, order_cost_refusals, by_account, place_refusals, on_several}
+use Rattle.exchange_core.specs.Refusals.{ledger_name, book_name, by_ledger, by_book, cost_refusals, order_cost_refusals, by_account, place_refusals, on_several}
 use Rattle.exchange_core.specs.Reserves.{free_in}
 
 -- ---- each refusal has a name, and want of memory has none
@@ -60,15 +60,15 @@ cost_open Sell accounts account free cost none =
     (elim (is_open accounts account) as Goal [ true ↦ λ h. refl | false ↦ λ h. cc ]) none
 
 cost_unnamed : (side : Side) (accounts : List ℕ) (account : ℕ) (free : ℤ) (cost : ℕ) → first_of (by_ledger (cost_refusals side accounts account free cost)) ≡ None → first_of (cost_refusals side accounts account free cost) ≡ None
-cost_unnamed Buy accounts account free cost none = none_unnamed _ (cost_refusals Buy accounts account free cost) (refl, (refl, tt)) none
-cost_unnamed Sell accounts account free cost none = none_unnamed _ (cost_refusals Sell accounts account free cost) (refl, tt) none
+cost_unnamed Buy accounts account free cost none = none_unnamed ledger_name (cost_refusals Buy accounts account free cost) (refl, (refl, tt)) none
+cost_unnamed Sell accounts account free cost none = none_unnamed ledger_name (cost_refusals Sell accounts account free cost) (refl, tt) none
 
 -- the book lists the market, places the order, finishes a batch of the market
 pub market_none : (book : BookState) (market underlyings : ℕ) → first_of (by_book (book_refusals.market_refusals book market) ++ on_several underlyings) ≡ None
     → (first_of (book_refusals.market_refusals book market) ≡ None) × (underlyings ≡ 1)
 market_none book market underlyings none =
     let parts = none_in_both (by_book (book_refusals.market_refusals book market)) (on_several underlyings) none in
-    (none_unnamed _ (book_refusals.market_refusals book market) (refl, (refl, tt)) parts.0, single (nat_eq underlyings 1) refl parts.1)
+    (none_unnamed book_name (book_refusals.market_refusals book market) (refl, (refl, tt)) parts.0, single (nat_eq underlyings 1) refl parts.1)
   where
     single : (b : Bool) → nat_eq underlyings 1 ≡ b → (if not b then Some NotBuilt else None) ≡ None → underlyings ≡ 1
     single true e h = grind (arith, nat_tests)
@@ -81,9 +81,9 @@ place_none state order none =
     let room = book_refusals.room_refusals state.book order.market in
     let parts = none_in_both (by_book market) (by_ledger (by_account state order) ++ by_book room) none in
     let others = none_in_both (by_ledger (by_account state order)) (by_book room) parts.1 in (
-      first_behind market room (none_unnamed _ market (refl, (refl, (refl, tt))) parts.0) ∙ none_unnamed _ room (refl, (refl, tt)) others.1,
+      first_behind market room (none_unnamed book_name market (refl, (refl, (refl, tt))) parts.0) ∙ none_unnamed book_name room (refl, (refl, tt)) others.1,
       cost_open order.side state.accounts order.account (free_in state order.account) (order.quantity * order.price) (cost_unnamed order.side state.accounts order.account (free_in state order.account) (order.quantity * order.price) others.0),
     )
 
 pub batch_none : (book : BookState) (market : ℕ) → first_of (by_book (book_refusals.batch_refusals book market)) ≡ None → first_of (book_refusals.batch_refusals book market) ≡ None
-batch_none book market none = none_unnamed _ (book_refusals.batch_refusals book market) (refl, (refl, (refl, tt))) none
+batch_none book market none = none_unnamed book_name (book_refusals.batch_refusals book market) (refl, (refl, (refl, tt))) none

@@ -21,11 +21,17 @@ use Rattle.exchange_core.specs.Orders.{order_by}
 use Rattle.exchange_core.specs.Reserves.{free_in}
 
 -- ---- by their names in the exchange
+abbrev pub ledger_name : LedgerRefusal → Option Refusal
+ledger_name refusal = unless_memory (ledger_failure refusal)
+
+abbrev pub book_name : BookRefusal → Option Refusal
+book_name refusal = unless_memory (book_failure refusal)
+
 abbrev pub by_ledger : List (Bool × LedgerRefusal) → List (Bool × Refusal)
-by_ledger refusals = named (λ refusal. unless_memory (ledger_failure refusal)) refusals
+by_ledger refusals = named ledger_name refusals
 
 abbrev pub by_book : List (Bool × BookRefusal) → List (Bool × Refusal)
-by_book refusals = named (λ refusal. unless_memory (book_failure refusal)) refusals
+by_book refusals = named book_name refusals
 
 -- ---- of the commands
 -- of an order by its account: a buy is paid from what is free, and a sell costs nothing

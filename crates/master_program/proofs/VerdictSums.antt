@@ -17,8 +17,8 @@ use Rattle.cert_check.specs.declared.outcome.No.TheVariants as no
 use Rattle.cert_check.specs.declared.outcome.Outcome.{Outcome}
 use Rattle.cert_check.specs.declared.outcome.Judgement.{Judgement}
 use Rattle.cert_check.specs.declared.outcome.Judgement.TheVariants.{Yes, No as Refused, Wide as TooWide}
-use Rattle.cert_check.specs.Cover.{surplus_holds, cover_closes}
-use Rattle.cert_check.specs.Events.{check, bound_holds, verdict_of}
+use Rattle.cert_check.specs.Tests.{surplus_holds, cover_holds, bound_holds}
+use Rattle.cert_check.specs.Events.{check, verdict_of}
 use Rattle.cert_check.specs.Shape.{has_shape, are_fills}
 use Rattle.master_program.specs.Reading.{Reading, reading_with}
 use Rattle.master_program.specs.Verdict.{IsOutcomeOf, sums_on, sums_of, SumsDecide, SumsThatFitPass}
@@ -54,7 +54,7 @@ sums_are batch fills L S cover measure units h =
     let fs : List Fraction = map fraction_of fills in
     let points = map point_of measure.points in
     decided (has_shape batch (optimal fills L S cover measure units)) (are_fills batch.orders fills) (surplus_holds limit (zip batch.orders fs) (fraction_of L) (fraction_of S))
-    (cover_closes limit batch.underlyings batch.orders fs (fraction_of L) cover) (has_unit_mass limit points) (bound_holds limit batch.orders points (fraction_of S)) h
+    (cover_holds limit batch.underlyings batch.orders fs (fraction_of L) cover) (has_unit_mass limit points) (bound_holds limit batch.orders points (fraction_of S)) h
 
 pub sums_decide : SumsDecide
 sums_decide batch outcome cover measure r o refused =

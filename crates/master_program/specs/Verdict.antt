@@ -20,8 +20,8 @@ use Rattle.cert_check.specs.declared.outcome.Outcome.{Outcome}
 use Rattle.cert_check.specs.declared.outcome.Judgement.{Judgement}
 use Rattle.cert_check.specs.declared.outcome.Judgement.TheVariants.{Yes, No as Refused, Wide as TooWide}
 use Rattle.cert_check.specs.Conditions.{IsCoverOn, Closes, Meets, conditions}
-use Rattle.cert_check.specs.Cover.{surplus_holds, cover_closes}
-use Rattle.cert_check.specs.Events.{bound_holds, verdict_of}
+use Rattle.cert_check.specs.Tests.{surplus_holds, cover_holds, bound_holds}
+use Rattle.cert_check.specs.Events.{verdict_of}
 use Rattle.master_program.specs.Reading.{Reading}
 use Rattle.master_program.specs.Certified.{IsCertifiedAt, IsGreatestByLine}
 
@@ -67,7 +67,7 @@ sums_with wide_limit orders r cover_closes =
 
 -- the sums on a reading that claims this cover
 abbrev pub sums_on : Batch → Reading → Cover → Result Bool Wide
-sums_on batch r cover = sums_with limit batch.orders r (cover_closes limit batch.underlyings batch.orders r.fills r.liability cover)
+sums_on batch r cover = sums_with limit batch.orders r (cover_holds limit batch.underlyings batch.orders r.fills r.liability cover)
 
 -- what a judgement says of the sums
 abbrev pub sums_of : Judgement → Result Bool Wide

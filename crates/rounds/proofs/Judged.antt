@@ -22,8 +22,8 @@ use Rattle.cert_check.specs.declared.outcome.No.TheVariants as no
 use Rattle.cert_check.specs.declared.outcome.Outcome.{Outcome}
 use Rattle.cert_check.specs.declared.outcome.Judgement.{Judgement}
 use Rattle.cert_check.specs.declared.outcome.Judgement.TheVariants.{Yes, No as Refused, Wide as TooWide}
-use Rattle.cert_check.specs.Cover.{surplus_holds}
-use Rattle.cert_check.specs.Events.{check, bound_holds, verdict_of}
+use Rattle.cert_check.specs.Tests.{surplus_holds, bound_holds}
+use Rattle.cert_check.specs.Events.{check, verdict_of}
 use Rattle.cert_check.specs.Shape.{has_shape, are_fills}
 use Rattle.master_program.specs.Reading.{Reading, reading_with}
 use Rattle.master_program.specs.Certified.{IsGreatestByLine}

@@ -2,9 +2,9 @@
 use Rattle.std.proofs.Common.{◌≡◌, ℕ, zero, suc, ◌+◌, ◌≤◌, List, [], ◌∷◌, length, map, take, drop, get_or, filter_map, fold, All, Option, Some, None, Bool, true, false, if◌then◌else◌, refl, ap, sym, ◌∙◌, subst, arith, vec_len, Vec, Global, Result, Ok, Err}
 use Rattle.std.specs.List.{cons_option}
 use Rattle.std.proofs.lemmas.List.{length-map, length-append}
-use Rattle.exact_num.specs.Fraction.{Fraction}
+use Rattle.exact_num.specs.Fraction.{Fraction, IsNotBelowZero}
 use Rattle.table_run.specs.Places.{at}
-use Rattle.table_run.specs.Optimum.{IsProgram, IsNotBelowZero}
+use Rattle.table_run.specs.Optimum.{IsProgram}
 use Rattle.table_run.specs.Ending.{Ending, done, unbounded, wide_at, no_unit_left, on_answer, where_fits}
 use Rattle.table_run.specs.Run.{Optimum}
 use Rattle.form.specs.declared.orders.Order.{Order}

@@ -1,35 +1,5 @@
 -- `free` hands the room back to the allocator.
-use Rattle.std.proofs.Common.{◌≡◌, ℕ, ◌+◌, ◌*◌, ◌^◌, ◌<◌, T, ltb→lt, List, [], ◌∷◌, length, sym, refl, ap, subst, arith, w64}
-use mir.Syntax.{Ty, named, ty_unit, ty_array}
-use mir.Val.{Val, vunit, vint, vptr, has_ty, WT}
-use mir.MapTy.{inst_fn}
-use base.Logic.{SProp}
-use base.Fml.{Fml, ftrue, fsep, froom, flft, Incl-trans}
-use prog.Memory.{align, capped}
-use prog.Capped.{capped_fits}
-use types.Kit.{Sq, prop, ‵, raw, ◌⊛◌, given, later, at_ret, group, ◌$◌, ◌∵◌, !, qed, by, move, keep, drop, use1, use2, split, join, learn, rewrite, fsplit, fsplit3, fjoin, fjoin3, feq_i, await}
-use types.Part.{whole, sub}
-use types.Run.{stop, lit, branches, skips, fld, unit_lit, size_word, align_word, no_more, and_then, of_opd, bin, first, blocks, exec, returns, enter}
-use types.ByLocal.{alloc_all, pass_all, free_all, look_at, get, get_in, is, sets, lands_last, env}
-use contract.BorrowLft.{◌⊑◌}
-use contract.Monad.{fact}
-use contract.Running.{tables}
-use denote.Exit.{yes, no}
-use denote.RattleType.{RattleType, owns}
-use denote.Signature.{plain, types_at}
-use denote.Builtin.{RefOf, usize}
-use denote.RawPtr.{Ptr, block_ptr, ptr_val}
-use denote.Ref.{shr_vals, shr_Tells}
-use denote.Plain.{uint_vals, uint_Tells}
-use denote.Steps.{nothing}
-use denote.Triple.Call.{calls_at_last}
-use denote.Triple.Table.{framed}
-use denote.Triple.Walked.{Stays, stay_dropped, walk_of, Goes-dropped}
-use Rattle.std.proofs.mem.Param.{El, elτ}
-use Rattle.std.proofs.alloc.Calls.{Al, token, Gives, at_gives, Gives-goes, Gives-Gives}
-use Rattle.std.proofs.VecSteps.Shapes.{after}
-use Rattle.std.proofs.RawLayout.{as_raw, as_written}
-use Rattle.std.proofs.RcSteps.{Ptr-Good}
+use Rattle.row_arena.proofs.Steps.{◌≡◌, ℕ, ◌+◌, ◌*◌, ◌^◌, ◌<◌, T, ltb→lt, List, [], ◌∷◌, length, sym, refl, ap, subst, arith, w64, Ty, named, ty_unit, ty_array, Val, vunit, vint, vptr, has_ty, WT, inst_fn, SProp, Fml, ftrue, fsep, froom, flft, Incl-trans, align, capped, capped_fits, Sq, prop, ‵, raw, ◌⊛◌, given, later, at_ret, group, ◌$◌, ◌∵◌, !, qed, by, move, keep, drop, use1, use2, split, join, learn, rewrite, fsplit, fsplit3, fjoin, fjoin3, feq_i, await, whole, sub, stop, lit, branches, skips, fld, unit_lit, size_word, align_word, no_more, and_then, of_opd, bin, first, blocks, exec, returns, enter, alloc_all, pass_all, free_all, look_at, get, get_in, is, sets, lands_last, env, ◌⊑◌, fact, tables, yes, no, RattleType, owns, plain, types_at, RefOf, usize, Ptr, block_ptr, ptr_val, shr_vals, shr_Tells, uint_vals, uint_Tells, nothing, calls_at_last, framed, Stays, stay_dropped, walk_of, Goes-dropped, El, elτ, Al, token, Gives, at_gives, Gives-goes, Gives-Gives, after, as_raw, as_written, Ptr-Good}
 use Rattle.row_arena.proofs.Fields.{sz, uncapped, block_ty, block_size, block_align, args, P, Br, block_val, block_Good, told, places_had}
 use Rattle.row_arena.proofs.Room.{freed}
 use Rattle.row_arena.proofs.Walks.{proved, leaves}

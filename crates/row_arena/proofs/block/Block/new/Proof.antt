@@ -1,48 +1,13 @@
 -- `new` asks the allocator for an array, and keeps what comes back.
-use Rattle.std.proofs.Common.{◌≡◌, ℕ, ◌+◌, ◌*◌, ◌^◌, ◌<◌, true, false, [], ◌∷◌, sym, refl, ap, subst, arith, lit<, w64, zero-mul, IfOk, Ok, Err}
-use mir.Syntax.{Ty, Body, named}
-use mir.Val.{Val, vint, vptr, vstruct, vcons, vnil, WT}
-use mir.MapTy.{inst_fn}
-use base.Logic.{SProp, emp}
-use base.Fml.{Fml, ftrue, fsep, froom, flft, Incl-trans}
-use prog.Memory.{align, capped}
-use prog.Capped.{capped_fits}
-use prog.Wp.{Wp, after_seq, at_return}
-use types.Kit.{Post as After, any_q, ‵, raw, ◌⊛◌, given, later, at_ret, ◌$◌, ◌∵◌, !, qed, by, move, keep, drop, use0, use1, use2, split, join, learn, fsplit, fjoin3, rewrite, await}
-use types.Part.{whole, agg}
-use types.Match.{live, vrt, in_variant}
-use types.Run.{stop, fld, lit, size_word, align_word, no_more, and_then, of_opd, bin, first, switches_on, exec, returns, enter}
-use types.ByLocal.{alloc_all, pass_all, free_all, look_at, get, get_in, get_tag, is, sets, sets_last, lands_as, env}
-use contract.BorrowLft.{◌⊑◌}
-use contract.Monad.{fact, fact_i}
-use contract.Running.{tables}
-use denote.Exit.{yes}
-use denote.RattleType.{RattleType, owns}
-use denote.Signature.{plain, types_at}
-use denote.Builtin.{RefOf, usize}
-use denote.RawPtr.{Ptr, block_ptr}
-use denote.Ref.{shr_vals, shr_Tells}
-use denote.Plain.{uint_vals, uint_Tells}
-use denote.Steps.{nothing}
-use denote.Triple.Call.{calls_at}
-use denote.Triple.Table.{framed}
-use denote.Triple.Walked.{Stays, stay_dropped, walk_of, Goes-dropped}
+use Rattle.row_arena.proofs.Steps.{◌≡◌, ℕ, ◌+◌, ◌*◌, ◌^◌, ◌<◌, true, false, [], ◌∷◌, sym, refl, ap, subst, arith, lit<, w64, zero-mul, IfOk, Ok, Err, Ty, Body, named, Val, vint, vptr, vstruct, vcons, vnil, WT, inst_fn, SProp, emp, Fml, ftrue, fsep, froom, flft, Incl-trans, align, capped, capped_fits, Wp, after_seq, at_return, After, any_q, ‵, raw, ◌⊛◌, given, later, at_ret, ◌$◌, ◌∵◌, !, qed, by, move, keep, drop, use0, use1, use2, split, join, learn, fsplit, fjoin3, rewrite, await, whole, agg, live, vrt, in_variant, stop, fld, lit, size_word, align_word, no_more, and_then, of_opd, bin, first, switches_on, exec, returns, enter, alloc_all, pass_all, free_all, look_at, get, get_in, get_tag, is, sets, sets_last, lands_as, env, ◌⊑◌, fact, fact_i, tables, yes, RattleType, owns, plain, types_at, RefOf, usize, Ptr, block_ptr, shr_vals, shr_Tells, uint_vals, uint_Tells, nothing, calls_at, framed, Stays, stay_dropped, walk_of, Goes-dropped, El, R, elτ, Al, token, Answer-typed, Takes, at_takes, Answered, Takes-goes, Takes-gives, answers, after, head, arm_body, ok_of, err_of, FitsInBlock, Is, owned, Struct, Struct-Makes}
 use Rattle.std.specs.contracts.result.Result as RS
 use Rattle.std.specs.contracts.alloc.AllocError as AE
-use Rattle.std.proofs.mem.Param.{El, R, elτ}
-use Rattle.std.proofs.alloc.Calls.{Al, token, Answer-typed, Takes, at_takes, Answered, Takes-goes, Takes-gives, answers}
-use Rattle.std.proofs.VecSteps.Shapes.{after, head, arm_body}
-use Rattle.std.proofs.ResultValues.{ok_of, err_of}
-use Rattle.std.specs.Vec.Ownership.{FitsInBlock}
 use Rattle.row_arena.proofs.Fields.{sz, uncapped, block_ty, block_size, block_align, args, P, Br, block_val, block_Good, block_made}
 use Rattle.row_arena.proofs.Walks.{proved, leaves}
 use Rattle.row_arena.specs.contracts.block.Block.new.{ended, clauses}
 use Rattle.row_arena.specs.contracts.block.Block.new.Key.{name as #self}
 use Rattle.row_arena.proofs.block.Block.new.Statement.{statement}
 use Rattle.row_arena.proofs.block.Block.new.Code as code
-use denote.Laws.{Is}
-use denote.Steps.{owned}
-use denote.Struct.Struct.{Struct, Struct-Makes}
 use denote.Struct.Declared as Declared
 
 pub new_spec : {M : Type 1} → statement M

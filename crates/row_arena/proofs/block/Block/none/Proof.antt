@@ -1,27 +1,5 @@
 -- `none` makes a block of a null pointer.
-use Rattle.std.proofs.Common.{◌≡◌, ℕ, [], ◌∷◌, refl, arith}
-use mir.Val.{Val, vptr}
-use mir.Syntax.{named}
-use mir.MapTy.{inst_fn}
-use base.Logic.{SProp}
-use base.Fml.{Fml, ftrue, fsep, flft}
-use types.Kit.{‵, raw, ◌⊛◌, ◌$◌, ◌∵◌, !, qed, by, keep, split, use0, fjoin}
-use types.Run.{lit, no_more, and_then, returns, enter}
-use types.Part.{agg}
-use types.ByLocal.{alloc_all, pass_all, free_all, look_at, get, sets}
-use contract.Monad.{fact, fact_i}
-use contract.Running.{tables}
-use base.Logic.{emp}
-use denote.Exit.{yes}
-use denote.RattleType.{owns}
-use denote.Signature.{plain, types_at}
-use denote.Builtin.{RefOf}
-use denote.RawPtr.{null_ptr}
-use denote.Ref.{shr_vals, shr_Tells}
-use denote.Steps.{nothing}
-use denote.Triple.Walked.{Stays, stay_dropped, walk_of, Goes-dropped}
-use Rattle.std.proofs.mem.Param.{El}
-use Rattle.std.proofs.alloc.Calls.{Al}
+use Rattle.row_arena.proofs.Steps.{◌≡◌, ℕ, [], ◌∷◌, refl, arith, Val, vptr, named, inst_fn, SProp, Fml, ftrue, fsep, flft, ‵, raw, ◌⊛◌, ◌$◌, ◌∵◌, !, qed, by, keep, split, use0, fjoin, lit, no_more, and_then, returns, enter, agg, alloc_all, pass_all, free_all, look_at, get, sets, fact, fact_i, tables, emp, yes, owns, plain, types_at, RefOf, null_ptr, shr_vals, shr_Tells, nothing, Stays, stay_dropped, walk_of, Goes-dropped, El, Al}
 use Rattle.row_arena.proofs.Walks.{proved, leaves}
 use Rattle.row_arena.proofs.Fields.{args, P, Br, block_val, block_Good, none_made}
 use Rattle.row_arena.specs.contracts.block.Block.none.{ended, clauses}

@@ -1,34 +1,5 @@
 -- `pair` lends two parts of the block's numbers, one of them to be written.
-use Rattle.std.proofs.Common.{◌≡◌, ℕ, ◌+◌, ◌*◌, ◌^◌, ◌<◌, ◌≤◌, ◌⊎◌, List, [], ◌∷◌, length, sym, refl, ap, subst, arith, w64}
-use mir.Syntax.{named}
-use mir.Val.{Val, vint, vptr}
-use mir.MapTy.{inst_fn}
-use base.Logic.{SProp, emp}
-use base.Fml.{Fml, GName, Incl-trans, ftrue, fsep, flft}
-use types.Kit.{‵, raw, ◌⊛◌, some, later, given, at_ret, ◌$◌, ◌∵◌, !, qed, by, move, keep, drop, split, split3, join, fsplit, fsplit3, fjoin, group, learn, pick, await, rewrite, use0, use1, use2}
-use types.Run.{stop, fld, load, size_lit, of_opd, bin, no_more, and_then, first, blocks, exec, returns, enter}
-use types.ByLocal.{alloc_all, pass_all, free_all, look_at, get, through, is, sets, sets_last, env}
-use types.Part.{agg, sub, whole, look_in}
-use contract.BorrowLft.{◌⊑◌}
-use contract.Monad.{fact, fact_i}
-use contract.Running.{tables}
-use denote.Array.{Array}
-use denote.Builtin.{usize}
-use denote.Exit.{yes, no}
-use denote.Follow.{follows}
-use denote.Plain.{uint_vals, uint_Tells}
-use denote.RattleType.{RattleType, owns}
-use denote.RawPtr.{ptr_val}
-use denote.Ref.{Bor, MutBor, mut_vals, mut_Tells}
-use denote.Signature.{types_at, plain, mut_ref_to}
-use denote.Slice.{MutSlice, ShrSlice, Room, slice_val}
-use denote.Steps.{nothing}
-use denote.Struct.Tuple.{Tuple}
-use denote.Triple.Walked.{Stays, stay_dropped, walk_of, Goes-dropped, Goes-spent_ref}
-use Rattle.std.proofs.mem.Param.{El, R}
-use Rattle.std.proofs.alloc.Calls.{Al}
-use Rattle.std.proofs.ptr.Rows.{times_below, one_below}
-use Rattle.std.proofs.VecSteps.Shapes.{after}
+use Rattle.row_arena.proofs.Steps.{◌≡◌, ℕ, ◌+◌, ◌*◌, ◌^◌, ◌<◌, ◌≤◌, ◌⊎◌, List, [], ◌∷◌, length, sym, refl, ap, subst, arith, w64, named, Val, vint, vptr, inst_fn, SProp, emp, Fml, GName, Incl-trans, ftrue, fsep, flft, ‵, raw, ◌⊛◌, some, later, given, at_ret, ◌$◌, ◌∵◌, !, qed, by, move, keep, drop, split, split3, join, fsplit, fsplit3, fjoin, group, learn, pick, await, rewrite, use0, use1, use2, stop, fld, load, size_lit, of_opd, bin, no_more, and_then, first, blocks, exec, returns, enter, alloc_all, pass_all, free_all, look_at, get, through, is, sets, sets_last, env, agg, sub, whole, look_in, ◌⊑◌, fact, fact_i, tables, Array, usize, yes, no, follows, uint_vals, uint_Tells, RattleType, owns, ptr_val, Bor, MutBor, mut_vals, mut_Tells, types_at, plain, mut_ref_to, MutSlice, ShrSlice, Room, slice_val, nothing, Tuple, Stays, stay_dropped, walk_of, Goes-dropped, Goes-spent_ref, El, R, Al, times_below, one_below, after}
 use Rattle.row_arena.specs.Parts.{part, with_part}
 use Rattle.row_arena.specs.Lends.{with_numbers}
 use Rattle.row_arena.proofs.Lists.{length-part, length-with_part}

@@ -1,33 +1,5 @@
 -- `push` makes the numbers from `count` on room, and writes one there.
-use Rattle.std.proofs.Common.{◌≡◌, ℕ, suc, ◌+◌, ◌-◌, ◌*◌, ◌^◌, ◌<◌, ◌≤◌, List, [], ◌∷◌, ◌++◌, length, take, length-append, length-take-le, sym, refl, ap, ◌∙◌, subst, arith, w64}
-use mir.Syntax.{Ty, ty_array}
-use mir.Val.{Val, vunit, vint, vptr}
-use mir.MapTy.{inst_fn}
-use base.Fraction.{full_share}
-use base.Logic.{SProp, ent, emp}
-use base.Fml.{Fml, ftrue, fsep, flft, froom}
-use prog.Wp.{WpFn}
-use types.Kit.{‵, raw, ◌⊛◌, given, at_ret, ◌$◌, ◌∵◌, !, qed, by, move, keep, drop, split, split3, join, fsplit, fsplit3, fjoin, fjoin3, learn, use0, use2, rewrite, feq_i}
-use types.Run.{stop, fld, load, init, unit_lit, size_lit, of_opd, bin, first, blocks, exec, assigns_last, returns, enter}
-use types.ByLocal.{alloc_all, pass_all, free_all, look_at, get, through, sets, is, env}
-use types.Part.{sub, whole, look_in}
-use types.SemTy.{cells}
-use contract.Monad.{fact, fact_i}
-use contract.Running.{tables}
-use denote.Exit.{yes, no}
-use denote.RattleType.{RattleType, owns}
-use denote.Signature.{types_at, plain}
-use denote.RawPtr.{block_ptr, ptr_val}
-use denote.Memory.{mem, part_at}
-use denote.Builtin.{usize}
-use denote.Steps.{nothing}
-use denote.Triple.Walked.{Stays, stay_dropped, stay_ref, walk_of, Goes-dropped, Goes-ref}
-use borrow.Table.OneValue.{part_in}
-use Rattle.std.proofs.mem.Param.{El, R, elτ, lawful, one, Good}
-use Rattle.std.proofs.alloc.Calls.{Al, token}
-use Rattle.std.proofs.ptr.Rows.{times_below, one_below}
-use Rattle.std.proofs.VecSteps.Shapes.{after}
-use Rattle.std.proofs.RawLayout.{as_raw, as_written}
+use Rattle.row_arena.proofs.Steps.{◌≡◌, ℕ, suc, ◌+◌, ◌-◌, ◌*◌, ◌^◌, ◌<◌, ◌≤◌, List, [], ◌∷◌, ◌++◌, length, take, length-append, length-take-le, sym, refl, ap, ◌∙◌, subst, arith, w64, Ty, ty_array, Val, vunit, vint, vptr, inst_fn, full_share, SProp, ent, emp, Fml, ftrue, fsep, flft, froom, WpFn, ‵, raw, ◌⊛◌, given, at_ret, ◌$◌, ◌∵◌, !, qed, by, move, keep, drop, split, split3, join, fsplit, fsplit3, fjoin, fjoin3, learn, use0, use2, rewrite, feq_i, stop, fld, load, init, unit_lit, size_lit, of_opd, bin, first, blocks, exec, assigns_last, returns, enter, alloc_all, pass_all, free_all, look_at, get, through, sets, is, env, sub, whole, look_in, cells, fact, fact_i, tables, yes, no, RattleType, owns, types_at, plain, block_ptr, ptr_val, mem, part_at, usize, nothing, Stays, stay_dropped, stay_ref, walk_of, Goes-dropped, Goes-ref, part_in, El, R, elτ, lawful, one, Good, Al, token, times_below, one_below, after, as_raw, as_written}
 use Rattle.row_arena.proofs.Walks.{proved_at, leaves}
 use Rattle.row_arena.proofs.Fields.{sz, block_ty, args, Br, block_opens, block_closes}
 use Rattle.row_arena.proofs.Room.{place_out, place_in, behind}

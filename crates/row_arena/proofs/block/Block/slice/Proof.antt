@@ -1,34 +1,6 @@
 -- `slice` shows a part of the numbers that a `&` to the block holds.
-use Rattle.std.proofs.Common.{◌≡◌, ℕ, ◌+◌, ◌*◌, ◌^◌, ◌<◌, ◌≤◌, List, [], ◌∷◌, length, sym, refl, ap, subst, arith, w64}
-use mir.Syntax.{named}
-use mir.Val.{Val, vint, vptr}
-use mir.MapTy.{inst_fn}
-use base.Logic.{SProp, emp}
-use base.Fml.{Fml, ftrue, fsep, fhide, flft}
-use types.Kit.{‵, raw, ◌⊛◌, given, at_ret, ◌$◌, ◌∵◌, !, qed, by, move, keep, drop, split, join, fsplit, fjoin, learn, use0, use1, feq_i, flt_i, flt_l}
-use types.Run.{stop, fld, load, look, size_lit, of_opd, bin, no_more, and_then, first, blocks, exec, returns, enter}
-use types.ByLocal.{alloc_all, pass_all, free_all, look_at, get, through, sets, sets_last, env}
-use types.Part.{agg}
-use contract.Monad.{fact, fact_i}
-use contract.Running.{tables}
-use denote.Exit.{yes}
-use denote.RattleType.{RattleType, owns}
-use denote.Signature.{types_at, plain}
-use denote.RawPtr.{block_ptr, in_a_block}
-use denote.Memory.{hidden_shr}
-use denote.Builtin.{RefOf, usize}
-use denote.Opens.{hide, unhide}
-use denote.Plain.{uint_vals, uint_Tells}
-use denote.Ref.{shr_vals, shr_Tells}
-use denote.Slice.{elements_shared, slice_val}
-use denote.Steps.{nothing}
-use denote.Struct.Lending.{lent_out}
-use denote.Triple.Walked.{Stays, stay_dropped, walk_of, Goes-dropped}
+use Rattle.row_arena.proofs.Steps.{◌≡◌, ℕ, ◌+◌, ◌*◌, ◌^◌, ◌<◌, ◌≤◌, List, [], ◌∷◌, length, sym, refl, ap, subst, arith, w64, named, Val, vint, vptr, inst_fn, SProp, emp, Fml, ftrue, fsep, fhide, flft, ‵, raw, ◌⊛◌, given, at_ret, ◌$◌, ◌∵◌, !, qed, by, move, keep, drop, split, join, fsplit, fjoin, learn, use0, use1, feq_i, flt_i, flt_l, stop, fld, load, look, size_lit, of_opd, bin, no_more, and_then, first, blocks, exec, returns, enter, alloc_all, pass_all, free_all, look_at, get, through, sets, sets_last, env, agg, fact, fact_i, tables, yes, RattleType, owns, types_at, plain, block_ptr, in_a_block, hidden_shr, RefOf, usize, hide, unhide, uint_vals, uint_Tells, shr_vals, shr_Tells, elements_shared, slice_val, nothing, lent_out, Stays, stay_dropped, walk_of, Goes-dropped, El, R, Al, times_below, one_below, after}
 use Rattle.std.specs.contracts.marker.PhantomData as marker
-use Rattle.std.proofs.mem.Param.{El, R}
-use Rattle.std.proofs.alloc.Calls.{Al}
-use Rattle.std.proofs.ptr.Rows.{times_below, one_below}
-use Rattle.std.proofs.VecSteps.Shapes.{after}
 use Rattle.row_arena.specs.Ownership.{block_lent}
 use Rattle.row_arena.specs.Parts.{part}
 use Rattle.row_arena.specs.contracts.block.Block as C
