@@ -1,5 +1,5 @@
 -- A block by value, and behind a `&mut`. Assumes `Logic`.
---     owned, places_had, block_made      what a block owns beside its fields; with a place there is an allocation; a block is made of what it owns
+--     holdings, block_places, block_from_parts      what a block owns beside its fields; with a place there is an allocation; a block is made of what it owns
 --     block_opens, block_closes          a `&mut` to a block is opened and closed
 use mathlib.Core.Path.{◌≡◌, sym, ap, ◌∙◌}
 use Prim.Native.Nat.{ℕ, suc, zero, ◌+◌, ◌*◌, ◌<◌, ◌^◌}
@@ -79,8 +79,8 @@ module _ (E : El) (Z : Al) where
   abbrev pub Data : RattleType
   Data = Struct (shape (C.the_type (R E) P Z.g))
 
-  abbrev pub owned : Br.Denot → Fml
-  owned d = block_owns (R E) (token Z d.alloc) d.ptr d.numbers d.spare
+  abbrev pub holdings : Br.Denot → Fml
+  holdings d = block_owns (R E) (token Z d.alloc) d.ptr d.numbers d.spare
 
   abbrev pub room_after : Br.Denot → ℕ → ℕ → Fml
   room_after d b o = froom (block_ty E d.spare) b (length d.numbers * sz E + o)
@@ -91,11 +91,11 @@ module _ (E : El) (Z : Al) where
   abbrev pub words : Br.Denot → ℕ → ℕ → Fml
   words d rb ro = cell_at full_share Br.mir (block_val d.ptr ∷ []) rb ro
 
-  pub told : (p : Ptr) (vs : List Val) → Is Data (p, (tt, tt)) vs → vs ≡ block_val p ∷ []
-  told p vs is = is.1.0 ∙ ap (λ (ws : List Val). vstruct (of_list (ws ++ (is.0.1.0 ++ []))) ∷ []) is.1.1.0 ∙ ap (λ (ws : List Val). vstruct (of_list (ptr_val p ∷ (ws ++ []))) ∷ []) is.1.1.1.0.1.0
+  pub data_val : (p : Ptr) (vs : List Val) → Is Data (p, (tt, tt)) vs → vs ≡ block_val p ∷ []
+  data_val p vs is = is.1.0 ∙ ap (λ (ws : List Val). vstruct (of_list (ws ++ (is.0.1.0 ++ []))) ∷ []) is.1.1.0 ∙ ap (λ (ws : List Val). vstruct (of_list (ptr_val p ∷ (ws ++ []))) ∷ []) is.1.1.1.0.1.0
 
-  data_made : {M : Type 1} {𝓤 : Ura M} (𝓛 : Logic 𝓤) (p : Ptr) → ent 𝓤 (emp 𝓤) (sem 𝓛 (Data.own_val (p, (tt, tt)) (block_val p ∷ [])))
-  data_made 𝓛 p = makes_shadow 𝓛 (Data.own_val (p, (tt, tt)) (block_val p ∷ [])) (λ vss. (tt, (tt, ((λ uss. (tt, tt)), tt))))
+  data_from_none : {M : Type 1} {𝓤 : Ura M} (𝓛 : Logic 𝓤) (p : Ptr) → ent 𝓤 (emp 𝓤) (sem 𝓛 (Data.own_val (p, (tt, tt)) (block_val p ∷ [])))
+  data_from_none 𝓛 p = makes_shadow 𝓛 (Data.own_val (p, (tt, tt)) (block_val p ∷ [])) (λ vss. (tt, (tt, ((λ uss. (tt, tt)), tt))))
       ((ptr_val p ∷ [], (vstruct vnil ∷ [], tt)), (refl, (refl, ((tt, (refl, tt)), tt))))
 
 module _ {M : Type 1} {𝓤 : Ura M} (𝓛 : Logic 𝓤) where
@@ -103,26 +103,26 @@ module _ {M : Type 1} {𝓤 : Ura M} (𝓛 : Logic 𝓤) where
   none_at_null n some = qed 𝓛 (‵ (flt n 1) ∷ []) ∵ flt_l ! (λ none. absurd (omega (arith, some, none)))
 
 module _ (E : El) (Z : Al) {M : Type 1} {𝓤 : Ura M} {𝓛 : Logic 𝓤} {K : Type 0} {Γ : List (Item 𝓤)} {G : Goal 𝓤 𝓛.H} where
-  pub block_had : K → (d : (Br E Z).Denot) (vs : List Val) → (vs ≡ block_val d.ptr ∷ [] → Seq K 𝓛 (‵ (owned E Z d) ∷ Γ) G) → Seq K 𝓛 (‵ ((Br E Z).own_val d vs) ∷ Γ) G
-  block_had t d vs k = fsplit t $ peeks t (Data E Z) (Is (Data E Z)) (shows 𝓛 (Data E Z)) (d.ptr, (tt, tt)) vs (λ is. drop t $ k (told E Z d.ptr vs is))
+  pub block_parts : K → (d : (Br E Z).Denot) (vs : List Val) → (vs ≡ block_val d.ptr ∷ [] → Seq K 𝓛 (‵ (holdings E Z d) ∷ Γ) G) → Seq K 𝓛 (‵ ((Br E Z).own_val d vs) ∷ Γ) G
+  block_parts t d vs k = fsplit t $ peeks t (Data E Z) (Is (Data E Z)) (shows 𝓛 (Data E Z)) (d.ptr, (tt, tt)) vs (λ is. drop t $ k (data_val E Z d.ptr vs is))
 
   -- [the numbers; the room; what frees it]
-  pub places_had : K → (d : (Br E Z).Denot) → 0 < length d.numbers + d.spare
+  pub block_places : K → (d : (Br E Z).Denot) → 0 < length d.numbers + d.spare
       → ((b o : ℕ) → d.ptr ≡ block_ptr b o → (length d.numbers + d.spare) * sz E < 2 ^ 63 → Seq K 𝓛 (‵ (cells (mem (R E)) d.numbers b o) ∷ ‵ (room_after E Z d b o) ∷ ‵ (deed E Z d b o) ∷ Γ) G)
-      → Seq K 𝓛 (‵ (owned E Z d) ∷ Γ) G
-  places_had t d some k = in_a_block t d.ptr (λ p. block_owns (R E) (token Z d.alloc) p d.numbers d.spare) (none_at_null 𝓛 (length d.numbers + d.spare) some)
+      → Seq K 𝓛 (‵ (holdings E Z d) ∷ Γ) G
+  block_places t d some k = in_a_block t d.ptr (λ p. block_owns (R E) (token Z d.alloc) p d.numbers d.spare) (none_at_null 𝓛 (length d.numbers + d.spare) some)
       (λ b o e. fsplit t $ flt_l t (λ fit. fsplit3 t $ k b o e fit))
 
-  pub block_made : K → (d : (Br E Z).Denot) (b o : ℕ) → d.ptr ≡ block_ptr b o → (length d.numbers + d.spare) * sz E < 2 ^ 63
+  pub block_from_parts : K → (d : (Br E Z).Denot) (b o : ℕ) → d.ptr ≡ block_ptr b o → (length d.numbers + d.spare) * sz E < 2 ^ 63
       → Step K 𝓛 (‵ ((Br E Z).own_val d (block_val d.ptr ∷ [])) ∷ Γ) G (‵ (cells (mem (R E)) d.numbers b o) ∷ ‵ (room_after E Z d b o) ∷ ‵ (deed E Z d b o) ∷ Γ) G
-  block_made t d b o e fit = step (λ s. fjoin3 t $ flt_i t ((length d.numbers + d.spare) * sz E) (2 ^ 63) fit $ fjoin t $
+  block_from_parts t d b o e fit = step (λ s. fjoin3 t $ flt_i t ((length d.numbers + d.spare) * sz E) (2 ^ 63) fit $ fjoin t $
       rewrite t 0 (λ (p : Ptr). ‵ (block_owns (R E) (token Z d.alloc) p d.numbers d.spare)) (sym e) refl $
-      use0 𝓛 (‵ ((Data E Z).own_val (d.ptr, (tt, tt)) (block_val d.ptr ∷ []))) (data_made E Z 𝓛 d.ptr) $ fjoin t $ s)
+      use0 𝓛 (‵ ((Data E Z).own_val (d.ptr, (tt, tt)) (block_val d.ptr ∷ []))) (data_from_none E Z 𝓛 d.ptr) $ fjoin t $ s)
 
   -- a block with no place owns nothing
-  pub none_made : K → (d : (Br E Z).Denot) → d.ptr ≡ null_ptr → length d.numbers + d.spare < 1 → Step K 𝓛 (‵ ((Br E Z).own_val d (block_val d.ptr ∷ [])) ∷ Γ) G Γ G
-  none_made t d e none = step (λ s. flt_i t (length d.numbers + d.spare) 1 none $ rewrite t 0 (λ (p : Ptr). ‵ (block_owns (R E) (token Z d.alloc) p d.numbers d.spare)) (sym e) refl $
-      use0 𝓛 (‵ ((Data E Z).own_val (d.ptr, (tt, tt)) (block_val d.ptr ∷ []))) (data_made E Z 𝓛 d.ptr) $ fjoin t $ s)
+  pub block_from_none : K → (d : (Br E Z).Denot) → d.ptr ≡ null_ptr → length d.numbers + d.spare < 1 → Step K 𝓛 (‵ ((Br E Z).own_val d (block_val d.ptr ∷ [])) ∷ Γ) G Γ G
+  block_from_none t d e none = step (λ s. flt_i t (length d.numbers + d.spare) 1 none $ rewrite t 0 (λ (p : Ptr). ‵ (block_owns (R E) (token Z d.alloc) p d.numbers d.spare)) (sym e) refl $
+      use0 𝓛 (‵ ((Data E Z).own_val (d.ptr, (tt, tt)) (block_val d.ptr ∷ []))) (data_from_none E Z 𝓛 d.ptr) $ fjoin t $ s)
 
 module _ (E : El) (Z : Al) {M : Type 1} {𝓤 : Ura M} {𝓛 : Logic 𝓤} {K : Type 0} {Γ : List (Item 𝓤)} {G : Goal 𝓤 𝓛.H} where
   -- [the numbers; the room; what frees it; the fields; the open borrow; obs; auth]
@@ -132,10 +132,10 @@ module _ (E : El) (Z : Al) {M : Type 1} {𝓤 : Ura M} {𝓛 : Logic 𝓤} {K : 
       ∷ ‵ (fobor κ q (Body (mem (Br E Z)) rb ro γ)) ∷ ‵ (fobs γ ((Br E Z).coded.code d)) ∷ ‵ (fauth γ ((Br E Z).coded.code d)) ∷ Γ) G)
       → Seq K 𝓛 (‵ (fobs γ ((Br E Z).coded.code d)) ∷ ‵ (fbor κ (Body (mem (Br E Z)) rb ro γ)) ∷ ‵ (flft κ q) ∷ Γ) G
   block_opens t z d rb ro some k =
-      opens t z (Br E Z) {h = d} rb ro (λ vs. move t (1 ∷ []) $ block_had E Z t d vs (λ ev.
-      rewrite t 1 (λ (ws : List Val). ‵ (cell_at full_share (Br E Z).mir ws rb ro)) ev refl $ places_had E Z t d some k))
+      opens t z (Br E Z) {h = d} rb ro (λ vs. move t (1 ∷ []) $ block_parts E Z t d vs (λ ev.
+      rewrite t 1 (λ (ws : List Val). ‵ (cell_at full_share (Br E Z).mir ws rb ro)) ev refl $ block_places E Z t d some k))
 
   pub block_closes : K → Soaks G → {κ : Lft} {q : Share} {u v : Gv} {γ : GName} (d : (Br E Z).Denot) (b o rb ro : ℕ) → d.ptr ≡ block_ptr b o → (length d.numbers + d.spare) * sz E < 2 ^ 63
       → Step K 𝓛 (‵ (fobs γ ((Br E Z).coded.code d)) ∷ ‵ (fbor κ (Body (mem (Br E Z)) rb ro γ)) ∷ ‵ (flft κ q) ∷ Γ) G
       (‵ (cells (mem (R E)) d.numbers b o) ∷ ‵ (room_after E Z d b o) ∷ ‵ (deed E Z d b o) ∷ ‵ (words E Z d rb ro) ∷ ‵ (fobor κ q (Body (mem (Br E Z)) rb ro γ)) ∷ ‵ (fobs γ u) ∷ ‵ (fauth γ v) ∷ Γ) G
-  block_closes t z d b o rb ro e fit = step (λ s. block_made E Z t d b o e fit $ move t (1 ∷ 0 ∷ []) $ closes t z (Br E Z) d (block_val d.ptr ∷ []) rb ro $ s)
+  block_closes t z d b o rb ro e fit = step (λ s. block_from_parts E Z t d b o e fit $ move t (1 ∷ 0 ∷ []) $ closes t z (Br E Z) d (block_val d.ptr ∷ []) rb ro $ s)

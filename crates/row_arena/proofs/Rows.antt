@@ -11,8 +11,8 @@ length-cut w zero xs = refl
 length-cut w (suc n) xs = ap suc (length-cut w n (drop w xs))
 
 -- a row that a contract counts is one of those in the block
-pub counted : {A : Type 0} (w n m : ℕ) (xs : List A) (r : Rows A) → ◌≡◌ {A = Rows A} (record { rows = cut_rows w n xs; width = w; spare = m }) r → length r.rows ≡ n
-counted {A} w n m xs r e = ap (λ (r : Rows A). length r.rows) (sym e) ∙ length-cut w n xs
+pub row_count : {A : Type 0} (w n m : ℕ) (xs : List A) (r : Rows A) → ◌≡◌ {A = Rows A} (record { rows = cut_rows w n xs; width = w; spare = m }) r → length r.rows ≡ n
+row_count {A} w n m xs r e = ap (λ (r : Rows A). length r.rows) (sym e) ∙ length-cut w n xs
 
 -- a row that is there ends within the block
 pub row_ends : (i n w len : ℕ) → i < n → n * w ≤ len → i * w + w ≤ len

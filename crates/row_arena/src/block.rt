@@ -119,7 +119,7 @@ impl<N, A: Allocator> Block<N, A> {
 impl<N: Copy, A: Allocator> Block<N, A> {
     ghost use Rattle.row_arena.specs.Lends.{capacity};
 
-    /// Keeps the first `count` numbers, and puts `numbers` behind them. Others may stay behind these.
+    /// Keeps the first `count` numbers, and puts `numbers` behind them. Others may stay there.
     pub(crate) fn extend(&mut self, count: usize, numbers: &[N])
         requires { (count ≤ length self.old.numbers) × (capacity self.old < 2 ^ 63)
             × (count + length numbers.now ≤ capacity self.old) }

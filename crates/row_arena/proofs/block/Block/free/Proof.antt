@@ -1,7 +1,7 @@
 -- `free` hands the room back to the allocator.
 use Rattle.row_arena.proofs.Steps.{◌≡◌, ℕ, ◌+◌, ◌*◌, ◌^◌, ◌<◌, T, ltb→lt, List, [], ◌∷◌, length, sym, refl, ap, subst, arith, w64, Ty, named, ty_unit, ty_array, Val, vunit, vint, vptr, has_ty, WT, inst_fn, SProp, Fml, ftrue, fsep, froom, flft, Incl-trans, align, capped, capped_fits, Sq, prop, ‵, raw, ◌⊛◌, given, later, at_ret, group, ◌$◌, ◌∵◌, !, qed, by, move, keep, drop, use1, use2, split, join, learn, rewrite, fsplit, fsplit3, fjoin, fjoin3, feq_i, await, whole, sub, stop, lit, branches, skips, fld, unit_lit, size_word, align_word, no_more, and_then, of_opd, bin, first, blocks, exec, returns, enter, alloc_all, pass_all, free_all, look_at, get, get_in, is, sets, lands_last, env, ◌⊑◌, fact, tables, yes, no, RattleType, owns, plain, types_at, RefOf, usize, Ptr, block_ptr, ptr_val, shr_vals, shr_Tells, uint_vals, uint_Tells, nothing, calls_at_last, framed, Stays, stay_dropped, walk_of, Goes-dropped, El, elτ, Al, token, Gives, at_gives, Gives-goes, Gives-Gives, after, as_raw, as_written, Ptr-Good}
-use Rattle.row_arena.proofs.Fields.{sz, uncapped, block_ty, block_size, block_align, args, P, Br, block_val, block_Good, told, places_had}
-use Rattle.row_arena.proofs.Room.{freed}
+use Rattle.row_arena.proofs.Fields.{sz, uncapped, block_ty, block_size, block_align, args, P, Br, block_val, block_Good, data_val, block_places}
+use Rattle.row_arena.proofs.Room.{numbers_to_room}
 use Rattle.row_arena.proofs.Walks.{proved, leaves}
 use Rattle.row_arena.specs.contracts.block.Block.free.{ended, clauses}
 use Rattle.row_arena.specs.contracts.block.Block.free.Key.{name as #self}
@@ -16,7 +16,7 @@ free_spec 𝓤 𝓛 𝓜 𝓡 wired X U L LU g d dd met _ =
     let hs : Stays En.signature.params En.kept = (stay_dropped (plain (λ _. Row)) no, (stay_dropped heap yes, (stay_dropped (plain (λ _. usize)) yes, tt))) in
     proved 𝓛 En hs c 𝓜 𝓡 (Goes-dropped 𝓛 3 (plain (λ _. Row)) no (λ κs x f. refl), (Goes-dropped 𝓛 3 heap yes (λ κs x f. refl), (Goes-dropped 𝓛 3 (plain (λ _. usize)) yes (λ κs x f. refl), tt)))
     (#self (args E Z)) fn (code.unfolded 𝓤 H 𝓜 𝓡 wired (X, (U, tt)) d dd)
-    (λ κs. ((λ x. block_val x.ptr ∷ []), (shr_vals, (uint_vals w64, tt)))) (λ κs. ((λ x vs is. told E Z x.ptr vs is.0), (shr_Tells (named 0) κs.0 (P E Z), (uint_Tells w64, tt)))) (λ κs qs bounds a gh are.
+    (λ κs. ((λ x. block_val x.ptr ∷ []), (shr_vals, (uint_vals w64, tt)))) (λ κs. ((λ x vs is. data_val E Z x.ptr vs is.0), (shr_Tells (named 0) κs.0 (P E Z), (uint_Tells w64, tt)))) (λ κs qs bounds a gh are.
     let κ = κs.0 in let q = qs.0 in let D : Row.Denot = a.0 in let p : Ptr = D.ptr in let hp : ℕ × ℕ = a.1.0.ref_ptr in let h : U.Denot = a.1.0.now in let n : ℕ = a.1.1.0 in
     let s : ℕ = sz E in let al : ℕ = capped (align (elτ E)) in let τ : Ty = block_ty E n in let k : ℕ = length D.numbers in
     let y : (walk_of 𝓛 En hs c).Ghost = ((κs, qs, bounds, a, (block_val p ∷ [], (vptr hp.0 hp.1 ∷ [], (vint w64 n ∷ [], tt)))), gh) in let Post : Val → SProp 𝓤 = (walk_of 𝓛 En hs c).post y in
@@ -31,10 +31,10 @@ free_spec 𝓤 𝓛 𝓜 𝓡 wired X U L LU g d dd met _ =
     sets ! (of_opd ! (get_in ! (fld ! refl (stop !)) (sub ! 0 refl (whole !)))) refl (Ptr-Good p) $ sets ! (bin ! (lit ! tt) (get ! refl) tt) refl (tt, tt) $
     first ! $ branches ! (get ! refl)
     (λ big. let some : 0 < n = ltb→lt 0 n big in
-    places_had E Z ! D (subst (λ (j : ℕ). 0 < j) (sym asked.0) some) (λ b o at fit.
+    block_places E Z ! D (subst (λ (j : ℕ). 0 < j) (sym asked.0) some) (λ b o at fit.
     let small : n * s < 2 ^ 63 = subst (λ (j : ℕ). j * s < 2 ^ 63) asked.0 fit in let bytes : n * s < 2 ^ 64 = omega arith in
     let t : (Gives Z 𝓛 𝓜.mem 𝓡.returns).Ghost = at_gives Z 𝓛 𝓜.mem 𝓡.returns κ q hp h b o (n * s) al τ in
-    move ! (1 ∷ []) $ as_written ! (ty_array (elτ E) D.spare) b (k * s + o) $ move ! (1 ∷ 0 ∷ []) $ use2 𝓛 (‵ (froom (ty_array (elτ E) (k + D.spare)) b o)) (freed E 𝓛 b D.numbers D.spare o) $
+    move ! (1 ∷ []) $ as_written ! (ty_array (elτ E) D.spare) b (k * s + o) $ move ! (1 ∷ 0 ∷ []) $ use2 𝓛 (‵ (froom (ty_array (elτ E) (k + D.spare)) b o)) (numbers_to_room E 𝓛 b D.numbers D.spare o) $
     rewrite ! 0 (λ (j : ℕ). ‵ (froom (ty_array (elτ E) j) b o)) asked.0 refl $ as_raw ! (ty_array (elτ E) n) b o $
     rewrite ! 1 (λ (r : ℕ × U.Denot). ‵ (token Z r.1 (block_ty E r.0) (block_ptr b o))) {x = (n, h)} {y = (k + D.spare, D.alloc)} (λ i. (asked.0 i, asked.1 i)) refl $
     blocks ! $ sets ! (is ! (of_opd ! (get ! refl)) (ap ptr_val at)) refl (tt, tt) $

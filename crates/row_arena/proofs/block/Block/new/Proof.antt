@@ -2,7 +2,7 @@
 use Rattle.row_arena.proofs.Steps.{◌≡◌, ℕ, ◌+◌, ◌*◌, ◌^◌, ◌<◌, true, false, [], ◌∷◌, sym, refl, ap, subst, arith, lit<, w64, zero-mul, IfOk, Ok, Err, Ty, Body, named, Val, vint, vptr, vstruct, vcons, vnil, WT, inst_fn, SProp, emp, Fml, ftrue, fsep, froom, flft, Incl-trans, align, capped, capped_fits, Wp, after_seq, at_return, After, any_q, ‵, raw, ◌⊛◌, given, later, at_ret, ◌$◌, ◌∵◌, !, qed, by, move, keep, drop, use0, use1, use2, split, join, learn, fsplit, fjoin3, rewrite, await, whole, agg, live, vrt, in_variant, stop, fld, lit, size_word, align_word, no_more, and_then, of_opd, bin, first, switches_on, exec, returns, enter, alloc_all, pass_all, free_all, look_at, get, get_in, get_tag, is, sets, sets_last, lands_as, env, ◌⊑◌, fact, fact_i, tables, yes, RattleType, owns, plain, types_at, RefOf, usize, Ptr, block_ptr, shr_vals, shr_Tells, uint_vals, uint_Tells, nothing, calls_at, framed, Stays, stay_dropped, walk_of, Goes-dropped, El, R, elτ, Al, token, Answer-typed, Takes, at_takes, Answered, Takes-goes, Takes-gives, answers, after, head, arm_body, ok_of, err_of, FitsInBlock, Is, owned, Struct, Struct-Makes}
 use Rattle.std.specs.contracts.result.Result as RS
 use Rattle.std.specs.contracts.alloc.AllocError as AE
-use Rattle.row_arena.proofs.Fields.{sz, uncapped, block_ty, block_size, block_align, args, P, Br, block_val, block_Good, block_made}
+use Rattle.row_arena.proofs.Fields.{sz, uncapped, block_ty, block_size, block_align, args, P, Br, block_val, block_Good, block_from_parts}
 use Rattle.row_arena.proofs.Walks.{proved, leaves}
 use Rattle.row_arena.specs.contracts.block.Block.new.{ended, clauses}
 use Rattle.row_arena.specs.contracts.block.Block.new.Key.{name as #self}
@@ -44,7 +44,7 @@ new_spec 𝓤 𝓛 𝓜 𝓡 wired X U L LU g d dd met _ =
     exec ! 𝓣.C 𝓣.Λ Ev (after 3 fn.body) (at_ret Ev Post) $ sets ! (of_opd ! (get ! refl)) refl (tt, all) $
     let here : o ≡ 0 * s + o = omega (arith, zero-mul s) in let count : n ≡ 0 + n = omega arith in
     rewrite ! 0 (λ (k : ℕ). ‵ (froom (block_ty E n) b k)) here refl $ rewrite ! 1 (λ (k : ℕ). ‵ (token Z h (block_ty E k) (block_ptr b o))) count refl $ nothing ! $
-    block_made E Z ! new b o refl (subst (λ (k : ℕ). k * s < 2 ^ 63) count small) $
+    block_from_parts E Z ! new b o refl (subst (λ (k : ℕ). k * s < 2 ^ 63) count small) $
     use1 𝓛 (‵ (Out.own_val (Ok new) (r ∷ []))) (ok_of 𝓛 Row AE.the_row new u) $
     use0 𝓛 (raw (fact 𝓤 (Told (Ok new)))) (fact_i 𝓤 (Told (Ok new)) (emp 𝓤) (refl, refl, refl)) $ nothing ! $ nothing ! $ nothing ! $ fjoin3 ! $
     returns ! (look_at ! 0 refl) $ free_all ! refl $ keep ! (3 ∷ 0 ∷ 2 ∷ 1 ∷ []) $ by ! (leaves 𝓛 En hs c y r (Ok new) (tt, (tt, tt)) (tt, (tt, tt))))

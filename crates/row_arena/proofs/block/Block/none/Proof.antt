@@ -1,7 +1,7 @@
 -- `none` makes a block of a null pointer.
 use Rattle.row_arena.proofs.Steps.{◌≡◌, ℕ, [], ◌∷◌, refl, arith, Val, vptr, named, inst_fn, SProp, Fml, ftrue, fsep, flft, ‵, raw, ◌⊛◌, ◌$◌, ◌∵◌, !, qed, by, keep, split, use0, fjoin, lit, no_more, and_then, returns, enter, agg, alloc_all, pass_all, free_all, look_at, get, sets, fact, fact_i, tables, emp, yes, owns, plain, types_at, RefOf, null_ptr, shr_vals, shr_Tells, nothing, Stays, stay_dropped, walk_of, Goes-dropped, El, Al}
 use Rattle.row_arena.proofs.Walks.{proved, leaves}
-use Rattle.row_arena.proofs.Fields.{args, P, Br, block_val, block_Good, none_made}
+use Rattle.row_arena.proofs.Fields.{args, P, Br, block_val, block_Good, block_from_none}
 use Rattle.row_arena.specs.contracts.block.Block.none.{ended, clauses}
 use Rattle.row_arena.specs.contracts.block.Block.none.Key.{name as #self}
 use Rattle.row_arena.proofs.block.Block.none.Statement.{statement}
@@ -24,5 +24,5 @@ none_spec 𝓤 𝓛 𝓜 𝓡 wired X U L LU g d dd met _ =
     keep ! (0 ∷ []) $ split ! $ keep ! (0 ∷ []) $
     enter ! 𝓣.C 𝓣.Λ fn (vptr hp.0 hp.1 ∷ []) Post $ alloc_all ! (λ l. pass_all ! refl ((tt, tt), tt) $
     sets ! (agg ! (no_more !)) refl (tt, tt) $ sets ! (agg ! (and_then ! (lit ! tt) (and_then ! (get ! refl) (no_more !)))) refl (block_Good null_ptr) $
-    none_made E Z ! made refl (omega arith) $ use0 𝓛 (raw (fact 𝓤 Told)) (fact_i 𝓤 Told (emp 𝓤) (refl, refl, refl)) $ nothing ! $ nothing ! $ fjoin ! $
+    block_from_none E Z ! made refl (omega arith) $ use0 𝓛 (raw (fact 𝓤 Told)) (fact_i 𝓤 Told (emp 𝓤) (refl, refl, refl)) $ nothing ! $ nothing ! $ fjoin ! $
     returns ! (look_at ! 0 refl) $ free_all ! refl $ keep ! (3 ∷ 0 ∷ 2 ∷ 1 ∷ []) $ by ! (leaves 𝓛 En hs c y (block_val null_ptr) made (tt, tt) (tt, tt))))

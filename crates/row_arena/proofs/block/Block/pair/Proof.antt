@@ -7,7 +7,7 @@ use Rattle.row_arena.proofs.Pairs.{pair_val, pair_of}
 use Rattle.row_arena.proofs.Walks.{proved, leaves}
 use Rattle.row_arena.proofs.Fields.{sz, args, Br, block_opens}
 use Rattle.row_arena.proofs.Cuts.{both}
-use Rattle.row_arena.proofs.Lent.{lends}
+use Rattle.row_arena.proofs.Loans.{lends}
 use Rattle.row_arena.specs.contracts.block.Block.pair.{ended, clauses}
 use Rattle.row_arena.specs.contracts.block.Block.pair.Key.{name as #self}
 use Rattle.row_arena.proofs.block.Block.pair.Statement.{statement}

@@ -2,7 +2,7 @@
 use Rattle.row_arena.proofs.Steps.{◌≡◌, ℕ, suc, ◌+◌, ◌-◌, ◌*◌, ◌^◌, ◌<◌, ◌≤◌, List, [], ◌∷◌, ◌++◌, length, take, length-append, length-take-le, sym, refl, ap, ◌∙◌, subst, arith, w64, Ty, ty_array, Val, vunit, vint, vptr, inst_fn, full_share, SProp, ent, emp, Fml, ftrue, fsep, flft, froom, WpFn, ‵, raw, ◌⊛◌, given, at_ret, ◌$◌, ◌∵◌, !, qed, by, move, keep, drop, split, split3, join, fsplit, fsplit3, fjoin, fjoin3, learn, use0, use2, rewrite, feq_i, stop, fld, load, init, unit_lit, size_lit, of_opd, bin, first, blocks, exec, assigns_last, returns, enter, alloc_all, pass_all, free_all, look_at, get, through, sets, is, env, sub, whole, look_in, cells, fact, fact_i, tables, yes, no, RattleType, owns, types_at, plain, block_ptr, ptr_val, mem, part_at, usize, nothing, Stays, stay_dropped, stay_ref, walk_of, Goes-dropped, Goes-ref, part_in, El, R, elτ, lawful, one, Good, Al, token, times_below, one_below, after, as_raw, as_written}
 use Rattle.row_arena.proofs.Walks.{proved_at, leaves}
 use Rattle.row_arena.proofs.Fields.{sz, block_ty, args, Br, block_opens, block_closes}
-use Rattle.row_arena.proofs.Room.{place_out, place_in, behind}
+use Rattle.row_arena.proofs.Room.{cut_place, fill_place, behind}
 use Rattle.row_arena.specs.contracts.block.Block.push.{ended, clauses}
 use Rattle.row_arena.specs.contracts.block.Block.push.Key.{name as #self}
 use Rattle.row_arena.proofs.block.Block.push.Statement.{statement}
@@ -36,13 +36,13 @@ push_spec 𝓤 𝓛 𝓜 𝓡 wired X U L LU g d dd _ _ =
     let e : ℕ = k * s + o in let tiny : s < 2 ^ 64 = omega (arith, one_below (length xs + m) s (2 ^ 63) (omega (arith, asked.1)) fit) in
     let bytes : k * s < 2 ^ 64 = omega (arith, times_below k (length xs + m) s (2 ^ 63) (omega (arith, asked.1)) fit) in
     move ! (1 ∷ []) $ as_written ! (ty_array τ m) b (length xs * s + o) $ move ! (1 ∷ 0 ∷ []) $
-    use2 𝓛 (‵ (cells (mem (R E)) (take k xs) b o) ⊛ ‵ (froom τ b e) ⊛ ‵ (froom (ty_array τ m') b (e + s))) (place_out E 𝓛 b xs k m m' o asked.0 places) $ split3 ! $ move ! (1 ∷ []) $
+    use2 𝓛 (‵ (cells (mem (R E)) (take k xs) b o) ⊛ ‵ (froom τ b e) ⊛ ‵ (froom (ty_array τ m') b (e + s))) (cut_place E 𝓛 b xs k m m' o asked.0 places) $ split3 ! $ move ! (1 ∷ []) $
     -- [the place; the numbers kept; the room behind; what frees it; the fields; the open borrow; obs; auth; the other tokens; the number]
     first ! $ blocks ! $ sets ! (is ! (of_opd ! (load ! (through ! refl (fld ! refl (stop !))) (look_in ! 4 (sub ! 0 refl (whole !))))) (ap ptr_val at)) refl (tt, tt) $
     sets ! (bin ! (get ! refl) (size_lit ! (record { fits = tiny })) (record { fits = bytes })) refl (tt, record { fits = bytes }) $ sets ! (bin ! (get ! refl) (get ! refl) tt) refl (tt, tt) $
     sets ! (of_opd ! (get ! refl)) refl tv $ assigns_last ! (of_opd ! (get ! refl)) (through ! refl (stop !)) (init ! 0 refl tv) $ exec ! 𝓣.C 𝓣.Λ Ev (after 1 fn.body) (at_ret Ev Post) $ sets ! (of_opd ! (unit_lit !)) refl (tt, tt) $
     move ! (0 ∷ 9 ∷ []) $ use2 𝓛 (‵ (part_at (R E) full_share x b e)) (part_in 𝓛 (R E) refl full_share x b e v) $ move ! (1 ∷ 0 ∷ []) $
-    use2 𝓛 (‵ (cells (mem (R E)) ys b o)) (place_in E 𝓛 b (take k xs) x o e (ap (λ (j : ℕ). j * s + o) (sym shorter))) $
+    use2 𝓛 (‵ (cells (mem (R E)) ys b o)) (fill_place E 𝓛 b (take k xs) x o e (ap (λ (j : ℕ). j * s + o) (sym shorter))) $
     move ! (1 ∷ []) $ rewrite ! 0 (λ (j : ℕ). ‵ (froom (ty_array τ m') b j)) (behind k (length ys) s o longer) refl $ as_raw ! (ty_array τ m') b (length ys * s + o) $
     move ! (2 ∷ []) $ rewrite ! 0 (λ (j : ℕ). ‵ (token Z h.alloc (block_ty E j) (block_ptr b o))) all refl $ move ! (2 ∷ 1 ∷ 0 ∷ []) $
     block_closes E Z ! tt new b o rb ro at (subst (λ (j : ℕ). j * s < 2 ^ 63) all fit) $ feq_i ! (List Val) (vptr rb ro ∷ []) (vptr rb ro ∷ []) refl $ fjoin3 ! $

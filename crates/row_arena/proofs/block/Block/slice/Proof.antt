@@ -7,7 +7,7 @@ use Rattle.row_arena.specs.contracts.block.Block as C
 use Rattle.row_arena.proofs.Lists.{length-part}
 use Rattle.row_arena.proofs.Walks.{proved, leaves}
 use Rattle.row_arena.proofs.Fields.{sz, args, P, Br, Data, none_at_null}
-use Rattle.row_arena.proofs.Seen.{part_seen, pointer_in, pointer_out}
+use Rattle.row_arena.proofs.Views.{part_view, pointer_in, pointer_out}
 use Rattle.row_arena.specs.contracts.block.Block.slice.{ended, clauses}
 use Rattle.row_arena.specs.contracts.block.Block.slice.Key.{name as #self}
 use Rattle.row_arena.proofs.block.Block.slice.Statement.{statement}
@@ -35,7 +35,7 @@ slice_spec 𝓤 𝓛 𝓜 𝓡 wired X U L LU g d dd _ _ =
     let e : ℕ = i * s + o in let tiny : s < 2 ^ 64 = omega (arith, one_below all s (2 ^ 63) (omega (arith, asked.0, asked.1)) fit) in
     let bytes : i * s < 2 ^ 64 = omega (arith, times_below i all s (2 ^ 63) (omega (arith, asked.1)) fit) in
     let room : length w * s < 2 ^ 63 = subst (λ (j : ℕ). j * s < 2 ^ 63) (sym lw) (times_below n all s (2 ^ 63) (omega (arith, asked.1)) fit) in
-    use1 𝓛 (‵ (elements_shared (R E) w b e κ)) (part_seen E 𝓛 b κ h.numbers i n o (omega (arith, asked.1))) $ hide ! $ move ! (1 ∷ 2 ∷ []) $
+    use1 𝓛 (‵ (elements_shared (R E) w b e κ)) (part_view E 𝓛 b κ h.numbers i n o (omega (arith, asked.1))) $ hide ! $ move ! (1 ∷ 2 ∷ []) $
     -- [the pointer; the token; the part; the other tokens]
     enter ! 𝓣.C 𝓣.Λ fn (vptr rb ro ∷ vint w64 i ∷ vint w64 n ∷ []) Post $ alloc_all ! (λ l. pass_all ! refl ((tt, tt), ((tt, record { fits = are.1.0.1 }), ((tt, record { fits = are.1.1.0.1 }), tt))) $ let Ev = env fn.locals l in
     first ! $ blocks ! $ pointer_in ! tt h.ptr b o at rb (ro + 0) (λ q'.

@@ -6,7 +6,7 @@ use Rattle.row_arena.proofs.Lists.{length-part, length-with_part}
 use Rattle.row_arena.proofs.Walks.{proved, leaves}
 use Rattle.row_arena.proofs.Fields.{sz, args, Br, block_opens}
 use Rattle.row_arena.proofs.Cuts.{alone}
-use Rattle.row_arena.proofs.Lent.{lends}
+use Rattle.row_arena.proofs.Loans.{lends}
 use Rattle.row_arena.specs.contracts.block.Block.slice_mut.{ended, clauses}
 use Rattle.row_arena.specs.contracts.block.Block.slice_mut.Key.{name as #self}
 use Rattle.row_arena.proofs.block.Block.slice_mut.Statement.{statement}

@@ -39,8 +39,8 @@ module _ (E : El) {M : Type 1} {𝓤 : Ura M} (𝓛 : Logic 𝓤) (b : ℕ) (κ 
   up_to [] rest o = qed 𝓛 (‵ (numbers_lent (R E) b o rest κ) ∷ []) ∵ keep ! [] $ done !
   up_to (x ∷ xs) rest o = mono_r 𝓤 (sem 𝓛 (shared_of (R E) x b o κ)) (up_to xs rest (o + s))
 
-  pub part_seen : (xs : List (el_x E)) (i n o : ℕ) → i ≤ length xs → ent 𝓤 (sem 𝓛 (numbers_lent (R E) b o xs κ)) (sem 𝓛 (elements_shared (R E) (part i n xs) b (i * s + o) κ))
-  part_seen xs i n o le = qed 𝓛 (‵ (numbers_lent (R E) b o xs κ) ∷ []) ∵ use1 𝓛 (‵ (numbers_lent (R E) b (i * s + o) (drop_l i xs) κ)) (from_on xs i o (i * s + o) le refl) $
+  pub part_view : (xs : List (el_x E)) (i n o : ℕ) → i ≤ length xs → ent 𝓤 (sem 𝓛 (numbers_lent (R E) b o xs κ)) (sem 𝓛 (elements_shared (R E) (part i n xs) b (i * s + o) κ))
+  part_view xs i n o le = qed 𝓛 (‵ (numbers_lent (R E) b o xs κ) ∷ []) ∵ use1 𝓛 (‵ (numbers_lent (R E) b (i * s + o) (drop_l i xs) κ)) (from_on xs i o (i * s + o) le refl) $
       rewrite ! 0 (λ (l : List (el_x E)). ‵ (numbers_lent (R E) b (i * s + o) l κ)) (sym (take-append-drop n (drop_l i xs))) refl $ by ! (up_to (part i n xs) (drop_l n (drop_l i xs)) (i * s + o))
 
 module _ {M : Type 1} {𝓤 : Ura M} {𝓛 : Logic 𝓤} {K : Type 0} {Γ : List (Item 𝓤)} {G : Goal 𝓤 𝓛.H} where
