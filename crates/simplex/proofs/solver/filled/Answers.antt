@@ -1,6 +1,5 @@
 use Rattle.std.proofs.Common.{◌≡◌, ◌+◌, ◌*◌, ◌<◌, ◌∙◌, sym, ap, subst, arith, length, map, take, drop, List, ℕ}
 use Rattle.std.proofs.lemmas.List.{length-map, take-map, drop-map, drop-drop}
-use Rattle.exact_num.specs.Fraction.{Fraction}
 use Rattle.table_run.specs.Optimum.{IsNotBelowZero}
 use Rattle.compact_table.specs.Programs.{empty_program, with_row}
 use Rattle.compact_table.proofs.EntrySteps.{at-map}

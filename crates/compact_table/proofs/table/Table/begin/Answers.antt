@@ -1,4 +1,4 @@
-use Rattle.std.proofs.Common.{◌≡◌, [], ◌∙◌, sym, ap, arith, length}
+use Rattle.std.proofs.Common.{◌≡◌, ◌∙◌, sym, ap, arith, length}
 use Rattle.compact_run.specs.Compact.{numbers}
 use Rattle.compact_table.proofs.Filling.{length-numbers}
 use Rattle.compact_table.proofs.Starts.{begun, begun_objective}
