@@ -125,3 +125,13 @@ dvd_part k s t h p =
       | inl e ↦ subst divides (sym e) (dvd-add k h p)
       | inr w ↦ elim w [ inl e ↦ subst divides (sym e) (dvd-sub k h p) | inr e ↦ subst divides (sym e) (dvd-sub k p h) ]
     ]
+
+pub gcd_assoc : (a b c : ℕ) → gcd (gcd a b) c ≡ gcd a (gcd b c)
+gcd_assoc a b c =
+    let g = gcd a (gcd b c) in
+    let of_rest : g ∣ gcd b c = gcd_dvd_right a (gcd b c) in
+    gcd_unique (gcd a b) c g (
+      dvd_gcd g a b (gcd_dvd_left a (gcd b c)) (dvd_trans g of_rest (gcd_dvd_left b c)),
+      dvd_trans g of_rest (gcd_dvd_right b c),
+      λ d p q. dvd_gcd d a (gcd b c) (dvd_trans d p (gcd_dvd_left a b)) (dvd_gcd d b c (dvd_trans d p (gcd_dvd_right a b)) q),
+    )

@@ -11,3 +11,4 @@ pub mod Tests
 pub mod Parts
 pub mod Along
 pub mod Dots
+pub mod Signed

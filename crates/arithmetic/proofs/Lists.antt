@@ -58,3 +58,15 @@ pub All-zip_right : {A B : Type 0} (P : B → Type 0) (xs : List A) (ys : List B
 All-zip_right {A} {B} P [] ys h = All-nil (λ (p : A × B). P p.1)
 All-zip_right {A} {B} P (x ∷ xs) [] h = All-nil (λ (p : A × B). P p.1)
 All-zip_right {A} {B} P (x ∷ xs) (y ∷ ys) h = All-cons (λ (p : A × B). P p.1) (x, y) (zip xs ys) (All-head P y ys h) (All-zip_right P xs ys (All-tail P y ys h))
+
+-- and of the first
+pub All-zip_left : {A B : Type 0} (P : A → Type 0) (xs : List A) (ys : List B) → All P xs → All (λ (p : A × B). P p.0) (zip xs ys)
+All-zip_left {A} {B} P [] ys h = All-nil (λ (p : A × B). P p.0)
+All-zip_left {A} {B} P (x ∷ xs) [] h = All-nil (λ (p : A × B). P p.0)
+All-zip_left {A} {B} P (x ∷ xs) (y ∷ ys) h = All-cons (λ (p : A × B). P p.0) (x, y) (zip xs ys) (All-head P x xs h) (All-zip_left P xs ys (All-tail P x xs h))
+
+pub All-of_zip_left : {A B : Type 0} (P : A → Type 0) (xs : List A) (ys : List B) → length ys ≡ length xs → All (λ (p : A × B). P p.0) (zip xs ys) → All P xs
+All-of_zip_left {A} {B} P [] ys len h = All-nil P
+All-of_zip_left {A} {B} P (x ∷ xs) [] len h = absurd (omega arith)
+All-of_zip_left {A} {B} P (x ∷ xs) (y ∷ ys) len h =
+    All-cons P x xs (All-head (λ (p : A × B). P p.0) (x, y) (zip xs ys) h) (All-of_zip_left P xs ys (omega arith) (All-tail (λ (p : A × B). P p.0) (x, y) (zip xs ys) h))

@@ -94,3 +94,7 @@ total_weighs c f (x ∷ xs) = omega (arith, ints, total_weighs c f xs)
 pub All-of_map : {A B : Type 0} (P : B → Type 0) (f : A → B) (xs : List A) → All P (map f xs) → All (λ x. P (f x)) xs
 All-of_map P f [] h = All-nil (λ x. P (f x))
 All-of_map P f (x ∷ xs) h = All-cons (λ x. P (f x)) x xs (All-head P (f x) (map f xs) h) (All-of_map P f xs (All-tail P (f x) (map f xs) h))
+
+pub All-to_map : {A B : Type 0} (P : B → Type 0) (f : A → B) (xs : List A) → All (λ x. P (f x)) xs → All P (map f xs)
+All-to_map P f [] h = All-nil P
+All-to_map P f (x ∷ xs) h = All-cons P (f x) (map f xs) (All-head (λ y. P (f y)) x xs h) (All-to_map P f xs (All-tail (λ y. P (f y)) x xs h))

@@ -10,14 +10,14 @@ abbrev pub no_holding : Holding
 no_holding = record { total = pos 0; reserved = 0 }
 
 -- the total that is kept of an account, and 0 where it is not open
-abbrev pub total_of : Option Holding → ℤ
-total_of None = pos 0
-total_of (Some holding) = holding.total
+abbrev pub total_or_zero : Option Holding → ℤ
+total_or_zero None = pos 0
+total_or_zero (Some holding) = holding.total
 
 -- the amount that is kept as reserved, and 0 where it is not open
-abbrev pub reserve_of : Option Holding → ℕ
-reserve_of None = 0
-reserve_of (Some holding) = holding.reserved
+abbrev pub reserve_or_zero : Option Holding → ℕ
+reserve_or_zero None = 0
+reserve_or_zero (Some holding) = holding.reserved
 
 -- each open account with the amount that is kept as reserved
 abbrev pub reserves_in : List (ℕ × Holding) → List (ℕ × ℕ)
@@ -26,6 +26,6 @@ reserves_in accounts = map (λ e. (e.0, e.1.reserved)) accounts
 -- the totals kept of the open accounts are their balances
 pub record AreKept (holding_of : ℕ → Option Holding) (entries : List Entry) : Type 0 where
   -- so the entries of an account that is not open sum to 0
-  pub each : (account : ℕ) → total_of (holding_of account) ≡ balance_of account entries
-  pub reserves : (account : ℕ) → reserve_of (holding_of account) ≤ MAX_RESERVED + MAX_RESERVE
+  pub each : (account : ℕ) → total_or_zero (holding_of account) ≡ balance_of account entries
+  pub reserves : (account : ℕ) → reserve_or_zero (holding_of account) ≤ MAX_RESERVED + MAX_RESERVE
   pub bounded : AreBounded entries

@@ -17,9 +17,13 @@ pub record LedgerState : Type 0 where
 abbrev pub is_open : List ℕ → ℕ → Bool
 is_open accounts account = list_any (nat_eq account) accounts
 
+-- an amount of an account, where it is open
+abbrev pub if_open : List ℕ → ℕ → ℤ → Option ℤ
+if_open accounts account amount = if is_open accounts account then Some amount else None
+
 -- the balance of an account that is open
 abbrev pub balance_in : List ℕ → List Entry → ℕ → Option ℤ
-balance_in accounts entries account = if is_open accounts account then Some (balance_of account entries) else None
+balance_in accounts entries account = if_open accounts account (balance_of account entries)
 
 -- what is reserved of an account, and 0 where it is not open
 abbrev pub reserved_of : LedgerState → ℕ → ℕ

@@ -1,34 +1,30 @@
--- Which refusal a call meets: the first whose condition holds, in the order in which they are tried.
-use Rattle.std.specs.Prelude.{ℕ, pos, Bool, not, int_lt, nat_lt, length, Option, Some, None, Result, Ok, Err, if◌then◌else◌}
+-- The refusals of each call, each with its condition, in the order in which they are tried.
+use Rattle.std.specs.Prelude.{ℕ, ℤ, pos, List, [], ◌∷◌, ◌++◌, Bool, not, int_lt, nat_lt, length, Option, Some, None}
 use Rattle.cash_ledger.specs.declared.ledger.LedgerRefusal.{LedgerRefusal}
 use Rattle.cash_ledger.specs.declared.ledger.LedgerRefusal.TheVariants.{NoAccount, AccountExists, Funds, TooMany, Memory}
 use Rattle.cash_ledger.specs.declared.limits.TheConstants.{MAX_ACCOUNTS}
 use Rattle.cash_ledger.specs.Ledger.{LedgerState, is_open, free_of}
 
--- the refusal that a call answers; want of memory is none
-abbrev pub refusal_in : {T : Type 0} → Result T LedgerRefusal → Option LedgerRefusal
-refusal_in (Ok value) = None
-refusal_in (Err Memory) = None
-refusal_in (Err refusal) = Some refusal
+-- the refusal; want of memory is none
+abbrev pub unless_memory : LedgerRefusal → Option LedgerRefusal
+unless_memory Memory = None
+unless_memory refusal = Some refusal
 
--- as many accounts are open as may be, the house apart
-abbrev pub is_full : LedgerState → Bool
-is_full ledger = nat_lt MAX_ACCOUNTS (length ledger.accounts)
-
--- the balance less what is reserved is below the amount
-abbrev pub lacks : LedgerState → ℕ → ℕ → Bool
-lacks ledger account amount = int_lt (free_of ledger account) (pos amount)
-
--- of an account that is to be opened
-abbrev pub open_refusal : LedgerState → ℕ → Option LedgerRefusal
-open_refusal ledger account =
-    if is_open ledger.accounts account then Some AccountExists else if is_full ledger then Some TooMany else None
+-- of an account that is to be opened; the house is open, and counts for none
+abbrev pub open_refusals : List ℕ → ℕ → List (Bool × LedgerRefusal)
+open_refusals accounts account =
+    (is_open accounts account, AccountExists)
+    ∷ (nat_lt MAX_ACCOUNTS (length accounts), TooMany)
+    ∷ []
 
 -- of a call on an account
-abbrev pub account_refusal : LedgerState → ℕ → Option LedgerRefusal
-account_refusal ledger account = if is_open ledger.accounts account then None else Some NoAccount
+abbrev pub account_refusals : List ℕ → ℕ → List (Bool × LedgerRefusal)
+account_refusals accounts account = (not (is_open accounts account), NoAccount) ∷ []
 
--- of an amount that an account is to pay or to have reserved
-abbrev pub funds_refusal : LedgerState → ℕ → ℕ → Option LedgerRefusal
-funds_refusal ledger account amount =
-    if not (is_open ledger.accounts account) then Some NoAccount else if lacks ledger account amount then Some Funds else None
+-- of an amount that an account is to pay, where this much of its balance is free
+abbrev pub payment_refusals : List ℕ → ℕ → ℤ → ℕ → List (Bool × LedgerRefusal)
+payment_refusals accounts account free amount = account_refusals accounts account ++ (int_lt free (pos amount), Funds) ∷ []
+
+-- of an amount that is to be paid from the ledger or to be reserved
+abbrev pub funds_refusals : LedgerState → ℕ → ℕ → List (Bool × LedgerRefusal)
+funds_refusals ledger account amount = payment_refusals ledger.accounts account (free_of ledger account) amount

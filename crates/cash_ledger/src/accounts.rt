@@ -58,8 +58,8 @@ impl Accounts {
     pub(crate) fn add(&mut self, account: u32) -> Result<(), AllocError>
         requires { lookup (nat_eq account) self.old ≡ None }
         ensures ok { OnOk result (keys_of self.new ≡ keys_of self.old ++ account ∷ []) }
-        ensures each { OnOk result ((q : ℕ) →
-            lookup (nat_eq q) self.new ≡ cond (nat_eq account q) (Some no_holding) (lookup (nat_eq q) self.old)) }
+        ensures each { OnOk result ((q : ℕ) → lookup (nat_eq q) self.new
+            ≡ cond (nat_eq account q) (Some no_holding) (lookup (nat_eq q) self.old)) }
         ensures err { OnErr result (self.new ≡ self.old) }
     {
         self.others.insert(account, Holding::new())?;
@@ -70,8 +70,8 @@ impl Accounts {
     pub(crate) fn set(&mut self, account: u32, holding: Holding)
         requires { IsSome (lookup (nat_eq account) self.old) }
         ensures keys { keys_of self.new ≡ keys_of self.old }
-        ensures each { (q : ℕ) →
-            lookup (nat_eq q) self.new ≡ cond (nat_eq account q) (Some holding) (lookup (nat_eq q) self.old) }
+        ensures each { (q : ℕ) → lookup (nat_eq q) self.new
+            ≡ cond (nat_eq account q) (Some holding) (lookup (nat_eq q) self.old) }
     {
         if account == 0 {
             self.house = holding;

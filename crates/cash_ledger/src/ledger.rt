@@ -1,10 +1,10 @@
-ghost use Rattle.std.specs.Prelude.{◌≡◌, ℕ, ◌+◌, ◌-◌, ◌≤◌, ◌<◌, ◌^◌, ◌++◌, [], ◌∷◌, true, pos, neg_ℤ, ◌≢◌, length, Some, None, Err, if◌then◌else◌, IfOk, OnOk, OnErr, IfErr};
+ghost use Rattle.std.specs.Prelude.{◌≡◌, ℕ, ◌+◌, ◌-◌, ◌≤◌, ◌<◌, ◌^◌, ◌++◌, [], ◌∷◌, true, pos, ◌≢◌, length, Err, IfOk, OnOk, OnErr, IfErr};
 ghost use Rattle.cash_ledger.specs.declared.limits.TheConstants.{MAX_ACCOUNT, MAX_ACCOUNTS, MAX_AMOUNT, MAX_MOVE, MAX_RESERVE, MAX_RESERVED};
-ghost use Rattle.cash_ledger.specs.declared.entry.Cause.TheVariants as cause;
 ghost use Rattle.cash_ledger.specs.declared.ledger.LedgerRefusal.TheVariants as LedgerRefusal;
-ghost use Rattle.cash_ledger.specs.Entries.{balance_of, IsBounded, AreBounded};
-ghost use Rattle.cash_ledger.specs.Ledger.{is_open, balance_in, reserved_of, free_of, KeepsReserves, SetsReserve};
-ghost use Rattle.cash_ledger.specs.Refusals.{refusal_in, open_refusal, account_refusal, funds_refusal};
+ghost use Rattle.cash_ledger.specs.Entries.{balance_of, deposit_of, withdrawal_of, transfer_of, IsBounded, AreBounded};
+ghost use Rattle.cash_ledger.specs.Ledger.{is_open, if_open, balance_in, reserved_of, free_of, KeepsReserves, SetsReserve};
+ghost use Rattle.cash_ledger.specs.Refusals.{unless_memory, open_refusals, account_refusals, funds_refusals};
+ghost use Rattle.refusals.specs.Refusals.{TellsFirst};
 
 use crate::accounts::Accounts;
 use crate::entry::{Cause, Entry};
@@ -62,7 +62,7 @@ impl Model for Ledger {
 }
 
 impl Ledger {
-    /// No account but the house, and no entry. Takes no memory.
+    /// No account but the house, and no entry.
     pub fn new(alloc: Global) -> Self
         ensures accounts { result.accounts ≡ 0 ∷ [] }
         ensures entries { result.entries ≡ [] }
@@ -76,7 +76,7 @@ impl Ledger {
 
     /// The balance of an open account, in ticks, or of the house, which is account 0.
     ///
-    /// `None` where the account is not open. Takes no memory.
+    /// `None` where the account is not open.
     pub fn balance(&self, account: u32) -> Option<i128>
         ensures value { result ≡ balance_in self.now.accounts self.now.entries account }
         ensures bounded { AreBounded self.now.entries }
@@ -87,23 +87,23 @@ impl Ledger {
 
     /// What is reserved of the balance of an open account, in ticks.
     ///
-    /// `None` where the account is not open. Takes no memory.
+    /// `None` where the account is not open.
     pub fn reserved(&self, account: u32) -> Option<i128>
-        ensures { result ≡ (if is_open self.now.accounts account then Some (pos (reserved_of self.now account)) else None) }
+        ensures { result ≡ if_open self.now.accounts account (pos (reserved_of self.now account)) }
     {
         Some(self.accounts.holding(account)?.reserved as i128)
     }
 
     // What an open account may still pay, in ticks.
     fn free(&self, account: u32) -> Option<i128>
-        ensures { result ≡ (if is_open self.now.accounts account then Some (free_of self.now account) else None) }
+        ensures { result ≡ if_open self.now.accounts account (free_of self.now account) }
     {
         Some(self.accounts.holding(account)?.free())
     }
 
     // Looks whether an account is open and may still pay an amount.
     fn check_funds(&self, account: u32, amount: u64) -> Result<(), LedgerRefusal>
-        ensures refused { refusal_in result ≡ funds_refusal self.now account amount }
+        ensures refused { TellsFirst unless_memory result (funds_refusals self.now account amount) }
         ensures no_memory { result ≢ Err LedgerRefusal.Memory }
     {
         let free = self.free(account).ok_or(LedgerRefusal::NoAccount)?;
@@ -125,7 +125,8 @@ impl Ledger {
         ensures entries { self.new.entries ≡ self.old.entries }
         ensures reserves { KeepsReserves self.old self.new }
         ensures spare { self.new.spare ≡ self.old.spare }
-        ensures refused { refusal_in result ≡ open_refusal self.old account }
+        ensures refused { TellsFirst unless_memory result
+            (open_refusals self.old.accounts account) }
         ensures err { OnErr result (self.new ≡ self.old) }
     {
         if self.accounts.holding(account).is_some() {
@@ -170,7 +171,8 @@ impl Ledger {
     fn post(&mut self, entry: Entry) -> Result<i128, LedgerRefusal>
         requires open { is_open self.old.accounts entry.account ≡ true }
         requires bounded { IsBounded entry }
-        ensures balance { IfOk result (λ balance. balance ≡ balance_of entry.account self.new.entries) }
+        ensures balance { IfOk result (λ balance.
+            balance ≡ balance_of entry.account self.new.entries) }
         ensures accounts { self.new.accounts ≡ self.old.accounts }
         ensures entries { OnOk result (self.new.entries ≡ self.old.entries ++ entry ∷ []) }
         ensures reserves { KeepsReserves self.old self.new }
@@ -191,9 +193,10 @@ impl Ledger {
         ensures balance { IfOk result (λ balance. balance ≡ balance_of account self.new.entries) }
         ensures accounts { self.new.accounts ≡ self.old.accounts }
         ensures entries { OnOk result (self.new.entries
-            ≡ self.old.entries ++ record { account = account; amount = pos amount; cause = cause.Deposit } ∷ []) }
+            ≡ self.old.entries ++ deposit_of account amount ∷ []) }
         ensures reserves { KeepsReserves self.old self.new }
-        ensures refused { refusal_in result ≡ account_refusal self.old account }
+        ensures refused { TellsFirst unless_memory result
+            (account_refusals self.old.accounts account) }
         ensures err { OnErr result (self.new ≡ self.old) }
     {
         if self.balance(account).is_none() {
@@ -216,9 +219,9 @@ impl Ledger {
         ensures balance { IfOk result (λ balance. balance ≡ balance_of account self.new.entries) }
         ensures accounts { self.new.accounts ≡ self.old.accounts }
         ensures entries { OnOk result (self.new.entries
-            ≡ self.old.entries ++ record { account = account; amount = neg_ℤ (pos amount); cause = cause.Withdraw } ∷ []) }
+            ≡ self.old.entries ++ withdrawal_of account amount ∷ []) }
         ensures reserves { KeepsReserves self.old self.new }
-        ensures refused { refusal_in result ≡ funds_refusal self.old account amount }
+        ensures refused { TellsFirst unless_memory result (funds_refusals self.old account amount) }
         ensures err { OnErr result (self.new ≡ self.old) }
     {
         self.check_funds(account, amount)?;
@@ -229,18 +232,19 @@ impl Ledger {
         })
     }
 
-    /// Reserves an amount of an account's balance, beside what is reserved already. Takes no memory.
+    /// Reserves an amount of an account's balance, beside what is reserved already.
     ///
     /// `NoAccount` where the account is not open, and else `Funds` where its balance less what is reserved is below the
     /// amount.
     pub fn reserve(&mut self, account: u32, amount: u64) -> Result<(), LedgerRefusal>
         requires within { amount ≤ MAX_RESERVE }
         requires reserved { reserved_of self.old account ≤ MAX_RESERVED }
-        ensures reserves { OnOk result (SetsReserve self.old self.new account (reserved_of self.old account + amount)) }
+        ensures reserves { OnOk result
+            (SetsReserve self.old self.new account (reserved_of self.old account + amount)) }
         ensures accounts { self.new.accounts ≡ self.old.accounts }
         ensures entries { self.new.entries ≡ self.old.entries }
         ensures spare { self.new.spare ≡ self.old.spare }
-        ensures refused { refusal_in result ≡ funds_refusal self.old account amount }
+        ensures refused { TellsFirst unless_memory result (funds_refusals self.old account amount) }
         ensures no_memory { result ≢ Err LedgerRefusal.Memory }
         ensures err { OnErr result (self.new ≡ self.old) }
     {
@@ -251,7 +255,7 @@ impl Ledger {
         Ok(())
     }
 
-    /// Gives an amount of an account free again. As much is reserved. Takes no memory.
+    /// Gives an amount of an account free again. As much is reserved.
     pub fn release(&mut self, account: u32, amount: u64)
         requires open { is_open self.old.accounts account ≡ true }
         requires reserved { amount ≤ reserved_of self.old account }
@@ -265,15 +269,13 @@ impl Ledger {
         self.accounts.set(account, holding.reserving(less));
     }
 
-    /// Moves an amount from one open account to another. There is room for two entries. Takes no memory.
+    /// Moves an amount from one open account to another. There is room for two entries.
     pub fn move_amount(&mut self, from: u32, to: u32, amount: u64, cause: Cause)
         requires from { is_open self.old.accounts from ≡ true }
         requires to { is_open self.old.accounts to ≡ true }
         requires room { 2 ≤ self.old.spare }
         requires within { amount ≤ MAX_MOVE }
-        ensures entries { self.new.entries ≡ self.old.entries
-            ++ record { account = from; amount = neg_ℤ (pos amount); cause = cause }
-            ∷ record { account = to; amount = pos amount; cause = cause } ∷ [] }
+        ensures entries { self.new.entries ≡ self.old.entries ++ transfer_of from to amount cause }
         ensures accounts { self.new.accounts ≡ self.old.accounts }
         ensures reserves { KeepsReserves self.old self.new }
         ensures spare { self.new.spare ≡ self.old.spare - 2 }

@@ -3,9 +3,9 @@ use Rattle.std.proofs.Common.{◌≡◌, Bool, true, false, List, [], ◌∷◌,
 use Rattle.std.proofs.lemmas.List.Elements.{All-nil, All-cons}
 use Rattle.arithmetic.proofs.Sums.{All-head, All-tail}
 use Rattle.exact_num.specs.declared.misfit.Wide.{Wide as Misfit}
-use Rattle.exact_num.specs.Fraction.{Fraction}
+use Rattle.exact_num.specs.Fraction.{Fraction, IsNotBelowZero}
 use Rattle.exact_num.proofs.After.{after_value}
-use Rattle.frac.specs.declared.bits128.Frac128.{Frac128}
+use Rattle.frac.specs.declared.frac128.Frac128.{Frac128}
 use Rattle.frac.specs.Range.{limit}
 use Rattle.frac.specs.Value.{fraction_of}
 use Rattle.form.specs.declared.orders.Order.{Order}
@@ -14,7 +14,7 @@ use Rattle.clearing_model.specs.Certificate.{IsFill, AreFractionFills, HasUnitMa
 use Rattle.line_cover.proofs.Sound.{lines_that_hold_close, lines_that_fail_do_not_close}
 use Rattle.frac.proofs.Lowest.{lowest_of}
 use Rattle.exact_num.proofs.Loops.{both, not_both}
-use Rattle.sign_tree.specs.Laws.{IsNotBelowZero}
+use Rattle.exact_num.proofs.Order.{same_parts}
 use Rattle.sign_tree.specs.Read.{node_of, placed_of}
 use Rattle.sign_tree.proofs.Sound.{walks_close_trees}
 use Rattle.sign_tree.proofs.Refuted.{open_walks_close_no_tree}
@@ -35,12 +35,13 @@ use Rattle.cert_check.specs.declared.outcome.Outcome.{Outcome}
 use Rattle.cert_check.specs.declared.outcome.Judgement.{Judgement}
 use Rattle.cert_check.specs.declared.outcome.Judgement.TheVariants.{Yes, No as Refused, Wide as TooWide}
 use Rattle.cert_check.specs.Shape.{has_shape, are_fills}
-use Rattle.cert_check.specs.Cover.{surplus_holds, mark_covers}
-use Rattle.cert_check.specs.Events.{check, bound_holds, judge_mark, cover_holds}
+use Rattle.cert_check.specs.Cover.{mark_covers}
+use Rattle.cert_check.specs.Tests.{surplus_holds, bound_holds}
+use Rattle.cert_check.specs.Events.{check, judge_mark, cover_condition_holds}
 use Rattle.cert_check.specs.Conditions.{IfOptimal, IsEnough, LeavesSurplus, Meets}
 use Rattle.cert_check.specs.Laws.{Says, VerdictsDecide}
 use Rattle.cert_check.proofs.Shapes.{shape_met, shape_unmet, fills_met, fills_unmet}
-use Rattle.cert_check.proofs.Surplus.{same_is, surplus_is, surplus_is_not}
+use Rattle.cert_check.proofs.Surplus.{surplus_is, surplus_is_not}
 use Rattle.cert_check.proofs.Fallback.{fallback_is, fallback_is_not}
 
 fills_not_below : (os : List Order) (fs : List Fraction) → length fs ≡ length os → All IsFill (zip os fs) → All IsNotBelowZero fs
@@ -78,14 +79,14 @@ surplus_step batch outcome = surplus_holds limit (zip batch.orders (map fraction
 abbrev mark_step : Batch → Outcome → Result Bool Misfit
 mark_step batch outcome = mark_covers limit batch.underlyings batch.orders (map fraction_of outcome.fills) (fraction_of outcome.claim.liability) outcome.mark
 
-cover_met : (batch : Batch) (outcome : Outcome) → Meets batch outcome no.Fill → cover_holds limit batch outcome ≡ Ok true → Meets batch outcome no.Cover
+cover_met : (batch : Batch) (outcome : Outcome) → Meets batch outcome no.Fill → cover_condition_holds limit batch outcome ≡ Ok true → Meets batch outcome no.Cover
 cover_met batch outcome are h =
     let parts = both (surplus_step batch outcome) (mark_step batch outcome) h in
     let surplus = surplus_is batch.orders (map fraction_of outcome.fills) (fraction_of outcome.claim.liability) (fraction_of outcome.claim.surplus) (lowest_of outcome.fills) outcome.claim.liability.lowest outcome.claim.surplus.lowest parts.0 in
     let leaves : LeavesSurplus batch outcome = record { left = surplus.0; not_below_zero = surplus.1 } in
     (leaves, enough batch outcome.fills outcome.claim.liability outcome.mark are parts.1)
 
-cover_unmet : (batch : Batch) (outcome : Outcome) → Meets batch outcome no.Fill → cover_holds limit batch outcome ≡ Ok false → ¬ (Meets batch outcome no.Cover)
+cover_unmet : (batch : Batch) (outcome : Outcome) → Meets batch outcome no.Fill → cover_condition_holds limit batch outcome ≡ Ok false → ¬ (Meets batch outcome no.Cover)
 cover_unmet batch outcome are h meets =
     elim (not_both (surplus_step batch outcome) (mark_step batch outcome) h) [
       | inl surplus ↦ surplus_is_not batch.orders (map fraction_of outcome.fills) (fraction_of outcome.claim.liability) (fraction_of outcome.claim.surplus) (lowest_of outcome.fills) outcome.claim.liability.lowest surplus meets.0.left meets.0.not_below_zero
@@ -98,7 +99,7 @@ bound_met orders measure S h =
     let b = after_value (bound_of limit orders points) (λ bound. Ok (is_same bound (fraction_of S))) true h in
     let test : is_same b.value (fraction_of S) ≡ true = cc (b.rest) in
     let low = bound_is_lowest limit orders points b.value (weights_lowest measure.points) b.first in
-    subst (MeasureProves orders points) (same_is b.value (fraction_of S) low S.lowest test) (bounds_are_exact limit orders points b.value (weights_lowest measure.points) b.first).0
+    subst (MeasureProves orders points) (same_parts b.value (fraction_of S) low S.lowest test) (bounds_are_exact limit orders points b.value (weights_lowest measure.points) b.first).0
 
 bound_unmet : (orders : List Order) (measure : Measure) (S : Frac128) → bound_holds limit orders (map point_of measure.points) (fraction_of S) ≡ Ok false → ¬ (MeasureProves orders (map point_of measure.points) (fraction_of S))
 bound_unmet orders measure S h proves =
@@ -184,15 +185,15 @@ mark_says batch outcome (Wide w) is met = unmarked_says batch outcome (λ P. sub
 mark_says batch outcome Budget is met = unmarked_says batch outcome (λ P. subst (λ m. IfOptimal m P) (sym is) tt) met
 
 cover_says : (batch : Batch) (outcome : Outcome) → Meets batch outcome no.BatchShape → Meets batch outcome no.Fill
-    → Says batch outcome (check no.Cover (cover_holds limit batch outcome) (judge_mark limit batch.orders (fraction_of outcome.claim.surplus) outcome.mark))
+    → Says batch outcome (check no.Cover (cover_condition_holds limit batch outcome) (judge_mark limit batch.orders (fraction_of outcome.claim.surplus) outcome.mark))
 cover_says batch outcome shape fills =
-    check_says (Says batch outcome) no.Cover (cover_holds limit batch outcome) _
+    check_says (Says batch outcome) no.Cover (cover_condition_holds limit batch outcome) _
     (λ h. mark_says batch outcome outcome.mark refl (record { shape = shape; fills = fills; cover = cover_met batch outcome fills h }))
     (λ h. (tt, record { before = one_more batch outcome no.BatchShape (no.Fill ∷ []) shape (one_more batch outcome no.Fill [] fills (none batch outcome)); unmet = cover_unmet batch outcome fills h }))
     (λ w. (tt, tt))
 
 fills_say : (batch : Batch) (outcome : Outcome) → Meets batch outcome no.BatchShape
-    → Says batch outcome (check no.Fill (Ok (are_fills batch.orders outcome.fills)) (check no.Cover (cover_holds limit batch outcome) (judge_mark limit batch.orders (fraction_of outcome.claim.surplus) outcome.mark)))
+    → Says batch outcome (check no.Fill (Ok (are_fills batch.orders outcome.fills)) (check no.Cover (cover_condition_holds limit batch outcome) (judge_mark limit batch.orders (fraction_of outcome.claim.surplus) outcome.mark)))
 fills_say batch outcome shape =
     check_says (Says batch outcome) no.Fill (Ok (are_fills batch.orders outcome.fills)) _
     (λ h. cover_says batch outcome shape (fills_met batch.orders outcome.fills shape.fills (is_true (are_fills batch.orders outcome.fills) true h)))

@@ -1,38 +1,35 @@
 -- Without a cover: whether as much is bought as sold of each option, summed step by step.
-use Rattle.std.proofs.Common.{◌≡◌, ℕ, Bool, true, false, List, [], ◌∷◌, length, zip, arith, inl, inr, ℤ, pos, neg_ℤ, ◌+ℤ◌, ◌*ℤ◌, All, Ok, refl, ap, sym, subst, ◌∙◌}
-use Rattle.std.specs.Int.{◌∣◌}
+use Rattle.std.proofs.Common.{◌≡◌, ℕ, Bool, true, false, List, length, zip, arith, ℤ, pos, neg_ℤ, ◌+ℤ◌, ◌*ℤ◌, All, Ok, refl, ap, sym, subst, ◌∙◌}
 use Rattle.std.proofs.lemmas.Int.{ints}
 use Rattle.std.proofs.lemmas.List.{length-map}
-use Rattle.std.proofs.lemmas.List.Elements.{All-nil, All-cons}
 use Rattle.std.proofs.Math.Bool.{and-true}
 use Rattle.arithmetic.specs.Sums.{positive_part}
+use Rattle.arithmetic.proofs.Lists.{All-zip_left, All-of_zip_left}
 use Rattle.arithmetic.proofs.Products.{products}
-use Rattle.arithmetic.proofs.Sums.{All-head, All-tail}
-use Rattle.exact_num.specs.Fraction.{Fraction, IsLowest, whole, negated}
+use Rattle.arithmetic.proofs.Sums.{total_same}
+use Rattle.exact_num.specs.Fraction.{Fraction, IsLowest, whole}
 use Rattle.exact_num.specs.CommonDenominator.{common_denominator, amount_over, amounts_of, IsRatio}
+use Rattle.exact_num.specs.Tests.{is_same}
 use Rattle.exact_num.proofs.After.{after_value}
+use Rattle.exact_num.proofs.Fractions.{common_positive}
+use Rattle.exact_num.proofs.Order.{parts_same, same_parts}
+use Rattle.exact_num.proofs.Stands.{Stands, amounts_stand, sum_stands, difference_stands}
+use Rattle.exact_num.proofs.Tested.{ratio_is_same, lowest_are_defined, all_hold, not_all_hold}
 use Rattle.exact_num.proofs.Values.{whole_is_lowest}
-use Rattle.exact_num.proofs.Order.{parts_same}
-use Rattle.exact_num.proofs.Fractions.{divides, amount_is_exact, common_positive}
 use Rattle.frac.specs.Range.{limit}
 use Rattle.form.specs.declared.orders.Side.{Side}
 use Rattle.form.specs.declared.orders.Side.TheVariants.{Buy, Sell}
 use Rattle.form.specs.declared.orders.Order.{Order}
 use Rattle.form.specs.Payoff.{option_of, bundle_of}
-use Rattle.clearing_model.specs.Clearing.{Filled, SignedFill, for_side, signed_sum}
 use Rattle.form.specs.Vector.{is_same_option, is_same_bundle}
-use Rattle.clearing_model.specs.Balance.{one_if, balance_of}
+use Rattle.clearing_model.specs.Balance.{one_if, balance_of as model_balance}
 use Rattle.clearing_model.specs.Certificate.{AreFractionFills, signed_over}
-use Rattle.exact_num.proofs.Stands.{Stands, sum_stands, negated_stands}
-use Rattle.market_laws.proofs.Legs.{signed_sums_agree}
+use Rattle.clearing_model.specs.Clearing.{Filled, SignedFill, for_side, signed_sum}
+use Rattle.line_cover.proofs.Fills.{fills_stand}
 use Rattle.market_laws.proofs.Certificate.{signed_is}
-use Rattle.exact_num.proofs.Loops.{both, not_both}
-use Rattle.exact_num.proofs.Stands.{zero_stands}
-use Rattle.exact_num.specs.Tests.{is_same}
-use Rattle.exact_num.proofs.Tested.{ratio_is_same}
-use Rattle.cert_check.specs.Cover.{add_fill, add_same, add_all_same, balances_at, balances_all, fallback_holds}
+use Rattle.market_laws.proofs.Legs.{signed_sums_agree}
 use Rattle.cert_check.specs.Conditions.{OwesNothing}
-use Rattle.cert_check.proofs.Surplus.{same_is}
+use Rattle.cert_check.specs.Cover.{add_fill, add_same, balance_of, balances_at, balances_all, fallback_holds}
 
 -- 1 where the order is of the option
 abbrev pub counts_for : List ℤ → Order → ℤ
@@ -44,7 +41,7 @@ fill_stands Buy total f s x y D st sf h =
     subst (λ w. Stands s w D) e (sum_stands limit total f s x y D st sf h)
 fill_stands Sell total f s x y D st sf h =
     let e : x +ℤ neg_ℤ y ≡ x +ℤ neg_ℤ (pos 1 *ℤ y) = omega (arith, ints, products) in
-    subst (λ w. Stands s w D) e (sum_stands limit total (negated f) s x (neg_ℤ y) D st (negated_stands f y D sf) h)
+    subst (λ w. Stands s w D) e (difference_stands limit total f s x y D st sf h)
 
 nothing : (side : Side) (x y : ℤ) → x ≡ x +ℤ for_side side (pos 0 *ℤ y)
 nothing Buy x y = omega (arith, ints, products)
@@ -60,97 +57,68 @@ same_stands v o total f s x y D st sf h = by_test (is_same_option (option_of o.f
         let stays : total ≡ s = cc in
         rw e (subst (λ w. Stands s w D) (nothing o.side x y) (subst (λ t. Stands t x D) stays st))
 
-all_same_stand : (v : List ℤ) (D : ℕ) (os : List Order) (fs : List Fraction) (total s : Fraction) (x : ℤ) → All IsLowest fs → All (λ f. f.denominator ∣ D) fs → Stands total x D
-    → add_all_same limit v total (zip os fs) ≡ Ok s → Stands s (x +ℤ signed_sum (counts_for v) (signed_over D os fs)) D
-all_same_stand v D [] fs total s x low div st h =
-    let e : total ≡ s = cc in
-    let n : x ≡ x +ℤ pos 0 = omega (arith, ints) in
-    subst (λ t. Stands t (x +ℤ pos 0) D) e (subst (λ w. Stands total w D) n st)
-all_same_stand v D (o ∷ os) [] total s x low div st h =
-    let e : total ≡ s = cc in
-    let n : x ≡ x +ℤ pos 0 = omega (arith, ints) in
-    subst (λ t. Stands t (x +ℤ pos 0) D) e (subst (λ w. Stands total w D) n st)
-all_same_stand v D (o ∷ os) (f ∷ fs) total s x low div st h =
-    let first = after_value (add_same limit v total (o, f)) (λ sum. add_all_same limit v sum (zip os fs)) s h in
-    let amount = amount_over D f in
-    let sf : Stands f amount D = record { lowest = All-head IsLowest f fs low; ratio = amount_is_exact D f (All-head (λ g. g.denominator ∣ D) f fs div) } in
-    let here = same_stands v o total f first.value x amount D st sf first.first in
-    let rest = all_same_stand v D os fs first.value s (x +ℤ for_side o.side (counts_for v o *ℤ amount)) (All-tail IsLowest f fs low) (All-tail (λ g. g.denominator ∣ D) f fs div) here first.rest in
-    let e : (x +ℤ for_side o.side (counts_for v o *ℤ amount)) +ℤ signed_sum (counts_for v) (signed_over D os fs) ≡ x +ℤ (for_side o.side (counts_for v o *ℤ amount) +ℤ signed_sum (counts_for v) (signed_over D os fs)) = omega (arith, ints) in
-    subst (λ w. Stands s w D) e rest
-
 -- the same bundle is the same option
 same_bundle : (a b : Order) → is_same_bundle (bundle_of a) (bundle_of b) ≡ is_same_option (option_of a.form) (option_of b.form)
 unfolding bundle_of
 same_bundle a b = and-true (is_same_option (option_of a.form) (option_of b.form))
 
-buys_less_sells_same : (f g : Order → ℤ) → ((o : Order) → f o ≡ g o) → (fills : List SignedFill) → signed_sum f fills ≡ signed_sum g fills
-buys_less_sells_same f g same [] = refl
-buys_less_sells_same f g same (fill ∷ fills) = rw (same fill.0) (ap (λ w. for_side fill.0.side (g fill.0 *ℤ fill.1) +ℤ w) (buys_less_sells_same f g same fills))
-
 -- the balance of an order's option, from the sum over its denominator
 balance_is : (os : List Order) (fs : List Fraction) (o : Order) → AreFractionFills os fs
-    → balance_of (bundle_of o) (zip os (amounts_of fs)) ≡ signed_sum (counts_for (option_of o.form)) (signed_over (common_denominator fs) os fs)
+    → model_balance (bundle_of o) (zip os (amounts_of fs)) ≡ signed_sum (counts_for (option_of o.form)) (signed_over (common_denominator fs) os fs)
 balance_is os fs o are =
     let D = common_denominator fs in
     let counts = λ (a : Order). one_if (is_same_bundle (bundle_of a) (bundle_of o)) in
     sym (signed_sums_agree counts (zip os (amounts_of fs)))
     ∙ ap (signed_sum counts) (sym (signed_is D os fs are.1 are.0))
-    ∙ buys_less_sells_same counts (counts_for (option_of o.form)) (λ a. ap one_if (same_bundle a o)) (signed_over D os fs)
+    ∙ total_same _ _ (λ (fill : SignedFill). ap (λ b. for_side fill.0.side (one_if b *ℤ fill.1)) (same_bundle fill.0 o)) (signed_over D os fs)
 
 -- the sum of the test, which stands for the balance
 record BalanceSum (os : List Order) (fs : List Fraction) (o : Order) (is : Bool) : Type 0 where
   sum : Fraction
   test : is_same sum (whole (pos 0)) ≡ is
-  stands : Stands sum (balance_of (bundle_of o) (zip os (amounts_of fs))) (common_denominator fs)
+  stands : Stands sum (model_balance (bundle_of o) (zip os (amounts_of fs))) (common_denominator fs)
 
 balance_sum : (os : List Order) (fs : List Fraction) (o : Order) (is : Bool) → AreFractionFills os fs → All IsLowest fs → balances_at limit (zip os fs) (option_of o.form) ≡ Ok is → BalanceSum os fs o is
 balance_sum os fs o is are low h =
     let D = common_denominator fs in
     let v = option_of o.form in
-    let sum = after_value (add_all_same limit v (whole (pos 0)) (zip os fs)) (λ sum. Ok (is_same sum (whole (pos 0)))) is h in
-    let st = all_same_stand v D os fs (whole (pos 0)) sum.value (pos 0) low (divides fs) (zero_stands D) sum.first in
-    let test : is_same sum.value (whole (pos 0)) ≡ is = cc (sum.rest) in
-    let e : pos 0 +ℤ signed_sum (counts_for v) (signed_over D os fs) ≡ signed_sum (counts_for v) (signed_over D os fs) = omega (arith, ints) in
-    record { sum = sum.value; test = test; stands = subst (λ x. Stands sum.value x D) (e ∙ sym (balance_is os fs o are)) st }
+    let sum = after_value (balance_of limit (zip os fs) v) (λ sum. Ok (is_same sum (whole (pos 0)))) is h in
+    let st = fills_stand D (add_same limit v) (counts_for v) (λ o a sa start s x st step. same_stands v o start a s x _ D st sa step) os fs sum.value (amounts_stand fs low) sum.first in
+    record { sum = sum.value; test = cc (sum.rest); stands = subst (λ x. Stands sum.value x D) (sym (balance_is os fs o are)) st }
 
-balance_here : (os : List Order) (fs : List Fraction) (o : Order) → AreFractionFills os fs → All IsLowest fs → balances_at limit (zip os fs) (option_of o.form) ≡ Ok true → balance_of (bundle_of o) (zip os (amounts_of fs)) ≡ pos 0
+balance_here : (os : List Order) (fs : List Fraction) (o : Order) → AreFractionFills os fs → All IsLowest fs → balances_at limit (zip os fs) (option_of o.form) ≡ Ok true → model_balance (bundle_of o) (zip os (amounts_of fs)) ≡ pos 0
 balance_here os fs o are low h =
     let s = balance_sum os fs o true are low h in
-    let zero : s.sum ≡ whole (pos 0) = same_is s.sum (whole (pos 0)) s.stands.lowest (whole_is_lowest (pos 0)) s.test in
-    let ratio = subst (λ f. IsRatio f (balance_of (bundle_of o) (zip os (amounts_of fs))) (common_denominator fs)) zero s.stands.ratio in
+    let zero : s.sum ≡ whole (pos 0) = same_parts s.sum (whole (pos 0)) s.stands.lowest (whole_is_lowest (pos 0)) s.test in
+    let ratio = subst (λ f. IsRatio f (model_balance (bundle_of o) (zip os (amounts_of fs))) (common_denominator fs)) zero s.stands.ratio in
     omega (arith, ints, ratio)
 
-no_balance_here : (os : List Order) (fs : List Fraction) (o : Order) → AreFractionFills os fs → All IsLowest fs → balances_at limit (zip os fs) (option_of o.form) ≡ Ok false → ¬ (balance_of (bundle_of o) (zip os (amounts_of fs)) ≡ pos 0)
+no_balance_here : (os : List Order) (fs : List Fraction) (o : Order) → AreFractionFills os fs → All IsLowest fs → balances_at limit (zip os fs) (option_of o.form) ≡ Ok false → ¬ (model_balance (bundle_of o) (zip os (amounts_of fs)) ≡ pos 0)
 no_balance_here os fs o are low h zero =
     let D = common_denominator fs in
     let s = balance_sum os fs o false are low h in
     let ratio : IsRatio s.sum (pos 0) D = subst (λ x. IsRatio s.sum x D) zero s.stands.ratio in
-    let same = ratio_is_same s.sum (whole (pos 0)) (pos 0) D (common_positive fs (λ k d lt. (low k d lt).positive)) ratio (omega (arith, ints)) in
+    let same = ratio_is_same s.sum (whole (pos 0)) (pos 0) D (common_positive fs (lowest_are_defined fs low)) ratio (omega (arith, ints)) in
     let test = s.test in
     cc (same, test)
 
 -- as much is bought as sold of the option of the fill
 abbrev IsBalanced : List Order → List Fraction → Filled → Type 0
-IsBalanced os fs fill = balance_of (bundle_of fill.0) (zip os (amounts_of fs)) ≡ pos 0
+IsBalanced os fs fill = model_balance (bundle_of fill.0) (zip os (amounts_of fs)) ≡ pos 0
 
-all_balance : (os : List Order) (fs : List Fraction) (rest : List Order) (g : List ℕ) → AreFractionFills os fs → All IsLowest fs → balances_all limit (zip os fs) rest ≡ Ok true
-    → All (IsBalanced os fs) (zip rest g)
-all_balance os fs [] g are low h = All-nil (IsBalanced os fs)
-all_balance os fs (o ∷ rest) [] are low h = All-nil (IsBalanced os fs)
-all_balance os fs (o ∷ rest) (a ∷ g) are low h =
-    let parts = both (balances_at limit (zip os fs) (option_of o.form)) (balances_all limit (zip os fs) rest) h in
-    All-cons (IsBalanced os fs) (o, a) (zip rest g) (balance_here os fs o are low parts.0) (all_balance os fs rest g are low parts.1)
+abbrev OptionIsBalanced : List Order → List Fraction → Order → Type 0
+OptionIsBalanced os fs o = model_balance (bundle_of o) (zip os (amounts_of fs)) ≡ pos 0
 
-not_all_balance : (os : List Order) (fs : List Fraction) (rest : List Order) (g : List ℕ) → length g ≡ length rest → AreFractionFills os fs → All IsLowest fs → balances_all limit (zip os fs) rest ≡ Ok false
-    → ¬ (All (IsBalanced os fs) (zip rest g))
-not_all_balance os fs [] g len are low h all = cc
-not_all_balance os fs (o ∷ rest) [] len are low h all = absurd (omega arith)
-not_all_balance os fs (o ∷ rest) (a ∷ g) len are low h all =
-    elim (not_both (balances_at limit (zip os fs) (option_of o.form)) (balances_all limit (zip os fs) rest) h) [
-      | inl here ↦ no_balance_here os fs o are low here (All-head (IsBalanced os fs) (o, a) (zip rest g) all)
-      | inr there ↦ not_all_balance os fs rest g (omega arith) are low there.1 (All-tail (IsBalanced os fs) (o, a) (zip rest g) all)
-    ]
+-- of each order, so of each fill
+all_balance : (os : List Order) (fs : List Fraction) → AreFractionFills os fs → All IsLowest fs → balances_all limit (zip os fs) os ≡ Ok true → All (IsBalanced os fs) (zip os (amounts_of fs))
+all_balance os fs are low h =
+    All-zip_left (OptionIsBalanced os fs) os (amounts_of fs)
+    (all_hold (λ (o : Order). balances_at limit (zip os fs) (option_of o.form)) (OptionIsBalanced os fs) (λ o. balance_here os fs o are low) os h)
+
+not_all_balance : (os : List Order) (fs : List Fraction) → AreFractionFills os fs → All IsLowest fs → balances_all limit (zip os fs) os ≡ Ok false → ¬ (All (IsBalanced os fs) (zip os (amounts_of fs)))
+not_all_balance os fs are low h all =
+    not_all_hold (λ (o : Order). balances_at limit (zip os fs) (option_of o.form)) (OptionIsBalanced os fs) (λ o. no_balance_here os fs o are low) os h
+    (All-of_zip_left (OptionIsBalanced os fs) os (amounts_of fs) (length-map fs (λ (f : Fraction). positive_part (amount_over (common_denominator fs) f)) ∙ are.0) all)
 
 pub fallback_is : (os : List Order) (fs : List Fraction) (L : Fraction) → AreFractionFills os fs → All IsLowest fs → IsLowest L → fallback_holds limit (zip os fs) os L ≡ Ok true
     → OwesNothing os fs L
@@ -162,11 +130,11 @@ fallback_is os fs L are low lowest_L h = by_test (is_same L (whole (pos 0))) ref
         cc
     by_test true e =
         let all : balances_all limit (zip os fs) os ≡ Ok true = rw e at h in
-        (same_is L (whole (pos 0)) lowest_L (whole_is_lowest (pos 0)) e, all_balance os fs os (amounts_of fs) are low all)
+        (same_parts L (whole (pos 0)) lowest_L (whole_is_lowest (pos 0)) e, all_balance os fs are low all)
 
 pub fallback_is_not : (os : List Order) (fs : List Fraction) (L : Fraction) → AreFractionFills os fs → All IsLowest fs → fallback_holds limit (zip os fs) os L ≡ Ok false
     → ¬ (OwesNothing os fs L)
 fallback_is_not os fs L are low h owes =
     let e : is_same L (whole (pos 0)) ≡ true = parts_same L (whole (pos 0)) owes.0 in
     let some : balances_all limit (zip os fs) os ≡ Ok false = rw e at h in
-    not_all_balance os fs os (amounts_of fs) (length-map fs (λ (f : Fraction). positive_part (amount_over (common_denominator fs) f)) ∙ are.0) are low some owes.1
+    not_all_balance os fs are low some owes.1

@@ -1,16 +1,15 @@
 -- What the tests of the shape and of the fills say.
 use Rattle.std.proofs.Common.{◌≡◌, ℕ, ◌+◌, ◌*◌, ◌<◌, true, false, ◌==◌, ◌&&◌, List, [], ◌∷◌, length, get_or, map, zip, arith, pos, ◌≤ℤ◌, ◌*ℤ◌, All, refl, sym, ◌∙◌, eqb-true}
-use Rattle.std.specs.Prelude.{int_le, nat_lt}
-use Rattle.std.specs.Int.Signed.{le_z_yes}
+use Rattle.std.specs.Prelude.{nat_lt}
 use Rattle.std.proofs.lemmas.Bool.Decides.{nat_tests}
 use Rattle.std.proofs.lemmas.Bool.{and_parts}
-use Rattle.std.proofs.lemmas.Float.{T_from_true}
 use Rattle.std.proofs.lemmas.Int.{ints}
 use Rattle.std.proofs.lemmas.List.{length-map}
 use Rattle.std.proofs.lemmas.List.Elements.{All-nil, All-cons}
-use Rattle.arithmetic.proofs.Sums.{All-head, All-tail}
+use Rattle.std.proofs.lemmas.List.Sums.{AllPass-from_list_all, list_all-from_AllPass}
+use Rattle.arithmetic.proofs.Sums.{All-head, All-tail, All-of_map, All-to_map}
 use Rattle.exact_num.specs.Fraction.{whole}
-use Rattle.frac.specs.declared.bits128.Frac128.{Frac128}
+use Rattle.frac.specs.declared.frac128.Frac128.{Frac128}
 use Rattle.frac.specs.Value.{fraction_of}
 use Rattle.form.specs.declared.orders.Order.{Order}
 use Rattle.form.specs.declared.orders.Batch.{Batch}
@@ -22,15 +21,15 @@ use Rattle.form.proofs.Vectors.{length-option_of}
 use Rattle.measure.specs.declared.measures.Weighted.{Weighted}
 use Rattle.measure.specs.declared.measures.Measure.{Measure}
 use Rattle.measure.specs.Points.{point_of}
-use Rattle.arithmetic.proofs.Tests.{and_true, int_le-true}
+use Rattle.arithmetic.proofs.Tests.{and_true, int_le-true, int_le-yes}
 use Rattle.cert_check.specs.declared.outcome.Cover.{Cover}
 use Rattle.cert_check.specs.declared.outcome.Cover.TheVariants.{Line, Tree}
 use Rattle.cert_check.specs.declared.outcome.Mark.{Mark}
 use Rattle.cert_check.specs.declared.outcome.Mark.TheVariants.{Optimal, Wide, Budget}
 use Rattle.cert_check.specs.declared.outcome.Outcome.{Outcome}
 use Rattle.cert_check.specs.Conditions.{IfOptimal, IsCoverOn, IsOfBatch}
-use Rattle.cert_check.specs.Shape.{forms_have, states_have, cover_fits, mark_fits, has_shape, is_fill, are_fills}
-use Rattle.exact_num.specs.Tests.{is_at_most}
+use Rattle.cert_check.specs.Shape.{IsMarkOn, forms_have, states_have, cover_fits, mark_fits, has_shape, is_fill, are_fills}
+use Rattle.exact_num.specs.Tests.{is_at_most, is_not_below_zero}
 
 equal_is_true : (a b : ℕ) → a ≡ b → (a == b) ≡ true
 equal_is_true a b h = grind (arith, nat_tests)
@@ -59,37 +58,30 @@ count_of_order n o is =
     sym (length-option_of o.form) ∙ (All-head (λ (leg : BundleLeg). (leg.count ≡ pos 0 → ⊥) × (length leg.option ≡ n + 1)) leg [] is.2).1
 
 pub forms_all : (n : ℕ) (os : List Order) → forms_have n os ≡ true → All (λ (order : Order). order.form.count ≡ n) os
-forms_all n [] h = All-nil (λ (order : Order). order.form.count ≡ n)
-forms_all n (o ∷ os) h =
-    let parts = and_parts (o.form.count == n) (forms_have n os) h in
-    All-cons (λ (order : Order). order.form.count ≡ n) o os (eqb-true o.form.count n parts.0) (forms_all n os parts.1)
+forms_all n os h = λ k d lt. eqb-true _ n (AllPass-from_list_all (λ (order : Order). order.form.count == n) os h k d lt)
 
 forms_pass : (n : ℕ) (os : List Order) → AreOn n os → forms_have (n + 1) os ≡ true
-forms_pass n [] on = refl
-forms_pass n (o ∷ os) on =
-    let here = count_of_order n o (All-head (λ (order : Order). IsBundle n (bundle_of order)) o os on) in
-    and_true (o.form.count == n + 1) (forms_have (n + 1) os) (equal_is_true o.form.count (n + 1) here) (forms_pass n os (All-tail (λ (order : Order). IsBundle n (bundle_of order)) o os on))
+forms_pass n os on =
+    list_all-from_AllPass (λ (order : Order). order.form.count == n + 1) os (λ k d lt. equal_is_true _ (n + 1) (count_of_order n _ (on k d lt)))
 
-pub states_all : (n : ℕ) (points : List Weighted) → states_have n points ≡ true → All (λ (point : Weighted). point.state.count ≡ n) points
-states_all n [] h = All-nil (λ (point : Weighted). point.state.count ≡ n)
-states_all n (p ∷ ps) h =
-    let parts = and_parts (p.state.count == n) (states_have n ps) h in
-    All-cons (λ (point : Weighted). point.state.count ≡ n) p ps (eqb-true p.state.count n parts.0) (states_all n ps parts.1)
+-- each state has so many entries
+abbrev HasEntries : ℕ → Weighted → Type 0
+HasEntries n point = point.state.count ≡ n
+
+states_all : (n : ℕ) (points : List Weighted) → states_have n points ≡ true → All (HasEntries n) points
+states_all n points h = λ k d lt. eqb-true _ n (AllPass-from_list_all (λ (point : Weighted). point.state.count == n) points h k d lt)
 
 -- the states of the code are states of n underlyings
-states_are : (n : ℕ) (points : List Weighted) → states_have (n + 1) points ≡ true → All (λ (point : Point). IsState n point.0) (map point_of points)
-states_are n [] h = All-nil (λ (point : Point). IsState n point.0)
-states_are n (p ∷ ps) h =
-    let parts = and_parts (p.state.count == n + 1) (states_have (n + 1) ps) h in
-    All-cons (λ (point : Point). IsState n point.0) (point_of p) (map point_of ps)
-    (length-vector_of p.state ∙ eqb-true p.state.count (n + 1) parts.0, p.state.not_all_zero)
-    (states_are n ps parts.1)
+abbrev IsOnState : ℕ → Point → Type 0
+IsOnState n point = IsState n point.0
 
-states_pass : (n : ℕ) (points : List Weighted) → All (λ (point : Point). IsState n point.0) (map point_of points) → states_have (n + 1) points ≡ true
-states_pass n [] are = refl
-states_pass n (p ∷ ps) are =
-    let here : p.state.count ≡ n + 1 = sym (length-vector_of p.state) ∙ (All-head (λ (point : Point). IsState n point.0) (point_of p) (map point_of ps) are).0 in
-    and_true (p.state.count == n + 1) (states_have (n + 1) ps) (equal_is_true p.state.count (n + 1) here) (states_pass n ps (All-tail (λ (point : Point). IsState n point.0) (point_of p) (map point_of ps) are))
+states_are : (n : ℕ) (points : List Weighted) → All (HasEntries (n + 1)) points → All (IsOnState n) (map point_of points)
+states_are n points have = All-to_map (IsOnState n) point_of points (λ k d lt. (length-vector_of (get_or points k d).state ∙ have k d lt, (get_or points k d).state.not_all_zero))
+
+states_pass : (n : ℕ) (points : List Weighted) → All (IsOnState n) (map point_of points) → states_have (n + 1) points ≡ true
+states_pass n points are =
+    list_all-from_AllPass (λ (point : Weighted). point.state.count == n + 1) points
+    (λ k d lt. equal_is_true _ (n + 1) (sym (length-vector_of (get_or points k d).state) ∙ (All-of_map (IsOnState n) point_of points are k d lt).0))
 
 cover_is_on : (n : ℕ) (cover : Cover) → cover_fits n cover ≡ true → IsCoverOn n cover
 cover_is_on n Line h = eqb-true n 1 h
@@ -103,12 +95,17 @@ cover_passes n (Tree tree) is = less_is_true 1 n is
 abbrev pub AreOnTheSame : ℕ → Cover → Measure → Type 0
 AreOnTheSame n cover measure = IsCoverOn n cover × All (λ (point : Point). IsState n point.0) (map point_of measure.points)
 
-mark_is_on : (n : ℕ) (mark : Mark) → mark_fits n mark ≡ true → IfOptimal mark (AreOnTheSame n)
+mark_is_on : (n : ℕ) (mark : Mark) → mark_fits n mark ≡ true → IsMarkOn n mark
 mark_is_on n (Optimal cover measure) h =
     let parts = and_parts (cover_fits n cover) (states_have (n + 1) measure.points) h in
-    (cover_is_on n cover parts.0, states_are n measure.points parts.1)
+    (cover_is_on n cover parts.0, states_all (n + 1) measure.points parts.1)
 mark_is_on n (Wide w) h = tt
 mark_is_on n Budget h = tt
+
+same_underlyings : (n : ℕ) (mark : Mark) → IsMarkOn n mark → IfOptimal mark (AreOnTheSame n)
+same_underlyings n (Optimal cover measure) on = (on.0, states_are n measure.points on.1)
+same_underlyings n (Wide w) on = tt
+same_underlyings n Budget on = tt
 
 mark_passes : (n : ℕ) (mark : Mark) → IfOptimal mark (AreOnTheSame n) → mark_fits n mark ≡ true
 mark_passes n (Optimal cover measure) is =
@@ -120,7 +117,7 @@ mark_passes n Budget is = refl
 pub record Shaped (batch : Batch) (outcome : Outcome) : Type 0 where
   pub fills : length outcome.fills ≡ length batch.orders
   pub forms : All (λ (order : Order). order.form.count ≡ batch.underlyings + 1) batch.orders
-  pub mark : mark_fits batch.underlyings outcome.mark ≡ true
+  pub mark : IsMarkOn batch.underlyings outcome.mark
 
 pub shaped : (batch : Batch) (outcome : Outcome) → has_shape batch outcome ≡ true → Shaped batch outcome
 shaped batch outcome h =
@@ -129,7 +126,7 @@ shaped batch outcome h =
     record {
       fills = eqb-true (length outcome.fills) (length batch.orders) first.0;
       forms = forms_all (batch.underlyings + 1) batch.orders first.1;
-      mark = parts.1;
+      mark = mark_is_on batch.underlyings outcome.mark parts.1;
     }
 
 pub shape_met : (batch : Batch) (outcome : Outcome) → has_shape batch outcome ≡ true → IsOfBatch batch outcome
@@ -138,7 +135,7 @@ shape_met batch outcome h =
     record {
       orders = λ k d lt. order_is_on batch.underlyings (get_or batch.orders k d) (shape.forms k d lt);
       fills = shape.fills;
-      mark = mark_is_on batch.underlyings outcome.mark shape.mark;
+      mark = same_underlyings batch.underlyings outcome.mark shape.mark;
     }
 
 pub shape_unmet : (batch : Batch) (outcome : Outcome) → has_shape batch outcome ≡ false → ¬ (IsOfBatch batch outcome)
@@ -154,10 +151,9 @@ fills_are [] fs h = All-nil IsFill
 fills_are (o ∷ os) [] h = All-nil IsFill
 fills_are (o ∷ os) (f ∷ fs) h =
     let parts = and_parts (is_fill o (fraction_of f)) (are_fills os fs) h in
-    let here = and_parts (int_le (pos 0) f.numerator) (is_at_most (fraction_of f) (whole (pos o.quantity))) parts.0 in
-    let low : pos 0 ≤ℤ f.numerator = le_z_yes {a = pos 0} {b = f.numerator} (T_from_true (int_le (pos 0) f.numerator) here.0) in
-    let high : (f.numerator *ℤ pos 1) ≤ℤ (pos o.quantity *ℤ pos f.denominator) =
-    le_z_yes {a = f.numerator *ℤ pos 1} {b = pos o.quantity *ℤ pos f.denominator} (T_from_true (is_at_most (fraction_of f) (whole (pos o.quantity))) here.1) in
+    let here = and_parts (is_not_below_zero (fraction_of f)) (is_at_most (fraction_of f) (whole (pos o.quantity))) parts.0 in
+    let low : pos 0 ≤ℤ f.numerator = int_le-yes (pos 0) f.numerator here.0 in
+    let high : (f.numerator *ℤ pos 1) ≤ℤ (pos o.quantity *ℤ pos f.denominator) = int_le-yes (f.numerator *ℤ pos 1) (pos o.quantity *ℤ pos f.denominator) here.1 in
     All-cons IsFill (o, fraction_of f) (zip os (map fraction_of fs)) (f.lowest.positive, low, omega (arith, ints)) (fills_are os fs parts.1)
 
 fills_pass : (os : List Order) (fs : List Frac128) → All IsFill (zip os (map fraction_of fs)) → are_fills os fs ≡ true
@@ -168,7 +164,7 @@ fills_pass (o ∷ os) (f ∷ fs) are =
     let least : f.numerator ≤ℤ pos (o.quantity * f.denominator) = here.2 in
     let most : (f.numerator *ℤ pos 1) ≤ℤ (pos o.quantity *ℤ pos f.denominator) = omega (arith, ints) in
     let fits : is_at_most (fraction_of f) (whole (pos o.quantity)) ≡ true = int_le-true (f.numerator *ℤ pos 1) (pos o.quantity *ℤ pos f.denominator) most in
-    let passes = and_true (int_le (pos 0) f.numerator) (is_at_most (fraction_of f) (whole (pos o.quantity))) (int_le-true (pos 0) f.numerator here.1) fits in
+    let passes = and_true (is_not_below_zero (fraction_of f)) (is_at_most (fraction_of f) (whole (pos o.quantity))) (int_le-true (pos 0) f.numerator here.1) fits in
     and_true (is_fill o (fraction_of f)) (are_fills os fs) passes (fills_pass os fs (All-tail IsFill (o, fraction_of f) (zip os (map fraction_of fs)) are))
 
 pub fills_met : (os : List Order) (fs : List Frac128) → length fs ≡ length os → are_fills os fs ≡ true → AreFractionFills os (map fraction_of fs)

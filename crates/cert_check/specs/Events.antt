@@ -2,15 +2,11 @@
 use Rattle.std.specs.Prelude.{ℕ, List, map, zip, Bool, true, false, Result, Ok, Err}
 use Rattle.exact_num.specs.declared.misfit.Wide.{Wide as Misfit}
 use Rattle.exact_num.specs.Fraction.{Fraction}
-use Rattle.exact_num.specs.Fits.{after}
 use Rattle.frac.specs.Value.{fraction_of}
 use Rattle.form.specs.declared.orders.Order.{Order}
 use Rattle.form.specs.declared.orders.Batch.{Batch}
-use Rattle.clearing_model.specs.Certificate.{Point}
 use Rattle.exact_num.specs.Steps.{and_then}
 use Rattle.measure.specs.Points.{point_of}
-use Rattle.measure.specs.Sums.{has_unit_mass, bound_of}
-use Rattle.exact_num.specs.Tests.{is_same}
 use Rattle.cert_check.specs.declared.outcome.Mark.{Mark}
 use Rattle.cert_check.specs.declared.outcome.Mark.TheVariants.{Optimal, Wide as WideMark, Budget}
 use Rattle.cert_check.specs.declared.outcome.No.{No}
@@ -19,7 +15,8 @@ use Rattle.cert_check.specs.declared.outcome.Judgement.{Judgement}
 use Rattle.cert_check.specs.declared.outcome.Judgement.TheVariants.{Yes, No as Refused, Wide}
 use Rattle.cert_check.specs.declared.outcome.Outcome.{Outcome}
 use Rattle.cert_check.specs.Shape.{has_shape, are_fills}
-use Rattle.cert_check.specs.Cover.{surplus_holds, mark_covers}
+use Rattle.cert_check.specs.Cover.{mark_covers}
+use Rattle.cert_check.specs.Tests.{surplus_holds, measure_holds, bound_holds}
 
 -- what comes next where a condition holds
 abbrev pub check : No → Result Bool Misfit → Judgement → Judgement
@@ -39,20 +36,17 @@ bound_condition = no.Bound
 abbrev pub yes : Judgement
 yes = Yes
 
--- whether the bound of the measure is the surplus
-abbrev pub bound_holds : ℕ → List Order → List Point → Fraction → Result Bool Misfit
-bound_holds limit orders points S = after (bound_of limit orders points) (λ bound. Ok (is_same bound S))
-
 -- with the mark optimal the measure proves the surplus
 abbrev pub judge_mark : ℕ → List Order → Fraction → Mark → Judgement
 judge_mark limit orders S (Optimal cover measure) =
-    check no.Measure (has_unit_mass limit (map point_of measure.points))
+    check no.Measure (measure_holds limit (map point_of measure.points))
     (check no.Bound (bound_holds limit orders (map point_of measure.points) S) Yes)
 judge_mark limit orders S (WideMark w) = Yes
 judge_mark limit orders S Budget = Yes
 
-abbrev pub cover_holds : ℕ → Batch → Outcome → Result Bool Misfit
-cover_holds limit batch outcome =
+-- the surplus is what it should be, and the liability is enough
+abbrev pub cover_condition_holds : ℕ → Batch → Outcome → Result Bool Misfit
+cover_condition_holds limit batch outcome =
     let fills = map fraction_of outcome.fills in
     let L = fraction_of outcome.claim.liability in
     and_then (surplus_holds limit (zip batch.orders fills) L (fraction_of outcome.claim.surplus))
@@ -63,5 +57,5 @@ abbrev pub verdict_of : ℕ → Batch → Outcome → Judgement
 verdict_of limit batch outcome =
     check no.BatchShape (Ok (has_shape batch outcome))
     (check no.Fill (Ok (are_fills batch.orders outcome.fills))
-    (check no.Cover (cover_holds limit batch outcome)
+    (check no.Cover (cover_condition_holds limit batch outcome)
     (judge_mark limit batch.orders (fraction_of outcome.claim.surplus) outcome.mark)))

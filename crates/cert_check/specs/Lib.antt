@@ -1,4 +1,5 @@
 pub mod Shape
+pub mod Tests
 pub mod Cover
 pub mod Events
 pub mod Conditions

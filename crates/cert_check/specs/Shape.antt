@@ -1,8 +1,10 @@
 -- The shape of a batch and its outcome, and its fills.
-use Rattle.std.specs.Prelude.{ℕ, ◌+◌, ◌==◌, List, [], ◌∷◌, length, int_le, nat_lt, Bool, true, ◌&&◌, pos, ◌*ℤ◌}
+use Rattle.std.specs.Prelude.{ℕ, ◌≡◌, ◌+◌, ◌==◌, List, [], ◌∷◌, length, nat_lt, Bool, true, ◌&&◌, pos}
+use Rattle.std.specs.List.{list_all, All}
+use Rattle.exact_num.specs.Tests.{is_not_below_zero, is_at_most}
 use Rattle.exact_num.specs.Fraction.{Fraction, whole}
 use Rattle.frac.specs.Value.{fraction_of}
-use Rattle.frac.specs.declared.bits128.Frac128.{Frac128}
+use Rattle.frac.specs.declared.frac128.Frac128.{Frac128}
 use Rattle.form.specs.declared.orders.Order.{Order}
 use Rattle.form.specs.declared.orders.Batch.{Batch}
 use Rattle.measure.specs.declared.measures.Weighted.{Weighted}
@@ -11,15 +13,14 @@ use Rattle.cert_check.specs.declared.outcome.Cover.TheVariants.{Line, Tree}
 use Rattle.cert_check.specs.declared.outcome.Mark.{Mark}
 use Rattle.cert_check.specs.declared.outcome.Mark.TheVariants.{Optimal, Wide, Budget}
 use Rattle.cert_check.specs.declared.outcome.Outcome.{Outcome}
+use Rattle.cert_check.specs.Conditions.{IfOptimal, IsCoverOn}
 
 -- whether each form, or each state, has so many entries
 abbrev pub forms_have : ℕ → List Order → Bool
-forms_have entries [] = true
-forms_have entries (o ∷ os) = o.form.count == entries && forms_have entries os
+forms_have entries orders = list_all (λ (order : Order). order.form.count == entries) orders
 
 abbrev pub states_have : ℕ → List Weighted → Bool
-states_have entries [] = true
-states_have entries (p ∷ ps) = p.state.count == entries && states_have entries ps
+states_have entries points = list_all (λ (point : Weighted). point.state.count == entries) points
 
 -- a line is the cover of one underlying, and a tree of several
 abbrev pub cover_fits : ℕ → Cover → Bool
@@ -31,6 +32,11 @@ mark_fits n (Optimal cover measure) = cover_fits n cover && states_have (n + 1) 
 mark_fits n (Wide w) = true
 mark_fits n Budget = true
 
+-- the cover and the states of an optimal mark are those of n underlyings
+abbrev pub IsMarkOn : ℕ → Mark → Type 0
+IsMarkOn n mark =
+    IfOptimal mark (λ cover measure. IsCoverOn n cover × All (λ (point : Weighted). point.state.count ≡ n + 1) measure.points)
+
 -- whether there are as many fills as orders, and forms, states and cover are those of the batch's underlyings
 abbrev pub has_shape : Batch → Outcome → Bool
 has_shape batch outcome =
@@ -38,13 +44,9 @@ has_shape batch outcome =
     && forms_have (batch.underlyings + 1) batch.orders
     && mark_fits batch.underlyings outcome.mark
 
--- whether the value of x is at most that of y
-abbrev pub is_at_most : Fraction → Fraction → Bool
-is_at_most x y = int_le (x.numerator *ℤ pos y.denominator) (y.numerator *ℤ pos x.denominator)
-
 -- whether a fill is from 0 to the order's quantity
 abbrev pub is_fill : Order → Fraction → Bool
-is_fill o f = int_le (pos 0) f.numerator && is_at_most f (whole (pos o.quantity))
+is_fill o f = is_not_below_zero f && is_at_most f (whole (pos o.quantity))
 
 abbrev pub are_fills : List Order → List Frac128 → Bool
 are_fills [] fills = true

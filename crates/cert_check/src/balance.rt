@@ -1,20 +1,19 @@
 //! Fills without a mark: each option is balanced by itself.
 
-ghost use Rattle.std.specs.Prelude.{◌≡◌, length, map, zip, pos};
+ghost use Rattle.std.specs.Prelude.{◌≡◌, length, map, zip};
 ghost use Rattle.exact_num.specs.Fits.{meaning};
-ghost use Rattle.exact_num.specs.Fraction.{whole};
 ghost use Rattle.frac.specs.Range.{limit};
 ghost use Rattle.frac.specs.Value.{fraction_of};
 ghost use Rattle.form.specs.Vector.{is_same_option};
 ghost use Rattle.form.specs.Payoff.{option_of};
-ghost use Rattle.cert_check.specs.Cover.{add_all_same, add_fill, add_same, balances_all, balances_at, fallback_holds};
+ghost use Rattle.cert_check.specs.Cover.{add_fill, add_same, balance_of, balances_all, balances_at, fallback_holds};
 
 use exact_num::{Exact, Wide};
 use form::{Form, Order, Side};
 use frac::Frac128;
 
-/// Whether the liability is 0 and as much is bought as sold of each option. Takes no memory.
-pub fn fallback_holds(
+// Whether the liability is 0 and as much is bought as sold of each option.
+pub(crate) fn fallback_holds(
     orders: &[Order],
     fills: &[Frac128],
     liability: &Frac128,
@@ -28,7 +27,7 @@ pub fn fallback_holds(
     balances_all(orders, fills)
 }
 
-/// Whether as much is bought as sold of the option of each order.
+// Whether as much is bought as sold of the option of each order.
 fn balances_all(orders: &[Order], fills: &[Frac128]) -> Result<bool, Wide>
     requires { length fills.now ≡ length orders.now }
     ensures { result ≡ balances_all limit (zip orders.now (map fraction_of fills.now)) orders.now }
@@ -41,7 +40,7 @@ fn balances_all(orders: &[Order], fills: &[Frac128]) -> Result<bool, Wide>
     Ok(true)
 }
 
-/// Whether as much is bought as sold of the option.
+// Whether as much is bought as sold of the option.
 fn balances_at(orders: &[Order], fills: &[Frac128], form: &Form) -> Result<bool, Wide>
     requires { length fills.now ≡ length orders.now }
     ensures { result ≡ balances_at limit (zip orders.now (map fraction_of fills.now)) (option_of form.now) }
@@ -50,10 +49,10 @@ fn balances_at(orders: &[Order], fills: &[Frac128], form: &Form) -> Result<bool,
     Ok(sum == Frac128::zero())
 }
 
-/// What is bought of the option less what is sold of it.
+// What is bought of the option less what is sold of it.
 fn balance(orders: &[Order], fills: &[Frac128], form: &Form) -> Result<Frac128, Wide>
     requires { length fills.now ≡ length orders.now }
-    ensures { meaning fraction_of result ≡ add_all_same limit (option_of form.now) (whole (pos 0)) (zip orders.now (map fraction_of fills.now)) }
+    ensures { meaning fraction_of result ≡ balance_of limit (zip orders.now (map fraction_of fills.now)) (option_of form.now) }
 {
     let mut total = Frac128::zero();
     for i in 0..orders.len() {
@@ -63,7 +62,7 @@ fn balance(orders: &[Order], fills: &[Frac128], form: &Form) -> Result<Frac128, 
     Ok(total)
 }
 
-/// The total and the fill, where it is of the option.
+// The total and the fill, where it is of the option.
 fn add_same(total: Frac128, form: &Form, order: &Order, fill: Frac128) -> Result<Frac128, Wide>
     ensures { meaning fraction_of result ≡ add_same limit (option_of form.now) (fraction_of total) (order.now, fraction_of fill) }
 {
@@ -74,7 +73,7 @@ fn add_same(total: Frac128, form: &Form, order: &Order, fill: Frac128) -> Result
     }
 }
 
-/// Whether the two forms are the same option.
+// Whether the two forms are the same option.
 #[tactic(auto, using(form::proofs::SameOption::forms_equal))]
 fn is_same_option(a: &Form, b: &Form) -> bool
     ensures { result ≡ is_same_option (option_of a.now) (option_of b.now) }
@@ -82,7 +81,7 @@ fn is_same_option(a: &Form, b: &Form) -> bool
     a == b
 }
 
-/// The total and the fill, which a sell subtracts.
+// The total and the fill, which a sell subtracts.
 fn add_fill(total: Frac128, side: Side, fill: Frac128) -> Result<Frac128, Wide>
     ensures { meaning fraction_of result ≡ add_fill limit (fraction_of total) side (fraction_of fill) }
 {

@@ -5,19 +5,20 @@ ghost use Rattle.frac.specs.Range.{limit};
 ghost use Rattle.frac.specs.Value.{fraction_of};
 ghost use Rattle.form.specs.Limits.{HasItsForms};
 ghost use Rattle.measure.specs.Points.{point_of};
-ghost use Rattle.measure.specs.Sums.{has_unit_mass};
 ghost use Rattle.cert_check.specs.Conditions.{IfNo, IfOptimal, IsFirstUnmet, Meets, OnYes, conditions};
-ghost use Rattle.cert_check.specs.Events.{bound_condition, bound_holds, check, cover_condition, cover_holds, judge_mark, measure_condition, verdict_of, yes};
+ghost use Rattle.cert_check.specs.Events.{bound_condition, check, cover_condition, cover_condition_holds, judge_mark, measure_condition, verdict_of, yes};
+ghost use Rattle.cert_check.specs.Tests.{bound_holds, measure_holds};
 ghost use Rattle.cert_check.specs.Laws.{IsCovered, IsMeasured, IsProved};
-ghost use Rattle.cert_check.specs.Shape.{mark_fits, states_have};
+ghost use Rattle.cert_check.specs.Shape.{IsMarkOn};
 
-use crate::cover::{mark_covers, surplus_holds};
+use crate::checks::{bound_holds, measure_holds, surplus_holds};
+use crate::cover::mark_covers;
 use crate::outcome::{Judgement, Mark, No, Outcome};
 use crate::shape::{are_fills, has_shape};
 use exact_num::Wide;
 use form::Batch;
 use frac::Frac128;
-use measure::{Measure, bound, is_measure};
+use measure::Measure;
 
 /// The judgement of an outcome. Yes where each condition holds: the shape of the batch, the fills from 0 to their
 /// quantities, the cover, and with the mark optimal the measure and its bound. `No` has the first condition that fails,
@@ -48,28 +49,28 @@ pub fn verdict(batch: &Batch, outcome: &Outcome, signs: &mut [i8]) -> Judgement
     judge_cover(batch, outcome, signs)
 }
 
-/// Whether the cover holds, and then what the mark asks.
+// Whether the cover holds, and then what the mark asks.
 fn judge_cover(batch: &Batch, outcome: &Outcome, signs: &mut [i8]) -> Judgement
     requires forms { HasItsForms batch.now }
     requires fills { length outcome.now.fills ≡ length batch.now.orders }
-    requires mark { mark_fits batch.now.underlyings outcome.now.mark ≡ true }
+    requires mark { IsMarkOn batch.now.underlyings outcome.now.mark }
     requires signs { length signs.old ≡ length batch.now.orders }
-    ensures { result ≡ check cover_condition (cover_holds limit batch.now outcome.now) (judge_mark limit batch.now.orders (fraction_of outcome.now.claim.surplus) outcome.now.mark) }
+    ensures { result ≡ check cover_condition (cover_condition_holds limit batch.now outcome.now) (judge_mark limit batch.now.orders (fraction_of outcome.now.claim.surplus) outcome.now.mark) }
 {
-    match cover_holds(batch, outcome, signs) {
+    match is_covered(batch, outcome, signs) {
         Ok(true) => judge_mark(batch, &outcome.claim.surplus, &outcome.mark),
         Ok(false) => Judgement::No(No::Cover),
         Err(wide) => Judgement::Wide(wide),
     }
 }
 
-/// Whether the surplus is what it should be and the liability is enough.
-fn cover_holds(batch: &Batch, outcome: &Outcome, signs: &mut [i8]) -> Result<bool, Wide>
+// Whether the surplus is what it should be and the liability is enough.
+fn is_covered(batch: &Batch, outcome: &Outcome, signs: &mut [i8]) -> Result<bool, Wide>
     requires forms { HasItsForms batch.now }
     requires fills { length outcome.now.fills ≡ length batch.now.orders }
-    requires mark { mark_fits batch.now.underlyings outcome.now.mark ≡ true }
+    requires mark { IsMarkOn batch.now.underlyings outcome.now.mark }
     requires signs { length signs.old ≡ length batch.now.orders }
-    ensures { result ≡ cover_holds limit batch.now outcome.now }
+    ensures { result ≡ cover_condition_holds limit batch.now outcome.now }
 {
     let fills = outcome.fills.as_slice();
     if !surplus_holds(batch.orders.as_slice(), fills, &outcome.claim)? {
@@ -78,10 +79,10 @@ fn cover_holds(batch: &Batch, outcome: &Outcome, signs: &mut [i8]) -> Result<boo
     mark_covers(batch, fills, &outcome.claim.liability, &outcome.mark, signs)
 }
 
-/// With the mark optimal, whether the measure proves the surplus.
+// With the mark optimal, whether the measure proves the surplus.
 fn judge_mark(batch: &Batch, surplus: &Frac128, mark: &Mark) -> Judgement
     requires forms { HasItsForms batch.now }
-    requires mark { mark_fits batch.now.underlyings mark.now ≡ true }
+    requires mark { IsMarkOn batch.now.underlyings mark.now }
     ensures { result ≡ judge_mark limit batch.now.orders (fraction_of surplus.now) mark.now }
 {
     match mark {
@@ -90,38 +91,28 @@ fn judge_mark(batch: &Batch, surplus: &Frac128, mark: &Mark) -> Judgement
     }
 }
 
-/// Whether the measure is one, and its bound the surplus.
+// Whether the measure is one, and its bound the surplus.
 fn judge_measure(batch: &Batch, surplus: &Frac128, measure: &Measure) -> Judgement
     requires forms { HasItsForms batch.now }
-    requires states { states_have (batch.now.underlyings + 1) measure.now.points ≡ true }
-    ensures { result ≡ check measure_condition (has_unit_mass limit (map point_of measure.now.points)) (check bound_condition (bound_holds limit batch.now.orders (map point_of measure.now.points) (fraction_of surplus.now)) yes) }
+    requires states { All (λ point. point.state.count ≡ batch.now.underlyings + 1) measure.now.points }
+    ensures { result ≡ check measure_condition (measure_holds limit (map point_of measure.now.points)) (check bound_condition (bound_holds limit batch.now.orders (map point_of measure.now.points) (fraction_of surplus.now)) yes) }
 {
-    match is_measure(measure) {
+    match measure_holds(measure) {
         Ok(true) => judge_bound(batch, surplus, measure),
         Ok(false) => Judgement::No(No::Measure),
         Err(wide) => Judgement::Wide(wide),
     }
 }
 
-/// Whether the bound of the measure is the surplus.
+// Whether the bound of the measure is the surplus.
 fn judge_bound(batch: &Batch, surplus: &Frac128, measure: &Measure) -> Judgement
     requires forms { HasItsForms batch.now }
-    requires states { states_have (batch.now.underlyings + 1) measure.now.points ≡ true }
+    requires states { All (λ point. point.state.count ≡ batch.now.underlyings + 1) measure.now.points }
     ensures { result ≡ check bound_condition (bound_holds limit batch.now.orders (map point_of measure.now.points) (fraction_of surplus.now)) yes }
 {
-    match bound_holds(batch, surplus, measure) {
+    match bound_holds(batch, measure, surplus) {
         Ok(true) => Judgement::Yes,
         Ok(false) => Judgement::No(No::Bound),
         Err(wide) => Judgement::Wide(wide),
     }
-}
-
-/// The same, or the first step that does not fit.
-fn bound_holds(batch: &Batch, surplus: &Frac128, measure: &Measure) -> Result<bool, Wide>
-    requires forms { HasItsForms batch.now }
-    requires states { states_have (batch.now.underlyings + 1) measure.now.points ≡ true }
-    ensures { result ≡ bound_holds limit batch.now.orders (map point_of measure.now.points) (fraction_of surplus.now) }
-{
-    let bound = bound(batch, measure)?;
-    Ok(bound == *surplus)
 }

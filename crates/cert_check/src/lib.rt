@@ -1,12 +1,14 @@
 //! The verdict on a cleared batch: whether its certificate holds. Nothing here solves anything.
 #![tactic(auto)]
 
-pub mod balance;
-pub mod cover;
+mod balance;
+pub mod checks;
+mod cover;
 pub mod judging;
 pub mod laws;
 pub mod outcome;
-pub mod shape;
+mod shape;
 
+pub use checks::{bound_holds, cover_holds, measure_holds, surplus_holds};
 pub use judging::verdict;
 pub use outcome::{Claim, Cover, Fills, Judgement, Mark, No, Outcome};

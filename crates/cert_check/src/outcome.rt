@@ -14,7 +14,7 @@ pub struct Fills {
 
 impl Model for Fills {
     ghost use Rattle.std.specs.Prelude.{List};
-    ghost use Rattle.frac.specs.declared.bits128.Frac128.{Frac128};
+    ghost use Rattle.frac.specs.declared.frac128.Frac128.{Frac128};
 
     ghost Value = { List Frac128 };
 

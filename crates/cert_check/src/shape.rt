@@ -10,8 +10,8 @@ use form::{Batch, Order};
 use frac::{Frac128, whole};
 use measure::Weighted;
 
-/// Whether there are as many fills as orders, and forms, states and cover are those of the batch's underlyings.
-pub fn has_shape(batch: &Batch, outcome: &Outcome) -> bool
+// Whether there are as many fills as orders, and forms, states and cover are those of the batch's underlyings.
+pub(crate) fn has_shape(batch: &Batch, outcome: &Outcome) -> bool
     ensures { result ≡ has_shape batch.now outcome.now }
 {
     let entries = u16::from(batch.underlyings) + 1;
@@ -20,31 +20,21 @@ pub fn has_shape(batch: &Batch, outcome: &Outcome) -> bool
         && mark_fits(batch.underlyings, &outcome.mark)
 }
 
-/// Whether each form has so many entries.
+// Whether each form has so many entries.
 fn forms_have(entries: u16, orders: &[Order]) -> bool
     ensures { result ≡ forms_have entries orders.now }
 {
-    for order in orders {
-        if u16::from(order.form.count) != entries {
-            return false;
-        }
-    }
-    true
+    orders.iter().all(|order| u16::from(order.form.count) == entries)
 }
 
-/// Whether each state has so many entries.
+// Whether each state has so many entries.
 fn states_have(entries: u16, points: &[Weighted]) -> bool
     ensures { result ≡ states_have entries points.now }
 {
-    for point in points {
-        if u16::from(point.state.count) != entries {
-            return false;
-        }
-    }
-    true
+    points.iter().all(|point| u16::from(point.state.count) == entries)
 }
 
-/// Whether the cover and the states of the measure are those of so many underlyings.
+// Whether the cover and the states of the measure are those of so many underlyings.
 fn mark_fits(underlyings: u8, mark: &Mark) -> bool
     ensures { result ≡ mark_fits underlyings mark.now }
 {
@@ -57,7 +47,7 @@ fn mark_fits(underlyings: u8, mark: &Mark) -> bool
     }
 }
 
-/// Whether a line is the cover of one underlying, and a tree of several.
+// Whether a line is the cover of one underlying, and a tree of several.
 fn cover_fits(underlyings: u8, cover: &Cover) -> bool
     ensures { result ≡ cover_fits underlyings cover.now }
 {
@@ -67,8 +57,8 @@ fn cover_fits(underlyings: u8, cover: &Cover) -> bool
     }
 }
 
-/// Whether each fill is from 0 to its order's quantity.
-pub fn are_fills(orders: &[Order], fills: &[Frac128]) -> bool
+// Whether each fill is from 0 to its order's quantity.
+pub(crate) fn are_fills(orders: &[Order], fills: &[Frac128]) -> bool
     requires { length fills.now ≡ length orders.now }
     ensures { result ≡ are_fills orders.now fills.now }
 {
@@ -81,7 +71,7 @@ pub fn are_fills(orders: &[Order], fills: &[Frac128]) -> bool
     true
 }
 
-/// Whether the fill is from 0 to the order's quantity.
+// Whether the fill is from 0 to the order's quantity.
 fn is_fill(order: &Order, fill: Frac128) -> bool
     ensures { result ≡ is_fill order.now (fraction_of fill) }
 {

@@ -17,10 +17,11 @@ use Rattle.form.specs.declared.orders.Side.{Side}
 use Rattle.form.specs.declared.orders.Side.TheVariants.{Buy, Sell}
 use Rattle.form.specs.Vector.{is_same_option}
 use Rattle.form.specs.Payoff.{option_of}
-use Rattle.exact_num.specs.Steps.{and_then}
-use Rattle.line_cover.specs.Net.{add_for_side}
+use Rattle.exact_num.specs.Steps.{fold_steps, and_then}
+use Rattle.form.specs.Steps.{add_for_side}
 use Rattle.exact_num.specs.Tests.{is_same}
-use Rattle.cert_check.specs.Cover.{add_premiums, surplus_holds, add_fill, add_all_same, balances_at, balances_all, fallback_holds}
+use Rattle.cert_check.specs.Cover.{add_fill, add_same, balances_at, balances_all, fallback_holds}
+use Rattle.cert_check.specs.Tests.{add_premium, surplus_holds}
 use Rattle.clearing.proofs.Wholes.{wholes}
 
 -- a step gives a whole number of at most this size
@@ -61,7 +62,7 @@ on_side side t a p bound low quantity price fits = by_side side
     by_side Sell = rw product (add_fits t (neg_ℤ (pos a *ℤ pos p)) bound 1000000000000000000 low turned fits)
 
 premiums_fit : (orders : List Order) (amounts : List ℕ) (t : ℤ) (bound : ℕ) → unsigned_abs t ≤ bound → All (λ (order : Order). order.price ≤ MAX_PRICE) orders → All (λ amount. amount ≤ MAX_QUANTITY) amounts
-    → bound + length orders * 1000000000000000000 ≤ largest → IsWhole (add_premiums largest (whole t) (zip orders (wholes amounts))) (bound + length orders * 1000000000000000000)
+    → bound + length orders * 1000000000000000000 ≤ largest → IsWhole (fold_steps (add_premium largest) (whole t) (zip orders (wholes amounts))) (bound + length orders * 1000000000000000000)
 premiums_fit [] amounts t bound low prices small fits = record { value = t; small = omega (arith, low); is = refl }
 premiums_fit (o ∷ orders) [] t bound low prices small fits = record { value = t; small = omega (arith, low); is = refl }
 premiums_fit (o ∷ orders) (a ∷ amounts) t bound low prices small fits =
@@ -93,7 +94,7 @@ same_fits true side t a bound low quantity fits = fill_fits side t a bound low q
 same_fits false side t a bound low quantity fits = record { value = t; small = omega (arith, low); is = refl }
 
 all_same_fit : (v : List ℤ) (orders : List Order) (amounts : List ℕ) (t : ℤ) (bound : ℕ) → unsigned_abs t ≤ bound → All (λ amount. amount ≤ MAX_QUANTITY) amounts
-    → bound + length orders * MAX_QUANTITY ≤ largest → IsWhole (add_all_same largest v (whole t) (zip orders (wholes amounts))) (bound + length orders * MAX_QUANTITY)
+    → bound + length orders * MAX_QUANTITY ≤ largest → IsWhole (fold_steps (add_same largest v) (whole t) (zip orders (wholes amounts))) (bound + length orders * MAX_QUANTITY)
 all_same_fit v [] amounts t bound low small fits = record { value = t; small = omega (arith, low); is = refl }
 all_same_fit v (o ∷ orders) [] t bound low small fits = record { value = t; small = omega (arith, low); is = refl }
 all_same_fit v (o ∷ orders) (a ∷ amounts) t bound low small fits =

@@ -9,7 +9,7 @@ use Rattle.cert_check.specs.declared.outcome.No.TheVariants as no
 use Rattle.cert_check.specs.declared.outcome.Outcome.{Outcome}
 use Rattle.cert_check.specs.declared.outcome.Judgement.{Judgement}
 use Rattle.cert_check.specs.declared.outcome.Judgement.TheVariants.{Yes, No as Refused, Wide as TooWide}
-use Rattle.cert_check.specs.Events.{check, cover_holds, judge_mark, verdict_of}
+use Rattle.cert_check.specs.Events.{check, cover_condition_holds, judge_mark, verdict_of}
 use Rattle.cert_check.specs.Shape.{has_shape, are_fills}
 
 -- a condition whose steps fit is not wide, unless what comes next is
@@ -19,7 +19,7 @@ not_wide k (Ok false) next w fits more h = cc
 not_wide k (Err v) next w fits more h = fits v refl
 
 -- neither shape nor fills are wide
-pub after_fills : (batch : Batch) (outcome : Outcome) (w : Misfit) → (check no.Cover (cover_holds largest batch outcome) (judge_mark largest batch.orders (fraction_of outcome.claim.surplus) outcome.mark) ≡ TooWide w → ⊥) → verdict_of largest batch outcome ≡ TooWide w → ⊥
+pub after_fills : (batch : Batch) (outcome : Outcome) (w : Misfit) → (check no.Cover (cover_condition_holds largest batch outcome) (judge_mark largest batch.orders (fraction_of outcome.claim.surplus) outcome.mark) ≡ TooWide w → ⊥) → verdict_of largest batch outcome ≡ TooWide w → ⊥
 after_fills batch outcome w cover h =
     not_wide no.BatchShape (Ok (has_shape batch outcome)) _ w (λ v e. cc)
     (λ shape. not_wide no.Fill (Ok (are_fills batch.orders outcome.fills)) _ w (λ v e. cc) (λ fills. cover)) h

@@ -1,11 +1,9 @@
 pub mod Surplus
 pub mod Values
-pub mod Proved
+pub mod OutcomeEnds
 pub mod Wholes
 pub mod Outcomes
 pub mod Judged
 pub mod Fitting
 pub mod Yes
-pub mod RunSizes
-pub mod RunValues
-pub mod Marked
+pub mod Marks

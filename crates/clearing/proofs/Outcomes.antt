@@ -42,7 +42,7 @@ use Rattle.master_program.proofs.Verdict.{line_readings_are_not_refused}
 use Rattle.rounds.proofs.Cleared.{cleared_is_greatest}
 use Rattle.rounds.specs.Run.{joint_run}
 use Rattle.table_run.specs.Ending.{Ending, done, wide_at, no_unit_left, unbounded}
-use Rattle.clearing.specs.Outcome.{weighted_of, measure_of, proved, fallback, is_value, are_values, has_values, outcome_at, outcome_of}
+use Rattle.clearing.specs.Outcome.{weighted_of, measure_of, optimal_outcome, fallback, is_value, are_values, has_values, outcome_at, outcome_of}
 use Rattle.clearing.specs.Laws.{IsOnOne, OutcomesMeetAll, OutcomesAreWithin, OutcomesAreCovered, OutcomesAreMeasured, OptimalIsGreatest}
 use Rattle.clearing.proofs.Surplus.{premium_small}
 use Rattle.clearing.proofs.Values.{fraction_is, fractions_are}
@@ -140,8 +140,8 @@ points_are (p ∷ points) states test =
     let state = vector_is 1 p.0 (omega arith) (omega arith) (All-head P p points states) in
     ap₂ (λ (x : Point) (xs : List Point). x ∷ xs) (ap₂ (λ (z : List ℕ) (w : Fraction). (z, w)) state (fraction_is p.1 parts.0)) (points_are points (All-tail P p points states) parts.1)
 
-pub claims_the_reading : (orders : List Order) (r : Reading) (units : ℕ) → IsGreatestByLine orders r → has_values r ≡ true → IsOutcomeOf r (proved r units) Line (measure_of r.measure)
-unfolding proved
+pub claims_the_reading : (orders : List Order) (r : Reading) (units : ℕ) → IsGreatestByLine orders r → has_values r ≡ true → IsOutcomeOf r (optimal_outcome r units) Line (measure_of r.measure)
+unfolding optimal_outcome
 claims_the_reading orders r units greatest test =
     let parts = and_parts (is_value r.liability && is_value r.surplus) (are_values r.fills && are_values (map fraction_weight r.measure)) test in
     let claim = and_parts (is_value r.liability) (is_value r.surplus) parts.0 in
@@ -154,9 +154,9 @@ claims_the_reading orders r units greatest test =
       points = points_are r.measure greatest.by_measure.measure.states lists.1;
     }
 
-pub proved_is_not_refused : (batch : Batch) (r : Reading) (units : ℕ) → IsOnOne batch → IsGreatestByLine batch.orders r → has_values r ≡ true → IsNotRefused batch (proved r units)
-proved_is_not_refused batch r units on greatest test =
-    line_readings_are_not_refused batch (proved r units) (measure_of r.measure) r on.1 (are_on batch on.0) greatest (claims_the_reading batch.orders r units greatest test)
+pub optimal_outcome-not_refused : (batch : Batch) (r : Reading) (units : ℕ) → IsOnOne batch → IsGreatestByLine batch.orders r → has_values r ≡ true → IsNotRefused batch (optimal_outcome r units)
+optimal_outcome-not_refused batch r units on greatest test =
+    line_readings_are_not_refused batch (optimal_outcome r units) (measure_of r.measure) r on.1 (are_on batch on.0) greatest (claims_the_reading batch.orders r units greatest test)
 
 -- ---- each outcome
 abbrev MeetsAll : Batch → Outcome → Type 0
@@ -165,8 +165,8 @@ MeetsAll batch outcome = All (Meets batch outcome) conditions
 all_met : (batch : Batch) (outcome : Outcome) → ((condition : No) → Meets batch outcome condition) → MeetsAll batch outcome
 all_met batch outcome each k d lt = each (get_or conditions k d)
 
-at_cleared : (batch : Batch) (units spent : ℕ) (r : Reading) (test : Bool) → has_values r ≡ test → IsOnOne batch → IsGreatestByLine batch.orders r → MeetsAll batch (if test then proved r spent else fallback batch.orders Budget units)
-at_cleared batch units spent r true is on greatest = (proved_is_not_refused batch r spent on greatest is).meets
+at_cleared : (batch : Batch) (units spent : ℕ) (r : Reading) (test : Bool) → has_values r ≡ test → IsOnOne batch → IsGreatestByLine batch.orders r → MeetsAll batch (if test then optimal_outcome r spent else fallback batch.orders Budget units)
+at_cleared batch units spent r true is on greatest = (optimal_outcome-not_refused batch r spent on greatest is).meets
 at_cleared batch units spent r false is on greatest = all_met batch _ (budget_meets batch units on.0)
 
 at_end : (batch : Batch) (units : ℕ) (end : Ending Reading) → IsOnOne batch → joint_run largest largest units 0 batch.orders ≡ end → MeetsAll batch (outcome_at batch.orders units end)

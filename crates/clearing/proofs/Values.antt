@@ -2,7 +2,7 @@
 use Rattle.std.proofs.Common.{◌≡◌, refl, Bool, true, false, List, [], ◌∷◌, map, ap, ap₂, sym, ◌∙◌}
 use Rattle.std.proofs.lemmas.Bool.{and_parts, lt-ltb}
 use Rattle.exact_num.specs.Fraction.{Fraction}
-use Rattle.frac.specs.declared.bits128.Frac128.{Frac128}
+use Rattle.frac.specs.declared.frac128.Frac128.{Frac128}
 use Rattle.frac.specs.Value.{fraction_of}
 use Rattle.frac.specs.ValueOf.{value_of, made_or_zero}
 use Rattle.frac.proofs.ValueOf.{value-fraction_of}

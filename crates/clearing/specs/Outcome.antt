@@ -1,7 +1,7 @@
 -- The outcome of a batch: what the reference run clears, or where it stops, the match of each option by itself.
 use Rattle.std.specs.Prelude.{ℕ, ◌≡◌, List, [], ◌∷◌, map, pos, Bool, true, ◌&&◌, if◌then◌else◌}
 use Rattle.exact_num.specs.Fraction.{Fraction, whole}
-use Rattle.frac.specs.declared.bits128.Frac128.{Frac128}
+use Rattle.frac.specs.declared.frac128.Frac128.{Frac128}
 use Rattle.frac.specs.Range.{limit as largest}
 use Rattle.frac.specs.Value.{fraction_of}
 use Rattle.frac.specs.ValueOf.{value_of, has_128_bits}
@@ -32,8 +32,8 @@ abbrev pub measure_of : List Point → Measure
 measure_of points = record { points = map weighted_of points }
 
 -- what a run clears, covered by the line, with the measure that proves it
-unfoldable pub proved : Reading → ℕ → Outcome
-proved r units =
+unfoldable pub optimal_outcome : Reading → ℕ → Outcome
+optimal_outcome r units =
     record {
       fills = map value_of r.fills;
       claim = record { liability = value_of r.liability; surplus = value_of r.surplus };
@@ -70,7 +70,7 @@ has_values r =
 -- the outcome at the end of a run with a limit on its units. An end without an optimum, and a reading whose numbers are not
 -- all numbers of the code, have the match too: no answer of a clear comes from them
 abbrev pub outcome_at : List Order → ℕ → Ending Reading → Outcome
-outcome_at orders units (done r spent) = if has_values r then proved r spent else fallback orders Budget units
+outcome_at orders units (done r spent) = if has_values r then optimal_outcome r spent else fallback orders Budget units
 outcome_at orders units (wide_at spent wide) = fallback orders (Wide wide) spent
 outcome_at orders units (no_unit_left spent) = fallback orders Budget units
 outcome_at orders units (unbounded d spent) = fallback orders Budget units
@@ -80,16 +80,16 @@ unfoldable pub outcome_of : Batch → ℕ → Outcome
 outcome_of batch units = outcome_at batch.orders units (joint_run largest largest units 0 batch.orders)
 
 -- what an outcome with this measure claims, as fractions
-abbrev pub claimed : Outcome → Measure → Reading
-claimed outcome measure =
+abbrev pub claim_of : Outcome → Measure → Reading
+claim_of outcome measure =
     reading_with (map fraction_of outcome.fills) (fraction_of outcome.claim.surplus) (map point_of measure.points) (fraction_of outcome.claim.liability)
 
 -- the mark of an outcome and its units are those of the end of the run: what was cleared, the step that did not fit, or a unit
 -- wanted beyond the limit
-abbrev pub ends_as : Ending Reading → ℕ → Outcome → Mark → Type 0
-ends_as end units outcome (Optimal cover measure) = end ≡ done (claimed outcome measure) outcome.units
-ends_as end units outcome (Wide wide) = end ≡ wide_at outcome.units wide
-ends_as end units outcome Budget = ((spent : ℕ) × (end ≡ no_unit_left spent)) × (outcome.units ≡ units)
+abbrev pub EndsAs : Ending Reading → ℕ → Outcome → Mark → Type 0
+EndsAs end units outcome (Optimal cover measure) = end ≡ done (claim_of outcome measure) outcome.units
+EndsAs end units outcome (Wide wide) = end ≡ wide_at outcome.units wide
+EndsAs end units outcome Budget = ((spent : ℕ) × (end ≡ no_unit_left spent)) × (outcome.units ≡ units)
 
 abbrev pub IsMarked : Batch → ℕ → Outcome → Type 0
-IsMarked batch units outcome = ends_as (joint_run largest largest units 0 batch.orders) units outcome outcome.mark
+IsMarked batch units outcome = EndsAs (joint_run largest largest units 0 batch.orders) units outcome outcome.mark

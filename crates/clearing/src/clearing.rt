@@ -9,7 +9,7 @@ ghost use Rattle.cert_check.specs.Conditions.{IfOptimal};
 ghost use Rattle.cert_check.specs.Events.{verdict_of};
 ghost use Rattle.cert_check.specs.Laws.{IsCovered, IsMeasured, IsProved};
 ghost use Rattle.rounds.specs.Answers.{reading_in};
-ghost use Rattle.clearing.specs.Outcome.{IsMarked, outcome_of, proved};
+ghost use Rattle.clearing.specs.Outcome.{IsMarked, optimal_outcome, outcome_of};
 
 use crate::fallback::fallback;
 use cert_check::{Claim, Cover, Fills, Mark, Outcome};
@@ -20,8 +20,8 @@ use simplex::{Budget, Stop};
 use std::alloc::{AllocError, Global};
 
 /// What a solve found on one underlying, as the outcome that it proves.
-fn proved(joint: Joint<Frac128>, units: u32) -> Outcome
-    ensures { result ≡ proved (reading_in fraction_of joint) units }
+fn optimal_outcome(joint: Joint<Frac128>, units: u32) -> Outcome
+    ensures { result ≡ optimal_outcome (reading_in fraction_of joint) units }
 {
     let Joint {
         fills,
@@ -49,7 +49,7 @@ fn outcome(alloc: Global, batch: &Batch, limit: u32) -> Result<Outcome, AllocErr
 {
     let mut budget = Budget::new(limit);
     match solve_joint::<Frac128>(alloc, batch, &mut budget) {
-        Ok(joint) => Ok(proved(joint, budget.spent)),
+        Ok(joint) => Ok(optimal_outcome(joint, budget.spent)),
         Err(Stop::Wide { unit, wide }) => fallback(alloc, batch, Mark::Wide(wide), unit),
         Err(Stop::Budget) => fallback(alloc, batch, Mark::Budget, limit),
         Err(Stop::Memory) => Err(AllocError),

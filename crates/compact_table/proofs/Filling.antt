@@ -3,7 +3,7 @@ use Rattle.std.proofs.Common.{◌≡◌, ℕ, zero, suc, ◌+◌, ◌-◌, ◌<�
 use Rattle.std.proofs.lemmas.List.{drop_all, take_all, length-map, append-nil}
 use Rattle.std.specs.Prelude.{slice_index_or}
 use Rattle.exact_num.specs.Fraction.{Fraction, negated}
-use Rattle.compact_run.specs.Compact.{numbers}
+use Rattle.table_run.specs.Places.{numbers}
 use Rattle.compact_table.proofs.EntrySteps.{front_of, done_more, left_less}
 
 -- ---- the numbers from i on, of which `left` are left

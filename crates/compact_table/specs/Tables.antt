@@ -3,10 +3,10 @@ use Rattle.std.specs.Prelude.{◌≡◌, ℕ, ◌+◌, List, [], ◌∷◌, ◌+
 use Rattle.std.specs.List.{All}
 use Rattle.exact_num.specs.declared.misfit.Wide.{Wide}
 use Rattle.exact_num.specs.Fraction.{Fraction, whole, negated}
-use Rattle.table_run.specs.Places.{at, fraction_zero}
+use Rattle.table_run.specs.Places.{at, fraction_zero, numbers}
 use Rattle.table_run.specs.Program.{LinearProgram}
 use Rattle.table_run.specs.Table.{where_basic}
-use Rattle.compact_run.specs.Compact.{CompactTable, variable_at, numbers}
+use Rattle.compact_run.specs.Compact.{CompactTable, variable_at}
 use Rattle.compact_run.specs.Turn.{CompactTurn, moved_on, without_limit, stopped_by}
 use Rattle.compact_table.specs.declared.table.Table.{Table}
 use Rattle.compact_table.specs.Lists.{fronts}

@@ -1,7 +1,7 @@
 //! Vectors that have room, written in place.
 ghost use Rattle.std.specs.Prelude.{◌≡◌, ◌+◌, ◌<◌, ◌≤◌, ◌++◌, ◌∷◌, [], length, map, take, vec_capacity, vec_len};
 ghost use Rattle.exact_num.specs.Fraction.{negated};
-ghost use Rattle.compact_run.specs.Compact.{numbers as numbers_from};
+ghost use Rattle.table_run.specs.Places.{numbers as numbers_from};
 
 use exact_num::Exact;
 

@@ -1,10 +1,11 @@
-mod Examples
+pub mod Balances
+pub mod Bundles
+pub mod Fills
+pub mod Gains
+pub mod InLine
 pub mod MatchLaws
-pub mod Matched
-pub mod Places
-pub mod Prices
-pub mod Separated
-pub mod Sides
-pub mod Sorting
-pub mod Sums
-pub mod Trades
+pub mod Options
+pub mod Parted
+pub mod Turns
+pub mod Waiting
+pub mod WorkedBatches

@@ -1,54 +1,52 @@
 -- The laws of the match.
-use Rattle.std.proofs.Common.{◌≡◌, ℕ, ◌*◌, ◌≤◌, List, [], ◌∷◌, get_or, ℤ, pos, ◌≤ℤ◌, All, sym, subst, ◌∙◌, arith}
+use Rattle.std.proofs.Common.{ℕ, ◌*◌, ◌≤◌, List, [], ◌∷◌, pos, ◌*ℤ◌, ◌≤ℤ◌, All, subst, arith}
 use Rattle.std.specs.List.{zip}
 use Rattle.std.proofs.lemmas.List.Elements.{All-cons}
 use Rattle.std.proofs.lemmas.Int.{ints}
 use Rattle.arithmetic.proofs.Products.{products}
 use Rattle.arithmetic.proofs.Sums.{All-head, All-tail}
 use Rattle.form.specs.declared.orders.Order.{Order}
-use Rattle.form.specs.Vector.{is_same_bundle}
-use Rattle.clearing_model.specs.Balance.{one_if}
-use Rattle.clearing_model.specs.Clearing.{Filled, AreFills, buys_less_sells}
-use Rattle.form.specs.Payoff.{BundleLeg, bundle_of, bundle_payoff}
-use Rattle.market_laws.proofs.Legs.{signed_sums_agree}
+use Rattle.clearing_model.specs.Clearing.{Filled, AreFills, premium}
+use Rattle.form.specs.Payoff.{bundle_of}
+use Rattle.market_laws.proofs.Balance.{balanced_owes_nothing}
+use Rattle.each_match.specs.Laws.{matched, IsFilledAt, MatchIsWithin, MatchOwesNothing, MatchEarns, MatchCovers, MatchHasPrices, MatchIsTheBest}
 use Rattle.each_match.specs.Match.{match_by_option}
-use Rattle.each_match.specs.Laws.{matched, MatchIsWithin, MatchIsBalanced, MatchOwesNothing, MatchEarns, MatchCovers}
-use Rattle.each_match.proofs.Matched.{IsWithin, IsWithin-length, by_bundle, matched_by_option}
-use Rattle.each_match.proofs.Sums.{total}
-
-pub total_is : (f : Order → ℤ) (orders : List Order) (fills : List ℕ) → total f orders fills ≡ buys_less_sells f (zip orders fills)
-total_is f orders fills = signed_sums_agree f (zip orders fills)
-
-each_within : (orders : List Order) (fills : List ℕ) → IsWithin orders fills → All (λ (fill : Filled). fill.1 ≤ fill.0.quantity * 1) (zip orders fills)
-unfolding IsWithin
-each_within [] fills h = λ k d lt. absurd (omega arith)
-each_within (o ∷ orders) [] h = absurd h
-each_within (o ∷ orders) (g ∷ fills) h = All-cons (λ (fill : Filled). fill.1 ≤ fill.0.quantity * 1) (o, g) (zip orders fills) (omega (arith, h.0)) (each_within orders fills h.1)
+pub use Rattle.each_match.proofs.Balances.{match_is_balanced}
+use Rattle.each_match.proofs.Fills.{price_of, order_is_filled, length-fills_from, All-matched}
+use Rattle.each_match.proofs.Gains.{total, above_price, sum_is_most, sum_is_gain, earned}
 
 pub match_is_within : MatchIsWithin
-match_is_within orders =
-    let within = (matched_by_option orders).within in
-    (omega arith, IsWithin-length orders (match_by_option orders) within, each_within orders (match_by_option orders) within)
-
-pub match_is_balanced : MatchIsBalanced
-match_is_balanced orders k d lt =
-    let bundle = bundle_of (get_or (matched orders) k d).0 in
-    let f : List BundleLeg → ℤ = λ b. one_if (is_same_bundle b bundle) in
-    sym (total_is (by_bundle f) orders (match_by_option orders)) ∙ (matched_by_option orders).balanced f
+match_is_within orders = (
+  omega arith,
+  length-fills_from orders 0 orders,
+  All-matched (λ (fill : Filled). fill.1 ≤ fill.0.quantity * 1) orders (λ k o at. omega (arith, (order_is_filled orders k o at).0)),
+)
 
 pub match_owes_nothing : MatchOwesNothing
-match_owes_nothing orders z =
-    let f : List BundleLeg → ℤ = λ b. bundle_payoff b z in
-    sym (total_is (by_bundle f) orders (match_by_option orders)) ∙ (matched_by_option orders).balanced f
+match_owes_nothing orders z = balanced_owes_nothing (matched orders) (match_is_balanced orders) z
+
+pub match_has_prices : MatchHasPrices
+match_has_prices orders = (price_of orders, All-matched (λ (fill : Filled). IsFilledAt (price_of orders (bundle_of fill.0)) fill) orders (λ k o at. (order_is_filled orders k o at).1))
 
 pub match_earns : MatchEarns
-match_earns orders = subst (λ z. pos 0 ≤ℤ z) (total_is (λ o. pos o.price) orders (match_by_option orders)) (matched_by_option orders).earns
+match_earns orders =
+    let parted = match_has_prices orders in
+    let fills = match_by_option orders in
+    subst (λ w. pos 0 ≤ℤ w) (earned parted.0 orders fills (match_is_balanced orders)) (sum_is_gain parted.0 orders fills (match_is_within orders).1 parted.1)
 
 pub match_covers : MatchCovers
 match_covers n orders t s some size =
     let owed = match_owes_nothing orders (t ∷ s) in
     let m = matched orders in
     omega (arith, ints, products, owed)
+
+pub match_is_the_best : MatchIsTheBest
+match_is_the_best orders g F fills balanced =
+    let parted = match_has_prices orders in
+    let m = match_by_option orders in
+    let most = sum_is_most parted.0 orders m g F (match_is_within orders).1 parted.1 fills.1 fills.2 in
+    subst (λ w. premium (zip orders g) ≤ℤ (w *ℤ pos F)) (earned parted.0 orders m (match_is_balanced orders))
+    (subst (λ w. w ≤ℤ (total (above_price parted.0) orders m *ℤ pos F)) (earned parted.0 orders g balanced) most)
 
 -- fills of orders whose quantities are at most a limit are at most that limit
 pub fills_small : (limit : ℕ) (orders : List Order) (fills : List ℕ) → AreFills orders fills 1 → All (λ (order : Order). order.quantity ≤ limit) orders → All (λ fill. fill ≤ limit) fills

@@ -1,19 +1,36 @@
 -- What the match of each option by itself implies.
-use Rattle.std.specs.Prelude.{ℕ, ◌≡◌, ◌<◌, ◌≤◌, List, pos, ◌*ℤ◌, ◌≤ℤ◌}
-use Rattle.std.specs.List.{zip, All}
+use Rattle.std.specs.Prelude.{ℕ, ◌≡◌, ◌<◌, List, [], Some, pos, ◌*ℤ◌, ◌≤ℤ◌}
+use Rattle.std.specs.List.{zip, All, slice_get}
+use Rattle.std.specs.Option.{option_map_or}
 use Rattle.exact_num.specs.Fraction.{whole}
-use Rattle.form.specs.declared.limits.TheConstants.{MAX_PRICE}
 use Rattle.form.specs.declared.orders.Order.{Order}
 use Rattle.form.specs.declared.orders.Side.{Side}
 use Rattle.form.specs.declared.orders.Side.TheVariants.{Buy, Sell}
 use Rattle.clearing_model.specs.Balance.{AreBalanced}
 use Rattle.clearing_model.specs.Clearing.{Filled, AreFills, net, premium, Covers}
 use Rattle.form.specs.Payoff.{BundleLeg, bundle_of}
-use Rattle.each_match.specs.Match.{match_by_option}
+use Rattle.each_match.specs.declared.queues.Offer.{Offer}
+use Rattle.each_match.specs.Auction.{next_trade, trade_then, auction}
+use Rattle.each_match.specs.Match.{fill_of, match_by_option}
 
 -- the orders with their matched fills
 abbrev pub matched : List Order → List Filled
 matched orders = zip orders (match_by_option orders)
+
+-- an auction makes its next trade and goes on with what that leaves of the queues, and ends where there is none
+abbrev pub AuctionGoesOn : Type 0
+AuctionGoesOn =
+    (buys sells : List Offer)
+    → auction buys sells ≡ option_map_or (trade_then auction buys sells) (next_trade buys sells) []
+
+-- each order is filled, order by order, by the auction of the two queues of its own option
+abbrev pub AreFilledByAuction : List Order → List ℕ → Type 0
+AreFilledByAuction orders fills =
+    (place : ℕ) (order : Order)
+    → slice_get orders place ≡ Some order → slice_get fills place ≡ Some (fill_of orders place order)
+
+abbrev pub MatchIsTheAuction : Type 0
+MatchIsTheAuction = (orders : List Order) → AreFilledByAuction orders (match_by_option orders)
 
 -- no order is filled past its quantity
 abbrev pub MatchIsWithin : Type 0
@@ -24,8 +41,11 @@ abbrev pub MatchIsBalanced : Type 0
 MatchIsBalanced = (orders : List Order) → AreBalanced (matched orders)
 
 -- so nothing is owed at any state
+abbrev pub OwesNothing : List Filled → Type 0
+OwesNothing fills = (z : List ℕ) → net fills z ≡ pos 0
+
 abbrev pub MatchOwesNothing : Type 0
-MatchOwesNothing = (orders : List Order) (z : List ℕ) → net (matched orders) z ≡ pos 0
+MatchOwesNothing = (orders : List Order) → OwesNothing (matched orders)
 
 -- buyers pay no less than sellers get
 abbrev pub MatchEarns : Type 0
@@ -33,11 +53,8 @@ MatchEarns = (orders : List Order) → pos 0 ≤ℤ premium (matched orders)
 
 -- the match covers its premium at every settlement
 abbrev pub MatchCovers : Type 0
-MatchCovers = (n : ℕ) (orders : List Order) → Covers n (matched orders) 1 (whole (premium (matched orders)))
-
--- no limit of an order is past the greatest price, so that buys rank by falling price
-abbrev pub ArePricesWithin : List Order → Type 0
-ArePricesWithin orders = All (λ (order : Order). order.price ≤ MAX_PRICE) orders
+MatchCovers =
+    (n : ℕ) (orders : List Order) → Covers n (matched orders) 1 (whole (premium (matched orders)))
 
 -- a limit is better than a price: a buyer would pay more, a seller would take less
 abbrev pub IsBetter : Side → ℕ → ℕ → Type 0
@@ -53,8 +70,9 @@ IsFilledAt price fill =
 -- one price for each option parts its orders
 abbrev pub MatchHasPrices : Type 0
 MatchHasPrices =
-    (orders : List Order) → ArePricesWithin orders
-    → (price : List BundleLeg → ℕ) × All (λ (fill : Filled). IsFilledAt (price (bundle_of fill.0)) fill) (matched orders)
+    (orders : List Order)
+    → (price : List BundleLeg → ℕ)
+    × All (λ (fill : Filled). IsFilledAt (price (bundle_of fill.0)) fill) (matched orders)
 
 -- no fills g over F of the orders that sell of each option just what they buy of it earn more than the fills m
 abbrev pub IsBestBalanced : List Order → List ℕ → Type 0
@@ -64,4 +82,4 @@ IsBestBalanced orders m =
 
 -- so the match is the best of the fills that balance each option
 abbrev pub MatchIsTheBest : Type 0
-MatchIsTheBest = (orders : List Order) → ArePricesWithin orders → IsBestBalanced orders (match_by_option orders)
+MatchIsTheBest = (orders : List Order) → IsBestBalanced orders (match_by_option orders)

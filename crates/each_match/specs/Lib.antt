@@ -1,3 +1,6 @@
+pub mod Auction
 pub mod Laws
 pub mod Match
-pub mod Offers
+pub mod Queue
+pub mod Trades
+pub mod Worked

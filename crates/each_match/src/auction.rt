@@ -1,149 +1,88 @@
-// The double auction.
-ghost use Rattle.std.specs.Prelude.{◌≡◌, ◌+◌, ◌^◌, ◌<◌, ◌≤ℤ◌, ℕ, List, pos, length, IfOk};
-ghost use Rattle.std.specs.List.{All, zip};
-ghost use Rattle.clearing_model.specs.Balance.{AreBalanced};
-ghost use Rattle.clearing_model.specs.Clearing.{AreFills, net, premium};
-ghost use Rattle.each_match.specs.Laws.{ArePricesWithin, IsBestBalanced};
-ghost use Rattle.each_match.specs.Offers.{Offer};
-ghost use Rattle.each_match.specs.Match.{crosses, traded, after_trade, after_buy, match_by_option};
+// The double auction of two queues.
+ghost use Rattle.std.specs.Prelude.{◌≡◌, ◌++◌, ◌≤◌, ◌<◌, ◌^◌, OnOk};
+ghost use Rattle.each_match.specs.Auction.{next_trade, fill_first, auction, amount_at, filled};
 
-use crate::offers::by_rank;
-use form::{Batch, Order, Side};
-use std::alloc::{AllocError, Global};
+use crate::queues::Offer;
+use form::Side;
+use std::alloc::AllocError;
+use std::collections::VecDeque;
 
-// Whether a buy and a sell are of one option, the buy's price above the sell's.
-#[tactic(auto, using(form::proofs::SameOption::forms_equal))]
-fn do_cross(buy: &Order, sell: &Order) -> bool
-    ensures { result ≡ crosses buy.now sell.now }
-{
-    buy.form == sell.form && sell.price < buy.price
+// What the orders at two places trade.
+#[derive(Clone, Copy, Debug)]
+pub(crate) struct Trade {
+    pub buy: usize,
+    pub sell: usize,
+    pub amount: u64,
 }
 
-// What a buy and a sell trade, where so much of each is filled already.
-fn amount(buy: &Order, sell: &Order, bought: u64, sold: u64) -> u64
-    ensures amount { result ≡ traded buy.now sell.now bought sold }
-    ensures buy_fits { bought + result < 2 ^ 64 }
-    ensures sell_fits { sold + result < 2 ^ 64 }
+// The next trade of two queues: the smaller of the two quantities left, while the first buy's price
+// is above the first sell's.
+fn next_trade(buys: &VecDeque<Offer>, sells: &VecDeque<Offer>) -> Option<Trade>
+    ensures { result ≡ next_trade buys.now.items sells.now.items }
 {
-    if do_cross(buy, sell) {
-        let wanted = u64::from(buy.quantity).saturating_sub(bought);
-        wanted.min(u64::from(sell.quantity).saturating_sub(sold))
+    let buy = buys.front()?;
+    let sell = sells.front()?;
+    if sell.price < buy.price {
+        Some(Trade {
+            buy: buy.place,
+            sell: sell.place,
+            amount: buy.left.min(sell.left),
+        })
     } else {
-        0
+        None
     }
 }
 
-// Lets the orders at two places trade.
-fn trade(orders: &[Order], buy: usize, fills: &mut [u64], sell: usize)
-    requires fills { length fills.old ≡ length orders.now }
-    requires buy { buy < length orders.now }
-    requires sell { sell < length orders.now }
-    ensures { fills.new ≡ after_trade orders.now buy fills.old sell }
+// Fills the first order of a queue by an amount. It leaves the queue when nothing is left of it.
+fn fill_first(queue: &mut VecDeque<Offer>, amount: u64)
+    ensures { queue.new.items ≡ fill_first amount queue.old.items }
 {
-    let bought = fills[buy];
-    let sold = fills[sell];
-    let amount = amount(&orders[buy], &orders[sell], bought, sold);
-    fills[buy] = bought + amount;
-    fills[sell] = sold + amount;
-}
-
-// Lets a buy trade with the sells, one after another.
-fn trade_all(orders: &[Order], buy: &(u64, usize), fills: &mut [u64], sells: &[(u64, usize)])
-    requires fills { length fills.old ≡ length orders.now }
-    requires buy { buy.now.1 < length orders.now }
-    requires sells { All (λ (offer : Offer). offer.1 < length orders.now) sells.now }
-    ensures { fills.new ≡ after_buy orders.now sells.now fills.old buy.now }
-{
-    for sell in sells {
-        trade(orders, buy.1, fills, sell.1);
-    }
-}
-
-// The fills of the match, in the order of the batch.
-fn matched(alloc: Global, orders: &[Order]) -> Result<Vec<u64>, AllocError>
-    ensures { IfOk result (λ fills. fills.items ≡ match_by_option orders.now) }
-{
-    let buys = by_rank(alloc, orders, Side::Buy)?;
-    let sells = by_rank(alloc, orders, Side::Sell)?;
-    let mut fills = vec![in alloc; 0u64; orders.len()]?;
-    for buy in &buys {
-        trade_all(orders, buy, &mut fills, &sells);
-    }
-    Ok(fills)
-}
-
-/// Matches the orders of each option by themselves, as a double auction: the best buy trades with the best sell while
-/// its limit price is above the sell's. At one price the earlier order comes first.
-///
-/// Answers the whole fills in the order of the batch. Of each option as much is bought as sold, so the fills owe
-/// nothing at any settlement. Where no limit price is above `MAX_PRICE`, as in a batch within the limits, no other
-/// fills that balance each option by itself, fractions included, have a greater premium (in ticks, what buyers pay
-/// less what sellers get).
-pub fn match_each(alloc: Global, batch: &Batch) -> Result<Vec<u64>, AllocError>
-    ensures fills { IfOk result (λ fills. fills.items ≡ match_by_option batch.now.orders) }
-    ensures within { IfOk result (λ fills. AreFills batch.now.orders fills.items 1) }
-    ensures balanced { IfOk result (λ fills. AreBalanced (zip batch.now.orders fills.items)) }
-    ensures owes_nothing { IfOk result (λ fills. (z : List ℕ) → net (zip batch.now.orders fills.items) z ≡ pos 0) }
-    ensures earns { IfOk result (λ fills. pos 0 ≤ℤ premium (zip batch.now.orders fills.items)) }
-    ensures best { ArePricesWithin batch.now.orders → IfOk result (λ fills. IsBestBalanced batch.now.orders fills.items) }
-{
-    matched(alloc, batch.orders.as_slice())
-}
-
-#[cfg(test)]
-mod tests {
-    use super::*;
-    use form::{Orders, call, put};
-    use std::test::Fail;
-
-    // The worked batch of the fallback, and one where options and places decide.
-    #[test]
-    fn batches_are_matched_option_by_option(rt: HostRuntime) -> Result<(), Fail> {
-        let alloc = rt.alloc();
-        let ten = call(10, &[1]);
-        let five = call(5, &[1]);
-        // The put with strike -10 on -1 of the underlying is the call with strike 10 on 1.
-        let same = put(-10, &[-1]);
-        let buy = Side::Buy;
-        let sell = Side::Sell;
-        let fallback = [
-            (buy, ten, 7, 3, 3),
-            (buy, ten, 6, 2, 0),
-            (sell, ten, 5, 2, 2),
-            (sell, same, 6, 2, 1),
-        ];
-        let ties = [
-            (sell, five, 1, 1, 0),
-            (buy, ten, 6, 2, 0),
-            (buy, ten, 7, 1, 1),
-            (buy, ten, 7, 1, 1),
-            (sell, ten, 6, 1, 0),
-            (sell, ten, 5, 2, 2),
-        ];
-        for rows in [fallback.as_slice(), ties.as_slice()] {
-            let mut orders = Vec::new(alloc);
-            for (place, row) in rows.iter().enumerate() {
-                let (side, form, price, quantity, _) = *row;
-                let id = place as u64;
-                orders.push(Order {
-                    id,
-                    account: 1,
-                    side,
-                    form,
-                    price,
-                    quantity,
-                })?;
-            }
-            let batch = Batch {
-                underlyings: 1,
-                orders: Orders::from_vec(orders),
-            };
-            let fills = match_each(alloc, &batch)?;
-            for (fill, row) in fills.iter().zip(rows) {
-                assert_eq!(rt; *fill, row.4);
-            }
-            assert_eq!(rt; fills.len(), rows.len());
+    if let Some(first) = queue.front_mut() {
+        if first.left == amount {
+            queue.pop_front();
+        } else {
+            first.left = first.left.saturating_sub(amount);
         }
-        Ok(())
     }
+}
+
+// Adds the trades of two queues.
+#[tactic(auto, using(crate::proofs::Turns::shorter_with))]
+pub(crate) fn auction(
+    mut buys: VecDeque<Offer>,
+    mut sells: VecDeque<Offer>,
+    trades: &mut Vec<Trade>,
+) -> Result<(), AllocError>
+    ensures { OnOk result (trades.new.items ≡ trades.old.items ++ auction buys.items sells.items) }
+{
+    while let Some(trade) = next_trade(&buys, &sells) {
+        fill_first(&mut buys, trade.amount);
+        fill_first(&mut sells, trade.amount);
+        trades.push(trade)?;
+    }
+    Ok(())
+}
+
+// What a trade fills of the order on a side at a place.
+fn amount_at(trade: &Trade, side: Side, place: usize) -> u64
+    ensures { result ≡ amount_at side place trade.now }
+{
+    let filled = match side {
+        Side::Buy => trade.buy,
+        Side::Sell => trade.sell,
+    };
+    if filled == place { trade.amount } else { 0 }
+}
+
+// What trades fill of it.
+#[tactic(auto, using(std::proofs::lemmas::List::Sums::sum_by_more_le))]
+pub(crate) fn filled(trades: &[Trade], side: Side, place: usize) -> u64
+    requires { filled side place trades.now < 2 ^ 64 }
+    ensures { result ≡ filled side place trades.now }
+{
+    let mut filled = 0;
+    for trade in trades {
+        filled += amount_at(trade, side, place);
+    }
+    filled
 }

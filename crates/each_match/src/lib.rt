@@ -3,6 +3,7 @@
 
 mod auction;
 pub mod laws;
-mod offers;
+mod matches;
+mod queues;
 
-pub use auction::match_each;
+pub use matches::match_each;

@@ -19,7 +19,7 @@ use Rattle.exact_num.proofs.Units as unit
 use Rattle.exact_num.proofs.Answered.{answer_is}
 
 -- ---- sums
-sum_within : (limit : ℕ) (x y : Fraction) → sum_fits limit x y ≡ true → IsWithin limit (sum_value x y)
+pub sum_within : (limit : ℕ) (x y : Fraction) → sum_fits limit x y ≡ true → IsWithin limit (sum_value x y)
 unfolding sum_fits sum_value
 sum_within limit x y h =
     let outer = and_parts (size_fits limit (sum_left x y) && size_fits limit (sum_right x y) && size_fits limit (sum_total x y)) (nat_le (sum_below x y) limit) h in
@@ -41,7 +41,7 @@ pub differences_are_exact : DifferencesAreExact
 differences_are_exact limit x y s p q h = sums_are_exact limit x (negated y) s p (negated_is_lowest y q) h
 
 -- ---- products
-product_within : (limit : ℕ) (x y : Fraction) → product_fits limit x y ≡ true → IsWithin limit (product_value x y)
+pub product_within : (limit : ℕ) (x y : Fraction) → product_fits limit x y ≡ true → IsWithin limit (product_value x y)
 unfolding product_fits product_value
 product_within limit x y h =
     let parts = and_parts (size_fits limit (product_above x y)) (nat_le (product_below x y) limit) h in

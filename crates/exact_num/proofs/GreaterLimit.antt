@@ -8,7 +8,7 @@ use Rattle.exact_num.specs.Fraction.{Fraction, whole}
 use Rattle.exact_num.specs.Fits.{size_fits, sum_fits, sum_value, add_of, sum_left, sum_right, sum_total, sum_below, product_fits, product_value, product_above, product_below, mul_of, div_of, whole_of, inverse}
 
 -- ---- the tests of a step
-le_more : (n l l' : ℕ) → l ≤ l' → nat_le n l ≡ true → nat_le n l' ≡ true
+pub le_more : (n l l' : ℕ) → l ≤ l' → nat_le n l ≡ true → nat_le n l' ≡ true
 le_more n l l' h k = grind (arith, nat_tests)
 
 and_more : (a b a' b' : Bool) → (a ≡ true → a' ≡ true) → (b ≡ true → b' ≡ true) → (a && b) ≡ true → (a' && b') ≡ true

@@ -18,3 +18,5 @@ pub mod Tested
 pub mod Stands
 pub mod GreaterLimit
 pub mod GreaterLimits
+pub mod WithinLimits
+pub mod Amounts

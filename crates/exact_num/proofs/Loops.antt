@@ -32,6 +32,10 @@ pub ends : {A S T : Type 0} (f : T → S) (step : S → A → Result S Wide) (to
 ends f step total all left none is = sym (is ∙ ap (fold_steps step (f total)) none)
 
 -- ---- tests one after another
+-- where the first holds, the second answers
+pub first_holds : (first second r answer : Result Bool Wide) (b : Bool) → r ≡ first → r ≡ Ok b → b ≡ true → answer ≡ second → answer ≡ and_then first second
+first_holds first second r answer b is ok held rest = rest ∙ sym (ap (λ x. and_then x second) (sym is ∙ ok ∙ ap (λ t. Ok t) held))
+
 pub both : (first second : Result Bool Wide) → and_then first second ≡ Ok true → (first ≡ Ok true) × (second ≡ Ok true)
 both (Ok true) second h = (refl, h)
 both (Ok false) second h = cc

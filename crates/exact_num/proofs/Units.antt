@@ -232,7 +232,7 @@ itself_below : (x : Fraction) → IsLowest x → sum_below x (negated x) ≡ 1
 unfolding sum_below
 itself_below x low = rw (over_itself x low, itself_common x low) (ap (λ (n : ℕ). 1 * n) (nat_div_self low.positive))
 
-zero_quotient : (n : ℕ) → int_div (pos 0) (pos n) ≡ pos 0
+pub zero_quotient : (n : ℕ) → int_div (pos 0) (pos n) ≡ pos 0
 zero_quotient n = ap pos (nat_zero-div n)
 
 pub sub_self : (limit : ℕ) (x : Fraction) → IsLowest x → 1 ≤ limit → unsigned_abs x.numerator ≤ limit → sub_of limit x x ≡ Ok (whole (pos 0))

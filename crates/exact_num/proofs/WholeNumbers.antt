@@ -1,12 +1,14 @@
 -- Whole numbers as steps with a limit: taken in, added and multiplied.
-use Rattle.std.proofs.Common.{◌≡◌, ℕ, ◌≤◌, ℤ, ◌+ℤ◌, ◌*ℤ◌, unsigned_abs, if◌then◌else◌, Ok, Err, arith, refl}
+use Rattle.std.proofs.Common.{◌≡◌, ℕ, ◌≤◌, ℤ, ◌+ℤ◌, ◌*ℤ◌, unsigned_abs, if◌then◌else◌, Result, Ok, Err, arith, refl, sym, ap, ◌∙◌}
+use Rattle.std.specs.Prelude.{IsOk}
 use Rattle.std.proofs.lemmas.Int.{ints}
 use Rattle.std.proofs.Math.Bool.{and-true}
 use Rattle.arithmetic.proofs.Products.{products}
 use Rattle.arithmetic.proofs.GcdLaws.{gcd-one}
 use Rattle.exact_num.specs.declared.misfit.Operator.TheVariants.{Add, Mul}
+use Rattle.exact_num.specs.declared.misfit.Wide.{Wide}
 use Rattle.exact_num.specs.Fraction.{Fraction, whole}
-use Rattle.exact_num.specs.Fits.{size_fits, misfit, sum_divisor, sum_left, sum_right, sum_total, sum_common, sum_below, sum_value, sum_fits, add_of, product_above, product_below, product_value, product_fits, mul_of, whole_of}
+use Rattle.exact_num.specs.Fits.{size_fits, misfit, sum_divisor, sum_left, sum_right, sum_total, sum_common, sum_below, sum_value, sum_fits, add_of, product_above, product_below, product_value, product_fits, mul_of, whole_of, meaning}
 use Rattle.exact_num.proofs.Values.{whole_is_lowest}
 use Rattle.exact_num.proofs.Order.{lowest_is_unique}
 use Rattle.exact_num.proofs.Exactness.{sums_are_exact, products_are_exact}
@@ -91,3 +93,23 @@ pub add_whole_is : (limit : ℕ) (a b : ℤ) (s : Fraction) → add_of limit (wh
 add_whole_is limit a b s h =
     let exact = sums_are_exact limit (whole a) (whole b) s (whole_is_lowest a) (whole_is_lowest b) h in
     lowest_is_unique s (whole (a +ℤ b)) exact.lowest (whole_is_lowest (a +ℤ b)) (omega (arith, ints, products, exact.same))
+
+-- what a call answers for a number within the limit, f being what its value means
+pub whole_taken : {T : Type 0} (f : T → Fraction) (r : Result T Wide) (t : T) (limit : ℕ) (v : ℤ) → unsigned_abs v ≤ limit
+    → meaning f r ≡ whole_of limit v → r ≡ Ok t → f t ≡ whole v
+whole_taken f r t limit v le m is =
+    let e : meaning f (Ok t) ≡ Ok (whole v) = sym (ap (meaning f) is) ∙ m ∙ whole_fits limit v le in
+    cc
+
+pub whole_never_wide : {T : Type 0} (f : T → Fraction) (r : Result T Wide) (w : Wide) (limit : ℕ) (v : ℤ) → unsigned_abs v ≤ limit
+    → meaning f r ≡ whole_of limit v → r ≡ Err w → ⊥
+whole_never_wide f r w limit v le m is =
+    let e : meaning f (Err w) ≡ Ok (whole v) = sym (ap (meaning f) is) ∙ m ∙ whole_fits limit v le in
+    cc
+
+pub whole_is_ok : {T : Type 0} (f : T → Fraction) (limit : ℕ) (v : ℤ) (r : Result T Wide) → unsigned_abs v ≤ limit → meaning f r ≡ whole_of limit v → IsOk r
+whole_is_ok f limit v r fits m = by_case r (m ∙ whole_fits limit v fits)
+  where
+    by_case : (r : Result _ Wide) → meaning f r ≡ Ok (whole v) → IsOk r
+    by_case (Ok a) e = refl
+    by_case (Err w) e = cc

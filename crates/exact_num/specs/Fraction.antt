@@ -54,6 +54,9 @@ plain_dot [] ys = whole (pos 0)
 plain_dot (x ∷ xs) [] = whole (pos 0)
 plain_dot (x ∷ xs) (y ∷ ys) = plain_sum (plain_product x y) (plain_dot xs ys)
 
+abbrev pub IsNotBelowZero : Fraction → Type 0
+IsNotBelowZero x = pos 0 ≤ℤ x.numerator
+
 -- the value of x is at most that of y
 abbrev pub AtMost : Fraction → Fraction → Type 0
 AtMost x y = (x.numerator *ℤ pos y.denominator) ≤ℤ (y.numerator *ℤ pos x.denominator)

@@ -19,6 +19,6 @@ last_full (x ∷ []) (suc n) d size e = absurd (omega arith)
 last_full (x ∷ y ∷ xs) zero d size e = absurd (omega arith)
 last_full (x ∷ y ∷ xs) (suc n) d size e = ap (λ (l : List (List ℕ)). x ∷ l) (last_full (y ∷ xs) n d (omega arith) e)
 
-pub empty_is : (x : List ℕ) → (length x == 0) ≡ is_empty x
-empty_is [] = refl
-empty_is (b ∷ x) = grind (arith, nat_tests)
+pub is_empty-length : (x : List ℕ) → (length x == 0) ≡ is_empty x
+is_empty-length [] = refl
+is_empty-length (b ∷ x) = grind (arith, nat_tests)

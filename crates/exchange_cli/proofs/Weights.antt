@@ -9,14 +9,14 @@ use Rattle.form.specs.declared.orders.Side.{Side}
 use Rattle.exchange_core.specs.declared.refusal.Refusal.{Refusal}
 use Rattle.exchange_core.specs.declared.refusal.Refusal.TheVariants.{Syntax}
 use Rattle.exchange_cli.specs.Commands.{weights_in, eight_of, eight_weights, is_weighted, offer_in, trade_command}
-use Rattle.exchange_cli.specs.Numbers.{whole_within, accepted}
+use Rattle.exchange_cli.specs.Numbers.{whole_within, and_then}
 use Rattle.exchange_cli.specs.Trades.{ReadsWeights}
 
 -- the weights behind some that are read
 abbrev pub behind : List ℤ → Result (List ℤ) Refusal → Result (List ℤ) Refusal
-behind read rest = accepted rest (λ (ws : List ℤ). Ok (read ++ ws))
+behind read rest = and_then rest (λ (ws : List ℤ). Ok (read ++ ws))
 
-one_more : (read : List ℤ) (w : ℤ) (rest : Result (List ℤ) Refusal) → behind read (accepted rest (λ (ws : List ℤ). Ok (w ∷ ws))) ≡ behind (read ++ w ∷ []) rest
+one_more : (read : List ℤ) (w : ℤ) (rest : Result (List ℤ) Refusal) → behind read (and_then rest (λ (ws : List ℤ). Ok (w ∷ ws))) ≡ behind (read ++ w ∷ []) rest
 one_more read w (Ok ws) = ap Ok (sym (append_assoc read (w ∷ []) ws))
 one_more read w (Err refusal) = refl
 
@@ -27,12 +27,12 @@ module _ (texts : List (List ℕ)) (place : ℕ) (field : List ℕ) (read : List
   -- a field that is refused ends it
   pub weight_refused : (refusal : Refusal) → Err refusal ≡ whole_within MAX_WEIGHT field → weights_in texts ≡ Err refusal
   weight_refused refusal is =
-      reads ∙ ap (behind read) (field_first ∙ ap (λ r. accepted r (λ w. accepted (weights_in (drop (place + 1) texts)) (λ (ws : List ℤ). Ok (w ∷ ws)))) (sym is))
+      reads ∙ ap (behind read) (field_first ∙ ap (λ r. and_then r (λ w. and_then (weights_in (drop (place + 1) texts)) (λ (ws : List ℤ). Ok (w ∷ ws)))) (sym is))
 
   -- one weight more
   pub weight_read : (w : ℤ) → Ok w ≡ whole_within MAX_WEIGHT field → weights_in texts ≡ behind (read ++ w ∷ []) (weights_in (drop (place + 1) texts))
   weight_read w is =
-      reads ∙ ap (behind read) (field_first ∙ ap (λ r. accepted r (λ v. accepted (weights_in (drop (place + 1) texts)) (λ (ws : List ℤ). Ok (v ∷ ws)))) (sym is))
+      reads ∙ ap (behind read) (field_first ∙ ap (λ r. and_then r (λ v. and_then (weights_in (drop (place + 1) texts)) (λ (ws : List ℤ). Ok (v ∷ ws)))) (sym is))
       ∙ one_more read w (weights_in (drop (place + 1) texts))
 
 -- ---- eight entries
@@ -73,10 +73,10 @@ front_of_eight ws few =
 pub counted : (texts : List (List ℕ)) (ws : List ℤ) → weights_in texts ≡ Ok ws → length ws ≡ length texts
 counted [] ws is = let e : ws ≡ [] = cc in ap length e
 counted (field ∷ texts) ws is =
-    let P : Result ℤ Refusal → Type 0 = λ r. accepted r (λ w. accepted (weights_in texts) (λ (vs : List ℤ). Ok (w ∷ vs))) ≡ Ok ws → length ws ≡ suc (length texts) in
+    let P : Result ℤ Refusal → Type 0 = λ r. and_then r (λ w. and_then (weights_in texts) (λ (vs : List ℤ). Ok (w ∷ vs))) ≡ Ok ws → length ws ≡ suc (length texts) in
     (elim (whole_within MAX_WEIGHT field) as P [
       | Ok w ↦ λ e.
-          let Q : Result (List ℤ) Refusal → Type 0 = λ r. weights_in texts ≡ r → accepted r (λ (vs : List ℤ). Ok (w ∷ vs)) ≡ Ok ws → length ws ≡ suc (length texts) in
+          let Q : Result (List ℤ) Refusal → Type 0 = λ r. weights_in texts ≡ r → and_then r (λ (vs : List ℤ). Ok (w ∷ vs)) ≡ Ok ws → length ws ≡ suc (length texts) in
           (elim (weights_in texts) as Q [
             | Ok vs ↦ λ here e. let is : w ∷ vs ≡ ws = cc in omega (arith, sym (ap length is), counted texts vs here)
             | Err refusal ↦ λ here e. cc
@@ -89,7 +89,7 @@ pub weights_are : (texts : List (List ℕ)) (entries : List ℤ) (weighted : Boo
 weights_are texts entries weighted few reads is =
     let n = length texts in
     let le : nat_le n 8 ≡ true = grind (arith, nat_tests) in
-    let answer : Result (List ℤ) Refusal → Result (ℕ × List ℤ) Refusal = λ r. accepted r (λ ws. if is_weighted ws then Ok (length ws, eight_of ws) else Err Syntax) in
+    let answer : Result (List ℤ) Refusal → Result (ℕ × List ℤ) Refusal = λ r. and_then r (λ ws. if is_weighted ws then Ok (length ws, eight_of ws) else Err Syntax) in
     let P : Result (List ℤ) Refusal → Type 0 = λ r. weights_in texts ≡ r → ReadsWeights r (Ok entries) → answer r ≡ (if weighted then Ok (n, entries) else Err Syntax) in
     ap (λ b. if b then answer (weights_in texts) else Err Syntax) le
     ∙ (elim (weights_in texts) as P [

@@ -19,12 +19,12 @@ use Rattle.exchange_core.specs.declared.refusal.Refusal.TheVariants.{Syntax}
 use Rattle.exchange_core.specs.Within.{AreWeights, IsOffer, IsWithin}
 use Rattle.exchange_cli.specs.declared.trades.Offer.{Offer}
 use Rattle.exchange_cli.specs.Commands.{account_in, market_in, kind_in, two_numbers_in, open_command, balance_command, weights_in, eight_of, eight_weights, is_weighted, terms_in, offer_in, trade_command, command_of_fields, command_of}
-use Rattle.exchange_cli.specs.Numbers.{is_natural, natural_value, natural_in, whole_within, accepted}
+use Rattle.exchange_cli.specs.Numbers.{is_natural, natural_value, natural_in, whole_within, and_then}
 use Rattle.exchange_cli.specs.Trades.{AreTerms}
 use Rattle.exchange_cli.proofs.Weights.{counted, some_weight, front_of_eight}
 
 -- what is read after something within
-then_within : {A B : Type 0} (P : A → Type 0) (Q : B → Type 0) (r : Result A Refusal) (f : A → Result B Refusal) → IfOk r P → ((a : A) → P a → IfOk (f a) Q) → IfOk (accepted r f) Q
+then_within : {A B : Type 0} (P : A → Type 0) (Q : B → Type 0) (r : Result A Refusal) (f : A → Result B Refusal) → IfOk r P → ((a : A) → P a → IfOk (f a) Q) → IfOk (and_then r f) Q
 then_within P Q (Ok a) f h next = next a h
 then_within P Q (Err refusal) f h next = tt
 
@@ -54,7 +54,7 @@ whole_small : (bound : ℕ) (text : List ℕ) → IfOk (whole_within bound text)
 whole_small bound [] = tt
 whole_small bound (c ∷ cs) =
     let P = Small bound in
-    either P (c == 45) (accepted (natural_in 1 bound cs) (λ n. Ok (neg_ℤ (pos n)))) (accepted (natural_in 0 bound (c ∷ cs)) (λ n. Ok (pos n)))
+    either P (c == 45) (and_then (natural_in 1 bound cs) (λ n. Ok (neg_ℤ (pos n)))) (and_then (natural_in 0 bound (c ∷ cs)) (λ n. Ok (pos n)))
     (then_within (Between 1 bound) P (natural_in 1 bound cs) (λ n. Ok (neg_ℤ (pos n))) (natural_within 1 bound cs) (λ n h. omega (arith, ints, h.1)))
     (then_within (Between 0 bound) P (natural_in 0 bound (c ∷ cs)) (λ n. Ok (pos n)) (natural_within 0 bound (c ∷ cs)) (λ n h. omega (arith, ints, h.1)))
 
@@ -65,7 +65,7 @@ two_within : (first second : ℕ) (fields : List (List ℕ)) → IfOk (two_numbe
 two_within first second [] = tt
 two_within first second (a ∷ []) = tt
 two_within first second (a ∷ b ∷ []) =
-    then_within (Between 1 first) (BothBetween first second) (natural_in 1 first a) (λ f. accepted (natural_in 1 second b) (λ s. Ok (f, s))) (natural_within 1 first a)
+    then_within (Between 1 first) (BothBetween first second) (natural_in 1 first a) (λ f. and_then (natural_in 1 second b) (λ s. Ok (f, s))) (natural_within 1 first a)
     (λ f h. then_within (Between 1 second) (BothBetween first second) (natural_in 1 second b) (λ s. Ok (f, s)) (natural_within 1 second b) (λ s k. (h, k)))
 two_within first second (a ∷ b ∷ c ∷ more) = tt
 
@@ -74,7 +74,7 @@ weights_small : (fields : List (List ℕ)) → IfOk (weights_in fields) (All (Sm
 weights_small [] = All-nil (Small MAX_WEIGHT)
 weights_small (field ∷ fields) =
     let P = Small MAX_WEIGHT in
-    then_within P (All P) (whole_within MAX_WEIGHT field) (λ w. accepted (weights_in fields) (λ (ws : List ℤ). Ok (w ∷ ws))) (whole_small MAX_WEIGHT field)
+    then_within P (All P) (whole_within MAX_WEIGHT field) (λ w. and_then (weights_in fields) (λ (ws : List ℤ). Ok (w ∷ ws))) (whole_small MAX_WEIGHT field)
     (λ w h. then_within (All P) (All P) (weights_in fields) (λ (ws : List ℤ). Ok (w ∷ ws)) (weights_small fields) (λ ws k. All-cons P w ws h k))
 
 -- how many weights there are, and eight entries with these weights in front
@@ -93,7 +93,7 @@ eight_within fields = by (nat_le (length fields) 8) refl
     answer : List ℤ → Result (ℕ × List ℤ) Refusal
     answer ws = if is_weighted ws then Ok (length ws, eight_of ws) else Err Syntax
 
-    read : length fields ≤ 8 → (r : Result (List ℤ) Refusal) → weights_in fields ≡ r → IfOk r (All (Small MAX_WEIGHT)) → IfOk (accepted r answer) AreEight
+    read : length fields ≤ 8 → (r : Result (List ℤ) Refusal) → weights_in fields ≡ r → IfOk r (All (Small MAX_WEIGHT)) → IfOk (and_then r answer) AreEight
     read few (Err refusal) is small = tt
     read few (Ok ws) is small =
         let size = counted fields ws is in
@@ -103,7 +103,7 @@ eight_within fields = by (nat_le (length fields) 8) refl
           weights = subst AreWeights (sym (front_of_eight ws (omega (arith, size, few)))) (record { within = small; some = some_weight ws test });
         })
 
-    by : (b : Bool) → nat_le (length fields) 8 ≡ b → IfOk (if b then accepted (weights_in fields) answer else Err Syntax) AreEight
+    by : (b : Bool) → nat_le (length fields) 8 ≡ b → IfOk (if b then and_then (weights_in fields) answer else Err Syntax) AreEight
     by true is = read (leb-true (length fields) 8 is) (weights_in fields) refl (weights_small fields)
     by false is = tt
 
@@ -164,7 +164,7 @@ balance_within (account ∷ next ∷ more) = tt
 
 -- a command of two numbers
 pair_within : (first second : ℕ) (fields : List (List ℕ)) (make : ℕ × ℕ → Command) → ((n : ℕ × ℕ) → BothBetween first second n → IsWithin (make n))
-    → IfOk (accepted (two_numbers_in first second fields) (λ n. Ok (make n))) IsWithin
+    → IfOk (and_then (two_numbers_in first second fields) (λ n. Ok (make n))) IsWithin
 pair_within first second fields make within =
     then_within (BothBetween first second) IsWithin (two_numbers_in first second fields) (λ n. Ok (make n)) (two_within first second fields) within
 
@@ -182,5 +182,5 @@ fields_within (word ∷ fields) =
     (either IsWithin (bytes_eq word (codes "clear")) _ _ (pair_within MAX_MARKET MAX_BUDGET fields (λ n. Clear n.0 n.1) (λ n h. h))
     (either IsWithin (bytes_eq word (codes "balance")) _ _ (balance_within fields) tt)))))))))
 
-pub line_is_within : (line : List ℕ) → IfOk (command_of line) IsWithin
-line_is_within line = fields_within (slice_split (λ b. b == 44) line)
+pub command_within : (line : List ℕ) → IfOk (command_of line) IsWithin
+command_within line = fields_within (slice_split (λ b. b == 44) line)

@@ -5,7 +5,7 @@ use Rattle.std.proofs.KnownBytes.{Appends-trans}
 use Rattle.std.specs.Io.KnownBytes.{Appends}
 use Rattle.exchange_core.specs.ExchangeState.{ExchangeState}
 use Rattle.exchange_cli.specs.Lines.{without_return}
-use Rattle.exchange_cli.specs.Output.{output_from, line_step}
+use Rattle.exchange_cli.specs.Output.{output_from, line_output}
 use Rattle.exchange_cli.specs.Progress.{HasWritten}
 use Rattle.port_io.specs.Writes.{AppendsFront}
 
@@ -24,17 +24,17 @@ front_written old now all left h = (
   subst (Appends old now) (sym (ap (take (length h.front)) h.split ∙ take_at h.front left (length h.front) refl)) h.wrote,
 )
 
-module _ (number i : ℕ) (state after : ExchangeState) (lines : List (List ℕ)) (line text : List ℕ) (lt : i < length lines) (at : get_or lines i [] ≡ line) (is : (text, after) ≡ line_step number state (without_return line)) where
+module _ (number i : ℕ) (state after : ExchangeState) (lines : List (List ℕ)) (line text : List ℕ) (lt : i < length lines) (at : get_or lines i [] ≡ line) (is : (text, after) ≡ line_output number state (without_return line)) where
   -- the output from line i on is its text, and then the output of the lines behind it
-  output_step : output_from number state (drop i lines) ≡ text ++ output_from (number + 1) after (drop (i + 1) lines)
-  output_step =
+  output_from-line : output_from number state (drop i lines) ≡ text ++ output_from (number + 1) after (drop (i + 1) lines)
+  output_from-line =
       ap (output_from number state) (drop_more lines i [] lt ∙ ap (λ l. l ∷ drop (i + 1) lines) at)
       ∙ sym (ap (λ (p : List ℕ × ExchangeState). p.0 ++ output_from (number + 1) p.1 (drop (i + 1) lines)) is)
 
   -- one line more
   pub line_written : (old now new : Option (List ℕ)) (all : List ℕ) → HasWritten old now all (output_from number state (drop i lines)) → Appends now new text
       → HasWritten old new all (output_from (number + 1) after (drop (i + 1) lines))
-  line_written old now new all h adds = more_written old now new all text _ _ h adds output_step
+  line_written old now new all h adds = more_written old now new all text _ _ h adds output_from-line
 
   -- a front of one line more
   pub line_cut : (old now new : Option (List ℕ)) (all : List ℕ) → HasWritten old now all (output_from number state (drop i lines)) → AppendsFront now new text → AppendsFront old new all
@@ -42,7 +42,7 @@ module _ (number i : ℕ) (state after : ExchangeState) (lines : List (List ℕ)
       let rest = output_from (number + 1) after (drop (i + 1) lines) in
       let cut : text ++ rest ≡ take adds.0 text ++ (drop adds.0 text ++ rest) =
       ap (λ l. l ++ rest) (sym (take-append-drop adds.0 text)) ∙ append_assoc (take adds.0 text) (drop adds.0 text) rest in
-      front_written old new all _ (more_written old now new all (take adds.0 text) _ (drop adds.0 text ++ rest) h adds.2 (output_step ∙ cut))
+      front_written old new all _ (more_written old now new all (take adds.0 text) _ (drop adds.0 text ++ rest) h adds.2 (output_from-line ∙ cut))
 
 pub on_err : {T E : Type 0} (r : Result T E) (P : Type 0) → P → OnErr r P
 on_err (Ok x) P p = tt

@@ -3,6 +3,7 @@ pub mod Lines
 pub mod Numbers
 pub mod Output
 pub mod Progress
+pub mod Promises
 pub mod Replies
 pub mod Status
 pub mod Texts

@@ -20,12 +20,12 @@ natural_in low high text =
     if is_natural text && (nat_le low (natural_value text) && nat_le (natural_value text) high) then Ok (natural_value text) else Err Syntax
 
 -- f at the value, or the refusal
-abbrev pub accepted : {A B : Type 0} → Result A Refusal → (A → Result B Refusal) → Result B Refusal
-accepted (Ok a) f = f a
-accepted (Err refusal) f = Err refusal
+abbrev pub and_then : {A B : Type 0} → Result A Refusal → (A → Result B Refusal) → Result B Refusal
+and_then (Ok a) f = f a
+and_then (Err refusal) f = Err refusal
 
 -- the whole number of a text, where its size is at most a bound: a natural number, or `-` before one that is not 0
 abbrev pub whole_within : ℕ → List ℕ → Result ℤ Refusal
 whole_within bound [] = Err Syntax
 whole_within bound (c ∷ cs) =
-    if c == 45 then accepted (natural_in 1 bound cs) (λ n. Ok (neg_ℤ (pos n))) else accepted (natural_in 0 bound (c ∷ cs)) (λ n. Ok (pos n))
+    if c == 45 then and_then (natural_in 1 bound cs) (λ n. Ok (neg_ℤ (pos n))) else and_then (natural_in 0 bound (c ∷ cs)) (λ n. Ok (pos n))

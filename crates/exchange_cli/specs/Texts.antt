@@ -7,7 +7,7 @@ use Rattle.form.specs.declared.orders.Side.{Side}
 use Rattle.form.specs.declared.orders.Side.TheVariants.{Buy, Sell}
 use Rattle.form.specs.Payoff.{option_of}
 use Rattle.exact_num.specs.Fraction.{Fraction}
-use Rattle.frac.specs.declared.bits128.Frac128.{Frac128}
+use Rattle.frac.specs.declared.frac128.Frac128.{Frac128}
 use Rattle.frac.specs.Value.{fraction_of}
 use Rattle.cert_check.specs.declared.outcome.Mark.{Mark}
 use Rattle.cert_check.specs.declared.outcome.Mark.TheVariants as mark

@@ -175,7 +175,8 @@ pub(crate) fn print_cleared(
     batch: &Batch,
     outcome: &Outcome,
 ) -> Result<String, AllocError>
-    ensures { IfOk result (λ text. string_bytes text ≡ cleared_text line number market batch.now outcome.now) }
+    ensures { IfOk result (λ text.
+        string_bytes text ≡ cleared_text line number market batch.now outcome.now) }
 {
     let mut text = print_head(alloc, number, outcome.fills.as_slice())?;
     text.push_str(&print_by(alloc, line, market, outcome)?)?;

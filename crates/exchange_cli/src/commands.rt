@@ -7,7 +7,7 @@ ghost use Rattle.exchange_cli.specs.Commands.{command_of, command_of_fields, ope
 
 use crate::lines::pieces;
 use crate::numbers::natural;
-use crate::trades::trade;
+use crate::trades::read_trade;
 use exchange_core::{
     Command, Kind, MAX_ACCEPTED, MAX_ACCOUNT, MAX_AMOUNT, MAX_BUDGET, MAX_MARKET, Refusal,
 };
@@ -15,7 +15,7 @@ use form::Side;
 use std::alloc::{AllocError, Global};
 
 // The number of an account other than the house.
-pub(crate) fn account(field: &[u8]) -> Result<u32, Refusal>
+pub(crate) fn account_number(field: &[u8]) -> Result<u32, Refusal>
     ensures value { result ≡ account_in field.now }
     ensures within { IfOk result (λ a. (1 ≤ a) × (a ≤ MAX_ACCOUNT)) }
 {
@@ -24,7 +24,7 @@ pub(crate) fn account(field: &[u8]) -> Result<u32, Refusal>
 }
 
 // The number of a market.
-pub(crate) fn market(field: &[u8]) -> Result<u32, Refusal>
+pub(crate) fn market_number(field: &[u8]) -> Result<u32, Refusal>
     ensures value { result ≡ market_in field.now }
     ensures within { IfOk result (λ m. (1 ≤ m) × (m ≤ MAX_MARKET)) }
 {
@@ -32,7 +32,8 @@ pub(crate) fn market(field: &[u8]) -> Result<u32, Refusal>
     Ok(number as u32)
 }
 
-pub(crate) fn kind(field: &[u8]) -> Result<Kind, Refusal>
+// Whether an option is a call or a put.
+pub(crate) fn option_kind(field: &[u8]) -> Result<Kind, Refusal>
     ensures { result ≡ kind_in field.now }
 {
     if field == b"call".as_slice() {
@@ -44,7 +45,7 @@ pub(crate) fn kind(field: &[u8]) -> Result<Kind, Refusal>
     }
 }
 
-fn open(fields: &[&[u8]]) -> Result<Command, Refusal>
+fn read_open(fields: &[&[u8]]) -> Result<Command, Refusal>
     ensures command { result ≡ open_command (map (λ f. f.now) fields.now) }
     ensures within { IfOk result IsWithin }
 {
@@ -52,7 +53,7 @@ fn open(fields: &[&[u8]]) -> Result<Command, Refusal>
         return Err(Refusal::Syntax);
     };
     Ok(Command::Open {
-        account: account(number)?,
+        account: account_number(number)?,
     })
 }
 
@@ -71,7 +72,7 @@ fn two_numbers(fields: &[&[u8]], first_high: u32, second_high: u64) -> Result<(u
     Ok((first as u32, second))
 }
 
-fn deposit(fields: &[&[u8]]) -> Result<Command, Refusal>
+fn read_deposit(fields: &[&[u8]]) -> Result<Command, Refusal>
     ensures command { result ≡ deposit_command (map (λ f. f.now) fields.now) }
     ensures within { IfOk result IsWithin }
 {
@@ -79,7 +80,7 @@ fn deposit(fields: &[&[u8]]) -> Result<Command, Refusal>
     Ok(Command::Deposit { account, amount })
 }
 
-fn withdraw(fields: &[&[u8]]) -> Result<Command, Refusal>
+fn read_withdraw(fields: &[&[u8]]) -> Result<Command, Refusal>
     ensures command { result ≡ withdraw_command (map (λ f. f.now) fields.now) }
     ensures within { IfOk result IsWithin }
 {
@@ -87,7 +88,7 @@ fn withdraw(fields: &[&[u8]]) -> Result<Command, Refusal>
     Ok(Command::Withdraw { account, amount })
 }
 
-fn list(fields: &[&[u8]]) -> Result<Command, Refusal>
+fn read_market(fields: &[&[u8]]) -> Result<Command, Refusal>
     ensures command { result ≡ market_command (map (λ f. f.now) fields.now) }
     ensures within { IfOk result IsWithin }
 {
@@ -98,7 +99,7 @@ fn list(fields: &[&[u8]]) -> Result<Command, Refusal>
     })
 }
 
-fn cancel(fields: &[&[u8]]) -> Result<Command, Refusal>
+fn read_cancel(fields: &[&[u8]]) -> Result<Command, Refusal>
     ensures command { result ≡ cancel_command (map (λ f. f.now) fields.now) }
     ensures within { IfOk result IsWithin }
 {
@@ -106,7 +107,7 @@ fn cancel(fields: &[&[u8]]) -> Result<Command, Refusal>
     Ok(Command::Cancel { account, order })
 }
 
-fn clear(fields: &[&[u8]]) -> Result<Command, Refusal>
+fn read_clear(fields: &[&[u8]]) -> Result<Command, Refusal>
     ensures command { result ≡ clear_command (map (λ f. f.now) fields.now) }
     ensures within { IfOk result IsWithin }
 {
@@ -117,7 +118,7 @@ fn clear(fields: &[&[u8]]) -> Result<Command, Refusal>
     })
 }
 
-fn balance(fields: &[&[u8]]) -> Result<Command, Refusal>
+fn read_balance(fields: &[&[u8]]) -> Result<Command, Refusal>
     ensures command { result ≡ balance_command (map (λ f. f.now) fields.now) }
     ensures within { IfOk result IsWithin }
 {
@@ -131,7 +132,7 @@ fn balance(fields: &[&[u8]]) -> Result<Command, Refusal>
 }
 
 // What the fields of a line say.
-fn command(fields: &[&[u8]]) -> Result<Command, Refusal>
+fn read_fields(fields: &[&[u8]]) -> Result<Command, Refusal>
     ensures command { result ≡ command_of_fields (map (λ f. f.now) fields.now) }
     ensures within { IfOk result IsWithin }
 {
@@ -141,23 +142,23 @@ fn command(fields: &[&[u8]]) -> Result<Command, Refusal>
     if *word == b"settle".as_slice() {
         Err(Refusal::NotBuilt)
     } else if *word == b"open".as_slice() {
-        open(fields)
+        read_open(fields)
     } else if *word == b"deposit".as_slice() {
-        deposit(fields)
+        read_deposit(fields)
     } else if *word == b"withdraw".as_slice() {
-        withdraw(fields)
+        read_withdraw(fields)
     } else if *word == b"market".as_slice() {
-        list(fields)
+        read_market(fields)
     } else if *word == b"buy".as_slice() {
-        trade(Side::Buy, fields)
+        read_trade(Side::Buy, fields)
     } else if *word == b"sell".as_slice() {
-        trade(Side::Sell, fields)
+        read_trade(Side::Sell, fields)
     } else if *word == b"cancel".as_slice() {
-        cancel(fields)
+        read_cancel(fields)
     } else if *word == b"clear".as_slice() {
-        clear(fields)
+        read_clear(fields)
     } else if *word == b"balance".as_slice() {
-        balance(fields)
+        read_balance(fields)
     } else {
         Err(Refusal::Syntax)
     }
@@ -172,5 +173,5 @@ pub(crate) fn read_command(
     ensures within { IfOk result (λ said. IfOk said IsWithin) }
 {
     let fields = pieces(alloc, line, b',')?;
-    Ok(command(&fields))
+    Ok(read_fields(&fields))
 }

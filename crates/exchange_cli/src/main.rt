@@ -3,6 +3,7 @@
 
 mod batches;
 mod commands;
+pub mod laws;
 mod lines;
 mod numbers;
 mod run;
@@ -20,10 +21,13 @@ pub use status::Status;
 use std::io;
 use std::process::ExitCode;
 
-// The words after the program's name. Arguments that are no text are a faulty command line.
+// The words after the program's name.
 fn words_of(rt: &HostRuntime) -> Result<Vec<String>, Status> {
     let mut words = Vec::new(rt.alloc());
-    for word in std::env::args(rt).map_err(|_| Status::Usage)?.skip(1) {
+    for word in std::env::args(rt)
+        .map_err(|error| Status::of_unread_words(error.kind()))?
+        .skip(1)
+    {
         words.push(word).map_err(|_| Status::Memory)?;
     }
     Ok(words)

@@ -2,13 +2,14 @@
 ghost use Rattle.std.specs.Prelude.{◌≡◌, ◌≢◌, ◌⊎◌, ◌≤◌, ◌<◌, ◌+◌, [], ◌∷◌, Some, map, codes, length, IfOk, OnOk, OnErr, IfSome, IsSomeAnd, IsErrOf, string_bytes};
 ghost use Rattle.std.specs.Io.KnownBytes.{Appends};
 ghost use Rattle.port_io.specs.Faults.{Rose, raised};
+ghost use Rattle.port_io.specs.Reads.{TakesUpTo};
 ghost use Rattle.port_io.specs.Writes.{AppendsFront};
 ghost use Rattle.exchange_core.specs.ExchangeState.{empty_exchange};
 ghost use Rattle.exchange_core.specs.Within.{IsWithin};
-ghost use Rattle.exchange_cli.specs.Output.{output, output_from, line_step, answered};
-ghost use Rattle.exchange_cli.specs.Replies.{RepliesAreCovered, OptimalIsGreatest, RepliesAreMarked};
+ghost use Rattle.exchange_cli.specs.Output.{output, output_from, line_output, reply_to};
+ghost use Rattle.exchange_cli.specs.Promises.{TellAnswers, Wrote, WroteFront};
 ghost use Rattle.exchange_cli.specs.Words.{is_run};
-ghost use Rattle.exchange_cli.specs.declared.run.RunStop.TheVariants.{OutOfMemory, SinkFailed};
+ghost use Rattle.exchange_cli.specs.declared.run.AnswerFailure.TheVariants.{OutOfMemory, SinkFailed};
 
 use crate::commands::read_command;
 use crate::lines::{pieces, strip_return, without_last};
@@ -23,31 +24,31 @@ pub const MAX_INPUT: usize = 16_777_216;
 
 // Why the lines were not all answered.
 #[derive(Clone, Copy, Debug, PartialEq, Eq)]
-enum RunStop {
+enum AnswerFailure {
     SinkFailed,
     OutOfMemory,
 }
 
-impl From<AllocError> for RunStop {
+impl From<AllocError> for AnswerFailure {
     ghost from_gives = { λ _ e. e ≡ OutOfMemory };
 
     fn from(_: AllocError) -> Self {
-        RunStop::OutOfMemory
+        AnswerFailure::OutOfMemory
     }
 }
 
-impl From<WriteStop> for RunStop {
+impl From<WriteStop> for AnswerFailure {
     ghost from_gives = { λ _ e. e ≡ SinkFailed };
 
     fn from(_: WriteStop) -> Self {
-        RunStop::SinkFailed
+        AnswerFailure::SinkFailed
     }
 }
 
 // The reply to what a line says.
 fn reply_to(exchange: &mut Exchange, said: &Result<Command, Refusal>) -> Result<Reply, AllocError>
     requires { IfOk said.now IsWithin }
-    ensures { IfOk result (λ reply. (reply, exchange.new) ≡ answered exchange.old said.now) }
+    ensures { IfOk result (λ reply. (reply, exchange.new) ≡ reply_to exchange.old said.now) }
 {
     match said {
         Ok(command) => exchange.step(command),
@@ -62,7 +63,8 @@ fn answer(
     number: usize,
     line: &[u8],
 ) -> Result<String, AllocError>
-    ensures { IfOk result (λ text. (string_bytes text, exchange.new) ≡ line_step number exchange.old line.now) }
+    ensures { IfOk result (λ text.
+        (string_bytes text, exchange.new) ≡ line_output number exchange.old line.now) }
 {
     if line.is_empty() {
         return Ok(String::new(alloc));
@@ -75,12 +77,13 @@ fn answer(
 }
 
 // Answers the lines in order.
-fn answer_all<K: Sink>(alloc: Global, lines: &[&[u8]], sink: &mut K) -> Result<(), RunStop>
+fn answer_all<K: Sink>(alloc: Global, lines: &[&[u8]], sink: &mut K) -> Result<(), AnswerFailure>
     ensures ok { OnOk result (Appends (K.written sink.old) (K.written sink.new)
         (output_from 1 empty_exchange (map (λ p. p.now) lines.now))) }
     ensures front { OnErr result (AppendsFront (K.written sink.old) (K.written sink.new)
         (output_from 1 empty_exchange (map (λ p. p.now) lines.now))) }
-    ensures fault { IsErrOf result RunStop.SinkFailed → Rose (K.faults sink.old) (K.faults sink.new) }
+    ensures fault { IsErrOf result AnswerFailure.SinkFailed →
+        Rose (K.faults sink.old) (K.faults sink.new) }
     ensures later { K.faults sink.old ≤ K.faults sink.new }
 {
     let mut exchange = Exchange::new(alloc);
@@ -92,10 +95,13 @@ fn answer_all<K: Sink>(alloc: Global, lines: &[&[u8]], sink: &mut K) -> Result<(
 }
 
 // Answers all lines of an input.
-fn answer_input<K: Sink>(alloc: Global, input: &[u8], sink: &mut K) -> Result<(), RunStop>
-    ensures ok { OnOk result (Appends (K.written sink.old) (K.written sink.new) (output input.now)) }
-    ensures front { OnErr result (AppendsFront (K.written sink.old) (K.written sink.new) (output input.now)) }
-    ensures fault { IsErrOf result RunStop.SinkFailed → Rose (K.faults sink.old) (K.faults sink.new) }
+fn answer_input<K: Sink>(alloc: Global, input: &[u8], sink: &mut K) -> Result<(), AnswerFailure>
+    ensures ok { OnOk result
+        (Appends (K.written sink.old) (K.written sink.new) (output input.now)) }
+    ensures front { OnErr result
+        (AppendsFront (K.written sink.old) (K.written sink.new) (output input.now)) }
+    ensures fault { IsErrOf result AnswerFailure.SinkFailed →
+        Rose (K.faults sink.old) (K.faults sink.new) }
     ensures later { K.faults sink.old ≤ K.faults sink.new }
 {
     let lines = pieces(alloc, input, b'\n')?;
@@ -124,39 +130,47 @@ pub fn exchange<S: Source, K: Sink>(
     // The words are the one word `run`.
     ensures usage { result ≡ Status.Usage → map string_bytes words.now ≢ codes "run" ∷ [] }
     ensures usage_else { map string_bytes words.now ≢ codes "run" ∷ [] → result ≡ Status.Usage }
-    ensures usage_untouched { result ≡ Status.Usage → (source.new ≡ source.old) × (sink.new ≡ sink.old) }
+    ensures usage_untouched { result ≡ Status.Usage →
+        (source.new ≡ source.old) × (sink.new ≡ sink.old) }
 
     // The output is the defined output of all bytes that were left.
     ensures done { result ≡ Status.Done → IfSome (S.left source.old) (λ input.
-        (S.left source.new ≡ Some []) × Appends (K.written sink.old) (K.written sink.new) (output input)) }
-    ensures front { (result ≡ Status.WriteFault) ⊎ (result ≡ Status.Memory) → IfSome (S.left source.old) (λ input.
+        (S.left source.new ≡ Some [])
+        × Appends (K.written sink.old) (K.written sink.new) (output input)) }
+    ensures front { (result ≡ Status.WriteFault) ⊎ (result ≡ Status.Memory) →
+        IfSome (S.left source.old) (λ input.
         AppendsFront (K.written sink.old) (K.written sink.new) (output input)) }
 
-    // It is the text of the replies, and each batch that one of them clears covers its surplus at every settlement.
-    ensures covered { IfSome (S.left source.old) RepliesAreCovered }
-
-    // A batch that is marked optimal has the greatest surplus of any fractional fills, and its measure proves it.
-    ensures optimal { IfSome (S.left source.old) OptimalIsGreatest }
-
-    // A batch lacks this mark only where its reference run stops, at the step or for want of the unit that the reply tells.
-    ensures marked { IfSome (S.left source.old) RepliesAreMarked }
+    // What was written is the text of answers that keep what is promised, or a front of it.
+    ensures told { result ≡ Status.Done →
+        Wrote (K.written sink.old) (K.written sink.new) TellAnswers }
+    ensures told_front { (result ≡ Status.WriteFault) ⊎ (result ≡ Status.Memory) →
+        WroteFront (K.written sink.old) (K.written sink.new) TellAnswers }
 
     // Each other status has its cause.
-    ensures read_fault { result ≡ Status.ReadFault → Rose (S.faults source.old) (S.faults source.new) }
-    ensures read_fault_in_time { result ≡ Status.ReadFault → S.taken source.new ≤ S.taken source.old + MAX_INPUT }
+    ensures read_fault { result ≡ Status.ReadFault →
+        Rose (S.faults source.old) (S.faults source.new) }
+    ensures read_fault_in_time { result ≡ Status.ReadFault →
+        (S.taken source.new ≤ S.taken source.old + MAX_INPUT)
+        × TakesUpTo (S.left source.old) (S.left source.new) MAX_INPUT }
     ensures read_fault_silent { result ≡ Status.ReadFault → sink.new ≡ sink.old }
-    ensures write_fault { result ≡ Status.WriteFault → Rose (K.faults sink.old) (K.faults sink.new) }
-    ensures too_long { result ≡ Status.TooLong → IfSome (S.left source.old) (λ input. MAX_INPUT < length input) }
-    ensures too_long_no_fault { result ≡ Status.TooLong → S.faults source.new ≡ S.faults source.old }
+    ensures write_fault { result ≡ Status.WriteFault →
+        Rose (K.faults sink.old) (K.faults sink.new) }
+    ensures too_long { result ≡ Status.TooLong →
+        IfSome (S.left source.old) (λ input. MAX_INPUT < length input) }
+    ensures too_long_no_fault { result ≡ Status.TooLong →
+        S.faults source.new ≡ S.faults source.old }
     ensures too_long_silent { result ≡ Status.TooLong → sink.new ≡ sink.old }
-    ensures too_many { result ≡ Status.TooLong → raised (S.taken source.old) (MAX_INPUT + 1) ≤ S.taken source.new }
+    ensures too_many { result ≡ Status.TooLong →
+        raised (S.taken source.old) (MAX_INPUT + 1) ≤ S.taken source.new }
     ensures within { (result ≡ Status.Done) ⊎ (result ≡ Status.WriteFault) →
         IfSome (S.left source.old) (λ input. length input ≤ MAX_INPUT) }
 
     // Within the limit and without a fault, the output is written, or there was no memory.
     ensures complete { map string_bytes words.now ≡ codes "run" ∷ [] →
         IsSomeAnd (S.left source.old) (λ input. length input ≤ MAX_INPUT) →
-        ¬ Rose (S.faults source.old) (S.faults source.new) → ¬ Rose (K.faults sink.old) (K.faults sink.new) →
+        ¬ Rose (S.faults source.old) (S.faults source.new) →
+        ¬ Rose (K.faults sink.old) (K.faults sink.new) →
         (result ≡ Status.Done) ⊎ (result ≡ Status.Memory) }
 {
     if !names_run(words) {
@@ -170,7 +184,7 @@ pub fn exchange<S: Source, K: Sink>(
     };
     match answer_input(alloc, &input, sink) {
         Ok(()) => Status::Done,
-        Err(RunStop::SinkFailed) => Status::WriteFault,
-        Err(RunStop::OutOfMemory) => Status::Memory,
+        Err(AnswerFailure::SinkFailed) => Status::WriteFault,
+        Err(AnswerFailure::OutOfMemory) => Status::Memory,
     }
 }

@@ -1,5 +1,7 @@
-ghost use Rattle.std.specs.Prelude.{◌≡◌};
+ghost use Rattle.std.specs.Prelude.{◌≡◌, ◌≢◌};
 ghost use Rattle.exchange_cli.specs.Status.{code_of, text_of};
+
+use std::io::ErrorKind;
 
 /// How a call of the program ended.
 #[derive(Clone, Copy, Debug, PartialEq, Eq)]
@@ -19,6 +21,18 @@ pub enum Status {
 }
 
 impl Status {
+    /// How a run ends whose words were not read: a word that is no text is a faulty command line, and any other cause is want of
+    /// memory.
+    pub fn of_unread_words(kind: ErrorKind) -> Status
+        ensures no_text { kind ≡ ErrorKind.InvalidData → result ≡ Status.Usage }
+        ensures no_memory { kind ≢ ErrorKind.InvalidData → result ≡ Status.Memory }
+    {
+        match kind {
+            ErrorKind::InvalidData => Status::Usage,
+            _ => Status::Memory,
+        }
+    }
+
     /// The exit status of the program.
     pub fn code(self) -> u8
         ensures { result ≡ code_of self }

@@ -2,15 +2,21 @@ use crate::sessions::SESSIONS;
 use crate::{MAX_INPUT, Status, exchange};
 use port_io::{MemSink, MemSource, SureSink, SureSource};
 use std::alloc::{AllocError, Global};
+use std::process::Abort;
 use std::test::Fail;
 
-// The first lines of the worked batch "one option matched", and their replies.
-static ACCOUNTS: &str = "open,1\nopen,2\ndeposit,1,100\nbalance,0";
+// The worked batch "one option matched", and its replies.
+static MATCHED: &str =
+    "open,1\nopen,2\ndeposit,1,100\nmarket,1,1\nbuy,1,1,call,10,7,1,1\nsell,2,1,call,10,5,1,1\nclear,1,100\nbalance,0";
 
-static ACCOUNTS_REPLIES: &str = r#"{"account":1,"line":1,"reply":"opened"}
+static MATCHED_REPLIES: &str = r#"{"account":1,"line":1,"reply":"opened"}
 {"account":2,"line":2,"reply":"opened"}
 {"account":1,"balance":"100","line":3,"reply":"deposited"}
-{"account":0,"balance":"0","line":4,"reply":"balance","reserved":"0"}
+{"line":4,"market":1,"reply":"listed","underlyings":1}
+{"line":5,"order":1,"reply":"placed"}
+{"line":6,"order":2,"reply":"placed"}
+{"batch":1,"fills":["1","1"],"liability":"0","line":7,"mark":"optimal","market":1,"orders":[{"account":1,"form":[-10,1],"order":1,"price":7,"quantity":1,"side":"buy"},{"account":2,"form":[-10,1],"order":2,"price":5,"quantity":1,"side":"sell"}],"reply":"cleared","surplus":"2","underlyings":1,"units":2,"version":1}
+{"account":0,"balance":"2","line":8,"reply":"balance","reserved":"0"}
 "#;
 
 // Carriage returns, a byte order mark, an empty line, and a last line without its line feed.
@@ -36,7 +42,7 @@ fn run(
         texts.push(String::from_str(alloc, word)?)?;
     }
     let mut source = MemSource::new(input.to_vec(alloc)?, 10, vec![in alloc; read]?);
-    let mut sink = MemSink::new(alloc, 1_000_000, 1000, vec![in alloc; write]?)?;
+    let mut sink = MemSink::new(alloc, 1_000_000, 1_000_000, vec![in alloc; write]?)?;
     let status = exchange(alloc, &texts, &mut source, &mut sink);
     Ok((status, sink))
 }
@@ -54,6 +60,15 @@ fn session(alloc: Global, text: &str) -> Result<(String, String), AllocError> {
     Ok((input, output))
 }
 
+// Compares what was written with what is wanted: at the first line that differs the test tells the two.
+fn assert_lines(rt: &impl Abort, written: &[u8], wanted: &str) {
+    let written = str::from_utf8(written).unwrap_or("no text");
+    for (had, line) in written.split('\n').zip(wanted.split('\n')) {
+        assert_eq!(rt; had, line);
+    }
+    assert_eq!(rt; written.len(), wanted.len());
+}
+
 #[test]
 fn sessions_give_their_replies(rt: HostRuntime) -> Result<(), Fail> {
     let alloc = rt.alloc();
@@ -61,11 +76,11 @@ fn sessions_give_their_replies(rt: HostRuntime) -> Result<(), Fail> {
         let (input, output) = session(alloc, text)?;
         let (status, sink) = run(alloc, "run", input.as_bytes(), 0, 0)?;
         assert_eq!(rt; status, Status::Done, "at {text}");
-        assert_eq!(rt; sink.written(), output.as_bytes(), "at {text}");
+        assert_lines(&rt, sink.written(), &output);
     }
     let (status, sink) = run(alloc, "run", ENDS.as_bytes(), 0, 0)?;
     assert_eq!(rt; status, Status::Done);
-    assert_eq!(rt; sink.written(), ENDS_REPLIES.as_bytes());
+    assert_lines(&rt, sink.written(), ENDS_REPLIES);
     Ok(())
 }
 
@@ -114,13 +129,13 @@ fn one_too_many_is_refused(rt: HostRuntime) -> Result<(), Fail> {
 #[test]
 fn a_failed_read_writes_nothing(rt: HostRuntime) -> Result<(), Fail> {
     let alloc = rt.alloc();
-    // 37 bytes in pieces of 10 take four reads, and a fifth finds the end.
-    for read in 1..6u32 {
-        let (status, sink) = run(alloc, "run", ACCOUNTS.as_bytes(), read, 0)?;
+    // 105 bytes in pieces of 10 take 11 reads, and one more finds the end.
+    for read in 1..13u32 {
+        let (status, sink) = run(alloc, "run", MATCHED.as_bytes(), read, 0)?;
         assert_eq!(rt; status, Status::ReadFault, "at read {read}");
         assert_eq!(rt; sink.written().len(), 0, "at read {read}");
     }
-    let (status, _) = run(alloc, "run", ACCOUNTS.as_bytes(), 6, 0)?;
+    let (status, _) = run(alloc, "run", MATCHED.as_bytes(), 13, 0)?;
     assert_eq!(rt; status, Status::Done);
     Ok(())
 }
@@ -129,13 +144,13 @@ fn a_failed_read_writes_nothing(rt: HostRuntime) -> Result<(), Fail> {
 fn a_failed_write_leaves_the_lines_before_it(rt: HostRuntime) -> Result<(), Fail> {
     let alloc = rt.alloc();
     let mut before = String::new(alloc);
-    for (write, line) in (1..5u32).zip(ACCOUNTS_REPLIES.split_inclusive('\n')) {
-        let (status, sink) = run(alloc, "run", ACCOUNTS.as_bytes(), 0, write)?;
+    for (write, line) in (1..9u32).zip(MATCHED_REPLIES.split_inclusive('\n')) {
+        let (status, sink) = run(alloc, "run", MATCHED.as_bytes(), 0, write)?;
         assert_eq!(rt; status, Status::WriteFault, "at write {write}");
-        assert_eq!(rt; sink.written(), before.as_bytes(), "at write {write}");
+        assert_lines(&rt, sink.written(), &before);
         before.push_str(line)?;
     }
-    assert_eq!(rt; before.as_str(), ACCOUNTS_REPLIES);
+    assert_eq!(rt; before.as_str(), MATCHED_REPLIES);
     Ok(())
 }
 
@@ -143,7 +158,7 @@ fn a_failed_write_leaves_the_lines_before_it(rt: HostRuntime) -> Result<(), Fail
 fn only_the_word_run_is_known(rt: HostRuntime) -> Result<(), Fail> {
     let alloc = rt.alloc();
     for words in "|run now|Run|demo 1|demo 1 0|check|--help".split('|') {
-        let (status, _) = run(alloc, words, ACCOUNTS.as_bytes(), 0, 0)?;
+        let (status, _) = run(alloc, words, MATCHED.as_bytes(), 0, 0)?;
         assert_eq!(rt; status, Status::Usage, "at {words}");
     }
     Ok(())

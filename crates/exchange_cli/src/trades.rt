@@ -7,7 +7,7 @@ ghost use Rattle.exchange_cli.specs.Commands.{trade_command, offer_in, terms_in,
 ghost use Rattle.exchange_cli.specs.Numbers.{whole_within};
 ghost use Rattle.exchange_cli.specs.Trades.{ReadsWeights, AreTerms};
 
-use crate::commands::{account, kind, market};
+use crate::commands::{account_number, market_number, option_kind};
 use crate::numbers::{natural, whole};
 use exchange_core::{Command, Kind, Refusal};
 use form::{MAX_PRICE, MAX_QUANTITY, MAX_STRIKE, MAX_WEIGHT, Side};
@@ -100,22 +100,22 @@ fn read_offer(fields: &[&[u8]]) -> Result<Offer, Refusal>
         return Err(Refusal::Syntax);
     };
     Ok(Offer {
-        kind: kind(option)?,
+        kind: option_kind(option)?,
         strike: whole(strike, MAX_STRIKE)?,
         terms: read_terms(others)?,
     })
 }
 
 // An order of the side.
-pub(crate) fn trade(side: Side, fields: &[&[u8]]) -> Result<Command, Refusal>
+pub(crate) fn read_trade(side: Side, fields: &[&[u8]]) -> Result<Command, Refusal>
     ensures command { result ≡ trade_command side (map (λ f. f.now) fields.now) }
     ensures within { IfOk result IsWithin }
 {
     let [number, listed, others @ ..] = fields else {
         return Err(Refusal::Syntax);
     };
-    let account = account(number)?;
-    let market = market(listed)?;
+    let account = account_number(number)?;
+    let market = market_number(listed)?;
     let offer = read_offer(others)?;
     let weights = offer.terms.weights;
     Ok(Command::Trade {

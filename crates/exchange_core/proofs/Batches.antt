@@ -13,7 +13,7 @@ use Rattle.form.specs.declared.orders.Batch.{Batch}
 use Rattle.form.specs.declared.orders.Order.{Order}
 use Rattle.clearing_model.specs.Certificate.{IsFill, AreFractionFills}
 use Rattle.form.specs.Limits.{IsOrderWithin, IsWithinLimits}
-use Rattle.frac.specs.declared.bits128.Frac128.{Frac128}
+use Rattle.frac.specs.declared.frac128.Frac128.{Frac128}
 use Rattle.frac.specs.Value.{fraction_of}
 use Rattle.order_book.specs.Book.{BookState, batch_of, market_of, live_of}
 use Rattle.order_book.specs.Markets.{MarketState}

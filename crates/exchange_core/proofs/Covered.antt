@@ -9,13 +9,15 @@ use Rattle.cert_check.specs.Conditions.{IfOptimal}
 use Rattle.cert_check.specs.Laws.{IsCovered, IsMeasured, IsProved}
 use Rattle.clearing.specs.Laws as clearing
 use Rattle.clearing.specs.Outcome.{IsMarked, outcome_of}
-use Rattle.clearing.proofs.Marked.{outcomes_are_marked}
+use Rattle.clearing.proofs.Marks.{outcomes_are_marked}
 use Rattle.clearing.proofs.Outcomes.{outcomes_are_covered, outcomes_are_measured, optimal_is_greatest}
 use Rattle.form.specs.declared.orders.Batch.{Batch}
 use Rattle.order_book.specs.declared.limits.TheConstants.{MAX_BATCHES}
 use Rattle.order_book.specs.Book.{BookState, batch_of, info_of, market_of}
 use Rattle.order_book.specs.Kept.{IsBookKept}
 use Rattle.order_book.specs.Markets.{MarketState}
+use Rattle.order_book.specs.Refusals.{is_settled}
+use Rattle.refusals.specs.Refusals.{first_of}
 use Rattle.order_book.proofs.BookKept.{batch_within, market_kept}
 use Rattle.order_book.proofs.MarketLists.{at_found}
 use Rattle.exchange_core.specs.declared.command.Command.{Command}
@@ -26,8 +28,8 @@ use Rattle.exchange_core.specs.declared.reply.Reply.{Reply}
 use Rattle.exchange_core.specs.Covered.{IfCleared, OfEachCleared, IsProvedGreatest, IsMarkedFor, StepIsCovered, StepIsMarked, StepIsOptimal, budget_of}
 use Rattle.exchange_core.specs.ExchangeState.{ExchangeState}
 use Rattle.exchange_core.specs.Kept.{IsKept, IsOnOne}
-use Rattle.exchange_core.specs.Refusals.{first_of, is_settled, refusal_of}
-use Rattle.exchange_core.specs.Step.{batch_in, effect, refused}
+use Rattle.exchange_core.specs.Refusals.{refusal_of}
+use Rattle.exchange_core.specs.Step.{batch_in, effect, refusal_effect}
 
 -- the refusals of a clear behind the first
 abbrev unsettled : BookState → ℕ → List (Bool × Refusal)
@@ -44,7 +46,7 @@ on_one book kept single market others (Some m) at none =
 module _ (P : Batch → Outcome → Type 0) where
   -- a refusal clears nothing
   unless_refused : (state : ExchangeState) (refusal : Option Refusal) (accepted : Reply × ExchangeState) → (refusal ≡ None → IfCleared P accepted.0)
-      → IfCleared P (option_map_or (refused state) refusal accepted).0
+      → IfCleared P (option_map_or (refusal_effect state) refusal accepted).0
   unless_refused state None accepted h = h refl
   unless_refused state (Some refusal) accepted h = tt
 
@@ -79,16 +81,16 @@ step_is_optimal =
     (λ batch units one. both batch (outcome_of batch units) (outcome_of batch units).mark (optimal_is_greatest batch units one) (outcomes_are_measured batch units one))
 
 -- ---- the mark
-effect_is_marked : (state : ExchangeState) (command : Command) → IsMarkedFor command (effect state command).0
-effect_is_marked state (Open account) = tt
-effect_is_marked state (Deposit account amount) = tt
-effect_is_marked state (Withdraw account amount) = tt
-effect_is_marked state (Market market underlyings) = tt
-effect_is_marked state (Trade side account market kind strike price quantity count weights) = tt
-effect_is_marked state (Cancel account order) = tt
-effect_is_marked state (Clear market budget) = outcomes_are_marked (batch_in state market) budget
-effect_is_marked state (BalanceOf account) = tt
+effect_marked : (state : ExchangeState) (command : Command) → IsMarkedFor command (effect state command).0
+effect_marked state (Open account) = tt
+effect_marked state (Deposit account amount) = tt
+effect_marked state (Withdraw account amount) = tt
+effect_marked state (Market market underlyings) = tt
+effect_marked state (Trade side account market kind strike price quantity count weights) = tt
+effect_marked state (Cancel account order) = tt
+effect_marked state (Clear market budget) = outcomes_are_marked (batch_in state market) budget
+effect_marked state (BalanceOf account) = tt
 
 pub step_is_marked : StepIsMarked
 step_is_marked state command =
-    unless_refused (λ batch outcome. IsMarked batch (budget_of command) outcome) state (refusal_of state command) (effect state command) (λ none. effect_is_marked state command)
+    unless_refused (λ batch outcome. IsMarked batch (budget_of command) outcome) state (refusal_of state command) (effect state command) (λ none. effect_marked state command)

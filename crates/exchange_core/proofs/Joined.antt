@@ -1,23 +1,22 @@
 -- Ledger and book stay joined: the house is open, live orders are of open accounts, and reserves are the sums over live buys.
 use Rattle.std.proofs.Common.{◌≡◌, ℕ, ◌+◌, ◌≤◌, [], ◌∷◌, ◌++◌, Bool, true, false, if◌then◌else◌, nat_eq, map, Option, None, Some, IsSome, Ok, Err, refl, sym, ap, ◌∙◌, subst, arith}
-use Rattle.std.specs.List.{IsDistinct}
-use Rattle.std.specs.Option.{option_map_or}
 use Rattle.std.proofs.lemmas.Bool.Decides.{nat_tests}
 use Rattle.cash_ledger.specs.Ledger.{LedgerState, is_open, reserved_of}
 use Rattle.cash_ledger.specs.declared.limits.TheConstants.{MAX_RESERVED}
 use Rattle.form.specs.declared.orders.Order.{Order}
 use Rattle.order_book.specs.declared.new_order.NewOrder.{NewOrder}
-use Rattle.order_book.specs.declared.refusal.BookRefusal.TheVariants.{NoOrder, NotOwner}
-use Rattle.order_book.specs.Book.{BookState, market_of, live_of, order_of, numbered, listed, placed, cancelled, batch_finished}
+use Rattle.order_book.specs.Book.{BookState, market_of, live_of, order_of, with_number, with_market, with_order, without_order, after_batch}
 use Rattle.order_book.specs.Markets.{live_orders}
-use Rattle.order_book.specs.Refusals.{market_refusal, place_refusal, batch_refusal}
+use Rattle.order_book.specs.Refusals.{market_refusals, place_refusals, batch_refusals}
+use Rattle.refusals.specs.Refusals.{first_of}
 use Rattle.order_book.specs.Within.{IsNewOrderWithin}
 use Rattle.order_book.proofs.Accepting.{accepts, finishable}
+use Rattle.order_book.proofs.AllLive.{live-without_in_each, live-with_market}
 use Rattle.exchange_core.specs.ExchangeState.{state_of}
 use Rattle.exchange_core.specs.Kept.{IsKept, AreJoined}
-use Rattle.exchange_core.specs.Reserves.{reserve_for, reserve_by, reserve_of, share}
-use Rattle.exchange_core.proofs.Keeping.{entered_keeps, opened_keeps, listed_keeps, placed_keeps, cancelled_keeps, finished_keeps}
-use Rattle.exchange_core.proofs.ReserveSums.{reserve_of-append, reserve_of-replaced, reserve_of-without, reserve_of-small, live-without_order, live-listed}
+use Rattle.exchange_core.specs.Reserves.{cost_of, cost_of_new, reserve_by, reserve_of, own_amount, AddsReserve, FreesReserve, FreesReserves}
+use Rattle.exchange_core.proofs.Keeping.{kept-entries, kept-open, kept-market, kept-place, kept-cancel, kept-batch}
+use Rattle.exchange_core.proofs.ReserveSums.{reserve_of-append, reserve_of-replaced, reserve_of-without, reserve_of-small}
 
 module _ (ledger : LedgerState) (book : BookState) (joined : AreJoined ledger book) where
   -- no reserve is above the most of which more may be reserved
@@ -26,76 +25,66 @@ module _ (ledger : LedgerState) (book : BookState) (joined : AreJoined ledger bo
 
   module _ (after : LedgerState) (same : after.accounts ≡ ledger.accounts) where
     kept : IsKept (state_of after book)
-    kept = entered_keeps (state_of ledger book) joined.kept after.accounts after.entries same
+    kept = kept-entries (state_of ledger book) joined.kept after.accounts after.entries same
 
     -- nothing is reserved and nothing is placed
-    pub joined_stay : ((q : ℕ) → reserved_of after q ≡ reserved_of ledger q) → AreJoined after book
-    joined_stay reserves = record { kept = kept; reserves = λ q. reserves q ∙ joined.reserves q }
+    pub joined-entries : ((q : ℕ) → reserved_of after q ≡ reserved_of ledger q) → AreJoined after book
+    joined-entries reserves = record { kept = kept; reserves = λ q. reserves q ∙ joined.reserves q }
 
-    pub joined_placed : (order : NewOrder) → IsNewOrderWithin order → None ≡ place_refusal book order → is_open ledger.accounts order.account ≡ true
-        → ((q : ℕ) → reserved_of after q ≡ reserved_of ledger q + share q order.account (reserve_for order.side order.quantity order.price))
-        → AreJoined after (placed book order)
-    joined_placed order within none held reserves =
-        let new = numbered (book.accepted + 1) order in
+    pub joined-place : (order : NewOrder) → IsNewOrderWithin order → first_of (place_refusals book order) ≡ None → is_open ledger.accounts order.account ≡ true
+        → AddsReserve ledger after order.account (cost_of_new order)
+        → AreJoined after (with_order book order)
+    joined-place order within none held reserves =
+        let new = with_number (book.accepted + 1) order in
         let live = live_of book order.market in
         let there = subst IsSome (sym (accepts book order none).found) refl in
         record {
-          kept = placed_keeps (state_of after book) kept order within none (ap (λ l. is_open l order.account) same ∙ held);
+          kept = kept-place (state_of after book) kept order within none (ap (λ l. is_open l order.account) same ∙ held);
           reserves = λ q. omega (arith, reserves q, joined.reserves q, reserve_of-append q live (new ∷ []), reserve_of-replaced q order.market (live ++ new ∷ []) book.markets there);
         }
 
-    pub joined_cancelled : (number : ℕ) (order : Order) → order_of book number ≡ Some order → IsDistinct nat_eq (map (λ (o : Order). o.id) (live_orders book.markets))
-        → ((q : ℕ) → reserved_of after q + share q order.account (reserve_for order.side order.quantity order.price) ≡ reserved_of ledger q)
-        → AreJoined after (cancelled book number)
-    joined_cancelled number order found distinct reserves = record {
-      kept = cancelled_keeps (state_of after book) kept number;
-      reserves = λ q. omega (arith, reserves q, joined.reserves q, ap (reserve_of q) (live-without_order number book.markets), reserve_of-without q number order (live_orders book.markets) found distinct);
+    pub joined-cancel : (number : ℕ) (order : Order) → order_of book number ≡ Some order → FreesReserve ledger after order
+        → AreJoined after (without_order book number)
+    joined-cancel number order found reserves = record {
+      kept = kept-cancel (state_of after book) kept number;
+      reserves = λ q. omega (arith, reserves q, joined.reserves q, ap (reserve_of q) (live-without_in_each number book.markets), reserve_of-without q number order (live_orders book.markets) found (joined.kept.book.numbers number));
     }
 
-    pub joined_finished : (market : ℕ) → None ≡ batch_refusal book market
-        → ((q : ℕ) → reserved_of after q + reserve_of q (live_of book market) ≡ reserved_of ledger q)
-        → AreJoined after (batch_finished book market)
-    joined_finished market none reserves =
+    pub joined-batch : (market : ℕ) → first_of (batch_refusals book market) ≡ None
+        → FreesReserves ledger after (live_of book market)
+        → AreJoined after (after_batch book market)
+    joined-batch market none reserves =
         let (m, found, more) = finishable book market none in
         let there = subst IsSome (sym found) refl in
         record {
-          kept = finished_keeps (state_of after book) kept market none;
+          kept = kept-batch (state_of after book) kept market none;
           reserves = λ q. omega (arith, reserves q, joined.reserves q, reserve_of-replaced q market [] book.markets there);
         }
 
   -- an account more
-  pub joined_opened : (after : LedgerState) (account : ℕ) → after.accounts ≡ ledger.accounts ++ account ∷ [] → ((q : ℕ) → reserved_of after q ≡ reserved_of ledger q) → AreJoined after book
-  joined_opened after account same reserves =
-      let opened = opened_keeps (state_of ledger book) joined.kept account in
+  pub joined-open : (after : LedgerState) (account : ℕ) → after.accounts ≡ ledger.accounts ++ account ∷ [] → ((q : ℕ) → reserved_of after q ≡ reserved_of ledger q) → AreJoined after book
+  joined-open after account same reserves =
+      let opened = kept-open (state_of ledger book) joined.kept account in
       record {
-        kept = entered_keeps _ opened after.accounts after.entries same;
+        kept = kept-entries _ opened after.accounts after.entries same;
         reserves = λ q. reserves q ∙ joined.reserves q;
       }
 
   -- a market more
-  pub joined_listed : (market underlyings : ℕ) → None ≡ market_refusal book market → underlyings ≡ 1 → AreJoined ledger (listed book market underlyings)
-  joined_listed market underlyings none one = record {
-    kept = listed_keeps (state_of ledger book) joined.kept market underlyings none one;
-    reserves = λ q. joined.reserves q ∙ ap (reserve_of q) (sym (live-listed market underlyings book.markets));
+  pub joined-market : (market underlyings : ℕ) → first_of (market_refusals book market) ≡ None → underlyings ≡ 1 → AreJoined ledger (with_market book market underlyings)
+  joined-market market underlyings none one = record {
+    kept = kept-market (state_of ledger book) joined.kept market underlyings none one;
+    reserves = λ q. joined.reserves q ∙ ap (reserve_of q) (sym (live-with_market market underlyings book.markets));
   }
 
   -- of an order's account at least as much is reserved as the order reserves
-  pub reserve_there : (number : ℕ) (order : Order) → order_of book number ≡ Some order → IsDistinct nat_eq (map (λ (o : Order). o.id) (live_orders book.markets))
-      → (q : ℕ) → reserve_by q order ≤ reserved_of ledger q
-  reserve_there number order found distinct q =
-      omega (arith, joined.reserves q, reserve_of-without q number order (live_orders book.markets) found distinct)
+  pub reserve_there : (number : ℕ) (order : Order) → order_of book number ≡ Some order → (q : ℕ) → reserve_by q order ≤ reserved_of ledger q
+  reserve_there number order found q =
+      omega (arith, joined.reserves q, reserve_of-without q number order (live_orders book.markets) found (joined.kept.book.numbers number))
 
   -- and of each account at least what the orders of one market reserve
   pub reserve_live : (market : ℕ) → IsSome (market_of book market) → (q : ℕ) → reserve_of q (live_of book market) ≤ reserved_of ledger q
   reserve_live market there q = omega (arith, joined.reserves q, reserve_of-replaced q market [] book.markets there)
 
-pub share_own : (account amount : ℕ) → share account account amount ≡ amount
-share_own account amount = grind (arith, nat_tests)
-
--- the order that a cancel answers is the live order with the number
-pub cancel_found : (found : Option Order) (account : ℕ) (order : Order)
-    → option_map_or (λ (o : Order). if nat_eq account o.account then Ok o else Err NotOwner) found (Err NoOrder) ≡ Ok order → found ≡ Some order
-cancel_found None account order is = cc
-cancel_found (Some o) account order is =
-    let Goal : Bool → Type 0 = λ b. (if b then Ok o else Err NotOwner) ≡ Ok order → Some o ≡ Some order in
-    (elim (nat_eq account o.account) as Goal [ true ↦ λ h. cc | false ↦ λ h. cc ]) is
+pub own_amount-own : (account amount : ℕ) → own_amount account account amount ≡ amount
+own_amount-own account amount = grind (arith, nat_tests)

@@ -6,9 +6,9 @@ use Rattle.std.specs.Option.{option_map_or}
 use Rattle.std.proofs.lemmas.List.Elements.{All-nil, All-cons, All-head, All-tail, All-append, All-filter, All-weaker}
 use Rattle.cash_ledger.specs.Ledger.{is_open}
 use Rattle.form.specs.declared.orders.Order.{Order}
-use Rattle.order_book.specs.Markets.{MarketState, Markets, has_number, live_in, live_orders, with_live, with_live_in, without_order}
+use Rattle.order_book.specs.Markets.{MarketState, Markets, has_number, live_in, live_orders, with_live, with_live_in, without_in_each}
 use Rattle.exchange_core.specs.Kept.{IsOfOpen}
-use Rattle.exchange_core.proofs.ReserveSums.{live-without_order}
+use Rattle.order_book.proofs.AllLive.{live-without_in_each}
 
 module _ {X : Type 0} (P : X → Type 0) where
   All-front : (xs ys : List X) → All P (xs ++ ys) → All P xs
@@ -39,9 +39,9 @@ module _ (P : Order → Type 0) where
         | false ↦ All-append P m.1.live (live_orders (with_live_in market live markets)) front (All-replaced market live markets back new)
       ]
 
-  pub All-taken : (number : ℕ) (markets : Markets) → All P (live_orders markets) → All P (live_orders (without_order number markets))
-  All-taken number markets all =
-      subst (All P) (sym (live-without_order number markets)) (All-filter (λ order. not (has_number number order)) P (live_orders markets) all)
+  pub All-without_in_each : (number : ℕ) (markets : Markets) → All P (live_orders markets) → All P (live_orders (without_in_each number markets))
+  All-without_in_each number markets all =
+      subst (All P) (sym (live-without_in_each number markets)) (All-filter (λ order. not (has_number number order)) P (live_orders markets) all)
 
 -- open accounts stay open as another is opened
 pub any-push : (account : ℕ) (accounts : List ℕ) (new : ℕ) → is_open accounts account ≡ true → is_open (accounts ++ new ∷ []) account ≡ true

@@ -1,83 +1,43 @@
 -- The sums of what live orders reserve, as orders come and go.
 use Rattle.std.proofs.Common.{◌≡◌, ℕ, ◌+◌, ◌*◌, ◌≤◌, List, [], ◌∷◌, ◌++◌, Bool, true, false, cond, not, ◌||◌, if◌then◌else◌, nat_eq, map, length, Some, IsSome, refl, sym, ap, ◌∙◌, subst, arith}
-use Rattle.std.specs.List.{All, AllByRecursion, IsDistinct, find, list_any}
+use Rattle.std.specs.List.{All, find}
 use Rattle.std.specs.Map.{lookup}
-use Rattle.std.specs.Option.{option_map_or}
-use Rattle.std.proofs.lemmas.Bool.Decides.{nat_tests}
-use Rattle.std.proofs.lemmas.List.Elements.{All-head, All-tail, filter-append}
-use Rattle.std.proofs.lemmas.Map.Keys.{IsDistinct-head, IsDistinct-tail}
+use Rattle.std.proofs.lemmas.List.Elements.{All-head, All-tail}
 use Rattle.std.proofs.lemmas.Nat.{mul-le}
 use Rattle.form.specs.declared.limits.TheConstants.{MAX_PRICE, MAX_QUANTITY}
 use Rattle.form.specs.declared.orders.Order.{Order}
 use Rattle.form.specs.declared.orders.Side.{Side}
 use Rattle.form.specs.declared.orders.Side.TheVariants.{Buy, Sell}
 use Rattle.order_book.specs.Kept.{IsLive, IsMarketKept}
-use Rattle.order_book.specs.Markets.{MarketState, Markets, has_number, live_in, live_orders, with_live, with_live_in, without, without_order}
-use Rattle.order_book.proofs.LiveOrders.{without_none}
+use Rattle.order_book.specs.Markets.{MarketState, Markets, has_number, live_in, live_orders, with_live_in, without}
+use Rattle.order_book.specs.Numbers.{number_count}
+use Rattle.order_book.proofs.AllLive.{sum-replaced}
+use Rattle.order_book.proofs.LiveOrders.{without_none, none_counted}
 use Rattle.exchange_core.specs.Reserves.{reserve_for, reserve_by, reserve_of}
 
 pub reserve_of-append : (q : ℕ) (xs ys : List Order) → reserve_of q (xs ++ ys) ≡ reserve_of q xs + reserve_of q ys
 reserve_of-append q [] ys = omega arith
 reserve_of-append q (x ∷ xs) ys = omega (arith, reserve_of-append q xs ys)
 
--- ---- the live orders of one market replaced
+-- the live orders of one market replaced
 pub reserve_of-replaced : (q market : ℕ) (live : List Order) (markets : Markets) → IsSome (lookup (nat_eq market) markets)
     → reserve_of q (live_orders (with_live_in market live markets)) + reserve_of q (live_in market markets) ≡ reserve_of q (live_orders markets) + reserve_of q live
-reserve_of-replaced q market live [] there = cc
-reserve_of-replaced q market live (m ∷ markets) there =
-    let more = reserve_of-append q m.1.live (live_orders markets) in
-    let Goal : Bool → Type 0 = λ b. IsSome (cond b (Some m.1) (lookup (nat_eq market) markets))
-    → reserve_of q (live_orders (if b then (m.0, with_live m.1 live) ∷ markets else m ∷ with_live_in market live markets))
-    + reserve_of q (option_map_or (λ (s : MarketState). s.live) (cond b (Some m.1) (lookup (nat_eq market) markets)) [])
-    ≡ reserve_of q (m.1.live ++ live_orders markets) + reserve_of q live in
-    (elim (nat_eq market m.0) as Goal [
-      | true ↦ λ h. omega (arith, more, reserve_of-append q live (live_orders markets))
-      | false ↦ λ h. omega (arith, more, reserve_of-append q m.1.live (live_orders (with_live_in market live markets)), reserve_of-replaced q market live markets h)
-    ]) there
+reserve_of-replaced q = sum-replaced (reserve_of q) (reserve_of-append q)
 
--- ---- an order taken out
-abbrev pub ids : List Order → List ℕ
-ids orders = map (λ (order : Order). order.id) orders
-
-flipped : (a b : ℕ) → nat_eq a b ≡ false → nat_eq b a ≡ false
-flipped a b other = grind (arith, nat_tests)
-
-none_has : (number : ℕ) (orders : List Order) → AllByRecursion (λ y. nat_eq number y ≡ false) (ids orders) → list_any (has_number number) orders ≡ false
-none_has number [] none = refl
-none_has number (order ∷ orders) none =
-    ap (λ b. b || list_any (has_number number) orders) (flipped number order.id none.0) ∙ none_has number orders none.1
-
-pub live-without_order : (number : ℕ) (markets : Markets) → live_orders (without_order number markets) ≡ without number (live_orders markets)
-live-without_order number [] = refl
-live-without_order number (m ∷ markets) =
-    ap (λ (l : List Order). without number m.1.live ++ l) (live-without_order number markets)
-    ∙ sym (filter-append (λ order. not (has_number number order)) m.1.live (live_orders markets))
-
--- ---- a market more, without live orders
-pub live-listed : (market underlyings : ℕ) (markets : Markets) → live_orders (markets ++ (market, record { underlyings = underlyings; settled = false; live = [] }) ∷ []) ≡ live_orders markets
-live-listed market underlyings [] = refl
-live-listed market underlyings (m ∷ markets) = ap (λ (l : List Order). m.1.live ++ l) (live-listed market underlyings markets)
-
--- with the order in front looked at
-taken_step : (q number : ℕ) (taken order : Order) (orders : List Order) (b : Bool) → nat_eq order.id number ≡ b
-    → AllByRecursion (λ y. nat_eq order.id y ≡ false) (ids orders)
-    → (find (has_number number) orders ≡ Some taken → reserve_of q (without number orders) + reserve_by q taken ≡ reserve_of q orders)
-    → cond b (Some order) (find (has_number number) orders) ≡ Some taken
-    → reserve_of q (cond (not b) (order ∷ without number orders) (without number orders)) + reserve_by q taken ≡ reserve_by q order + reserve_of q orders
-taken_step q number taken order orders true same apart rest found =
-    let is : order ≡ taken = cc in
-    let at : order.id ≡ number = grind (arith, nat_tests) in
-    let none = subst (λ n. AllByRecursion (λ y. nat_eq n y ≡ false) (ids orders)) at apart in
-    omega (arith, ap (reserve_of q) (without_none number orders (none_has number orders none)), ap (reserve_by q) is)
-taken_step q number taken order orders false other apart rest found = omega (arith, rest found)
-
--- the live order with a number taken out of orders whose numbers differ
-pub reserve_of-without : (q number : ℕ) (taken : Order) (orders : List Order) → find (has_number number) orders ≡ Some taken → IsDistinct nat_eq (ids orders)
+-- the order with a number taken out of orders of which no other has it
+pub reserve_of-without : (q number : ℕ) (taken : Order) (orders : List Order) → find (has_number number) orders ≡ Some taken → number_count number orders ≤ 1
     → reserve_of q (without number orders) + reserve_by q taken ≡ reserve_of q orders
-reserve_of-without q number taken [] found distinct = cc
-reserve_of-without q number taken (order ∷ orders) found distinct =
-    taken_step q number taken order orders (nat_eq order.id number) refl (IsDistinct-head nat_eq order.id (ids orders) distinct)
-    (λ h. reserve_of-without q number taken orders h (IsDistinct-tail nat_eq order.id (ids orders) distinct)) found
+reserve_of-without q number taken [] found once = cc
+reserve_of-without q number taken (order ∷ orders) found once = by (nat_eq number order.id) found once (reserve_of-without q number taken orders)
+  where
+    by : (b : Bool) → cond b (Some order) (find (has_number number) orders) ≡ Some taken → (if b then 1 else 0) + number_count number orders ≤ 1
+        → (find (has_number number) orders ≡ Some taken → number_count number orders ≤ 1 → reserve_of q (without number orders) + reserve_by q taken ≡ reserve_of q orders)
+        → reserve_of q (cond (not b) (order ∷ without number orders) (without number orders)) + reserve_by q taken ≡ reserve_by q order + reserve_of q orders
+    by true h one later =
+        let same : order ≡ taken = cc in
+        let none = none_counted number orders (omega arith) in
+        omega (arith, ap (reserve_of q) (without_none number orders none), ap (reserve_by q) same)
+    by false h one later = omega (arith, later h (omega arith))
 
 -- ---- how much is reserved at most
 cost_small : (side : Side) (quantity price : ℕ) → quantity ≤ MAX_QUANTITY → price ≤ MAX_PRICE → reserve_for side quantity price ≤ 1000000000000000000

@@ -1,6 +1,6 @@
 pub mod Covered
 pub mod ExchangeState
-pub mod Holding
+pub mod Failures
 pub mod Kept
 pub mod Laws
 pub mod Orders
@@ -10,6 +10,5 @@ pub mod Refusals
 pub mod Reply
 pub mod Reserves
 pub mod Step
-pub mod Stops
 pub mod Within
 pub mod Worked

@@ -4,19 +4,21 @@ ghost use Rattle.std.specs.List.{All};
 ghost use Rattle.cash_ledger.specs.Ledger.{is_open, KeepsReserves};
 ghost use Rattle.clearing.specs.Outcome.{IsMarked};
 ghost use Rattle.frac.specs.Value.{fraction_of};
+ghost use Rattle.order_book.specs.Refusals.{batch_refusals};
+ghost use Rattle.refusals.specs.Refusals.{TellsFirst};
 ghost use Rattle.settlement.specs.Premium.{IsHeld};
 ghost use Rattle.exchange_core.specs.Covered.{IfCleared};
 ghost use Rattle.exchange_core.specs.ExchangeState.{state_of};
 ghost use Rattle.exchange_core.specs.Kept.{IsPayable, AreJoined};
 ghost use Rattle.exchange_core.specs.Premiums.{premiums_of, premium_entries};
-ghost use Rattle.exchange_core.specs.Refusals.{first_of, clear_refusals};
-ghost use Rattle.exchange_core.specs.Step.{cleared};
-ghost use Rattle.exchange_core.specs.Stops.{refusal_in};
+ghost use Rattle.exchange_core.specs.Failures.{unless_memory};
+ghost use Rattle.exchange_core.specs.Refusals.{by_book};
+ghost use Rattle.exchange_core.specs.Step.{clear_effect, Does};
 ghost use Rattle.exchange_core.specs.Within.{IsBudget};
 
 use crate::Reply;
-use crate::reserve::give_all_free;
-use crate::stop::Stop;
+use crate::failure::Failure;
+use crate::reserve::release_all;
 use cash_ledger::{Cause, Ledger};
 use exact_num::Exact;
 use form::{Order, Side};
@@ -31,7 +33,8 @@ fn pay(ledger: &mut Ledger, batch: u32, order: &Order, fill: &Frac128)
     requires house { is_open ledger.old.accounts 0 ≡ true }
     requires fill { IsHeld (fraction_of fill.now) }
     requires room { 2 ≤ ledger.old.spare }
-    ensures entries { ledger.new.entries ≡ ledger.old.entries ++ premiums_of batch order.now (fraction_of fill.now) }
+    ensures entries { ledger.new.entries
+        ≡ ledger.old.entries ++ premiums_of batch order.now (fraction_of fill.now) }
     ensures accounts { ledger.new.accounts ≡ ledger.old.accounts }
     ensures spare { ledger.old.spare ≤ ledger.new.spare + 2 }
     ensures reserves { KeepsReserves ledger.old ledger.new }
@@ -54,7 +57,8 @@ fn pay_all(ledger: &mut Ledger, batch: u32, orders: &[Order], fills: &[Frac128])
     requires size { length fills.now ≡ length orders.now }
     requires fills { All (λ fill. IsHeld (fraction_of fill)) fills.now }
     requires room { 2 * length orders.now ≤ ledger.old.spare }
-    ensures entries { ledger.new.entries ≡ ledger.old.entries ++ premium_entries batch orders.now fills.now }
+    ensures entries { ledger.new.entries
+        ≡ ledger.old.entries ++ premium_entries batch orders.now fills.now }
     ensures accounts { ledger.new.accounts ≡ ledger.old.accounts }
     ensures reserves { KeepsReserves ledger.old ledger.new }
 {
@@ -71,11 +75,12 @@ pub(crate) fn clear(
     book: &mut Book,
     market: u32,
     budget: u32,
-) -> Result<Reply, Stop>
+) -> Result<Reply, Failure>
     requires joined { AreJoined ledger.old book.old }
     requires budget { IsBudget budget }
-    ensures refused { refusal_in result ≡ first_of (clear_refusals book.old market) }
-    ensures ok { IfOk result (λ reply. (reply, state_of ledger.new book.new) ≡ cleared (state_of ledger.old book.old) market budget) }
+    ensures refused { TellsFirst unless_memory result (by_book (batch_refusals book.old market)) }
+    ensures ok { Does result (state_of ledger.new book.new)
+        (clear_effect (state_of ledger.old book.old) market budget) }
     ensures marked { IfOk result (IfCleared (λ batch outcome. IsMarked batch budget outcome)) }
     ensures joined { AreJoined ledger.new book.new }
     ensures err { OnErr result (state_of ledger.new book.new ≡ state_of ledger.old book.old) }
@@ -86,7 +91,7 @@ pub(crate) fn clear(
     ledger.room(2 * orders.len())?;
     let number = book.finish_batch(market);
     pay_all(ledger, number, orders, outcome.fills.as_slice());
-    give_all_free(ledger, orders);
+    release_all(ledger, orders);
     Ok(Reply::Cleared {
         number,
         market,

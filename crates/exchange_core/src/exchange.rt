@@ -3,18 +3,19 @@ ghost use Rattle.cash_ledger.specs.Entries.{AreBounded};
 ghost use Rattle.cash_ledger.specs.Ledger.{balance_in};
 ghost use Rattle.clearing.specs.Outcome.{IsMarked};
 ghost use Rattle.order_book.specs.Within.{IsNewOrderWithin};
+ghost use Rattle.refusals.specs.Refusals.{TellsFirst};
 ghost use Rattle.exchange_core.specs.declared.command.Command.TheVariants as Command;
 ghost use Rattle.exchange_core.specs.Covered.{IfCleared, IsMarkedFor};
 ghost use Rattle.exchange_core.specs.ExchangeState.{empty_exchange};
 ghost use Rattle.exchange_core.specs.Kept.{IsKept};
-ghost use Rattle.exchange_core.specs.Refusals.{refusal_of, place_refusals, clear_refusals, first_of};
-ghost use Rattle.exchange_core.specs.Step.{step, effect, placed, cleared};
-ghost use Rattle.exchange_core.specs.Stops.{refusal_in};
+ghost use Rattle.exchange_core.specs.Failures.{unless_memory};
+ghost use Rattle.exchange_core.specs.Refusals.{refusals, place_refusals};
+ghost use Rattle.exchange_core.specs.Step.{step, effect, place_effect, clear_effect, Does};
 ghost use Rattle.exchange_core.specs.Within.{IsWithin, IsAccount, IsAmount, IsBudget};
 
 use crate::clear::clear;
+use crate::failure::Failure;
 use crate::place::{cancel, place};
-use crate::stop::Stop;
 use crate::trade::option_form;
 use crate::{Command, Refusal, Reply};
 use cash_ledger::{Ledger, LedgerRefusal};
@@ -42,7 +43,7 @@ impl Model for Exchange {
 }
 
 impl Exchange {
-    /// No account but the house, no entry, no market and no order. Takes no memory.
+    /// No account but the house, no entry, no market and no order.
     pub fn new(alloc: Global) -> Self
         ensures { result ≡ empty_exchange }
     {
@@ -55,7 +56,7 @@ impl Exchange {
 
     /// The balance of an open account, in ticks, or of the house, which is account 0.
     ///
-    /// `None` where the account is not open. Takes no memory.
+    /// `None` where the account is not open.
     pub fn balance(&self, account: u32) -> Option<i128>
         ensures value { result ≡ balance_in self.now.accounts self.now.entries account }
         ensures bounded { AreBounded self.now.entries }
@@ -65,44 +66,48 @@ impl Exchange {
         self.ledger.balance(account)
     }
 
-    fn open(&mut self, account: u32) -> Result<Reply, Stop>
+    fn open(&mut self, account: u32) -> Result<Reply, Failure>
         requires { IsAccount account }
-        ensures refused { refusal_in result ≡ refusal_of self.old (Command.Open account) }
-        ensures ok { IfOk result (λ reply. (reply, self.new) ≡ effect self.old (Command.Open account)) }
+        ensures refused { TellsFirst unless_memory result
+            (refusals self.old (Command.Open account)) }
+        ensures ok { Does result self.new (effect self.old (Command.Open account)) }
         ensures err { OnErr result (self.new ≡ self.old) }
     {
         self.ledger.open(account)?;
         Ok(Reply::Opened { account })
     }
 
-    fn deposit(&mut self, account: u32, amount: u64) -> Result<Reply, Stop>
+    fn deposit(&mut self, account: u32, amount: u64) -> Result<Reply, Failure>
         requires { IsAmount amount }
-        ensures refused { refusal_in result ≡ refusal_of self.old (Command.Deposit account amount) }
-        ensures ok { IfOk result (λ reply. (reply, self.new) ≡ effect self.old (Command.Deposit account amount)) }
+        ensures refused { TellsFirst unless_memory result
+            (refusals self.old (Command.Deposit account amount)) }
+        ensures ok { Does result self.new (effect self.old (Command.Deposit account amount)) }
         ensures err { OnErr result (self.new ≡ self.old) }
     {
         let balance = self.ledger.deposit(account, amount)?;
         Ok(Reply::Deposited { account, balance })
     }
 
-    fn withdraw(&mut self, account: u32, amount: u64) -> Result<Reply, Stop>
+    fn withdraw(&mut self, account: u32, amount: u64) -> Result<Reply, Failure>
         requires { IsAmount amount }
-        ensures refused { refusal_in result ≡ refusal_of self.old (Command.Withdraw account amount) }
-        ensures ok { IfOk result (λ reply. (reply, self.new) ≡ effect self.old (Command.Withdraw account amount)) }
+        ensures refused { TellsFirst unless_memory result
+            (refusals self.old (Command.Withdraw account amount)) }
+        ensures ok { Does result self.new (effect self.old (Command.Withdraw account amount)) }
         ensures err { OnErr result (self.new ≡ self.old) }
     {
         let balance = self.ledger.withdraw(account, amount)?;
         Ok(Reply::Withdrawn { account, balance })
     }
 
-    fn list(&mut self, market: u32, underlyings: u8) -> Result<Reply, Stop>
-        ensures refused { refusal_in result ≡ refusal_of self.old (Command.Market market underlyings) }
-        ensures ok { IfOk result (λ reply. (reply, self.new) ≡ effect self.old (Command.Market market underlyings)) }
+    fn list(&mut self, market: u32, underlyings: u8) -> Result<Reply, Failure>
+        ensures refused { TellsFirst unless_memory result
+            (refusals self.old (Command.Market market underlyings)) }
+        ensures ok { Does result self.new (effect self.old (Command.Market market underlyings)) }
         ensures err { OnErr result (self.new ≡ self.old) }
     {
         self.book.check_market(market)?;
         if underlyings != 1 {
-            return Err(Stop::Refused(Refusal::NotBuilt));
+            return Err(Failure::Refused(Refusal::NotBuilt));
         }
         self.book.market(market, underlyings)?;
         Ok(Reply::Listed {
@@ -111,38 +116,41 @@ impl Exchange {
         })
     }
 
-    fn place(&mut self, order: &NewOrder) -> Result<Reply, Stop>
+    fn place(&mut self, order: &NewOrder) -> Result<Reply, Failure>
         requires { IsNewOrderWithin order.now }
-        ensures refused { refusal_in result ≡ first_of (place_refusals self.old order.now) }
-        ensures ok { IfOk result (λ reply. (reply, self.new) ≡ placed self.old order.now) }
+        ensures refused { TellsFirst unless_memory result (place_refusals self.old order.now) }
+        ensures ok { Does result self.new (place_effect self.old order.now) }
         ensures err { OnErr result (self.new ≡ self.old) }
     {
         let order = place(&mut self.ledger, &mut self.book, order)?;
         Ok(Reply::Placed { order })
     }
 
-    fn cancel(&mut self, account: u32, order: u64) -> Result<Reply, Stop>
-        ensures refused { refusal_in result ≡ refusal_of self.old (Command.Cancel account order) }
-        ensures ok { IfOk result (λ reply. (reply, self.new) ≡ effect self.old (Command.Cancel account order)) }
+    fn cancel(&mut self, account: u32, order: u64) -> Result<Reply, Failure>
+        ensures refused { TellsFirst unless_memory result
+            (refusals self.old (Command.Cancel account order)) }
+        ensures ok { Does result self.new (effect self.old (Command.Cancel account order)) }
         ensures err { OnErr result (self.new ≡ self.old) }
     {
         cancel(&mut self.ledger, &mut self.book, account, order)?;
         Ok(Reply::Cancelled { order })
     }
 
-    fn clear(&mut self, market: u32, budget: u32) -> Result<Reply, Stop>
+    fn clear(&mut self, market: u32, budget: u32) -> Result<Reply, Failure>
         requires { IsBudget budget }
-        ensures refused { refusal_in result ≡ first_of (clear_refusals self.old.book market) }
-        ensures ok { IfOk result (λ reply. (reply, self.new) ≡ cleared self.old market budget) }
+        ensures refused { TellsFirst unless_memory result
+            (refusals self.old (Command.Clear market budget)) }
+        ensures ok { Does result self.new (clear_effect self.old market budget) }
         ensures marked { IfOk result (IfCleared (λ batch outcome. IsMarked batch budget outcome)) }
         ensures err { OnErr result (self.new ≡ self.old) }
     {
         clear(self.alloc, &mut self.ledger, &mut self.book, market, budget)
     }
 
-    fn tell_balance(&self, account: u32) -> Result<Reply, Stop>
-        ensures refused { refusal_in result ≡ refusal_of self.now (Command.Balance account) }
-        ensures ok { IfOk result (λ reply. (reply, self.now) ≡ effect self.now (Command.Balance account)) }
+    fn tell_balance(&self, account: u32) -> Result<Reply, Failure>
+        ensures refused { TellsFirst unless_memory result
+            (refusals self.now (Command.Balance account)) }
+        ensures ok { Does result self.now (effect self.now (Command.Balance account)) }
     {
         let balance = self
             .ledger
@@ -157,10 +165,10 @@ impl Exchange {
     }
 
     // Carries out a command, or says why it has no effect.
-    fn carry_out(&mut self, command: &Command) -> Result<Reply, Stop>
+    fn carry_out(&mut self, command: &Command) -> Result<Reply, Failure>
         requires { IsWithin command.now }
-        ensures refused { refusal_in result ≡ refusal_of self.old command.now }
-        ensures ok { IfOk result (λ reply. (reply, self.new) ≡ effect self.old command.now) }
+        ensures refused { TellsFirst unless_memory result (refusals self.old command.now) }
+        ensures ok { Does result self.new (effect self.old command.now) }
         ensures marked { IfOk result (IsMarkedFor command.now) }
         ensures err { OnErr result (self.new ≡ self.old) }
     {
@@ -201,7 +209,7 @@ impl Exchange {
     /// A command that is refused, and one that finds no memory, has changed nothing.
     pub fn step(&mut self, command: &Command) -> Result<Reply, AllocError>
         requires { IsWithin command.now }
-        ensures ok { IfOk result (λ reply. (reply, self.new) ≡ step self.old command.now) }
+        ensures ok { Does result self.new (step self.old command.now) }
 
         // A batch lacks the mark optimal only where the run stops, and says where.
         ensures marked { IfOk result (IsMarkedFor command.now) }
@@ -209,8 +217,8 @@ impl Exchange {
     {
         match self.carry_out(command) {
             Ok(reply) => Ok(reply),
-            Err(Stop::Refused(refusal)) => Ok(Reply::refused(refusal)),
-            Err(Stop::Memory) => Err(AllocError),
+            Err(Failure::Refused(refusal)) => Ok(Reply::refused(refusal)),
+            Err(Failure::Memory) => Err(AllocError),
         }
     }
 }

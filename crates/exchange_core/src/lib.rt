@@ -1,16 +1,18 @@
 //! The exchange: one step for each command, over the accounts of its ledger and the markets of its book.
+//!
+//! A call takes memory only where it may answer want of it.
 #![tactic(auto)]
 
 mod clear;
 mod command;
 mod exchange;
+mod failure;
 pub mod laws;
 mod limits;
 mod place;
 mod refusal;
 mod reply;
 mod reserve;
-mod stop;
 mod trade;
 
 pub use cash_ledger::{MAX_ACCOUNT, MAX_AMOUNT};

@@ -1,54 +1,38 @@
 // How an order is placed and taken out again: the book holds it, and the ledger reserves what it costs.
-ghost use Rattle.std.specs.Prelude.{◌≡◌, ◌≢◌, ◌+◌, Err, IfOk, OnOk, OnErr};
-ghost use Rattle.order_book.specs.Book.{placed, cancelled};
+ghost use Rattle.std.specs.Prelude.{◌≡◌, ◌+◌, IfOk, OnOk, OnErr};
+ghost use Rattle.order_book.specs.Book.{with_order, without_order};
 ghost use Rattle.order_book.specs.Within.{IsNewOrderWithin};
-ghost use Rattle.exchange_core.specs.declared.stop.Stop.TheVariants as Stop;
+ghost use Rattle.exchange_core.specs.declared.command.Command.TheVariants as Command;
 ghost use Rattle.exchange_core.specs.ExchangeState.{state_of};
 ghost use Rattle.exchange_core.specs.Kept.{AreJoined};
-ghost use Rattle.exchange_core.specs.Refusals.{first_of, by_market, place_refusals, cancel_refusals};
-ghost use Rattle.exchange_core.specs.Stops.{refusal_in};
+ghost use Rattle.exchange_core.specs.Refusals.{refusals, place_refusals};
+ghost use Rattle.exchange_core.specs.Failures.{unless_memory};
+ghost use Rattle.refusals.specs.Refusals.{TellsFirst};
 
-use crate::Refusal;
-use crate::reserve::{give_free, hold};
-use crate::stop::Stop;
+use crate::failure::Failure;
+use crate::reserve::{release_cost, reserve_cost};
 use cash_ledger::{Ledger, LedgerRefusal};
 use order_book::{Book, NewOrder};
 
-// Looks whether an order's market is there, not settled and for the order's option.
-fn check_market(book: &Book, order: &NewOrder) -> Result<(), Stop>
-    ensures refused { refusal_in result ≡ first_of (by_market book.now order.now) }
-    ensures no_memory { result ≢ Err Stop.Memory }
-{
-    let market = book
-        .info(order.market)
-        .ok_or(Stop::Refused(Refusal::NoMarket))?;
-    if market.settled {
-        return Err(Stop::Refused(Refusal::Settled));
-    }
-    if order.form.count - 1 != market.underlyings {
-        return Err(Stop::Refused(Refusal::WeightCount));
-    }
-    Ok(())
-}
-
 // Places an order and reserves what it costs, and answers its number.
-pub(crate) fn place(ledger: &mut Ledger, book: &mut Book, order: &NewOrder) -> Result<u64, Stop>
+pub(crate) fn place(ledger: &mut Ledger, book: &mut Book, order: &NewOrder) -> Result<u64, Failure>
     requires joined { AreJoined ledger.old book.old }
     requires within { IsNewOrderWithin order.now }
-    ensures refused { refusal_in result ≡ first_of (place_refusals (state_of ledger.old book.old) order.now) }
+    ensures refused { TellsFirst unless_memory result
+        (place_refusals (state_of ledger.old book.old) order.now) }
     ensures number { IfOk result (λ number. number ≡ book.old.accepted + 1) }
-    ensures ok { OnOk result (book.new ≡ placed book.old order.now) }
+    ensures ok { OnOk result (book.new ≡ with_order book.old order.now) }
     ensures accounts { ledger.new.accounts ≡ ledger.old.accounts }
     ensures entries { ledger.new.entries ≡ ledger.old.entries }
     ensures joined { AreJoined ledger.new book.new }
     ensures err { OnErr result (book.new ≡ book.old) }
 {
-    check_market(book, order)?;
-    let held = hold(ledger, order)?;
+    book.check_order(order)?;
+    let cost = reserve_cost(ledger, order)?;
     match book.place(order) {
         Ok(number) => Ok(number),
         Err(refusal) => {
-            ledger.release(order.account, held);
+            ledger.release(order.account, cost);
             Err(refusal.into())
         }
     }
@@ -60,10 +44,11 @@ pub(crate) fn cancel(
     book: &mut Book,
     account: u32,
     number: u64,
-) -> Result<(), Stop>
+) -> Result<(), Failure>
     requires joined { AreJoined ledger.old book.old }
-    ensures refused { refusal_in result ≡ first_of (cancel_refusals (state_of ledger.old book.old) account number) }
-    ensures ok { OnOk result (book.new ≡ cancelled book.old number) }
+    ensures refused { TellsFirst unless_memory result
+        (refusals (state_of ledger.old book.old) (Command.Cancel account number)) }
+    ensures ok { OnOk result (book.new ≡ without_order book.old number) }
     ensures accounts { ledger.new.accounts ≡ ledger.old.accounts }
     ensures entries { ledger.new.entries ≡ ledger.old.entries }
     ensures joined { AreJoined ledger.new book.new }
@@ -71,6 +56,6 @@ pub(crate) fn cancel(
 {
     ledger.balance(account).ok_or(LedgerRefusal::NoAccount)?;
     let order = book.cancel(account, number)?;
-    give_free(ledger, &order);
+    release_cost(ledger, &order);
     Ok(())
 }

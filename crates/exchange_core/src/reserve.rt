@@ -4,11 +4,12 @@ ghost use Rattle.std.specs.List.{All};
 ghost use Rattle.cash_ledger.specs.declared.limits.TheConstants.{MAX_RESERVED};
 ghost use Rattle.cash_ledger.specs.declared.ledger.LedgerRefusal.TheVariants as LedgerRefusal;
 ghost use Rattle.cash_ledger.specs.Ledger.{reserved_of};
-ghost use Rattle.cash_ledger.specs.Refusals.{refusal_in};
+ghost use Rattle.cash_ledger.specs.Refusals.{unless_memory};
 ghost use Rattle.form.specs.declared.limits.TheConstants.{MAX_PRICE, MAX_QUANTITY};
 ghost use Rattle.exchange_core.specs.Kept.{IsPayable};
-ghost use Rattle.exchange_core.specs.Reserves.{reserve_for, reserve_by, reserve_of, share};
-ghost use Rattle.exchange_core.specs.Holding.{hold_refusal};
+ghost use Rattle.exchange_core.specs.Refusals.{order_cost_refusals};
+ghost use Rattle.exchange_core.specs.Reserves.{cost_of, cost_of_new, reserve_of, AddsReserve, FreesReserve, FreesReserves};
+ghost use Rattle.refusals.specs.Refusals.{TellsFirst};
 
 use cash_ledger::{Ledger, LedgerRefusal};
 use form::{Order, Side};
@@ -25,15 +26,15 @@ fn cost(quantity: u32, price: u64) -> u64
 }
 
 // Looks whether the account of an order is open, and reserves what a buy costs. Answers what it reserved, in ticks.
-pub(crate) fn hold(ledger: &mut Ledger, order: &NewOrder) -> Result<u64, LedgerRefusal>
+pub(crate) fn reserve_cost(ledger: &mut Ledger, order: &NewOrder) -> Result<u64, LedgerRefusal>
     requires quantity { order.now.quantity ≤ MAX_QUANTITY }
     requires price { order.now.price ≤ MAX_PRICE }
     requires reserved { reserved_of ledger.old order.now.account ≤ MAX_RESERVED }
-    ensures refused { refusal_in result ≡ hold_refusal order.now.side ledger.old order.now }
+    ensures refused { TellsFirst unless_memory result (order_cost_refusals ledger.old order.now) }
     ensures no_memory { result ≢ Err LedgerRefusal.Memory }
-    ensures held { IfOk result (λ held. held ≡ reserve_for order.now.side order.now.quantity order.now.price) }
-    ensures reserves { OnOk result ((q : ℕ) → reserved_of ledger.new q ≡ reserved_of ledger.old q
-        + share q order.now.account (reserve_for order.now.side order.now.quantity order.now.price)) }
+    ensures cost { IfOk result (λ cost. cost ≡ cost_of_new order.now) }
+    ensures reserves { OnOk result
+        (AddsReserve ledger.old ledger.new order.now.account (cost_of_new order.now)) }
     ensures accounts { ledger.new.accounts ≡ ledger.old.accounts }
     ensures entries { ledger.new.entries ≡ ledger.old.entries }
     ensures err { OnErr result (ledger.new ≡ ledger.old) }
@@ -54,10 +55,10 @@ pub(crate) fn hold(ledger: &mut Ledger, order: &NewOrder) -> Result<u64, LedgerR
 }
 
 // Gives free what an order reserves.
-pub(crate) fn give_free(ledger: &mut Ledger, order: &Order)
+pub(crate) fn release_cost(ledger: &mut Ledger, order: &Order)
     requires payable { IsPayable ledger.old.accounts order.now }
-    requires reserved { reserve_for order.now.side order.now.quantity order.now.price ≤ reserved_of ledger.old order.now.account }
-    ensures reserves { (q : ℕ) → reserved_of ledger.new q + reserve_by q order.now ≡ reserved_of ledger.old q }
+    requires reserved { cost_of order.now ≤ reserved_of ledger.old order.now.account }
+    ensures reserves { FreesReserve ledger.old ledger.new order.now }
     ensures accounts { ledger.new.accounts ≡ ledger.old.accounts }
     ensures entries { ledger.new.entries ≡ ledger.old.entries }
 {
@@ -67,14 +68,14 @@ pub(crate) fn give_free(ledger: &mut Ledger, order: &Order)
 }
 
 // Gives free what these orders reserve.
-pub(crate) fn give_all_free(ledger: &mut Ledger, orders: &[Order])
+pub(crate) fn release_all(ledger: &mut Ledger, orders: &[Order])
     requires payable { All (IsPayable ledger.old.accounts) orders.now }
     requires reserved { (q : ℕ) → reserve_of q orders.now ≤ reserved_of ledger.old q }
-    ensures reserves { (q : ℕ) → reserved_of ledger.new q + reserve_of q orders.now ≡ reserved_of ledger.old q }
+    ensures reserves { FreesReserves ledger.old ledger.new orders.now }
     ensures accounts { ledger.new.accounts ≡ ledger.old.accounts }
     ensures entries { ledger.new.entries ≡ ledger.old.entries }
 {
     for order in orders {
-        give_free(ledger, order);
+        release_cost(ledger, order);
     }
 }

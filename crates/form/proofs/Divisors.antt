@@ -11,18 +11,8 @@ use Rattle.std.proofs.lemmas.List.Sums.{sum_by-cons}
 use Rattle.std.proofs.lemmas.Nat.Gcd.{dvd_trans}
 use Rattle.arithmetic.specs.Gcd.{gcd}
 use Rattle.arithmetic.specs.Sums.{positive_part}
-use Rattle.arithmetic.proofs.GcdLaws.{gcd_unique, gcd_dvd_left, gcd_dvd_right, dvd_gcd, gcd-zero, gcd_pos_left, gcd_pos_right, pos_of_quotient, gcd-mul}
+use Rattle.arithmetic.proofs.GcdLaws.{gcd_assoc, gcd_unique, gcd_dvd_left, gcd_dvd_right, dvd_gcd, gcd-zero, gcd_pos_left, gcd_pos_right, pos_of_quotient, gcd-mul}
 use Rattle.form.specs.Primitive.{common_divisor, primitive_vector, PrimitiveVectorsArePrimitive}
-
-pub gcd_assoc : (a b c : ℕ) → gcd (gcd a b) c ≡ gcd a (gcd b c)
-gcd_assoc a b c =
-    let g = gcd a (gcd b c) in
-    let of_rest : g ∣ gcd b c = gcd_dvd_right a (gcd b c) in
-    gcd_unique (gcd a b) c g (
-      dvd_gcd g a b (gcd_dvd_left a (gcd b c)) (dvd_trans g of_rest (gcd_dvd_left b c)),
-      dvd_trans g of_rest (gcd_dvd_right b c),
-      λ d p q. dvd_gcd d a (gcd b c) (dvd_trans d p (gcd_dvd_left a b)) (dvd_gcd d b c (dvd_trans d p (gcd_dvd_right a b)) q),
-    )
 
 -- one entry more
 pub divisor_more : (z : List ℕ) (i g : ℕ) → i < length z → gcd g (common_divisor (drop i z)) ≡ gcd (gcd g (get_or z i 0)) (common_divisor (drop (i + 1) z))

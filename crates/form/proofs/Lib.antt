@@ -10,3 +10,4 @@ pub mod Multiples
 pub mod StateOf
 pub mod Directions
 pub mod WorkedStates
+pub mod MadeEntries

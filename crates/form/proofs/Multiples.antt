@@ -22,19 +22,6 @@ use Rattle.exact_num.proofs.Exactness.{products_are_exact}
 use Rattle.exact_num.proofs.WholeNumbers.{mul_whole_is, whole_fits}
 use Rattle.form.specs.Primitive.{IsDirection, multiple_with, common_multiple_of, multiples_of, primitive_vector, primitive_of}
 
--- ---- whole numbers within the limit are taken in
-pub taken_in : {T : Type 0} (f : T → Fraction) (r : Result T Wide) (t : T) (limit : ℕ) (v : ℤ) → unsigned_abs v ≤ limit
-    → meaning f r ≡ whole_of limit v → r ≡ Ok t → f t ≡ whole v
-taken_in f r t limit v le m is =
-    let e : meaning f (Ok t) ≡ Ok (whole v) = sym (ap (meaning f) is) ∙ m ∙ whole_fits limit v le in
-    cc
-
-pub never_wide : {T : Type 0} (f : T → Fraction) (r : Result T Wide) (w : Wide) (limit : ℕ) (v : ℤ) → unsigned_abs v ≤ limit
-    → meaning f r ≡ whole_of limit v → r ≡ Err w → ⊥
-never_wide f r w limit v le m is =
-    let e : meaning f (Err w) ≡ Ok (whole v) = sym (ap (meaning f) is) ∙ m ∙ whole_fits limit v le in
-    cc
-
 -- ---- the common multiple
 pub quotient_small : (p : ℤ) (g : ℕ) → FitsSigned w128 p → pos 1 ≤ℤ p → unsigned_abs p / g < 2 ^ 127
 quotient_small (pos n) g fits above = omega (arith, fits.sfits, div-le_self n g)

@@ -1,6 +1,7 @@
 -- The state of a vector, for definitions that make states.
-use Rattle.std.proofs.Common.{◌≡◌, refl, ℕ, ◌-◌, ◌≤◌, ◌++◌, [], ◌∷◌, ◌&&◌, Bool, true, false, nat_le, nat_lt, List, length, map, take, replicate, get_or, ℤ, pos, ◌≤ℤ◌, ap, ◌∙◌, arith, length-append, inl, inr}
-use Rattle.std.specs.List.{sum}
+use Rattle.std.proofs.Common.{◌≡◌, refl, ℕ, ◌-◌, ◌≤◌, ◌++◌, [], ◌∷◌, ◌&&◌, Bool, true, false, nat_le, nat_lt, int_le, Option, Some, None, List, length, map, take, replicate, get_or, ℤ, pos, ◌≤ℤ◌, ap, ◌∙◌, arith, length-append, inl, inr}
+use Rattle.std.specs.Prelude.{if◌then◌else◌}
+use Rattle.std.specs.List.{list_all, sum}
 use Rattle.std.proofs.lemmas.Bool.{and_parts, cases_lt, leb-true, ltb-true}
 use Rattle.std.proofs.lemmas.Int.{ints}
 use Rattle.std.proofs.lemmas.List.{get_or-replicate, get_or_past, length-map, length-replicate, take-map, take_at}
@@ -68,3 +69,7 @@ made_or_first z false e = made (1 ∷ 0 ∷ []) refl
 -- the state of a vector, and the price 0 for a vector that is none
 unfoldable pub state_of : List ℕ → State
 state_of z = made_or_first z (is_state z) refl
+
+-- the state whose vector is v, where v is one: 2 to 9 entries, none below 0 and some above
+abbrev pub state_from : List ℤ → Option State
+state_from v = if list_all (int_le (pos 0)) v && is_state (map positive_part v) then Some (state_of (map positive_part v)) else None

@@ -3,7 +3,9 @@ use Rattle.std.specs.Prelude.{ℕ, List, zip, ℤ, pos, Result, Ok, ◌≡◌}
 use Rattle.exact_num.specs.declared.misfit.Wide.{Wide}
 use Rattle.exact_num.specs.Fraction.{Fraction, whole}
 use Rattle.exact_num.specs.Fits.{after}
-use Rattle.exact_num.specs.Steps.{fold_steps, plus_product}
+use Rattle.exact_num.specs.Steps.{fold_steps, plus_product, less_product}
+use Rattle.form.specs.declared.orders.Side.{Side}
+use Rattle.form.specs.declared.orders.Side.TheVariants.{Buy, Sell}
 use Rattle.form.specs.Vector.{positive_part, payoff}
 
 -- the total and the product of an entry of an option and one of a state
@@ -17,6 +19,11 @@ or_zero x = whole (pos (positive_part x.numerator))
 -- the payoff of the option at the state: a sum of whole numbers, or 0 where that is below 0
 unfoldable pub payoff_of : ℕ → List ℤ → List ℕ → Result Fraction Wide
 payoff_of limit v z = after (fold_steps (add_entry limit) (whole (pos 0)) (zip v z)) (λ sum. Ok (or_zero sum))
+
+-- the total and the product, which a sell subtracts
+abbrev pub add_for_side : ℕ → Fraction → Side → Fraction → Fraction → Result Fraction Wide
+add_for_side limit total Buy a b = plus_product limit total a b
+add_for_side limit total Sell a b = less_product limit total a b
 
 -- where each step fits, that is what the option pays
 abbrev pub PayoffsAreExact : Type 0

@@ -2,12 +2,14 @@
 #![tactic(auto)]
 
 pub mod forms;
+pub mod from_entries;
 pub mod laws;
 pub mod limits;
 pub mod options;
 pub mod orders;
 pub mod payoffs;
 pub mod primitives;
+pub mod sides;
 pub mod states;
 
 pub use forms::Form;
@@ -16,4 +18,5 @@ pub use options::{call, put};
 pub use orders::{Batch, Order, Orders, Side};
 pub use payoffs::payoff;
 pub use primitives::primitive;
+pub use sides::add_for_side;
 pub use states::State;

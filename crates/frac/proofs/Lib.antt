@@ -5,5 +5,5 @@ pub mod Lowest
 pub mod SumSteps
 pub mod ProductSteps
 pub mod ShareSteps
-pub mod WholeSteps
 pub mod ValueOf
+pub mod PartSteps

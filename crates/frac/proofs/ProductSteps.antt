@@ -1,11 +1,14 @@
 -- The steps of a product.
-use Rattle.std.proofs.Common.{◌≡◌, ℕ, ◌*◌, ◌/◌, ◌≤◌, true, false, ℤ, pos, ◌*ℤ◌, refl, ap, ◌∙◌}
+use Rattle.std.proofs.Common.{◌≡◌, ℕ, ◌*◌, ◌/◌, ◌≤◌, true, false, ℤ, pos, ◌*ℤ◌, refl, sym, ap, ◌∙◌}
 use Rattle.std.specs.Prelude.{Option, Some, None, unsigned_abs, nat_le, int_div, if◌then◌else◌}
 use Rattle.arithmetic.specs.Gcd.{gcd}
-use Rattle.exact_num.specs.Fraction.{Fraction, over}
-use Rattle.exact_num.specs.Fits.{size_fits, product_above, product_below, product_fits, product_value}
+use Rattle.exact_num.specs.declared.misfit.Operator.TheVariants.{Mul}
+use Rattle.exact_num.specs.Fraction.{Fraction, IsLowest, over}
+use Rattle.exact_num.specs.Fits.{size_fits, product_above, product_below, product_fits, product_value, mul_of, misfit}
+use Rattle.exact_num.specs.Laws.{IsWithin}
+use Rattle.exact_num.proofs.Exactness.{products_are_exact}
 use Rattle.frac.specs.Range.{within, within_natural, product_within}
-use Rattle.frac.proofs.Choices.{chosen_none, chosen_some}
+use Rattle.frac.proofs.Choices.{chosen_none, chosen_some, some_answers}
 use Rattle.std.proofs.lemmas.Bool.{leb-true}
 use Rattle.exact_num.proofs.WholeNumbers.{product_fits-wholes, product_value-wholes}
 
@@ -64,6 +67,11 @@ pub product_answers : (limit : ℕ) (x y : Fraction) (w : ℤ) (b : ℕ) → Pro
 product_answers limit x y w b h =
     let fits : product_fits limit x y ≡ true = h.fits in
     rw fits (ap Some h.value)
+
+-- a product that is found is within the limit
+pub product_is_within : (limit : ℕ) (x y s : Fraction) → IsLowest x → IsLowest y → Some s ≡ product_within limit x y → IsWithin limit s
+unfolding mul_of
+product_is_within limit x y s p q e = (products_are_exact limit x y s p q (sym (some_answers (product_fits limit x y) s (product_value x y) (misfit Mul x y) e))).within
 
 -- ---- the product of whole numbers
 pub wholes_product : (limit : ℕ) (a b : ℤ) (d e : ℕ) → d ≡ 1 → e ≡ 1 → 1 ≤ limit

@@ -1,14 +1,17 @@
 -- The steps of a sum.
-use Rattle.std.proofs.Common.{◌≡◌, ℕ, ◌*◌, ◌/◌, ◌≤◌, true, false, ◌&&◌, ℤ, pos, ◌*ℤ◌, ◌+ℤ◌, refl, ap, ◌∙◌}
+use Rattle.std.proofs.Common.{◌≡◌, ℕ, ◌*◌, ◌/◌, ◌≤◌, true, false, ◌&&◌, ℤ, pos, ◌*ℤ◌, ◌+ℤ◌, refl, sym, ap, ◌∙◌}
 use Rattle.std.specs.Prelude.{Option, Some, None, unsigned_abs, nat_le, int_div, if◌then◌else◌}
 use Rattle.std.proofs.lemmas.Bool.{and_parts, leb-true}
 use Rattle.std.proofs.Math.Nat.{le_trans, div-le_self}
 use Rattle.arithmetic.specs.Gcd.{gcd}
 use Rattle.arithmetic.proofs.Quotients.{unsigned_abs-int_div}
-use Rattle.exact_num.specs.Fraction.{Fraction, over}
-use Rattle.exact_num.specs.Fits.{size_fits, sum_divisor, sum_left, sum_right, sum_total, sum_common, sum_below, sum_fits, sum_value}
+use Rattle.exact_num.specs.declared.misfit.Operator.TheVariants.{Add}
+use Rattle.exact_num.specs.Fraction.{Fraction, IsLowest, over}
+use Rattle.exact_num.specs.Fits.{size_fits, sum_divisor, sum_left, sum_right, sum_total, sum_common, sum_below, sum_fits, sum_value, add_of, misfit}
+use Rattle.exact_num.specs.Laws.{IsWithin}
+use Rattle.exact_num.proofs.Exactness.{sums_are_exact}
 use Rattle.frac.specs.Range.{within, within_natural, total_within, sum_within}
-use Rattle.frac.proofs.Choices.{chosen_none, chosen_some}
+use Rattle.frac.proofs.Choices.{chosen_none, chosen_some, some_answers}
 use Rattle.exact_num.proofs.WholeNumbers.{sum_fits-wholes, sum_value-wholes}
 
 -- ---- the total: what the code's two numerators are
@@ -109,6 +112,11 @@ pub sum_answers : (limit : ℕ) (x y : Fraction) (n : ℤ) (b : ℕ) → SumEnds
 sum_answers limit x y n b h =
     let fits : sum_fits limit x y ≡ true = h.fits in
     rw fits (ap Some h.value)
+
+-- a sum that is found is within the limit
+pub sum_is_within : (limit : ℕ) (x y s : Fraction) → IsLowest x → IsLowest y → Some s ≡ sum_within limit x y → IsWithin limit s
+unfolding add_of
+sum_is_within limit x y s p q e = (sums_are_exact limit x y s p q (sym (some_answers (sum_fits limit x y) s (sum_value x y) (misfit Add x y) e))).within
 
 -- ---- the sum of whole numbers
 pub wholes_sum : (limit : ℕ) (a b : ℤ) (d e : ℕ) → d ≡ 1 → e ≡ 1 → 1 ≤ limit → unsigned_abs a ≤ limit → unsigned_abs b ≤ limit

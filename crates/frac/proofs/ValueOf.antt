@@ -2,7 +2,7 @@
 use Rattle.std.proofs.Common.{◌≡◌, refl, ◌&&◌, Bool, true, false}
 use Rattle.std.proofs.lemmas.Bool.{lt-ltb}
 use Rattle.exact_num.specs.Fraction.{Fraction}
-use Rattle.frac.specs.declared.bits128.Frac128.{Frac128}
+use Rattle.frac.specs.declared.frac128.Frac128.{Frac128}
 use Rattle.frac.specs.Value.{fraction_of, same_value}
 use Rattle.frac.specs.ValueOf.{value_of, made_or_zero, has_128_bits}
 use Rattle.exact_num.specs.Tests.{is_lowest}

@@ -1,3 +1,4 @@
+pub mod Narrow
 pub mod Range
 pub mod Value
 pub mod ValueOf

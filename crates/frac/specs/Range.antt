@@ -1,8 +1,12 @@
 -- Numbers within a limit, as options, and the operations with fractions within it.
-use Rattle.std.specs.Prelude.{ℕ, ◌&&◌, ℤ, Option, Some, None, nat_le, if◌then◌else◌}
+use Rattle.std.specs.Prelude.{ℕ, ◌-◌, ◌^◌, ◌&&◌, ℤ, Option, Some, None, nat_le, if◌then◌else◌}
 use Rattle.exact_num.specs.Fraction.{Fraction}
 pub use Rattle.exact_num.specs.Limit.{limit}
 use Rattle.exact_num.specs.Fits.{size_fits, sum_left, sum_right, sum_total, sum_fits, sum_value, product_fits, product_value}
+
+-- the largest size of a number of 64 bits
+abbrev pub narrow_limit : ℕ
+narrow_limit = 2 ^ 63 - 1
 
 abbrev pub within : ℕ → ℤ → Option ℤ
 within limit v = if size_fits limit v then Some v else None

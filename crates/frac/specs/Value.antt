@@ -5,7 +5,7 @@ use Rattle.std.proofs.Math.Bridge.{le_prop}
 use Rattle.exact_num.proofs.Values.{lowest_prop}
 use Rattle.exact_num.specs.Fraction.{Fraction, IsLowest, over, fraction_cmp}
 use Rattle.std.specs.declared.cmp.Ordering.{Ordering}
-use Rattle.frac.specs.declared.bits128.Frac128.{Frac128}
+use Rattle.frac.specs.declared.frac128.Frac128.{Frac128}
 
 abbrev pub fraction_of : Frac128 → Fraction
 fraction_of x = over x.numerator x.denominator

@@ -1,12 +1,12 @@
 -- The value of a fraction, for definitions that make values.
-use Rattle.std.specs.Prelude.{◌≡◌, refl, ◌^◌, ◌&&◌, Bool, true, false, nat_eq, nat_lt, pos, unsigned_abs}
+use Rattle.std.specs.Prelude.{◌≡◌, refl, ◌^◌, ◌&&◌, Bool, true, false, nat_eq, nat_lt, Option, Some, None, pos, unsigned_abs, if◌then◌else◌}
 use Rattle.std.proofs.Common.{lit≤}
 use Rattle.std.proofs.lemmas.Bool.{and_parts, eqb-true, ltb-true}
 use Rattle.arithmetic.specs.Gcd.{gcd}
 use Rattle.exact_num.specs.Fraction.{Fraction}
 use Rattle.exact_num.specs.Tests.{is_lowest}
 use Rattle.exact_num.proofs.Values.{whole_is_lowest}
-use Rattle.frac.specs.declared.bits128.Frac128.{Frac128}
+use Rattle.frac.specs.declared.frac128.Frac128.{Frac128}
 
 -- whether its parts are of 128 bits
 abbrev pub has_128_bits : Fraction → Bool
@@ -42,3 +42,7 @@ made_or_zero x false e = zero_128
 -- the value of a fraction in lowest terms whose parts are of 128 bits, and 0 for any other
 unfoldable pub value_of : Fraction → Frac128
 value_of x = made_or_zero x (is_lowest x && has_128_bits x) refl
+
+-- the value, where the fraction is in lowest terms and its parts are of 128 bits
+abbrev pub value_from : Fraction → Option Frac128
+value_from x = if is_lowest x && has_128_bits x then Some (value_of x) else None

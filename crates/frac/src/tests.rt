@@ -1,7 +1,7 @@
 //! Cases from outside, each operation through the bound `Exact`.
 mod cases;
 
-use crate::{Frac128, gcd, mul_div_ceil, mul_div_floor};
+use crate::{Frac64, Frac128, gcd, mul_div_ceil, mul_div_floor, widen};
 use cases::Parts;
 use exact_num::{Exact, Operator, Wide};
 
@@ -61,6 +61,27 @@ fn operations_are_exact(rt: HostRuntime) {
         let found = answer::<Frac128>(operation, left, right);
         assert_eq!(rt; found, wanted, "{operation:?} of {left:?} and {right:?}");
     }
+}
+
+// The same in 64 bits, where neither 2^63 nor -2^63 fits.
+#[test]
+fn narrow_operations_are_exact(rt: HostRuntime) {
+    for (operation, left, right, value) in cases::NARROW_OPERATIONS {
+        let wanted = value.ok_or(refusal(operation, left, right));
+        let found = answer::<Frac64>(operation, left, right);
+        assert_eq!(rt; found, wanted, "{operation:?} of {left:?} and {right:?}");
+    }
+    for (v, fits) in cases::NARROW_NUMBERS {
+        let found = Frac64::from_whole(v).map(|value| widen(value).parts());
+        let wide = Wide {
+            operator: Operator::Whole,
+            left: (v, 1),
+            right: (0, 1),
+        };
+        assert_eq!(rt; found, if fits { Ok((v, 1)) } else { Err(wide) }, "{v}");
+    }
+    let third = number::<Frac64>((-1, 3)).map(|value| widen(value).parts());
+    assert_eq!(rt; third, Ok((-1, 3)));
 }
 
 #[test]

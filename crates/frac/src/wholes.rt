@@ -4,7 +4,7 @@ ghost use Rattle.exact_num.specs.Fraction.{whole as whole_of};
 ghost use Rattle.frac.specs.Range.{limit};
 ghost use Rattle.frac.specs.Value.{fraction_of};
 
-use crate::bits128::Frac128;
+use crate::frac128::Frac128;
 use exact_num::Exact;
 
 /// The whole number `v`, whose size is at most 2^127 - 1.

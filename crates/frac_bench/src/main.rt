@@ -1,15 +1,16 @@
-//! Times the operations of fractions of 128 bits: nanoseconds per call, at operands of several
-//! sizes. Run it with the word `bench`.
+//! Times the operations of fractions of 64 and of 128 bits: nanoseconds per call, at operands of
+//! several sizes. Run it with the word `bench`.
 #![tactic(auto)]
 
 mod operands;
 mod timing;
 
+use exact_num::Exact;
+use frac::{Frac64, Frac128};
 use std::env;
 use timing::OPERATIONS;
 
 fn main(rt: HostRuntime) -> anyhow::Result<()> {
-    let alloc = rt.alloc();
     let mut is_wanted = false;
     for word in env::args(&rt)? {
         is_wanted = word.as_str() == "bench";
@@ -18,13 +19,27 @@ fn main(rt: HostRuntime) -> anyhow::Result<()> {
         println!(rt; "usage: frac_bench bench")?;
         return Ok(());
     }
+    for (above, below) in [(20, 1), (40, 8), (8, 8), (20, 20), (60, 60)] {
+        print_times::<Frac64>(&rt, "64 bits", above, below)?;
+    }
     for (above, below) in [(20, 1), (40, 8), (8, 8), (20, 20), (60, 60), (120, 120)] {
-        let left = operands::fractions(alloc, above, below, 1)?;
-        let right = operands::fractions(alloc, above, below, 2)?;
-        for operation in OPERATIONS {
-            let nanos = timing::nanos_per_call(&rt, operation, left.as_slice(), right.as_slice())?;
-            println!(rt; "{above} over {below} bits, {operation:?}: {nanos} ns")?;
-        }
+        print_times::<Frac128>(&rt, "128 bits", above, below)?;
+    }
+    Ok(())
+}
+
+// The times of all operations at operands of one size.
+fn print_times<N: Exact>(
+    rt: &HostRuntime,
+    width: &str,
+    above: u32,
+    below: u32,
+) -> anyhow::Result<()> {
+    let left = operands::fractions::<N>(rt.alloc(), above, below, 1)?;
+    let right = operands::fractions::<N>(rt.alloc(), above, below, 2)?;
+    for operation in OPERATIONS {
+        let nanos = timing::nanos_per_call(rt, operation, left.as_slice(), right.as_slice())?;
+        println!(rt; "{width}, {above} over {below}, {operation:?}: {nanos} ns")?;
     }
     Ok(())
 }

@@ -1,6 +1,5 @@
 //! Operands: fractions of a given size, the same in each run.
 use exact_num::Exact;
-use frac::Frac128;
 use std::alloc::{AllocError, Global};
 
 /// How many operands there are.
@@ -21,12 +20,12 @@ fn number(high: u64, low: u64, bits: u32) -> i128 {
 }
 
 /// Fractions whose numerators have about `above` bits and their denominators `below`.
-pub fn fractions(
+pub fn fractions<N: Exact>(
     alloc: Global,
     above: u32,
     below: u32,
     seed: u64,
-) -> Result<Vec<Frac128>, AllocError> {
+) -> Result<Vec<N>, AllocError> {
     let mut items = Vec::with_capacity(alloc, COUNT)?;
     let mut state = seed.wrapping_mul(0x9E37_79B9_7F4A_7C15) | 1;
     for _ in 0..COUNT {
@@ -34,14 +33,14 @@ pub fn fractions(
         let b = next(a);
         let c = next(b);
         state = next(c);
-        let whole = Frac128::from_whole(number(a, b, above)).unwrap_or(Frac128::one());
-        let divisor = Frac128::from_whole(number(c, state, below)).unwrap_or(Frac128::one());
+        let whole = N::from_whole(number(a, b, above)).unwrap_or(N::one());
+        let divisor = N::from_whole(number(c, state, below)).unwrap_or(N::one());
         items.push(quotient(whole, divisor))?;
     }
     Ok(items)
 }
 
-fn quotient(a: Frac128, b: Frac128) -> Frac128 {
+fn quotient<N: Exact>(a: N, b: N) -> N {
     if b.sign() == 0 {
         a
     } else {

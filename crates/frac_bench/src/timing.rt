@@ -1,7 +1,6 @@
 //! The time of an operation over all pairs of operands.
 use crate::operands;
 use exact_num::{Exact, gcd};
-use frac::Frac128;
 use std::cmp::Ordering;
 use std::io;
 use std::time::{Clock, Instant};
@@ -29,7 +28,7 @@ pub const OPERATIONS: [Operation; 6] = [
 ];
 
 // Whether the operation fits, or another bit of its answer: so that no call is left out.
-fn is_done(operation: Operation, x: Frac128, y: Frac128, z: Frac128) -> bool {
+fn is_done<N: Exact>(operation: Operation, x: N, y: N, z: N) -> bool {
     match operation {
         Operation::Add => x.add(y).is_ok(),
         Operation::Mul => x.mul(y).is_ok(),
@@ -47,11 +46,11 @@ fn is_done(operation: Operation, x: Frac128, y: Frac128, z: Frac128) -> bool {
 }
 
 /// Nanoseconds per call over all pairs, the least of several rounds.
-pub fn nanos_per_call(
+pub fn nanos_per_call<N: Exact>(
     clock: &impl Clock,
     operation: Operation,
-    left: &[Frac128],
-    right: &[Frac128],
+    left: &[N],
+    right: &[N],
 ) -> io::Result<u128> {
     let mut least = u128::MAX;
     for _ in 0..ROUNDS {
@@ -66,7 +65,7 @@ pub fn nanos_per_call(
 }
 
 // How many pairs answer so: the count keeps the calls from being left out.
-fn calls_done(operation: Operation, left: &[Frac128], right: &[Frac128]) -> usize {
+fn calls_done<N: Exact>(operation: Operation, left: &[N], right: &[N]) -> usize {
     let mut done: usize = 0;
     for (x, y) in left.iter().zip(right) {
         if is_done(operation, *x, *y, *x) {

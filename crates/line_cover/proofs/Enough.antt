@@ -5,7 +5,7 @@ use Rattle.arithmetic.specs.Sums.{positive_part}
 use Rattle.arithmetic.proofs.Integers.{*ℤ_mono}
 use Rattle.arithmetic.proofs.Parts.{part_above}
 use Rattle.arithmetic.proofs.Sums.{All-head, All-tail}
-use Rattle.exact_num.specs.Fraction.{Fraction}
+use Rattle.exact_num.specs.Fraction.{Fraction, IsNotBelowZero}
 use Rattle.exact_num.specs.CommonDenominator.{common_denominator, amount_over}
 use Rattle.form.specs.declared.orders.Order.{Order}
 use Rattle.clearing_model.specs.Clearing.{SignedFill, as_signed}
@@ -13,10 +13,6 @@ use Rattle.clearing_model.specs.Line.{IsLineCover}
 use Rattle.clearing_model.specs.Certificate.{filled_over, signed_over, LineCloses}
 use Rattle.market_laws.proofs.Line.{line_covers_hold}
 use Rattle.line_cover.specs.Laws.{IsEnoughOnLine}
-
--- a fraction that is not below 0
-abbrev pub IsNotBelowZero : Fraction → Type 0
-IsNotBelowZero f = pos 0 ≤ℤ f.numerator
 
 -- amounts that are not below 0 are those of fills
 signed_are_filled : (D : ℕ) (os : List Order) (fs : List Fraction) → All IsNotBelowZero fs → signed_over D os fs ≡ as_signed (filled_over D os fs)

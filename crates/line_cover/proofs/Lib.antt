@@ -1,5 +1,4 @@
-pub mod NetSteps
-pub mod LineSteps
+pub mod Fills
 pub mod PlaceSteps
 pub mod Inserted
 pub mod LineStates

@@ -1,10 +1,12 @@
 -- The check of a line, each step with a limit.
-use Rattle.std.specs.Prelude.{ℕ, ◌/◌, List, [], ◌∷◌, nat_abs, int_lt, Bool, true, false, not, ◌&&◌, ◌||◌, if◌then◌else◌, ℤ, pos, Option, Some, None, Result, Ok}
+use Rattle.std.specs.Prelude.{ℕ, ◌/◌, List, [], ◌∷◌, nat_abs, int_lt, Bool, true, not, ◌&&◌, ◌||◌, if◌then◌else◌, ℤ, pos, Option, Some, None, Result, Ok}
 use Rattle.std.specs.List.{filter_map}
 use Rattle.arithmetic.specs.Gcd.{gcd}
 use Rattle.exact_num.specs.declared.misfit.Wide.{Wide}
 use Rattle.exact_num.specs.Fraction.{Fraction}
 use Rattle.exact_num.specs.Fits.{after}
+use Rattle.exact_num.specs.Steps.{and_then, all_of}
+use Rattle.exact_num.specs.Tests.{is_above_zero}
 use Rattle.form.specs.declared.orders.Order.{Order}
 use Rattle.form.specs.Vector.{strike_entry}
 use Rattle.clearing_model.specs.Line.{weight_entry}
@@ -30,26 +32,17 @@ breakpoint_of v =
 abbrev pub breakpoint_of_order : Order → Option (List ℕ)
 breakpoint_of_order o = breakpoint_of (option_of o.form)
 
--- the second check where the first holds
-abbrev pub and_then : Result Bool Wide → Result Bool Wide → Result Bool Wide
-and_then first second = after first (λ holds. if holds then second else Ok false)
-
 -- whether the net is at most the liability times t at a state
 abbrev pub holds_at : ℕ → List (Order × Fraction) → Fraction → List ℕ → Result Bool Wide
-holds_at limit fills L z = after (excess limit fills L z) (λ e. Ok (not (int_lt (pos 0) e.numerator)))
+holds_at limit fills L z = after (excess limit fills L z) (λ e. Ok (not (is_above_zero e)))
 
 -- whether it is where an option bends, if it does
 abbrev pub holds_at_break : ℕ → List (Order × Fraction) → Fraction → Option (List ℕ) → Result Bool Wide
 holds_at_break limit fills L None = Ok true
 holds_at_break limit fills L (Some z) = holds_at limit fills L z
 
--- whether it is at each of the states, one after another
-abbrev pub holds_at_all : ℕ → List (Order × Fraction) → Fraction → List (List ℕ) → Result Bool Wide
-holds_at_all limit fills L [] = Ok true
-holds_at_all limit fills L (z ∷ zs) = and_then (holds_at limit fills L z) (holds_at_all limit fills L zs)
-
 -- whether it is at the price 0, at the breakpoint of each order, and in the slope beyond the last
 abbrev pub line_holds : ℕ → List (Order × Fraction) → List Order → Fraction → Result Bool Wide
 line_holds limit fills orders L =
     and_then (holds_at limit fills L (1 ∷ 0 ∷ []))
-    (and_then (holds_at_all limit fills L (filter_map breakpoint_of_order orders)) (holds_at limit fills L (0 ∷ 1 ∷ [])))
+    (and_then (all_of (holds_at limit fills L) (filter_map breakpoint_of_order orders)) (holds_at limit fills L (0 ∷ 1 ∷ [])))

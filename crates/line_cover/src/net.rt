@@ -1,37 +1,25 @@
 //! The net payoff of fills at a state, step by step.
 
-ghost use Rattle.std.specs.Prelude.{◌≡◌, ◌≤◌, All, length, map, zip, pos};
+ghost use Rattle.std.specs.Prelude.{◌≡◌, ◌≤◌, All, length, map, zip};
 ghost use Rattle.exact_num.specs.Fits.{meaning};
-ghost use Rattle.exact_num.specs.Fraction.{whole};
 ghost use Rattle.frac.specs.Range.{limit};
 ghost use Rattle.frac.specs.Value.{fraction_of};
 ghost use Rattle.form.specs.States.{vector_of};
-ghost use Rattle.line_cover.specs.Net.{add_for_side, add_payoff, add_payoffs, excess};
+ghost use Rattle.line_cover.specs.Net.{add_payoff, excess, net_of};
 
-use exact_num::{Exact, Wide};
-use exact_num::sums::{less_product, plus_product};
-use form::{Order, Side, State, payoff};
+use exact_num::{Exact, Wide, less_product};
+use form::{Order, State, add_for_side, payoff};
 use frac::{Frac128, whole};
 
-/// The total and the product of `a` and `b`, which a sell subtracts. Takes no memory.
-pub fn add_for_side(total: Frac128, side: Side, a: Frac128, b: Frac128) -> Result<Frac128, Wide>
-    ensures { meaning fraction_of result ≡ add_for_side limit (fraction_of total) side (fraction_of a) (fraction_of b) }
-{
-    match side {
-        Side::Buy => plus_product(total, a, b),
-        Side::Sell => less_product(total, a, b),
-    }
-}
-
-/// The total and what a fill of the order adds to the net at the state. Takes no memory.
-pub fn add_payoff(
+// The total and what a fill of the order adds to the net at the state.
+fn add_payoff(
     total: Frac128,
     order: &Order,
     fill: Frac128,
     state: &State,
 ) -> Result<Frac128, Wide>
     requires { order.now.form.count ≡ state.now.count }
-    ensures { meaning fraction_of result ≡ add_payoff limit (fraction_of total) (order.now, fraction_of fill) (vector_of state.now) }
+    ensures { meaning fraction_of result ≡ add_payoff limit (vector_of state.now) (fraction_of total) (order.now, fraction_of fill) }
 {
     let pays = payoff(&order.form, state)?;
     add_for_side(total, order.side, fill, whole(pays))
@@ -41,7 +29,7 @@ pub fn add_payoff(
 pub fn net(orders: &[Order], fills: &[Frac128], state: &State) -> Result<Frac128, Wide>
     requires fills { length fills.now ≡ length orders.now }
     requires forms { All (λ o. o.form.count ≡ state.now.count) orders.now }
-    ensures { meaning fraction_of result ≡ add_payoffs limit (whole (pos 0)) (zip orders.now (map fraction_of fills.now)) (vector_of state.now) }
+    ensures { meaning fraction_of result ≡ net_of limit (zip orders.now (map fraction_of fills.now)) (vector_of state.now) }
 {
     let mut total = Frac128::zero();
     for i in 0..orders.len() {

@@ -2,13 +2,14 @@
 
 ghost use Rattle.std.specs.Prelude.{◌≡◌, ◌≤ℤ◌, All, length, map, pos, zip};
 ghost use Rattle.std.specs.List.{filter_map};
+ghost use Rattle.exact_num.specs.Steps.{all_of};
 ghost use Rattle.frac.specs.Range.{limit};
 ghost use Rattle.frac.specs.Value.{fraction_of};
 ghost use Rattle.clearing_model.specs.Certificate.{LineCloses};
 ghost use Rattle.form.specs.Limits.{HasItsForms};
 ghost use Rattle.form.specs.States.{vector_of};
 ghost use Rattle.line_cover.specs.Laws.{IsEnoughOnLine};
-ghost use Rattle.line_cover.specs.Line.{breakpoint_of_order, holds_at, holds_at_all, holds_at_break, line_holds};
+ghost use Rattle.line_cover.specs.Line.{breakpoint_of_order, holds_at, holds_at_break, line_holds};
 ghost use Rattle.line_cover.specs.Verdict.{line_verdict};
 ghost use Rattle.line_cover.specs.declared.verdict.LineVerdict.TheVariants.{Fails, Holds};
 
@@ -53,7 +54,7 @@ pub fn holds_on_line(batch: &Batch, fills: &[Frac128], liability: &Frac128) -> L
     }
 }
 
-/// Whether the line holds at each of its states.
+// Whether the line holds at each of its states.
 fn line_holds(orders: &[Order], fills: &[Frac128], liability: &Frac128) -> Result<bool, Wide>
     requires fills { length fills.now ≡ length orders.now }
     requires forms { All (λ o. o.form.count ≡ 2) orders.now }
@@ -68,11 +69,11 @@ fn line_holds(orders: &[Order], fills: &[Frac128], liability: &Frac128) -> Resul
     holds_at(orders, fills, liability, &price_state(0, 1))
 }
 
-/// Whether it holds at the breakpoint of each order.
+// Whether it holds at the breakpoint of each order.
 fn holds_at_breaks(orders: &[Order], fills: &[Frac128], liability: &Frac128) -> Result<bool, Wide>
     requires fills { length fills.now ≡ length orders.now }
     requires forms { All (λ o. o.form.count ≡ 2) orders.now }
-    ensures { result ≡ holds_at_all limit (zip orders.now (map fraction_of fills.now)) (fraction_of liability.now) (filter_map breakpoint_of_order orders.now) }
+    ensures { result ≡ all_of (holds_at limit (zip orders.now (map fraction_of fills.now)) (fraction_of liability.now)) (filter_map breakpoint_of_order orders.now) }
 {
     for order in orders {
         if !holds_at_break(orders, fills, liability, order)? {
@@ -82,7 +83,7 @@ fn holds_at_breaks(orders: &[Order], fills: &[Frac128], liability: &Frac128) -> 
     Ok(true)
 }
 
-/// Whether it holds where the order's option bends, if it does.
+// Whether it holds where the order's option bends, if it does.
 fn holds_at_break(
     orders: &[Order],
     fills: &[Frac128],
@@ -100,7 +101,7 @@ fn holds_at_break(
     }
 }
 
-/// Whether the net is at most the liability times t at the state.
+// Whether the net is at most the liability times t at the state.
 fn holds_at(
     orders: &[Order],
     fills: &[Frac128],

@@ -30,21 +30,11 @@ use Rattle.market_laws.proofs.Cover.{liability_gives_cover}
 use Rattle.market_laws.proofs.Scaled.{cover_is_of_fractions, net-scale}
 use Rattle.market_laws.proofs.Tree.{closed_trees_hold}
 use Rattle.market_laws.proofs.Line.{line_covers_hold}
+use Rattle.exact_num.proofs.Amounts.{amount_is_natural, amount_over-scale}
 
 common-append : (xs ys : List Fraction) → common_denominator (xs ++ ys) ≡ common_denominator xs * common_denominator ys
 common-append [] ys = omega arith
 common-append (x ∷ xs) ys = omega (arith, ap (λ n. x.denominator * n) (common-append xs ys))
-
--- over k times F a fraction stands for k times as much
-amount_over-scale : (k F : ℕ) (f : Fraction) → IsDefined f → f.denominator ∣ F → amount_over (k * F) f ≡ amount_over F f *ℤ pos k
-amount_over-scale k F f defined h =
-    let d = f.denominator in
-    let q = F / d in
-    let e : d * q ≡ F = mul-div_cancel' d h in
-    let m : k * F ≡ d * (k * q) = omega (arith, ap (λ n. k * n) e) in
-    let r : (k * F) / d ≡ k * q = ap (λ n. n / d) m ∙ mul-div_cancel_left (k * q) defined in
-    let s : f.numerator *ℤ pos (k * q) ≡ (f.numerator *ℤ pos q) *ℤ pos k = omega (arith, ints, products) in
-    ap (λ n. f.numerator *ℤ pos n) r ∙ s
 
 amounts-scale : (k F : ℕ) (fs : List Fraction) → All IsDefined fs → All (λ f. f.denominator ∣ F) fs → amounts_over (k * F) fs ≡ map (λ a. k * a) (amounts_over F fs)
 amounts-scale k F [] defined h = refl
@@ -61,11 +51,6 @@ holds_over n k F orders fills L one defined div holds z is =
     let scaled = amount_over-scale k F L (All-head IsDefined L fills defined) (All-head (λ f. f.denominator ∣ F) L fills div) in
     let there = rw (same, net-scale k orders (amounts_over F fills) z, scaled) at (holds z is) in
     *ℤ_cancel_le k (net (filled_over F orders fills) z) (amount_over F L *ℤ pos (scale_of z)) one (omega (arith, ints, products, there))
-
--- the fills of fractions that are not below 0 are their amounts
-amount_is_natural : (F : ℕ) (f : Fraction) → pos 0 ≤ℤ f.numerator → amount_over F f ≡ pos (positive_part (amount_over F f))
-amount_is_natural F f low =
-    sym (part_above (amount_over F f) (omega (arith, ints, *ℤ_mono (F / f.denominator) (pos 0) f.numerator low)))
 
 pub signed_is : (F : ℕ) (orders : List Order) (fills : List Fraction) → All IsFill (zip orders fills) → length fills ≡ length orders → signed_over F orders fills ≡ as_signed (filled_over F orders fills)
 signed_is F [] fills h len = refl

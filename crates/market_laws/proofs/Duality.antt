@@ -115,7 +115,7 @@ gains n points W F (o ∷ os) (a ∷ g) m len h =
       gains n points W F os g m (omega arith) (All-tail (IsWithin F) (o, a) (zip os g) h),
     )
 
--- the sums put together, and the common_denominator factor F taken away
+-- the sums put together, and the common factor F taken away
 finish : (U V F W e p q x y bound : ℕ) → 1 ≤ F → (U * F + e * q) * W + e * x ≤ e * y + (e * p + V * F) * W → W * p + y ≤ W * q + x + F * bound → U * W ≤ e * bound + V * W
 finish U V F W e p q x y bound one h k =
     let k' = mul-le-mul_left e k in

@@ -27,7 +27,7 @@ one_leg_pays_its_option = (λ v z. over_one (λ u. payoff u z) v, price_of_one)
 pub gains_are_differences : GainsAreDifferences
 gains_are_differences limit price = (positive_part_is limit price, positive_part_is price limit)
 
-one_leg : (side : Side) (a : ℕ) (v : List ℤ) → filled_leg side a (record { count = pos 1; option = v }) ≡ record { exposure = exposure_of_side side; amount = a; option = v }
+pub one_leg : (side : Side) (a : ℕ) (v : List ℤ) → filled_leg side a (record { count = pos 1; option = v }) ≡ record { exposure = exposure_of_side side; amount = a; option = v }
 one_leg Buy a v =
     let e : a * 1 ≡ a = omega arith in
     rw e refl

@@ -53,7 +53,7 @@ pub fn liability_gives_cover()
     ensures { LiabilityGivesCover }
 {}
 
-/// A cover speaks of fractions alone, amount_over whatever denominator.
+/// A cover speaks of fractions alone, whatever their denominators.
 pub fn cover_is_of_fractions()
     ensures { CoverIsOfFractions }
 {}

@@ -17,19 +17,21 @@ use Rattle.master_program.specs.Master.{quantity_rows, state_row, rows_of, right
 use Rattle.master_program.specs.Laws.{MasterIsProgram, MasterIsBounded}
 use Rattle.master_program.proofs.Matrix.{RowsHold, rows_hold, rows_split, flat, flat_count}
 use Rattle.master_program.proofs.Sums.{dot-replicate, rows_shift, quantity_rows_count, rows_count, rows_long, right_sides_count, one_more}
+use Rattle.arithmetic.proofs.Signed.{no_gain, factor_out}
+use Rattle.exact_num.proofs.Amounts.{parts_count}
 
 -- ---- it is a program
-wholes_lowest : (xs : List ℤ) (j : ℕ) → IsLowest (at (map whole xs) j)
+pub wholes_lowest : (xs : List ℤ) (j : ℕ) → IsLowest (at (map whole xs) j)
 wholes_lowest [] j = whole_is_lowest (pos 0)
 wholes_lowest (x ∷ xs) zero = whole_is_lowest x
 wholes_lowest (x ∷ xs) (suc j) = wholes_lowest xs j
 
-lowest-append : (r : List ℤ) (rest : List Fraction) → ((j : ℕ) → IsLowest (at rest j)) → (j : ℕ) → IsLowest (at (map whole r ++ rest) j)
+pub lowest-append : (r : List ℤ) (rest : List Fraction) → ((j : ℕ) → IsLowest (at rest j)) → (j : ℕ) → IsLowest (at (map whole r ++ rest) j)
 lowest-append [] rest h j = h j
 lowest-append (x ∷ r) rest h zero = whole_is_lowest x
 lowest-append (x ∷ r) rest h (suc j) = lowest-append r rest h j
 
-flat_lowest : (rows : List (List ℤ)) (j : ℕ) → IsLowest (at (flat rows) j)
+pub flat_lowest : (rows : List (List ℤ)) (j : ℕ) → IsLowest (at (flat rows) j)
 flat_lowest [] j = whole_is_lowest (pos 0)
 flat_lowest (r ∷ rows) j = lowest-append r (flat rows) (flat_lowest rows) j
 
@@ -51,21 +53,12 @@ master_is_program first orders states =
     }
 
 -- ---- it is bounded
-own_cross : (n : ℤ) (d F : ℕ) → n *ℤ pos (d * F) ≡ (n *ℤ pos F) *ℤ pos d
-own_cross n d F = omega (arith, ints, products)
-
 -- fractions over one denominator
 parts_of : (d : List Fraction) → ((j : ℕ) → IsDefined (at d j)) → (F : ℕ) × (1 ≤ F) × (X : List ℤ) × AreParts F d X
 parts_of [] h = (1, omega arith, [], tt)
 parts_of (f ∷ fs) h =
     let rest = parts_of fs (λ j. h (suc j)) in
-    (f.denominator * rest.0, mul-pos (h 0) rest.1, (f.numerator *ℤ pos rest.0) ∷ map (λ (x : ℤ). x *ℤ pos f.denominator) rest.2, ((h 0, own_cross f.numerator f.denominator rest.0), more_parts rest.0 f.denominator fs rest.2 rest.3))
-
-parts_count : (F : ℕ) (fs : List Fraction) (X : List ℤ) → AreParts F fs X → length X ≡ length fs
-parts_count F [] [] h = refl
-parts_count F [] (x ∷ X) h = absurd h
-parts_count F (f ∷ fs) [] h = absurd h
-parts_count F (f ∷ fs) (x ∷ X) h = ap suc (parts_count F fs X h.1)
+    (f.denominator * rest.0, mul-pos (h 0) rest.1, (f.numerator *ℤ pos rest.0) ∷ map (λ (x : ℤ). x *ℤ pos f.denominator) rest.2, ((h 0, factor_out f.numerator f.denominator rest.0), more_parts rest.0 f.denominator fs rest.2 rest.3))
 
 abbrev NoneBelow : List ℤ → Type 0
 NoneBelow [] = Unit {0}
@@ -95,9 +88,6 @@ earned F f (o ∷ os) (x ∷ X) len s h =
     let rest = earned F f os X (omega (arith, len)) s.1 (rows_shift F (quantity_rows (length os)) (replicate (length os) (pos 0)) x X h.1) in
     let none : x ≡ pos 0 = omega (arith, ints, s.0, h.0, dot-replicate (length os + 1) X) in
     omega (arith, ints, products, rest, ap (λ w. f o *ℤ w) none)
-
-no_gain : (n v : ℤ) (F d : ℕ) → 1 ≤ F → n *ℤ pos F ≡ v *ℤ pos d → v ≤ℤ pos 0 → pos 0 <ℤ n → ⊥
-no_gain n v F d one e h k = let m = *ℤ_cancel_le F n (pos 0) one (omega (arith, ints, e, *ℤ_mono d v (pos 0) h)) in omega (arith, ints, m, k)
 
 pub master_is_bounded : MasterIsBounded
 master_is_bounded first orders states d h =

@@ -3,9 +3,8 @@ use Rattle.std.proofs.Common.{◌≡◌, ℕ, ◌*◌, List, [], ◌∷◌, leng
 use Rattle.std.proofs.lemmas.Int.{ints}
 use Rattle.std.proofs.lemmas.List.Elements.{All-cons}
 use Rattle.arithmetic.proofs.Sums.{All-head, All-tail}
-use Rattle.exact_num.specs.Fraction.{Fraction, IsDefined}
+use Rattle.exact_num.specs.Fraction.{Fraction, IsDefined, IsNotBelowZero}
 use Rattle.exact_num.specs.CommonDenominator.{common_denominator, amount_over, signed_amounts_over, amounts_of}
-use Rattle.table_run.specs.Optimum.{IsNotBelowZero}
 use Rattle.form.specs.Vector.{IsState, scale_of}
 use Rattle.clearing_model.specs.Measure.{WeightedState, mass_of, bound_of, Proves}
 use Rattle.clearing_model.specs.Certificate.{Point, IsWeight, fraction_weight, points_over, HasUnitMass, IsFractionMeasure}

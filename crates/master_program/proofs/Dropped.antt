@@ -14,6 +14,7 @@ use Rattle.clearing_model.specs.Measure.{mass_of, price_of, gain, gain_of, bound
 use Rattle.clearing_model.specs.Certificate.{Point, IsWeight, fraction_weight, points_over, HasUnitMass}
 use Rattle.master_program.specs.Reading.{has_weight, weighty}
 use Rattle.master_program.specs.OptimumLaws.{EmptyPointsDrop}
+use Rattle.arithmetic.proofs.Signed.{is_zero}
 
 abbrev LowestWeight : Point → Type 0
 LowestWeight point = IsLowest point.1
@@ -27,11 +28,6 @@ no_amount f W e = ap (λ v. v *ℤ pos (W / f.denominator)) e ∙ zero_times (W 
   where
     zero_times : (q : ℕ) → pos 0 *ℤ pos q ≡ pos 0
     zero_times q = omega (arith, ints)
-
-is_zero : (v : ℤ) → int_lt (pos 0) v ≡ false → pos 0 ≤ℤ v → v ≡ pos 0
-is_zero (pos zero) h k = refl
-is_zero (pos (suc n)) h k = absurd (omega (arith, ints, h))
-is_zero (negsuc n) h k = absurd (omega (arith, ints, k))
 
 common_step : (b : Bool) (p : Point) (ps : List Point) → has_weight p ≡ b → LowestWeight p → IsWeight p
     → common_denominator (map fraction_weight (weighty ps)) ≡ common_denominator (map fraction_weight ps)

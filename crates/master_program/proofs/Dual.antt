@@ -9,13 +9,12 @@ use Rattle.arithmetic.proofs.Integers.{*ℤ_mono, *ℤ_mono_left, *ℤ_cancel, *
 use Rattle.arithmetic.proofs.Products.{products}
 use Rattle.arithmetic.proofs.Dots.{dot-append, dot-scale}
 use Rattle.arithmetic.proofs.Sums.{All-head, All-tail}
-use Rattle.exact_num.specs.Fraction.{Fraction, IsDefined, IsLowest, whole, negated, plain_sum, plain_dot}
+use Rattle.exact_num.specs.Fraction.{Fraction, IsDefined, IsLowest, whole, negated, plain_sum, plain_dot, IsNotBelowZero}
 use Rattle.exact_num.specs.CommonDenominator.{common_denominator, amount_over, signed_amounts_over, IsPart, AreParts}
 use Rattle.exact_num.proofs.Fractions.{divides, common_positive}
 use Rattle.exact_num.proofs.Ratios.{dot_part, sum_part, neg_part, whole_part, same_part, one_part, sign_part, more_parts, append_parts}
 use Rattle.table_run.specs.Places.{at, listed}
 use Rattle.table_run.specs.Program.{column}
-use Rattle.table_run.specs.Optimum.{IsNotBelowZero}
 use Rattle.form.specs.declared.orders.Side.{Side}
 use Rattle.form.specs.declared.orders.Side.TheVariants.{Buy, Sell}
 use Rattle.form.specs.declared.orders.Order.{Order}

@@ -26,6 +26,7 @@ use Rattle.master_program.specs.Master.{zero_prices, pays, first_payoff, signed_
 use Rattle.master_program.specs.Reading.{add_owed, add_all_owed, liability_of}
 use Rattle.master_program.proofs.Steps.{whole_gives, first_is}
 use Rattle.master_program.specs.Certified.{IsLiability}
+use Rattle.arithmetic.proofs.Signed.{+ℤ_assoc}
 
 -- ---- the fills one after another
 side_whole : (side : Side) (v : ℤ) → signed_for side (whole v) ≡ whole (for_side side v)
@@ -51,9 +52,6 @@ ok_same a b r h k = cc
 nothing : (x : ℤ) → x ≡ x +ℤ pos 0
 nothing x = omega (arith, ints)
 
-assoc : (x p d : ℤ) → (x +ℤ p) +ℤ d ≡ x +ℤ (p +ℤ d)
-assoc x p d = omega (arith, ints)
-
 abbrev Divides : ℕ → Fraction → Type 0
 Divides D f = f.denominator ∣ D
 
@@ -68,7 +66,7 @@ all_owed_stand limit D (o ∷ os) (f ∷ fs) total s x st low div h =
     let stands : Stands f a D = record { lowest = All-head IsLowest f fs low; ratio = amount_is_exact D f (All-head (Divides D) f fs div) } in
     let here = owed_stands limit D o f total step.value x a st stands step.first in
     let p : ℤ = for_side o.side (first_payoff o *ℤ a) in
-    subst (λ v. Stands s v D) (assoc x p (signed_sum first_payoff (zip os (signed_amounts_over D fs))))
+    subst (λ v. Stands s v D) (+ℤ_assoc x p (signed_sum first_payoff (zip os (signed_amounts_over D fs))))
     (all_owed_stand limit D os fs step.value s (x +ℤ p) here (All-tail IsLowest f fs low) (All-tail (Divides D) f fs div) step.rest)
 
 -- ---- in the words of the model

@@ -8,13 +8,12 @@ use Rattle.arithmetic.specs.Sums.{dot_ℤ}
 use Rattle.arithmetic.proofs.Integers.{*ℤ_mono, *ℤ_cancel_le}
 use Rattle.arithmetic.proofs.Products.{products}
 use Rattle.arithmetic.proofs.Sums.{All-head, All-tail}
-use Rattle.exact_num.specs.Fraction.{Fraction, IsDefined, IsLowest, whole, plain_dot, AtMost}
+use Rattle.exact_num.specs.Fraction.{Fraction, IsDefined, IsLowest, whole, plain_dot, AtMost, IsNotBelowZero}
 use Rattle.exact_num.specs.CommonDenominator.{common_denominator, amount_over, signed_amounts_over, IsPart, AreParts}
 use Rattle.exact_num.proofs.Fractions.{divides, common_positive, amount_is_exact}
 use Rattle.exact_num.proofs.Ratios.{dot_part, same_part, sign_part, append_parts}
 use Rattle.table_run.specs.Places.{at}
 use Rattle.table_run.specs.Program.{row}
-use Rattle.table_run.specs.Optimum.{IsNotBelowZero}
 use Rattle.form.specs.declared.orders.Order.{Order}
 use Rattle.form.specs.Vector.{scale_of}
 use Rattle.clearing_model.specs.Clearing.{signed_net, signed_premium}

@@ -27,7 +27,7 @@ use Rattle.master_program.proofs.Matrix.{flat}
 abbrev pub Gives : {A : Type 0} → Result A Wide → A → Type 0
 Gives {A} r a = (s : A) → r ≡ Ok s → s ≡ a
 
-gives_ok : {A : Type 0} (a b : A) → a ≡ b → Gives (Ok a) b
+pub gives_ok : {A : Type 0} (a b : A) → a ≡ b → Gives (Ok a) b
 gives_ok a b e s h = cc
 
 pub gives_after : {A B : Type 0} (r : Result A Wide) (f : A → Result B Wide) (a : A) (b : B) → Gives r a → Gives (f a) b → Gives (after r f) b
@@ -49,7 +49,7 @@ minus_is a b = omega (arith, ints)
 sub_gives : (limit : ℕ) (a b : ℤ) → Gives (sub_of limit (whole a) (whole b)) (whole (a -ℤ b))
 sub_gives limit a b s h = add_whole_is limit a (neg_ℤ b) s h ∙ ap whole (minus_is a b)
 
-all_give : {A B : Type 0} (f : A → Result B Wide) (g : A → B) (xs : List A) → ((x : A) → Gives (f x) (g x)) → Gives (all_of f xs) (map g xs)
+pub all_give : {A B : Type 0} (f : A → Result B Wide) (g : A → B) (xs : List A) → ((x : A) → Gives (f x) (g x)) → Gives (all_of f xs) (map g xs)
 unfolding all_of
 all_give f g [] h = gives_ok [] [] refl
 all_give f g (x ∷ xs) h =
@@ -141,7 +141,7 @@ pub zeros_are : (n : ℕ) → replicate n fraction_zero ≡ map whole (replicate
 zeros_are zero = refl
 zeros_are (suc n) = ap (λ v. fraction_zero ∷ v) (zeros_are n)
 
-abbrev program_of : ℕ → ℕ → List Fraction → List Fraction → List Fraction → LinearProgram
+abbrev pub program_of : ℕ → ℕ → List Fraction → List Fraction → List Fraction → LinearProgram
 program_of n m a b c = record { variables = n; rows = m; coefficients = a; right_sides = b; costs = c }
 
 same_program : (n m : ℕ) (a a' b b' c c' : List Fraction) → a ≡ a' → b ≡ b' → c ≡ c' → program_of n m a b c ≡ program_of n m a' b' c'

@@ -107,7 +107,7 @@ quantities_hold F (o ∷ os) (x ∷ X) rest len h = (
 )
 
 -- ---- counts
-long-append : (n : ℕ) (rs ss : List (List ℤ)) → AreLong n rs → AreLong n ss → AreLong n (rs ++ ss)
+pub long-append : (n : ℕ) (rs ss : List (List ℤ)) → AreLong n rs → AreLong n ss → AreLong n (rs ++ ss)
 long-append n [] ss h k = k
 long-append n (r ∷ rs) ss h k = (h.0, long-append n rs ss h.1 k)
 
@@ -149,7 +149,7 @@ right_sides_count orders states =
     ∙ ap (λ w. length orders + w) (length-replicate (length states) (pos 0))
 
 -- ---- columns of the rows of quantities
-entry-zeros : (n j : ℕ) → entry j (replicate n (pos 0)) ≡ pos 0
+pub entry-zeros : (n j : ℕ) → entry j (replicate n (pos 0)) ≡ pos 0
 entry-zeros zero j = refl
 entry-zeros (suc n) zero = refl
 entry-zeros (suc n) (suc j) = entry-zeros n j

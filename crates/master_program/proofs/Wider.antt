@@ -8,7 +8,7 @@ use Rattle.exact_num.proofs.GreaterLimits.{Agree, same, both, whole_agrees, add_
 use Rattle.table_run.specs.Places.{at, fraction_zero}
 use Rattle.form.specs.declared.orders.Order.{Order}
 use Rattle.form.specs.Vector.{scale_of}
-use Rattle.form.specs.Steps.{plus_product, less_product}
+use Rattle.exact_num.specs.Steps.{plus_product, less_product}
 use Rattle.master_program.specs.Master.{all_of, signed_for, first_payoff, order_payoff, cost_steps, entry_steps, row_steps, rows_steps, quantity_steps, master}
 use Rattle.master_program.specs.Reading.{add_owed, add_all_owed, liability_of}
 use Rattle.master_program.specs.Laws.{SameWithGreaterLimit}

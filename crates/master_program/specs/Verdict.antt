@@ -1,20 +1,26 @@
 -- What the verdict says of an outcome that is read off the master program.
-use Rattle.std.specs.Prelude.{ℕ, ◌≡◌, List, map}
-use Rattle.std.specs.List.{All}
+use Rattle.std.specs.Prelude.{ℕ, ◌≡◌, List, map, Bool, true, false, Result, Ok, Err}
+use Rattle.std.specs.List.{All, zip}
+use Rattle.exact_num.specs.declared.misfit.Wide.{Wide}
 use Rattle.frac.specs.Range.{limit}
 use Rattle.frac.specs.Value.{fraction_of}
 use Rattle.form.specs.declared.orders.Batch.{Batch}
+use Rattle.form.specs.declared.orders.Order.{Order}
 use Rattle.clearing_model.specs.Clearing.{AreOn}
 use Rattle.clearing_model.specs.Certificate.{FillsCover}
 use Rattle.measure.specs.declared.measures.Measure.{Measure}
+use Rattle.exact_num.specs.Steps.{and_then}
 use Rattle.measure.specs.Points.{point_of}
+use Rattle.measure.specs.Sums.{has_unit_mass}
 use Rattle.cert_check.specs.declared.outcome.Cover.{Cover}
 use Rattle.cert_check.specs.declared.outcome.Cover.TheVariants.{Line}
 use Rattle.cert_check.specs.declared.outcome.Mark.TheVariants.{Optimal}
 use Rattle.cert_check.specs.declared.outcome.No.{No}
 use Rattle.cert_check.specs.declared.outcome.Outcome.{Outcome}
-use Rattle.cert_check.specs.declared.outcome.Judgement.TheVariants.{No as Refused}
+use Rattle.cert_check.specs.declared.outcome.Judgement.{Judgement}
+use Rattle.cert_check.specs.declared.outcome.Judgement.TheVariants.{Yes, No as Refused, Wide as TooWide}
 use Rattle.cert_check.specs.Conditions.{IsCoverOn, Closes, Meets, conditions}
+use Rattle.cert_check.specs.Tests.{surplus_holds, cover_holds, bound_holds}
 use Rattle.cert_check.specs.Events.{verdict_of}
 use Rattle.master_program.specs.Reading.{Reading}
 use Rattle.master_program.specs.Certified.{IsCertifiedAt, IsGreatestByLine}
@@ -51,3 +57,34 @@ LineReadingsAreNotRefused =
     → IsGreatestByLine batch.orders r
     → IsOutcomeOf r outcome Line measure
     → IsNotRefused batch outcome
+
+-- ---- the sums of the verdict
+-- in order: surplus, cover, measure and bound
+abbrev pub sums_with : ℕ → List Order → Reading → Result Bool Wide → Result Bool Wide
+sums_with wide_limit orders r cover_closes =
+    and_then (surplus_holds wide_limit (zip orders r.fills) r.liability r.surplus)
+    (and_then cover_closes (and_then (has_unit_mass wide_limit r.measure) (bound_holds wide_limit orders r.measure r.surplus)))
+
+-- the sums on a reading that claims this cover
+abbrev pub sums_on : Batch → Reading → Cover → Result Bool Wide
+sums_on batch r cover = sums_with limit batch.orders r (cover_holds limit batch.underlyings batch.orders r.fills r.liability cover)
+
+-- what a judgement says of the sums
+abbrev pub sums_of : Judgement → Result Bool Wide
+sums_of Yes = Ok true
+sums_of (Refused condition) = Ok false
+sums_of (TooWide w) = Err w
+
+-- where no condition refuses the outcome, the sums are those of the verdict
+abbrev pub SumsDecide : Type 0
+SumsDecide =
+    (batch : Batch) (outcome : Outcome) (cover : Cover) (measure : Measure) (r : Reading)
+    → IsOutcomeOf r outcome cover measure → IsNotRefused batch outcome
+    → sums_on batch r cover ≡ sums_of (verdict_of limit batch outcome)
+
+-- so the verdict is yes where each of them fits
+abbrev pub SumsThatFitPass : Type 0
+SumsThatFitPass =
+    (batch : Batch) (outcome : Outcome) (cover : Cover) (measure : Measure) (r : Reading) (holds : Bool)
+    → IsOutcomeOf r outcome cover measure → IsNotRefused batch outcome
+    → sums_on batch r cover ≡ Ok holds → verdict_of limit batch outcome ≡ Yes

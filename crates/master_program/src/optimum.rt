@@ -1,6 +1,6 @@
 //! Laws over the definitions: each is the contract of a function that does nothing.
 ghost use Rattle.master_program.specs.OptimumLaws.{CoveredIsGreatest, EmptyPointsDrop, LineReadingsAreGreatest, LineSolvesAreGreatest, MasterCertifies, NoRunIsUnbounded, NoSolveRises, ReadingsAreCertified, RunsAreCertified, SolvesAreCertified};
-ghost use Rattle.master_program.specs.Verdict.{CoveredReadingsAreNotRefused, LineReadingsAreNotRefused};
+ghost use Rattle.master_program.specs.Verdict.{CoveredReadingsAreNotRefused, LineReadingsAreNotRefused, SumsDecide, SumsThatFitPass};
 
 /// An optimum of the master program over any states certifies itself at them: its fills are allowed, its value is the
 /// premium less the liability, which is enough at each of the states, and its dual is a measure whose bound is no greater.
@@ -64,4 +64,15 @@ pub fn covered_readings_are_not_refused()
 /// So it is on one underlying, of an outcome that claims what is read off over the states of the line.
 pub fn line_readings_are_not_refused()
     ensures { LineReadingsAreNotRefused }
+{}
+
+/// Where no condition of the verdict refuses an outcome, the sums of its cover, measure and bound one after another are those
+/// of the verdict,
+pub fn sums_decide()
+    ensures { SumsDecide }
+{}
+
+/// so that the verdict is yes where each of them fits.
+pub fn sums_that_fit_pass()
+    ensures { SumsThatFitPass }
 {}

@@ -1,5 +1,6 @@
 //! What the definition of the master program implies.
 ghost use Rattle.master_program.specs.Laws.{MasterIsBounded, MasterIsProgram, QuantityRowsAreUnitRows, SameWithGreaterLimit, StepsGiveMaster};
+ghost use Rattle.master_program.specs.Sizes.{MasterIsWithin, SolvesAreLowest, SolvesAreWithin};
 ghost use Rattle.master_program.specs.Solve.{SolvesAreTheSame};
 ghost use Rattle.master_program.specs.Worked.{ButterflyByTwoSells, CoverTooDear, EmptyBatch, EqualPricesStay, LowerStrikeCovers, OneOptionMatched, PutAboveItsStrike, SecondRound, SurplusTooWide, WholeSolves};
 
@@ -32,6 +33,21 @@ pub fn same_with_greater_limit()
 /// many units spent.
 pub fn solves_are_the_same()
     ensures { SolvesAreTheSame }
+{}
+
+/// Where its steps fit, each number of the master program is within the limit,
+pub fn master_is_within()
+    ensures { MasterIsWithin }
+{}
+
+/// and each number that a solve reads off is within it too,
+pub fn solves_are_within()
+    ensures { SolvesAreWithin }
+{}
+
+/// and in lowest terms.
+pub fn solves_are_lowest()
+    ensures { SolvesAreLowest }
 {}
 
 /// The definitions compute the master programs of the worked batches, what is read off their optima, and how whole solves

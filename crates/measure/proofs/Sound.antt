@@ -23,7 +23,7 @@ use Rattle.exact_num.proofs.Order.{same_parts}
 use Rattle.exact_num.proofs.Fractions.{common_positive, same_from}
 use Rattle.exact_num.proofs.Stands.{Stands, Adds, amounts_stand, fold_stands, plus_stands, times_stands, difference_stands, whole_stands, above, not_above}
 use Rattle.exact_num.proofs.Tested.{ratio_is_same, lowest_are_defined}
-use Rattle.frac.specs.declared.bits128.Frac128.{Frac128}
+use Rattle.frac.specs.declared.frac128.Frac128.{Frac128}
 use Rattle.frac.specs.Value.{fraction_of}
 use Rattle.form.specs.declared.orders.Side.{Side}
 use Rattle.form.specs.declared.orders.Side.TheVariants.{Buy, Sell}

@@ -1,5 +1,5 @@
 -- What holds where an order meets no refusal.
-use Rattle.std.proofs.Common.{◌≡◌, ℕ, ◌+◌, ◌<◌, Bool, true, false, not, Option, None, Some, is_some, nat_eq, length, arith, refl, if◌then◌else◌}
+use Rattle.std.proofs.Common.{◌≡◌, ℕ, ◌+◌, ◌<◌, Bool, true, false, not, [], ◌∷◌, Option, None, Some, is_some, nat_eq, length, arith, refl, if◌then◌else◌}
 use Rattle.std.specs.Prelude.{nat_le}
 use Rattle.std.specs.Option.{option_map, option_map_or}
 use Rattle.std.proofs.lemmas.Bool.Decides.{nat_tests}
@@ -9,8 +9,10 @@ use Rattle.order_book.specs.declared.new_order.NewOrder.{NewOrder}
 use Rattle.order_book.specs.declared.refusal.BookRefusal.{BookRefusal}
 use Rattle.order_book.specs.declared.refusal.BookRefusal.TheVariants.{NoMarket, MarketExists, Settled, WeightCount, BookFull, TooMany}
 use Rattle.order_book.specs.Markets.{MarketState}
-use Rattle.order_book.specs.Book.{BookState, market_of, info_of}
-use Rattle.order_book.specs.Refusals.{market_refusal, place_refusal, place_refusal_in, batch_refusal, batch_refusal_in}
+use Rattle.order_book.specs.Book.{BookState, market_of, info_of, is_trading}
+use Rattle.order_book.specs.declared.market.MarketInfo.{MarketInfo}
+use Rattle.order_book.specs.Refusals.{market_refusals, place_refusals, batch_refusals, has_form_for, is_full}
+use Rattle.refusals.specs.Refusals.{first_of}
 
 pub record Accepts (book : BookState) (order : NewOrder) : Type 0 where
   pub market : MarketState
@@ -20,8 +22,8 @@ pub record Accepts (book : BookState) (order : NewOrder) : Type 0 where
   pub room : length market.live < MAX_ORDERS
   pub more : book.accepted < MAX_ACCEPTED
 
--- a test that lets the order pass did not hold
-passes : (test : Bool) (refusal : BookRefusal) (rest : Option BookRefusal) → None ≡ (if test then Some refusal else rest) → (test ≡ false) × (None ≡ rest)
+-- a test that lets a call pass did not hold
+passes : (test : Bool) (refusal : BookRefusal) (rest : Option BookRefusal) → (if test then Some refusal else rest) ≡ None → (test ≡ false) × (rest ≡ None)
 passes true refusal rest h = cc
 passes false refusal rest h = (refl, h)
 
@@ -31,10 +33,15 @@ same_count a b h = grind (arith, nat_tests)
 less : (a b : ℕ) → nat_le a b ≡ false → b < a
 less a b h = grind (arith, nat_tests)
 
-pub accepts : (book : BookState) (order : NewOrder) → None ≡ place_refusal book order → Accepts book order
+pub accepts : (book : BookState) (order : NewOrder) → first_of (place_refusals book order) ≡ None → Accepts book order
 accepts book order none = by (market_of book order.market) refl none
   where
-    by : (r : Option MarketState) → market_of book order.market ≡ r → None ≡ option_map_or (λ market. place_refusal_in market book.accepted order) (option_map info_of r) (Some NoMarket) → Accepts book order
+    by : (r : Option MarketState) → market_of book order.market ≡ r
+        → first_of ((not (is_some (option_map info_of r)), NoMarket)
+        ∷ (option_map_or (λ (found : MarketInfo). found.settled) (option_map info_of r) false, Settled)
+        ∷ (option_map_or (λ (found : MarketInfo). not (has_form_for found order)) (option_map info_of r) false, WeightCount)
+        ∷ (option_map_or is_full (option_map info_of r) false, BookFull)
+        ∷ (nat_le MAX_ACCEPTED book.accepted, TooMany) ∷ []) ≡ None → Accepts book order
     by None e h = cc
     by (Some m) e h =
         let open_market = passes m.settled Settled _ h in
@@ -51,19 +58,29 @@ accepts book order none = by (market_of book order.market) refl none
         }
 
 -- a market whose batch may be finished: it is there, and there is room for one batch more
-pub finishable : (book : BookState) (market : ℕ) → None ≡ batch_refusal book market → (m : MarketState) × (market_of book market ≡ Some m) × (book.finished < MAX_BATCHES)
+pub finishable : (book : BookState) (market : ℕ) → first_of (batch_refusals book market) ≡ None → (m : MarketState) × (market_of book market ≡ Some m) × (book.finished < MAX_BATCHES)
 finishable book market none = by (market_of book market) refl none
   where
-    by : (r : Option MarketState) → market_of book market ≡ r → None ≡ option_map_or (λ found. batch_refusal_in found book.finished) (option_map info_of r) (Some NoMarket)
+    by : (r : Option MarketState) → market_of book market ≡ r
+        → first_of ((not (is_some (option_map info_of r)), NoMarket) ∷ (option_map_or (λ (found : MarketInfo). found.settled) (option_map info_of r) false, Settled)
+        ∷ (nat_le MAX_BATCHES book.finished, TooMany) ∷ []) ≡ None
         → (m : MarketState) × (market_of book market ≡ Some m) × (book.finished < MAX_BATCHES)
     by None e h = cc
     by (Some m) e h = (m, e, less MAX_BATCHES book.finished (passes (nat_le MAX_BATCHES book.finished) TooMany None (passes m.settled Settled _ h).1).0)
 
+-- a market that is not settled is there
+pub trading_found : (book : BookState) (market : ℕ) → is_trading book market ≡ true → (m : MarketState) × (market_of book market ≡ Some m)
+trading_found book market trading = by (market_of book market) refl trading
+  where
+    by : (r : Option MarketState) → market_of book market ≡ r → option_map_or (λ (found : MarketInfo). not found.settled) (option_map info_of r) false ≡ true → (m : MarketState) × (market_of book market ≡ Some m)
+    by None e h = cc
+    by (Some m) e h = (m, e)
+
 -- a market that may be listed: no other has its number, and there is room for it
-pub listable : (book : BookState) (market : ℕ) → None ≡ market_refusal book market → (market_of book market ≡ None) × (length book.markets < MAX_MARKETS)
+pub listable : (book : BookState) (market : ℕ) → first_of (market_refusals book market) ≡ None → (market_of book market ≡ None) × (length book.markets < MAX_MARKETS)
 listable book market none = by (market_of book market) refl none
   where
-    by : (r : Option MarketState) → market_of book market ≡ r → None ≡ (if is_some (option_map info_of r) then Some MarketExists else if nat_le MAX_MARKETS (length book.markets) then Some TooMany else None)
+    by : (r : Option MarketState) → market_of book market ≡ r → first_of ((is_some (option_map info_of r), MarketExists) ∷ (nat_le MAX_MARKETS (length book.markets), TooMany) ∷ []) ≡ None
         → (market_of book market ≡ None) × (length book.markets < MAX_MARKETS)
     by None e h = (e, less MAX_MARKETS (length book.markets) (passes (nat_le MAX_MARKETS (length book.markets)) TooMany None h).0)
     by (Some m) e h = cc

@@ -1,11 +1,12 @@
 -- A book that is kept stays so at each call.
-use Rattle.std.proofs.Common.{◌≡◌, ℕ, zero, suc, ◌+◌, ◌≤◌, ◌<◌, false, not, List, [], ◌∷◌, ◌++◌, length, map, None, Some, IfSome, is_some, slice_get, nat_eq, refl, ap, sym, subst, ◌∙◌, arith, length-append, ⊎_elim, true≢false}
+use Rattle.std.proofs.Common.{◌≡◌, ℕ, zero, suc, ◌+◌, ◌≤◌, ◌<◌, Bool, true, false, not, List, [], ◌∷◌, ◌++◌, length, map, None, Some, IfSome, IsSome, is_some, if◌then◌else◌, slice_get, nat_eq, refl, ap, sym, subst, ◌∙◌, arith, length-append, ⊎_elim, true≢false}
 use Rattle.std.specs.Cmp.{nat_eq_equiv}
-use Rattle.std.specs.List.{All, IsDistinct}
+use Rattle.std.specs.List.{All, IsDistinct, find}
 use Rattle.std.specs.List.Sorted.{IsStrictlyIncreasing}
 use Rattle.std.specs.Map.{keys_of}
 use Rattle.std.proofs.Math.Seq.{get_or-append_seam}
 use Rattle.std.proofs.lemmas.Bool.{cases_lt}
+use Rattle.std.proofs.lemmas.Bool.Decides.{nat_tests}
 use Rattle.std.proofs.lemmas.List.{length-map, map-append, get_or_append_left}
 use Rattle.std.proofs.lemmas.List.Elements.{All-nil, All-head, All-tail, All-push, All-weaker, All-filter, All-map}
 use Rattle.std.proofs.lemmas.Map.Keys.{IsDistinct-push}
@@ -15,12 +16,14 @@ use Rattle.form.specs.declared.orders.Order.{Order}
 use Rattle.form.specs.Limits.{IsOrderWithin, IsWithinLimits}
 use Rattle.order_book.specs.declared.limits.TheConstants.{MAX_MARKETS, MAX_ACCEPTED, MAX_BATCHES}
 use Rattle.order_book.specs.declared.new_order.NewOrder.{NewOrder}
-use Rattle.order_book.specs.Markets.{MarketState, Markets, has_number, with_live, with_live_in, without, without_order}
-use Rattle.order_book.specs.Book.{BookState, market_of, batch_of, listed, numbered, placed, cancelled, batch_finished}
+use Rattle.order_book.specs.Markets.{MarketState, Markets, has_number, live_in, live_orders, with_live, with_live_in, without, without_in_each}
+use Rattle.order_book.specs.Numbers.{number_count, AreNumberedApart}
+use Rattle.order_book.specs.Book.{BookState, market_of, batch_of, with_market, with_number, with_order, without_order, after_batch}
 use Rattle.order_book.specs.Within.{IsNewOrderWithin}
 use Rattle.order_book.specs.Kept.{IsLive, IsMarketKept, IsBookKept}
 use Rattle.order_book.proofs.Accepting.{Accepts}
-use Rattle.order_book.proofs.LiveOrders.{length_without, rise_without}
+use Rattle.order_book.proofs.AllLive.{live-with_market, live-without_in_each, sum-replaced, none_fresh}
+use Rattle.order_book.proofs.LiveOrders.{length_without, rise_without, find_none, number_count-append, number_count-without, none_counted, fresh_counted}
 use Rattle.order_book.proofs.MarketLists.{live_found, at_found, all_changed, keys_changed, length_changed}
 
 abbrev number_of : Order → ℕ
@@ -75,7 +78,7 @@ taken_market accepted number m k =
       settled = λ is. ap (without number) (k.settled is);
     }
 
-keys_taken : (number : ℕ) (markets : Markets) → keys_of (without_order number markets) ≡ keys_of markets
+keys_taken : (number : ℕ) (markets : Markets) → keys_of (without_in_each number markets) ≡ keys_of markets
 keys_taken number [] = refl
 keys_taken number (m ∷ markets) = ap (λ (ks : List ℕ). m.0 ∷ ks) (keys_taken number markets)
 
@@ -85,6 +88,13 @@ module _ (book : BookState) (kept : IsBookKept book) where
 
   pub market_kept : (market : ℕ) (m : MarketState) → market_of book market ≡ Some m → IsMarketKept book.accepted m
   market_kept market m found = at_found market IsOneKept book.markets m found kept.markets
+
+  -- no order of a market has the number that comes next
+  pub next_unused : (market : ℕ) (m : MarketState) → market_of book market ≡ Some m → find (has_number (book.accepted + 1)) (live_in market book.markets) ≡ None
+  next_unused market m found =
+      let live = (market_kept market m found).live in
+      ap (find (has_number (book.accepted + 1))) (live_found market book.markets m found)
+      ∙ find_none (book.accepted + 1) m.live (none_counted (book.accepted + 1) m.live (fresh_counted m.underlyings book.accepted m.live live))
 
   -- each live order is within the limits
   pub live_within : (market place : ℕ) (m : MarketState) → market_of book market ≡ Some m → IfSome (slice_get m.live place) IsOrderWithin
@@ -98,26 +108,29 @@ module _ (book : BookState) (kept : IsBookKept book) where
         live book.markets m kept.distinct found (λ _. one) kept.markets
 
     changed_book : (live : List Order) (accepted finished : ℕ) → book.accepted ≤ accepted → accepted ≤ MAX_ACCEPTED → finished ≤ MAX_BATCHES → IsMarketKept accepted (with_live m live)
+        → AreNumberedApart (live_orders (with_live_in market live book.markets))
         → IsBookKept (record { markets = with_live_in market live book.markets; accepted = accepted; finished = finished })
-    changed_book live accepted finished le few few_batches one =
+    changed_book live accepted finished le few few_batches one apart =
         let long = length_changed market live book.markets m found in
         let short = kept.few in
         record {
           few = omega arith;
           distinct = subst (IsDistinct nat_eq) (sym (keys_changed market live book.markets m found)) kept.distinct;
           markets = changed_markets live accepted le one;
+          numbers = apart;
           accepted = few;
           finished = few_batches;
         }
 
-    pub finished_book : book.finished < MAX_BATCHES → IsBookKept (batch_finished book market)
-    finished_book more =
+    pub kept-after_batch : book.finished < MAX_BATCHES → IsBookKept (after_batch book market)
+    kept-after_batch more =
         let k = market_kept market m found in
         changed_book [] book.accepted (book.finished + 1) (omega arith) kept.accepted (omega arith)
         (record { some = k.some; few = k.few; room = omega arith; rise = (λ i h. absurd (omega arith)); live = All-nil (IsLive m.underlyings book.accepted); settled = λ is. refl })
+        (λ q. omega (arith, sum-replaced (number_count q) (number_count-append q) market [] book.markets (subst IsSome (sym found) refl), kept.numbers q))
 
-  pub listed_book : (market underlyings : ℕ) → market_of book market ≡ None → 1 ≤ underlyings → underlyings ≤ MAX_UNDERLYINGS → length book.markets < MAX_MARKETS → IsBookKept (listed book market underlyings)
-  listed_book market underlyings fresh some few room =
+  pub kept-with_market : (market underlyings : ℕ) → market_of book market ≡ None → 1 ≤ underlyings → underlyings ≤ MAX_UNDERLYINGS → length book.markets < MAX_MARKETS → IsBookKept (with_market book market underlyings)
+  kept-with_market market underlyings fresh some few room =
       let s : MarketState = record { underlyings = underlyings; settled = false; live = [] } in
       let long = length-append book.markets ((market, s) ∷ []) in
       let keys = map-append (λ (e : ℕ × MarketState). e.0) book.markets ((market, s) ∷ []) in
@@ -127,15 +140,16 @@ module _ (book : BookState) (kept : IsBookKept book) where
         distinct = subst (IsDistinct nat_eq) (sym keys) (IsDistinct-push nat_eq_equiv (keys_of book.markets) market kept.distinct absent);
         markets = All-push IsOneKept book.markets (market, s) kept.markets
             (record { some = some; few = few; room = omega arith; rise = (λ k h. absurd (omega arith)); live = All-nil (IsLive underlyings book.accepted); settled = λ is. refl });
+        numbers = λ q. omega (arith, ap (number_count q) (live-with_market market underlyings book.markets), kept.numbers q);
         accepted = kept.accepted;
         finished = kept.finished;
       }
 
   module _ (order : NewOrder) (within : IsNewOrderWithin order) (a : Accepts book order) where
-    placed_market : (live : List Order) → live ≡ a.market.live → IsMarketKept (book.accepted + 1) (with_live a.market (live ++ numbered (book.accepted + 1) order ∷ []))
+    placed_market : (live : List Order) → live ≡ a.market.live → IsMarketKept (book.accepted + 1) (with_live a.market (live ++ with_number (book.accepted + 1) order ∷ []))
     placed_market live is =
         let m = a.market in
-        let fresh = numbered (book.accepted + 1) order in
+        let fresh = with_number (book.accepted + 1) order in
         let k = market_kept order.market m a.found in
         let long = length-append m.live (fresh ∷ []) in
         let few = k.room in
@@ -151,14 +165,33 @@ module _ (book : BookState) (kept : IsBookKept book) where
           settled = λ settled. absurd (true≢false (sym settled ∙ a.unsettled));
         })
 
-    pub placed_book : IsBookKept (placed book order)
-    placed_book =
+    placed_numbers : (q : ℕ) → number_count q (live_orders (with_live_in order.market (live_in order.market book.markets ++ with_number (book.accepted + 1) order ∷ []) book.markets)) ≤ 1
+    placed_numbers q =
+        let live = live_in order.market book.markets in
+        by (nat_eq q (book.accepted + 1)) refl (number_count-append q live (with_number (book.accepted + 1) order ∷ []))
+        (sum-replaced (number_count q) (number_count-append q) order.market (live ++ with_number (book.accepted + 1) order ∷ []) book.markets (subst IsSome (sym a.found) refl))
+      where
+        none : nat_eq q (book.accepted + 1) ≡ true → number_count q (live_orders book.markets) ≡ 0
+        none same =
+            let next : q ≡ book.accepted + 1 = grind (arith, nat_tests) in
+            ap (λ n. number_count n (live_orders book.markets)) next ∙ none_fresh book.accepted book.markets kept.markets
+
+        by : (b : Bool) → nat_eq q (book.accepted + 1) ≡ b
+            → number_count q (live_in order.market book.markets ++ with_number (book.accepted + 1) order ∷ []) ≡ number_count q (live_in order.market book.markets) + ((if b then 1 else 0) + 0)
+            → number_count q (live_orders (with_live_in order.market (live_in order.market book.markets ++ with_number (book.accepted + 1) order ∷ []) book.markets)) + number_count q (live_in order.market book.markets)
+            ≡ number_count q (live_orders book.markets) + number_count q (live_in order.market book.markets ++ with_number (book.accepted + 1) order ∷ [])
+            → number_count q (live_orders (with_live_in order.market (live_in order.market book.markets ++ with_number (book.accepted + 1) order ∷ []) book.markets)) ≤ 1
+        by true same last s = omega (arith, none same, last, s)
+        by false other last s = omega (arith, kept.numbers q, last, s)
+
+    pub kept-with_order : IsBookKept (with_order book order)
+    kept-with_order =
         let more = a.more in
         let is = live_found order.market book.markets a.market a.found in
-        changed_book order.market a.market a.found _ (book.accepted + 1) book.finished (omega arith) (omega arith) kept.finished (placed_market _ is)
+        changed_book order.market a.market a.found _ (book.accepted + 1) book.finished (omega arith) (omega arith) kept.finished (placed_market _ is) placed_numbers
 
-  pub cancelled_book : (number : ℕ) → IsBookKept (cancelled book number)
-  cancelled_book number =
+  pub kept-without_order : (number : ℕ) → IsBookKept (without_order book number)
+  kept-without_order number =
       let taken : ℕ × MarketState → ℕ × MarketState = λ m. (m.0, with_live m.1 (without number m.1.live)) in
       let few = kept.few in
       let long = length-map book.markets taken in
@@ -166,6 +199,7 @@ module _ (book : BookState) (kept : IsBookKept book) where
         few = omega arith;
         distinct = subst (IsDistinct nat_eq) (sym (keys_taken number book.markets)) kept.distinct;
         markets = All-map IsOneKept taken book.markets (All-weaker IsOneKept (λ e. IsOneKept (taken e)) (λ e k. taken_market book.accepted number e.1 k) book.markets kept.markets);
+        numbers = λ q. omega (arith, ap (number_count q) (live-without_in_each number book.markets), number_count-without q number (live_orders book.markets), kept.numbers q);
         accepted = kept.accepted;
         finished = kept.finished;
       }

@@ -1,6 +1,8 @@
 pub mod MarketLists
 pub mod LiveOrders
-pub mod Indexed
+pub mod ByNumber
+pub mod AllLive
+pub mod Holders
 pub mod Accepting
 pub mod BookKept
-pub mod Keeping
+pub mod Cancelling

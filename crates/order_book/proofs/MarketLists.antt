@@ -1,7 +1,7 @@
 -- Lists of markets: one market with other live orders.
-use Rattle.std.proofs.Common.{◌≡◌, ℕ, Bool, true, false, cond, List, [], ◌∷◌, ◌++◌, length, Option, None, Some, IsSome, nat_eq, refl, ap, sym, subst, ◌∙◌, arith, rules}
+use Rattle.std.proofs.Common.{◌≡◌, ℕ, Bool, true, false, cond, List, [], ◌∷◌, length, Some, IsSome, nat_eq, refl, ap, sym, subst, ◌∙◌, arith, rules}
 use Rattle.std.specs.Cmp.{nat_eq_equiv}
-use Rattle.std.specs.List.{All, AllByRecursion, IsDistinct, find}
+use Rattle.std.specs.List.{All, AllByRecursion, IsDistinct}
 use Rattle.std.specs.Map.{lookup, set_value, keys_of}
 use Rattle.std.specs.Option.{option_map_or}
 use Rattle.std.proofs.lemmas.Bool.Decides.{nat_tests}
@@ -9,7 +9,7 @@ use Rattle.std.proofs.lemmas.List.Elements.{All-head, All-tail, All-cons, All-ni
 use Rattle.std.proofs.lemmas.Map.{keys-set_value, length-set_value, lookup-set_value}
 use Rattle.std.proofs.lemmas.Map.Keys.{IsDistinct-head, IsDistinct-tail}
 use Rattle.form.specs.declared.orders.Order.{Order}
-use Rattle.order_book.specs.Markets.{MarketState, Markets, has_number, with_live, live_in, with_live_in}
+use Rattle.order_book.specs.Markets.{MarketState, Markets, with_live, live_in, with_live_in}
 
 pub same_number : (a b : ℕ) → nat_eq a b ≡ true → a ≡ b
 same_number a b e = grind (arith, nat_tests)
@@ -88,21 +88,3 @@ module _ (market : ℕ) where
           by : (b : Bool) → option_map_or (λ (s : MarketState). s.live) (cond b (Some (with_live m live)) (lookup (nat_eq q) markets)) [] ≡ cond b live (live_in q markets)
           by true = refl
           by false = refl
-
--- a market that is listed last hides no other
-pub lookup_push : (q : ℕ) (markets : Markets) (e : ℕ × MarketState) → IsSome (lookup (nat_eq q) markets) → lookup (nat_eq q) (markets ++ e ∷ []) ≡ lookup (nat_eq q) markets
-lookup_push q [] e there = cc
-lookup_push q (x ∷ markets) e there = by (nat_eq q x.0) there (lookup_push q markets e)
-  where
-    by : (b : Bool) → IsSome (cond b (Some x.1) (lookup (nat_eq q) markets)) → (IsSome (lookup (nat_eq q) markets) → lookup (nat_eq q) (markets ++ e ∷ []) ≡ lookup (nat_eq q) markets)
-        → cond b (Some x.1) (lookup (nat_eq q) (markets ++ e ∷ [])) ≡ cond b (Some x.1) (lookup (nat_eq q) markets)
-    by true h later = refl
-    by false h later = later h
-
--- a market with a live order is there
-pub market_there : (number q : ℕ) (markets : Markets) → IsSome (find (has_number number) (live_in q markets)) → (m : MarketState) × (lookup (nat_eq q) markets ≡ Some m)
-market_there number q markets there = by (lookup (nat_eq q) markets) refl there
-  where
-    by : (r : Option MarketState) → lookup (nat_eq q) markets ≡ r → IsSome (find (has_number number) (option_map_or (λ (s : MarketState). s.live) r [])) → (m : MarketState) × (lookup (nat_eq q) markets ≡ Some m)
-    by None e h = cc
-    by (Some m) e h = (m, e)

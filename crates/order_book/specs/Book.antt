@@ -7,7 +7,7 @@ use Rattle.form.specs.declared.orders.Order.{Order}
 use Rattle.form.specs.declared.orders.Batch.{Batch}
 use Rattle.order_book.specs.declared.market.MarketInfo.{MarketInfo}
 use Rattle.order_book.specs.declared.new_order.NewOrder.{NewOrder}
-use Rattle.order_book.specs.Markets.{MarketState, Markets, has_number, live_in, live_orders, with_live_in, without_order}
+use Rattle.order_book.specs.Markets.{MarketState, Markets, has_number, live_in, live_orders, with_live_in, without_in_each}
 
 pub record BookState : Type 0 where
   pub markets : Markets
@@ -16,8 +16,11 @@ pub record BookState : Type 0 where
   -- how many batches were finished
   pub finished : ℕ
 
+abbrev pub book_of : Markets → ℕ → ℕ → BookState
+book_of markets accepted finished = record { markets = markets; accepted = accepted; finished = finished }
+
 abbrev pub empty_book : BookState
-empty_book = record { markets = []; accepted = 0; finished = 0 }
+empty_book = book_of [] 0 0
 
 abbrev pub market_of : BookState → ℕ → Option MarketState
 market_of book market = lookup (nat_eq market) book.markets
@@ -37,22 +40,26 @@ info_of market = record { underlyings = market.underlyings; settled = market.set
 abbrev pub info_in : BookState → ℕ → Option MarketInfo
 info_in book market = option_map info_of (market_of book market)
 
+-- what is true of a market that is there
+abbrev pub market_has : BookState → ℕ → (MarketInfo → Bool) → Bool
+market_has book market holds = option_map_or holds (info_in book market) false
+
 -- the market is there and not settled
-abbrev pub is_open : BookState → ℕ → Bool
-is_open book market = option_map_or (λ (info : MarketInfo). not info.settled) (info_in book market) false
+abbrev pub is_trading : BookState → ℕ → Bool
+is_trading book market = market_has book market (λ found. not found.settled)
 
 -- the live orders of a market as a batch
 abbrev pub batch_of : MarketState → Batch
 batch_of market = record { underlyings = market.underlyings; orders = market.live }
 
 -- the book with one market more, without live orders
-abbrev pub listed : BookState → ℕ → ℕ → BookState
-listed book market underlyings =
+abbrev pub with_market : BookState → ℕ → ℕ → BookState
+with_market book market underlyings =
     record book { markets = book.markets ++ (market, record { underlyings = underlyings; settled = false; live = [] }) ∷ [] }
 
 -- the order with its number
-abbrev pub numbered : ℕ → NewOrder → Order
-numbered number order = record {
+abbrev pub with_number : ℕ → NewOrder → Order
+with_number number order = record {
   id = number;
   account = order.account;
   side = order.side;
@@ -62,18 +69,18 @@ numbered number order = record {
 }
 
 -- the book with the order last among the live orders of its market, under the next number
-abbrev pub placed : BookState → NewOrder → BookState
-placed book order =
+abbrev pub with_order : BookState → NewOrder → BookState
+with_order book order =
     let number = book.accepted + 1 in
     record book {
-      markets = with_live_in order.market (live_of book order.market ++ numbered number order ∷ []) book.markets;
+      markets = with_live_in order.market (live_of book order.market ++ with_number number order ∷ []) book.markets;
       accepted = number;
     }
 
 -- the book without the live order with the number
-abbrev pub cancelled : BookState → ℕ → BookState
-cancelled book number = record book { markets = without_order number book.markets }
+abbrev pub without_order : BookState → ℕ → BookState
+without_order book number = record book { markets = without_in_each number book.markets }
 
 -- the book with a batch of the market finished: it has no live orders left
-abbrev pub batch_finished : BookState → ℕ → BookState
-batch_finished book market = record book { markets = with_live_in market [] book.markets; finished = book.finished + 1 }
+abbrev pub after_batch : BookState → ℕ → BookState
+after_batch book market = record book { markets = with_live_in market [] book.markets; finished = book.finished + 1 }

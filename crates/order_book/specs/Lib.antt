@@ -1,4 +1,5 @@
 pub mod Markets
+pub mod Numbers
 pub mod Book
 pub mod Refusals
 pub mod Within

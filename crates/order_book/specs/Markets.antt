@@ -1,6 +1,6 @@
 -- Markets as plain lists.
-use Rattle.std.specs.Prelude.{ℕ, Bool, List, [], ◌∷◌, nat_eq, not, filter, map, if◌then◌else◌}
-use Rattle.std.specs.List.{flat_map}
+use Rattle.std.specs.Prelude.{ℕ, Bool, List, [], ◌∷◌, nat_eq, not, filter, map, Option, Some, None, is_some, if◌then◌else◌}
+use Rattle.std.specs.List.{find, flat_map}
 use Rattle.std.specs.Map.{lookup}
 use Rattle.std.specs.Option.{option_map_or}
 use Rattle.form.specs.declared.orders.Order.{Order}
@@ -18,7 +18,7 @@ abbrev pub Markets : Type 0
 Markets = List (ℕ × MarketState)
 
 abbrev pub has_number : ℕ → Order → Bool
-has_number number order = nat_eq order.id number
+has_number number order = nat_eq number order.id
 
 abbrev pub with_live : MarketState → List Order → MarketState
 with_live market live = record market { live = live }
@@ -41,10 +41,10 @@ abbrev pub without : ℕ → List Order → List Order
 without number orders = filter (λ order. not (has_number number order)) orders
 
 -- the markets, of which none has a live order with the number
-abbrev pub without_order : ℕ → Markets → Markets
-without_order number markets = map (λ (m : ℕ × MarketState). (m.0, with_live m.1 (without number m.1.live))) markets
+abbrev pub without_in_each : ℕ → Markets → Markets
+without_in_each number markets = map (λ (m : ℕ × MarketState). (m.0, with_live m.1 (without number m.1.live))) markets
 
--- what is kept of the index of live orders: the market of each, and how many more may come without more memory
-pub record IndexState : Type 0 where
-  pub entries : List (ℕ × ℕ)
-  pub spare : ℕ
+-- the first market with a live order of the number
+abbrev pub holder_of : ℕ → Markets → Option ℕ
+holder_of number [] = None
+holder_of number (m ∷ markets) = if is_some (find (has_number number) m.1.live) then Some m.0 else holder_of number markets

@@ -1,18 +1,15 @@
-ghost use Rattle.std.specs.Prelude.{◌≡◌, ◌+◌, ◌≤◌, ◌<◌, ◌≢◌, ℕ, nat_eq, map, true, Some, Err, slice_get, IfOk, IfSome, OnOk, OnErr};
+ghost use Rattle.std.specs.Prelude.{◌≡◌, ◌+◌, ◌≤◌, ◌<◌, ◌≢◌, ℕ, nat_eq, true, Some, Err, slice_get, IfOk, IfSome, OnOk, OnErr};
 ghost use Rattle.std.specs.Option.{option_map};
-ghost use Rattle.std.specs.List.{IsDistinct};
 ghost use Rattle.form.specs.declared.limits.TheConstants.{MAX_ORDERS, MAX_UNDERLYINGS};
-ghost use Rattle.form.specs.declared.orders.Order.{Order};
 ghost use Rattle.form.specs.Limits.{IsOrderWithin, IsWithinLimits};
 ghost use Rattle.order_book.specs.declared.limits.TheConstants.{MAX_BATCHES};
 ghost use Rattle.order_book.specs.declared.refusal.BookRefusal.TheVariants as BookRefusal;
-ghost use Rattle.order_book.specs.Markets.{live_orders};
-ghost use Rattle.order_book.specs.Book.{BookState, empty_book, market_of, live_of, info_in, is_open, batch_of, numbered, listed, placed, cancelled, batch_finished};
-ghost use Rattle.order_book.specs.Refusals.{refusal_in, market_refusal, place_refusal, batch_refusal, cancel_answer};
+ghost use Rattle.order_book.specs.Book.{empty_book, market_of, live_of, order_of, info_in, is_trading, batch_of, with_number, with_market, with_order, without_order, after_batch};
+ghost use Rattle.order_book.specs.Refusals.{unless_memory, market_refusals, order_refusals, room_refusals, place_refusals, batch_refusals, cancel_refusals};
 ghost use Rattle.order_book.specs.Within.{IsNewOrderWithin};
 ghost use Rattle.order_book.specs.Kept.{IsBookKept};
+ghost use Rattle.refusals.specs.Refusals.{TellsFirst};
 
-use crate::index::Index;
 use crate::limits::{MAX_ACCEPTED, MAX_BATCHES, MAX_MARKETS};
 use crate::market::{Market, MarketInfo};
 use crate::markets::Markets;
@@ -27,34 +24,29 @@ use std::marker::Model;
 pub struct Book {
     alloc: Global,
     markets: Markets,
-    index: Index,
     accepted: u64,
     finished: u32,
 }
 
 impl Model for Book {
-    ghost use Rattle.std.specs.Prelude.{nat_eq};
-    ghost use Rattle.std.specs.Map.{lookup};
-    ghost use Rattle.order_book.specs.Book.{BookState};
-    ghost use Rattle.order_book.specs.Kept.{AreKept};
+    ghost use Rattle.order_book.specs.Book.{BookState, book_of};
+    ghost use Rattle.order_book.specs.Kept.{IsBookKept};
 
     ghost Value = { BookState };
 
-    ghost view = { λ s. record { markets = s.markets; accepted = s.accepted; finished = s.finished } };
+    ghost view = { λ s. book_of s.markets s.accepted s.finished };
 
-    ghost invariant = { λ s. AreKept (λ number. lookup (nat_eq number) s.index.entries)
-        record { markets = s.markets; accepted = s.accepted; finished = s.finished } };
+    ghost invariant = { λ s. IsBookKept (book_of s.markets s.accepted s.finished) };
 }
 
 impl Book {
-    /// No market, and no order or batch so far. Takes no memory.
+    /// No market, and no order or batch so far.
     pub fn new(alloc: Global) -> Self
         ensures { result ≡ empty_book }
     {
         Book {
             alloc,
             markets: Markets::new(alloc),
-            index: Index::new(alloc),
             accepted: 0,
             finished: 0,
         }
@@ -62,7 +54,7 @@ impl Book {
 
     /// Looks whether a market may be listed under a number: as `market` refuses, memory aside.
     pub fn check_market(&self, market: u32) -> Result<(), BookRefusal>
-        ensures refused { refusal_in result ≡ market_refusal self.now market }
+        ensures refused { TellsFirst unless_memory result (market_refusals self.now market) }
         ensures no_memory { result ≢ Err BookRefusal.Memory }
     {
         if self.markets.get(market).is_some() {
@@ -80,8 +72,8 @@ impl Book {
     pub fn market(&mut self, market: u32, underlyings: u8) -> Result<(), BookRefusal>
         requires some { 1 ≤ underlyings }
         requires few { underlyings ≤ MAX_UNDERLYINGS }
-        ensures refused { refusal_in result ≡ market_refusal self.old market }
-        ensures ok { OnOk result (self.new ≡ listed self.old market underlyings) }
+        ensures refused { TellsFirst unless_memory result (market_refusals self.old market) }
+        ensures ok { OnOk result (self.new ≡ with_market self.old market underlyings) }
         ensures err { OnErr result (self.new ≡ self.old) }
     {
         self.check_market(market)?;
@@ -91,22 +83,23 @@ impl Book {
 
     /// What there is to tell of a market: its underlyings, whether it is settled, how many live orders it has.
     ///
-    /// `None` where no market has this number. Takes no memory.
+    /// `None` where no market has this number.
     pub fn info(&self, market: u32) -> Option<MarketInfo>
         ensures info { result ≡ info_in self.now market }
-        ensures underlyings { IfSome result (λ info. (1 ≤ info.underlyings) × (info.underlyings ≤ MAX_UNDERLYINGS)) }
+        ensures underlyings { IfSome result (λ info.
+            (1 ≤ info.underlyings) × (info.underlyings ≤ MAX_UNDERLYINGS)) }
         ensures live { IfSome result (λ info. info.live ≤ MAX_ORDERS) }
         ensures kept { IsBookKept self.now }
-
-        // No two live orders have the same number.
-        ensures distinct { IsDistinct nat_eq (map (λ (order : Order). order.id) (live_orders self.now.markets)) }
     {
         Some(self.markets.get(market)?.info())
     }
 
-    // Whether an order may be placed, memory aside.
-    fn check_place(&self, order: &NewOrder) -> Result<(), BookRefusal>
-        ensures refused { refusal_in result ≡ place_refusal self.now order.now }
+    /// Looks whether an order's market is there, not settled and for the order's option.
+    ///
+    /// The first of these: `NoMarket` where no market has the number; `Settled` where it is settled; `WeightCount` where
+    /// the option has another number of underlyings than the market.
+    pub fn check_order(&self, order: &NewOrder) -> Result<(), BookRefusal>
+        ensures refused { TellsFirst unless_memory result (order_refusals self.now order.now) }
         ensures no_memory { result ≢ Err BookRefusal.Memory }
     {
         let market = self.info(order.market).ok_or(BookRefusal::NoMarket)?;
@@ -116,8 +109,18 @@ impl Book {
         if order.form.count != market.underlyings + 1 {
             return Err(BookRefusal::WeightCount);
         }
-        if market.live as usize >= MAX_ORDERS {
-            return Err(BookRefusal::BookFull);
+        Ok(())
+    }
+
+    // Looks whether a market that is there has room for an order more, and the book too.
+    fn check_room(&self, market: u32) -> Result<(), BookRefusal>
+        ensures refused { TellsFirst unless_memory result (room_refusals self.now market) }
+        ensures no_memory { result ≢ Err BookRefusal.Memory }
+    {
+        if let Some(found) = self.info(market) {
+            if found.live as usize >= MAX_ORDERS {
+                return Err(BookRefusal::BookFull);
+            }
         }
         if self.accepted >= MAX_ACCEPTED {
             return Err(BookRefusal::TooMany);
@@ -125,41 +128,46 @@ impl Book {
         Ok(())
     }
 
+    // Looks whether an order may be placed, memory aside.
+    fn check_place(&self, order: &NewOrder) -> Result<(), BookRefusal>
+        ensures refused { TellsFirst unless_memory result (place_refusals self.now order.now) }
+        ensures no_memory { result ≢ Err BookRefusal.Memory }
+    {
+        self.check_order(order)?;
+        self.check_room(order.market)
+    }
+
     /// Accepts an order whose option, price and quantity are within the limits, and answers its number, which is one
     /// more than the orders accepted before. It goes last among the live orders of its market.
     ///
-    /// The first of these: `NoMarket` where no market has the number; `Settled` where it is settled; `WeightCount` where
-    /// the option has another number of underlyings than the market; `BookFull` where the market has 256 live orders;
-    /// `TooMany` where 1,000,000 orders were accepted.
+    /// As `check_order` refuses, and then the first of these: `BookFull` where the market has 256 live orders; `TooMany`
+    /// where 1,000,000 orders were accepted.
     pub fn place(&mut self, order: &NewOrder) -> Result<u64, BookRefusal>
         requires { IsNewOrderWithin order.now }
-        ensures refused { refusal_in result ≡ place_refusal self.old order.now }
+        ensures refused { TellsFirst unless_memory result (place_refusals self.old order.now) }
         ensures number { IfOk result (λ number. number ≡ self.old.accepted + 1) }
-        ensures ok { OnOk result (self.new ≡ placed self.old order.now) }
+        ensures ok { OnOk result (self.new ≡ with_order self.old order.now) }
         ensures err { OnErr result (self.new ≡ self.old) }
     {
         self.check_place(order)?;
-        self.index.room()?;
         let number = self.accepted + 1;
-        self.markets.add(order.market, numbered(order, number))?;
-        self.index.set(number, order.market);
+        self.markets.add(order.market, with_number(order, number))?;
         self.accepted = number;
         Ok(number)
     }
 
     /// Takes a live order out, and answers it. The others keep their places.
     ///
-    /// `NoOrder` where no live order has the number, and else `NotOwner` where it is another account's. Takes no memory.
+    /// `NoOrder` where no live order has the number, and else `NotOwner` where it is another account's.
     pub fn cancel(&mut self, account: u32, order: u64) -> Result<Order, BookRefusal>
-        ensures answer { result ≡ cancel_answer self.old account order }
-        ensures ok { OnOk result (self.new ≡ cancelled self.old order) }
+        ensures refused { TellsFirst unless_memory result (cancel_refusals self.old account order) }
+        ensures no_memory { result ≢ Err BookRefusal.Memory }
+        ensures order { IfOk result (λ found. order_of self.old order ≡ Some found) }
+        ensures ok { OnOk result (self.new ≡ without_order self.old order) }
         ensures err { OnErr result (self.new ≡ self.old) }
         ensures within { IfOk result IsOrderWithin }
-
-        // No two live orders had the same number.
-        ensures distinct { OnOk result (IsDistinct nat_eq (map (λ (order : Order). order.id) (live_orders self.old.markets))) }
     {
-        let Some(market) = self.index.get(order) else {
+        let Some(market) = self.markets.holder(order) else {
             return Err(BookRefusal::NoOrder);
         };
         let found = self.markets.order(market, order).unwrap();
@@ -167,7 +175,6 @@ impl Book {
             return Err(BookRefusal::NotOwner);
         }
         self.markets.remove(market, order);
-        self.index.remove(order);
         Ok(found)
     }
 
@@ -176,10 +183,12 @@ impl Book {
     /// The first of these: `NoMarket` where no market has the number; `Settled` where it is settled; `TooMany` where
     /// 2,000,000 batches were finished.
     pub fn batch(&self, market: u32) -> Result<Batch, BookRefusal>
-        ensures refused { refusal_in result ≡ batch_refusal self.now market }
-        ensures batch { IfOk result (λ batch. option_map batch_of (market_of self.now market) ≡ Some batch) }
+        ensures refused { TellsFirst unless_memory result (batch_refusals self.now market) }
+        ensures batch { IfOk result (λ batch.
+            option_map batch_of (market_of self.now market) ≡ Some batch) }
         ensures within { IfOk result IsWithinLimits }
-        ensures may_finish { OnOk result ((is_open self.now market ≡ true) × (self.now.finished < MAX_BATCHES)) }
+        ensures may_finish { OnOk result
+            ((is_trading self.now market ≡ true) × (self.now.finished < MAX_BATCHES)) }
     {
         let found = self.markets.get(market).ok_or(BookRefusal::NoMarket)?;
         if found.is_settled() {
@@ -192,15 +201,13 @@ impl Book {
     }
 
     /// Finishes a batch of a market that is there and not settled, while fewer than 2,000,000 batches were finished: the
-    /// market has no live orders left. Answers the number of the batch, counted from 1 over all markets. Takes no memory.
+    /// market has no live orders left. Answers the number of the batch, counted from 1 over all markets.
     pub fn finish_batch(&mut self, market: u32) -> u32
-        requires open { is_open self.old market ≡ true }
+        requires open { is_trading self.old market ≡ true }
         requires few { self.old.finished < MAX_BATCHES }
         ensures number { result ≡ self.old.finished + 1 }
-        ensures finished { self.new ≡ batch_finished self.old market }
+        ensures finished { self.new ≡ after_batch self.old market }
     {
-        self.index
-            .remove_all(self.markets.get(market).unwrap().live());
         self.markets.clear(market);
         self.finished += 1;
         self.finished
@@ -208,7 +215,7 @@ impl Book {
 
     /// The live order of a market at a place, counted from 0 in rising number.
     ///
-    /// `None` where no market has the number, or it has at most `place` live orders. Takes no memory.
+    /// `None` where no market has the number, or it has at most `place` live orders.
     pub fn live_order(&self, market: u32, place: u32) -> Option<Order>
         ensures order { result ≡ slice_get (live_of self.now market) place }
         ensures within { IfSome result IsOrderWithin }
@@ -218,8 +225,8 @@ impl Book {
 }
 
 // The order with its number.
-fn numbered(order: &NewOrder, id: u64) -> Order
-    ensures { result ≡ numbered id order.now }
+fn with_number(order: &NewOrder, id: u64) -> Order
+    ensures { result ≡ with_number id order.now }
 {
     Order {
         id,

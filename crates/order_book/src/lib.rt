@@ -1,9 +1,11 @@
 //! The order book: markets, their live orders in rising number, and how many orders and batches there were.
+//!
+//! A call takes memory only where it may answer `Memory`.
 #![tactic(auto)]
 
 mod book;
-mod index;
 mod limits;
+mod live_orders;
 mod market;
 mod markets;
 mod new_order;

@@ -1,10 +1,11 @@
 // One market: its underlyings, whether it is settled, and its live orders in rising number.
-ghost use Rattle.std.specs.Prelude.{◌≡◌, ◌≤◌, ◌++◌, [], ◌∷◌, false, length, slice_get, IfOk, OnOk, OnErr};
+ghost use Rattle.std.specs.Prelude.{◌≡◌, ◌≤◌, ◌++◌, [], ◌∷◌, false, length, slice_get, None, IfOk, OnOk, OnErr};
 ghost use Rattle.std.specs.List.{find};
 ghost use Rattle.form.specs.declared.limits.TheConstants.{MAX_ORDERS};
 ghost use Rattle.order_book.specs.Book.{batch_of, info_of};
 ghost use Rattle.order_book.specs.Markets.{has_number, with_live, without};
 
+use crate::live_orders::LiveOrders;
 use form::{Batch, Order, Orders};
 use std::alloc::{AllocError, Global};
 use std::marker::Model;
@@ -21,7 +22,7 @@ pub struct MarketInfo {
 pub(crate) struct Market {
     underlyings: u8,
     settled: bool,
-    live: Vec<Order>,
+    live: LiveOrders,
 }
 
 impl Model for Market {
@@ -29,7 +30,11 @@ impl Model for Market {
 
     ghost Value = { MarketState };
 
-    ghost view = { λ m. record { underlyings = m.underlyings; settled = m.settled; live = m.live.items } };
+    ghost view = { λ m. record {
+      underlyings = m.underlyings;
+      settled = m.settled;
+      live = m.live;
+    } };
 }
 
 impl Market {
@@ -40,7 +45,7 @@ impl Market {
         Market {
             underlyings,
             settled: false,
-            live: Vec::new(alloc),
+            live: LiveOrders::new(alloc),
         }
     }
 
@@ -61,33 +66,27 @@ impl Market {
         self.settled
     }
 
-    pub(crate) fn live(&self) -> &[Order]
-        ensures { result.now ≡ self.now.live }
-    {
-        &self.live
-    }
-
     // The live order at a place, counted from 0.
     pub(crate) fn order_at(&self, place: u32) -> Option<Order>
         ensures { result ≡ slice_get self.now.live place }
     {
-        self.live.get(place as usize).copied()
+        self.live.at(place as usize)
     }
 
     // The live order with the number.
     pub(crate) fn order(&self, number: u64) -> Option<Order>
         ensures { result ≡ find (has_number number) self.now.live }
     {
-        self.live.iter().find(|order| order.id == number).copied()
+        self.live.get(number)
     }
 
-    // Puts an order last.
+    // Puts an order last, whose number no other has.
     pub(crate) fn add(&mut self, order: Order) -> Result<(), AllocError>
+        requires { find (has_number order.id) self.old.live ≡ None }
         ensures ok { OnOk result (self.new ≡ with_live self.old (self.old.live ++ order ∷ [])) }
         ensures err { OnErr result (self.new ≡ self.old) }
     {
-        self.live.push(order)?;
-        Ok(())
+        self.live.add(order)
     }
 
     // The live orders as a batch.
@@ -104,7 +103,7 @@ impl Market {
     pub(crate) fn remove(&mut self, number: u64)
         ensures { self.new ≡ with_live self.old (without number self.old.live) }
     {
-        self.live.retain(|order| order.id != number);
+        self.live.remove(number);
     }
 
     // Takes all live orders out.

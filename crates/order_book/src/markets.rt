@@ -1,9 +1,9 @@
 // The markets in the order in which they were listed, found by their numbers.
-ghost use Rattle.std.specs.Prelude.{◌≡◌, ◌≤◌, ◌++◌, [], ◌∷◌, ℕ, nat_eq, length, map, false, None, IsSome, IfSome, OnOk, OnErr, is_some};
+ghost use Rattle.std.specs.Prelude.{◌≡◌, ◌≤◌, ◌++◌, [], ◌∷◌, ℕ, nat_eq, length, false, None, IsSome, OnOk, OnErr};
 ghost use Rattle.std.specs.List.{find};
 ghost use Rattle.std.specs.Map.{lookup};
 ghost use Rattle.std.specs.Option.{option_copied};
-ghost use Rattle.order_book.specs.Markets.{MarketState, has_number, live_in, with_live_in, without};
+ghost use Rattle.order_book.specs.Markets.{has_number, live_in, with_live_in, without, holder_of};
 
 use crate::market::Market;
 use form::Order;
@@ -63,13 +63,27 @@ impl Markets {
         Ok(())
     }
 
-    // Puts an order last in a market that is there.
+    // Puts an order last in a market that is there, whose number no other order of the market has.
     pub(crate) fn add(&mut self, market: u32, order: Order) -> Result<(), AllocError>
-        requires { IsSome (lookup (nat_eq market) self.old) }
-        ensures ok { OnOk result (self.new ≡ with_live_in market (live_in market self.old ++ order ∷ []) self.old) }
+        requires there { IsSome (lookup (nat_eq market) self.old) }
+        requires fresh { find (has_number order.id) (live_in market self.old) ≡ None }
+        ensures ok { OnOk result
+            (self.new ≡ with_live_in market (live_in market self.old ++ order ∷ []) self.old) }
         ensures err { OnErr result (self.new ≡ self.old) }
     {
         self.by_number.get_mut(&market).unwrap().add(order)
+    }
+
+    // The number of the first market with a live order of the number.
+    pub(crate) fn holder(&self, number: u64) -> Option<u32>
+        ensures { result ≡ holder_of number self.now }
+    {
+        for (market, found) in self.by_number.iter() {
+            if found.order(number).is_some() {
+                return Some(*market);
+            }
+        }
+        None
     }
 
     // The live order with the number in a market.
@@ -82,7 +96,8 @@ impl Markets {
     // Takes the order with the number out of a market that is there. The others keep their places.
     pub(crate) fn remove(&mut self, market: u32, number: u64)
         requires { IsSome (lookup (nat_eq market) self.old) }
-        ensures { self.new ≡ with_live_in market (without number (live_in market self.old)) self.old }
+        ensures { self.new
+            ≡ with_live_in market (without number (live_in market self.old)) self.old }
     {
         self.by_number.get_mut(&market).unwrap().remove(number);
     }

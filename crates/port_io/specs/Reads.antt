@@ -3,7 +3,7 @@ use Rattle.std.specs.Prelude.{◌≡◌, ℕ, ◌≤◌, min, List, [], ◌∷�
 use Rattle.std.specs.Io.KnownBytes.{Consumes, Keeps, IsAtEnd}
 use Rattle.port_io.specs.declared.source.ReadAnswer.{ReadAnswer}
 use Rattle.port_io.specs.declared.source.ReadAnswer.TheVariants.{Got, End, Failed}
-use Rattle.port_io.specs.Faults.{Rose, raised, last_count}
+use Rattle.port_io.specs.Faults.{Rose, raised}
 
 -- a number of bytes that is told is from 1 to a limit
 abbrev pub GotWithin : ReadAnswer → ℕ → Type 0
@@ -32,4 +32,8 @@ taken_after before Failed = before
 abbrev pub ReadCause : ℕ → ℕ → ReadAnswer → Type 0
 ReadCause before now (Got count) = now ≡ before
 ReadCause before now End = now ≡ before
-ReadCause before now Failed = (before ≤ now) × (now ≤ last_count) × Rose before now
+ReadCause before now Failed = Rose before now
+
+-- at most so many of the bytes left were taken
+abbrev pub TakesUpTo : Option (List ℕ) → Option (List ℕ) → ℕ → Type 0
+TakesUpTo old new limit = (bytes : List ℕ) × (length bytes ≤ limit) × Consumes old new bytes

@@ -3,7 +3,7 @@ use Rattle.std.specs.Prelude.{◌≡◌, ℕ, ◌≤◌, List, length, take, Opt
 use Rattle.std.specs.Io.KnownBytes.{Appends, Keeps}
 use Rattle.port_io.specs.declared.sink.WriteAnswer.{WriteAnswer}
 use Rattle.port_io.specs.declared.sink.WriteAnswer.TheVariants.{Took, Failed}
-use Rattle.port_io.specs.Faults.{Rose, last_count}
+use Rattle.port_io.specs.Faults.{Rose}
 
 -- a number of bytes that is told is from 1 to a limit
 abbrev pub TookWithin : WriteAnswer → ℕ → Type 0
@@ -18,7 +18,7 @@ Writes old new Failed piece = Keeps old new
 -- Failed comes only where the count of faults rose, and the count changes at no other answer
 abbrev pub WriteCause : ℕ → ℕ → WriteAnswer → Type 0
 WriteCause before now (Took count) = now ≡ before
-WriteCause before now Failed = (before ≤ now) × (now ≤ last_count) × Rose before now
+WriteCause before now Failed = Rose before now
 
 -- a front of the piece was appended
 abbrev pub AppendsFront : Option (List ℕ) → Option (List ℕ) → List ℕ → Type 0

@@ -1,5 +1,7 @@
 // The real source and sink, over any reader and writer.
 ghost use Rattle.std.specs.Prelude.{◌≡◌};
+ghost use Rattle.std.proofs.Math.Nat.{min-le_right};
+ghost use Rattle.port_io.specs.Faults.{as_count, last_count};
 
 use crate::{ReadAnswer, Sink, Source, WriteAnswer};
 use std::io::{Read, Write};
@@ -32,9 +34,13 @@ impl<R: Read> StdSource<R> {
 impl<R: Read> Source for StdSource<R> {
     ghost left = { λ s. R.remaining s.inner };
 
-    ghost taken = { λ s. s.taken };
+    ghost taken = { λ s. as_count s.taken };
 
-    ghost faults = { λ s. s.faults };
+    ghost faults = { λ s. as_count s.faults };
+
+    ghost taken_stops = { λ s. min-le_right s.taken last_count };
+
+    ghost faults_stop = { λ s. min-le_right s.faults last_count };
 
     fn read(&mut self, buf: &mut [u8]) -> ReadAnswer {
         match self.inner.read(buf) {
@@ -73,7 +79,9 @@ impl<W: Write> StdSink<W> {
 impl<W: Write> Sink for StdSink<W> {
     ghost written = { λ s. W.contents s.inner };
 
-    ghost faults = { λ s. s.faults };
+    ghost faults = { λ s. as_count s.faults };
+
+    ghost faults_stop = { λ s. min-le_right s.faults last_count };
 
     fn write(&mut self, piece: &[u8]) -> WriteAnswer {
         match self.inner.write(piece) {

@@ -1,6 +1,7 @@
 // A source and a sink in memory, whose calls fail by a list.
 ghost use Rattle.std.specs.Prelude.{◌≡◌, ◌-◌, ◌≤◌, ◌<◌, ◌↔◌, ◌⊎◌, Some, [], length, take, drop, min, IfOk, Contains, IsTrue, vec_capacity};
-ghost use Rattle.port_io.specs.Faults.{raised};
+ghost use Rattle.std.proofs.Math.Nat.{min-le_right};
+ghost use Rattle.port_io.specs.Faults.{as_count, last_count, raised};
 ghost use Rattle.port_io.specs.InMemory.{SourceInMemory, SinkInMemory};
 ghost use Rattle.port_io.specs.Reads.{GotWithin, Takes, taken_after, ReadCause};
 ghost use Rattle.port_io.specs.Writes.{TookWithin, Writes, WriteCause};
@@ -80,16 +81,20 @@ impl MemSource {
 impl Source for MemSource {
     ghost left = { λ s. Some s.left };
 
-    ghost taken = { λ s. s.taken };
+    ghost taken = { λ s. as_count s.taken };
 
-    ghost faults = { λ s. s.faults };
+    ghost faults = { λ s. as_count s.faults };
+
+    ghost taken_stops = { λ s. min-le_right s.taken last_count };
+
+    ghost faults_stop = { λ s. min-le_right s.faults last_count };
 
     fn read(&mut self, buf: &mut [u8]) -> ReadAnswer
         requires { 0 < length buf.old }
         ensures fits { GotWithin result (length buf.new) }
         ensures bytes { Takes (Some self.old.left) (Some self.new.left) result buf.new }
-        ensures count { self.new.taken ≡ taken_after self.old.taken result }
-        ensures cause { ReadCause self.old.faults self.new.faults result }
+        ensures count { as_count self.new.taken ≡ taken_after (as_count self.old.taken) result }
+        ensures cause { ReadCause (as_count self.old.faults) (as_count self.new.faults) result }
 
         ensures piece { GotWithin result self.old.piece }
         ensures call { self.new.calls ≡ raised self.old.calls 1 }
@@ -138,7 +143,8 @@ impl Model for MemSink {
       faults = s.faults;
     } };
 
-    ghost invariant = { λ s. (length s.bytes.items ≤ s.room) × (s.room ≤ vec_capacity s.bytes) × (1 ≤ s.piece) };
+    ghost invariant = { λ s.
+        (length s.bytes.items ≤ s.room) × (s.room ≤ vec_capacity s.bytes) × (1 ≤ s.piece) };
 }
 
 impl MemSink {
@@ -183,13 +189,15 @@ impl MemSink {
 impl Sink for MemSink {
     ghost written = { λ s. Some s.written };
 
-    ghost faults = { λ s. s.faults };
+    ghost faults = { λ s. as_count s.faults };
+
+    ghost faults_stop = { λ s. min-le_right s.faults last_count };
 
     fn write(&mut self, piece: &[u8]) -> WriteAnswer
         requires { 0 < length piece.now }
         ensures fits { TookWithin result (length piece.now) }
         ensures bytes { Writes (Some self.old.written) (Some self.new.written) result piece.now }
-        ensures cause { WriteCause self.old.faults self.new.faults result }
+        ensures cause { WriteCause (as_count self.old.faults) (as_count self.new.faults) result }
 
         ensures piece { TookWithin result self.old.piece }
         ensures room { TookWithin result (self.old.room - length self.old.written) }

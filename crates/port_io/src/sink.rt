@@ -1,7 +1,7 @@
 // Where bytes go.
 ghost use Rattle.std.specs.Prelude.{◌≡◌, ◌≤◌, ◌<◌, List, ℕ, Option, length, OnOk, OnErr};
 ghost use Rattle.std.specs.Io.KnownBytes.{Appends};
-ghost use Rattle.port_io.specs.Faults.{Rose};
+ghost use Rattle.port_io.specs.Faults.{Rose, last_count};
 ghost use Rattle.port_io.specs.Writes.{TookWithin, Writes, WriteCause, AppendsFront};
 
 use thiserror::Error;
@@ -20,7 +20,7 @@ pub trait Sink {
     /// The bytes written, where it tells them.
     ghost written: { Self → Option (List ℕ) };
 
-    /// The count of faults, which stops at 2^64 - 1.
+    /// The count of faults.
     ghost faults: { Self → ℕ };
 
     /// Appends a front of the piece.
@@ -29,6 +29,9 @@ pub trait Sink {
         ensures fits { TookWithin result (length piece.now) }
         ensures bytes { Writes (written self.old) (written self.new) result piece.now }
         ensures cause { WriteCause (faults self.old) (faults self.new) result };
+
+    /// At any time the count of faults is at most 2^64 - 1.
+    ghost faults_stop: { (s : Self) → faults s ≤ last_count };
 }
 
 /// Why a piece was not written whole.
@@ -44,7 +47,8 @@ pub fn write_all<K: Sink>(sink: &mut K, piece: &[u8]) -> Result<(), WriteStop>
     ensures calm { OnOk result (K.faults sink.new ≡ K.faults sink.old) }
 
     ensures fault { OnErr result (Rose (K.faults sink.old) (K.faults sink.new)) }
-    ensures front { OnErr result (AppendsFront (K.written sink.old) (K.written sink.new) piece.now) }
+    ensures front { OnErr result
+        (AppendsFront (K.written sink.old) (K.written sink.new) piece.now) }
 
     ensures later { K.faults sink.old ≤ K.faults sink.new }
 {

@@ -1,7 +1,7 @@
 // Where bytes come from.
 ghost use Rattle.std.specs.Prelude.{◌≡◌, ◌+◌, ◌≤◌, ◌<◌, List, ℕ, Option, Some, length, IfOk, IfSome, OnOk, IsErrOf, []};
-ghost use Rattle.port_io.specs.Faults.{Rose, raised};
-ghost use Rattle.port_io.specs.Reads.{GotWithin, Takes, taken_after, ReadCause};
+ghost use Rattle.port_io.specs.Faults.{Rose, last_count, raised};
+ghost use Rattle.port_io.specs.Reads.{GotWithin, Takes, TakesUpTo, taken_after, ReadCause};
 ghost use Rattle.port_io.specs.declared.source.ReadStop.TheVariants.{Memory};
 
 use std::alloc::{AllocError, Global};
@@ -23,10 +23,10 @@ pub trait Source {
     /// The bytes that are left, where it tells them.
     ghost left: { Self → Option (List ℕ) };
 
-    /// The count of bytes taken, which stops at 2^64 - 1.
+    /// The count of bytes taken.
     ghost taken: { Self → ℕ };
 
-    /// The count of faults, which stops at 2^64 - 1.
+    /// The count of faults.
     ghost faults: { Self → ℕ };
 
     /// Takes some of the bytes that are left into the front of the buffer.
@@ -36,6 +36,12 @@ pub trait Source {
         ensures bytes { Takes (left self.old) (left self.new) result buf.new }
         ensures count { taken self.new ≡ taken_after (taken self.old) result }
         ensures cause { ReadCause (faults self.old) (faults self.new) result };
+
+    /// At any time the count of bytes taken is at most 2^64 - 1.
+    ghost taken_stops: { (s : Self) → taken s ≤ last_count };
+
+    /// At any time the count of faults is at most 2^64 - 1.
+    ghost faults_stop: { (s : Self) → faults s ≤ last_count };
 }
 
 /// Why a source was not read to its end.
@@ -59,9 +65,8 @@ impl From<AllocError> for ReadStop {
 
 /// Reads all bytes that are left, of which there may be `limit`.
 ///
-/// Answers `TooLong` where more bytes were left and no fault came before these were read, and
-/// `ReadFault` only where the count of faults rose, before more bytes than `limit` were taken. Either may have taken bytes
-/// of the source.
+/// `TooLong` comes only where more bytes than `limit` were left and no fault came before these were read, and `ReadFault`
+/// only where the count of faults rose, before more bytes than `limit` were taken. Either may have taken bytes of the source.
 pub fn read_all<S: Source>(alloc: Global, source: &mut S, limit: usize) -> Result<Vec<u8>, ReadStop>
     requires { limit ≤ 268435456 }
     ensures all { IfOk result (λ bytes. IfSome (S.left source.old) (λ left.
@@ -69,11 +74,15 @@ pub fn read_all<S: Source>(alloc: Global, source: &mut S, limit: usize) -> Resul
     ensures within { IfOk result (λ bytes. length bytes.items ≤ limit) }
     ensures calm { OnOk result (S.faults source.new ≡ S.faults source.old) }
 
-    ensures fault { IsErrOf result ReadStop.ReadFault → Rose (S.faults source.old) (S.faults source.new) }
-    ensures in_time { IsErrOf result ReadStop.ReadFault → S.taken source.new ≤ S.taken source.old + limit }
+    ensures fault { IsErrOf result ReadStop.ReadFault →
+        Rose (S.faults source.old) (S.faults source.new) }
+    ensures in_time { IsErrOf result ReadStop.ReadFault →
+        (S.taken source.new ≤ S.taken source.old + limit)
+        × TakesUpTo (S.left source.old) (S.left source.new) limit }
     ensures too_long { IsErrOf result ReadStop.TooLong →
         IfSome (S.left source.old) (λ left. limit < length left) }
-    ensures no_fault_before { IsErrOf result ReadStop.TooLong → S.faults source.new ≡ S.faults source.old }
+    ensures no_fault_before { IsErrOf result ReadStop.TooLong →
+        S.faults source.new ≡ S.faults source.old }
     ensures too_many { IsErrOf result ReadStop.TooLong →
         raised (S.taken source.old) (limit + 1) ≤ S.taken source.new }
 

@@ -1,5 +1,8 @@
 // A source and a sink that never fail.
 ghost use Rattle.std.specs.Prelude.{◌≡◌, ◌≤◌, ◌<◌, Some, None, IfSome, drop, length};
+ghost use Rattle.std.proofs.Common.{lit≤};
+ghost use Rattle.std.proofs.Math.Nat.{min-le_right};
+ghost use Rattle.port_io.specs.Faults.{as_count, last_count};
 ghost use Rattle.port_io.specs.Reads.{GotWithin, Takes, taken_after, ReadCause, as_many_as_fit};
 ghost use Rattle.port_io.specs.Writes.{TookWithin, Writes, WriteCause};
 
@@ -32,18 +35,26 @@ impl SureSource {
 impl Source for SureSource {
     ghost left = { λ s. Some (drop s.given s.bytes.items) };
 
-    ghost taken = { λ s. s.taken };
+    ghost taken = { λ s. as_count s.taken };
 
     ghost faults = { λ _. 0 };
+
+    ghost taken_stops = { λ s. min-le_right s.taken last_count };
+
+    ghost faults_stop = { λ _. lit≤ tt };
 
     fn read(&mut self, buf: &mut [u8]) -> ReadAnswer
         requires { 0 < length buf.old }
         ensures fits { GotWithin result (length buf.new) }
-        ensures bytes { Takes (⟦<SureSource as Source>⟧.left self.old) (⟦<SureSource as Source>⟧.left self.new) result buf.new }
-        ensures count { ⟦<SureSource as Source>⟧.taken self.new ≡ taken_after (⟦<SureSource as Source>⟧.taken self.old) result }
+        ensures bytes { Takes
+            (⟦<SureSource as Source>⟧.left self.old)
+            (⟦<SureSource as Source>⟧.left self.new) result buf.new }
+        ensures count { ⟦<SureSource as Source>⟧.taken self.new
+            ≡ taken_after (⟦<SureSource as Source>⟧.taken self.old) result }
         ensures cause { ReadCause 0 0 result }
 
-        ensures whole { IfSome (⟦<SureSource as Source>⟧.left self.old) (λ left. result ≡ as_many_as_fit (length buf.old) left) }
+        ensures whole { IfSome (⟦<SureSource as Source>⟧.left self.old) (λ left.
+            result ≡ as_many_as_fit (length buf.old) left) }
     {
         let left = self.bytes.len() - self.given;
         if left == 0 {
@@ -72,6 +83,8 @@ impl Sink for SureSink {
     ghost written = { λ _. None };
 
     ghost faults = { λ _. 0 };
+
+    ghost faults_stop = { λ _. lit≤ tt };
 
     fn write(&mut self, piece: &[u8]) -> WriteAnswer
         requires { 0 < length piece.now }

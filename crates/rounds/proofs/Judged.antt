@@ -4,7 +4,7 @@ use Rattle.exact_num.specs.declared.misfit.Wide.{Wide as Misfit}
 use Rattle.exact_num.specs.Fraction.{Fraction}
 use Rattle.frac.specs.Range.{limit}
 use Rattle.frac.specs.Value.{fraction_of}
-use Rattle.frac.specs.declared.bits128.Frac128.{Frac128}
+use Rattle.frac.specs.declared.frac128.Frac128.{Frac128}
 use Rattle.form.specs.declared.orders.Batch.{Batch}
 use Rattle.clearing_model.specs.Clearing.{AreOn}
 use Rattle.simplex.specs.declared.stop.Stop.{Stop}
@@ -22,40 +22,17 @@ use Rattle.cert_check.specs.declared.outcome.No.TheVariants as no
 use Rattle.cert_check.specs.declared.outcome.Outcome.{Outcome}
 use Rattle.cert_check.specs.declared.outcome.Judgement.{Judgement}
 use Rattle.cert_check.specs.declared.outcome.Judgement.TheVariants.{Yes, No as Refused, Wide as TooWide}
-use Rattle.cert_check.specs.Cover.{surplus_holds}
-use Rattle.cert_check.specs.Events.{check, bound_holds, verdict_of}
+use Rattle.cert_check.specs.Tests.{surplus_holds, bound_holds}
+use Rattle.cert_check.specs.Events.{check, verdict_of}
 use Rattle.cert_check.specs.Shape.{has_shape, are_fills}
 use Rattle.master_program.specs.Reading.{Reading, reading_with}
 use Rattle.master_program.specs.Certified.{IsGreatestByLine}
-use Rattle.master_program.specs.Verdict.{IsOutcomeOf}
+use Rattle.master_program.specs.Verdict.{IsOutcomeOf, IsNotRefused, sums_of}
 use Rattle.master_program.proofs.Verdict.{line_readings_are_not_refused}
+use Rattle.master_program.proofs.VerdictSums.{sums_decide}
 use Rattle.rounds.specs.Answers.{IsJointAnswer, IsJudged}
-use Rattle.rounds.specs.Run.{on_sums, sums_hold}
-use Rattle.table_run.specs.Ending.{done}
-
--- what a judgement says of the sums
-abbrev pub sums_of : Judgement → Result Bool Misfit
-sums_of Yes = Ok true
-sums_of (Refused condition) = Ok false
-sums_of (TooWide w) = Err w
-
-abbrev judged : (shape fills : Bool) (S L M B : Result Bool Misfit) → Judgement
-judged shape fills S L M B =
-    check no.BatchShape (Ok shape) (check no.Fill (Ok fills) (check no.Cover (and_then S L) (check no.Measure M (check no.Bound B Yes))))
-
--- where no condition fails, the sums one after another decide
-sums_decide : (shape fills : Bool) (S L M B : Result Bool Misfit) → ((condition : No) → judged shape fills S L M B ≡ Refused condition → ⊥) → and_then S (and_then L (and_then M B)) ≡ sums_of (judged shape fills S L M B)
-sums_decide false fills S L M B h = absurd (h no.BatchShape refl)
-sums_decide true false S L M B h = absurd (h no.Fill refl)
-sums_decide true true (Err w) L M B h = refl
-sums_decide true true (Ok false) L M B h = absurd (h no.Cover refl)
-sums_decide true true (Ok true) (Err w) M B h = refl
-sums_decide true true (Ok true) (Ok false) M B h = absurd (h no.Cover refl)
-sums_decide true true (Ok true) (Ok true) (Err w) B h = refl
-sums_decide true true (Ok true) (Ok true) (Ok false) B h = absurd (h no.Measure refl)
-sums_decide true true (Ok true) (Ok true) (Ok true) (Err w) h = refl
-sums_decide true true (Ok true) (Ok true) (Ok true) (Ok false) h = absurd (h no.Bound refl)
-sums_decide true true (Ok true) (Ok true) (Ok true) (Ok true) h = refl
+use Rattle.rounds.specs.Run.{sums_hold}
+use Rattle.table_run.specs.Ending.{Ending, done, wide_at, on_steps}
 
 -- an optimal outcome on the line
 abbrev pub line_outcome : List Frac128 → (liability surplus : Frac128) → Measure → ℕ → Outcome
@@ -67,41 +44,41 @@ abbrev pub claimed : List Frac128 → (liability surplus : Frac128) → Measure 
 claimed fills liability surplus measure =
     reading_with (map fraction_of fills) (fraction_of surplus) (map point_of measure.points) (fraction_of liability)
 
--- no condition refuses it where it claims what is the greatest by its line
-pub no_refusal : (batch : Batch) (fills : List Frac128) (L S : Frac128) (measure : Measure) (units : ℕ) (r : Reading)
-    → batch.underlyings ≡ 1 → AreOn 1 batch.orders → IsGreatestByLine batch.orders r → claimed fills L S measure ≡ r
-    → (condition : No) → verdict_of limit batch (line_outcome fills L S measure units) ≡ Refused condition → ⊥
-no_refusal batch fills L S measure units r one on greatest is =
-    let outcome = line_outcome fills L S measure units in
-    let claims : IsOutcomeOf r outcome Line measure = record {
+claims_it : (fills : List Frac128) (L S : Frac128) (measure : Measure) (units : ℕ) (r : Reading) → claimed fills L S measure ≡ r → IsOutcomeOf r (line_outcome fills L S measure units) Line measure
+claims_it fills L S measure units r is =
+    record {
       fills = ap (λ (r : Reading). r.fills) is;
       liability = ap (λ (r : Reading). r.liability) is;
       surplus = ap (λ (r : Reading). r.surplus) is;
       mark = refl;
       points = ap (λ (r : Reading). r.measure) is;
-    } in
-    (line_readings_are_not_refused batch outcome measure r one (subst (λ (n : ℕ). AreOn n batch.orders) (sym one) on) greatest claims).not_no
+    }
+
+-- no condition refuses it where it claims what is the greatest by its line
+pub line_is_not_refused : (batch : Batch) (fills : List Frac128) (L S : Frac128) (measure : Measure) (units : ℕ) (r : Reading)
+    → batch.underlyings ≡ 1 → AreOn 1 batch.orders → IsGreatestByLine batch.orders r → claimed fills L S measure ≡ r
+    → IsNotRefused batch (line_outcome fills L S measure units)
+line_is_not_refused batch fills L S measure units r one on greatest is =
+    line_readings_are_not_refused batch (line_outcome fills L S measure units) measure r one (subst (λ (n : ℕ). AreOn n batch.orders) (sym one) on) greatest (claims_it fills L S measure units r is)
 
 -- and then the sums of the run are those of the verdict
 pub sums_are : (batch : Batch) (fills : List Frac128) (L S : Frac128) (measure : Measure) (units : ℕ) (r : Reading)
     → batch.underlyings ≡ 1 → AreOn 1 batch.orders → IsGreatestByLine batch.orders r → claimed fills L S measure ≡ r
     → sums_hold limit batch.orders r ≡ sums_of (verdict_of limit batch (line_outcome fills L S measure units))
 sums_are batch fills L S measure units r one on greatest is =
-    let outcome = line_outcome fills L S measure units in
-    let pairs = zip batch.orders (map fraction_of fills) in
-    let points = map point_of measure.points in
-    ap (sums_hold limit batch.orders) (sym is)
-    ∙ sums_decide (has_shape batch outcome) (are_fills batch.orders fills) (surplus_holds limit pairs (fraction_of L) (fraction_of S)) (line_holds limit pairs batch.orders (fraction_of L))
-    (has_unit_mass limit points) (bound_holds limit batch.orders points (fraction_of S)) (no_refusal batch fills L S measure units r one on greatest is)
+    sums_decide batch (line_outcome fills L S measure units) Line measure r (claims_it fills L S measure units r is) (line_is_not_refused batch fills L S measure units r one on greatest is)
 
 -- an optimal mark has one measure
 pub measures_same : (c d : Cover) (m n : Measure) → Optimal c m ≡ Optimal d n → m ≡ n
 measures_same c d m n e = cc
 
 -- ---- the answers
+abbrev pub on_sums : Reading → ℕ → Result Bool Misfit → Ending Reading
+on_sums r unit sums = on_steps unit sums (λ holds. done r unit)
+
 pub stops_as_judged : {A : Type 0} (value : A → Fraction) (r : Reading) (unit : ℕ) (sums : Result Bool Misfit) (judgement : Judgement) (stop : Stop) → sums ≡ sums_of judgement → IsJudged judgement (Err stop) unit → IsJointAnswer value (on_sums r unit sums) (Err stop) unit
 stops_as_judged value r unit sums judgement (Wide at w) e h =
-    (ap (on_sums r unit) (e ∙ ap sums_of h.0) ∙ ap (λ (n : ℕ). on_sums r n (Err w)) (sym h.1), sym h.1)
+    (ap (on_sums r unit) (e ∙ ap sums_of h.0) ∙ ap (λ (n : ℕ). wide_at n w) (sym h.1), sym h.1)
 stops_as_judged value r unit sums judgement Budget e h = absurd h
 stops_as_judged value r unit sums judgement Memory e h = tt
 

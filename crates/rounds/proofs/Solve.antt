@@ -1,11 +1,11 @@
 -- From the master program that was built to its solution.
-use Rattle.std.proofs.Common.{◌≡◌, ℕ, zero, suc, ◌+◌, ◌≤◌, List, [], ◌∷◌, length, map, take, drop, get_or, filter_map, fold, All, Option, Some, None, Bool, true, false, if◌then◌else◌, ap, sym, ◌∙◌, subst, arith, vec_len, Vec, Global, Result, Ok, Err}
+use Rattle.std.proofs.Common.{◌≡◌, ℕ, zero, suc, ◌+◌, ◌≤◌, List, [], ◌∷◌, length, map, take, drop, get_or, filter_map, fold, All, Option, Some, None, Bool, true, false, if◌then◌else◌, refl, ap, sym, ◌∙◌, subst, arith, vec_len, Vec, Global, Result, Ok, Err}
 use Rattle.std.specs.List.{cons_option}
 use Rattle.std.proofs.lemmas.List.{length-map, length-append}
-use Rattle.exact_num.specs.Fraction.{Fraction}
+use Rattle.exact_num.specs.Fraction.{Fraction, IsNotBelowZero}
 use Rattle.table_run.specs.Places.{at}
-use Rattle.table_run.specs.Optimum.{IsProgram, IsNotBelowZero}
-use Rattle.table_run.specs.Ending.{Ending, wide_at, no_unit_left}
+use Rattle.table_run.specs.Optimum.{IsProgram}
+use Rattle.table_run.specs.Ending.{Ending, done, unbounded, wide_at, no_unit_left, on_answer, where_fits}
 use Rattle.table_run.specs.Run.{Optimum}
 use Rattle.form.specs.declared.orders.Order.{Order}
 use Rattle.form.specs.declared.states.State.{State}
@@ -18,7 +18,9 @@ use Rattle.simplex.specs.declared.stop.Stop.TheVariants.{Wide, Budget, Memory}
 use Rattle.simplex.specs.Answers.{IsAnswer, solved_ending}
 use Rattle.rounds.specs.declared.joint.Joint.{Joint}
 use Rattle.rounds.specs.Answers.{IsJointAnswer}
-use Rattle.rounds.specs.Run.{joint_run, on_ending, solved}
+use Rattle.rounds.specs.Run.{sums_hold, after_optimum, joint_run}
+use Rattle.master_program.specs.Reading.{Reading}
+use Rattle.master_program.specs.Solve.{on_optimum, master_run, master_solve}
 use Rattle.line_cover.specs.Line.{breakpoint_of_order}
 use Rattle.line_cover.specs.Breakpoints.{is_below, insert, in_rising_price, last_state, later_states}
 use Rattle.master_program.specs.Master.{zero_prices, plain_master, master}
@@ -98,18 +100,34 @@ same_counts orders (s ∷ states) back forms counts is =
     (λ k d low i o low_o. forms i o low_o ∙ sym (counts (suc k) d (omega (arith, low))))
 
 -- ---- the run, and how the solution of the master program ends it
-pub joint_is : (wide_limit limit left spent : ℕ) (orders : List Order) (states : List (List ℕ)) → states ≡ later_states orders → joint_run wide_limit limit left spent orders ≡ on_ending wide_limit limit orders (solved limit left spent (master wide_limit limit orders states))
-unfolding joint_run
-joint_is wide_limit limit left spent orders states is = ap (λ zs. on_ending wide_limit limit orders (solved limit left spent (master wide_limit limit orders zs))) (sym is)
+abbrev pub from_run : (wide_limit limit : ℕ) → List Order → Ending Optimum → Ending Reading
+from_run wide_limit limit orders ending = on_answer ending (after_optimum wide_limit limit orders)
 
-pub stops_as_solved : {A : Type 0} (value : A → Fraction) (wide_limit limit : ℕ) (orders : List Order) (end : Ending Reading) (ending : Ending Optimum) (result : Result (Solved A) Stop) (stop : Stop) (spent : ℕ) → end ≡ on_ending wide_limit limit orders ending → result ≡ Err stop → IsAnswer value ending result spent → IsJointAnswer value end (Err stop) spent
-stops_as_solved {A} value wide_limit limit orders end ending result (Wide unit w) spent e err h =
-    let is : (ending ≡ wide_at unit w) × (spent ≡ unit) = subst (λ (r : Result (Solved A) Stop). IsAnswer value ending r spent) err h in
-    (e ∙ ap (on_ending wide_limit limit orders) is.0, is.1)
-stops_as_solved {A} value wide_limit limit orders end ending result Budget spent e err h =
-    let is : ending ≡ no_unit_left spent = subst (λ (r : Result (Solved A) Stop). IsAnswer value ending r spent) err h in
-    e ∙ ap (on_ending wide_limit limit orders) is
-stops_as_solved {A} value wide_limit limit orders end ending result Memory spent e err h = tt
+-- to read off and then to sum up is to do both after the optimum
+both_after : (wide_limit limit : ℕ) (orders : List Order) (ending : Ending Optimum)
+    → on_answer (on_answer ending (on_optimum limit (zero_prices 1) orders (later_states orders))) (where_fits (sums_hold wide_limit orders)) ≡ from_run wide_limit limit orders ending
+both_after wide_limit limit orders (done o s) = refl
+both_after wide_limit limit orders (unbounded d s) = refl
+both_after wide_limit limit orders (wide_at s w) = refl
+both_after wide_limit limit orders (no_unit_left s) = refl
+
+pub joint_is : (wide_limit limit left spent : ℕ) (orders : List Order) (states : List (List ℕ)) → states ≡ later_states orders
+    → joint_run wide_limit limit left spent orders ≡ from_run wide_limit limit orders (master_run wide_limit limit left spent orders states)
+unfolding joint_run master_solve
+joint_is wide_limit limit left spent orders states is =
+    both_after wide_limit limit orders (master_run wide_limit limit left spent orders (later_states orders))
+    ∙ ap (λ zs. from_run wide_limit limit orders (master_run wide_limit limit left spent orders zs)) (sym is)
+
+-- a stop of the one is a stop of the other
+pub stops_as_solved : {A : Type 0} (value : A → Fraction) (wide_limit limit : ℕ) (orders : List Order) (end : Ending Reading) (ending : Ending Optimum) (result : Result (Solved A) Stop) (stop : Stop) (spent : ℕ)
+    → end ≡ from_run wide_limit limit orders ending → result ≡ Err stop → IsAnswer value ending result spent → IsJointAnswer value end (Err stop) spent
+stops_as_solved {A} value wide_limit limit orders end ending result stop spent e err h =
+    by stop (subst (λ (r : Result (Solved A) Stop). IsAnswer value ending r spent) err h)
+  where
+    by : (stop : Stop) → IsAnswer value ending (Err stop) spent → IsJointAnswer value end (Err stop) spent
+    by (Wide unit w) is = (e ∙ ap (from_run wide_limit limit orders) is.0, is.1)
+    by Budget is = e ∙ ap (from_run wide_limit limit orders) is
+    by Memory is = tt
 
 pub solved_as : {A : Type 0} (value : A → Fraction) (ending : Ending Optimum) (result : Result (Solved A) Stop) (solution : Solved A) (spent : ℕ) → result ≡ Ok solution → IsAnswer value ending result spent → ending ≡ solved_ending value solution spent
 solved_as {A} value ending result solution spent ok h = subst (λ (r : Result (Solved A) Stop). IsAnswer value ending r spent) ok h

@@ -1,5 +1,6 @@
 -- What the reference run on one underlying implies.
 use Rattle.std.specs.Prelude.{ℕ, ◌≡◌, List}
+use Rattle.exact_num.specs.Fraction.{Fraction}
 use Rattle.frac.specs.Range.{limit}
 use Rattle.form.specs.declared.orders.Order.{Order}
 use Rattle.form.specs.declared.orders.Batch.{Batch}
@@ -24,7 +25,8 @@ ClearedIsGreatest =
 -- each run ends with an optimum, or stops
 abbrev pub NoRunIsWithoutOptimum : Type 0
 NoRunIsWithoutOptimum =
-    (wide_limit limit left spent units : ℕ) (orders : List Order) → joint_run wide_limit limit left spent orders ≡ unbounded d units → ⊥
+    (wide_limit limit left spent units : ℕ) (orders : List Order) (d : List Fraction)
+    → joint_run wide_limit limit left spent orders ≡ unbounded d units → ⊥
 
 -- the verdict on an outcome that claims the reading is yes
 abbrev pub PassesTheVerdict : Batch → Reading → Type 0

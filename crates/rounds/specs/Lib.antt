@@ -5,3 +5,4 @@ pub mod Parts
 pub mod Answers
 pub mod Laws
 pub mod Worked
+pub mod Optima

@@ -7,6 +7,7 @@ use Rattle.frac.specs.Range.{limit}
 use Rattle.table_run.specs.Worked.{wholes}
 use Rattle.form.specs.declared.orders.Order.{Order}
 use Rattle.master_program.specs.Worked.{at_price, slope, one_option, equal_prices, lower_strike, butterfly, dear_cover, large_batch}
+use Rattle.master_program.specs.Reading.{Reading}
 use Rattle.rounds.specs.Run.{joint_run}
 use Rattle.table_run.specs.Ending.{Ending, done, wide_at, no_unit_left}
 

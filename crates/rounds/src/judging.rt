@@ -9,7 +9,8 @@ ghost use Rattle.cert_check.specs.declared.outcome.Judgement.TheVariants.{No as 
 ghost use Rattle.cert_check.specs.Events.{verdict_of};
 ghost use Rattle.master_program.specs.Certified.{IsGreatestByLine};
 ghost use Rattle.rounds.specs.Answers.{IsJointAnswer, IsJudged, reading_in};
-ghost use Rattle.rounds.specs.Run.{on_sums, sums_hold};
+ghost use Rattle.rounds.specs.Run.{sums_hold};
+ghost use Rattle.table_run.specs.Ending.{where_fits};
 
 use crate::joint::Joint;
 use cert_check::{Claim, Cover, Fills, Judgement, Mark, Outcome, verdict};
@@ -65,7 +66,7 @@ pub(crate) fn certify<N: Exact>(
     requires on { AreOn 1 batch.now.orders }
     requires greatest { IsGreatestByLine batch.now.orders (reading_in N.fraction joint) }
     ensures cover { IfOk result (λ joint. joint.cover ≡ Line) }
-    ensures answer { IsJointAnswer N.fraction (on_sums (reading_in N.fraction joint) unit (sums_hold limit batch.now.orders (reading_in N.fraction joint))) result unit }
+    ensures answer { IsJointAnswer N.fraction (where_fits (sums_hold limit batch.now.orders) (reading_in N.fraction joint) unit) result unit }
 {
     let Joint {
         fills,

@@ -1,5 +1,5 @@
 //! The joint solve.
-ghost use Rattle.std.specs.Prelude.{◌≡◌, ◌≤◌, ◌-◌, ◌+◌, ◌^◌, ◌∷◌, ◌++◌, [], IfOk, length, map, unsigned_abs, vec_len};
+ghost use Rattle.std.specs.Prelude.{◌≡◌, ◌≤◌, ◌-◌, ◌+◌, ◌∷◌, ◌++◌, [], IfOk, length, map, unsigned_abs, vec_len};
 ghost use Rattle.std.specs.List.{All};
 ghost use Rattle.frac.specs.Range.{limit};
 ghost use Rattle.form.specs.Limits.{IsWithinLimits};
@@ -8,12 +8,13 @@ ghost use Rattle.simplex.specs.Answers.{HoldsOf, IsAnswer};
 ghost use Rattle.table_run.specs.Optimum.{IsOptimum};
 ghost use Rattle.cert_check.specs.declared.outcome.Cover.TheVariants.{Line};
 ghost use Rattle.line_cover.specs.Breakpoints.{first_state, later_states};
-ghost use Rattle.master_program.specs.Master.{master, plain_master, zero_prices};
-ghost use Rattle.master_program.specs.Reading.{reading_of};
+ghost use Rattle.master_program.specs.Master.{plain_master, zero_prices};
+ghost use Rattle.master_program.specs.Solve.{master_run};
+ghost use Rattle.rounds.specs.Optima.{optimum_in};
 ghost use Rattle.master_program.specs.Certified.{IsGreatestByLine};
 ghost use Rattle.rounds.specs.Answers.{IsJointAnswer, reading_in};
 ghost use Rattle.rounds.specs.Laws.{PassesTheVerdict};
-ghost use Rattle.rounds.specs.Run.{joint_run, on_reading, solved};
+ghost use Rattle.rounds.specs.Run.{after_optimum, joint_run};
 
 use crate::joint::Joint;
 use crate::judging::certify;
@@ -35,7 +36,7 @@ fn solve_master<N: Exact>(
     requires few { length orders.now ≤ 256 }
     requires few_states { length later.now ≤ 257 }
     requires forms { All (λ state. All (λ o. o.form.count ≡ state.count) orders.now) later.now }
-    ensures run { IsAnswer N.fraction (solved (unsigned_abs N.LIMIT) (budget.old.limit - budget.old.spent) budget.old.spent (master (2 ^ 127 - 1) (unsigned_abs N.LIMIT) orders.now (map vector_of later.now))) result budget.new.spent }
+    ensures run { IsAnswer N.fraction (master_run limit (unsigned_abs N.LIMIT) (budget.old.limit - budget.old.spent) budget.old.spent orders.now (map vector_of later.now)) result budget.new.spent }
     ensures holds { HoldsOf N.fraction (plain_master (zero_prices 1) orders.now (map vector_of later.now)) result }
     ensures limit { budget.new.limit ≡ budget.old.limit }
 {
@@ -59,7 +60,7 @@ fn certify_optimum<N: Exact>(
     requires states { map vector_of states.now ≡ first_state ∷ later_states batch.now.orders }
     requires optimum { IsOptimum (plain_master (zero_prices 1) batch.now.orders (later_states batch.now.orders)) (map N.fraction optimum.x.items) (map N.fraction optimum.y.items) (map N.fraction optimum.reduced.items) (N.fraction optimum.value) }
     ensures cover { IfOk result (λ joint. joint.cover ≡ Line) }
-    ensures answer { IsJointAnswer N.fraction (on_reading limit batch.now.orders unit (reading_of (unsigned_abs N.LIMIT) first_state batch.now.orders (later_states batch.now.orders) (map N.fraction optimum.x.items) (map N.fraction optimum.y.items) (map N.fraction optimum.reduced.items) (N.fraction optimum.value))) result unit }
+    ensures answer { IsJointAnswer N.fraction (after_optimum limit (unsigned_abs N.LIMIT) batch.now.orders (optimum_in N.fraction optimum) unit) result unit }
 {
     let (first, later) = states.split_at(1);
     match read_off(alloc, batch.orders.as_slice(), &first[0], later, optimum) {

@@ -3,11 +3,12 @@ use Rattle.std.proofs.Common.{◌≡◌, Bool, true, false, List, [], ◌∷◌,
 use Rattle.std.proofs.lemmas.List.{length-map}
 use Rattle.std.proofs.lemmas.List.Elements.{All-nil, All-cons}
 use Rattle.exact_num.specs.declared.misfit.Wide.{Wide as Misfit}
-use Rattle.exact_num.specs.Fraction.{IsLowest}
+use Rattle.exact_num.specs.Fraction.{IsLowest, IsNotBelowZero}
 use Rattle.exact_num.specs.CommonDenominator.{common_denominator, amount_over}
-use Rattle.frac.specs.declared.bits128.Frac128.{Frac128}
+use Rattle.frac.specs.declared.frac128.Frac128.{Frac128}
 use Rattle.frac.specs.Range.{limit}
 use Rattle.frac.specs.Value.{fraction_of}
+use Rattle.frac.proofs.Lowest.{lowest_of}
 use Rattle.form.specs.declared.orders.Batch.{Batch}
 use Rattle.clearing_model.specs.Clearing.{HoldsAtEachState}
 use Rattle.clearing_model.specs.Legs.{legs_of}
@@ -21,13 +22,9 @@ use Rattle.sign_tree.specs.declared.trees.TreeVerdict.TheVariants.{Closed, Open}
 use Rattle.sign_tree.specs.Read.{node_of, placed_of}
 use Rattle.sign_tree.specs.Walk.{fraction_legs, closes_of}
 use Rattle.sign_tree.specs.Verdict.{tree_verdict}
-use Rattle.sign_tree.specs.Laws.{IsClosedOver, IsEnough, IsNotBelowZero}
+use Rattle.sign_tree.specs.Laws.{IsClosedOver, IsEnough}
 use Rattle.sign_tree.proofs.Sound.{walks_close_trees}
 use Rattle.sign_tree.proofs.Refuted.{open_walks_close_no_tree}
-
-pub lowest_of : (fs : List Frac128) → All IsLowest (map fraction_of fs)
-lowest_of [] = All-nil IsLowest
-lowest_of (f ∷ fs) = All-cons IsLowest (fraction_of f) (map fraction_of fs) f.lowest (lowest_of fs)
 
 pub multipliers_lowest : (ms : List Multiplier) → All IsLowest (map by_of (map placed_of ms))
 multipliers_lowest [] = All-nil IsLowest

@@ -3,7 +3,7 @@ use Rattle.std.proofs.Common.{◌≡◌, ℕ, zero, suc, ◌+◌, ◌-◌, ◌<�
 use Rattle.std.specs.Prelude.{cond, int_le, nat_lt, not}
 use Rattle.std.specs.List.{AllPairs}
 use Rattle.std.specs.Int.Signed.{le_z_yes}
-use Rattle.std.proofs.lemmas.Bool.{ltb-true}
+use Rattle.std.proofs.lemmas.Bool.{ltb-true, and_parts}
 use Rattle.std.proofs.lemmas.Float.{T_from_true}
 use Rattle.std.proofs.lemmas.Int.{ints}
 use Rattle.std.proofs.lemmas.List.Elements.{All-nil, All-cons}
@@ -14,7 +14,6 @@ use Rattle.exact_num.proofs.Fractions.{at_most_to}
 use Rattle.clearing_model.specs.Legs.{Exposure, Long, Short}
 use Rattle.clearing_model.specs.Tree.{Sign, Unsigned, Plus, Minus, IsAllowed, AreAllowed, IsUnsignedLong}
 use Rattle.clearing_model.specs.Written.{PlacedMultiplier, multiplier_at, multipliers_from, MayCarry, MayCarryAt, IsPlaced}
-use Rattle.std.proofs.lemmas.Bool.{and_parts}
 use Rattle.sign_tree.specs.Walk.{FractionLeg, exposures_of, is_unsigned, is_within, splits_at, carries_at, is_placed, are_placed}
 use Rattle.sign_tree.proofs.LeafSums.{amount_of, HasAmount, legs_over, LegHasAmount, MultiplierHasAmount, RiseFrom}
 

@@ -1,6 +1,6 @@
 -- The sums of a leaf, over one denominator.
 use Rattle.std.proofs.Common.{◌≡◌, ℕ, zero, suc, ◌+◌, ◌/◌, ◌<◌, ◌≤◌, ◌==◌, Bool, true, false, List, [], ◌∷◌, map, get_or, arith, ℤ, pos, neg_ℤ, ◌+ℤ◌, ◌*ℤ◌, ◌≤ℤ◌, All, Result, Ok, inl, inr, refl, ap, sym, subst, eqb-true}
-use Rattle.std.specs.Prelude.{int_lt, if◌then◌else◌}
+use Rattle.std.specs.Prelude.{if◌then◌else◌}
 use Rattle.std.proofs.lemmas.Bool.{cases_lt}
 use Rattle.std.proofs.lemmas.Bool.Decides.{nat_tests}
 use Rattle.std.proofs.lemmas.Int.{ints}
@@ -9,16 +9,16 @@ use Rattle.arithmetic.proofs.Parts.{part_above}
 use Rattle.arithmetic.proofs.Products.{products}
 use Rattle.arithmetic.proofs.Sums.{All-head, All-tail}
 use Rattle.exact_num.specs.declared.misfit.Wide.{Wide}
-use Rattle.exact_num.specs.Fraction.{Fraction, whole, negated}
+use Rattle.exact_num.specs.Fraction.{Fraction, whole}
 use Rattle.exact_num.specs.CommonDenominator.{amount_over}
 use Rattle.exact_num.proofs.After.{after_value}
-use Rattle.exact_num.proofs.Values.{whole_is_lowest}
 use Rattle.form.specs.Payoff.{positive_part}
 use Rattle.exact_num.specs.Steps.{plus_product}
+use Rattle.exact_num.specs.Tests.{is_above_zero}
 use Rattle.clearing_model.specs.Legs.{Exposure, Long, Short, FilledLeg}
 use Rattle.clearing_model.specs.Tree.{Sign, Unsigned, Plus, Minus, term, entry_of, liability_at}
 use Rattle.clearing_model.specs.Written.{PlacedMultiplier, multiplier_at, multipliers_from}
-use Rattle.exact_num.proofs.Stands.{Stands, plus_stands, less_stands, sum_stands, negated_stands, not_above}
+use Rattle.exact_num.proofs.Stands.{Stands, zero_stands, plus_stands, less_stands, difference_stands, not_above}
 use Rattle.sign_tree.specs.Walk.{FractionLeg, first_at, left_after, add_term, add_terms, less_liability, entry_sum, entries_close}
 
 -- what a fraction that is not below 0 is over D
@@ -50,9 +50,6 @@ MultiplierHasAmount D m = HasAmount D m.by
 abbrev pub RiseFrom : ℕ → List PlacedMultiplier → Type 0
 RiseFrom place [] = Unit {0}
 RiseFrom place (m ∷ ms) = (place ≤ m.place) × RiseFrom (m.place + 1) ms
-
-zero_stands : (D : ℕ) → Stands (whole (pos 0)) (pos 0) D
-zero_stands D = record { lowest = whole_is_lowest (pos 0); ratio = omega (arith, ints) }
 
 none_before : (D place : ℕ) (ms : List PlacedMultiplier) (k : ℕ) → RiseFrom place ms → k < place → multiplier_at D ms k ≡ 0
 none_before D place [] k rise lt = refl
@@ -164,7 +161,7 @@ entry_stands limit D i legs L signs ms s legs_are ms_are rise sl h =
   where
     at : (k : ℕ) (x : ℤ) (total : Fraction) → Stands total (pos 0 +ℤ x) D → less_liability limit L k total ≡ Ok s → Stands s (x +ℤ neg_ℤ (liability_at (amount_over D L) k)) D
     at zero x total st e =
-        let st2 = sum_stands limit total (negated L) s (pos 0 +ℤ x) (neg_ℤ (amount_over D L)) D st (negated_stands L (amount_over D L) D sl) e in
+        let st2 = difference_stands limit total L s (pos 0 +ℤ x) (amount_over D L) D st sl e in
         let n : (pos 0 +ℤ x) +ℤ neg_ℤ (amount_over D L) ≡ x +ℤ neg_ℤ (amount_over D L) = omega (arith, ints) in
         subst (λ w. Stands s w D) n st2
     at (suc k) x total st e =
@@ -187,8 +184,8 @@ pub entries_within : (limit D : ℕ) (legs : List FractionLeg) (L : Fraction) (s
     → (j : ℕ) → i ≤ j → j < i + left → entry_over D j 1 legs signs ms ≤ℤ liability_at (amount_over D L) j
 entries_within limit D legs L signs ms i zero legs_are ms_are rise sl h j from below = absurd (omega arith)
 entries_within limit D legs L signs ms i (suc left) legs_are ms_are rise sl h j from below =
-    let first = after_value (entry_sum limit legs L signs ms i) (λ sum. if int_lt (pos 0) sum.numerator then Ok false else entries_close limit legs L signs ms (i + 1) left) true h in
-    let tests = else_holds (int_lt (pos 0) first.value.numerator) (entries_close limit legs L signs ms (i + 1) left) first.rest in
+    let first = after_value (entry_sum limit legs L signs ms i) (λ sum. if is_above_zero sum then Ok false else entries_close limit legs L signs ms (i + 1) left) true h in
+    let tests = else_holds (is_above_zero first.value) (entries_close limit legs L signs ms (i + 1) left) first.rest in
     elim (cases_lt i j) [
       | inl lt ↦ entries_within limit D legs L signs ms (i + 1) left legs_are ms_are rise sl tests.1 j (omega arith) (omega arith)
       | inr le ↦

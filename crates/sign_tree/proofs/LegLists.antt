@@ -6,7 +6,7 @@ use Rattle.std.proofs.lemmas.Bool.Decides.{nat_tests}
 use Rattle.std.proofs.Math.Bool.{and-false}
 use mathlib.Core.Bool.{not}
 use Rattle.exact_num.specs.Fraction.{Fraction}
-use Rattle.frac.specs.declared.bits128.Frac128.{Frac128}
+use Rattle.frac.specs.declared.frac128.Frac128.{Frac128}
 use Rattle.frac.specs.Value.{fraction_of}
 use Rattle.form.specs.declared.orders.Side.{Side}
 use Rattle.form.specs.declared.orders.Side.TheVariants.{Buy, Sell}

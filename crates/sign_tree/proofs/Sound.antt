@@ -1,7 +1,7 @@
 -- A walk that closes has walked closed trees.
 use Rattle.std.proofs.Common.{◌≡◌, ℕ, ◌+◌, ◌-◌, ◌≤◌, true, false, List, [], ◌∷◌, ◌++◌, length, map, take, drop, replicate, arith, All, Ok, refl, ap, sym, subst, ◌∙◌, append_assoc}
 use Rattle.std.specs.Prelude.{nat_le, slice_set, if◌then◌else◌}
-use Rattle.std.proofs.lemmas.Bool.{leb-true}
+use Rattle.std.proofs.lemmas.Bool.{leb-true, and_parts}
 use Rattle.std.proofs.lemmas.List.{append-nil, take-append-drop, length-take-le}
 use Rattle.std.proofs.lemmas.List.Elements.{All-take, All-drop}
 use Rattle.exact_num.specs.Fraction.{Fraction}
@@ -13,7 +13,6 @@ use Rattle.clearing_model.specs.Legs.{FilledLeg, legs_of}
 use Rattle.clearing_model.specs.Tree.{Sign, Unsigned, Plus, Minus, IsClosed, IsClosedUnder}
 use Rattle.clearing_model.specs.Written.{WrittenNode, SplitNode, LeafNode, PlacedMultiplier, WrittenTree, Ends, Parts, nodes_of, multipliers_of, tree_over, IsWritten, IsFormed}
 use Rattle.clearing_model.specs.Certificate.{filled_over, by_of, ClosesAsWritten}
-use Rattle.std.proofs.lemmas.Bool.{and_parts}
 use Rattle.exact_num.proofs.Stands.{Stands}
 use Rattle.sign_tree.specs.Walk.{FractionLeg, fraction_legs, exposures_of, may_split, splits_at, are_placed, entries_close, leaf_closes, walk}
 use Rattle.sign_tree.specs.Laws.{WalksCloseTrees}

@@ -3,12 +3,12 @@ use Rattle.std.proofs.Common.{◌≡◌, ℕ, zero, suc, ◌+◌, ◌-◌, ◌<�
 use Rattle.std.specs.Prelude.{cond, int_le, nat_lt, not}
 use Rattle.std.specs.List.{AllPairs}
 use Rattle.std.specs.Cmp.Derive.{both_true}
-use lib.Dec.{T}
 use Rattle.std.proofs.lemmas.Bool.{lt-ltb, le-leb}
 use Rattle.std.proofs.lemmas.Bool.Decides.{nat_tests}
 use Rattle.std.proofs.lemmas.Int.{ints}
 use Rattle.std.proofs.lemmas.List.Elements.{All-nil, All-cons}
 use Rattle.arithmetic.proofs.Sums.{All-head, All-tail}
+use Rattle.arithmetic.proofs.Tests.{int_le-true}
 use Rattle.exact_num.specs.Fraction.{Fraction}
 use Rattle.exact_num.proofs.Fractions.{at_most_from}
 use Rattle.clearing_model.specs.Legs.{Exposure, Long, Short}
@@ -17,13 +17,6 @@ use Rattle.clearing_model.specs.Written.{PlacedMultiplier, multiplier_at, multip
 use Rattle.sign_tree.specs.Walk.{FractionLeg, exposures_of, is_unsigned, is_within, splits_at, may_split, carries_at, are_placed}
 use Rattle.sign_tree.proofs.LeafSums.{amount_of, HasAmount, legs_over, LegHasAmount, MultiplierHasAmount, RiseFrom}
 use Rattle.sign_tree.proofs.LeafForms.{ComesBefore}
-
-int_le-true : (a b : ℤ) → a ≤ℤ b → int_le a b ≡ true
-int_le-true a b h = by_test (int_le a b) refl
-  where
-    by_test : (t : Bool) → int_le a b ≡ t → int_le a b ≡ true
-    by_test true e = e
-    by_test false e = absurd (subst T e h.le)
 
 -- the places rise from the first on
 pub rise_from : (place : ℕ) (ms : List PlacedMultiplier) → All (λ (m : PlacedMultiplier). place ≤ m.place) ms → AllPairs ComesBefore ms → RiseFrom place ms

@@ -4,7 +4,7 @@ use Rattle.std.proofs.lemmas.List.{drop_all}
 use Rattle.exact_num.specs.declared.misfit.Wide.{Wide}
 use Rattle.exact_num.specs.Fraction.{Fraction}
 use Rattle.exact_num.specs.Fits.{after, meaning}
-use Rattle.frac.specs.declared.bits128.Frac128.{Frac128}
+use Rattle.frac.specs.declared.frac128.Frac128.{Frac128}
 use Rattle.frac.specs.Value.{fraction_of}
 use Rattle.form.specs.declared.orders.Order.{Order}
 use Rattle.clearing_model.specs.Tree.{Sign}

@@ -1,21 +1,18 @@
 -- What the walk of a tree shows.
 use Rattle.std.specs.Prelude.{ℕ, ◌≡◌, List, ◌∷◌, ◌++◌, length, map, true, false, Ok, pos, ◌≤ℤ◌}
 use Rattle.std.specs.List.{All}
-use Rattle.exact_num.specs.Fraction.{Fraction, IsLowest}
+use Rattle.exact_num.specs.Fraction.{Fraction, IsLowest, IsNotBelowZero}
 use Rattle.exact_num.specs.CommonDenominator.{common_denominator, amount_over}
 use Rattle.form.specs.declared.orders.Order.{Order}
 use Rattle.clearing_model.specs.Clearing.{HoldsAtEachState}
 use Rattle.clearing_model.specs.Written.{WrittenNode, PlacedMultiplier}
 use Rattle.clearing_model.specs.Certificate.{filled_over, by_of, ClosesAsWritten}
 use Rattle.form.specs.declared.orders.Batch.{Batch}
-use Rattle.frac.specs.declared.bits128.Frac128.{Frac128}
+use Rattle.frac.specs.declared.frac128.Frac128.{Frac128}
 use Rattle.frac.specs.Value.{fraction_of}
 use Rattle.sign_tree.specs.declared.trees.SignTree.{SignTree}
 use Rattle.sign_tree.specs.Read.{node_of, placed_of}
 use Rattle.sign_tree.specs.Walk.{fraction_legs, closes_of}
-
-abbrev pub IsNotBelowZero : Fraction → Type 0
-IsNotBelowZero f = pos 0 ≤ℤ f.numerator
 
 -- the tree is well formed and closes over the fills, with the liability L
 abbrev pub IsClosedOver : Batch → List Frac128 → Frac128 → SignTree → Type 0

@@ -1,9 +1,10 @@
 -- The walk over a written tree, each step with a limit. A tree is closed where the walk ends with the lists, and open where it
 -- fails before a step does not fit.
-use Rattle.std.specs.Prelude.{ℕ, zero, suc, ◌+◌, ◌-◌, ◌==◌, nat_le, nat_lt, Bool, true, false, ◌&&◌, not, if◌then◌else◌, List, [], ◌∷◌, length, map, take, drop, zip, get_or, replicate, slice_set, ℤ, pos, ◌*ℤ◌, Result, Ok, int_lt, int_le}
+use Rattle.std.specs.Prelude.{ℕ, zero, suc, ◌+◌, ◌-◌, ◌==◌, nat_le, nat_lt, Bool, true, false, ◌&&◌, not, if◌then◌else◌, List, [], ◌∷◌, length, map, take, drop, zip, get_or, replicate, slice_set, ℤ, pos, Result, Ok}
 use Rattle.exact_num.specs.declared.misfit.Wide.{Wide}
 use Rattle.exact_num.specs.Fraction.{Fraction, whole}
 use Rattle.exact_num.specs.Fits.{sub_of, after}
+use Rattle.exact_num.specs.Tests.{is_at_most, is_above_zero, is_not_below_zero}
 use Rattle.form.specs.declared.orders.Side.{Side}
 use Rattle.form.specs.declared.orders.Side.TheVariants.{Buy, Sell}
 use Rattle.form.specs.declared.orders.Order.{Order}
@@ -58,7 +59,7 @@ exposures_of legs = map (λ (leg : FractionLeg). leg.exposure) legs
 -- whether the multiplier of the leg is at most its fill, where the leg is short
 abbrev pub is_within : Exposure → Fraction → Fraction → Bool
 is_within Long fill by = true
-is_within Short fill by = int_le (by.numerator *ℤ pos fill.denominator) (fill.numerator *ℤ pos by.denominator)
+is_within Short fill by = is_at_most by fill
 
 -- whether the leg there may carry the multiplier: it is short or signed, and a short leg's is at most its fill
 abbrev pub carries_at : List FractionLeg → List Sign → ℕ → Fraction → Bool
@@ -70,7 +71,7 @@ carries_at (leg ∷ legs) (sign ∷ signs) (suc i) by = carries_at legs signs i 
 -- whether the multiplier stands past the place `last`, at a leg that may carry it, and is not below 0
 abbrev pub is_placed : List FractionLeg → List Sign → ℕ → PlacedMultiplier → Bool
 is_placed legs signs last m =
-    nat_lt last m.place && int_le (pos 0) m.by.numerator && carries_at legs signs (m.place - 1) m.by
+    nat_lt last m.place && is_not_below_zero m.by && carries_at legs signs (m.place - 1) m.by
 
 abbrev pub are_placed : List FractionLeg → List Sign → ℕ → List PlacedMultiplier → Bool
 are_placed legs signs last [] = true
@@ -114,7 +115,7 @@ abbrev pub entries_close : ℕ → List FractionLeg → Fraction → List Sign �
 entries_close limit legs L signs ms i zero = Ok true
 entries_close limit legs L signs ms i (suc left) =
     after (entry_sum limit legs L signs ms i)
-    (λ sum. if int_lt (pos 0) sum.numerator then Ok false else entries_close limit legs L signs ms (i + 1) left)
+    (λ sum. if is_above_zero sum then Ok false else entries_close limit legs L signs ms (i + 1) left)
 
 -- a leaf with these multipliers: they are placed, and none of the n + 1 entries is above 0
 abbrev pub leaf_closes : ℕ → ℕ → List FractionLeg → Fraction → List Sign → List PlacedMultiplier → Result Bool Wide

@@ -10,8 +10,7 @@ ghost use Rattle.sign_tree.specs.Read.{placed_of, sign_of};
 ghost use Rattle.sign_tree.specs.Walk.{add_term, add_terms, are_placed, carries_at, entries_close, entry_sum, exposure_of_side, first_at, fraction_legs, is_placed, is_unsigned, is_within, leaf_closes, left_after};
 
 use crate::trees::Multiplier;
-use exact_num::{Exact, Wide};
-use exact_num::sums::{less_product, plus_product};
+use exact_num::{Exact, Wide, less_product, plus_product};
 use form::{Order, Side};
 use frac::{Frac128, whole};
 

@@ -1,23 +1,23 @@
 -- A program that is given to a space, and what its run tells.
-use Rattle.std.proofs.Common.{◌≡◌, ℕ, zero, suc, ◌+◌, ◌<◌, ◌≤◌, List, [], ◌∷◌, ◌++◌, length, map, pos, refl, sym, ◌∙◌, ap, subst, arith}
-use Rattle.std.specs.Prelude.{Result, Err}
+use Rattle.std.proofs.Common.{◌≡◌, ℕ, zero, suc, ◌+◌, ◌*◌, ◌<◌, ◌≤◌, List, [], ◌∷◌, ◌++◌, length, map, pos, unsigned_abs, true, false, refl, sym, ◌∙◌, ap, subst, arith}
+use Rattle.std.specs.Prelude.{Result, Ok, Err}
 use Rattle.std.proofs.lemmas.Int.{ints}
 use Rattle.std.proofs.lemmas.List.{length-map, length-append}
 use Rattle.exact_num.specs.declared.misfit.Wide.{Wide}
-use Rattle.exact_num.specs.Fraction.{Fraction, IsLowest}
+use Rattle.exact_num.specs.Fraction.{Fraction, IsLowest, IsNotBelowZero}
 use Rattle.exact_num.specs.Laws.{IsWithin}
 use Rattle.exact_num.proofs.Values.{whole_is_lowest}
 use Rattle.table_run.specs.Places.{at, fraction_zero, listed}
 use Rattle.table_run.specs.Program.{LinearProgram}
-use Rattle.table_run.specs.Ending.{Ending, done, wide_at, no_unit_left}
-use Rattle.table_run.specs.Run.{Optimum, run}
-use Rattle.table_run.specs.Optimum.{IsProgram, IsNotBelowZero}
+use Rattle.table_run.specs.Ending.{Ending, done, unbounded, wide_at, no_unit_left}
+use Rattle.table_run.specs.Run.{Optimum, optimum, run}
+use Rattle.table_run.specs.Optimum.{IsProgram, IsAsSaid}
 use Rattle.table_run.specs.Choose.{bases_of}
 use Rattle.table_run.specs.Units.{units_of}
 use Rattle.table_run.proofs.Suffice.{units_suffice}
 use Rattle.compact_run.specs.Compact.{CompactTable, compact_first}
 use Rattle.compact_run.specs.Laws.{IsProgramWithin}
-use Rattle.compact_run.specs.Run.{compact_read_off, compact_run, compact_run_from}
+use Rattle.compact_run.specs.Run.{compact_read_off, compact_direction, compact_run, compact_run_from}
 use Rattle.compact_run.proofs.Runs.{same_runs}
 use Rattle.compact_table.specs.Programs.{empty_program, with_row}
 use Rattle.simplex.specs.declared.run.End.{End}
@@ -29,7 +29,7 @@ use Rattle.compact_table.specs.Lists.{front}
 use Rattle.compact_table.specs.Tables.{as_compact, program_in, SameShape}
 use Rattle.simplex.specs.declared.stage.Stage.{Stage}
 use Rattle.simplex.specs.declared.stage.Stage.TheVariants.{Empty, Given, Optimal, Unbounded, Stopped}
-use Rattle.simplex.specs.Spaces.{Contents, found, stopped, answer_of, contents_after, optimum_in, contents_of, program_given, IsProgramGiven, IsFound, IsAt, IsBeingGiven, direction_of}
+use Rattle.simplex.specs.Spaces.{Contents, found, rising, stopped, answer_of, contents_after, optimum_in, contents_of, program_given, IsProgramGiven, IsFound, IsAt, IsBeingGiven, direction_of}
 
 -- ---- numbers of the code
 at_value : {A : Type 0} (P : Fraction → Type 0) (value : A → Fraction) → P fraction_zero → ((a : A) → P (value a)) → (xs : List A) (j : ℕ) → P (at (map value xs) j)

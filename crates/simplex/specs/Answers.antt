@@ -23,12 +23,16 @@ solved_contents value (Optimal x y reduced v) =
     found (optimum (map value x.items) (map value y.items) (map value reduced.items) (value v))
 solved_contents value (Unbounded d) = rising (map value d.items)
 
--- the answer is the end of the run, and the units are those spent; want of memory says nothing
+-- the answer of a call is the end of the run, and the units are those spent; want of memory says nothing. What a value of the
+-- call ends a run with is `end_with`
+abbrev pub IsAnswerBy : {A X : Type 0} → (X → ℕ → Ending A) → Ending A → Result X Stop → ℕ → Type 0
+IsAnswerBy end_with ending (Ok x) spent = ending ≡ end_with x spent
+IsAnswerBy end_with ending (Err (Wide unit wide)) spent = (ending ≡ wide_at unit wide) × (spent ≡ unit)
+IsAnswerBy end_with ending (Err Budget) spent = ending ≡ no_unit_left spent
+IsAnswerBy end_with ending (Err Memory) spent = Unit {0}
+
 abbrev pub IsAnswer : {A : Type 0} → (A → Fraction) → Ending Optimum → Result (Solved A) Stop → ℕ → Type 0
-IsAnswer value ending (Ok solved) spent = ending ≡ solved_ending value solved spent
-IsAnswer value ending (Err (Wide unit wide)) spent = (ending ≡ wide_at unit wide) × (spent ≡ unit)
-IsAnswer value ending (Err Budget) spent = ending ≡ no_unit_left spent
-IsAnswer value ending (Err Memory) spent = Unit {0}
+IsAnswer value ending result spent = IsAnswerBy (solved_ending value) ending result spent
 
 -- what the answer says of the program is so
 abbrev pub HoldsOf : {A : Type 0} → (A → Fraction) → LinearProgram → Result (Solved A) Stop → Type 0

@@ -2,7 +2,7 @@
 ghost use Rattle.std.specs.Prelude.{◌≡◌, ◌-◌, ◌*◌, ◌<◌, ◌≤◌, Err, IfOk, length, map, unsigned_abs, vec_len};
 ghost use Rattle.std.specs.List.{All};
 ghost use Rattle.table_run.specs.Choose.{bases_of};
-ghost use Rattle.table_run.specs.Optimum.{IsNotBelowZero};
+ghost use Rattle.exact_num.specs.Fraction.{IsNotBelowZero};
 ghost use Rattle.table_run.specs.Run.{run as run_of};
 ghost use Rattle.simplex.specs.Answers.{HoldsOf, IsAnswer, solved_contents};
 ghost use Rattle.simplex.specs.Programs.{as_program};

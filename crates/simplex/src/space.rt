@@ -1,7 +1,8 @@
 //! Room for the runs of programs, taken once.
 ghost use Rattle.std.specs.Prelude.{◌≡◌, ◌-◌, ◌<◌, ◌≤◌, Err, IfOk, length, map, unsigned_abs};
 ghost use Rattle.table_run.specs.Choose.{bases_of};
-ghost use Rattle.table_run.specs.Optimum.{IsAsSaid, IsNotBelowZero};
+ghost use Rattle.table_run.specs.Optimum.{IsAsSaid};
+ghost use Rattle.exact_num.specs.Fraction.{IsNotBelowZero};
 ghost use Rattle.table_run.specs.Places.{at};
 ghost use Rattle.table_run.specs.Run.{run as run_of};
 ghost use Rattle.table_run.specs.Units.{units_of};

@@ -15,8 +15,7 @@ use Rattle.exact_num.specs.Rationals.{Q, ◌*Q◌, inv_Q, value, IsAtMost, IsAbo
 use Rattle.table_run.specs.Places.{at}
 use Rattle.table_run.specs.Table.{Row, Table, entries_at, right_side, basic_at}
 use Rattle.table_run.specs.Choice.{Ratio, first_below, entering, ratio_in, ratios, joined, lesser, least, by_order}
-use Rattle.exact_num.specs.Tests.{is_below_zero}
-use Rattle.exact_num.specs.Tests.{is_above_zero}
+use Rattle.exact_num.specs.Tests.{is_below_zero, is_above_zero}
 use Rattle.table_run.specs.Pivot.{pivoted}
 use Rattle.table_run.specs.Run.{turn, moved, unlimited, moved_or_stopped, on_ratios, leave}
 use Rattle.table_run.specs.Tableau.{IsPivot, tableau_of}

@@ -13,3 +13,4 @@ pub mod Ended
 pub mod Counted
 pub mod WorkedPrograms
 pub mod Endings
+pub mod WithinSizes

@@ -1,11 +1,11 @@
--- Each run ends as it says: an optimum is feasible and has a dual of the same value, a direction is a unlimited.
+-- Each run ends as it says: an optimum is feasible and has a dual of the same value, along a direction the objective rises without an end.
 use Rattle.std.proofs.Common.{◌≡◌, ℕ, ◌+◌, ◌*◌, ◌<◌, ◌≤◌, List, length, take, drop, arith, refl, sym, ◌∙◌, ap, subst, ℤ, pos, ◌≤ℤ◌, ◌<ℤ◌, neg_ℤ}
 use Rattle.std.specs.Prelude.{Some, None, if◌then◌else◌, nat_eq, true, false, Bool}
 use Rattle.std.proofs.Math.Nat.{mul-pos}
 use Rattle.std.proofs.lemmas.Int.{ints, by_lt_z}
 use Rattle.std.proofs.lemmas.List.{get_or-take, get_or-drop, length-take-le, length-drop}
 use Rattle.std.proofs.lemmas.Bool.Decides.{nat_tests}
-use Rattle.exact_num.specs.Fraction.{Fraction, IsLowest, whole, negated, plain_sum, plain_dot}
+use Rattle.exact_num.specs.Fraction.{Fraction, IsLowest, whole, negated, plain_sum, plain_dot, IsNotBelowZero}
 use Rattle.exact_num.proofs.Values.{whole_is_lowest, negated_is_lowest}
 use Rattle.exact_num.proofs.Rationals.{value_zero, value_one, value_negated, value_sum, value_same, value_at_most, value_not_below, not_below_value, dot_positive, at_most_of_sum, add_not_below, mul_not_below, one_not_below, neg_not_below, zero_has, add_0, zero_add_Q, mul_0, zero_mul_Q, mul_1, one_mul_Q, mul_neg, neg_neg, neg_mul, add_neg, add_comm, add_assoc, mul_comm_Q}
 use Rattle.exact_num.specs.Rationals.{Q, ◌+Q◌, ◌*Q◌, neg_Q, 0Q, 1Q, value, IsNotBelow0, IsBelow0, IsAtMost, total, unit, spread}
@@ -15,7 +15,7 @@ use Rattle.table_run.specs.Program.{LinearProgram, row, column}
 use Rattle.table_run.specs.Table.{Row, Table, entries_at, first_table, right_side, rows_from, where_basic, basic_at}
 use Rattle.table_run.specs.Choice.{entering, least}
 use Rattle.table_run.specs.Run.{moved, unlimited, turn, run, read_off, direction}
-use Rattle.table_run.specs.Optimum.{IsProgram, IsOptimum, IsDirection, AreNotBelowZero, IsNotBelowZero, IsAsSaid, EndsAreAsSaid}
+use Rattle.table_run.specs.Optimum.{IsProgram, IsOptimum, IsDirection, AreNotBelowZero, IsAsSaid, EndsAreAsSaid}
 use Rattle.table_run.proofs.Entries.{IsTable, turn_out}
 use Rattle.table_run.specs.Tableau.{tableau_of, Tableau, IsFeasible, IsPivot, HaveSameSolutions, Solves, row_at}
 use Rattle.table_run.proofs.Pivot.{point, row_at-point, point_solves, point_earns, tied_refl, tied_trans, tied_after, good_after}

@@ -12,3 +12,4 @@ pub mod Tableau
 pub mod Choose
 pub mod Limits
 pub mod Worked
+pub mod Sizes

@@ -1,13 +1,10 @@
 -- What the end of a run says of its program. Sums and products have no limit here.
 use Rattle.std.specs.Prelude.{◌≡◌, ℕ, ◌*◌, ◌<◌, List, length, pos, ◌≤ℤ◌, ◌<ℤ◌}
-use Rattle.exact_num.specs.Fraction.{Fraction, IsLowest, IsSameValue, AtMost, negated, plain_sum, plain_dot}
+use Rattle.exact_num.specs.Fraction.{Fraction, IsLowest, IsSameValue, AtMost, negated, plain_sum, plain_dot, IsNotBelowZero}
 use Rattle.table_run.specs.Places.{at, fraction_zero}
 use Rattle.table_run.specs.Program.{LinearProgram, row, column}
 use Rattle.table_run.specs.Ending.{Ending, done, unbounded, wide_at, no_unit_left}
 use Rattle.table_run.specs.Run.{Optimum, run, optimum}
-
-abbrev pub IsNotBelowZero : Fraction → Type 0
-IsNotBelowZero x = pos 0 ≤ℤ x.numerator
 
 -- a list of n fractions in lowest terms
 pub record AreFractions (n : ℕ) (xs : List Fraction) : Type 0 where

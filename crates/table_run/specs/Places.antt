@@ -13,3 +13,8 @@ at xs i = slice_index_or xs i fraction_zero
 unfoldable pub listed : (ℕ → Fraction) → ℕ → ℕ → List Fraction
 listed f j zero = []
 listed f j (suc n) = f j ∷ listed f (j + 1) n
+
+-- j, j + 1 and so on, n of them
+unfoldable pub numbers : ℕ → ℕ → List ℕ
+numbers j zero = []
+numbers j (suc n) = j ∷ numbers (j + 1) n

@@ -1,27 +1,24 @@
-use Rattle.std.proofs.Common.{refl, sym, ap, ◌∙◌}
-use Rattle.std.proofs.lemmas.Result.{err_from_is_err_and}
+use Rattle.std.proofs.Common.{map}
+use Rattle.arithmetic.proofs.Lists.{pair_of, pairs_end}
+use Rattle.exact_num.proofs.Loops.{goes_on, stops, ends}
 use Rattle.frac.specs.Range.{limit}
 use Rattle.frac.specs.Value.{fraction_of}
 use Rattle.form.specs.Payoff.{option_of}
-use Rattle.line_cover.proofs.NetSteps.{fills_drop, none_left}
-use Rattle.exact_num.proofs.Loops.{goes_on, stops}
-use Rattle.cert_check.specs.Cover.{add_same, add_all_same}
+use Rattle.cert_check.specs.Cover.{add_same}
 use Rattle.cert_check.proofs.balance.balance.Goals as goal
 
 pub returns-in_err-total : goal.returns-in_err-total
 returns-in_err-total c =
-    let p = err_from_is_err_and c.from_residual.result c.from_residual.ensures.1 in
-    let stop = stops (add_all_same limit (option_of c.args.form.now)) (add_same limit (option_of c.args.form.now)) (λ total fill rest. refl)
-    c.loop-i.total c.add_same.result c.in_err-total.field-0.0 _ _ _ (fills_drop c.args.orders.now c.args.fills.now c.loop-i.i c.index-orders-i.result c.index-fills-i.result c.requires c.loop-i-test.true c.index-orders-i.is c.index-fills-i.is) c.add_same.ensures c.in_err-total.was in
-    rw (p.1, p.2, c.loop-i.invariant, stop) refl
+    stops fraction_of (add_same limit (option_of c.args.form.now)) c.loop-i.total c.add_same.result c.from_residual.result _ _ _ _ _
+    (pair_of fraction_of c.args.orders.now c.args.fills.now c.loop-i.i c.index-orders-i.result c.index-fills-i.result c.requires c.loop-i-test.true c.index-orders-i.is c.index-fills-i.is)
+    c.loop-i.invariant c.add_same.ensures c.in_err-total.was c.from_residual.ensures.1
 
 pub loop-i-preserved : goal.loop-i-preserved
 loop-i-preserved c =
-    c.loop-i.invariant
-    ∙ goes_on (add_all_same limit (option_of c.args.form.now)) (add_same limit (option_of c.args.form.now)) (λ total fill rest. refl)
-    c.loop-i.total c.add_same.result c.in_ok-total.total _ _ _ (fills_drop c.args.orders.now c.args.fills.now c.loop-i.i c.index-orders-i.result c.index-fills-i.result c.requires c.loop-i-test.true c.index-orders-i.is c.index-fills-i.is) c.add_same.ensures c.in_ok-total.was
+    goes_on fraction_of (add_same limit (option_of c.args.form.now)) c.loop-i.total c.in_ok-total.total c.add_same.result _ _ _ _
+    (pair_of fraction_of c.args.orders.now c.args.fills.now c.loop-i.i c.index-orders-i.result c.index-fills-i.result c.requires c.loop-i-test.true c.index-orders-i.is c.index-fills-i.is)
+    c.loop-i.invariant c.add_same.ensures c.in_ok-total.was
 
 pub returns : goal.returns
 returns c =
-    let none = none_left c.args.orders.now c.args.fills.now c.loop-i.i c.loop-i-test.false in
-    sym (c.loop-i.invariant ∙ ap ((add_all_same limit (option_of c.args.form.now)) (fraction_of c.loop-i.total)) none)
+    ends fraction_of (add_same limit (option_of c.args.form.now)) c.loop-i.total _ _ (pairs_end c.args.orders.now (map fraction_of c.args.fills.now) c.loop-i.i c.loop-i-test.false) c.loop-i.invariant

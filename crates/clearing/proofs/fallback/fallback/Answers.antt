@@ -11,7 +11,7 @@ use Rattle.form.specs.Limits.{IsOrderWithin}
 use Rattle.form.specs.declared.limits.TheConstants.{MAX_QUANTITY}
 use Rattle.form.specs.declared.orders.Order.{Order}
 use Rattle.each_match.proofs.MatchLaws.{fills_small}
-use Rattle.clearing.proofs.Proved.{fallback_is}
+use Rattle.clearing.proofs.OutcomeEnds.{fallback-parts}
 use Rattle.clearing.proofs.fallback.fallback.Goals as goal
 
 pub premium-surplus-requires-clause-fills : goal.premium-surplus-requires-clause-fills
@@ -28,4 +28,4 @@ returns c =
     let fills = c.from_vec-fills.ensures ∙ c.in_ok-whole_fills.ensures ∙ ap whole_fills c.as_slice-3.ensures.value in
     let fits : FitsSigned w128 c.premium-surplus.result = search rules in
     let surplus = c.value-2.ensures ∙ ap (λ v. value_of (whole v)) (to_z-of_z w128 c.premium-surplus.result fits) ∙ ap (λ v. value_of (whole v)) (c.premium-surplus.ensures.premium ∙ ap₂ (λ os fs. premium (zip os fs)) c.as_slice.ensures c.as_slice-2.ensures.value) in
-    fallback_is orders c.args.mark c.args.units c.from_vec-fills.result c.value.result c.value-2.result amounts c.in_ok-amounts.ensures.fills fills c.value.ensures surplus
+    fallback-parts orders c.args.mark c.args.units c.from_vec-fills.result c.value.result c.value-2.result amounts c.in_ok-amounts.ensures.fills fills c.value.ensures surplus

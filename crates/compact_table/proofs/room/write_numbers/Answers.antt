@@ -1,5 +1,5 @@
 use Rattle.std.proofs.Common.{◌+◌, ◌-◌, ◌++◌, ◌∙◌, ap, arith, List, ℕ}
-use Rattle.compact_run.specs.Compact.{numbers}
+use Rattle.table_run.specs.Places.{numbers}
 use Rattle.compact_table.proofs.Filling.{numbers_more, numbers_end}
 use Rattle.compact_table.proofs.room.write_numbers.Goals as goal
 

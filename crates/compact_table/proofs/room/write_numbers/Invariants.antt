@@ -1,5 +1,5 @@
 use Rattle.std.proofs.Common.{◌≡◌, ◌-◌, ◌≤◌, ◌++◌, vec_len, vec_capacity}
-use Rattle.compact_run.specs.Compact.{numbers}
+use Rattle.table_run.specs.Places.{numbers}
 use Rattle.compact_table.proofs.room.write_numbers.Given as goal
 
 -- the numbers before i are there

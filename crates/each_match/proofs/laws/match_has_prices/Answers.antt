@@ -1,4 +1,4 @@
-use Rattle.each_match.proofs.Prices.{match_has_prices}
+use Rattle.each_match.proofs.MatchLaws.{match_has_prices}
 use Rattle.each_match.proofs.laws.match_has_prices.Goals as goal
 
 pub returns : goal.returns

@@ -1,4 +1,4 @@
-use Rattle.each_match.proofs.Prices.{match_is_the_best}
+use Rattle.each_match.proofs.MatchLaws.{match_is_the_best}
 use Rattle.each_match.proofs.laws.match_is_the_best.Goals as goal
 
 pub returns : goal.returns

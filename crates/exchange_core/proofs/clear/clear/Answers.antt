@@ -1,9 +1,10 @@
 use Rattle.std.proofs.Common.{sym, ap, ◌∙◌, subst, arith}
-use Rattle.order_book.specs.Refusals.{refusal_in}
+use Rattle.order_book.specs.Refusals.{unless_memory}
+use Rattle.refusals.specs.Refusals.{refusal_in}
 use Rattle.exchange_core.specs.Kept.{AreJoined}
 use Rattle.exchange_core.specs.Reserves.{reserve_of}
 use Rattle.exchange_core.proofs.Batches.{batch_found, batch_on_one, batch_payable, fills_paid}
-use Rattle.exchange_core.proofs.Joined.{joined_finished, reserve_live}
+use Rattle.exchange_core.proofs.Joined.{joined-batch, reserve_live}
 use Rattle.exchange_core.proofs.clear.clear.Goals as goal
 
 pub clear-requires-clause-underlyings : goal.clear-requires-clause-underlyings
@@ -24,23 +25,23 @@ pub pay_all-requires-clause-fills : goal.pay_all-requires-clause-fills
 pay_all-requires-clause-fills c =
     (fills_paid c.in_ok-batch.batch c.in_ok-outcome.outcome c.as_slice-orders.result.now c.as_slice.result.now c.in_ok-batch.ensures.within c.in_ok-outcome.ensures.within c.as_slice-orders.ensures c.as_slice.ensures).1
 
-pub give_all_free-requires-clause-payable : goal.give_all_free-requires-clause-payable
-give_all_free-requires-clause-payable c =
+pub release_all-requires-clause-payable : goal.release_all-requires-clause-payable
+release_all-requires-clause-payable c =
     let found = batch_found c.args.book.now c.args.market c.in_ok-batch.batch c.in_ok-batch.ensures.batch in
     batch_payable c.args.ledger.now c.args.book.now c.requires.joined c.args.market c.in_ok-batch.batch found.1 c.in_ok-batch.ensures.within.orders_within
     c.pay_all.new.ledger.accounts c.as_slice-orders.result.now (c.pay_all.ensures.accounts ∙ c.room.ensures.accounts) c.as_slice-orders.ensures
 
-pub give_all_free-requires-clause-reserved : goal.give_all_free-requires-clause-reserved
-give_all_free-requires-clause-reserved c q =
+pub release_all-requires-clause-reserved : goal.release_all-requires-clause-reserved
+release_all-requires-clause-reserved c q =
     let found = batch_found c.args.book.now c.args.market c.in_ok-batch.batch c.in_ok-batch.ensures.batch in
     let live = reserve_live c.args.ledger.now c.args.book.now c.requires.joined c.args.market found.0 q in
     omega (arith, live, ap (reserve_of q) (found.1 ∙ sym c.as_slice-orders.ensures), c.pay_all.ensures.reserves q, c.room.ensures.reserves q)
 
 pub returns-clause-joined : goal.returns-clause-joined
 returns-clause-joined c =
-    let none = sym (ap refusal_in c.in_ok-batch.was) ∙ c.batch.ensures.refused in
+    let none = sym c.batch.ensures.refused ∙ ap (refusal_in unless_memory) c.in_ok-batch.was in
     let found = batch_found c.args.book.now c.args.market c.in_ok-batch.batch c.in_ok-batch.ensures.batch in
-    subst (AreJoined c.give_all_free.new.ledger) (sym c.finish_batch-number.ensures.finished)
-    (joined_finished c.args.ledger.now c.args.book.now c.requires.joined c.give_all_free.new.ledger
-    (c.give_all_free.ensures.accounts ∙ c.pay_all.ensures.accounts ∙ c.room.ensures.accounts) c.args.market none
-    (λ q. omega (arith, ap (reserve_of q) (found.1 ∙ sym c.as_slice-orders.ensures), c.give_all_free.ensures.reserves q, c.pay_all.ensures.reserves q, c.room.ensures.reserves q)))
+    subst (AreJoined c.release_all.new.ledger) (sym c.finish_batch-number.ensures.finished)
+    (joined-batch c.args.ledger.now c.args.book.now c.requires.joined c.release_all.new.ledger
+    (c.release_all.ensures.accounts ∙ c.pay_all.ensures.accounts ∙ c.room.ensures.accounts) c.args.market none
+    (λ q. omega (arith, ap (reserve_of q) (found.1 ∙ sym c.as_slice-orders.ensures), c.release_all.ensures.reserves q, c.pay_all.ensures.reserves q, c.room.ensures.reserves q)))

@@ -11,7 +11,7 @@ use Rattle.simplex.specs.declared.stop.Stop.{Stop}
 use Rattle.rounds.specs.Answers.{IsJudged, reading_in}
 use Rattle.rounds.specs.Run.{sums_hold}
 use Rattle.table_run.specs.Ending.{done}
-use Rattle.rounds.proofs.Judged.{measures_same, line_outcome, claimed, no_refusal, sums_are, stops_as_judged, clears_as_judged}
+use Rattle.rounds.proofs.Judged.{measures_same, line_outcome, claimed, line_is_not_refused, sums_are, stops_as_judged, clears_as_judged}
 use Rattle.rounds.proofs.judging.certify.Goals as goal
 
 pub judge-requires-clause-holds : goal.judge-requires-clause-holds
@@ -22,7 +22,7 @@ judge-requires-clause-holds g c =
     let r = reading_in value joint in
     let fills : map fraction_of c.from_vec.result ≡ r.fills = ap (map fraction_of) c.from_vec.ensures ∙ c.in_ok-widened.ensures ∙ ap (map value) c.deref.ensures.value in
     let is : claimed c.from_vec.result c.of.result c.of-2.result joint.measure ≡ r = λ j. reading_with (fills j) (c.of-2.ensures j) (map point_of joint.measure.points) (c.of.ensures j) in
-    no_refusal batch c.from_vec.result c.of.result c.of-2.result joint.measure c.args.unit r c.requires.one c.requires.on c.requires.greatest is
+    (line_is_not_refused batch c.from_vec.result c.of.result c.of-2.result joint.measure c.args.unit r c.requires.one c.requires.on c.requires.greatest is).not_no
 
 pub returns-in_err-judge-clause-answer : goal.returns-in_err-judge-clause-answer
 returns-in_err-judge-clause-answer g c =

@@ -11,8 +11,8 @@ use Rattle.master_program.proofs.Bounded.{master_is_bounded}
 use Rattle.clearing_model.specs.Clearing.{AreOn}
 use Rattle.cert_check.proofs.Shapes.{order_is_on}
 use Rattle.rounds.proofs.Cleared.{answer_is_greatest, answer_passes}
-use Rattle.rounds.specs.Run.{on_ending, solved}
-use Rattle.rounds.proofs.Solve.{later_are, length-later, joint_is, stops_as_solved, solved_as, answers_as}
+use Rattle.master_program.specs.Solve.{master_run}
+use Rattle.rounds.proofs.Solve.{later_are, length-later, from_run, joint_is, stops_as_solved, solved_as, answers_as}
 use Rattle.rounds.proofs.solving.solve_joint.Goals as goal
 
 pub solve_master-requires-clause-few_states : goal.solve_master-requires-clause-few_states
@@ -32,8 +32,8 @@ returns-in_err-x-clause-run g c =
     let states = map vector_of c.split_at.result.1.now in
     let left = c.args.budget.now.limit - c.args.budget.now.spent in
     let is = joint_is limit limit_N left c.args.budget.now.spent orders states later in
-    let ending = solved limit_N left c.args.budget.now.spent (master limit limit_N orders states) in
-    let answer = subst (λ (os : List Order). IsAnswer g.N.Exact.fraction (solved limit_N left c.args.budget.now.spent (master limit limit_N os states)) c.solve_master.result c.solve_master.new.budget.spent) c.as_slice-2.ensures c.solve_master.ensures.run in
+    let ending = master_run limit limit_N left c.args.budget.now.spent orders states in
+    let answer = subst (λ (os : List Order). IsAnswer g.N.Exact.fraction (master_run limit limit_N left c.args.budget.now.spent os states) c.solve_master.result c.solve_master.new.budget.spent) c.as_slice-2.ensures c.solve_master.ensures.run in
     rw (q.1, q.2) (stops_as_solved g.N.Exact.fraction limit limit_N orders _ ending c.solve_master.result c.in_err-x.field-0.0 c.solve_master.new.budget.spent is c.in_err-x.was answer)
 
 pub unreachable-requires : goal.unreachable-requires
@@ -52,11 +52,11 @@ returns-clause-run g c =
     let states = map vector_of c.split_at.result.1.now in
     let left = c.args.budget.now.limit - c.args.budget.now.spent in
     let is = joint_is limit limit_N left c.args.budget.now.spent orders states later in
-    let ending = solved limit_N left c.args.budget.now.spent (master limit limit_N orders states) in
-    let answer = subst (λ (os : List Order). IsAnswer g.N.Exact.fraction (solved limit_N left c.args.budget.now.spent (master limit limit_N os states)) c.solve_master.result c.solve_master.new.budget.spent) c.as_slice-2.ensures c.solve_master.ensures.run in
+    let ending = master_run limit limit_N left c.args.budget.now.spent orders states in
+    let answer = subst (λ (os : List Order). IsAnswer g.N.Exact.fraction (master_run limit limit_N left c.args.budget.now.spent os states) c.solve_master.result c.solve_master.new.budget.spent) c.as_slice-2.ensures c.solve_master.ensures.run in
     let was = c.in_ok-x.was ∙ ap Ok c.in-Optimal.is in
     let ends = solved_as g.N.Exact.fraction ending c.solve_master.result _ c.solve_master.new.budget.spent was answer in
-    answers_as g.N.Exact.fraction _ _ c.certify_optimum.result c.solve_master.new.budget.spent (is ∙ ap (on_ending limit limit_N orders) ends) c.certify_optimum.ensures.answer
+    answers_as g.N.Exact.fraction _ _ c.certify_optimum.result c.solve_master.new.budget.spent (is ∙ ap (from_run limit limit_N orders) ends) c.certify_optimum.ensures.answer
 
 pub returns-clause-certified : goal.returns-clause-certified
 returns-clause-certified g c =

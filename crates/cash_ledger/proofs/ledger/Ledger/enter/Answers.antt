@@ -1,7 +1,7 @@
 use Rattle.std.proofs.Common.{rules, ◌<◌, ◌^◌, length, sym, ap, ◌∙◌}
 use Rattle.cash_ledger.specs.Ledger.{LedgerState, reserved_of}
-use Rattle.cash_ledger.proofs.KeptTotals.{sum_fits, entered_kept}
-use Rattle.cash_ledger.proofs.Reserves.{reserve_stays, reserve_held}
+use Rattle.cash_ledger.proofs.KeptTotals.{sum_fits, AreKept-enter}
+use Rattle.cash_ledger.proofs.Reserves.{reserved_by-same, reserved_by-there}
 use Rattle.cash_ledger.proofs.ledger.Ledger.enter.Goals as goal
 
 pub after-requires : goal.after-requires
@@ -13,12 +13,12 @@ after-requires c =
 pub invariant_of-self : goal.invariant_of-self
 invariant_of-self c =
     let there = sym c.holding.ensures.value ∙ c.unwrap-holding.ensures in
-    rw c.push_reserved.ensures.items (entered_kept _ _ c.self.invariant c.args.entry c.unwrap-holding.result c.after.result _ c.requires.bounded there c.set.ensures.each
+    rw c.push_reserved.ensures.items (AreKept-enter _ _ c.self.invariant c.args.entry c.unwrap-holding.result c.after.result _ c.requires.bounded there c.set.ensures.each
     (ap (λ h. h.total) c.after.ensures) (ap (λ h. h.reserved) c.after.ensures))
 
 pub returns-clause-reserves : goal.returns-clause-reserves
 returns-clause-reserves c q =
     let there = sym c.holding.ensures.value ∙ c.unwrap-holding.ensures in
-    reserve_stays c.self.inside.accounts c.set.new.self c.args.entry.account c.after.result c.set.ensures.each
-    (reserve_held c.self.inside.accounts _ _ there ∙ sym (ap (λ h. h.reserved) c.after.ensures)) q
+    reserved_by-same c.self.inside.accounts c.set.new.self c.args.entry.account c.after.result c.set.ensures.each
+    (reserved_by-there c.self.inside.accounts _ _ there ∙ sym (ap (λ h. h.reserved) c.after.ensures)) q
     ∙ ap (λ (s : LedgerState). reserved_of s q) c.self.view_is

@@ -1,9 +1,9 @@
-use Rattle.std.proofs.Common.{rules, ◌≡◌, ◌<◌, ◌^◌, length, pos, ◌-ℤ◌, to_z, of_z, FitsSigned, Some, None, if◌then◌else◌, sym, ap, ap₂, ◌∙◌, subst}
+use Rattle.std.proofs.Common.{rules, ◌≡◌, ◌<◌, ◌^◌, length, pos, ◌-ℤ◌, to_z, of_z, FitsSigned, Some, sym, ap, ap₂, ◌∙◌, subst}
 use Rattle.std.proofs.lemmas.Int.{to_z-of_z}
 use mir.Syntax.{w128}
-use Rattle.cash_ledger.specs.Ledger.{LedgerState, is_open, free_of}
-use Rattle.cash_ledger.proofs.KeptTotals.{rest_fits, reserve_small, total_is}
-use Rattle.cash_ledger.proofs.Reserves.{reserve_held, told_open}
+use Rattle.cash_ledger.specs.Ledger.{LedgerState, if_open, free_of}
+use Rattle.cash_ledger.proofs.KeptTotals.{rest_fits, reserve_small, total-balance}
+use Rattle.cash_ledger.proofs.Reserves.{reserved_by-there, if_open-there}
 use Rattle.cash_ledger.proofs.ledger.Ledger.free.Goals as goal
 
 pub free-requires-clause-fits : goal.free-requires-clause-fits
@@ -19,6 +19,6 @@ pub returns : goal.returns
 returns c =
     let there = sym c.holding.ensures.value ∙ c.in_ok-holding.was in
     let fits : FitsSigned w128 c.free.result = search rules in
-    let is = to_z-of_z w128 c.free.result fits ∙ c.free.ensures ∙ ap₂ (λ a b. a -ℤ pos b) (total_is _ _ c.self.invariant c.args.account _ there) (sym (reserve_held c.self.inside.accounts _ _ there)) in
-    subst (λ (s : LedgerState). Some (to_z w128 (of_z w128 c.free.result)) ≡ (if is_open s.accounts c.args.account then Some (free_of s c.args.account) else None)) c.self.view_is
-    (ap Some is ∙ told_open c.self.inside.accounts _ _ _ there)
+    let is = to_z-of_z w128 c.free.result fits ∙ c.free.ensures ∙ ap₂ (λ a b. a -ℤ pos b) (total-balance _ _ c.self.invariant c.args.account _ there) (sym (reserved_by-there c.self.inside.accounts _ _ there)) in
+    subst (λ (s : LedgerState). Some (to_z w128 (of_z w128 c.free.result)) ≡ if_open s.accounts c.args.account (free_of s c.args.account)) c.self.view_is
+    (ap Some is ∙ if_open-there c.self.inside.accounts _ _ _ there)

@@ -1,5 +1,5 @@
-use Rattle.std.proofs.Common.{◌≡◌, ◌∙◌, sym, ap, arith, length}
-use Rattle.compact_run.specs.Compact.{numbers}
+use Rattle.std.proofs.Common.{◌≡◌, [], ◌∙◌, sym, ap, arith, length}
+use Rattle.table_run.specs.Places.{numbers}
 use Rattle.compact_table.proofs.Filling.{length-numbers}
 use Rattle.compact_table.proofs.Starts.{begun, begun_objective}
 use Rattle.compact_table.proofs.table.Table.begin.Goals as goal

@@ -1,7 +1,7 @@
 use Rattle.std.proofs.Common.{◌≡◌, ◌+◌, [], ◌∷◌, ◌++◌, ◌∙◌, sym, ap, subst, arith, length, take, map, List, ℕ}
 use Rattle.std.specs.List.{All}
 use Rattle.std.proofs.lemmas.List.{length-append}
-use Rattle.compact_run.specs.Compact.{numbers}
+use Rattle.table_run.specs.Places.{numbers}
 use Rattle.compact_table.proofs.Filling.{numbers_last, slice_written}
 use Rattle.compact_table.proofs.Starts.{row_given, all_more}
 use Rattle.compact_table.proofs.table.Table.row.Goals as goal

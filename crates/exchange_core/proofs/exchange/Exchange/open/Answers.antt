@@ -1,5 +1,5 @@
-use Rattle.exchange_core.proofs.Joined.{joined_opened}
+use Rattle.exchange_core.proofs.Joined.{joined-open}
 use Rattle.exchange_core.proofs.exchange.Exchange.open.Goals as goal
 
 pub invariant_of-self-2 : goal.invariant_of-self-2
-invariant_of-self-2 c = joined_opened _ _ c.self.invariant c.open.new.self c.args.account c.in_ok-open.ensures.accounts c.in_ok-open.ensures.reserves
+invariant_of-self-2 c = joined-open _ _ c.self.invariant c.open.new.self c.args.account c.in_ok-open.ensures.accounts c.in_ok-open.ensures.reserves

@@ -1,14 +1,21 @@
-use Rattle.std.proofs.Common.{◌≡◌, ◌+◌, None, Some, nat_eq, cond, ap, subst, sym, ◌∙◌}
-use Rattle.std.specs.Map.{lookup}
-use Rattle.order_book.specs.Book.{BookState}
-use Rattle.order_book.specs.Refusals.{place_refusal}
+use Rattle.std.proofs.Common.{◌≡◌, None, sym, ap, ◌∙◌, subst}
+use Rattle.order_book.specs.Book.{BookState, book_of}
+use Rattle.order_book.specs.Refusals.{place_refusals, unless_memory}
+use Rattle.refusals.specs.Refusals.{first_of, refusal_in}
 use Rattle.order_book.proofs.Accepting.{accepts}
-use Rattle.order_book.proofs.Keeping.{placed_kept}
+use Rattle.order_book.proofs.BookKept.{next_unused, kept-with_order}
 use Rattle.order_book.proofs.book.Book.place.Goals as goal
+
+pub add-requires-clause-fresh : goal.add-requires-clause-fresh
+add-requires-clause-fresh c =
+    let book = book_of c.self.inside.markets c.self.inside.accepted c.self.inside.finished in
+    let none = sym c.check_place.ensures.refused ∙ ap (refusal_in unless_memory) c.in_ok-check_place.was in
+    let a = accepts book c.args.order.now (subst (λ (book : BookState). first_of (place_refusals book c.args.order.now) ≡ None) (sym c.self.view_is) none) in
+    rw c.with_number.ensures (next_unused book c.self.invariant c.args.order.now.market a.market a.found)
 
 pub invariant_of-self-2 : goal.invariant_of-self-2
 invariant_of-self-2 c =
-    let none = subst (λ (book : BookState). None ≡ place_refusal book c.args.order.now) (sym c.self.view_is) c.in_ok-check_place.ensures.refused in
-    let book : BookState = record { markets = c.self.inside.markets; accepted = c.self.inside.accepted; finished = c.self.inside.finished } in
-    rw (c.in_ok-add.ensures.ok, c.numbered.ensures) (placed_kept _ _ c.self.invariant c.args.order.now c.requires (accepts book c.args.order.now none) _
-    (λ q. c.set.ensures q ∙ ap (λ es. cond (nat_eq (c.self.inside.accepted + 1) q) (Some c.args.order.now.market) (lookup (nat_eq q) es)) c.in_ok-room.ensures.entries))
+    let book = book_of c.self.inside.markets c.self.inside.accepted c.self.inside.finished in
+    let none = sym c.check_place.ensures.refused ∙ ap (refusal_in unless_memory) c.in_ok-check_place.was in
+    let a = accepts book c.args.order.now (subst (λ (book : BookState). first_of (place_refusals book c.args.order.now) ≡ None) (sym c.self.view_is) none) in
+    rw (c.in_ok-add.ensures.ok, c.with_number.ensures) (kept-with_order book c.self.invariant c.args.order.now c.requires a)

@@ -1,0 +1,8 @@
+use Rattle.std.proofs.Common.{◌≡◌, ◌++◌, drop}
+use Rattle.form.specs.Payoff.{bundle_of}
+use Rattle.each_match.specs.Queue.{offers_from}
+use Rattle.each_match.proofs.queues.offers.Given as goal
+
+abbrev pub invariant-loop-place : goal.invariant-loop-place
+invariant-loop-place l =
+    l.offers.items ++ offers_from l.side (bundle_of l.option) l.place (drop l.place l.orders) ≡ offers_from l.side (bundle_of l.option) 0 l.orders

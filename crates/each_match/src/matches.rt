@@ -1,0 +1,134 @@
+// The match of each option by itself.
+ghost use Rattle.std.specs.Prelude.{◌≡◌, ◌≤◌, ◌≤ℤ◌, length, pos, IfOk};
+ghost use Rattle.std.specs.List.{zip};
+ghost use Rattle.clearing_model.specs.Balance.{AreBalanced};
+ghost use Rattle.clearing_model.specs.Clearing.{AreFills, premium};
+ghost use Rattle.form.specs.Payoff.{bundle_of};
+ghost use Rattle.each_match.specs.Laws.{AreFilledByAuction, IsBestBalanced, OwesNothing};
+ghost use Rattle.each_match.specs.Match.{match_by_option};
+ghost use Rattle.each_match.specs.Trades.{is_seen, AreTradesOf};
+
+use crate::auction::{Trade, auction, filled};
+use crate::queues::{is_same_option, queue};
+use form::{Batch, Order, Side};
+use std::alloc::{AllocError, Global};
+
+// Whether an order before a place is of the option of an order.
+fn is_seen(orders: &[Order], place: usize, option: &Order) -> bool
+    requires { place ≤ length orders.now }
+    ensures { result ≡ is_seen orders.now place (bundle_of option.now) }
+{
+    orders[..place]
+        .iter()
+        .any(|earlier| is_same_option(earlier, option))
+}
+
+// The trades of all options, each auctioned where its first order stands.
+fn trades(alloc: Global, orders: &[Order]) -> Result<Vec<Trade>, AllocError>
+    ensures { IfOk result (λ trades. AreTradesOf orders.now trades.items) }
+{
+    let mut trades = Vec::new(alloc);
+    for (place, order) in orders.iter().enumerate() {
+        if !is_seen(orders, place, order) {
+            let buys = queue(alloc, orders, order, Side::Buy)?;
+            let sells = queue(alloc, orders, order, Side::Sell)?;
+            auction(buys, sells, &mut trades)?;
+        }
+    }
+    Ok(trades)
+}
+
+// What the trades fill of each order.
+fn fills(alloc: Global, orders: &[Order], trades: &[Trade]) -> Result<Vec<u64>, AllocError>
+    requires { AreTradesOf orders.now trades.now }
+    ensures { IfOk result (λ fills. fills.items ≡ match_by_option orders.now) }
+{
+    let mut fills = Vec::new(alloc);
+    for (place, order) in orders.iter().enumerate() {
+        // Read for the proof: the fill is at most this u32, so its sum fits.
+        let _quantity = order.quantity;
+        fills.push(filled(trades, order.side, place))?;
+    }
+    Ok(fills)
+}
+
+/// Matches the orders of each option by themselves, as a double auction. The buys stand in a queue
+/// by falling limit price, the sells by rising limit price; at one price the order with the smaller
+/// id stands first. While the first buy's price is above the first sell's, the smaller of the two
+/// quantities left is filled in both.
+///
+/// Answers the whole fills in the order of the batch. Of each option as much is bought as sold, so
+/// the fills owe nothing at any settlement. No other fills that balance each option by itself,
+/// fractions included, have a greater premium (in ticks, what buyers pay less what sellers get).
+/// The only error is want of memory.
+pub fn match_each(alloc: Global, batch: &Batch) -> Result<Vec<u64>, AllocError>
+    ensures fills { IfOk result (λ fills. fills.items ≡ match_by_option batch.now.orders) }
+    ensures auction { IfOk result (λ fills. AreFilledByAuction batch.now.orders fills.items) }
+    ensures within { IfOk result (λ fills. AreFills batch.now.orders fills.items 1) }
+    ensures balanced { IfOk result (λ fills. AreBalanced (zip batch.now.orders fills.items)) }
+    ensures owes_nothing { IfOk result (λ fills. OwesNothing (zip batch.now.orders fills.items)) }
+    ensures earns { IfOk result (λ fills. pos 0 ≤ℤ premium (zip batch.now.orders fills.items)) }
+    ensures best { IfOk result (λ fills. IsBestBalanced batch.now.orders fills.items) }
+{
+    let orders = batch.orders.as_slice();
+    let trades = trades(alloc, orders)?;
+    fills(alloc, orders, trades.as_slice())
+}
+
+#[cfg(test)]
+mod tests {
+    use super::*;
+    use form::{Orders, call, put};
+    use std::test::Fail;
+
+    // The worked batch of the fallback, and one where options and places decide.
+    #[test]
+    fn batches_are_matched_option_by_option(rt: HostRuntime) -> Result<(), Fail> {
+        let alloc = rt.alloc();
+        let ten = call(10, &[1]);
+        let five = call(5, &[1]);
+        // The put with strike -10 on -1 of the underlying is the call with strike 10 on 1.
+        let same = put(-10, &[-1]);
+        let buy = Side::Buy;
+        let sell = Side::Sell;
+        let fallback = [
+            (buy, ten, 7, 3, 3),
+            (buy, ten, 6, 2, 0),
+            (sell, ten, 5, 2, 2),
+            (sell, same, 6, 2, 1),
+        ];
+        let ties = [
+            (sell, five, 1, 1, 0),
+            (buy, ten, 6, 2, 0),
+            (buy, ten, 7, 1, 1),
+            (buy, ten, 7, 1, 1),
+            (sell, ten, 6, 1, 0),
+            (sell, ten, 5, 2, 2),
+        ];
+        for rows in [fallback.as_slice(), ties.as_slice()] {
+            let mut orders = Vec::new(alloc);
+            for (place, row) in rows.iter().enumerate() {
+                let (side, form, price, quantity, _) = *row;
+                let id = place as u64;
+                orders.push(Order {
+                    id,
+                    account: 1,
+                    side,
+                    form,
+                    price,
+                    quantity,
+                })?;
+            }
+            let batch = Batch {
+                underlyings: 1,
+                orders: Orders::from_vec(orders),
+            };
+            let fills = match_each(alloc, &batch)?;
+            for (fill, row) in fills.iter().zip(rows) {
+                assert_eq!(rt; *fill, row.4);
+            }
+            assert_eq!(rt; fills.len(), rows.len());
+        }
+        Ok(())
+    }
+}

@@ -1,0 +1,55 @@
+// Why a command has no effect.
+ghost use Rattle.std.specs.Prelude.{◌≡◌};
+ghost use Rattle.exchange_core.specs.declared.failure.Failure.TheVariants as Failure;
+ghost use Rattle.exchange_core.specs.Failures.{ledger_failure, book_failure};
+
+use crate::Refusal;
+use cash_ledger::LedgerRefusal;
+use order_book::BookRefusal;
+use std::alloc::AllocError;
+
+#[derive(Clone, Copy, Debug, PartialEq, Eq)]
+pub(crate) enum Failure {
+    Refused(Refusal),
+    Memory,
+}
+
+impl From<AllocError> for Failure {
+    ghost from_gives = { λ _ failure. failure ≡ Failure.Memory };
+
+    fn from(_: AllocError) -> Self {
+        Failure::Memory
+    }
+}
+
+impl From<LedgerRefusal> for Failure {
+    ghost from_gives = { λ refusal failure. failure ≡ ledger_failure refusal };
+
+    fn from(refusal: LedgerRefusal) -> Self {
+        match refusal {
+            LedgerRefusal::NoAccount => Failure::Refused(Refusal::NoAccount),
+            LedgerRefusal::AccountExists => Failure::Refused(Refusal::AccountExists),
+            LedgerRefusal::Funds => Failure::Refused(Refusal::Funds),
+            LedgerRefusal::TooMany => Failure::Refused(Refusal::TooMany),
+            LedgerRefusal::Memory => Failure::Memory,
+        }
+    }
+}
+
+impl From<BookRefusal> for Failure {
+    ghost from_gives = { λ refusal failure. failure ≡ book_failure refusal };
+
+    fn from(refusal: BookRefusal) -> Self {
+        match refusal {
+            BookRefusal::NoMarket => Failure::Refused(Refusal::NoMarket),
+            BookRefusal::MarketExists => Failure::Refused(Refusal::MarketExists),
+            BookRefusal::Settled => Failure::Refused(Refusal::Settled),
+            BookRefusal::WeightCount => Failure::Refused(Refusal::WeightCount),
+            BookRefusal::BookFull => Failure::Refused(Refusal::BookFull),
+            BookRefusal::NoOrder => Failure::Refused(Refusal::NoOrder),
+            BookRefusal::NotOwner => Failure::Refused(Refusal::NotOwner),
+            BookRefusal::TooMany => Failure::Refused(Refusal::TooMany),
+            BookRefusal::Memory => Failure::Memory,
+        }
+    }
+}

@@ -1,0 +1,18 @@
+//! Sums that a sell subtracts from.
+
+ghost use Rattle.std.specs.Prelude.{◌≡◌, unsigned_abs};
+ghost use Rattle.exact_num.specs.Fits.{meaning};
+ghost use Rattle.form.specs.Steps.{add_for_side};
+
+use crate::orders::Side;
+use exact_num::{Exact, Wide, less_product, plus_product};
+
+/// The total and the product of `a` and `b`, which a sell subtracts. Takes no memory.
+pub fn add_for_side<N: Exact>(total: N, side: Side, a: N, b: N) -> Result<N, Wide>
+    ensures { meaning N.fraction result ≡ add_for_side (unsigned_abs N.LIMIT) (N.fraction total) side (N.fraction a) (N.fraction b) }
+{
+    match side {
+        Side::Buy => plus_product(total, a, b),
+        Side::Sell => less_product(total, a, b),
+    }
+}

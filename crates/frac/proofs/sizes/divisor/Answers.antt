@@ -1,0 +1,23 @@
+use Rattle.std.proofs.Common.{◌≡◌, ◌∙◌, sym, ap, arith, inl, inr}
+use Rattle.arithmetic.specs.Gcd.{gcd}
+use Rattle.arithmetic.proofs.GcdLaws.{gcd_self, gcd-one, gcd_comm, gcd_pos_right}
+use Rattle.arithmetic.proofs.BinaryGcd.{gcd-le_left}
+use Rattle.frac.proofs.sizes.divisor.Goals as goal
+
+pub returns-then-a-b-clause-value : goal.returns-then-a-b-clause-value
+returns-then-a-b-clause-value c = rw c.if-a-b.true (sym (gcd_self c.args.b))
+
+pub returns-then-b-eq1-clause-value : goal.returns-then-b-eq1-clause-value
+returns-then-b-eq1-clause-value c =
+    elim c.if-b-eq1.either [
+      | inl e ↦ sym (ap (λ n. gcd n c.args.b) e ∙ gcd_comm 1 c.args.b ∙ gcd-one c.args.b)
+      | inr w ↦ sym (ap (gcd c.args.a) w.1 ∙ gcd-one c.args.a)
+    ]
+
+pub returns-else-a-le-SHORT-clause-above_zero : goal.returns-else-a-le-SHORT-clause-above_zero
+returns-else-a-le-SHORT-clause-above_zero c = rw c.gcd.ensures (gcd_pos_right _ _ c.requires.positive)
+
+pub returns-else-a-le-SHORT-clause-small : goal.returns-else-a-le-SHORT-clause-small
+returns-else-a-le-SHORT-clause-small c =
+    let e : c.gcd.result ≡ gcd c.args.b c.args.a = c.gcd.ensures ∙ gcd_comm c.args.a c.args.b in
+    rw e (omega (arith, gcd-le_left c.args.b c.args.a c.requires.positive))

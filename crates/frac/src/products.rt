@@ -1,0 +1,84 @@
+//! Products of fractions within a limit, for both widths, and inverses.
+ghost use Rattle.std.specs.Prelude.{◌≡◌, ◌≢◌, ◌<◌, ◌^◌, ◌*◌, pos, ◌*ℤ◌};
+ghost use Rattle.std.specs.Option.{option_map};
+ghost use Rattle.exact_num.specs.Fits.{product_above, product_below, inverse};
+ghost use Rattle.frac.specs.Range.{product_within};
+ghost use Rattle.frac.specs.Value.{fraction_of};
+
+use crate::frac128::Frac128;
+use crate::sizes::{
+    common, natural_product, natural_quotient, quotient, whole_product, with_sign_of,
+};
+
+/// Two fractions, neither numerator having a divisor in common with the other's denominator.
+#[derive(Clone, Copy)]
+struct Factors {
+    numerators: (i128, i128),
+    denominators: (u128, u128),
+}
+
+/// The two fractions without these divisors: their products are those of a product in lowest terms.
+#[inline(always)]
+fn crossed(x: Frac128, y: Frac128) -> Factors
+    ensures above { result.numerators.0 *ℤ result.numerators.1
+        ≡ product_above (fraction_of x) (fraction_of y) }
+    ensures below { result.denominators.0 * result.denominators.1
+        ≡ product_below (fraction_of x) (fraction_of y) }
+{
+    let g = common(x.numerator, y.denominator);
+    let h = common(y.numerator, x.denominator);
+    Factors {
+        numerators: (quotient(x.numerator, g), quotient(y.numerator, h)),
+        denominators: (
+            natural_quotient(x.denominator, h),
+            natural_quotient(y.denominator, g),
+        ),
+    }
+}
+
+/// The product of two whole numbers.
+#[inline(always)]
+fn product_of_wholes(x: Frac128, y: Frac128, limit: u128) -> Option<Frac128>
+    requires left { x.denominator ≡ 1 }
+    requires right { y.denominator ≡ 1 }
+    requires positive_limit { 0 < limit }
+    requires signed_limit { limit < 2 ^ 127 }
+    ensures { option_map fraction_of result ≡ product_within limit (fraction_of x) (fraction_of y) }
+{
+    let above = whole_product(x.numerator, y.numerator, limit)?;
+    Some(Frac128 {
+        numerator: above,
+        denominator: 1,
+    })
+}
+
+/// The product in lowest terms, where each of its quantities is within the limit.
+#[inline(always)]
+pub fn product(x: Frac128, y: Frac128, limit: u128) -> Option<Frac128>
+    requires positive_limit { 0 < limit }
+    requires signed_limit { limit < 2 ^ 127 }
+    ensures { option_map fraction_of result ≡ product_within limit (fraction_of x) (fraction_of y) }
+{
+    if x.denominator == 1 && y.denominator == 1 {
+        return product_of_wholes(x, y, limit);
+    }
+    let factors = crossed(x, y);
+    let above = whole_product(factors.numerators.0, factors.numerators.1, limit)?;
+    let below = natural_product(factors.denominators.0, factors.denominators.1, limit)?;
+    Some(Frac128 {
+        numerator: above,
+        denominator: below,
+    })
+}
+
+/// One divided by the fraction.
+#[inline(always)]
+pub fn inverted(x: Frac128) -> Frac128
+    requires { x.numerator ≢ pos 0 }
+    ensures { fraction_of result ≡ inverse (fraction_of x) }
+{
+    Frac128 {
+        numerator: with_sign_of(x.numerator, x.denominator),
+        denominator: x.numerator.unsigned_abs(),
+    }
+}

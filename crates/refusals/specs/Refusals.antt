@@ -1,0 +1,22 @@
+-- The refusals of a call, each with its condition, in the order in which they are tried.
+use Rattle.std.specs.Prelude.{◌≡◌, Bool, List, [], ◌∷◌, Option, Some, None, Result, Ok, Err, if◌then◌else◌}
+use Rattle.std.specs.Option.{option_map_or}
+
+-- the first refusal whose condition holds
+abbrev pub first_of : {R : Type 0} → List (Bool × R) → Option R
+first_of [] = None
+first_of (refusal ∷ others) = if refusal.0 then Some refusal.1 else first_of others
+
+-- the refusal that a call answers, by its name; an error without a name, as want of memory, is none
+abbrev pub refusal_in : {T E R : Type 0} → (E → Option R) → Result T E → Option R
+refusal_in name (Ok value) = None
+refusal_in name (Err error) = name error
+
+-- the refusals by their names
+abbrev pub named : {E R : Type 0} → (E → Option R) → List (Bool × E) → List (Bool × R)
+named name [] = []
+named name (refusal ∷ others) = option_map_or (λ r. (refusal.0, r) ∷ named name others) (name refusal.1) (named name others)
+
+-- the refusal that a call answers is the first whose condition holds
+abbrev pub TellsFirst : {T E R : Type 0} → (E → Option R) → Result T E → List (Bool × R) → Type 0
+TellsFirst name answer refusals = refusal_in name answer ≡ first_of refusals

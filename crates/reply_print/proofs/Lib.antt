@@ -1,0 +1,9 @@
+pub mod Plain
+pub mod Compact
+pub mod ReadBack
+pub mod Digits
+pub mod Ascii
+pub mod WrittenReplies
+pub mod LineLaws
+pub mod Pushes
+pub mod Nodes

@@ -1,0 +1,11 @@
+pub mod Piece
+pub mod PieceData
+pub mod Written
+pub mod Numbers
+pub mod Words
+pub mod BatchPieces
+pub mod OutcomePieces
+pub mod ReplyPieces
+pub mod Within
+pub mod CertificateMember
+pub mod Laws

@@ -1,0 +1,61 @@
+//! What a command line is answered.
+
+use crate::{Batch, Payouts};
+use cert_check::Outcome;
+
+/// What a command line is answered. Balances and amounts are in ticks.
+#[derive(Debug, Drop)]
+pub enum Reply {
+    /// The account is open.
+    Opened {
+        account: u32,
+    },
+    /// The amount was added; the new balance.
+    Deposited {
+        account: u32,
+        balance: i128,
+    },
+    /// The amount was taken; the new balance.
+    Withdrawn {
+        account: u32,
+        balance: i128,
+    },
+    /// The market is listed, on this number of underlyings.
+    Listed {
+        market: u32,
+        underlyings: u8,
+    },
+    /// The order is live, under its number.
+    Placed {
+        order: u64,
+    },
+    /// The order was taken out.
+    Cancelled {
+        order: u64,
+    },
+    /// The batch of this number was cleared.
+    Cleared {
+        number: u32,
+        market: u32,
+        batch: Batch,
+        outcome: Outcome,
+    },
+    /// The market is settled: how many live orders lapsed, and what each position was paid.
+    Settled {
+        market: u32,
+        lapsed: u32,
+        payouts: Payouts,
+    },
+    /// The balance of an account, and what of it is reserved for its live buys.
+    Balance {
+        account: u32,
+        balance: i128,
+        reserved: i128,
+    },
+    /// The line was refused, by the number of the refusal; `field` is 0 but where a field is out of
+    /// its range.
+    Refused {
+        number: u32,
+        field: u8,
+    },
+}

@@ -1,0 +1,10 @@
+use Rattle.std.proofs.Common.{ap, ◌∙◌}
+use Rattle.std.specs.List.{list_all}
+use Rattle.serde_json.specs.View.{view}
+use Rattle.reply_shape.specs.Look.{is_whole as whole_number}
+use Rattle.reply_shape.proofs.Items.{is_list-items}
+use Rattle.reply_shape.proofs.cleared_shape.are_whole.Goals as goal
+
+pub returns-in-Some : goal.returns-in-Some
+returns-in-Some c =
+    c.all_whole.ensures ∙ ap (list_all (λ v. whole_number (view v))) c.deref.ensures.value ∙ is_list-items whole_number (view c.args.value.now) c.in-Some.items.now.items c.in-Some.ensures

@@ -1,0 +1,5 @@
+pub mod Look
+pub mod Numbers
+pub mod Shape
+pub mod ClearedShape
+pub mod NumberTexts

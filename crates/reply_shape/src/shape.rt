@@ -1,0 +1,143 @@
+//! The shape of a line.
+ghost use Rattle.std.specs.Prelude.{◌≡◌, codes};
+ghost use Rattle.std.specs.List.{list_all};
+ghost use Rattle.serde_json.specs.View.{view};
+ghost use Rattle.reply_shape.specs.Look.{has_at, is_list};
+ghost use Rattle.reply_shape.specs.Shape.{opened_shape as opened_is, moved_shape as moved_is, listed_shape as listed_is, ordered_shape as ordered_is, paid_shape as paid_is, settled_shape as settled_is, balance_shape as balance_is, refused_shape as refused_is, refused_by, refused_as, has_its_field, shape_by as shape_is};
+
+use crate::cleared_shape::cleared_shape;
+use crate::look::{has_members, has_text, has_whole, has_word, number_at};
+use reply_print::words::reason;
+use serde_json::Value;
+
+fn opened_shape(value: &Value) -> bool
+    ensures { result ≡ opened_is (view value.now) }
+{
+    has_members(value, 3) && has_whole(value, "account") && has_whole(value, "line")
+}
+
+// Deposited and withdrawn.
+fn moved_shape(value: &Value) -> bool
+    ensures { result ≡ moved_is (view value.now) }
+{
+    has_members(value, 4)
+        && has_whole(value, "account")
+        && has_text(value, "balance")
+        && has_whole(value, "line")
+}
+
+fn listed_shape(value: &Value) -> bool
+    ensures { result ≡ listed_is (view value.now) }
+{
+    has_members(value, 4)
+        && has_whole(value, "line")
+        && has_whole(value, "market")
+        && has_whole(value, "underlyings")
+}
+
+// Placed and cancelled.
+fn ordered_shape(value: &Value) -> bool
+    ensures { result ≡ ordered_is (view value.now) }
+{
+    has_members(value, 3) && has_whole(value, "line") && has_whole(value, "order")
+}
+
+fn paid_shape(value: &Value) -> bool
+    ensures { result ≡ paid_is (view value.now) }
+{
+    has_members(value, 4)
+        && has_whole(value, "account")
+        && has_text(value, "amount")
+        && has_whole(value, "batch")
+        && has_whole(value, "order")
+}
+
+fn all_payouts(items: &[Value]) -> bool
+    ensures { result ≡ list_all (λ item. paid_is (view item)) items.now }
+{
+    items.iter().all(|item| paid_shape(item))
+}
+
+fn are_payouts(value: &Value) -> bool
+    ensures { result ≡ is_list paid_is (view value.now) }
+{
+    match value.as_array() {
+        Some(items) => all_payouts(items),
+        None => false,
+    }
+}
+
+fn has_payouts(value: &Value) -> bool
+    ensures { result ≡ has_at (codes "payouts") (is_list paid_is) (view value.now) }
+{
+    match value.get("payouts") {
+        Some(found) => are_payouts(found),
+        None => false,
+    }
+}
+
+fn settled_shape(value: &Value) -> bool
+    ensures { result ≡ settled_is (view value.now) }
+{
+    has_members(value, 5)
+        && has_whole(value, "lapsed")
+        && has_whole(value, "line")
+        && has_whole(value, "market")
+        && has_payouts(value)
+}
+
+fn balance_shape(value: &Value) -> bool
+    ensures { result ≡ balance_is (view value.now) }
+{
+    has_members(value, 5)
+        && has_whole(value, "account")
+        && has_text(value, "balance")
+        && has_whole(value, "line")
+        && has_text(value, "reserved")
+}
+
+fn has_field(value: &Value, is_range: bool) -> bool
+    ensures { result ≡ has_its_field is_range (view value.now) }
+{
+    if is_range {
+        has_members(value, 5) && has_whole(value, "field")
+    } else {
+        has_members(value, 4)
+    }
+}
+
+fn refused_shape(value: &Value) -> bool
+    ensures { result ≡ refused_is (view value.now) }
+{
+    let number = number_at(value, "number");
+    has_field(value, number == 8)
+        && has_whole(value, "line")
+        && 1 <= number
+        && number <= 13
+        && has_word(value, "reason", reason(number as u32))
+}
+
+/// Whether the value has the shape of the reply that this word names.
+pub fn has_shape(value: &Value, word: &str) -> bool
+    ensures { result ≡ shape_is word.now (view value.now) }
+{
+    if word == "opened" {
+        opened_shape(value)
+    } else if word == "deposited" || word == "withdrawn" {
+        moved_shape(value)
+    } else if word == "listed" {
+        listed_shape(value)
+    } else if word == "placed" || word == "cancelled" {
+        ordered_shape(value)
+    } else if word == "cleared" {
+        cleared_shape(value)
+    } else if word == "settled" {
+        settled_shape(value)
+    } else if word == "balance" {
+        balance_shape(value)
+    } else if word == "refused" {
+        refused_shape(value)
+    } else {
+        false
+    }
+}

@@ -1,0 +1,108 @@
+// What is taken out of the value of a line.
+ghost use Rattle.std.specs.Prelude.{◌≡◌, ◌≤◌, ◌<◌, ◌^◌, IfSome, codes, option_map, pos, unsigned_abs};
+ghost use Rattle.serde_json.specs.View.{view, items_view};
+ghost use Rattle.reply_shape.specs.Numbers.{natural_value, whole_value, signed_value};
+ghost use Rattle.reply_text.specs.BatchValues.{size_within, whole_from};
+ghost use Rattle.reply_text.specs.ReplyValues.{account_at as account_found, market_at as market_found, size_at as size_found};
+ghost use Rattle.reply_text.specs.Taking.{natural_at as natural_found, take_at, from_to as number_from_to, items_at as items_found};
+
+use form::MAX_UNDERLYINGS;
+use reply_shape::numbers::value_of_digits;
+use serde_json::Value;
+
+// The largest size of a part of a text.
+pub(crate) const LIMIT: u128 = (1 << 127) - 1;
+
+// The number of this size and sign, where the size is at most a bound.
+fn signed_within(is_negative: bool, digits: &[u8], bound: u128) -> Option<i128>
+    requires { bound < 2 ^ 127 }
+    ensures { result ≡ size_within bound (signed_value is_negative (natural_value digits.now)) }
+{
+    let size = value_of_digits(digits);
+    if size > bound {
+        return None;
+    }
+    let size = size as i128;
+    if is_negative { Some(-size) } else { Some(size) }
+}
+
+// The whole number of a text, where its size is at most a bound.
+pub(crate) fn whole_within(text: &[u8], bound: u128) -> Option<i128>
+    requires { bound < 2 ^ 127 }
+    ensures { result ≡ size_within bound (whole_value text.now) }
+{
+    match text {
+        [b'-', digits @ ..] => signed_within(true, digits, bound),
+        _ => signed_within(false, text, bound),
+    }
+}
+
+fn from_to(low: u64, high: u64, n: u64) -> Option<u64>
+    ensures value { result ≡ number_from_to low high n }
+    ensures within { IfSome result (λ m. m ≤ high) }
+{
+    if low <= n && n <= high { Some(n) } else { None }
+}
+
+// The natural number at a key, where it is from low to high.
+pub(crate) fn natural_at(value: &Value, low: u64, high: u64, key: &str) -> Option<u64>
+    ensures value { result ≡ natural_found low high key.now (view value.now) }
+    ensures within { IfSome result (λ n. n ≤ high) }
+{
+    let n = value.get(key).and_then(Value::as_u64)?;
+    from_to(low, high, n)
+}
+
+// The whole number of the text at a key, where its size is at most a bound.
+pub(crate) fn whole_at(value: &Value, key: &str, bound: u128) -> Option<i128>
+    requires { bound < 2 ^ 127 }
+    ensures { result ≡ take_at key.now (whole_from bound) (view value.now) }
+{
+    let text = value.get(key).and_then(Value::as_str)?;
+    whole_within(text.as_bytes(), bound)
+}
+
+pub(crate) fn account_at(value: &Value) -> Option<u32>
+    ensures { result ≡ account_found (view value.now) }
+{
+    let account = natural_at(value, 1, 999_999_999, "account")?;
+    Some(account as u32)
+}
+
+pub(crate) fn market_at(value: &Value) -> Option<u32>
+    ensures { result ≡ market_found (view value.now) }
+{
+    let market = natural_at(value, 1, 999_999_999, "market")?;
+    Some(market as u32)
+}
+
+pub(crate) fn size_at(value: &Value) -> Option<u8>
+    ensures { result ≡ size_found (view value.now) }
+{
+    let underlyings = natural_at(value, 1, u64::from(MAX_UNDERLYINGS), "underlyings")?;
+    Some(underlyings as u8)
+}
+
+// The number of a batch.
+pub(crate) fn batch_at(value: &Value) -> Option<u32>
+    ensures { result ≡ natural_found 1 2000000 (codes "batch") (view value.now) }
+{
+    let batch = natural_at(value, 1, 2_000_000, "batch")?;
+    Some(batch as u32)
+}
+
+// The number of an order.
+pub(crate) fn order_at(value: &Value) -> Option<u64>
+    ensures { result ≡ natural_found 1 1000000 (codes "order") (view value.now) }
+{
+    natural_at(value, 1, 1_000_000, "order")
+}
+
+// The items of the list at a key.
+pub(crate) fn items_at<'a>(value: &'a Value, key: &str) -> Option<&'a [Value]>
+    ensures { option_map (λ items. items_view items.now) result
+        ≡ items_found key.now (view value.now) }
+{
+    let items = value.get(key).and_then(Value::as_array)?;
+    Some(items.as_slice())
+}
