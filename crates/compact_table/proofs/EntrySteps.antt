@@ -8,7 +8,7 @@ use Rattle.exact_num.specs.Fits.{after, written_back}
 use Rattle.table_run.specs.Places.{at}
 use Rattle.table_run.specs.Choice.{first_below}
 use Rattle.exact_num.specs.Tests.{is_below_zero}
-use Rattle.table_run.specs.Pivot.{each, each_pair}
+use Rattle.table_run.specs.Pivot.{each_pair}
 
 -- the entry at i, and those after it
 pub front_of : {A B : Type 0} (value : A → B) (xs : List A) (i : ℕ) (x : A) → i < length xs → x ≡ slice_index_or xs i x → drop i (map value xs) ≡ value x ∷ drop (suc i) (map value xs)

@@ -1,6 +1,6 @@
 -- Steps at the places where the pivot row is not 0.
-use Rattle.std.proofs.Common.{◌≡◌, ℕ, zero, suc, ◌+◌, ◌<◌, ◌≤◌, List, [], ◌∷◌, ◌++◌, length, map, drop, set, true, false, Bool, refl, sym, ◌∙◌, ap, arith, append_assoc, add-one, length-set, pos}
-use Rattle.std.proofs.lemmas.List.{drop_all, length-map, map-set, length-append}
+use Rattle.std.proofs.Common.{◌≡◌, ℕ, zero, suc, ◌+◌, ◌<◌, ◌≤◌, List, [], ◌∷◌, ◌++◌, length, map, drop, set, true, false, Bool, refl, sym, ◌∙◌, ap, arith, append_assoc, add-one, pos}
+use Rattle.std.proofs.lemmas.List.{drop_all, length-map, length-append}
 use Rattle.std.specs.Prelude.{Result, Ok, Err, slice_index_or, if◌then◌else◌}
 use Rattle.exact_num.specs.declared.misfit.Wide.{Wide}
 use Rattle.exact_num.specs.Fraction.{Fraction, whole}
@@ -9,7 +9,7 @@ use Rattle.table_run.specs.Places.{at}
 use Rattle.table_run.specs.Pivot.{each_pair}
 use Rattle.compact_run.specs.Steps.{is_zero, short_less}
 use Rattle.compact_table.specs.Nonzero.{nonzero_from, nonzero_places, entry_after}
-use Rattle.compact_table.proofs.EntrySteps.{at-map, front_of, behind, behind_more}
+use Rattle.compact_table.proofs.EntrySteps.{front_of, behind, behind_more}
 
 -- ---- the list of the places
 pub passes_zero : {A : Type 0} (value : A → Fraction) (xs : List A) (j : ℕ) (x : A) (done all : List ℕ) → j < length xs → x ≡ slice_index_or xs j x → is_zero (value x) ≡ true

@@ -1,5 +1,5 @@
 -- What is read off a table of lists that are kept apart.
-use Rattle.std.proofs.Common.{◌≡◌, ℕ, zero, suc, ◌+◌, ◌<◌, ◌≤◌, List, [], ◌∷◌, length, map, take, true, false, Bool, nat_eq, refl, sym, ◌∙◌, ap, arith, pos}
+use Rattle.std.proofs.Common.{◌≡◌, ℕ, zero, suc, ◌+◌, ◌<◌, ◌≤◌, List, [], ◌∷◌, length, true, false, Bool, nat_eq, refl, sym, ap, arith, pos}
 use Rattle.std.specs.Prelude.{Some, None, if◌then◌else◌, cond, not, nat_lt, slice_index_or, position, ◌==◌}
 use Rattle.std.specs.List.{position_or_len}
 use Rattle.std.proofs.lemmas.List.Quantifiers.{position-Some}

@@ -1,6 +1,6 @@
 -- The parts of a turn.
 use Rattle.std.proofs.Common.{◌≡◌, ℕ, List, [], ◌∷◌, length, set, refl, sym, ◌∙◌, ap}
-use Rattle.std.specs.Prelude.{Result, Ok, Err, Option, Some, None, get_or, slice_index_or}
+use Rattle.std.specs.Prelude.{Result, Ok, Err, Some, None, get_or, slice_index_or}
 use Rattle.std.specs.List.{remove}
 use Rattle.exact_num.specs.declared.misfit.Wide.{Wide}
 use Rattle.exact_num.specs.Fraction.{Fraction}

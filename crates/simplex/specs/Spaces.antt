@@ -1,5 +1,5 @@
 -- What a space is to its callers.
-use Rattle.std.specs.Prelude.{◌≡◌, ℕ, ◌+◌, ◌<◌, ◌≤◌, List, [], length, unsigned_abs, Bool, true, false, Result, Ok, Err}
+use Rattle.std.specs.Prelude.{◌≡◌, ℕ, ◌+◌, ◌<◌, ◌≤◌, List, [], length, Bool, true, false, Result, Ok, Err}
 use Rattle.exact_num.specs.Fraction.{Fraction}
 use Rattle.table_run.specs.Places.{fraction_zero, listed}
 use Rattle.table_run.specs.Program.{LinearProgram}

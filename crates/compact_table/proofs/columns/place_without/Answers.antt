@@ -1,4 +1,4 @@
-use Rattle.std.proofs.Common.{◌≡◌, ◌≤◌, ◌<◌, ◌∙◌, sym, ap, arith, length, take, drop, suc, ◌+◌, ◌-◌, ℕ, List}
+use Rattle.std.proofs.Common.{◌≡◌, ◌∙◌, sym, ap, arith, length, take, drop, suc, ◌+◌, ◌-◌}
 use Rattle.std.proofs.lemmas.List.{length-take-le, take_all, length-drop}
 use Rattle.compact_run.specs.Compact.{place_for}
 use Rattle.compact_table.proofs.Among.{place_before, place_behind}

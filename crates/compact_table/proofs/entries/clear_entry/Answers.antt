@@ -1,4 +1,4 @@
-use Rattle.std.proofs.Common.{◌≡◌, ◌∙◌, sym, ap, map, unsigned_abs, set}
+use Rattle.std.proofs.Common.{◌∙◌, sym, ap, map, unsigned_abs, set}
 use Rattle.std.specs.Prelude.{Ok}
 use Rattle.std.proofs.lemmas.List.{map-set}
 use Rattle.exact_num.specs.Fraction.{Fraction}

@@ -1,13 +1,11 @@
-use Rattle.std.proofs.Common.{◌≡◌, ◌<◌, ◌∙◌, sym, ap, arith, length, map, unsigned_abs, slice_index_or, List, ℕ}
+use Rattle.std.proofs.Common.{◌≡◌, ◌<◌, ◌∙◌, ap, arith, length, map, unsigned_abs, slice_index_or, List, ℕ}
 use Rattle.std.proofs.lemmas.Result.{err_from_is_err_and}
 use Rattle.std.proofs.lemmas.List.{length-map}
-use Rattle.exact_num.specs.Fits.{written_back}
 use Rattle.compact_table.specs.Nonzero.{nonzero_places}
 use Rattle.compact_table.proofs.EntrySteps.{step_ok, step_stops}
 use Rattle.compact_table.proofs.Nonzero.{places_more, places_stop, places_end, place_inside, place_nonzero, each_at-nonzero, each_at}
 use Rattle.compact_run.specs.Steps.{is_zero, short_less}
 use Rattle.table_run.specs.Places.{at}
-use Rattle.std.specs.Prelude.{false}
 use Rattle.compact_table.proofs.entries.clear_row.Goals as goal
 
 pub clear_entry-requires-clause-inside : goal.clear_entry-requires-clause-inside

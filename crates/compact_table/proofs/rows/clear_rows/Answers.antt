@@ -1,4 +1,4 @@
-use Rattle.std.proofs.Common.{◌≡◌, ◌<◌, [], length, map, slice_index_or, unsigned_abs, length-set, refl, sym, ◌∙◌, ap, arith, set}
+use Rattle.std.proofs.Common.{◌≡◌, ◌<◌, [], length, slice_index_or, unsigned_abs, length-set, refl, sym, ◌∙◌, ap, arith, set}
 use Rattle.std.specs.Prelude.{Ok}
 use Rattle.std.proofs.lemmas.Result.{err_from_is_err_and}
 use Rattle.compact_run.specs.Turn.{short_cleared}

@@ -1,4 +1,4 @@
-use Rattle.std.proofs.Common.{◌≡◌, [], length, map, slice_index_or, unsigned_abs}
+use Rattle.std.proofs.Common.{◌≡◌, [], length, slice_index_or, unsigned_abs}
 use Rattle.compact_table.specs.Lists.{front}
 use Rattle.compact_table.proofs.ArenaSteps.{Cleared}
 use Rattle.compact_table.proofs.rows.clear_rows.Given as goal

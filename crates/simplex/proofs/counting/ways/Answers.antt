@@ -1,4 +1,4 @@
-use Rattle.std.proofs.Common.{◌≡◌, sym, ◌∙◌, refl, arith}
+use Rattle.std.proofs.Common.{sym, ◌∙◌, refl, arith}
 use Rattle.simplex.proofs.Choosing.{ways_none, next_ways, step_some, step_none, too_many}
 use Rattle.simplex.proofs.counting.ways.Goals as goal
 

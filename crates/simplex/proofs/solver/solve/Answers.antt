@@ -1,13 +1,12 @@
-use Rattle.std.proofs.Common.{◌≡◌, ◌<◌, ◌-◌, ◌∙◌, sym, ap, subst, arith, length, vec_len, unsigned_abs}
+use Rattle.std.proofs.Common.{◌<◌, ◌-◌, ◌∙◌, sym, ap, subst, unsigned_abs}
 use Rattle.std.specs.Prelude.{Ok, Err}
 use Rattle.std.proofs.lemmas.Result.{err_from_is_err_and}
 use Rattle.table_run.specs.Choose.{bases_of}
 use Rattle.table_run.specs.Program.{LinearProgram}
 use Rattle.table_run.specs.Run.{run}
 use Rattle.simplex.specs.Answers.{IsAnswer, HoldsOf}
-use Rattle.simplex.specs.Programs.{as_program}
 use Rattle.simplex.specs.Stops.{stop_of}
-use Rattle.simplex.specs.Spaces.{Contents, program_given, IsProgramGiven}
+use Rattle.simplex.specs.Spaces.{program_given, IsProgramGiven}
 use Rattle.simplex.proofs.SolveSteps.{solved_is, stop_is, budget_is, holds, err_same, has_optimum, has_direction}
 use Rattle.simplex.proofs.solver.solve.Goals as goal
 

@@ -1,12 +1,11 @@
-use Rattle.std.proofs.Common.{◌≡◌, ◌<◌, ◌+◌, ◌∙◌, sym, ap, arith, length, [], pos}
-use Rattle.std.specs.Prelude.{get_or, slice_index_or}
+use Rattle.std.proofs.Common.{◌≡◌, ◌<◌, ◌+◌, ◌∙◌, sym, ap, arith, length}
 use Rattle.std.proofs.lemmas.List.{length-map}
 use Rattle.exact_num.specs.Fraction.{negated}
 use Rattle.table_run.specs.Places.{at}
 use Rattle.compact_table.specs.Tables.{as_compact, lists_of}
 use Rattle.compact_table.specs.Lists.{front}
 use Rattle.compact_table.proofs.ArenaSteps.{any_default, at_fronts}
-use Rattle.compact_table.proofs.Reading.{at_front, place_inside, basic_found, basic_missing, entry_other}
+use Rattle.compact_table.proofs.Reading.{at_front, basic_found, basic_missing, entry_other}
 use Rattle.compact_table.proofs.table.Table.direction_at.Goals as goal
 
 pub returns-in-None : goal.returns-in-None

@@ -1,4 +1,4 @@
-use Rattle.std.proofs.Common.{◌≡◌, ◌<◌, ◌≤◌, ◌∙◌, sym, arith, length}
+use Rattle.std.proofs.Common.{◌<◌, ◌∙◌, sym, arith, length}
 use Rattle.std.proofs.lemmas.List.{length-map}
 use Rattle.compact_table.specs.Tables.{objective_of}
 use Rattle.compact_table.proofs.EntrySteps.{at-map}

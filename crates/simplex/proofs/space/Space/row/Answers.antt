@@ -1,4 +1,4 @@
-use Rattle.std.proofs.Common.{◌≡◌, ◌+◌, ◌<◌, ◌∙◌, sym, ap, subst, arith, length, map, unsigned_abs}
+use Rattle.std.proofs.Common.{◌≡◌, ◌+◌, ◌∙◌, sym, ap, subst, arith, length, map, unsigned_abs}
 use Rattle.std.proofs.lemmas.List.{length-map}
 use Rattle.exact_num.proofs.Units.{limit_at_least_one}
 use Rattle.table_run.specs.Program.{LinearProgram}
@@ -7,7 +7,7 @@ use Rattle.compact_run.specs.Laws.{IsProgramWithin}
 use Rattle.compact_table.specs.Lists.{front}
 use Rattle.compact_table.specs.Programs.{with_row}
 use Rattle.compact_table.specs.Tables.{program_in}
-use Rattle.simplex.specs.Spaces.{Workspace, workspace, given, program_given, contents_of, IsAt, IsBeingGiven}
+use Rattle.simplex.specs.Spaces.{Workspace, workspace, given, contents_of, IsAt, IsBeingGiven}
 use Rattle.simplex.specs.declared.stage.Stage.{Stage}
 use Rattle.simplex.proofs.SpaceSteps.{program_is_given, row_is_program, row_is_within}
 use Rattle.simplex.proofs.space.Space.row.Goals as goal

@@ -1,8 +1,8 @@
-use Rattle.std.proofs.Common.{◌≡◌, ◌-◌, ◌∙◌, sym, ap, arith, length, unsigned_abs}
-use Rattle.std.specs.Prelude.{Ok, Err}
+use Rattle.std.proofs.Common.{◌≡◌, ◌-◌, ◌∙◌, sym, ap, length, unsigned_abs}
+use Rattle.std.specs.Prelude.{Ok}
 use Rattle.exact_num.proofs.Units.{limit_at_least_one}
-use Rattle.table_run.specs.Ending.{Ending, done, unbounded}
-use Rattle.table_run.specs.Run.{Optimum, run}
+use Rattle.table_run.specs.Ending.{done, unbounded}
+use Rattle.table_run.specs.Run.{run}
 use Rattle.table_run.specs.Units.{units_of}
 use Rattle.table_run.proofs.Optima.{ends_are_as_said}
 use Rattle.compact_run.specs.Run.{compact_direction}

@@ -1,4 +1,4 @@
-use Rattle.std.proofs.Common.{◌≡◌, ◌+◌, ◌<◌, ◌∙◌, sym, ap, subst, arith, length, map, unsigned_abs}
+use Rattle.std.proofs.Common.{◌∙◌, sym, ap, subst, arith, unsigned_abs}
 use Rattle.exact_num.proofs.Units.{limit_at_least_one}
 use Rattle.table_run.specs.Program.{LinearProgram}
 use Rattle.table_run.specs.Optimum.{IsProgram}

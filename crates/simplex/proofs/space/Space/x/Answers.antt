@@ -2,7 +2,6 @@ use Rattle.std.proofs.Common.{◌<◌, ◌∙◌, sym, ap, subst, arith, length,
 use Rattle.table_run.specs.Places.{at}
 use Rattle.table_run.specs.Table.{right_side, where_basic}
 use Rattle.table_run.proofs.Ends.{listed_count, listed_at}
-use Rattle.exact_num.specs.Fraction.{Fraction}
 use Rattle.compact_table.specs.Tables.{as_compact}
 use Rattle.simplex.specs.Spaces.{Workspace, Contents, x_of}
 use Rattle.simplex.proofs.SpaceSteps.{optimum_is_there}
