@@ -2,7 +2,7 @@
 use Rattle.std.proofs.Common.{◌≡◌, ℕ, zero, suc, ◌+◌, ◌<◌, ◌≤◌, List, [], ◌∷◌, ◌++◌, length, map, take, sym, ◌∙◌, ap, arith, append_assoc}
 use Rattle.std.proofs.lemmas.List.{take_more, take_all, map-append}
 use Rattle.std.specs.Prelude.{slice_index_or}
-use Rattle.exact_num.specs.Fraction.{Fraction, negated}
+use Rattle.exact_num.specs.Fraction.{Fraction}
 use Rattle.table_run.specs.Places.{at, fraction_zero}
 
 -- x is entry i of xs, of which the first i stand at the end
@@ -16,9 +16,3 @@ pushed value old new x start xs i h is_new low same =
 
 pub all_pushed : {A : Type 0} (value : A → Fraction) (new : List A) (start xs : List Fraction) (i : ℕ) → map value new ≡ start ++ take i xs → length xs ≤ i → map value new ≡ start ++ xs
 all_pushed value new start xs i h high = h ∙ ap (λ (l : List Fraction). start ++ l) (take_all i xs high)
-
--- ---- what is pushed
-pub at-negated : {A : Type 0} (value : A → Fraction) (xs : List A) (i : ℕ) (x : A) → i < length xs → x ≡ slice_index_or xs i x → at (map negated (map value xs)) i ≡ negated (value x)
-at-negated value [] i x low at_x = absurd (omega arith)
-at-negated value (a ∷ xs) zero x low at_x = ap (λ y. negated (value y)) (sym at_x)
-at-negated value (a ∷ xs) (suc i) x low at_x = at-negated value xs i x (omega arith) at_x

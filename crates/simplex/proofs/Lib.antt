@@ -1,11 +1,6 @@
-pub mod Zeros
-pub mod Signs
-pub mod EntrySteps
-pub mod RatioSteps
-pub mod RowSteps
-pub mod TableSteps
 pub mod FillSteps
-pub mod RunSteps
-pub mod FirstSteps
 pub mod ReadSteps
+pub mod RunSteps
+pub mod SpaceSteps
 pub mod SolveSteps
+pub mod Choosing

@@ -2,31 +2,26 @@
 use Rattle.std.specs.Prelude.{◌≡◌, ℕ, map, Result, Ok, Err}
 use Rattle.exact_num.specs.Fraction.{Fraction}
 use Rattle.table_run.specs.Program.{LinearProgram}
-use Rattle.table_run.specs.Table.{Table}
 use Rattle.table_run.specs.Ending.{Ending, done, unbounded, wide_at, no_unit_left}
-use Rattle.table_run.specs.Run.{Optimum, optimum, read_off, direction}
+use Rattle.table_run.specs.Run.{Optimum, optimum}
 use Rattle.table_run.specs.Optimum.{IsOptimum, IsDirection}
-use Rattle.simplex.specs.declared.run.End.{End}
-use Rattle.simplex.specs.declared.run.End.TheVariants.{Optimal as AtOptimum, Unbounded as AtNoLimit}
-use Rattle.simplex.specs.declared.stop.RunStop.{RunStop}
-use Rattle.simplex.specs.declared.stop.RunStop.TheVariants.{Wide as RunWide, Budget as RunBudget}
+use Rattle.simplex.specs.Spaces.{Contents, found, rising}
 use Rattle.simplex.specs.declared.solved.Solved.{Solved}
 use Rattle.simplex.specs.declared.solved.Solved.TheVariants.{Optimal, Unbounded}
 use Rattle.simplex.specs.declared.stop.Stop.{Stop}
 use Rattle.simplex.specs.declared.stop.Stop.TheVariants.{Wide, Budget, Memory}
-
--- how the run of n variables and m rows ended, with the units spent and the table at the end
-abbrev pub ending_of : ℕ → ℕ → Result End RunStop → ℕ → Table → Ending Optimum
-ending_of n m (Ok AtOptimum) spent t = read_off n m t spent
-ending_of n m (Ok (AtNoLimit e)) spent t = unbounded (direction n e t) spent
-ending_of n m (Err (RunWide unit wide)) spent t = wide_at spent wide
-ending_of n m (Err RunBudget) spent t = no_unit_left spent
 
 -- the end that is read off, with the units spent
 abbrev pub solved_ending : {A : Type 0} → (A → Fraction) → Solved A → ℕ → Ending Optimum
 solved_ending value (Optimal x y reduced v) spent =
     done (optimum (map value x.items) (map value y.items) (map value reduced.items) (value v)) spent
 solved_ending value (Unbounded d) spent = unbounded (map value d.items) spent
+
+-- the same, as what stands in a space after the run
+abbrev pub solved_contents : {A : Type 0} → (A → Fraction) → Solved A → Contents
+solved_contents value (Optimal x y reduced v) =
+    found (optimum (map value x.items) (map value y.items) (map value reduced.items) (value v))
+solved_contents value (Unbounded d) = rising (map value d.items)
 
 -- the answer of a call is the end of the run, and the units are those spent; want of memory says nothing. What a value of the
 -- call ends a run with is `end_with`

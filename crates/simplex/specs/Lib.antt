@@ -1,6 +1,5 @@
 pub mod Stops
 pub mod Programs
-pub mod Rows
-pub mod Candidates
-pub mod Tables
+pub mod Ends
+pub mod Spaces
 pub mod Answers

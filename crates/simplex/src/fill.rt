@@ -1,32 +1,10 @@
-//! The entries of a table, as it is built.
+//! Rows of numbers, filled from their front on.
 ghost use Rattle.std.specs.Prelude.{◌≡◌, ◌++◌, IfOk, OnOk, map, replicate, vec_len};
-ghost use Rattle.exact_num.specs.Fraction.{negated};
 ghost use Rattle.table_run.specs.Places.{fraction_zero};
 ghost use Rattle.table_run.specs.Table.{unit_row};
 
 use exact_num::Exact;
 use std::alloc::{AllocError, Global};
-
-/// Adds the entries at the end.
-pub fn push_entries<N: Exact>(row: &mut Vec<N>, entries: &[N]) -> Result<(), AllocError>
-    ensures { OnOk result (row.new.items ≡ row.old.items ++ entries.now) }
-{
-    for entry in entries {
-        row.push(*entry)?;
-    }
-    Ok(())
-}
-
-/// Adds the entries with their signs turned.
-pub fn push_negated<N: Exact>(row: &mut Vec<N>, entries: &[N]) -> Result<(), AllocError>
-    ensures { OnOk result (map N.fraction row.new.items
-        ≡ map N.fraction row.old.items ++ map negated (map N.fraction entries.now)) }
-{
-    for entry in entries {
-        row.push(entry.neg())?;
-    }
-    Ok(())
-}
 
 /// Adds `count` zeros.
 pub fn push_zeros<N: Exact>(row: &mut Vec<N>, count: usize) -> Result<(), AllocError>

@@ -1,40 +1,102 @@
 //! The solver.
-ghost use Rattle.std.specs.Prelude.{◌≡◌, ◌+◌, ◌-◌, ◌*◌, ◌<◌, ◌≤◌, ℕ, unsigned_abs, vec_len};
+ghost use Rattle.std.specs.Prelude.{◌≡◌, ◌-◌, ◌*◌, ◌<◌, ◌≤◌, Err, IfOk, length, map, unsigned_abs, vec_len};
 ghost use Rattle.std.specs.List.{All};
 ghost use Rattle.table_run.specs.Choose.{bases_of};
 ghost use Rattle.exact_num.specs.Fraction.{IsNotBelowZero};
-ghost use Rattle.table_run.specs.Ending.{unbounded};
-ghost use Rattle.table_run.specs.Run.{direction, read_off, run as run_of};
-ghost use Rattle.simplex.specs.Answers.{HoldsOf, IsAnswer, solved_ending};
+ghost use Rattle.table_run.specs.Run.{run as run_of};
+ghost use Rattle.simplex.specs.Answers.{HoldsOf, IsAnswer, solved_contents};
 ghost use Rattle.simplex.specs.Programs.{as_program};
-ghost use Rattle.simplex.specs.Tables.{as_table};
+ghost use Rattle.simplex.specs.Spaces.{given, IsFound, IsRising, x_of, y_of, reduced_of, direction_of};
 
 use crate::budget::Budget;
 use crate::fill::zeros;
 use crate::program::Program;
-use crate::run::{End, run};
 use crate::solved::Solved;
+use crate::space::Space;
 use crate::stop::Stop;
-use crate::table::Table;
 use exact_num::Exact;
-use std::alloc::Global;
+use std::alloc::{AllocError, Global};
 
-/// The optimum, read off a table that has no entering column, in place of the entries of `x`, `y`
-/// and `reduced`.
+/// A space in which the program is given.
+fn filled<N: Exact>(alloc: Global, program: &Program<N>) -> Result<Space<N>, AllocError>
+    requires coefficients { vec_len program.now.a ≡ program.now.m * program.now.n }
+    requires right_sides { vec_len program.now.b ≡ program.now.m }
+    requires costs { vec_len program.now.c ≡ program.now.n }
+    requires variables { program.now.n ≤ 100000 }
+    requires not_below_zero { All (λ b. IsNotBelowZero (N.fraction b)) program.now.b.items }
+    ensures { IfOk result (λ space. space.contents ≡ given (as_program N.fraction program.now)) }
+{
+    let mut space = Space::with_room(alloc, program.m, program.n)?;
+    space.start(program.c.as_slice());
+    let mut left = program.a.as_slice();
+    for i in 0..program.m {
+        let (coefficients, others) = left.split_at(program.n);
+        space.row(coefficients, program.b[i]);
+        left = others;
+    }
+    Ok(space)
+}
+
+/// Writes the values of the variables into `x`.
+fn write_solution<N: Exact>(space: &Space<N>, x: &mut [N])
+    requires found { IsFound space.now.contents }
+    requires width { length x.old ≡ length (x_of space.now.contents) }
+    ensures { map N.fraction x.new ≡ x_of space.now.contents }
+{
+    for j in 0..x.len() {
+        x[j] = space.x(j);
+    }
+}
+
+/// Writes the dual values of the rows into `y`.
+fn write_dual<N: Exact>(space: &Space<N>, y: &mut [N])
+    requires found { IsFound space.now.contents }
+    requires width { length y.old ≡ length (y_of space.now.contents) }
+    ensures { map N.fraction y.new ≡ y_of space.now.contents }
+{
+    for i in 0..y.len() {
+        y[i] = space.y(i);
+    }
+}
+
+/// Writes the reduced costs of the variables into `reduced`.
+fn write_reduced<N: Exact>(space: &Space<N>, reduced: &mut [N])
+    requires found { IsFound space.now.contents }
+    requires width { length reduced.old ≡ length (reduced_of space.now.contents) }
+    ensures { map N.fraction reduced.new ≡ reduced_of space.now.contents }
+{
+    for j in 0..reduced.len() {
+        reduced[j] = space.reduced(j);
+    }
+}
+
+/// Writes the direction into `d`.
+fn write_direction<N: Exact>(space: &Space<N>, d: &mut [N])
+    requires { length d.old ≡ length (direction_of space.now.contents) }
+    ensures { map N.fraction d.new ≡ direction_of space.now.contents }
+{
+    for j in 0..d.len() {
+        d[j] = space.direction(j);
+    }
+}
+
+/// The optimum that a run found, in place of the entries of `x`, `y` and `reduced`.
 fn optimum<N: Exact>(
-    table: &Table<N>,
+    space: &Space<N>,
     mut x: Vec<N>,
     mut y: Vec<N>,
     mut reduced: Vec<N>,
 ) -> Solved<N>
-    requires reduced { vec_len reduced ≡ vec_len x }
-    requires columns { vec_len x + vec_len y ≡ table.now.columns }
-    ensures { (spent : ℕ) → solved_ending N.fraction result spent
-        ≡ read_off (vec_len x) (vec_len y) (as_table N.fraction table.now) spent }
+    requires found { IsFound space.now.contents }
+    requires x { vec_len x ≡ length (x_of space.now.contents) }
+    requires y { vec_len y ≡ length (y_of space.now.contents) }
+    requires reduced { vec_len reduced ≡ length (reduced_of space.now.contents) }
+    ensures { solved_contents N.fraction result ≡ space.now.contents }
 {
-    table.write_solution(x.as_mut_slice());
-    table.write_dual(reduced.as_mut_slice(), y.as_mut_slice());
-    let value = table.value();
+    write_solution(space, x.as_mut_slice());
+    write_dual(space, y.as_mut_slice());
+    write_reduced(space, reduced.as_mut_slice());
+    let value = space.value();
     Solved::Optimal {
         x,
         y,
@@ -43,13 +105,13 @@ fn optimum<N: Exact>(
     }
 }
 
-/// The direction, read off a table where nothing limits column `e`, in place of the entries of `x`.
-fn without_limit<N: Exact>(table: &Table<N>, e: usize, mut x: Vec<N>) -> Solved<N>
-    requires { e < table.now.columns }
-    ensures { (spent : ℕ) → solved_ending N.fraction result spent
-        ≡ unbounded (direction (vec_len x) e (as_table N.fraction table.now)) spent }
+/// The direction that a run ended with, in place of the entries of `x`.
+fn without_limit<N: Exact>(space: &Space<N>, mut x: Vec<N>) -> Solved<N>
+    requires rising { IsRising space.now.contents }
+    requires x { vec_len x ≡ length (direction_of space.now.contents) }
+    ensures { solved_contents N.fraction result ≡ space.now.contents }
 {
-    table.write_direction(e, x.as_mut_slice());
+    write_direction(space, x.as_mut_slice());
     Solved::Unbounded { direction: x }
 }
 
@@ -81,12 +143,13 @@ pub fn solve<N: Exact>(
     ensures memory { result ≡ Err Stop.Memory → budget.new.spent ≡ budget.old.spent }
     ensures limit { budget.new.limit ≡ budget.old.limit }
 {
-    let mut table = Table::new(alloc, program)?;
+    let mut space = filled(alloc, program)?;
     let x = zeros(alloc, program.n)?;
     let y = zeros(alloc, program.m)?;
     let reduced = zeros(alloc, program.n)?;
-    match run(&mut table, budget)? {
-        End::Optimal => Ok(optimum(&table, x, y, reduced)),
-        End::Unbounded { column } => Ok(without_limit(&table, column, x)),
+    if space.run(budget)? {
+        Ok(optimum(&space, x, y, reduced))
+    } else {
+        Ok(without_limit(&space, x))
     }
 }

@@ -4,7 +4,7 @@ use anyhow::{Context, Result, ensure};
 use case_texts::{is_none_below_zero, numbers, print_number, print_wide};
 use exact_num::Exact;
 use frac::Frac128;
-use simplex::{Budget, Program, Solved, Stop, solve};
+use simplex::{Budget, Program, Solved, Stop, choices, solve};
 use std::alloc::{AllocError, Global};
 
 fn print_numbers(text: &mut String, numbers: &[Frac128]) -> Result<(), AllocError> {
@@ -75,4 +75,22 @@ fn each_case_ends_as_it_says(rt: HostRuntime) -> Result<()> {
         assert_eq!(rt; found.as_str(), end, "{name}");
     }
     Ok(())
+}
+
+#[test]
+fn the_ways_to_choose_are_counted(rt: HostRuntime) {
+    let cases = [
+        (3, 5, Some(56)),
+        (6, 10, Some(8008)),
+        (0, 7, Some(1)),
+        (7, 0, Some(1)),
+        (33, 33, Some(7219428434016265740)),
+        (34, 33, None),
+        (100000, 100000, None),
+    ];
+    for (variables, rows, number) in cases {
+        assert!(rt; variables <= 100000, "too many variables");
+        assert!(rt; rows <= 100000, "too many rows");
+        assert_eq!(rt; choices(variables, rows), number, "{variables} and {rows}");
+    }
 }

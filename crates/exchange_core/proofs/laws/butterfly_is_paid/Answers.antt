@@ -6,10 +6,11 @@ use Rattle.frac.specs.ValueOf.{value_of}
 use Rattle.line_cover.specs.Breakpoints.{insert, in_rising_price}
 use Rattle.master_program.specs.Master.{master_steps}
 use Rattle.master_program.specs.Reading.{reading_steps}
+use Rattle.master_program.specs.Solve.{solve_steps}
 use Rattle.rounds.specs.Run.{joint_run}
 use Rattle.clearing.specs.Outcome.{optimal_outcome, outcome_of}
 use Rattle.exchange_core.proofs.laws.butterfly_is_paid.Goals as goal
 
 pub returns : goal.returns
-unfolding outcome_of optimal_outcome joint_run insert in_rising_price master_steps reading_steps table_run operations form_of value_of
+unfolding outcome_of optimal_outcome joint_run insert in_rising_price solve_steps master_steps reading_steps table_run operations form_of value_of
 returns c = refl

@@ -1,6 +1,6 @@
 use Rattle.std.proofs.Common.{◌<◌, length, map, drop, unsigned_abs, arith, ap, ◌∙◌}
 use Rattle.form.specs.States.{vector_of}
-use Rattle.simplex.proofs.EntrySteps.{at-map}
+use Rattle.compact_table.proofs.EntrySteps.{at-map}
 use Rattle.measure.specs.Points.{point_of}
 use Rattle.master_program.specs.Reading.{liability_of}
 use Rattle.rounds.proofs.ReadOff.{read_is}

@@ -1,71 +1,84 @@
-use Rattle.std.proofs.Common.{ℕ, ◌∙◌, sym, ap, arith, vec_len}
-use Rattle.std.specs.Prelude.{Ok}
+use Rattle.std.proofs.Common.{◌≡◌, ◌<◌, ◌-◌, ◌∙◌, sym, ap, subst, arith, length, vec_len, unsigned_abs}
+use Rattle.std.specs.Prelude.{Ok, Err}
 use Rattle.std.proofs.lemmas.Result.{err_from_is_err_and}
-use Rattle.table_run.specs.Table.{Table, first_table}
-use Rattle.table_run.specs.Ending.{unbounded}
-use Rattle.table_run.specs.Run.{read_off, direction}
+use Rattle.table_run.specs.Choose.{bases_of}
+use Rattle.table_run.specs.Program.{LinearProgram}
+use Rattle.table_run.specs.Run.{run}
+use Rattle.simplex.specs.Answers.{IsAnswer, HoldsOf}
 use Rattle.simplex.specs.Programs.{as_program}
-use Rattle.simplex.specs.Tables.{as_table}
-use Rattle.simplex.specs.Answers.{ending_of}
-use Rattle.simplex.proofs.SolveSteps.{is_program, run_is, stop_answers, stop_enough, err_same, holds}
+use Rattle.simplex.specs.Stops.{stop_of}
+use Rattle.simplex.specs.Spaces.{Contents, program_given, IsProgramGiven}
+use Rattle.simplex.proofs.SolveSteps.{solved_is, stop_is, budget_is, holds, err_same, has_optimum, has_direction}
 use Rattle.simplex.proofs.solver.solve.Goals as goal
+
+pub run-requires : goal.run-requires
+run-requires g c = subst IsProgramGiven (sym c.in_ok-space.ensures) tt
 
 pub returns-in_err-run-clause-run : goal.returns-in_err-run-clause-run
 returns-in_err-run-clause-run g c =
     let q = err_from_is_err_and c.from_residual-in_err-run.result c.from_residual-in_err-run.ensures.1 in
-    let p = c.args.program.now in
-    let ends = run_is _ (as_program g.N.Exact.fraction p) _ _ _ _ c.in_ok-table.ensures (c.run.ensures.run p.n p.m) in
-    rw (q.1, q.2) (stop_answers g.N.Exact.fraction p.n p.m c.run.new.budget.spent _ _ c.run.result c.in_err-run.field-0.0 c.in_err-run.was ends c.run.ensures.unit)
+    let value = g.N.Exact.fraction in
+    let left = c.args.budget.now.limit - c.args.budget.now.spent in
+    let spent = c.args.budget.now.spent in
+    let same = ap program_given c.in_ok-space.ensures in
+    let E = run (unsigned_abs g.N.Exact.LIMIT) (program_given c.in_ok-space.space.contents) left spent in
+    let told = stop_is value E c.in_err-run.field-0.0 c.run.new.budget.spent (sym c.in_err-run.was ∙ c.run.ensures.answer) c.run.ensures.units in
+    rw (q.1, q.2) (subst (λ (p : LinearProgram). IsAnswer value (run (unsigned_abs g.N.Exact.LIMIT) p left spent) (Err (stop_of c.in_err-run.field-0.0)) c.run.new.budget.spent) same told)
 
 pub returns-in_err-run-clause-enough : goal.returns-in_err-run-clause-enough
 returns-in_err-run-clause-enough g c out =
     let q = err_from_is_err_and c.from_residual-in_err-run.result c.from_residual-in_err-run.ensures.1 in
-    let p = c.args.program.now in
-    let program = is_program g.N.Exact.fraction p g.met.N.Exact.lowest c.requires.coefficients c.requires.right_sides c.requires.costs c.requires.not_below_zero in
-    let ends = run_is _ (as_program g.N.Exact.fraction p) _ _ _ _ c.in_ok-table.ensures (c.run.ensures.run p.n p.m) in
-    stop_enough _ _ _ p.n p.m c.run.new.budget.spent _ _ c.run.result c.in_err-run.field-0.0 program c.in_err-run.was ends (sym q.2 ∙ err_same c.from_residual-in_err-run.result _ _ q.1 out)
+    let same = ap program_given c.in_ok-space.ensures in
+    let stop = budget_is c.in_err-run.field-0.0 (sym q.2 ∙ err_same c.from_residual-in_err-run.result _ _ q.1 out) in
+    let low = c.run.ensures.enough (c.in_err-run.was ∙ ap Err stop) in
+    subst (λ (p : LinearProgram). c.args.budget.now.limit - c.args.budget.now.spent < bases_of p) same low
 
-pub optimum-requires-clause-columns : goal.optimum-requires-clause-columns
-unfolding first_table
-optimum-requires-clause-columns g c =
-    let columns = c.run.ensures.columns ∙ ap (λ (t : Table). t.columns) c.in_ok-table.ensures in
-    omega (arith, columns, c.in_ok-x.ensures, c.in_ok-y.ensures)
+pub optimum-requires-clause-x : goal.optimum-requires-clause-x
+optimum-requires-clause-x g c =
+    let E = run (unsigned_abs g.N.Exact.LIMIT) (program_given c.in_ok-space.space.contents) (c.args.budget.now.limit - c.args.budget.now.spent) c.args.budget.now.spent in
+    let same = ap program_given c.in_ok-space.ensures in
+    let told = sym (c.in_ok-run.was ∙ ap Ok c.if-branch.true) ∙ c.run.ensures.answer in
+    let there = has_optimum (program_given c.in_ok-space.space.contents) E c.run.new.self.contents c.run.ensures.holds told c.run.ensures.contents in
+    c.in_ok-x.ensures ∙ sym (there.x ∙ ap (λ (p : LinearProgram). p.variables) same)
 
-pub returns-in-Optimal-clause-run : goal.returns-in-Optimal-clause-run
-returns-in-Optimal-clause-run g c =
-    let p = c.args.program.now in
-    let t = as_table g.N.Exact.fraction c.run.new.table in
-    let spent = c.run.new.budget.spent in
-    let ends = run_is _ (as_program g.N.Exact.fraction p) _ _ _ _ c.in_ok-table.ensures (c.run.ensures.run p.n p.m) in
-    let was = ap (λ r. ending_of p.n p.m r spent t) (c.in_ok-run.was ∙ ap Ok c.in-Optimal.is) in
-    sym (
-    c.optimum.ensures spent
-    ∙ ap (λ (k : ℕ). read_off k (vec_len c.in_ok-y.y) t spent) c.in_ok-x.ensures
-    ∙ ap (λ (k : ℕ). read_off p.n k t spent) c.in_ok-y.ensures
-    ∙ sym was ∙ ends
-    )
+pub optimum-requires-clause-y : goal.optimum-requires-clause-y
+optimum-requires-clause-y g c =
+    let E = run (unsigned_abs g.N.Exact.LIMIT) (program_given c.in_ok-space.space.contents) (c.args.budget.now.limit - c.args.budget.now.spent) c.args.budget.now.spent in
+    let same = ap program_given c.in_ok-space.ensures in
+    let told = sym (c.in_ok-run.was ∙ ap Ok c.if-branch.true) ∙ c.run.ensures.answer in
+    let there = has_optimum (program_given c.in_ok-space.space.contents) E c.run.new.self.contents c.run.ensures.holds told c.run.ensures.contents in
+    c.in_ok-y.ensures ∙ sym (there.y ∙ ap (λ (p : LinearProgram). p.rows) same)
 
-pub returns-in-Optimal-clause-holds : goal.returns-in-Optimal-clause-holds
-returns-in-Optimal-clause-holds g c =
-    let p = c.args.program.now in
-    let program = is_program g.N.Exact.fraction p g.met.N.Exact.lowest c.requires.coefficients c.requires.right_sides c.requires.costs c.requires.not_below_zero in
-    holds g.N.Exact.fraction _ _ _ c.run.new.budget.spent (as_program g.N.Exact.fraction p) c.optimum.result program (returns-in-Optimal-clause-run g c)
+pub optimum-requires-clause-reduced : goal.optimum-requires-clause-reduced
+optimum-requires-clause-reduced g c =
+    let E = run (unsigned_abs g.N.Exact.LIMIT) (program_given c.in_ok-space.space.contents) (c.args.budget.now.limit - c.args.budget.now.spent) c.args.budget.now.spent in
+    let same = ap program_given c.in_ok-space.ensures in
+    let told = sym (c.in_ok-run.was ∙ ap Ok c.if-branch.true) ∙ c.run.ensures.answer in
+    let there = has_optimum (program_given c.in_ok-space.space.contents) E c.run.new.self.contents c.run.ensures.holds told c.run.ensures.contents in
+    c.in_ok-reduced.ensures ∙ sym (there.reduced ∙ ap (λ (p : LinearProgram). p.variables) same)
 
-pub returns-clause-run : goal.returns-clause-run
-returns-clause-run g c =
-    let p = c.args.program.now in
-    let t = as_table g.N.Exact.fraction c.run.new.table in
-    let spent = c.run.new.budget.spent in
-    let ends = run_is _ (as_program g.N.Exact.fraction p) _ _ _ _ c.in_ok-table.ensures (c.run.ensures.run p.n p.m) in
-    let was = ap (λ r. ending_of p.n p.m r spent t) (c.in_ok-run.was ∙ ap Ok c.in-Unbounded.is) in
-    sym (
-    c.without_limit.ensures spent
-    ∙ ap (λ (k : ℕ). unbounded (direction k c.in-Unbounded.column t) spent) c.in_ok-x.ensures
-    ∙ sym was ∙ ends
-    )
+pub without_limit-requires-clause-x : goal.without_limit-requires-clause-x
+without_limit-requires-clause-x g c =
+    let E = run (unsigned_abs g.N.Exact.LIMIT) (program_given c.in_ok-space.space.contents) (c.args.budget.now.limit - c.args.budget.now.spent) c.args.budget.now.spent in
+    let same = ap program_given c.in_ok-space.ensures in
+    let told = sym (c.in_ok-run.was ∙ ap Ok c.if-branch.false) ∙ c.run.ensures.answer in
+    let there = has_direction (program_given c.in_ok-space.space.contents) E c.run.new.self.contents c.run.ensures.holds told c.run.ensures.contents in
+    c.in_ok-x.ensures ∙ sym (there.direction ∙ ap (λ (p : LinearProgram). p.variables) same)
+
+pub returns-then-branch-clause-holds : goal.returns-then-branch-clause-holds
+returns-then-branch-clause-holds g c =
+    let E = run (unsigned_abs g.N.Exact.LIMIT) (program_given c.in_ok-space.space.contents) (c.args.budget.now.limit - c.args.budget.now.spent) c.args.budget.now.spent in
+    let same = ap program_given c.in_ok-space.ensures in
+    let solved = c.optimum.result in
+    let after = c.run.new.budget.spent in
+    let end = solved_is g.N.Exact.fraction E solved after (c.optimum.ensures ∙ c.run.ensures.contents) c.run.ensures.units in
+    subst (λ (p : LinearProgram). HoldsOf g.N.Exact.fraction p (Ok solved)) same (holds g.N.Exact.fraction (program_given c.in_ok-space.space.contents) E solved after c.run.ensures.holds end)
 
 pub returns-clause-holds : goal.returns-clause-holds
 returns-clause-holds g c =
-    let p = c.args.program.now in
-    let program = is_program g.N.Exact.fraction p g.met.N.Exact.lowest c.requires.coefficients c.requires.right_sides c.requires.costs c.requires.not_below_zero in
-    holds g.N.Exact.fraction _ _ _ c.run.new.budget.spent (as_program g.N.Exact.fraction p) c.without_limit.result program (returns-clause-run g c)
+    let E = run (unsigned_abs g.N.Exact.LIMIT) (program_given c.in_ok-space.space.contents) (c.args.budget.now.limit - c.args.budget.now.spent) c.args.budget.now.spent in
+    let same = ap program_given c.in_ok-space.ensures in
+    let solved = c.without_limit.result in
+    let after = c.run.new.budget.spent in
+    let end = solved_is g.N.Exact.fraction E solved after (c.without_limit.ensures ∙ c.run.ensures.contents) c.run.ensures.units in
+    subst (λ (p : LinearProgram). HoldsOf g.N.Exact.fraction p (Ok solved)) same (holds g.N.Exact.fraction (program_given c.in_ok-space.space.contents) E solved after c.run.ensures.holds end)

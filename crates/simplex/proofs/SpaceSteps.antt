@@ -1,0 +1,194 @@
+-- A program that is given to a space, and what its run tells.
+use Rattle.std.proofs.Common.{◌≡◌, ℕ, zero, suc, ◌+◌, ◌*◌, ◌<◌, ◌≤◌, List, [], ◌∷◌, ◌++◌, length, map, pos, unsigned_abs, true, false, refl, sym, ◌∙◌, ap, subst, arith}
+use Rattle.std.specs.Prelude.{Result, Ok, Err}
+use Rattle.std.proofs.lemmas.Int.{ints}
+use Rattle.std.proofs.lemmas.List.{length-map, length-append}
+use Rattle.exact_num.specs.declared.misfit.Wide.{Wide}
+use Rattle.exact_num.specs.Fraction.{Fraction, IsLowest, IsNotBelowZero}
+use Rattle.exact_num.specs.Laws.{IsWithin}
+use Rattle.exact_num.proofs.Values.{whole_is_lowest}
+use Rattle.table_run.specs.Places.{at, fraction_zero, listed}
+use Rattle.table_run.specs.Program.{LinearProgram}
+use Rattle.table_run.specs.Ending.{Ending, done, unbounded, wide_at, no_unit_left}
+use Rattle.table_run.specs.Run.{Optimum, optimum, run}
+use Rattle.table_run.specs.Optimum.{IsProgram, IsAsSaid}
+use Rattle.table_run.specs.Choose.{bases_of}
+use Rattle.table_run.specs.Units.{units_of}
+use Rattle.table_run.proofs.Suffice.{units_suffice}
+use Rattle.compact_run.specs.Compact.{CompactTable, compact_first}
+use Rattle.compact_run.specs.Laws.{IsProgramWithin}
+use Rattle.compact_run.specs.Run.{compact_read_off, compact_direction, compact_run, compact_run_from}
+use Rattle.compact_run.proofs.Runs.{same_runs}
+use Rattle.compact_table.specs.Programs.{empty_program, with_row}
+use Rattle.simplex.specs.declared.run.End.{End}
+use Rattle.simplex.specs.declared.stop.RunStop.{RunStop}
+use Rattle.simplex.specs.declared.stop.RunStop.TheVariants.{Wide as RunWide, Budget as RunBudget}
+use Rattle.simplex.specs.Ends.{ending_of}
+use Rattle.compact_table.specs.declared.table.Table.{Table}
+use Rattle.compact_table.specs.Lists.{front}
+use Rattle.compact_table.specs.Tables.{as_compact, program_in, SameShape}
+use Rattle.simplex.specs.declared.stage.Stage.{Stage}
+use Rattle.simplex.specs.declared.stage.Stage.TheVariants.{Empty, Given, Optimal, Unbounded, Stopped}
+use Rattle.simplex.specs.Spaces.{Contents, found, rising, stopped, answer_of, contents_after, optimum_in, contents_of, program_given, IsProgramGiven, IsFound, IsAt, IsBeingGiven, direction_of}
+
+-- ---- numbers of the code
+at_value : {A : Type 0} (P : Fraction → Type 0) (value : A → Fraction) → P fraction_zero → ((a : A) → P (value a)) → (xs : List A) (j : ℕ) → P (at (map value xs) j)
+at_value P value z h [] j = z
+at_value P value z h (x ∷ xs) zero = h x
+at_value P value z h (x ∷ xs) (suc j) = at_value P value z h xs j
+
+pub lowest_entries : {A : Type 0} (value : A → Fraction) → ((a : A) → IsLowest (value a)) → (xs : List A) (j : ℕ) → IsLowest (at (map value xs) j)
+lowest_entries value low xs j = at_value IsLowest value (whole_is_lowest (pos 0)) low xs j
+
+zero_within : (limit : ℕ) → 1 ≤ limit → IsWithin limit fraction_zero
+zero_within limit one = record { above = omega arith; below = one }
+
+within_entries : {A : Type 0} (value : A → Fraction) (limit : ℕ) → 1 ≤ limit → ((a : A) → IsWithin limit (value a)) → (xs : List A) (j : ℕ) → IsWithin limit (at (map value xs) j)
+within_entries value limit one h xs j = at_value (IsWithin limit) value (zero_within limit one) h xs j
+
+both_at : (P : Fraction → Type 0) (xs ys : List Fraction) → ((j : ℕ) → P (at xs j)) → ((j : ℕ) → P (at ys j)) → (j : ℕ) → P (at (xs ++ ys) j)
+both_at P [] ys h k j = k j
+both_at P (x ∷ xs) ys h k zero = h 0
+both_at P (x ∷ xs) ys h k (suc j) = both_at P xs ys (λ i. h (suc i)) k j
+
+one_at : (P : Fraction → Type 0) (x : Fraction) → P x → P fraction_zero → (j : ℕ) → P (at (x ∷ []) j)
+one_at P x h z zero = h
+one_at P x h z (suc j) = z
+
+none_at : (P : Fraction → Type 0) → P fraction_zero → (j : ℕ) → P (at [] j)
+none_at P z j = z
+
+zero_not_below : IsNotBelowZero fraction_zero
+zero_not_below = omega (arith, ints)
+
+-- ---- the program that is being given
+pub empty_is_program : {A : Type 0} (value : A → Fraction) (costs : List A) → ((a : A) → IsLowest (value a)) → IsProgram (empty_program (map value costs))
+empty_is_program value costs low =
+    record {
+      coefficients = record { count = omega arith; lowest = none_at IsLowest (whole_is_lowest (pos 0)) };
+      right_sides = record { count = refl; lowest = none_at IsLowest (whole_is_lowest (pos 0)); sign = none_at IsNotBelowZero zero_not_below };
+      costs = record { count = refl; lowest = lowest_entries value low costs };
+    }
+
+pub empty_is_within : {A : Type 0} (value : A → Fraction) (limit : ℕ) (costs : List A) → 1 ≤ limit → ((a : A) → IsWithin limit (value a)) → IsProgramWithin limit (empty_program (map value costs))
+empty_is_within value limit costs one h =
+    record {
+      coefficients = none_at (IsWithin limit) (zero_within limit one);
+      right_sides = none_at (IsWithin limit) (zero_within limit one);
+      costs = within_entries value limit one h costs;
+    }
+
+pub row_is_program : {A : Type 0} (value : A → Fraction) (p : LinearProgram) (a : List A) (b : A) → ((a : A) → IsLowest (value a)) → IsProgram p → length a ≡ p.variables → IsNotBelowZero (value b) → IsProgram (with_row p (map value a) (value b))
+row_is_program value p a b low g width sign =
+    record {
+      coefficients = record {
+        count = omega (arith, length-append p.coefficients (map value a), length-map a value, g.coefficients.count, width);
+        lowest = both_at IsLowest p.coefficients (map value a) g.coefficients.lowest (lowest_entries value low a);
+      };
+      right_sides = record {
+        count = omega (arith, length-append p.right_sides (value b ∷ []), g.right_sides.count);
+        lowest = both_at IsLowest p.right_sides (value b ∷ []) g.right_sides.lowest (one_at IsLowest (value b) (low b) (whole_is_lowest (pos 0)));
+        sign = both_at IsNotBelowZero p.right_sides (value b ∷ []) g.right_sides.sign (one_at IsNotBelowZero (value b) sign zero_not_below);
+      };
+      costs = g.costs;
+    }
+
+pub row_is_within : {A : Type 0} (value : A → Fraction) (limit : ℕ) (p : LinearProgram) (a : List A) (b : A) → 1 ≤ limit → ((a : A) → IsWithin limit (value a)) → IsProgramWithin limit p → IsProgramWithin limit (with_row p (map value a) (value b))
+row_is_within value limit p a b one h w =
+    record {
+      coefficients = both_at (IsWithin limit) p.coefficients (map value a) w.coefficients (within_entries value limit one h a);
+      right_sides = both_at (IsWithin limit) p.right_sides (value b ∷ []) w.right_sides (one_at (IsWithin limit) (value b) (h b) (zero_within limit one));
+      costs = w.costs;
+    }
+
+-- ---- the run over the first table is that of the program
+pub run_is : (limit left spent after n m : ℕ) (p : LinearProgram) (first last : CompactTable) (result : Result End RunStop) → 1 ≤ limit → IsProgram p → IsProgramWithin limit p → n ≡ p.variables → m ≡ p.rows → first ≡ compact_first p
+    → ending_of n m result after last ≡ compact_run_from limit n m left spent first → ending_of n m result after last ≡ run limit p left spent
+unfolding compact_run
+run_is limit left spent after n m p first last result one g w is_n is_m is_first h =
+    h
+    ∙ ap (λ k. compact_run_from limit k m left spent first) is_n
+    ∙ ap (λ k. compact_run_from limit p.variables k left spent first) is_m
+    ∙ ap (compact_run_from limit p.variables p.rows left spent) is_first
+    ∙ sym (same_runs limit p left spent one g w)
+
+pub found_is : (n m spent : ℕ) (c : CompactTable) → compact_read_off n m c spent ≡ done (optimum_in n m c) spent
+unfolding compact_read_off
+found_is n m spent c = refl
+
+-- want of a unit
+pub out_of_units : (limit left spent after : ℕ) (p : LinearProgram) → IsProgram p → run limit p left spent ≡ no_unit_left after → left < bases_of p
+out_of_units limit left spent after p g h = units_suffice limit p left spent after g h
+
+-- a stop, by what the run over the table answered
+pub stop_answer : (n m spent : ℕ) (c : CompactTable) (result : Result End RunStop) (stop : RunStop) (E : Ending Optimum) → result ≡ Err stop → ending_of n m result spent c ≡ E → ((unit : ℕ) (wide : Wide) → result ≡ Err (RunWide unit wide) → spent ≡ unit)
+    → (Err stop ≡ answer_of E) × (stopped ≡ contents_after E) × (spent ≡ units_of E)
+stop_answer n m spent c result (RunWide unit wide) E is_err h units =
+    let e : wide_at spent wide ≡ E = ap (λ r. ending_of n m r spent c) (sym is_err) ∙ h in
+    let same = units unit wide is_err in
+    (ap (λ k. Err (RunWide k wide)) (sym same) ∙ ap answer_of e, ap contents_after e, ap units_of e)
+stop_answer n m spent c result RunBudget E is_err h units =
+    let e : no_unit_left spent ≡ E = ap (λ r. ending_of n m r spent c) (sym is_err) ∙ h in
+    (ap answer_of e, ap contents_after e, ap units_of e)
+
+pub stop_enough : (n m spent left before limit : ℕ) (p : LinearProgram) (c : CompactTable) (result : Result End RunStop) (stop : RunStop) → IsProgram p → result ≡ Err stop → ending_of n m result spent c ≡ run limit p left before → stop ≡ RunBudget → left < bases_of p
+stop_enough n m spent left before limit p c result stop g is_err h out =
+    out_of_units limit left before spent p g (sym h ∙ ap (λ r. ending_of n m r spent c) (is_err ∙ ap Err out))
+
+-- ---- lists by place
+pub listed_from : (f : ℕ → Fraction) (i n j : ℕ) → j < n → at (listed f i n) j ≡ f (i + j)
+unfolding listed
+listed_from f i zero j h = absurd (omega (arith, h))
+listed_from f i (suc n) zero h = ap f (omega arith)
+listed_from f i (suc n) (suc j) h = listed_from f (i + 1) n j (omega (arith, h)) ∙ ap f (omega arith)
+
+-- ---- what the contents say of the fields
+pub program_is_given : {A : Type 0} (value : A → Fraction) (limit : ℕ) (stage : Stage) (t : Table A) (c : Contents) → contents_of value stage t ≡ c → IsProgramGiven c → IsAt value limit stage t
+    → (stage ≡ Given) × (program_given c ≡ program_in value t) × IsBeingGiven value limit t
+program_is_given value limit Empty t c e h at_stage = absurd (subst IsProgramGiven (sym e) h)
+program_is_given value limit Given t c e h at_stage = (refl, ap program_given (sym e), at_stage)
+program_is_given value limit Optimal t c e h at_stage = absurd (subst IsProgramGiven (sym e) h)
+program_is_given value limit (Unbounded k) t c e h at_stage = absurd (subst IsProgramGiven (sym e) h)
+program_is_given value limit Stopped t c e h at_stage = absurd (subst IsProgramGiven (sym e) h)
+
+pub optimum_is_there : {A : Type 0} (value : A → Fraction) (stage : Stage) (t : Table A) (c : Contents) → contents_of value stage t ≡ c → IsFound c
+    → c ≡ found (optimum_in (length t.kept.items) (length t.rows.rows) (as_compact value t))
+optimum_is_there value Empty t c e h = absurd (subst IsFound (sym e) h)
+optimum_is_there value Given t c e h = absurd (subst IsFound (sym e) h)
+optimum_is_there value Optimal t c e h = sym e
+optimum_is_there value (Unbounded k) t c e h = absurd (subst IsFound (sym e) h)
+optimum_is_there value Stopped t c e h = absurd (subst IsFound (sym e) h)
+
+pub direction_is_there : {A : Type 0} (value : A → Fraction) (stage : Stage) (t : Table A) (c : Contents) (j : ℕ) → contents_of value stage t ≡ c → j < length (direction_of c) → (h : ℕ) × (stage ≡ Unbounded h)
+direction_is_there value Empty t c j e low = absurd (none (subst (λ d. j < length (direction_of d)) (sym e) low))
+  where
+    none : j < 0 → ⊥
+    none p = omega (arith, p)
+direction_is_there value Given t c j e low = absurd (none (subst (λ d. j < length (direction_of d)) (sym e) low))
+  where
+    none : j < 0 → ⊥
+    none p = omega (arith, p)
+direction_is_there value Optimal t c j e low = absurd (none (subst (λ d. j < length (direction_of d)) (sym e) low))
+  where
+    none : j < 0 → ⊥
+    none p = omega (arith, p)
+direction_is_there value (Unbounded h) t c j e low = (h, refl)
+direction_is_there value Stopped t c j e low = absurd (none (subst (λ d. j < length (direction_of d)) (sym e) low))
+  where
+    none : j < 0 → ⊥
+    none p = omega (arith, p)
+
+-- ---- the run in a space
+pub ending_is : {A : Type 0} (value : A → Fraction) (limit left spent after : ℕ) (t t1 t2 : Table A) (c : Contents) (result : Result End RunStop) → 1 ≤ limit → IsBeingGiven value limit t → program_given c ≡ program_in value t
+    → as_compact value t1 ≡ compact_first (program_in value t) → SameShape t t1 → SameShape t1 t2
+    → ((n m : ℕ) → ending_of n m result after (as_compact value t2) ≡ compact_run_from limit n m left spent (as_compact value t1))
+    → ending_of (length t2.kept.items) (length t2.rows.rows) result after (as_compact value t2) ≡ run limit (program_given c) left spent
+ending_is value limit left spent after t t1 t2 c result one g same first s1 s2 h =
+    let p = program_in value t in
+    let n : length t2.kept.items ≡ p.variables = s2.columns ∙ s1.columns in
+    let m : length t2.rows.rows ≡ p.rows = s2.rows ∙ s1.rows ∙ sym (length-map t.rows.rows (front value (length t.kept.items + 1))) in
+    run_is limit left spent after (length t2.kept.items) (length t2.rows.rows) p (as_compact value t1) (as_compact value t2) result one g.program g.within n m first (h (length t2.kept.items) (length t2.rows.rows))
+    ∙ ap (λ q. run limit q left spent) (sym same)
+
+pub program_stands : {A : Type 0} (value : A → Fraction) (limit : ℕ) (t : Table A) (c : Contents) → IsBeingGiven value limit t → program_given c ≡ program_in value t → IsProgram (program_given c)
+program_stands value limit t c g same = subst IsProgram (sym same) g.program

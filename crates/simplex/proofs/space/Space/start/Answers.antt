@@ -1,0 +1,33 @@
+use Rattle.std.proofs.Common.{◌≡◌, ◌+◌, ◌<◌, ◌∙◌, sym, ap, subst, arith, length, map, unsigned_abs}
+use Rattle.exact_num.proofs.Units.{limit_at_least_one}
+use Rattle.table_run.specs.Program.{LinearProgram}
+use Rattle.table_run.specs.Optimum.{IsProgram}
+use Rattle.compact_run.specs.Laws.{IsProgramWithin}
+use Rattle.simplex.specs.Spaces.{Workspace, workspace, given}
+use Rattle.simplex.proofs.SpaceSteps.{empty_is_program, empty_is_within}
+use Rattle.simplex.proofs.space.Space.start.Goals as goal
+
+pub begin-requires : goal.begin-requires
+begin-requires g c = omega (arith, ap (λ (w : Workspace). w.columns) c.self.view_is, c.self.invariant.width, c.requires)
+
+pub invariant_of-self : goal.invariant_of-self
+invariant_of-self g c =
+    let laws = g.met.N.Exact in
+    let value = g.N.Exact.fraction in
+    let L = unsigned_abs g.N.Exact.LIMIT in
+    let costs = c.args.costs.now in
+    let one = limit_at_least_one g.N.Exact.LIMIT laws.limit_positive in
+    let program = c.begin.ensures.program in
+    record {
+      width = c.begin.ensures.room.width ∙ c.self.invariant.width;
+      room = omega (arith, c.begin.ensures.room.rows, c.self.invariant.room);
+      stage = record {
+        given = c.begin.ensures.given;
+        program = subst IsProgram (sym program) (empty_is_program value costs laws.lowest);
+        within = subst (λ (p : LinearProgram). IsProgramWithin L p) (sym program) (empty_is_within value L costs one (λ a. record { above = laws.numerator_fits a; below = laws.denominator_fits a }));
+      };
+    }
+
+pub returns : goal.returns
+returns g c =
+    λ i. workspace (c.self.view_is i).rows (c.self.view_is i).columns (given (c.begin.ensures.program i))

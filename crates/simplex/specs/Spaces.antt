@@ -1,0 +1,149 @@
+-- What a space is to its callers.
+use Rattle.std.specs.Prelude.{◌≡◌, ℕ, ◌+◌, ◌<◌, ◌≤◌, List, [], length, unsigned_abs, Bool, true, false, Result, Ok, Err}
+use Rattle.exact_num.specs.Fraction.{Fraction}
+use Rattle.table_run.specs.Places.{fraction_zero, listed}
+use Rattle.table_run.specs.Program.{LinearProgram}
+use Rattle.table_run.specs.Table.{right_side}
+use Rattle.table_run.specs.Ending.{Ending, done, unbounded, wide_at, no_unit_left}
+use Rattle.table_run.specs.Run.{Optimum, optimum}
+use Rattle.table_run.specs.Optimum.{IsProgram}
+use Rattle.compact_run.specs.Compact.{CompactTable}
+use Rattle.compact_run.specs.Laws.{IsProgramWithin}
+use Rattle.compact_run.specs.Run.{compact_solution, compact_direction, price_of}
+use Rattle.compact_table.specs.declared.table.Table.{Table}
+use Rattle.compact_table.specs.Programs.{empty_program}
+use Rattle.compact_table.specs.Tables.{as_compact, program_in, room_of, IsGiven}
+use Rattle.simplex.specs.declared.stop.RunStop.{RunStop}
+use Rattle.simplex.specs.declared.stop.RunStop.TheVariants.{Wide, Budget}
+use Rattle.simplex.specs.declared.stage.Stage.{Stage}
+use Rattle.simplex.specs.declared.stage.Stage.TheVariants.{Empty, Given, Optimal, Unbounded, Stopped}
+
+-- the program given since the last begin; or what the last run since then told: its optimum, a
+-- direction, or that it stopped
+pub data Contents : Type 0 where
+  nothing : Contents
+  given : (program : LinearProgram) → Contents
+  found : (answer : Optimum) → Contents
+  rising : (direction : List Fraction) → Contents
+  stopped : Contents
+
+-- room for so many rows of so many variables, and what stands there
+pub record Workspace : Type 0 where
+  pub rows : ℕ
+  pub columns : ℕ
+  pub contents : Contents
+
+abbrev pub workspace : ℕ → ℕ → Contents → Workspace
+workspace rows columns contents = record { rows = rows; columns = columns; contents = contents }
+
+-- ---- the program
+abbrev pub IsProgramGiven : Contents → Type 0
+IsProgramGiven nothing = ⊥
+IsProgramGiven (given p) = Unit {0}
+IsProgramGiven (found o) = ⊥
+IsProgramGiven (rising d) = ⊥
+IsProgramGiven stopped = ⊥
+
+abbrev pub program_given : Contents → LinearProgram
+program_given nothing = empty_program []
+program_given (given p) = p
+program_given (found o) = empty_program []
+program_given (rising d) = empty_program []
+program_given stopped = empty_program []
+
+-- ---- what a run tells
+abbrev pub IsFound : Contents → Type 0
+IsFound nothing = ⊥
+IsFound (given p) = ⊥
+IsFound (found o) = Unit {0}
+IsFound (rising d) = ⊥
+IsFound stopped = ⊥
+
+abbrev pub IsRising : Contents → Type 0
+IsRising nothing = ⊥
+IsRising (given p) = ⊥
+IsRising (found o) = ⊥
+IsRising (rising d) = Unit {0}
+IsRising stopped = ⊥
+
+abbrev pub x_of : Contents → List Fraction
+x_of nothing = []
+x_of (given p) = []
+x_of (found (optimum x y reduced value)) = x
+x_of (rising d) = []
+x_of stopped = []
+
+abbrev pub y_of : Contents → List Fraction
+y_of nothing = []
+y_of (given p) = []
+y_of (found (optimum x y reduced value)) = y
+y_of (rising d) = []
+y_of stopped = []
+
+abbrev pub reduced_of : Contents → List Fraction
+reduced_of nothing = []
+reduced_of (given p) = []
+reduced_of (found (optimum x y reduced value)) = reduced
+reduced_of (rising d) = []
+reduced_of stopped = []
+
+abbrev pub value_of : Contents → Fraction
+value_of nothing = fraction_zero
+value_of (given p) = fraction_zero
+value_of (found (optimum x y reduced value)) = value
+value_of (rising d) = fraction_zero
+value_of stopped = fraction_zero
+
+abbrev pub direction_of : Contents → List Fraction
+direction_of nothing = []
+direction_of (given p) = []
+direction_of (found o) = []
+direction_of (rising d) = d
+direction_of stopped = []
+
+-- true at an optimum, false where the objective rises without an end, or the stop
+abbrev pub answer_of : Ending Optimum → Result Bool RunStop
+answer_of (done answer spent) = Ok true
+answer_of (unbounded direction spent) = Ok false
+answer_of (wide_at spent wide) = Err (Wide spent wide)
+answer_of (no_unit_left spent) = Err Budget
+
+-- what stands there afterwards
+abbrev pub contents_after : Ending Optimum → Contents
+contents_after (done answer spent) = found answer
+contents_after (unbounded direction spent) = rising direction
+contents_after (wide_at spent wide) = stopped
+contents_after (no_unit_left spent) = stopped
+
+-- ---- what the fields of a space stand for
+abbrev pub optimum_in : ℕ → ℕ → CompactTable → Optimum
+optimum_in n m c =
+    optimum (compact_solution n c) (listed (price_of c) n m) (listed (price_of c) 0 n) (right_side (length c.kept) c.objective)
+
+abbrev pub contents_of : {A : Type 0} → (A → Fraction) → Stage → Table A → Contents
+contents_of value Empty t = nothing
+contents_of value Given t = given (program_in value t)
+contents_of value Optimal t = found (optimum_in (length t.kept.items) (length t.rows.rows) (as_compact value t))
+contents_of value (Unbounded h) t = rising (compact_direction (length t.kept.items) h (as_compact value t))
+contents_of value Stopped t = stopped
+
+abbrev pub workspace_of : {A : Type 0} → (A → Fraction) → ℕ → ℕ → Stage → Table A → Workspace
+workspace_of value rows columns stage t = workspace rows columns (contents_of value stage t)
+
+-- the program that is being given is one, of numbers within the limit
+pub record IsBeingGiven {A : Type 0} (value : A → Fraction) (limit : ℕ) (t : Table A) : Type 0 where
+  pub given : IsGiven value t
+  pub program : IsProgram (program_in value t)
+  pub within : IsProgramWithin limit (program_in value t)
+
+abbrev pub IsAt : {A : Type 0} → (A → Fraction) → ℕ → Stage → Table A → Type 0
+IsAt value limit Empty t = Unit {0}
+IsAt value limit Given t = IsBeingGiven value limit t
+IsAt value limit Optimal t = Unit {0}
+IsAt value limit (Unbounded h) t = h < length t.kept.items
+IsAt value limit Stopped t = Unit {0}
+
+pub record IsSpace {A : Type 0} (value : A → Fraction) (limit rows columns : ℕ) (here : Stage) (t : Table A) : Type 0 where
+  pub width : t.rows.width ≡ columns + 1
+  pub room : rows ≤ room_of t
+  pub stage : IsAt value limit here t

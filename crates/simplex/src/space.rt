@@ -1,0 +1,198 @@
+//! Room for the runs of programs, taken once.
+ghost use Rattle.std.specs.Prelude.{◌≡◌, ◌-◌, ◌<◌, ◌≤◌, Err, IfOk, length, map, unsigned_abs};
+ghost use Rattle.table_run.specs.Choose.{bases_of};
+ghost use Rattle.table_run.specs.Optimum.{IsAsSaid};
+ghost use Rattle.exact_num.specs.Fraction.{IsNotBelowZero};
+ghost use Rattle.table_run.specs.Places.{at};
+ghost use Rattle.table_run.specs.Run.{run as run_of};
+ghost use Rattle.table_run.specs.Units.{units_of};
+ghost use Rattle.compact_table.specs.Programs.{empty_program, with_row};
+
+use crate::budget::Budget;
+use crate::run::{End, run};
+use crate::stage::Stage;
+use crate::stop::RunStop;
+use compact_table::Table;
+use exact_num::Exact;
+use std::alloc::{AllocError, Global};
+use std::marker::Model;
+
+/// Room for the runs of programs of so many rows and variables, one after another. Only `new` takes
+/// memory.
+///
+/// A program is given by its costs and then its rows, and run; its optimum is then read off.
+#[derive(Drop)]
+pub struct Space<N: Exact> {
+    rows: usize,
+    columns: usize,
+    stage: Stage,
+    table: Table<N>,
+}
+
+impl<N: Exact> Model for Space<N> {
+    ghost use Rattle.std.specs.Prelude.{unsigned_abs};
+    ghost use Rattle.simplex.specs.Spaces.{Workspace, workspace_of, IsSpace};
+
+    ghost Value = { Workspace };
+
+    ghost view = { λ s. workspace_of N.fraction s.rows s.columns s.stage s.table };
+
+    ghost invariant = { λ s. IsSpace N.fraction (unsigned_abs N.LIMIT) s.rows s.columns s.stage s.table };
+}
+
+impl<N: Exact> Space<N> {
+    ghost use Rattle.simplex.specs.Spaces.{Contents, nothing, given, program_given, IsProgramGiven, answer_of, contents_after, IsFound, x_of, y_of, reduced_of, value_of, direction_of};
+
+    /// Room for programs of at most so many rows and columns, with no program. The error is want of
+    /// memory.
+    pub fn new(alloc: Global, rows: usize, columns: usize) -> Result<Space<N>, AllocError>
+        requires rows { (1 ≤ rows) × (rows ≤ 100000) }
+        requires columns { (1 ≤ columns) × (columns ≤ 100000) }
+        ensures sizes { IfOk result (λ space. (space.rows ≡ rows) × (space.columns ≡ columns)) }
+        ensures contents { IfOk result (λ space. space.contents ≡ nothing) }
+    {
+        Space::with_room(alloc, rows, columns)
+    }
+
+    /// The same where there may be no row or no column.
+    pub(crate) fn with_room(
+        alloc: Global,
+        rows: usize,
+        columns: usize,
+    ) -> Result<Space<N>, AllocError>
+        requires { columns ≤ 100000 }
+        ensures sizes { IfOk result (λ space. (space.rows ≡ rows) × (space.columns ≡ columns)) }
+        ensures contents { IfOk result (λ space. space.contents ≡ nothing) }
+    {
+        let table = Table::with_room(alloc, rows, columns)?;
+        Ok(Space {
+            rows,
+            columns,
+            stage: Stage::Empty,
+            table,
+        })
+    }
+
+    /// Starts a program: these costs, and no row. What stood there before is gone.
+    pub fn begin(&mut self, costs: &[N])
+        requires { (1 ≤ length costs.now) × (length costs.now ≤ self.old.columns) }
+        ensures { self.new ≡ record self.old {
+          contents = given (empty_program (map N.fraction costs.now));
+        } }
+    {
+        self.start(costs);
+    }
+
+    /// The same where there may be no cost.
+    pub(crate) fn start(&mut self, costs: &[N])
+        requires { length costs.now ≤ self.old.columns }
+        ensures { self.new ≡ record self.old {
+          contents = given (empty_program (map N.fraction costs.now));
+        } }
+    {
+        self.table.begin(costs);
+        self.stage = Stage::Given;
+    }
+
+    /// Adds the row `a · x <= b` at the end of the program.
+    pub fn row(&mut self, a: &[N], b: N)
+        requires given { IsProgramGiven self.old.contents }
+        requires width { length a.now ≡ (program_given self.old.contents).variables }
+        requires right_side { IsNotBelowZero (N.fraction b) }
+        requires room { (program_given self.old.contents).rows < self.old.rows }
+        ensures { self.new ≡ record self.old {
+          contents = given
+              (with_row (program_given self.old.contents) (map N.fraction a.now) (N.fraction b));
+        } }
+    {
+        self.table.row(a, b);
+    }
+
+    /// The run of the program, a unit of the budget a turn: true at an optimum, false where the
+    /// objective rises without an end.
+    ///
+    /// `Wide` comes at the first step of the run that does not fit, `Budget` where the run wants
+    /// one unit more than the budget has; units that were spent stay spent. With as many units left
+    /// as there are ways to choose the basic variables, `Budget` never comes.
+    pub fn run(&mut self, budget: &mut Budget) -> Result<bool, RunStop>
+        requires { IsProgramGiven self.old.contents }
+        ensures answer { result ≡ answer_of
+            (run_of (unsigned_abs N.LIMIT) (program_given self.old.contents)
+            (budget.old.limit - budget.old.spent) budget.old.spent) }
+        ensures contents { self.new.contents ≡ contents_after
+            (run_of (unsigned_abs N.LIMIT) (program_given self.old.contents)
+            (budget.old.limit - budget.old.spent) budget.old.spent) }
+        ensures units { budget.new.spent ≡ units_of
+            (run_of (unsigned_abs N.LIMIT) (program_given self.old.contents)
+            (budget.old.limit - budget.old.spent) budget.old.spent) }
+        ensures holds { IsAsSaid (program_given self.old.contents)
+            (run_of (unsigned_abs N.LIMIT) (program_given self.old.contents)
+            (budget.old.limit - budget.old.spent) budget.old.spent) }
+        ensures enough { result ≡ Err RunStop.Budget
+            → budget.old.limit - budget.old.spent < bases_of (program_given self.old.contents) }
+        ensures sizes { (self.new.rows ≡ self.old.rows) × (self.new.columns ≡ self.old.columns) }
+        ensures limit { budget.new.limit ≡ budget.old.limit }
+    {
+        self.table.first();
+        match run(&mut self.table, budget) {
+            Ok(End::Optimal) => {
+                self.stage = Stage::Optimal;
+                Ok(true)
+            }
+            Ok(End::Unbounded { place }) => {
+                self.stage = Stage::Unbounded { place };
+                Ok(false)
+            }
+            Err(stop) => {
+                self.stage = Stage::Stopped;
+                Err(stop)
+            }
+        }
+    }
+
+    /// The value of variable j at the optimum that the last run found.
+    pub fn x(&self, j: usize) -> N
+        requires found { IsFound self.now.contents }
+        requires place { j < length (x_of self.now.contents) }
+        ensures { N.fraction result ≡ at (x_of self.now.contents) j }
+    {
+        self.table.value_at(j)
+    }
+
+    /// The dual value of row i at the optimum that the last run found.
+    pub fn y(&self, i: usize) -> N
+        requires found { IsFound self.now.contents }
+        requires place { i < length (y_of self.now.contents) }
+        ensures { N.fraction result ≡ at (y_of self.now.contents) i }
+    {
+        self.table.price_at(self.table.variables() + i)
+    }
+
+    /// The reduced cost of variable j at the optimum that the last run found.
+    pub fn reduced(&self, j: usize) -> N
+        requires found { IsFound self.now.contents }
+        requires place { j < length (reduced_of self.now.contents) }
+        ensures { N.fraction result ≡ at (reduced_of self.now.contents) j }
+    {
+        self.table.price_at(j)
+    }
+
+    /// The value of the optimum that the last run found.
+    pub fn value(&self) -> N
+        requires { IsFound self.now.contents }
+        ensures { N.fraction result ≡ value_of self.now.contents }
+    {
+        self.table.value()
+    }
+
+    /// Entry j of the direction that the last run ended with.
+    pub(crate) fn direction(&self, j: usize) -> N
+        requires { j < length (direction_of self.now.contents) }
+        ensures { N.fraction result ≡ at (direction_of self.now.contents) j }
+    {
+        match self.stage {
+            Stage::Unbounded { place } => self.table.direction_at(place, j),
+            _ => N::zero(),
+        }
+    }
+}
