@@ -5,7 +5,7 @@ use Rattle.std.proofs.lemmas.Bool.{cases_eq}
 use Rattle.std.proofs.lemmas.Bool.Decides.{nat_tests}
 use Rattle.std.proofs.lemmas.Grind.{common_steps}
 use mir.Syntax.{w128}
-use Rattle.cash_ledger.specs.Kept.{AreKept, no_holding, total_or_zero, reserve_or_zero}
+use Rattle.cash_ledger.specs.Kept.{AreKept, total_or_zero, reserve_or_zero}
 use Rattle.cash_ledger.specs.Entries.{balance_of, IsBounded}
 use Rattle.cash_ledger.specs.declared.holding.Holding.{Holding}
 use Rattle.cash_ledger.specs.declared.entry.Entry.{Entry}
@@ -13,13 +13,6 @@ use Rattle.cash_ledger.specs.declared.limits.TheConstants.{MAX_RESERVE, MAX_RESE
 use Rattle.cash_ledger.proofs.Balances.{balance_of-push, AreBounded-push, balance_size}
 
 module _ (holding_of : ℕ → Option Holding) (entries : List Entry) (kept : AreKept holding_of entries) where
-  pub AreKept-open : (account : ℕ) (new : ℕ → Option Holding) → holding_of account ≡ None → ((q : ℕ) → new q ≡ cond (nat_eq account q) (Some no_holding) (holding_of q)) → AreKept new entries
-  AreKept-open account new none updates = record {
-    each = λ q. let k = kept.each q in let u = updates q in grind (arith, common_steps, nat_tests);
-    reserves = λ q. let k = kept.reserves q in let u = updates q in grind (arith, common_steps, nat_tests);
-    bounded = kept.bounded;
-  }
-
   pub AreKept-enter : (entry : Entry) (holding after : Holding) (new : ℕ → Option Holding) → IsBounded entry
       → holding_of entry.account ≡ Some holding → ((q : ℕ) → new q ≡ cond (nat_eq entry.account q) (Some after) (holding_of q))
       → after.total ≡ holding.total +ℤ entry.amount → after.reserved ≡ holding.reserved → AreKept new (entries ++ entry ∷ [])

@@ -53,5 +53,5 @@ module _ (book : BookState) (kept : IsBookKept book) (number market : ℕ) (held
   order_within o there =
       found_within number place.state.live o (orders_within book.accepted place.state (market_kept book kept market place.state place.found)) (sym live_there ∙ there)
 
-  pub removed : with_live_in market (without number (live_in market book.markets)) book.markets ≡ without_in_each number book.markets
-  removed = ap (λ l. with_live_in market (without number l) book.markets) (live_found market book.markets place.state place.found) ∙ place.alone
+  pub without_in_each-there : with_live_in market (without number (live_in market book.markets)) book.markets ≡ without_in_each number book.markets
+  without_in_each-there = ap (λ l. with_live_in market (without number l) book.markets) (live_found market book.markets place.state place.found) ∙ place.alone

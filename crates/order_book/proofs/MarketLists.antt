@@ -77,14 +77,3 @@ module _ (market : ℕ) where
 
       pub length_changed : length (with_live_in market live markets) ≡ length markets
       length_changed = ap length (sym (live_set markets m found)) ∙ length-set_value (nat_eq market) markets (with_live m live)
-
-      pub live_in_changed : (q : ℕ) → live_in q (with_live_in market live markets) ≡ cond (nat_eq market q) live (live_in q markets)
-      live_in_changed q =
-          ap (live_in q) (sym (live_set markets m found))
-          ∙ ap (λ r. option_map_or (λ (s : MarketState). s.live) r [])
-          (lookup-set_value nat_eq_equiv (nat_eq market) (λ x y e. ap (λ n. nat_eq n y) (same_number market x e)) q (with_live m live) markets (subst IsSome (sym found) (search rules)))
-          ∙ by (nat_eq market q)
-        where
-          by : (b : Bool) → option_map_or (λ (s : MarketState). s.live) (cond b (Some (with_live m live)) (lookup (nat_eq q) markets)) [] ≡ cond b live (live_in q markets)
-          by true = refl
-          by false = refl

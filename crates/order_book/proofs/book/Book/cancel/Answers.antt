@@ -3,7 +3,7 @@ use Rattle.order_book.specs.Book.{BookState, book_of, order_of, without_order}
 use Rattle.order_book.specs.Refusals.{cancel_refusals}
 use Rattle.refusals.specs.Refusals.{first_of}
 use Rattle.order_book.proofs.BookKept.{kept-without_order}
-use Rattle.order_book.proofs.Cancelling.{unknown_order, own_order, other_order, place, live_there, order_there, order_within, removed}
+use Rattle.order_book.proofs.Cancelling.{unknown_order, own_order, other_order, place, live_there, order_there, order_within, without_in_each-there}
 use Rattle.order_book.proofs.book.Book.cancel.Goals as goal
 
 pub returns-in_default-clause-refused : goal.returns-in_default-clause-refused
@@ -41,12 +41,12 @@ returns-clause-order c =
 pub invariant_of-self : goal.invariant_of-self
 invariant_of-self c =
     let book = book_of c.self.inside.markets c.self.inside.accepted c.self.inside.finished in
-    rw (c.remove.ensures, removed book c.self.invariant c.args.order c.in-Some.market (sym c.holder.ensures ∙ c.in-Some.is)) (kept-without_order book c.self.invariant c.args.order)
+    rw (c.remove.ensures, without_in_each-there book c.self.invariant c.args.order c.in-Some.market (sym c.holder.ensures ∙ c.in-Some.is)) (kept-without_order book c.self.invariant c.args.order)
 
 pub returns-clause-ok : goal.returns-clause-ok
 returns-clause-ok c =
     let book = book_of c.self.inside.markets c.self.inside.accepted c.self.inside.finished in
-    ap (λ markets. book_of markets c.self.inside.accepted c.self.inside.finished) (c.remove.ensures ∙ removed book c.self.invariant c.args.order c.in-Some.market (sym c.holder.ensures ∙ c.in-Some.is))
+    ap (λ markets. book_of markets c.self.inside.accepted c.self.inside.finished) (c.remove.ensures ∙ without_in_each-there book c.self.invariant c.args.order c.in-Some.market (sym c.holder.ensures ∙ c.in-Some.is))
     ∙ ap (λ (book : BookState). without_order book c.args.order) c.self.view_is
 
 pub returns-clause-within : goal.returns-clause-within
