@@ -1,7 +1,7 @@
 -- The shape of a batch and its outcome, and its fills.
-use Rattle.std.specs.Prelude.{ℕ, ◌≡◌, ◌+◌, ◌==◌, List, [], ◌∷◌, length, nat_lt, Bool, true, ◌&&◌, pos}
+use Rattle.std.specs.Prelude.{ℕ, ◌≡◌, ◌+◌, ◌==◌, List, [], ◌∷◌, length, int_le, nat_lt, Bool, true, ◌&&◌, pos}
 use Rattle.std.specs.List.{list_all, All}
-use Rattle.exact_num.specs.Tests.{is_not_below_zero, is_at_most}
+use Rattle.exact_num.specs.Tests.{is_at_most}
 use Rattle.exact_num.specs.Fraction.{Fraction, whole}
 use Rattle.frac.specs.Value.{fraction_of}
 use Rattle.frac.specs.declared.frac128.Frac128.{Frac128}
@@ -46,7 +46,7 @@ has_shape batch outcome =
 
 -- whether a fill is from 0 to the order's quantity
 abbrev pub is_fill : Order → Fraction → Bool
-is_fill o f = is_not_below_zero f && is_at_most f (whole (pos o.quantity))
+is_fill o f = int_le (pos 0) f.numerator && is_at_most f (whole (pos o.quantity))
 
 abbrev pub are_fills : List Order → List Frac128 → Bool
 are_fills [] fills = true

@@ -1,10 +1,10 @@
 -- The four tests of a verdict, each step with a limit: surplus, cover, measure and bound.
-use Rattle.std.specs.Prelude.{ℕ, ◌≡◌, List, map, zip, ◌&&◌, Bool, pos, Result, Ok}
+use Rattle.std.specs.Prelude.{ℕ, ◌≡◌, List, map, zip, ◌&&◌, Bool, pos, Result, Ok, int_le}
 use Rattle.exact_num.specs.declared.misfit.Wide.{Wide as Misfit}
 use Rattle.exact_num.specs.Fraction.{Fraction, whole}
 use Rattle.exact_num.specs.Fits.{sub_of, after}
 use Rattle.exact_num.specs.Steps.{fold_steps}
-use Rattle.exact_num.specs.Tests.{is_same, is_not_below_zero}
+use Rattle.exact_num.specs.Tests.{is_same}
 use Rattle.form.specs.declared.orders.Order.{Order}
 use Rattle.form.specs.Steps.{add_for_side}
 use Rattle.clearing_model.specs.Certificate.{Point}
@@ -24,7 +24,7 @@ premium_of limit fills = fold_steps (add_premium limit) (whole (pos 0)) fills
 
 -- whether a number is the surplus, and that is not below 0
 abbrev pub is_claimed : Fraction → Fraction → Bool
-is_claimed S left = is_same left S && is_not_below_zero S
+is_claimed S left = is_same left S && int_le (pos 0) S.numerator
 
 -- whether the premium less the liability is the surplus, and that is not below 0
 abbrev pub surplus_holds : ℕ → List (Order × Fraction) → Fraction → Fraction → Result Bool Misfit

@@ -24,14 +24,18 @@ pub(crate) fn has_shape(batch: &Batch, outcome: &Outcome) -> bool
 fn forms_have(entries: u16, orders: &[Order]) -> bool
     ensures { result ≡ forms_have entries orders.now }
 {
-    orders.iter().all(|order| u16::from(order.form.count) == entries)
+    orders
+        .iter()
+        .all(|order| u16::from(order.form.count) == entries)
 }
 
 // Whether each state has so many entries.
 fn states_have(entries: u16, points: &[Weighted]) -> bool
     ensures { result ≡ states_have entries points.now }
 {
-    points.iter().all(|point| u16::from(point.state.count) == entries)
+    points
+        .iter()
+        .all(|point| u16::from(point.state.count) == entries)
 }
 
 // Whether the cover and the states of the measure are those of so many underlyings.

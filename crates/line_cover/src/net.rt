@@ -12,12 +12,7 @@ use form::{Order, State, add_for_side, payoff};
 use frac::{Frac128, whole};
 
 // The total and what a fill of the order adds to the net at the state.
-fn add_payoff(
-    total: Frac128,
-    order: &Order,
-    fill: Frac128,
-    state: &State,
-) -> Result<Frac128, Wide>
+fn add_payoff(total: Frac128, order: &Order, fill: Frac128, state: &State) -> Result<Frac128, Wide>
     requires { order.now.form.count ≡ state.now.count }
     ensures { meaning fraction_of result ≡ add_payoff limit (vector_of state.now) (fraction_of total) (order.now, fraction_of fill) }
 {

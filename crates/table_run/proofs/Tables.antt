@@ -169,6 +169,8 @@ tables_are_feasible limit k p t g h = let kept = tables_keep limit p g k t h in 
 pub turns_are_by_blands_rule : TurnsAreByBlandsRule
 turns_are_by_blands_rule limit k p t u g here next =
     let w = next_out limit (table_after limit p k) u (after_suc limit p k ∙ next) in
-    let same : w.0 ≡ t = some_same (sym w.1 ∙ here) in
-    (enters_at t, leaves_at limit t,
-      bland_turn p limit t u w.2 (tables_keep limit p g k t here) (subst (λ (s : Table). entering s ≡ Some w.2) same w.3) (subst (λ (s : Table). turn limit w.2 s ≡ moved u) same w.4))
+    let same : w.0 ≡ t = some_same (sym w.1 ∙ here) in (
+      enters_at t,
+      leaves_at limit t,
+      bland_turn p limit t u w.2 (tables_keep limit p g k t here) (subst (λ (s : Table). entering s ≡ Some w.2) same w.3) (subst (λ (s : Table). turn limit w.2 s ≡ moved u) same w.4),
+    )
