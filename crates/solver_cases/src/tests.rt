@@ -4,7 +4,7 @@ use anyhow::{Context, Result, ensure};
 use case_texts::{is_none_below_zero, numbers, print_number, print_wide};
 use exact_num::Exact;
 use frac::Frac128;
-use simplex::{Budget, Program, Solved, Stop, choices, solve};
+use simplex::{Budget, Program, RunStop, Solved, Space, Stop, choices, solve};
 use std::alloc::{AllocError, Global};
 
 fn print_numbers(text: &mut String, numbers: &[Frac128]) -> Result<(), AllocError> {
@@ -93,4 +93,29 @@ fn the_ways_to_choose_are_counted(rt: HostRuntime) {
         assert!(rt; rows <= 100000, "too many rows");
         assert_eq!(rt; choices(variables, rows), number, "{variables} and {rows}");
     }
+}
+
+// max x + y under x <= 1 and y <= 1; max x under -x <= 0; and max x under x <= 1 without a unit.
+#[test]
+fn a_space_serves_one_program_after_another(rt: HostRuntime) -> Result<()> {
+    let zero = Frac128::zero();
+    let one = Frac128::one();
+    let mut space: Space<Frac128> = Space::new(rt.alloc(), 2, 2)?;
+    let mut budget = Budget::new(3);
+    space.begin(&[one, one]);
+    space.row(&[one, zero], one);
+    space.row(&[zero, one], one);
+    let found = space.run(&mut budget);
+    assert_eq!(rt; found, Ok(true));
+    assert_eq!(rt; budget.spent, 2);
+    space.begin(&[one]);
+    space.row(&[one.neg()], zero);
+    let rising = space.run(&mut budget);
+    assert_eq!(rt; rising, Ok(false));
+    assert_eq!(rt; budget.spent, 3);
+    space.begin(&[one]);
+    space.row(&[one], one);
+    let stopped = space.run(&mut budget);
+    assert_eq!(rt; stopped, Err(RunStop::Budget));
+    Ok(())
 }
