@@ -6,10 +6,10 @@ pub returns-in-Err-Memory-clause-told_front : goal.returns-in-Err-Memory-clause-
 returns-in-Err-Memory-clause-told_front g c = λ ended. nothing_told (g.K.Sink.written c.args.sink.now)
 
 pub returns-in-Ok-answer_input-clause-told : goal.returns-in-Ok-answer_input-clause-told
-returns-in-Ok-answer_input-clause-told g c = λ ended. (output c.in-Ok.input.items, output_tells c.in-Ok.input.items, c.in-Ok-answer_input.ensures.ok)
+returns-in-Ok-answer_input-clause-told g c = λ ended. (output c.deref.result.now, output_tells c.deref.result.now, c.in-Ok-answer_input.ensures.ok)
 
 pub returns-in-Err-SinkFailed-clause-told_front : goal.returns-in-Err-SinkFailed-clause-told_front
-returns-in-Err-SinkFailed-clause-told_front g c = λ ended. (output c.in-Ok.input.items, output_tells c.in-Ok.input.items, c.in-Err-SinkFailed.ensures.front)
+returns-in-Err-SinkFailed-clause-told_front g c = λ ended. (output c.deref.result.now, output_tells c.deref.result.now, c.in-Err-SinkFailed.ensures.front)
 
 pub returns-clause-told_front : goal.returns-clause-told_front
-returns-clause-told_front g c = λ ended. (output c.in-Ok.input.items, output_tells c.in-Ok.input.items, c.answer_input.ensures.front)
+returns-clause-told_front g c = λ ended. (output c.deref.result.now, output_tells c.deref.result.now, c.in-Err-OutOfMemory.ensures.front)
