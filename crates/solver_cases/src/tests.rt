@@ -2,8 +2,8 @@
 use crate::cases::CASES;
 use anyhow::{Context, Result, ensure};
 use case_texts::{is_none_below_zero, numbers, print_number, print_wide};
-use exact_num::Exact;
-use frac::Frac128;
+use exact_num::{Exact, Operator, Wide};
+use frac::{Frac64, Frac128};
 use simplex::{Budget, Program, RunStop, Solved, Space, Stop, choices, solve};
 use std::alloc::{AllocError, Global};
 
@@ -107,6 +107,8 @@ fn a_space_serves_one_program_after_another(rt: HostRuntime) -> Result<()> {
     space.row(&[zero, one], one);
     let found = space.run(&mut budget);
     assert_eq!(rt; found, Ok(true));
+    let two = one.add(one).ok().context("two")?;
+    assert_eq!(rt; space.value(), two);
     assert_eq!(rt; budget.spent, 2);
     space.begin(&[one]);
     space.row(&[one.neg()], zero);
@@ -117,5 +119,33 @@ fn a_space_serves_one_program_after_another(rt: HostRuntime) -> Result<()> {
     space.row(&[one], one);
     let stopped = space.run(&mut budget);
     assert_eq!(rt; stopped, Err(RunStop::Budget));
+    Ok(())
+}
+
+// max x under 2^62 x <= 1 and x <= 1 / (2^62 - 1): the step from one ratio to the other leaves 63 bits.
+#[test]
+fn narrow_numbers_stop_at_their_limit(rt: HostRuntime) -> Result<()> {
+    let one = Frac64::one();
+    let great = Frac64::from_whole(4611686018427387904)
+        .ok()
+        .context("2^62")?;
+    let less = Frac64::from_whole(4611686018427387903)
+        .ok()
+        .context("2^62 - 1")?;
+    ensure!(less.sign() != 0, "a divisor of 0");
+    let part = one.div(less).ok().context("the part of it")?;
+    ensure!(part.sign() >= 0, "a right side below 0");
+    let mut space: Space<Frac64> = Space::new(rt.alloc(), 2, 1)?;
+    let mut budget = Budget::new(20000);
+    space.begin(&[one]);
+    space.row(&[great], one);
+    space.row(&[one], part);
+    let stopped = space.run(&mut budget);
+    let wide = Wide {
+        operator: Operator::Add,
+        left: (1, 4611686018427387903),
+        right: (-1, 4611686018427387904),
+    };
+    assert_eq!(rt; stopped, Err(RunStop::Wide { unit: 1, wide }));
     Ok(())
 }
