@@ -120,7 +120,7 @@ is_true : (b t : Bool) → ◌≡◌ {A = Result Bool Misfit} (Ok b) (Ok t) → 
 is_true b t h = cc
 
 -- a fact of the mark optimal, and of a mark that is none
-at_optimal : (mark : Mark) (cover : Cover) (measure : Measure) (P : Cover → Measure → Type 0) → mark ≡ Optimal cover measure → P cover measure → IfOptimal mark P
+pub at_optimal : (mark : Mark) (cover : Cover) (measure : Measure) (P : Cover → Measure → Type 0) → mark ≡ Optimal cover measure → P cover measure → IfOptimal mark P
 at_optimal mark cover measure P is h = subst (λ m. IfOptimal m P) (sym is) h
 
 of_optimal : (mark : Mark) (cover : Cover) (measure : Measure) (P : Cover → Measure → Type 0) → mark ≡ Optimal cover measure → IfOptimal mark P → P cover measure

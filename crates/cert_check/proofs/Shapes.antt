@@ -13,11 +13,12 @@ use Rattle.frac.specs.declared.frac128.Frac128.{Frac128}
 use Rattle.frac.specs.Value.{fraction_of}
 use Rattle.form.specs.declared.orders.Order.{Order}
 use Rattle.form.specs.declared.orders.Batch.{Batch}
-use Rattle.form.specs.Payoff.{IsState, BundleLeg, IsBundle, bundle_of, option_of}
+use Rattle.form.specs.Payoff.{IsState, BundleLeg, IsBundle, bundle_of, form_count, legs_in, IsOnCount, leg_of}
 use Rattle.clearing_model.specs.Clearing.{AreOn}
 use Rattle.clearing_model.specs.Certificate.{Point, IsFill, AreFractionFills}
 use Rattle.form.proofs.DotSteps.{length-vector_of}
 use Rattle.form.proofs.Vectors.{length-option_of}
+use Rattle.form.proofs.BundleLegs.{is_bundle_of, on_count-from, on_count-is}
 use Rattle.measure.specs.declared.measures.Weighted.{Weighted}
 use Rattle.measure.specs.declared.measures.Measure.{Measure}
 use Rattle.measure.specs.Points.{point_of}
@@ -28,7 +29,7 @@ use Rattle.cert_check.specs.declared.outcome.Mark.{Mark}
 use Rattle.cert_check.specs.declared.outcome.Mark.TheVariants.{Optimal, Wide, Budget}
 use Rattle.cert_check.specs.declared.outcome.Outcome.{Outcome}
 use Rattle.cert_check.specs.Conditions.{IfOptimal, IsCoverOn, IsOfBatch}
-use Rattle.cert_check.specs.Tests.{HasSigns}
+use Rattle.cert_check.specs.Tests.{AreSigns, HasSigns}
 use Rattle.cert_check.specs.Shape.{IsMarkOn, forms_have, states_have, cover_fits, mark_fits, has_shape, is_fill, are_fills}
 use Rattle.exact_num.specs.Tests.{is_at_most, is_not_below_zero}
 
@@ -41,29 +42,20 @@ less_is_true a b h = grind (arith, nat_tests)
 true_is_less : (a b : ℕ) → nat_lt a b ≡ true → a < b
 true_is_less a b h = grind (arith, nat_tests)
 
--- an order is on n underlyings exactly where its form has n + 1 entries
-pub order_is_on : (n : ℕ) (o : Order) → o.form.count ≡ n + 1 → IsBundle n (bundle_of o)
-unfolding bundle_of
-order_is_on n o h =
-    let leg : BundleLeg = record { count = pos 1; option = option_of o.form } in
-    let counted : pos 1 ≡ pos 0 → ⊥ = λ e. absurd (omega (arith, ints)) in (
-      omega arith,
-      omega arith,
-      All-cons (λ (leg : BundleLeg). (leg.count ≡ pos 0 → ⊥) × (length leg.option ≡ n + 1)) leg [] (counted, length-option_of o.form ∙ h) (All-nil (λ (leg : BundleLeg). (leg.count ≡ pos 0 → ⊥) × (length leg.option ≡ n + 1))),
-    )
-
-count_of_order : (n : ℕ) (o : Order) → IsBundle n (bundle_of o) → o.form.count ≡ n + 1
+-- the forms of a bundle on n underlyings have n + 1 entries
+count_of_order : (n : ℕ) (o : Order) → IsBundle n (bundle_of o) → form_count o.bundle ≡ n + 1
 unfolding bundle_of
 count_of_order n o is =
-    let leg : BundleLeg = record { count = pos 1; option = option_of o.form } in
-    sym (length-option_of o.form) ∙ (All-head (λ (leg : BundleLeg). (leg.count ≡ pos 0 → ⊥) × (length leg.option ≡ n + 1)) leg [] is.2).1
+    let P : BundleLeg → Type 0 = λ leg. (leg.count ≡ pos 0 → ⊥) × (length leg.option ≡ n + 1) in
+    let each = All-of_map P leg_of (legs_in o.bundle) is.2 in
+    on_count-is (n + 1) o.bundle (λ k d lt. sym (length-option_of (get_or (legs_in o.bundle) k d).form) ∙ (each k d lt).1)
 
-pub forms_all : (n : ℕ) (os : List Order) → forms_have n os ≡ true → All (λ (order : Order). order.form.count ≡ n) os
-forms_all n os h = λ k d lt. eqb-true _ n (AllPass-from_list_all (λ (order : Order). order.form.count == n) os h k d lt)
+forms_all : (n : ℕ) (os : List Order) → forms_have n os ≡ true → All (λ (order : Order). IsOnCount n order.bundle) os
+forms_all n os h = λ k d lt. on_count-from n (get_or os k d).bundle (eqb-true _ n (AllPass-from_list_all (λ (order : Order). form_count order.bundle == n) os h k d lt))
 
 forms_pass : (n : ℕ) (os : List Order) → AreOn n os → forms_have (n + 1) os ≡ true
 forms_pass n os on =
-    list_all-from_AllPass (λ (order : Order). order.form.count == n + 1) os (λ k d lt. equal_is_true _ (n + 1) (count_of_order n _ (on k d lt)))
+    list_all-from_AllPass (λ (order : Order). form_count order.bundle == n + 1) os (λ k d lt. equal_is_true _ (n + 1) (count_of_order n _ (on k d lt)))
 
 -- each state has so many entries
 abbrev HasEntries : ℕ → Weighted → Type 0
@@ -108,10 +100,10 @@ same_underlyings n (Optimal cover measure) on = (on.0, states_are n measure.poin
 same_underlyings n (Wide w) on = tt
 same_underlyings n Budget on = tt
 
--- signs, one for each order, are enough for any cover
-pub has_signs : (cover : Cover) (signs orders : ℕ) → signs ≡ orders → HasSigns cover signs orders
-has_signs Line signs orders same = tt
-has_signs (Tree tree) signs orders same = same
+-- signs, one for each leg, are enough for any cover
+pub has_signs : (cover : Cover) (orders : List Order) (signs : ℕ) → AreSigns orders signs → HasSigns cover orders signs
+has_signs Line orders signs are = tt
+has_signs (Tree tree) orders signs are = are
 
 mark_passes : (n : ℕ) (mark : Mark) → IfOptimal mark (AreOnTheSame n) → mark_fits n mark ≡ true
 mark_passes n (Optimal cover measure) is =
@@ -122,7 +114,7 @@ mark_passes n Budget is = refl
 -- what a shape that passes says to the functions after it
 pub record Shaped (batch : Batch) (outcome : Outcome) : Type 0 where
   pub fills : length outcome.fills ≡ length batch.orders
-  pub forms : All (λ (order : Order). order.form.count ≡ batch.underlyings + 1) batch.orders
+  pub forms : All (λ (order : Order). IsOnCount (batch.underlyings + 1) order.bundle) batch.orders
   pub mark : IsMarkOn batch.underlyings outcome.mark
 
 pub shaped : (batch : Batch) (outcome : Outcome) → has_shape batch outcome ≡ true → Shaped batch outcome
@@ -139,7 +131,7 @@ pub shape_met : (batch : Batch) (outcome : Outcome) → has_shape batch outcome 
 shape_met batch outcome h =
     let shape = shaped batch outcome h in
     record {
-      orders = λ k d lt. order_is_on batch.underlyings (get_or batch.orders k d) (shape.forms k d lt);
+      orders = λ k d lt. is_bundle_of batch.underlyings (get_or batch.orders k d) (shape.forms k d lt);
       fills = shape.fills;
       mark = same_underlyings batch.underlyings outcome.mark shape.mark;
     }

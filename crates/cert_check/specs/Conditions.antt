@@ -57,7 +57,7 @@ abbrev pub Closes : ℕ → List Order → List Fraction → Fraction → Cover 
 Closes n orders fills L Line = LineCloses orders fills L
 Closes n orders fills L (Tree tree) = ClosesAsWritten n orders fills L (map node_of tree.nodes) (map placed_of tree.multipliers)
 
--- nothing is owed: the liability is 0, and as much is bought as sold of each option
+-- nothing is owed: the liability is 0, and as much is bought as sold of each bundle
 abbrev pub OwesNothing : List Order → List Fraction → Fraction → Type 0
 OwesNothing orders fills L = (L ≡ whole (pos 0)) × AreBalanced (zip orders (amounts_of fills))
 

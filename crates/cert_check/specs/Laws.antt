@@ -14,7 +14,7 @@ use Rattle.cert_check.specs.declared.outcome.Judgement.TheVariants.{Yes}
 use Rattle.cert_check.specs.Conditions.{OnYes, IfNo, IfOptimal, Meets, conditions, IsFirstUnmet}
 use Rattle.cert_check.specs.Events.{verdict_of}
 
--- each order is an option on the batch's underlyings, and the fills cover the claimed surplus at every settlement; it is
+-- each order is a bundle on the batch's underlyings, and the fills cover the claimed surplus at every settlement; it is
 -- not below 0
 pub record IsCovered (batch : Batch) (outcome : Outcome) : Type 0 where
   pub on_underlyings : AreOn batch.underlyings batch.orders
@@ -31,6 +31,13 @@ pub record IsMeasured (batch : Batch) (outcome : Outcome) (measure : Measure) : 
   pub is_measure : IsFractionMeasure batch.underlyings (map point_of measure.points)
   pub bound : MeasureProves batch.orders (map point_of measure.points) (fraction_of outcome.claim.surplus)
 
+-- of an outcome whose mark is optimal
+abbrev pub IsMeasuredIfOptimal : Batch → Outcome → Type 0
+IsMeasuredIfOptimal batch outcome = IfOptimal outcome.mark (λ cover measure. IsMeasured batch outcome measure)
+
+abbrev pub IsProvedIfOptimal : Batch → Outcome → Type 0
+IsProvedIfOptimal batch outcome = IfOptimal outcome.mark (λ cover measure. IsProved batch outcome)
+
 -- a yes meets each condition, and a no names the first that is not met
 abbrev pub Says : Batch → Outcome → Judgement → Type 0
 Says batch outcome judgement =
@@ -46,12 +53,12 @@ ConditionsCover = (batch : Batch) (outcome : Outcome) → All (Meets batch outco
 abbrev pub ConditionsMeasure : Type 0
 ConditionsMeasure =
     (batch : Batch) (outcome : Outcome) → All (Meets batch outcome) conditions
-    → IfOptimal outcome.mark (λ cover measure. IsMeasured batch outcome measure)
+    → IsMeasuredIfOptimal batch outcome
 
 abbrev pub ConditionsProve : Type 0
 ConditionsProve =
     (batch : Batch) (outcome : Outcome) → All (Meets batch outcome) conditions
-    → IfOptimal outcome.mark (λ cover measure. IsProved batch outcome)
+    → IsProvedIfOptimal batch outcome
 
 -- so a yes shows that
 abbrev pub YesCovers : Type 0
@@ -60,9 +67,9 @@ YesCovers = (batch : Batch) (outcome : Outcome) → verdict_of limit batch outco
 abbrev pub YesHasItsMeasure : Type 0
 YesHasItsMeasure =
     (batch : Batch) (outcome : Outcome) → verdict_of limit batch outcome ≡ Yes
-    → IfOptimal outcome.mark (λ cover measure. IsMeasured batch outcome measure)
+    → IsMeasuredIfOptimal batch outcome
 
 abbrev pub YesOnOptimalProves : Type 0
 YesOnOptimalProves =
     (batch : Batch) (outcome : Outcome) → verdict_of limit batch outcome ≡ Yes
-    → IfOptimal outcome.mark (λ cover measure. IsProved batch outcome)
+    → IsProvedIfOptimal batch outcome

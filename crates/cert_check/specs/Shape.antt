@@ -1,13 +1,15 @@
 -- The shape of a batch and its outcome, and its fills.
-use Rattle.std.specs.Prelude.{ℕ, ◌≡◌, ◌+◌, ◌==◌, List, [], ◌∷◌, length, int_le, nat_lt, Bool, true, ◌&&◌, pos}
-use Rattle.std.specs.List.{list_all, All}
+use Rattle.std.specs.Prelude.{ℕ, ◌+◌, ◌==◌, List, [], ◌∷◌, length, int_le, nat_lt, Bool, true, ◌&&◌, pos}
+use Rattle.std.specs.List.{list_all}
 use Rattle.exact_num.specs.Tests.{is_at_most}
 use Rattle.exact_num.specs.Fraction.{Fraction, whole}
 use Rattle.frac.specs.Value.{fraction_of}
 use Rattle.frac.specs.declared.frac128.Frac128.{Frac128}
 use Rattle.form.specs.declared.orders.Order.{Order}
 use Rattle.form.specs.declared.orders.Batch.{Batch}
+use Rattle.form.specs.Payoff.{form_count}
 use Rattle.measure.specs.declared.measures.Weighted.{Weighted}
+use Rattle.measure.specs.Points.{IsOnStates}
 use Rattle.cert_check.specs.declared.outcome.Cover.{Cover}
 use Rattle.cert_check.specs.declared.outcome.Cover.TheVariants.{Line, Tree}
 use Rattle.cert_check.specs.declared.outcome.Mark.{Mark}
@@ -15,9 +17,9 @@ use Rattle.cert_check.specs.declared.outcome.Mark.TheVariants.{Optimal, Wide, Bu
 use Rattle.cert_check.specs.declared.outcome.Outcome.{Outcome}
 use Rattle.cert_check.specs.Conditions.{IfOptimal, IsCoverOn}
 
--- whether each form, or each state, has so many entries
+-- whether each leg's form, or each state, has so many entries; the forms of a bundle have as many
 abbrev pub forms_have : ℕ → List Order → Bool
-forms_have entries orders = list_all (λ (order : Order). order.form.count == entries) orders
+forms_have entries orders = list_all (λ (order : Order). form_count order.bundle == entries) orders
 
 abbrev pub states_have : ℕ → List Weighted → Bool
 states_have entries points = list_all (λ (point : Weighted). point.state.count == entries) points
@@ -35,7 +37,7 @@ mark_fits n Budget = true
 -- the cover and the states of an optimal mark are those of n underlyings
 abbrev pub IsMarkOn : ℕ → Mark → Type 0
 IsMarkOn n mark =
-    IfOptimal mark (λ cover measure. IsCoverOn n cover × All (λ (point : Weighted). point.state.count ≡ n + 1) measure.points)
+    IfOptimal mark (λ cover measure. IsCoverOn n cover × IsOnStates n measure)
 
 -- whether there are as many fills as orders, and forms, states and cover are those of the batch's underlyings
 abbrev pub has_shape : Batch → Outcome → Bool

@@ -1,15 +1,15 @@
 //! The four tests of a verdict: surplus, cover, measure and bound.
 
-ghost use Rattle.std.specs.Prelude.{◌≡◌, ◌+◌, All, length, map, zip};
+ghost use Rattle.std.specs.Prelude.{◌≡◌, length};
 ghost use Rattle.exact_num.specs.Fits.{meaning};
 ghost use Rattle.frac.specs.Range.{limit};
 ghost use Rattle.frac.specs.Value.{fraction_of};
 ghost use Rattle.form.specs.Limits.{HasItsForms};
 ghost use Rattle.line_cover.specs.Verdict.{line_verdict};
-ghost use Rattle.measure.specs.Points.{point_of};
+ghost use Rattle.measure.specs.Points.{IsOnStates, points_of};
 ghost use Rattle.sign_tree.specs.Verdict.{tree_verdict};
 ghost use Rattle.cert_check.specs.Conditions.{IsCoverOn};
-ghost use Rattle.cert_check.specs.Tests.{HasSigns, add_premium, bound_holds, cover_holds, is_claimed, measure_holds, premium_of, surplus_holds};
+ghost use Rattle.cert_check.specs.Tests.{HasSigns, add_premium, batch_covered, bound_holds, claim_holds, is_claimed, measure_holds, order_fills, premium_of};
 
 use crate::outcome::{Claim, Cover};
 use exact_num::{Exact, Wide};
@@ -23,7 +23,7 @@ use sign_tree::{TreeVerdict, closes};
 /// where a step does not fit. Takes no memory.
 pub fn surplus_holds(orders: &[Order], fills: &[Frac128], claim: &Claim) -> Result<bool, Wide>
     requires { length fills.now ≡ length orders.now }
-    ensures { result ≡ surplus_holds limit (zip orders.now (map fraction_of fills.now)) (fraction_of claim.now.liability) (fraction_of claim.now.surplus) }
+    ensures { result ≡ claim_holds limit orders.now fills.now claim.now }
 {
     let premium = premium(orders, fills)?;
     let left = premium.sub(claim.liability)?;
@@ -40,7 +40,7 @@ fn is_claimed(surplus: Frac128, left: Frac128) -> bool
 // What buyers pay less what sellers get.
 fn premium(orders: &[Order], fills: &[Frac128]) -> Result<Frac128, Wide>
     requires { length fills.now ≡ length orders.now }
-    ensures { meaning fraction_of result ≡ premium_of limit (zip orders.now (map fraction_of fills.now)) }
+    ensures { meaning fraction_of result ≡ premium_of limit (order_fills orders.now fills.now) }
 {
     let mut total = Frac128::zero();
     for i in 0..orders.len() {
@@ -52,14 +52,16 @@ fn premium(orders: &[Order], fills: &[Frac128]) -> Result<Frac128, Wide>
 
 // The total and the premium of a fill.
 fn add_premium(total: Frac128, order: &Order, fill: Frac128) -> Result<Frac128, Wide>
-    ensures { meaning fraction_of result ≡ add_premium limit (fraction_of total) (order.now, fraction_of fill) }
+    ensures { meaning fraction_of result
+        ≡ add_premium limit (fraction_of total) (order.now, fraction_of fill) }
 {
     add_for_side(total, order.side, fill, whole(order.price.into()))
 }
 
 /// Whether the line or the tree shows that the liability is enough for the fills. `Wide` comes exactly where a step does
 /// not fit before the cover fails. There are as many fills as orders, the cover is one of the batch's underlyings, and for
-/// a tree there are as many signs as orders; what they held does not matter, and a line looks at none. Takes no memory.
+/// a tree there are as many signs as the orders have legs, at most 1,024; what they held does not matter, and a line looks
+/// at none. Takes no memory.
 pub fn cover_holds(
     batch: &Batch,
     fills: &[Frac128],
@@ -70,8 +72,8 @@ pub fn cover_holds(
     requires forms { HasItsForms batch.now }
     requires fills { length fills.now ≡ length batch.now.orders }
     requires cover { IsCoverOn batch.now.underlyings cover.now }
-    requires signs { HasSigns cover.now (length signs.old) (length batch.now.orders) }
-    ensures { result ≡ cover_holds limit batch.now.underlyings batch.now.orders (map fraction_of fills.now) (fraction_of liability.now) cover.now }
+    requires signs { HasSigns cover.now batch.now.orders (length signs.old) }
+    ensures { result ≡ batch_covered limit batch.now fills.now liability.now cover.now }
 {
     match cover {
         Cover::Line => of_line(holds_on_line(batch, fills, liability)),
@@ -104,7 +106,7 @@ fn of_tree(verdict: TreeVerdict) -> Result<bool, Wide>
 /// Whether no weight of the measure is below 0 and the sum of `weight * t` is 1. `Wide` comes exactly where a step of the
 /// sum does not fit and no weight is below 0. Takes no memory.
 pub fn measure_holds(measure: &Measure) -> Result<bool, Wide>
-    ensures { result ≡ measure_holds limit (map point_of measure.now.points) }
+    ensures { result ≡ measure_holds limit (points_of measure.now) }
 {
     is_measure(measure)
 }
@@ -113,8 +115,9 @@ pub fn measure_holds(measure: &Measure) -> Result<bool, Wide>
 /// where a step does not fit. Takes no memory.
 pub fn bound_holds(batch: &Batch, measure: &Measure, surplus: &Frac128) -> Result<bool, Wide>
     requires forms { HasItsForms batch.now }
-    requires states { All (λ point. point.state.count ≡ batch.now.underlyings + 1) measure.now.points }
-    ensures { result ≡ bound_holds limit batch.now.orders (map point_of measure.now.points) (fraction_of surplus.now) }
+    requires states { IsOnStates batch.now.underlyings measure.now }
+    ensures { result
+        ≡ bound_holds limit batch.now.orders (points_of measure.now) (fraction_of surplus.now) }
 {
     let bound = bound(batch, measure)?;
     Ok(bound == *surplus)

@@ -1,11 +1,11 @@
 //! Whether the liability is enough, as the mark shows.
 
-ghost use Rattle.std.specs.Prelude.{◌≡◌, length, map};
+ghost use Rattle.std.specs.Prelude.{◌≡◌, length};
 ghost use Rattle.frac.specs.Range.{limit};
-ghost use Rattle.frac.specs.Value.{fraction_of};
 ghost use Rattle.form.specs.Limits.{HasItsForms};
-ghost use Rattle.cert_check.specs.Cover.{mark_covers};
+ghost use Rattle.cert_check.specs.Cover.{batch_marked};
 ghost use Rattle.cert_check.specs.Shape.{IsMarkOn};
+ghost use Rattle.cert_check.specs.Tests.{AreSigns};
 
 use crate::balance::fallback_holds;
 use crate::checks::cover_holds;
@@ -24,9 +24,9 @@ pub(crate) fn mark_covers(
 ) -> Result<bool, Wide>
     requires forms { HasItsForms batch.now }
     requires fills { length fills.now ≡ length batch.now.orders }
-    requires signs { length signs.old ≡ length batch.now.orders }
+    requires signs { AreSigns batch.now.orders (length signs.old) }
     requires mark { IsMarkOn batch.now.underlyings mark.now }
-    ensures { result ≡ mark_covers limit batch.now.underlyings batch.now.orders (map fraction_of fills.now) (fraction_of liability.now) mark.now }
+    ensures { result ≡ batch_marked limit batch.now fills.now liability.now mark.now }
 {
     match mark {
         Mark::Optimal { cover, .. } => cover_holds(batch, fills, liability, cover, signs),

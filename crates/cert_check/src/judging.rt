@@ -1,14 +1,16 @@
 //! The verdict: the first condition that fails, or the first step that does not fit, or yes.
 
-ghost use Rattle.std.specs.Prelude.{◌≡◌, ◌≤◌, ◌+◌, All, length, map, true};
+ghost use Rattle.std.specs.Prelude.{◌≡◌, ◌≤◌, All, length};
 ghost use Rattle.frac.specs.Range.{limit};
 ghost use Rattle.frac.specs.Value.{fraction_of};
 ghost use Rattle.form.specs.Limits.{HasItsForms};
-ghost use Rattle.measure.specs.Points.{point_of};
-ghost use Rattle.cert_check.specs.Conditions.{IfNo, IfOptimal, IsFirstUnmet, Meets, OnYes, conditions};
-ghost use Rattle.cert_check.specs.Events.{bound_condition, check, cover_condition, cover_condition_holds, judge_mark, measure_condition, verdict_of, yes};
-ghost use Rattle.cert_check.specs.Tests.{bound_holds, measure_holds};
-ghost use Rattle.cert_check.specs.Laws.{IsCovered, IsMeasured, IsProved};
+ghost use Rattle.sign_tree.specs.Legs.{leg_count};
+ghost use Rattle.sign_tree.specs.declared.closing.TheConstants.{MAX_SIGNS};
+ghost use Rattle.measure.specs.Points.{IsOnStates};
+ghost use Rattle.cert_check.specs.Conditions.{IfNo, IsFirstUnmet, Meets, OnYes, conditions};
+ghost use Rattle.cert_check.specs.Events.{cover_condition_holds, judge_bound, judge_cover, judge_mark, judge_measure, verdict_of};
+ghost use Rattle.cert_check.specs.Laws.{IsCovered, IsMeasuredIfOptimal, IsProvedIfOptimal};
+ghost use Rattle.cert_check.specs.Tests.{AreSigns};
 ghost use Rattle.cert_check.specs.Shape.{IsMarkOn};
 
 use crate::checks::{bound_holds, measure_holds, surplus_holds};
@@ -25,10 +27,12 @@ use measure::Measure;
 /// `Wide` the first step that does not fit where no condition failed before. A yes shows that the fills cover the
 /// claimed surplus at every settlement and that it is not below 0; with the mark optimal also that no fractional fills
 /// cover more. A no shows that its condition does not hold, and that each before it does. The batch is on 1 to 8
-/// underlyings, and there are as many signs as orders; what they held does not matter. Takes no memory.
+/// underlyings, and there are as many signs as the orders have legs, at most 1,024; what they held does not matter. Takes
+/// no memory.
 pub fn verdict(batch: &Batch, outcome: &Outcome, signs: &mut [i8]) -> Judgement
     requires underlyings { (1 ≤ batch.now.underlyings) × (batch.now.underlyings ≤ 8) }
-    requires signs { length signs.old ≡ length batch.now.orders }
+    requires signs { length signs.old ≡ leg_count batch.now.orders }
+    requires few { leg_count batch.now.orders ≤ MAX_SIGNS }
 
     // The first event in the order of the conditions, over sums of 127 bits.
     ensures steps { result ≡ verdict_of limit batch.now outcome.now }
@@ -37,8 +41,8 @@ pub fn verdict(batch: &Batch, outcome: &Outcome, signs: &mut [i8]) -> Judgement
     ensures unmet { IfNo result (IsFirstUnmet batch.now outcome.now) }
 
     ensures covers { OnYes result (IsCovered batch.now outcome.now) }
-    ensures measured { OnYes result (IfOptimal outcome.now.mark (λ cover measure. IsMeasured batch.now outcome.now measure)) }
-    ensures proved { OnYes result (IfOptimal outcome.now.mark (λ cover measure. IsProved batch.now outcome.now)) }
+    ensures measured { OnYes result (IsMeasuredIfOptimal batch.now outcome.now) }
+    ensures proved { OnYes result (IsProvedIfOptimal batch.now outcome.now) }
 {
     if !has_shape(batch, outcome) {
         return Judgement::No(No::BatchShape);
@@ -54,8 +58,8 @@ fn judge_cover(batch: &Batch, outcome: &Outcome, signs: &mut [i8]) -> Judgement
     requires forms { HasItsForms batch.now }
     requires fills { length outcome.now.fills ≡ length batch.now.orders }
     requires mark { IsMarkOn batch.now.underlyings outcome.now.mark }
-    requires signs { length signs.old ≡ length batch.now.orders }
-    ensures { result ≡ check cover_condition (cover_condition_holds limit batch.now outcome.now) (judge_mark limit batch.now.orders (fraction_of outcome.now.claim.surplus) outcome.now.mark) }
+    requires signs { AreSigns batch.now.orders (length signs.old) }
+    ensures { result ≡ judge_cover limit batch.now outcome.now }
 {
     match is_covered(batch, outcome, signs) {
         Ok(true) => judge_mark(batch, &outcome.claim.surplus, &outcome.mark),
@@ -69,7 +73,7 @@ fn is_covered(batch: &Batch, outcome: &Outcome, signs: &mut [i8]) -> Result<bool
     requires forms { HasItsForms batch.now }
     requires fills { length outcome.now.fills ≡ length batch.now.orders }
     requires mark { IsMarkOn batch.now.underlyings outcome.now.mark }
-    requires signs { length signs.old ≡ length batch.now.orders }
+    requires signs { AreSigns batch.now.orders (length signs.old) }
     ensures { result ≡ cover_condition_holds limit batch.now outcome.now }
 {
     let fills = outcome.fills.as_slice();
@@ -94,8 +98,8 @@ fn judge_mark(batch: &Batch, surplus: &Frac128, mark: &Mark) -> Judgement
 // Whether the measure is one, and its bound the surplus.
 fn judge_measure(batch: &Batch, surplus: &Frac128, measure: &Measure) -> Judgement
     requires forms { HasItsForms batch.now }
-    requires states { All (λ point. point.state.count ≡ batch.now.underlyings + 1) measure.now.points }
-    ensures { result ≡ check measure_condition (measure_holds limit (map point_of measure.now.points)) (check bound_condition (bound_holds limit batch.now.orders (map point_of measure.now.points) (fraction_of surplus.now)) yes) }
+    requires states { IsOnStates batch.now.underlyings measure.now }
+    ensures { result ≡ judge_measure limit batch.now.orders (fraction_of surplus.now) measure.now }
 {
     match measure_holds(measure) {
         Ok(true) => judge_bound(batch, surplus, measure),
@@ -107,8 +111,8 @@ fn judge_measure(batch: &Batch, surplus: &Frac128, measure: &Measure) -> Judgeme
 // Whether the bound of the measure is the surplus.
 fn judge_bound(batch: &Batch, surplus: &Frac128, measure: &Measure) -> Judgement
     requires forms { HasItsForms batch.now }
-    requires states { All (λ point. point.state.count ≡ batch.now.underlyings + 1) measure.now.points }
-    ensures { result ≡ check bound_condition (bound_holds limit batch.now.orders (map point_of measure.now.points) (fraction_of surplus.now)) yes }
+    requires states { IsOnStates batch.now.underlyings measure.now }
+    ensures { result ≡ judge_bound limit batch.now.orders (fraction_of surplus.now) measure.now }
 {
     match bound_holds(batch, measure, surplus) {
         Ok(true) => Judgement::Yes,

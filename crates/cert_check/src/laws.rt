@@ -38,7 +38,8 @@ pub fn yes_on_optimal_proves()
     ensures { YesOnOptimalProves }
 {}
 
-/// The butterfly by two sells, sound and changed, is judged as it is worked by hand.
+/// The butterfly by two sells and the spread covered by two options, sound and changed, are judged as
+/// they are worked by hand.
 pub fn verdicts_as_worked()
     ensures { VerdictsAsWorked }
 {}

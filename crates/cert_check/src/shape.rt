@@ -20,13 +20,13 @@ pub(crate) fn has_shape(batch: &Batch, outcome: &Outcome) -> bool
         && mark_fits(batch.underlyings, &outcome.mark)
 }
 
-// Whether each form has so many entries.
+// Whether the form of each leg has so many entries.
 fn forms_have(entries: u16, orders: &[Order]) -> bool
     ensures { result ≡ forms_have entries orders.now }
 {
     orders
         .iter()
-        .all(|order| u16::from(order.form.count) == entries)
+        .all(|order| u16::from(order.bundle.form_count()) == entries)
 }
 
 // Whether each state has so many entries.

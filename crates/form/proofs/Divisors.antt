@@ -11,7 +11,7 @@ use Rattle.std.proofs.lemmas.List.Sums.{sum_by-cons}
 use Rattle.std.proofs.lemmas.Nat.Gcd.{dvd_trans}
 use Rattle.arithmetic.specs.Gcd.{gcd}
 use Rattle.arithmetic.specs.Sums.{positive_part}
-use Rattle.arithmetic.proofs.GcdLaws.{gcd_assoc, gcd_unique, gcd_dvd_left, gcd_dvd_right, dvd_gcd, gcd-zero, gcd_pos_left, gcd_pos_right, pos_of_quotient, gcd-mul}
+use Rattle.arithmetic.proofs.GcdLaws.{gcd_assoc, gcd_dvd_left, gcd_dvd_right, gcd-zero, gcd_pos_left, gcd_pos_right, pos_of_quotient, gcd-mul}
 use Rattle.form.specs.Primitive.{common_divisor, primitive_vector, PrimitiveVectorsArePrimitive}
 
 -- one entry more

@@ -1,5 +1,5 @@
 -- One step of a payoff.
-use Rattle.std.proofs.Common.{◌≡◌, ℕ, suc, negsuc, ◌+◌, ◌<◌, ◌≤◌, List, [], ◌∷◌, length, get_or, take, drop, zip, arith, ℤ, pos, ◌+ℤ◌, ◌*ℤ◌, refl, Ok, ap, sym, ◌∙◌}
+use Rattle.std.proofs.Common.{◌≡◌, ℕ, negsuc, ◌+◌, ◌<◌, ◌≤◌, List, [], ◌∷◌, length, get_or, take, drop, zip, arith, ℤ, pos, ◌+ℤ◌, ◌*ℤ◌, Ok, ap, sym, ◌∙◌}
 use Rattle.std.proofs.lemmas.List.{get_or-take, get_or-map, length-map, length-take-le}
 use Rattle.arithmetic.proofs.Parts.{part_above}
 use Rattle.exact_num.specs.Fraction.{Fraction, whole}
@@ -56,7 +56,7 @@ or_zero_is t = ap whole (positive_is t)
     positive_is (pos n) = omega (arith, ints, int_max_is (pos n) (pos 0))
     positive_is (negsuc n) = omega (arith, ints, int_max_is (negsuc n) (pos 0))
 
-plus_whole_is : (limit : ℕ) (t a b : ℤ) (s : Fraction) → plus_product limit (whole t) (whole a) (whole b) ≡ Ok s → s ≡ whole (t +ℤ (a *ℤ b))
+pub plus_whole_is : (limit : ℕ) (t a b : ℤ) (s : Fraction) → plus_product limit (whole t) (whole a) (whole b) ≡ Ok s → s ≡ whole (t +ℤ (a *ℤ b))
 plus_whole_is limit t a b s h =
     let f = after_value (mul_of limit (whole a) (whole b)) (λ p. add_of limit (whole t) p) s h in
     let p : f.value ≡ whole (a *ℤ b) = mul_whole_is limit a b f.value f.first in

@@ -11,3 +11,9 @@ pub mod StateOf
 pub mod Directions
 pub mod WorkedStates
 pub mod MadeEntries
+pub mod SameBundle
+pub mod BundleLegs
+pub mod LegSteps
+pub mod EqualBundles
+pub mod MadeBundles
+pub mod OneOption

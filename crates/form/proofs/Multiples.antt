@@ -15,11 +15,11 @@ use Rattle.arithmetic.specs.Sums.{positive_part}
 use Rattle.arithmetic.proofs.Integers.{*ℤ_cancel_le, *ℤ_cancel_lt}
 use Rattle.arithmetic.proofs.GcdLaws.{gcd_dvd_left, gcd_pos_left, pos_of_quotient}
 use Rattle.exact_num.specs.declared.misfit.Wide.{Wide}
-use Rattle.exact_num.specs.Fraction.{Fraction, IsLowest, whole}
-use Rattle.exact_num.specs.Fits.{mul_of, whole_of, after, meaning}
+use Rattle.exact_num.specs.Fraction.{Fraction, IsLowest}
+use Rattle.exact_num.specs.Fits.{mul_of, after}
 use Rattle.exact_num.proofs.After.{after_value}
 use Rattle.exact_num.proofs.Exactness.{products_are_exact}
-use Rattle.exact_num.proofs.WholeNumbers.{mul_whole_is, whole_fits}
+use Rattle.exact_num.proofs.WholeNumbers.{mul_whole_is}
 use Rattle.form.specs.Primitive.{IsDirection, multiple_with, common_multiple_of, multiples_of, primitive_vector, primitive_of}
 
 -- ---- the common multiple

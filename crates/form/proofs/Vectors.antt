@@ -4,8 +4,7 @@ use Rattle.std.proofs.lemmas.Bool.{cases_lt}
 use Rattle.std.proofs.lemmas.Int.{ints}
 use Rattle.std.proofs.lemmas.List.{ext_get_or, get_or-take, get_or_past, length-take-le}
 use Rattle.form.specs.declared.forms.Form.{Form}
-use Rattle.form.specs.declared.orders.Order.{Order}
-use Rattle.form.specs.Payoff.{option_of, one, payoff, bundle_of, bundle_payoff, FormsAreOptions}
+use Rattle.form.specs.Payoff.{option_of, one, payoff, bundle_payoff, FormsAreOptions}
 
 -- the option has as many entries as the form counts
 pub length-option_of : (form : Form) → length (option_of form) ≡ form.count
@@ -32,10 +31,6 @@ entry_of_option form i = elim (cases_lt i form.count) [
   | inr past ↦ get_or_past (option_of form) i (pos 0) (omega (arith, length-option_of form)) ∙ sym (form.zero_past_count i past)
 ]
 
--- the bundle of one option pays what it pays, and an order's bundle what its option pays
+-- the bundle of one option pays what it pays
 pub one_pays : (v : List ℤ) (z : List ℕ) → bundle_payoff (one v) z ≡ pos (payoff v z)
 one_pays v z = omega (arith, ints)
-
-pub bundle_pays : (o : Order) (z : List ℕ) → bundle_payoff (bundle_of o) z ≡ pos (payoff (option_of o.form) z)
-unfolding bundle_of
-bundle_pays o z = one_pays (option_of o.form) z

@@ -1,4 +1,7 @@
 pub mod Vector
+pub mod Options
+pub mod Legs
+pub mod Bundles
 pub mod Payoff
 pub mod States
 pub mod StateOf
@@ -8,3 +11,5 @@ pub mod FormOf
 pub mod Padded
 pub mod Primitive
 pub mod Worked
+pub mod BundleOf
+pub mod OneOption

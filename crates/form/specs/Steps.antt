@@ -6,7 +6,7 @@ use Rattle.exact_num.specs.Fits.{after}
 use Rattle.exact_num.specs.Steps.{fold_steps, plus_product, less_product}
 use Rattle.form.specs.declared.orders.Side.{Side}
 use Rattle.form.specs.declared.orders.Side.TheVariants.{Buy, Sell}
-use Rattle.form.specs.Vector.{positive_part, payoff}
+use Rattle.form.specs.Vector.{positive_part, payoff, BundleLeg, bundle_payoff}
 
 -- the total and the product of an entry of an option and one of a state
 abbrev pub add_entry : ℕ → Fraction → ℤ × ℕ → Result Fraction Wide
@@ -20,6 +20,15 @@ or_zero x = whole (pos (positive_part x.numerator))
 unfoldable pub payoff_of : ℕ → List ℤ → List ℕ → Result Fraction Wide
 payoff_of limit v z = after (fold_steps (add_entry limit) (whole (pos 0)) (zip v z)) (λ sum. Ok (or_zero sum))
 
+-- the total and the count times the payoff of a leg
+abbrev pub add_leg : ℕ → List ℕ → Fraction → BundleLeg → Result Fraction Wide
+add_leg limit z total leg =
+    after (payoff_of limit leg.option z) (λ h. plus_product limit total (whole leg.count) h)
+
+-- the payoff of the bundle at the state: a sum leg by leg that starts with 0
+unfoldable pub bundle_payoff_of : ℕ → List BundleLeg → List ℕ → Result Fraction Wide
+bundle_payoff_of limit legs z = fold_steps (add_leg limit z) (whole (pos 0)) legs
+
 -- the total and the product, which a sell subtracts
 abbrev pub add_for_side : ℕ → Fraction → Side → Fraction → Fraction → Result Fraction Wide
 add_for_side limit total Buy a b = plus_product limit total a b
@@ -29,3 +38,9 @@ add_for_side limit total Sell a b = less_product limit total a b
 abbrev pub PayoffsAreExact : Type 0
 PayoffsAreExact =
     (limit : ℕ) (v : List ℤ) (z : List ℕ) (h : Fraction) → payoff_of limit v z ≡ Ok h → h ≡ whole (pos (payoff v z))
+
+-- and likewise for bundles
+abbrev pub BundlePayoffsAreExact : Type 0
+BundlePayoffsAreExact =
+    (limit : ℕ) (legs : List BundleLeg) (z : List ℕ) (h : Fraction)
+    → bundle_payoff_of limit legs z ≡ Ok h → h ≡ whole (bundle_payoff legs z)

@@ -52,6 +52,10 @@ IsBundle n legs =
     × (length legs ≤ 4)
     × All (λ (leg : BundleLeg). (leg.count ≡ pos 0 → ⊥) × (length leg.option ≡ n + 1)) legs
 
+-- the bundle of one option that counts once
+abbrev pub one : List ℤ → List BundleLeg
+one v = record { count = pos 1; option = v } ∷ []
+
 -- the sum over the legs of count times p of the option
 abbrev pub over_legs : (List ℤ → ℕ) → List BundleLeg → ℤ
 over_legs p [] = pos 0

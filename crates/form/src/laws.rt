@@ -1,13 +1,14 @@
 //! Laws of the model: each is the contract of a function that does nothing.
 
-ghost use Rattle.form.specs.Payoff.{EachOrderIsOneOption, FormsAreOptions};
+ghost use Rattle.form.specs.OneOption.{OneOptionPays};
+ghost use Rattle.form.specs.Payoff.{BundlesAreLegs, FormsAreOptions};
 ghost use Rattle.form.specs.Primitive.{PrimitiveVectorsArePrimitive};
-ghost use Rattle.form.specs.Steps.{PayoffsAreExact};
+ghost use Rattle.form.specs.Steps.{BundlePayoffsAreExact, PayoffsAreExact};
 ghost use Rattle.form.specs.Worked.{StatesByHand};
 
-/// An order's bundle is the option of its form.
-pub fn each_order_is_one_option()
-    ensures { EachOrderIsOneOption }
+/// Bundles of the same legs in the same order are equal.
+pub fn bundles_are_legs()
+    ensures { BundlesAreLegs }
 {}
 
 /// Forms of the same option are equal.
@@ -18,6 +19,16 @@ pub fn forms_are_options()
 /// Where each step of a payoff fits, it is what the option pays.
 pub fn payoffs_are_exact()
     ensures { PayoffsAreExact }
+{}
+
+/// And likewise for bundles.
+pub fn bundle_payoffs_are_exact()
+    ensures { BundlePayoffsAreExact }
+{}
+
+/// A bundle of one option that counts once pays what the option pays, and does not fit where that does not.
+pub fn one_option_pays()
+    ensures { OneOptionPays }
 {}
 
 /// The primitive vector of a state is a state of the same direction whose entries have no common divisor above 1.

@@ -15,5 +15,14 @@ pub const MAX_PRICE: u64 = 1_000_000_000_000;
 /// The largest quantity of an order.
 pub const MAX_QUANTITY: u32 = 1_000_000;
 
+/// The most legs of a bundle.
+pub const MAX_LEGS: u8 = 4;
+
+/// The largest size of a leg's count.
+pub const MAX_COUNT: u16 = 1_000;
+
+/// The most options that an order counts: its quantity times the sum of the sizes of its bundle's counts.
+pub const MAX_OPTIONS: u32 = 1_000_000;
+
 /// The most orders of a batch.
 pub const MAX_ORDERS: usize = 256;

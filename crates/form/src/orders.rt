@@ -1,22 +1,22 @@
-//! Orders for options, and the batches of one market that are cleared at once.
+//! Orders for bundles of options, and the batches of one market that are cleared at once.
 
-use crate::forms::Form;
+use crate::bundles::Bundle;
 use std::marker::Model;
 
-/// Whether an order buys or sells its option.
+/// Whether an order buys or sells its bundle.
 #[derive(Clone, Copy, Debug, PartialEq, Eq)]
 pub enum Side {
     Buy,
     Sell,
 }
 
-/// An order: at most `quantity` of the option at the limit `price`, in ticks for one option, or better.
+/// An order: at most `quantity` of the bundle at the limit `price`, in ticks for one bundle, or better.
 #[derive(Clone, Copy, Debug, PartialEq, Eq)]
 pub struct Order {
     pub id: u64,
     pub account: u32,
     pub side: Side,
-    pub form: Form,
+    pub bundle: Bundle,
     pub price: u64,
     pub quantity: u32,
 }

@@ -1,15 +1,17 @@
-//! What options pay at states.
+//! What options and bundles pay at states.
 
 ghost use Rattle.std.specs.Prelude.{◌≡◌, ◌≤◌, unsigned_abs, option_and_then, if◌then◌else◌, IfOk};
 ghost use Rattle.exact_num.specs.Fraction.{whole};
 ghost use Rattle.exact_num.specs.Limit.{limit};
 ghost use Rattle.exact_num.specs.Fits.{add_of, meaning, misfit, mul_of, size_fits};
-ghost use Rattle.form.specs.Payoff.{option_of};
+ghost use Rattle.form.specs.Payoff.{IsOnCount, bundle_legs, leg_of, option_of};
 ghost use Rattle.form.specs.States.{vector_of};
-ghost use Rattle.form.specs.Steps.{payoff_of};
+ghost use Rattle.form.specs.Steps.{add_leg, bundle_payoff_of, payoff_of};
 ghost use Rattle.exact_num.specs.Steps.{plus_product};
 
+use crate::bundles::Bundle;
 use crate::forms::Form;
+use crate::legs::Leg;
 use crate::states::State;
 use exact_num::{Operator, Wide};
 
@@ -17,7 +19,8 @@ use exact_num::{Operator, Wide};
 /// product of two entries or their sum so far is above `2^127 - 1` in size. Takes no memory.
 pub fn payoff(form: &Form, state: &State) -> Result<i128, Wide>
     requires { form.now.count ≡ state.now.count }
-    ensures payoff { meaning whole result ≡ payoff_of limit (option_of form.now) (vector_of state.now) }
+    ensures payoff { meaning whole result
+        ≡ payoff_of limit (option_of form.now) (vector_of state.now) }
     ensures fits { IfOk result (λ h. unsigned_abs h ≤ limit) }
 {
     let mut total: i128 = 0;
@@ -27,7 +30,34 @@ pub fn payoff(form: &Form, state: &State) -> Result<i128, Wide>
     Ok(total.max(0))
 }
 
-/// The total and the product of the two entries.
+/// What the bundle pays at the state: the sum of each leg's count times its payoff, which may be below 0. `Wide` comes
+/// exactly where a leg's payoff, its product with the count or the sum so far does not fit. Takes no memory.
+pub fn bundle_payoff(bundle: &Bundle, state: &State) -> Result<i128, Wide>
+    requires counts { IsOnCount state.now.count bundle.now }
+    ensures payoff { meaning whole result
+        ≡ bundle_payoff_of limit (bundle_legs bundle.now) (vector_of state.now) }
+    ensures fits { IfOk result (λ h. unsigned_abs h ≤ limit) }
+{
+    let mut total: i128 = 0;
+    for leg in bundle.as_slice() {
+        total = add_leg(total, leg, state)?;
+    }
+    Ok(total)
+}
+
+/// The total and the count times the payoff of the leg.
+fn add_leg(total: i128, leg: &Leg, state: &State) -> Result<i128, Wide>
+    requires count { leg.now.form.count ≡ state.now.count }
+    requires total { unsigned_abs total ≤ limit }
+    ensures sum { meaning whole result
+        ≡ add_leg limit (vector_of state.now) (whole total) (leg_of leg.now) }
+    ensures fits { IfOk result (λ s. unsigned_abs s ≤ limit) }
+{
+    let value = payoff(&leg.form, state)?;
+    add_product(total, leg.count.into(), value)
+}
+
+/// The total and the product of the two numbers.
 fn add_product(total: i128, a: i64, x: i128) -> Result<i128, Wide>
     requires { unsigned_abs total ≤ limit }
     ensures sum { meaning whole result ≡ plus_product limit (whole total) (whole a) (whole x) }

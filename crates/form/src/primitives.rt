@@ -3,7 +3,9 @@
 ghost use Rattle.std.specs.Prelude.{◌≡◌, ◌≤◌, ◌≤ℤ◌, map, pos, unsigned_abs, IfOk};
 ghost use Rattle.exact_num.specs.Fraction.{whole};
 ghost use Rattle.exact_num.specs.Fits.{meaning, mul_of};
-ghost use Rattle.form.specs.Primitive.{IsDirection, IsPrimitiveDirection, common_divisor, common_multiple_of, multiple_with, multiples_of, primitive_of, primitive_vector};
+ghost use Rattle.form.specs.Primitive.{IsDirection, IsPrimitiveDirection, common_divisor};
+ghost use Rattle.form.specs.Primitive.{common_multiple_of, multiple_with, multiples_of};
+ghost use Rattle.form.specs.Primitive.{primitive_of, primitive_vector};
 ghost use Rattle.form.specs.States.{vector_of};
 
 use crate::states::State;
@@ -16,7 +18,8 @@ pub fn primitive<N: Exact>(entries: &[N]) -> Result<State, Wide>
     requires { IsDirection (map N.fraction entries.now) }
     ensures steps { meaning vector_of result
         ≡ primitive_of (unsigned_abs N.LIMIT) (map N.fraction entries.now) }
-    ensures direction { IfOk result (λ state. IsPrimitiveDirection (map N.fraction entries.now) (vector_of state)) }
+    ensures direction { IfOk result (λ state.
+        IsPrimitiveDirection (map N.fraction entries.now) (vector_of state)) }
 {
     let multiple = common_multiple(entries)?;
     let state = multiples(entries, multiple)?;

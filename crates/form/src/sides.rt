@@ -9,7 +9,9 @@ use exact_num::{Exact, Wide, less_product, plus_product};
 
 /// The total and the product of `a` and `b`, which a sell subtracts. Takes no memory.
 pub fn add_for_side<N: Exact>(total: N, side: Side, a: N, b: N) -> Result<N, Wide>
-    ensures { meaning N.fraction result ≡ add_for_side (unsigned_abs N.LIMIT) (N.fraction total) side (N.fraction a) (N.fraction b) }
+    ensures { let limit = unsigned_abs N.LIMIT in
+        meaning N.fraction result
+        ≡ add_for_side limit (N.fraction total) side (N.fraction a) (N.fraction b) }
 {
     match side {
         Side::Buy => plus_product(total, a, b),

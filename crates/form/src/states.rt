@@ -1,6 +1,7 @@
 //! States: settlements at given prices, and rays along which prices grow.
 
-ghost use Rattle.std.specs.Prelude.{ℕ, ◌<◌, ◌≡◌, ◌≤◌, ◌≤ℤ◌, length, map, pos, slice_index_or, sum, take};
+ghost use Rattle.std.specs.Prelude.{ℕ, ◌<◌, ◌≡◌, ◌≤◌, ◌≤ℤ◌};
+ghost use Rattle.std.specs.Prelude.{length, map, pos, slice_index_or, sum, take};
 ghost use Rattle.form.specs.Vector.{positive_part};
 
 /// The settlement `(t, s)` at the prices `s / t`, or the ray `s` where t is 0. No entry is below 0, not all are 0, and

@@ -1,4 +1,4 @@
-//! Payoffs, primitive states and premiums, with their values from outside.
+//! Payoffs of options and of bundles, primitive states and premiums, with their values from outside.
 #![tactic(auto)]
 
 #[cfg(test)]

@@ -4,13 +4,15 @@ ghost use Rattle.form.specs.Primitive.{IsDirection};
 ghost use Rattle.frac.specs.Value.{fraction_of};
 ghost use Rattle.settlement.specs.Premium.{IsHeld};
 
-use crate::cases::{PAYOFFS, PREMIUMS, PRIMITIVES};
+use crate::cases::{BUNDLES, PAYOFFS, PREMIUMS, PRIMITIVES};
 use anyhow::{Context, Result, bail, ensure};
 use case_texts::{
     is_any_above_zero, is_none_below_zero, number, numbers, print_number, print_wide,
 };
 use exact_num::{Exact, Wide};
-use form::{Form, MAX_PRICE, Side, State, call, payoff, primitive};
+use form::{
+    Bundle, Form, Leg, MAX_PRICE, Side, State, are_legs, bundle_payoff, call, payoff, primitive,
+};
 use frac::Frac128;
 use settlement::premium;
 use std::alloc::{AllocError, Global};
@@ -78,6 +80,39 @@ fn payoff_text(alloc: Global, text: &str) -> Result<String> {
     Ok(answer)
 }
 
+// A leg from its count and its option.
+fn leg(alloc: Global, text: &str) -> Result<Leg> {
+    let (count, option) = text.split_once(':').context("an option")?;
+    Ok(Leg {
+        count: count.trim().parse::<i16>()?,
+        form: form(alloc, option)?,
+    })
+}
+
+fn bundle(alloc: Global, text: &str) -> Result<Bundle> {
+    let mut legs = Vec::new(alloc);
+    for option in text.split(';') {
+        legs.push(leg(alloc, option)?)?;
+    }
+    ensure!(are_legs(legs.as_slice()), "the legs");
+    Ok(Bundle::of(legs.as_slice()))
+}
+
+// The text of what a bundle pays at a primitive state.
+fn bundle_text(alloc: Global, text: &str) -> Result<String> {
+    let (options, entries) = text.split_once('|').context("a state")?;
+    let bundle = bundle(alloc, options)?;
+    let state = state(alloc, entries)?.ok().context("a state that fits")?;
+    let as_many = bundle.form_count() == state.count;
+    ensure!(as_many, "as many entries");
+    let mut answer = String::new(alloc);
+    match bundle_payoff(&bundle, &state) {
+        Ok(pays) => print_number(&mut answer, (pays, 1))?,
+        Err(wide) => print_wide(&mut answer, &wide)?,
+    }
+    Ok(answer)
+}
+
 // Whether the fill is 0 to 1,000,000.
 fn is_held(fill: &Frac128) -> bool
     ensures { IsTrue result → IsHeld (fraction_of fill.now) }
@@ -112,6 +147,16 @@ fn payoffs(rt: HostRuntime) -> Result<()> {
     for line in PAYOFFS.split_terminator('\n') {
         let (asked, answer) = line.split_once('=').context("an answer")?;
         let found = payoff_text(rt.alloc(), asked)?;
+        assert_eq!(rt; found.trim(), answer.trim(), "{line}");
+    }
+    Ok(())
+}
+
+#[test]
+fn bundles(rt: HostRuntime) -> Result<()> {
+    for line in BUNDLES.split_terminator('\n') {
+        let (asked, answer) = line.split_once('=').context("an answer")?;
+        let found = bundle_text(rt.alloc(), asked)?;
         assert_eq!(rt; found.trim(), answer.trim(), "{line}");
     }
     Ok(())

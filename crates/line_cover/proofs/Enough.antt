@@ -1,5 +1,5 @@
 -- A line cover of fills that are not below 0 shows that the liability is enough at every state.
-use Rattle.std.proofs.Common.{◌≡◌, ℕ, ◌/◌, List, [], ◌∷◌, arith, ℤ, pos, ◌≤ℤ◌, All, refl, ap, sym, subst, ◌∙◌}
+use Rattle.std.proofs.Common.{◌≡◌, ℕ, ◌/◌, List, [], ◌∷◌, arith, ℤ, pos, All, refl, ap, sym, subst, ◌∙◌}
 use Rattle.std.proofs.lemmas.Int.{ints}
 use Rattle.arithmetic.specs.Sums.{positive_part}
 use Rattle.arithmetic.proofs.Integers.{*ℤ_mono}

@@ -1,9 +1,9 @@
 -- Sums over fills, over one denominator of the fills and the liability.
-use Rattle.std.proofs.Common.{◌≡◌, ℕ, List, ◌∷◌, zip, arith, ℤ, pos, neg_ℤ, ◌+ℤ◌, ◌*ℤ◌, All, Result, Ok, subst}
+use Rattle.std.proofs.Common.{◌≡◌, ℕ, List, zip, arith, ℤ, pos, neg_ℤ, ◌+ℤ◌, ◌*ℤ◌, All, Result, Ok, subst}
 use Rattle.std.proofs.lemmas.Int.{ints}
 use Rattle.arithmetic.proofs.Lists.{zip-map_right, All-zip_right}
 use Rattle.arithmetic.proofs.Products.{products}
-use Rattle.arithmetic.proofs.Sums.{All-tail, total-map}
+use Rattle.arithmetic.proofs.Sums.{total-map}
 use Rattle.exact_num.specs.declared.misfit.Wide.{Wide}
 use Rattle.exact_num.specs.Fraction.{Fraction, whole}
 use Rattle.exact_num.specs.CommonDenominator.{amount_over}

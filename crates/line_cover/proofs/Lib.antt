@@ -2,6 +2,8 @@ pub mod Fills
 pub mod PlaceSteps
 pub mod Inserted
 pub mod LineStates
+pub mod Counted
+pub mod BreakSteps
 pub mod Sound
 pub mod Enough
-mod WorkedLines
+pub mod WorkedLines

@@ -4,7 +4,7 @@ use Rattle.std.specs.Prelude.{IfSome, ◌↔◌, if◌then◌else◌}
 use Rattle.std.specs.List.{filter_map, cons_option, Contains}
 use Rattle.std.proofs.lemmas.Bool.Decides.{nat_tests}
 use Rattle.std.proofs.lemmas.Int.{ints}
-use Rattle.std.proofs.lemmas.List.Elements.{All-nil, All-cons, All-head, All-tail, All-push, All-pop, All-weaker, All-contains, All-contains_itself}
+use Rattle.std.proofs.lemmas.List.Elements.{All-nil, All-cons, All-head, All-tail, All-push, All-pop, All-weaker, All-append, All-contains, All-contains_itself, filter_map-append}
 use Rattle.std.proofs.lemmas.List.{length-map}
 use native.Mathlib.Nat.{mul-div_cancel'}
 use Rattle.arithmetic.specs.Gcd.{gcd}
@@ -13,11 +13,11 @@ use Rattle.exact_num.specs.CommonDenominator.{common_denominator, amount_over, s
 use Rattle.form.specs.declared.orders.Order.{Order}
 use Rattle.clearing_model.specs.Certificate.{LineCloses}
 use Rattle.form.specs.Vector.{IsState, strike_entry}
-use Rattle.form.specs.Payoff.{BundleLeg, option_of, bundle_of}
+use Rattle.form.specs.Payoff.{BundleLeg, bundle_of}
 use Rattle.clearing_model.specs.Clearing.{SignedFill}
 use Rattle.clearing_model.specs.Line.{weight_entry, HoldsAtPrice, HoldsAtBreak, HoldsAtBreaks}
 use Rattle.market_laws.proofs.Line.{holds_at_multiples}
-use Rattle.line_cover.specs.Line.{bends, lowest_state, breakpoint_of, breakpoint_of_order}
+use Rattle.line_cover.specs.Line.{bends, lowest_state, breakpoint_of, breakpoint_of_leg, breakpoints_of, legs_of_orders}
 use Rattle.line_cover.specs.Laws.{order_of, LinesCloseAtStates, LineStatesAreBreakpoints, LineCoversHoldAtStates, LineStatesAreStates, LineStatesRise}
 use Rattle.line_cover.specs.Breakpoints.{line_states, in_rising_price, first_state, last_state, IsPriced, HoldsAtState}
 use Rattle.line_cover.proofs.Inserted.{rising_all, rising_had, rising_rise}
@@ -83,23 +83,20 @@ breakpoint_is v P =
     no_bend : (a b : ℤ) → bends a b ≡ false → (a *ℤ b) <ℤ pos 0 → ⊥
     no_bend a b e signs = let t = bends_of a b signs in cc
 
-breakpoint_priced : (o : Order) → IfSome (breakpoint_of_order o) IsPriced
-breakpoint_priced o =
-    let v = option_of o.form in
+breakpoint_priced : (leg : BundleLeg) → IfSome (breakpoint_of_leg leg) IsPriced
+breakpoint_priced leg =
+    let v = leg.option in
     (breakpoint_is v IsPriced).1 (λ signs. let above = size_above (strike_entry v) (weight_entry v) signs in lowest_priced (nat_abs (weight_entry v)) (nat_abs (strike_entry v)) above.1 above.0)
 
--- what holds at an order's breakpoint holds where the order's payoff bends
-break_is : (fills : List SignedFill) (L : ℤ) (fill : SignedFill) → IfSome (breakpoint_of_order fill.0) (HoldsAtState fills L) ↔ HoldsAtBreaks fills L fill
-unfolding bundle_of
-break_is fills L fill =
-    let v = option_of fill.0.form in
-    let P : BundleLeg → Type 0 = λ leg. HoldsAtBreak fills L leg.option in
-    let leg : BundleLeg = record { count = pos 1; option = v } in
+-- what holds at a leg's breakpoint holds where the leg's payoff bends
+break_is : (fills : List SignedFill) (L : ℤ) (leg : BundleLeg) → IfSome (breakpoint_of_leg leg) (HoldsAtState fills L) ↔ HoldsAtBreak fills L leg.option
+break_is fills L leg =
+    let v = leg.option in
     let is = breakpoint_is v (HoldsAtState fills L) in
     let lowest = lowest_holds fills L (nat_abs (weight_entry v)) (nat_abs (strike_entry v)) in
     let some = size_above (strike_entry v) (weight_entry v) in (
-      λ h. All-cons P leg [] (λ signs. (lowest (some signs).1).0 (is.0 h signs)) (All-nil P),
-      λ h. is.1 (λ signs. (lowest (some signs).1).1 (All-head P leg [] h signs)),
+      λ h signs. (lowest (some signs).1).0 (is.0 h signs),
+      λ h. is.1 (λ signs. (lowest (some signs).1).1 (h signs)),
     )
 
 -- ---- all of them
@@ -107,26 +104,53 @@ with_break : (P : List ℕ → Type 0) (b : Option (List ℕ)) (zs : List (List 
 with_break P None zs = ((λ h. (tt, h)), (λ h. h.1))
 with_break P (Some z) zs = ((λ h. (All-head P z zs h, All-tail P z zs h)), (λ h. All-cons P z zs h.0 h.1))
 
-breakpoints_priced : (os : List Order) → All IsPriced (filter_map breakpoint_of_order os)
-breakpoints_priced [] = All-nil IsPriced
-breakpoints_priced (o ∷ os) = (with_break IsPriced (breakpoint_of_order o) (filter_map breakpoint_of_order os)).1 (breakpoint_priced o, breakpoints_priced os)
+legs_priced : (legs : List BundleLeg) → All IsPriced (filter_map breakpoint_of_leg legs)
+legs_priced [] = All-nil IsPriced
+legs_priced (leg ∷ legs) = (with_break IsPriced (breakpoint_of_leg leg) (filter_map breakpoint_of_leg legs)).1 (breakpoint_priced leg, legs_priced legs)
 
-pub breaks_are : (fills : List SignedFill) (L : ℤ) (rest : List SignedFill) → All (HoldsAtState fills L) (filter_map breakpoint_of_order (map order_of rest)) ↔ All (HoldsAtBreaks fills L) rest
+breakpoints_priced : (orders : List Order) → All IsPriced (breakpoints_of orders)
+breakpoints_priced orders = legs_priced (legs_of_orders orders)
+
+legs_break : (fills : List SignedFill) (L : ℤ) (legs : List BundleLeg) → All (HoldsAtState fills L) (filter_map breakpoint_of_leg legs) ↔ All (λ (leg : BundleLeg). HoldsAtBreak fills L leg.option) legs
+legs_break fills L [] = ((λ h. All-nil (λ (leg : BundleLeg). HoldsAtBreak fills L leg.option)), (λ h. All-nil (HoldsAtState fills L)))
+legs_break fills L (leg ∷ legs) =
+    let P = HoldsAtState fills L in
+    let Q : BundleLeg → Type 0 = λ leg. HoldsAtBreak fills L leg.option in
+    let here = break_is fills L leg in
+    let others = legs_break fills L legs in
+    let with = with_break P (breakpoint_of_leg leg) (filter_map breakpoint_of_leg legs) in (
+      λ h. let parts = with.0 h in All-cons Q leg legs (here.0 parts.0) (others.0 parts.1),
+      λ h. with.1 (here.1 (All-head Q leg legs h), others.1 (All-tail Q leg legs h)),
+    )
+
+-- the breakpoints of the first order, and then those of the others
+pub breakpoints_first : (o : Order) (orders : List Order) → breakpoints_of (o ∷ orders) ≡ filter_map breakpoint_of_leg (bundle_of o) ++ breakpoints_of orders
+breakpoints_first o orders = filter_map-append breakpoint_of_leg (bundle_of o) (legs_of_orders orders)
+
+both_parts : {A : Type 0} (P : A → Type 0) (xs ys : List A) → All P (xs ++ ys) → All P xs × All P ys
+both_parts P [] ys h = (All-nil P, h)
+both_parts P (x ∷ xs) ys h =
+    let rest = both_parts P xs ys (All-tail P x (xs ++ ys) h) in
+    (All-cons P x xs (All-head P x (xs ++ ys) h) rest.0, rest.1)
+
+pub breaks_are : (fills : List SignedFill) (L : ℤ) (rest : List SignedFill) → All (HoldsAtState fills L) (breakpoints_of (map order_of rest)) ↔ All (HoldsAtBreaks fills L) rest
 breaks_are fills L [] = ((λ h. All-nil (HoldsAtBreaks fills L)), (λ h. All-nil (HoldsAtState fills L)))
 breaks_are fills L (fill ∷ rest) =
     let P = HoldsAtState fills L in
     let Q = HoldsAtBreaks fills L in
-    let here = break_is fills L fill in
+    let here = legs_break fills L (bundle_of fill.0) in
     let others = breaks_are fills L rest in
-    let with = with_break P (breakpoint_of_order fill.0) (filter_map breakpoint_of_order (map order_of rest)) in (
-      λ h. let parts = with.0 h in All-cons Q fill rest (here.0 parts.0) (others.0 parts.1),
-      λ h. with.1 (here.1 (All-head Q fill rest h), others.1 (All-tail Q fill rest h)),
+    let mine = filter_map breakpoint_of_leg (bundle_of fill.0) in
+    let theirs = breakpoints_of (map order_of rest) in
+    let is = breakpoints_first fill.0 (map order_of rest) in (
+      λ h. let parts = both_parts P mine theirs (subst (All P) is h) in All-cons Q fill rest (here.0 parts.0) (others.0 parts.1),
+      λ h. subst (All P) (sym is) (All-append P mine theirs (here.1 (All-head Q fill rest h)) (others.1 (All-tail Q fill rest h))),
     )
 
 -- what holds at each of the line's states
-states_hold : (P : List ℕ → Type 0) (orders : List Order) → All P (line_states orders) ↔ (P first_state × All P (filter_map breakpoint_of_order orders) × P last_state)
+states_hold : (P : List ℕ → Type 0) (orders : List Order) → All P (line_states orders) ↔ (P first_state × All P (breakpoints_of orders) × P last_state)
 states_hold P orders =
-    let zs = filter_map breakpoint_of_order orders in
+    let zs = breakpoints_of orders in
     let ys = in_rising_price zs in (
       λ h.
           let parts = All-pop P (ys ++ (last_state ∷ [])) ys (Some last_state) refl (All-tail P first_state (ys ++ (last_state ∷ [])) h) in
@@ -136,7 +160,7 @@ states_hold P orders =
 
 pub line_states_are_breakpoints : LineStatesAreBreakpoints
 line_states_are_breakpoints orders z =
-    let zs = filter_map breakpoint_of_order orders in
+    let zs = breakpoints_of orders in
     let all = first_state ∷ (zs ++ (last_state ∷ [])) in
     let P : List ℕ → Type 0 = Contains (line_states orders) in
     let Q : List ℕ → Type 0 = Contains all in
@@ -157,8 +181,8 @@ line_covers_hold_at_states fills L =
 
 pub line_states_are_states : LineStatesAreStates
 line_states_are_states orders =
-    let ys = in_rising_price (filter_map breakpoint_of_order orders) in
-    let priced = rising_all IsPriced (filter_map breakpoint_of_order orders) (breakpoints_priced orders) in
+    let ys = in_rising_price (breakpoints_of orders) in
+    let priced = rising_all IsPriced (breakpoints_of orders) (breakpoints_priced orders) in
     All-cons (IsState 1) first_state (ys ++ (last_state ∷ [])) (refl, omega arith)
     (All-push (IsState 1) ys last_state (All-weaker IsPriced (IsState 1) priced_state ys priced) (refl, omega arith))
   where
@@ -169,7 +193,7 @@ line_states_are_states orders =
     priced_state (t ∷ s ∷ u ∷ z) is = absurd (omega (arith, is.entries))
 
 pub line_states_rise : LineStatesRise
-line_states_rise orders = rising_rise (filter_map breakpoint_of_order orders) (breakpoints_priced orders)
+line_states_rise orders = rising_rise (breakpoints_of orders) (breakpoints_priced orders)
 
 pub orders_of_fills : (orders : List Order) (xs : List ℤ) → length xs ≡ length orders → map order_of (zip orders xs) ≡ orders
 orders_of_fills [] xs len = refl

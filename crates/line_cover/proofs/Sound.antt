@@ -1,7 +1,6 @@
 -- A line whose check holds is covered, and one whose check fails is not.
-use Rattle.std.proofs.Common.{◌≡◌, ℕ, ◌≤◌, inl, inr, Bool, true, false, List, ◌∷◌, length, zip, arith, ℤ, pos, neg_ℤ, ◌+ℤ◌, ◌*ℤ◌, All, Ok, ap, sym, subst, ◌∙◌}
+use Rattle.std.proofs.Common.{◌≡◌, ℕ, inl, inr, Bool, true, false, List, ◌∷◌, length, zip, arith, ℤ, pos, neg_ℤ, ◌+ℤ◌, ◌*ℤ◌, All, Ok, ap, subst, ◌∙◌}
 use Rattle.std.specs.Prelude.{◌↔◌}
-use Rattle.std.specs.List.{filter_map}
 use Rattle.std.proofs.lemmas.Int.{ints}
 use Rattle.std.proofs.lemmas.List.Elements.{All-cons}
 use Rattle.std.proofs.lemmas.List.{length-map}
@@ -17,15 +16,14 @@ use Rattle.exact_num.proofs.Loops.{both, not_both}
 use Rattle.exact_num.proofs.Stands.{Stands, amounts_stand, less_stands, not_above, is_above}
 use Rattle.exact_num.proofs.Tested.{all_hold, not_all_hold, lowest_are_defined}
 use Rattle.form.specs.declared.orders.Order.{Order}
-use Rattle.form.specs.Payoff.{option_of, bundle_of, bundle_payoff, scale_of}
-use Rattle.form.specs.Steps.{add_for_side, payoff_of}
-use Rattle.form.proofs.DotSteps.{payoffs_are_exact}
-use Rattle.form.proofs.Vectors.{bundle_pays}
+use Rattle.form.specs.Payoff.{bundle_of, bundle_payoff, scale_of}
+use Rattle.form.specs.Steps.{add_for_side, bundle_payoff_of}
+use Rattle.form.proofs.LegSteps.{bundle_payoffs_are_exact}
 use Rattle.clearing_model.specs.Clearing.{for_side, signed_net}
 use Rattle.clearing_model.specs.Line.{HoldsAtBreaks}
 use Rattle.clearing_model.specs.Certificate.{signed_over}
 use Rattle.line_cover.specs.Net.{add_payoff, net_of, excess}
-use Rattle.line_cover.specs.Line.{breakpoint_of_order, holds_at}
+use Rattle.line_cover.specs.Line.{breakpoints_of, holds_at}
 use Rattle.line_cover.specs.Breakpoints.{first_state, last_state, HoldsAtState}
 use Rattle.line_cover.specs.Laws.{LinesThatHoldClose, LinesThatFailDoNotClose}
 use Rattle.line_cover.proofs.Fills.{side_stands, fills_stand}
@@ -35,8 +33,8 @@ use Rattle.line_cover.proofs.LineStates.{breaks_are, orders_of_fills}
 payoff_adds : (limit D : ℕ) (z : List ℕ) (o : Order) (a : Fraction) (y : ℤ) → Stands a y D → (start s : Fraction) (x : ℤ) → Stands start x D → add_payoff limit z start (o, a) ≡ Ok s
     → Stands s (x +ℤ for_side o.side (bundle_payoff (bundle_of o) z *ℤ y)) D
 payoff_adds limit D z o a y sa start s x st h =
-    let pays = after_value (payoff_of limit (option_of o.form) z) (λ p. add_for_side limit start o.side a p) s h in
-    let is = payoffs_are_exact limit (option_of o.form) z pays.value pays.first ∙ ap whole (sym (bundle_pays o z)) in
+    let pays = after_value (bundle_payoff_of limit (bundle_of o) z) (λ p. add_for_side limit start o.side a p) s h in
+    let is = bundle_payoffs_are_exact limit (bundle_of o) z pays.value pays.first in
     side_stands limit o.side start a s (bundle_payoff (bundle_of o) z) x y D st sa (rw (← is) pays.rest)
 
 turned : (t answer : Bool) → not t ≡ answer → t ≡ not answer
@@ -83,17 +81,17 @@ fails_here limit os fs L z low h held =
 
 -- the breakpoints of the orders of fills
 breaks_of_fills : (os : List Order) (fs : List Fraction) (L : Fraction) → length fs ≡ length os
-    → (let D = common_denominator (L ∷ fs) in All (Holds os fs L) (filter_map breakpoint_of_order os) ↔ All (HoldsAtBreaks (signed_over D os fs) (amount_over D L)) (signed_over D os fs))
+    → (let D = common_denominator (L ∷ fs) in All (Holds os fs L) (breakpoints_of os) ↔ All (HoldsAtBreaks (signed_over D os fs) (amount_over D L)) (signed_over D os fs))
 breaks_of_fills os fs L len =
     let D = common_denominator (L ∷ fs) in
-    subst (λ orders. All (Holds os fs L) (filter_map breakpoint_of_order orders) ↔ All (HoldsAtBreaks (signed_over D os fs) (amount_over D L)) (signed_over D os fs))
+    subst (λ orders. All (Holds os fs L) (breakpoints_of orders) ↔ All (HoldsAtBreaks (signed_over D os fs) (amount_over D L)) (signed_over D os fs))
     (orders_of_fills os (signed_amounts_over D fs) (length-map fs (amount_over D) ∙ len))
     (breaks_are (signed_over D os fs) (amount_over D L) (signed_over D os fs))
 
 pub lines_that_hold_close : LinesThatHoldClose
 lines_that_hold_close limit os fs L len low lowest h =
     let all = All-cons IsLowest L fs lowest low in
-    let breaks = filter_map breakpoint_of_order os in
+    let breaks = breakpoints_of os in
     let first = both (holds_at limit (zip os fs) L first_state) _ h in
     let next = both (all_of (holds_at limit (zip os fs) L) breaks) _ first.1 in (
       holds_here limit os fs L first_state all first.0,
@@ -104,7 +102,7 @@ lines_that_hold_close limit os fs L len low lowest h =
 pub lines_that_fail_do_not_close : LinesThatFailDoNotClose
 lines_that_fail_do_not_close limit os fs L len low lowest h closes =
     let all = All-cons IsLowest L fs lowest low in
-    let breaks = filter_map breakpoint_of_order os in
+    let breaks = breakpoints_of os in
     elim (not_both (holds_at limit (zip os fs) L first_state) _ h) [
       | inl first ↦ fails_here limit os fs L first_state all first closes.0
       | inr rest ↦

@@ -1,14 +1,20 @@
--- The states of worked batches, computed from the definitions.
+-- Worked batches, computed from the definitions.
 use Rattle.std.proofs.Common.{refl}
-use Rattle.arithmetic.specs.Gcd.{gcd_within, gcd}
+use Rattle.exact_num.specs.Fits.{operations}
 use Rattle.form.specs.FormOf.{form_of}
+use Rattle.form.specs.BundleOf.{bundle_one, bundle_made}
+use Rattle.form.specs.Payoff.{bundle_of}
+use Rattle.form.specs.Steps.{payoff_of, bundle_payoff_of}
 use Rattle.line_cover.specs.Breakpoints.{insert, in_rising_price}
-use Rattle.line_cover.specs.Worked.{ThreeCalls, SharedBreak}
+use Rattle.line_cover.specs.Worked.{LinesByHand}
 
-pub three_calls_bend : ThreeCalls
-unfolding gcd_within gcd form_of insert in_rising_price
-three_calls_bend = refl
-
-pub shared_break_bends : SharedBreak
-unfolding gcd_within gcd form_of insert in_rising_price
-shared_break_bends = refl
+pub lines_by_hand : LinesByHand
+unfolding operations form_of bundle_one bundle_made bundle_of payoff_of bundle_payoff_of insert in_rising_price
+lines_by_hand = record {
+  three_calls_bend = refl;
+  shared_break_bends = refl;
+  spread_bends = refl;
+  spread_holds = refl;
+  both_bought_owe_two = refl;
+  both_bought_fail = refl;
+}

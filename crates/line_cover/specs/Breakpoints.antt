@@ -1,11 +1,11 @@
 -- The states of a market on one underlying: the price 0, each price where a payoff bends, and the slope beyond the last.
 use Rattle.std.specs.Prelude.{ℕ, ◌*◌, ◌≡◌, ◌≤◌, List, [], ◌∷◌, ◌++◌, length, nat_lt, get_or, Bool, true, if◌then◌else◌, ℤ, pos, ◌*ℤ◌, ◌≤ℤ◌}
-use Rattle.std.specs.List.{filter_map, fold, All}
+use Rattle.std.specs.List.{fold, All}
 use Rattle.exact_num.specs.Fraction.{IsLowest, over}
 use Rattle.form.specs.declared.orders.Order.{Order}
 use Rattle.form.specs.Vector.{scale_of}
 use Rattle.clearing_model.specs.Clearing.{SignedFill, signed_net}
-use Rattle.line_cover.specs.Line.{breakpoint_of_order}
+use Rattle.line_cover.specs.Line.{breakpoints_of}
 
 -- the entry s of a state (t, s)
 abbrev pub price_entry : List ℕ → ℕ
@@ -36,7 +36,7 @@ last_state = 0 ∷ 1 ∷ []
 
 -- the states after the first: each distinct breakpoint in rising price, and the slope
 abbrev pub later_states : List Order → List (List ℕ)
-later_states orders = in_rising_price (filter_map breakpoint_of_order orders) ++ (last_state ∷ [])
+later_states orders = in_rising_price (breakpoints_of orders) ++ (last_state ∷ [])
 
 -- all of them
 abbrev pub line_states : List Order → List (List ℕ)

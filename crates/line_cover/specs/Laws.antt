@@ -1,6 +1,6 @@
 -- What the check of a line shows, and what its states are.
-use Rattle.std.specs.Prelude.{ℕ, ◌≡◌, ◌↔◌, List, [], ◌∷◌, ◌++◌, length, map, true, false, Ok, ℤ}
-use Rattle.std.specs.List.{zip, All, Contains, filter_map}
+use Rattle.std.specs.Prelude.{ℕ, ◌+◌, ◌≡◌, ◌≤◌, ◌↔◌, List, [], ◌∷◌, ◌++◌, length, map, true, false, Ok, ℤ}
+use Rattle.std.specs.List.{zip, All, Contains}
 use Rattle.exact_num.specs.Fraction.{Fraction, IsLowest}
 use Rattle.exact_num.specs.CommonDenominator.{common_denominator, amount_over}
 use Rattle.form.specs.declared.orders.Order.{Order}
@@ -8,7 +8,7 @@ use Rattle.form.specs.Vector.{IsState}
 use Rattle.clearing_model.specs.Clearing.{SignedFill, HoldsAtEachState}
 use Rattle.clearing_model.specs.Line.{IsLineCover}
 use Rattle.clearing_model.specs.Certificate.{LineCloses, filled_over, signed_over}
-use Rattle.line_cover.specs.Line.{breakpoint_of_order, line_holds}
+use Rattle.line_cover.specs.Line.{breakpoints_of, legs_of_orders, line_holds}
 use Rattle.line_cover.specs.Breakpoints.{first_state, last_state, line_states, Rise, HoldsAtState}
 
 -- over one denominator of all these fractions: the net of the fills is at most the liability at each settlement of one
@@ -55,11 +55,15 @@ LinesCloseAtStates =
 abbrev pub LineStatesAreStates : Type 0
 LineStatesAreStates = (orders : List Order) → All (IsState 1) (line_states orders)
 
--- they are the price 0, the breakpoint of each order that has one, and the slope
+-- they are the price 0, the breakpoint of each leg that has one, and the slope
 abbrev pub LineStatesAreBreakpoints : Type 0
 LineStatesAreBreakpoints =
     (orders : List Order) (z : List ℕ)
-    → Contains (line_states orders) z ↔ Contains (first_state ∷ (filter_map breakpoint_of_order orders ++ (last_state ∷ []))) z
+    → Contains (line_states orders) z ↔ Contains (first_state ∷ (breakpoints_of orders ++ (last_state ∷ []))) z
+
+-- so there are at most two more than legs
+abbrev pub LineStatesAreFew : Type 0
+LineStatesAreFew = (orders : List Order) → length (line_states orders) ≤ length (legs_of_orders orders) + 2
 
 -- and they stand in rising price
 abbrev pub LineStatesRise : Type 0

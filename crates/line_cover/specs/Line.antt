@@ -1,6 +1,6 @@
 -- The check of a line, each step with a limit.
 use Rattle.std.specs.Prelude.{ℕ, ◌/◌, List, [], ◌∷◌, nat_abs, int_lt, Bool, true, not, ◌&&◌, ◌||◌, if◌then◌else◌, ℤ, pos, Option, Some, None, Result, Ok}
-use Rattle.std.specs.List.{filter_map}
+use Rattle.std.specs.List.{filter_map, flat_map}
 use Rattle.arithmetic.specs.Gcd.{gcd}
 use Rattle.exact_num.specs.declared.misfit.Wide.{Wide}
 use Rattle.exact_num.specs.Fraction.{Fraction}
@@ -10,7 +10,7 @@ use Rattle.exact_num.specs.Tests.{is_above_zero}
 use Rattle.form.specs.declared.orders.Order.{Order}
 use Rattle.form.specs.Vector.{strike_entry}
 use Rattle.clearing_model.specs.Line.{weight_entry}
-use Rattle.form.specs.Payoff.{option_of}
+use Rattle.form.specs.Payoff.{BundleLeg, bundle_of}
 use Rattle.line_cover.specs.Net.{excess}
 
 -- the price K / w in lowest terms, as the state (w, K)
@@ -29,8 +29,16 @@ breakpoint_of v =
     then Some (lowest_state (nat_abs (weight_entry v)) (nat_abs (strike_entry v)))
     else None
 
-abbrev pub breakpoint_of_order : Order → Option (List ℕ)
-breakpoint_of_order o = breakpoint_of (option_of o.form)
+abbrev pub breakpoint_of_leg : BundleLeg → Option (List ℕ)
+breakpoint_of_leg leg = breakpoint_of leg.option
+
+-- the legs of the orders, order by order and leg by leg
+abbrev pub legs_of_orders : List Order → List BundleLeg
+legs_of_orders orders = flat_map bundle_of orders
+
+-- the breakpoint of each leg that has one, in this order
+abbrev pub breakpoints_of : List Order → List (List ℕ)
+breakpoints_of orders = filter_map breakpoint_of_leg (legs_of_orders orders)
 
 -- whether the net is at most the liability times t at a state
 abbrev pub holds_at : ℕ → List (Order × Fraction) → Fraction → List ℕ → Result Bool Wide
@@ -41,8 +49,8 @@ abbrev pub holds_at_break : ℕ → List (Order × Fraction) → Fraction → Op
 holds_at_break limit fills L None = Ok true
 holds_at_break limit fills L (Some z) = holds_at limit fills L z
 
--- whether it is at the price 0, at the breakpoint of each order, and in the slope beyond the last
+-- whether it is at the price 0, at the breakpoint of each leg, and in the slope beyond the last
 abbrev pub line_holds : ℕ → List (Order × Fraction) → List Order → Fraction → Result Bool Wide
 line_holds limit fills orders L =
     and_then (holds_at limit fills L (1 ∷ 0 ∷ []))
-    (and_then (all_of (holds_at limit fills L) (filter_map breakpoint_of_order orders)) (holds_at limit fills L (0 ∷ 1 ∷ [])))
+    (and_then (all_of (holds_at limit fills L) (breakpoints_of orders)) (holds_at limit fills L (0 ∷ 1 ∷ [])))

@@ -5,13 +5,13 @@ use Rattle.exact_num.specs.Fraction.{Fraction, whole}
 use Rattle.exact_num.specs.Fits.{after}
 use Rattle.exact_num.specs.Steps.{fold_steps, less_product}
 use Rattle.form.specs.declared.orders.Order.{Order}
-use Rattle.form.specs.Payoff.{option_of, scale_of}
-use Rattle.form.specs.Steps.{add_for_side, payoff_of}
+use Rattle.form.specs.Payoff.{bundle_of, scale_of}
+use Rattle.form.specs.Steps.{add_for_side, bundle_payoff_of}
 
 -- the total and what a fill of the order adds to the net at a state
 abbrev pub add_payoff : ℕ → List ℕ → Fraction → Order × Fraction → Result Fraction Wide
 add_payoff limit z total fill =
-    after (payoff_of limit (option_of fill.0.form) z) (λ h. add_for_side limit total fill.0.side fill.1 h)
+    after (bundle_payoff_of limit (bundle_of fill.0) z) (λ h. add_for_side limit total fill.0.side fill.1 h)
 
 -- the fills one after another
 abbrev pub net_of : ℕ → List (Order × Fraction) → List ℕ → Result Fraction Wide

@@ -37,7 +37,8 @@ impl Price {
 
     /// Whether the price is below the other.
     pub fn is_below(&self, other: &Self) -> bool
-        ensures { result ≡ is_below (self.now.t ∷ self.now.s ∷ []) (other.now.t ∷ other.now.s ∷ []) }
+        ensures { result
+            ≡ is_below (self.now.t ∷ self.now.s ∷ []) (other.now.t ∷ other.now.s ∷ []) }
     {
         u128::from(self.s) * u128::from(other.t) < u128::from(other.s) * u128::from(self.t)
     }

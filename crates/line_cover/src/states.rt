@@ -1,26 +1,30 @@
 //! The states of a market on one underlying.
 
-ghost use Rattle.std.specs.Prelude.{◌≡◌, All, IfOk, OnOk, length, map, not};
-ghost use Rattle.std.specs.List.{filter_map, position};
+ghost use Rattle.std.specs.Prelude.{◌≡◌, ◌≤◌, ◌+◌, All, IfOk, OnOk, length, map, not};
+ghost use Rattle.std.specs.List.{filter_map, fold, position};
 ghost use Rattle.form.specs.Limits.{HasItsForms};
+ghost use Rattle.form.specs.Payoff.{IsOnCount, bundle_legs};
 ghost use Rattle.form.specs.States.{vector_of};
 ghost use Rattle.line_cover.specs.Breakpoints.{in_rising_price, insert, is_below, line_states};
-ghost use Rattle.line_cover.specs.Line.{breakpoint_of_order};
+ghost use Rattle.line_cover.specs.Line.{breakpoint_of_leg, breakpoints_of, legs_of_orders};
 ghost use Rattle.line_cover.specs.Prices.{price_vector};
 
 use crate::breakpoint::breakpoint;
 use crate::price::{Price, price_state};
-use form::{Batch, Order, State};
+use form::{Batch, Bundle, Order, State};
 use std::alloc::{AllocError, Global};
 
 /// The states at which a liability has to be enough, so that it is enough at every settlement: the price 0, each
-/// price above 0 where the payoff of an order bends, once and in rising price, and the slope beyond the last. Prices
-/// are in lowest terms. The batch is on one underlying.
+/// price above 0 where the payoff of a leg bends, once and in rising price, and the slope beyond the last. Prices are
+/// in lowest terms. There are at most two more than legs. The batch is on one underlying.
 pub fn breakpoints(alloc: Global, batch: &Batch) -> Result<Vec<State>, AllocError>
     requires forms { HasItsForms batch.now }
     requires one { batch.now.underlyings ≡ 1 }
-    ensures states { IfOk result (λ states. map vector_of states.items ≡ line_states batch.now.orders) }
+    ensures states { IfOk result (λ states.
+        map vector_of states.items ≡ line_states batch.now.orders) }
     ensures counts { IfOk result (λ states. All (λ state. state.count ≡ 2) states.items) }
+    ensures few { IfOk result (λ states.
+        length states.items ≤ length (legs_of_orders batch.now.orders) + 2) }
 {
     let mut states = Vec::new(alloc);
     states.push(price_state(1, 0))?;
@@ -31,23 +35,38 @@ pub fn breakpoints(alloc: Global, batch: &Batch) -> Result<Vec<State>, AllocErro
     Ok(states)
 }
 
-// The prices where the payoffs of the orders bend, each once and in rising order.
+// The prices where the payoffs of the legs bend, each once and in rising order.
 fn rising_breakpoints(alloc: Global, orders: &[Order]) -> Result<Vec<Price>, AllocError>
-    requires { All (λ o. o.form.count ≡ 2) orders.now }
-    ensures { IfOk result (λ prices. map price_vector prices.items ≡ in_rising_price (filter_map breakpoint_of_order orders.now)) }
+    requires { All (λ o. IsOnCount 2 o.bundle) orders.now }
+    ensures { IfOk result (λ prices.
+        map price_vector prices.items ≡ in_rising_price (breakpoints_of orders.now)) }
 {
     let mut prices = Vec::new(alloc);
     for order in orders {
-        if let Some(price) = breakpoint(&order.form) {
-            insert(&mut prices, price)?;
-        }
+        insert_breakpoints(&mut prices, &order.bundle)?;
     }
     Ok(prices)
 }
 
+// Puts the breakpoints of the legs among rising prices.
+fn insert_breakpoints(prices: &mut Vec<Price>, bundle: &Bundle) -> Result<(), AllocError>
+    requires { IsOnCount 2 bundle.now }
+    ensures { OnOk result (map price_vector prices.new.items
+        ≡ fold insert (map price_vector prices.old.items)
+        (filter_map breakpoint_of_leg (bundle_legs bundle.now))) }
+{
+    for leg in bundle.as_slice() {
+        if let Some(price) = breakpoint(&leg.form) {
+            insert(prices, price)?;
+        }
+    }
+    Ok(())
+}
+
 // Puts a price into its place among rising ones, unless it is there.
 fn insert(prices: &mut Vec<Price>, price: Price) -> Result<(), AllocError>
-    ensures { OnOk result (map price_vector prices.new.items ≡ insert (map price_vector prices.old.items) (price_vector price)) }
+    ensures { OnOk result (map price_vector prices.new.items
+        ≡ insert (map price_vector prices.old.items) (price_vector price)) }
 {
     let place = first_not_below(prices, &price).unwrap_or(prices.len());
     if place == prices.len() || price.is_below(&prices[place]) {
@@ -58,7 +77,8 @@ fn insert(prices: &mut Vec<Price>, price: Price) -> Result<(), AllocError>
 
 // The place of the first price that is not below this one.
 fn first_not_below(prices: &[Price], price: &Price) -> Option<usize>
-    ensures { result ≡ position (λ other. not (is_below (price_vector other) (price_vector price.now))) prices.now }
+    ensures { let z = price_vector price.now in
+        result ≡ position (λ other. not (is_below (price_vector other) z)) prices.now }
 {
     prices.iter().position(|other| !other.is_below(price))
 }
@@ -66,21 +86,28 @@ fn first_not_below(prices: &[Price], price: &Price) -> Option<usize>
 #[cfg(test)]
 mod tests {
     use super::*;
-    use form::{Form, Orders, Side};
+    use form::{Form, Leg, Orders, Side};
     use std::test::Fail;
 
-    // An order for the option with this strike's entry and this weight.
+    // The option with this strike's entry and this weight.
+    fn option(strike: i64, weight: i64) -> Form
+        ensures { result.count ≡ 2 }
+    {
+        Form {
+            count: 2,
+            entries: [strike, weight, 0, 0, 0, 0, 0, 0, 0],
+        }
+    }
+
+    // An order for it.
     fn order(strike: i64, weight: i64) -> Order
-        ensures { result.form.count ≡ 2 }
+        ensures { IsOnCount 2 result.bundle }
     {
         Order {
             id: 1,
             account: 1,
             side: Side::Buy,
-            form: Form {
-                count: 2,
-                entries: [strike, weight, 0, 0, 0, 0, 0, 0, 0],
-            },
+            bundle: Bundle::one(option(strike, weight)),
             price: 1,
             quantity: 1,
         }

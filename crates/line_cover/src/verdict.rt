@@ -7,9 +7,11 @@ ghost use Rattle.frac.specs.Range.{limit};
 ghost use Rattle.frac.specs.Value.{fraction_of};
 ghost use Rattle.clearing_model.specs.Certificate.{LineCloses};
 ghost use Rattle.form.specs.Limits.{HasItsForms};
+ghost use Rattle.form.specs.Payoff.{IsOnCount, bundle_legs, option_of};
 ghost use Rattle.form.specs.States.{vector_of};
 ghost use Rattle.line_cover.specs.Laws.{IsEnoughOnLine};
-ghost use Rattle.line_cover.specs.Line.{breakpoint_of_order, holds_at, holds_at_break, line_holds};
+ghost use Rattle.line_cover.specs.Line.{breakpoint_of, breakpoint_of_leg, breakpoints_of};
+ghost use Rattle.line_cover.specs.Line.{holds_at, holds_at_break, line_holds};
 ghost use Rattle.line_cover.specs.Verdict.{line_verdict};
 ghost use Rattle.line_cover.specs.declared.verdict.LineVerdict.TheVariants.{Fails, Holds};
 
@@ -17,7 +19,7 @@ use crate::breakpoint::breakpoint;
 use crate::net::excess;
 use crate::price::price_state;
 use exact_num::{Exact, Wide};
-use form::{Batch, Order, State};
+use form::{Batch, Bundle, Form, Order, State};
 use frac::Frac128;
 
 /// Whether a line holds.
@@ -42,10 +44,16 @@ pub fn holds_on_line(batch: &Batch, fills: &[Frac128], liability: &Frac128) -> L
     requires forms { HasItsForms batch.now }
     requires one { batch.now.underlyings ≡ 1 }
     requires fills { length fills.now ≡ length batch.now.orders }
-    ensures steps { result ≡ line_verdict (line_holds limit (zip batch.now.orders (map fraction_of fills.now)) batch.now.orders (fraction_of liability.now)) }
-    ensures closes { result ≡ Holds → LineCloses batch.now.orders (map fraction_of fills.now) (fraction_of liability.now) }
-    ensures enough { All (λ fill. pos 0 ≤ℤ fill.numerator) (map fraction_of fills.now) → result ≡ Holds → IsEnoughOnLine batch.now.orders (map fraction_of fills.now) (fraction_of liability.now) }
-    ensures does_not_close { result ≡ Fails → LineCloses batch.now.orders (map fraction_of fills.now) (fraction_of liability.now) → ⊥ }
+    ensures steps { let filled = zip batch.now.orders (map fraction_of fills.now) in
+        result
+        ≡ line_verdict (line_holds limit filled batch.now.orders (fraction_of liability.now)) }
+    ensures closes { result ≡ Holds
+        → LineCloses batch.now.orders (map fraction_of fills.now) (fraction_of liability.now) }
+    ensures enough { let parts = map fraction_of fills.now in
+        All (λ fill. pos 0 ≤ℤ fill.numerator) parts → result ≡ Holds
+        → IsEnoughOnLine batch.now.orders parts (fraction_of liability.now) }
+    ensures does_not_close { result ≡ Fails
+        → LineCloses batch.now.orders (map fraction_of fills.now) (fraction_of liability.now) → ⊥ }
 {
     match line_holds(batch.orders.as_slice(), fills, liability) {
         Ok(true) => LineVerdict::Holds,
@@ -57,8 +65,9 @@ pub fn holds_on_line(batch: &Batch, fills: &[Frac128], liability: &Frac128) -> L
 // Whether the line holds at each of its states.
 fn line_holds(orders: &[Order], fills: &[Frac128], liability: &Frac128) -> Result<bool, Wide>
     requires fills { length fills.now ≡ length orders.now }
-    requires forms { All (λ o. o.form.count ≡ 2) orders.now }
-    ensures { result ≡ line_holds limit (zip orders.now (map fraction_of fills.now)) orders.now (fraction_of liability.now) }
+    requires forms { All (λ o. IsOnCount 2 o.bundle) orders.now }
+    ensures { let filled = zip orders.now (map fraction_of fills.now) in
+        result ≡ line_holds limit filled orders.now (fraction_of liability.now) }
 {
     if !holds_at(orders, fills, liability, &price_state(1, 0))? {
         return Ok(false);
@@ -69,33 +78,61 @@ fn line_holds(orders: &[Order], fills: &[Frac128], liability: &Frac128) -> Resul
     holds_at(orders, fills, liability, &price_state(0, 1))
 }
 
-// Whether it holds at the breakpoint of each order.
+// Whether it holds at the breakpoint of each leg.
 fn holds_at_breaks(orders: &[Order], fills: &[Frac128], liability: &Frac128) -> Result<bool, Wide>
     requires fills { length fills.now ≡ length orders.now }
-    requires forms { All (λ o. o.form.count ≡ 2) orders.now }
-    ensures { result ≡ all_of (holds_at limit (zip orders.now (map fraction_of fills.now)) (fraction_of liability.now)) (filter_map breakpoint_of_order orders.now) }
+    requires forms { All (λ o. IsOnCount 2 o.bundle) orders.now }
+    ensures { let filled = zip orders.now (map fraction_of fills.now) in
+        result
+        ≡ all_of (holds_at limit filled (fraction_of liability.now)) (breakpoints_of orders.now) }
 {
     for order in orders {
-        if !holds_at_break(orders, fills, liability, order)? {
+        if !holds_at_legs(orders, fills, liability, &order.bundle)? {
             return Ok(false);
         }
     }
     Ok(true)
 }
 
-// Whether it holds where the order's option bends, if it does.
+// Whether it holds at the breakpoint of each leg of the bundle.
+fn holds_at_legs(
+    orders: &[Order],
+    fills: &[Frac128],
+    liability: &Frac128,
+    bundle: &Bundle,
+) -> Result<bool, Wide>
+    requires fills { length fills.now ≡ length orders.now }
+    requires forms { All (λ o. IsOnCount 2 o.bundle) orders.now }
+    requires bundle { IsOnCount 2 bundle.now }
+    ensures { let filled = zip orders.now (map fraction_of fills.now) in
+        result
+        ≡ all_of (holds_at limit filled (fraction_of liability.now))
+        (filter_map breakpoint_of_leg (bundle_legs bundle.now)) }
+{
+    for leg in bundle.as_slice() {
+        if !holds_at_break(orders, fills, liability, &leg.form)? {
+            return Ok(false);
+        }
+    }
+    Ok(true)
+}
+
+// Whether it holds where the option bends, if it does.
 fn holds_at_break(
     orders: &[Order],
     fills: &[Frac128],
     liability: &Frac128,
-    order: &Order,
+    form: &Form,
 ) -> Result<bool, Wide>
     requires fills { length fills.now ≡ length orders.now }
-    requires forms { All (λ o. o.form.count ≡ 2) orders.now }
-    requires form { order.now.form.count ≡ 2 }
-    ensures { result ≡ holds_at_break limit (zip orders.now (map fraction_of fills.now)) (fraction_of liability.now) (breakpoint_of_order order.now) }
+    requires forms { All (λ o. IsOnCount 2 o.bundle) orders.now }
+    requires form { form.now.count ≡ 2 }
+    ensures { let filled = zip orders.now (map fraction_of fills.now) in
+        result
+        ≡ holds_at_break limit filled (fraction_of liability.now)
+        (breakpoint_of (option_of form.now)) }
 {
-    match breakpoint(&order.form) {
+    match breakpoint(form) {
         Some(price) => holds_at(orders, fills, liability, &price.state()),
         None => Ok(true),
     }
@@ -109,8 +146,9 @@ fn holds_at(
     state: &State,
 ) -> Result<bool, Wide>
     requires fills { length fills.now ≡ length orders.now }
-    requires forms { All (λ o. o.form.count ≡ state.now.count) orders.now }
-    ensures { result ≡ holds_at limit (zip orders.now (map fraction_of fills.now)) (fraction_of liability.now) (vector_of state.now) }
+    requires forms { All (λ o. IsOnCount state.now.count o.bundle) orders.now }
+    ensures { let filled = zip orders.now (map fraction_of fills.now) in
+        result ≡ holds_at limit filled (fraction_of liability.now) (vector_of state.now) }
 {
     let excess = excess(orders, fills, liability, state)?;
     Ok(excess.sign() <= 0)

@@ -1,38 +1,18 @@
 -- Fills that balance each bundle owe nothing: bundle by bundle, the amounts of its orders cancel.
-use Rattle.std.proofs.Common.{◌≡◌, ℕ, zero, suc, ◌≤◌, Bool, true, false, ◌&&◌, List, [], ◌∷◌, length, get_or, filter, arith, ℤ, pos, ◌+ℤ◌, ◌*ℤ◌, All, refl, ap, sym, subst, ◌∙◌}
+use Rattle.std.proofs.Common.{◌≡◌, ℕ, zero, suc, ◌≤◌, Bool, true, false, List, [], ◌∷◌, length, get_or, filter, arith, ℤ, pos, ◌+ℤ◌, ◌*ℤ◌, All, refl, ap, sym, ◌∙◌}
 use Rattle.std.proofs.lemmas.Int.{ints}
-use Rattle.std.proofs.lemmas.Bool.Decides.{Decides-int_eq}
 use Rattle.std.proofs.lemmas.List.Elements.{All-filter}
 use Rattle.std.proofs.lemmas.List.Filters.{length-filter_both}
-use Rattle.std.specs.Ordering.{int_eq}
 use mathlib.Core.Bool.{not}
 use Rattle.form.specs.Payoff.{BundleLeg, bundle_of, bundle_payoff}
 use Rattle.clearing_model.specs.Clearing.{Filled, bought, sold, buys_less_sells}
-use Rattle.form.proofs.SameOption.{same_option_is, option_is_same}
-use Rattle.std.proofs.lemmas.Bool.{and_parts}
-use Rattle.form.specs.Vector.{is_same_option, is_same_bundle}
+pub use Rattle.form.proofs.SameOption.{same_bundle_is, bundle_is_same}
+use Rattle.form.specs.Vector.{is_same_bundle}
 use Rattle.clearing_model.specs.Balance.{one_if, balance_of, AreBalanced}
 use Rattle.market_laws.specs.Laws.{BalancedOwesNothing}
 use Rattle.arithmetic.proofs.Products.{products}
 use Rattle.arithmetic.proofs.Sums.{All-head, All-tail}
 use Rattle.market_laws.proofs.Legs.{signed}
-
-pub same_bundle_is : (a b : List BundleLeg) → is_same_bundle a b ≡ true → a ≡ b
-same_bundle_is [] [] h = refl
-same_bundle_is [] (leg ∷ legs) h = cc
-same_bundle_is (leg ∷ legs) [] h = cc
-same_bundle_is (a ∷ legs) (b ∷ others) h =
-    let parts = and_parts (int_eq a.count b.count && is_same_option a.option b.option) (is_same_bundle legs others) h in
-    let here = and_parts (int_eq a.count b.count) (is_same_option a.option b.option) parts.0 in
-    let count : a.count ≡ b.count = (Decides-int_eq a.count b.count).0 here.0 in
-    let option : a.option ≡ b.option = same_option_is a.option b.option here.1 in
-    let rest : legs ≡ others = same_bundle_is legs others parts.1 in
-    let P : ℤ → List ℤ → List BundleLeg → Type 0 = λ c v ls. a ∷ legs ≡ record { count = c; option = v } ∷ ls in
-    subst (λ c. P c b.option others) count (subst (λ v. P a.count v others) option (subst (λ ls. P a.count a.option ls) rest refl))
-
-pub bundle_is_same : (a : List BundleLeg) → is_same_bundle a a ≡ true
-bundle_is_same [] = refl
-bundle_is_same (leg ∷ legs) = rw ((Decides-int_eq leg.count leg.count).1 refl, option_is_same leg.option) (bundle_is_same legs)
 
 -- whether a fill is of another bundle
 abbrev pub is_other : List BundleLeg → Filled → Bool

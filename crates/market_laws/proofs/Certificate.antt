@@ -4,7 +4,7 @@ use Rattle.std.proofs.lemmas.Int.{ints}
 use Rattle.std.proofs.lemmas.List.{length-map, append-nil}
 use Rattle.std.proofs.lemmas.List.Elements.{All-nil, All-cons}
 use Rattle.std.specs.Int.{◌∣◌}
-use native.Mathlib.Nat.{mul-div_cancel', mul-div_cancel_left}
+use native.Mathlib.Nat.{mul-div_cancel'}
 use Rattle.arithmetic.specs.Sums.{positive_part}
 use Rattle.exact_num.specs.Fraction.{Fraction, IsDefined, whole}
 use Rattle.exact_num.specs.CommonDenominator.{common_denominator, amount_over, amounts_over, amounts_of, IsRatio}
@@ -19,7 +19,7 @@ use Rattle.clearing_model.specs.Certificate.{filled_over, signed_over, fractions
 use Rattle.market_laws.specs.Laws.{TreeCertificateCovers, WrittenTreeCovers, LineCertificateCovers, BalancedFillsCover, CoverAndMeasureAreOptimal}
 use Rattle.arithmetic.proofs.Integers.{*ℤ_mono, *ℤ_cancel_le}
 use Rattle.arithmetic.proofs.Products.{products}
-use Rattle.arithmetic.proofs.Parts.{positive_part_least, part_above}
+use Rattle.arithmetic.proofs.Parts.{positive_part_least}
 use Rattle.arithmetic.proofs.Sums.{All-head, All-tail}
 use Rattle.exact_num.proofs.Fractions.{divides, common_positive}
 use Rattle.market_laws.proofs.Payoff.{part-scale}

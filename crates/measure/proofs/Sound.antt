@@ -1,11 +1,8 @@
 -- The sums over a measure are the model's, over the product of the weights' denominators.
-use Rattle.std.proofs.Common.{◌≡◌, ℕ, ◌*◌, Bool, true, false, List, [], ◌∷◌, map, arith, ℤ, pos, ◌+ℤ◌, ◌-ℤ◌, ◌*ℤ◌, ◌≤◌, All, Result, Ok, Err, IfOk, refl, ap, sym, subst, ◌∙◌}
-use Rattle.std.specs.Int.{◌∣◌}
-use Rattle.std.specs.List.{list_all}
+use Rattle.std.proofs.Common.{◌≡◌, ℕ, ◌*◌, Bool, true, false, List, [], ◌∷◌, map, arith, ℤ, pos, ◌+ℤ◌, ◌-ℤ◌, ◌*ℤ◌, ◌≤◌, All, Result, Ok, Err, IfOk, refl, ap, sym, subst}
 use Rattle.std.proofs.lemmas.Int.{ints}
 use Rattle.std.proofs.lemmas.List.Elements.{All-nil, All-cons}
 use Rattle.std.proofs.lemmas.List.Sums.{AllPass-from_list_all, list_all-from_AllPass}
-use Rattle.std.proofs.lemmas.List.{length-map}
 use Rattle.arithmetic.specs.Sums.{total}
 use Rattle.arithmetic.proofs.Products.{products}
 use Rattle.arithmetic.proofs.Parts.{part_above, part_below}
@@ -28,10 +25,9 @@ use Rattle.frac.specs.Value.{fraction_of}
 use Rattle.form.specs.declared.orders.Side.{Side}
 use Rattle.form.specs.declared.orders.Side.TheVariants.{Buy, Sell}
 use Rattle.form.specs.declared.orders.Order.{Order}
-use Rattle.form.specs.Payoff.{option_of, one, bundle_of, bundle_payoff, positive_part}
-use Rattle.form.proofs.DotSteps.{payoffs_are_exact}
-use Rattle.form.proofs.Vectors.{one_pays}
-use Rattle.form.specs.Steps.{payoff_of}
+use Rattle.form.specs.Payoff.{BundleLeg, bundle_of, bundle_payoff, positive_part}
+use Rattle.form.proofs.LegSteps.{bundle_payoffs_are_exact}
+use Rattle.form.specs.Steps.{bundle_payoff_of}
 use Rattle.clearing_model.specs.Measure.{WeightedState, mass_of as model_mass, price_of as model_price, gain, gain_of, bound_of as model_bound}
 use Rattle.clearing_model.specs.Certificate.{Point, fraction_weight, points_over, IsWeight, HasUnitMass}
 use Rattle.measure.specs.declared.measures.Weighted.{Weighted}
@@ -122,23 +118,18 @@ pub masses_are_exact : MassesAreExact
 masses_are_exact limit points low = (masses_pass limit points low, masses_fail limit points low)
 
 -- ---- prices
-price_stands : (limit : ℕ) (v : List ℤ) (points : List Point) (price : Fraction) → All IsLowest (map fraction_weight points) → price_of limit v points ≡ Ok price
-    → (let W = common_denominator (map fraction_weight points) in Stands price (model_price (one v) (points_over W points)) W)
-price_stands limit v points price low h =
-    sum_over (add_price limit v) _ points price low (λ point st start s x here step.
-    let pays = after_value (payoff_of limit v point.0) (λ p. plus_product limit start point.1 p) s step in
-    let is = payoffs_are_exact limit v point.0 pays.value pays.first ∙ ap whole (sym (one_pays v point.0)) in
-    plus_stands limit start point.1 s (bundle_payoff (one v) point.0) x _ _ here st (rw (← is) pays.rest)) h
+price_stands : (limit : ℕ) (bundle : List BundleLeg) (points : List Point) (price : Fraction) → All IsLowest (map fraction_weight points) → price_of limit bundle points ≡ Ok price
+    → (let W = common_denominator (map fraction_weight points) in Stands price (model_price bundle (points_over W points)) W)
+price_stands limit bundle points price low h =
+    sum_over (add_price limit bundle) _ points price low (λ point st start s x here step.
+    let pays = after_value (bundle_payoff_of limit bundle point.0) (λ p. plus_product limit start point.1 p) s step in
+    let is = bundle_payoffs_are_exact limit bundle point.0 pays.value pays.first in
+    plus_stands limit start point.1 s (bundle_payoff bundle point.0) x _ _ here st (rw (← is) pays.rest)) h
 
 pub prices_are_exact : PricesAreExact
-prices_are_exact limit v points price low h = (price_stands limit v points price low h).ratio
+prices_are_exact limit bundle points price low h = (price_stands limit bundle points price low h).ratio
 
 -- ---- bounds
--- an order's price is that of its option
-order_price : (o : Order) (points : List WeightedState) → model_price (bundle_of o) points ≡ model_price (one (option_of o.form)) points
-unfolding bundle_of
-order_price o points = refl
-
 -- how far the limit is from the price on the order's side
 abbrev pub distance : Side → ℤ → ℤ → ℤ
 distance Buy bid price = bid -ℤ price
@@ -170,10 +161,10 @@ order_gains : (limit : ℕ) (points : List Point) (o : Order) → All IsLowest (
     → (let W = common_denominator (map fraction_weight points) in Adds (add_gain limit points) (λ o. pos (o.quantity * gain_of (points_over W points) W o)) W o)
 order_gains limit points o low start s x st h =
     let W = common_denominator (map fraction_weight points) in
-    let price = after_value (price_of limit (option_of o.form) points) (λ price. after (gain_at limit o.side (whole (pos o.price)) price) (plus_gain limit start o.quantity)) s h in
+    let price = after_value (price_of limit (bundle_of o) points) (λ price. after (gain_at limit o.side (whole (pos o.price)) price) (plus_gain limit start o.quantity)) s h in
     let gained = after_value (gain_at limit o.side (whole (pos o.price)) price.value) (plus_gain limit start o.quantity) s price.rest in
     let p = model_price (bundle_of o) (points_over W points) in
-    let sp : Stands price.value p W = subst (λ x. Stands price.value x W) (sym (order_price o (points_over W points))) (price_stands limit (option_of o.form) points price.value low price.first) in
+    let sp : Stands price.value p W = price_stands limit (bundle_of o) points price.value low price.first in
     let sg = gain_stands limit W o.side (whole (pos o.price)) price.value gained.value (pos o.price *ℤ pos W) p (whole_stands (pos o.price) W) sp gained.first in
     rw (gain_is_part o.side (pos (o.price * W)) p) (quantity_gains limit W o.quantity start gained.value s x (distance o.side (pos (o.price * W)) p) st sg gained.rest)
 

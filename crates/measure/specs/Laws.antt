@@ -1,24 +1,39 @@
 -- What the checks of a measure show.
-use Rattle.std.specs.Prelude.{ℕ, ◌≡◌, List, map, ℤ, true, false, Ok}
+use Rattle.std.specs.Prelude.{ℕ, ◌≡◌, List, map, true, false, Ok}
 use Rattle.std.specs.List.{All}
 use Rattle.exact_num.specs.Fraction.{Fraction, IsDefined, IsLowest, IsSameValue, AtMost}
 use Rattle.exact_num.specs.CommonDenominator.{common_denominator, IsRatio}
+use Rattle.frac.specs.declared.frac128.Frac128.{Frac128}
+use Rattle.frac.specs.Value.{fraction_of}
 use Rattle.form.specs.declared.orders.Order.{Order}
-use Rattle.form.specs.Payoff.{one}
+use Rattle.form.specs.declared.orders.Batch.{Batch}
+use Rattle.form.specs.Payoff.{BundleLeg}
 use Rattle.clearing_model.specs.Measure.{price_of as model_price}
 use Rattle.clearing_model.specs.Certificate.{FillsCover, Point, fraction_weight, points_over, HasUnitMass, IsFractionMeasure, MeasureProves}
+use Rattle.measure.specs.declared.measures.Measure.{Measure}
+use Rattle.measure.specs.Points.{points_of}
 use Rattle.measure.specs.Sums.{has_unit_mass, price_of, bound_of}
 
--- the points give the option this price
-abbrev pub IsPrice : List ℤ → List Point → Fraction → Type 0
-IsPrice v points price =
+-- the points give the bundle this price
+abbrev pub IsPrice : List BundleLeg → List Point → Fraction → Type 0
+IsPrice bundle points price =
     let W = common_denominator (map fraction_weight points) in
-    IsRatio price (model_price (one v) (points_over W points)) W
+    IsRatio price (model_price bundle (points_over W points)) W
 
 -- no fractional fills of the orders cover a surplus above the bound
 abbrev pub NoCoverIsAbove : ℕ → List Order → Fraction → Type 0
 NoCoverIsAbove n orders bound =
     (fills : List Fraction) (S : Fraction) → IsDefined S → FillsCover n orders fills S → AtMost S bound
+
+-- the measure's bound of the batch is this number
+abbrev pub IsBoundOf : Batch → Measure → Frac128 → Type 0
+IsBoundOf batch measure bound = MeasureProves batch.orders (points_of measure) (fraction_of bound)
+
+-- where the points are a measure of the batch's underlyings, no fills of the batch cover a surplus above it
+abbrev pub IsAboveCovers : Batch → Measure → Frac128 → Type 0
+IsAboveCovers batch measure bound =
+    IsFractionMeasure batch.underlyings (points_of measure)
+    → NoCoverIsAbove batch.underlyings batch.orders (fraction_of bound)
 
 -- points that pass have unit mass, and points that do not pass have not
 abbrev pub MassesAreExact : Type 0
@@ -30,8 +45,8 @@ MassesAreExact =
 -- a price is the model's; a weight may be below 0
 abbrev pub PricesAreExact : Type 0
 PricesAreExact =
-    (limit : ℕ) (v : List ℤ) (points : List Point) (price : Fraction) → All IsLowest (map fraction_weight points)
-    → price_of limit v points ≡ Ok price → IsPrice v points price
+    (limit : ℕ) (bundle : List BundleLeg) (points : List Point) (price : Fraction) → All IsLowest (map fraction_weight points)
+    → price_of limit bundle points ≡ Ok price → IsPrice bundle points price
 
 -- a bound is what the measure proves, and nothing else is; a weight may be below 0
 abbrev pub BoundsAreExact : Type 0

@@ -1,5 +1,5 @@
 -- The sums over a measure, each step with a limit.
-use Rattle.std.specs.Prelude.{ℕ, List, Bool, false, if◌then◌else◌, ℤ, pos, Result, Ok}
+use Rattle.std.specs.Prelude.{ℕ, List, Bool, false, if◌then◌else◌, pos, Result, Ok}
 use Rattle.std.specs.List.{list_all}
 use Rattle.exact_num.specs.declared.misfit.Wide.{Wide}
 use Rattle.exact_num.specs.Fraction.{Fraction, whole}
@@ -9,8 +9,8 @@ use Rattle.exact_num.specs.Tests.{is_same, is_above_zero, is_not_below_zero}
 use Rattle.form.specs.declared.orders.Side.{Side}
 use Rattle.form.specs.declared.orders.Side.TheVariants.{Buy, Sell}
 use Rattle.form.specs.declared.orders.Order.{Order}
-use Rattle.form.specs.Payoff.{option_of, scale_of}
-use Rattle.form.specs.Steps.{payoff_of}
+use Rattle.form.specs.Payoff.{BundleLeg, bundle_of, scale_of}
+use Rattle.form.specs.Steps.{bundle_payoff_of}
 use Rattle.clearing_model.specs.Certificate.{Point}
 
 -- whether no weight is below 0
@@ -33,12 +33,13 @@ has_unit_mass limit points =
     if are_weights points then after (mass_of limit points) (λ sum. Ok (is_same sum (whole (pos 1)))) else Ok false
 
 -- the total and weight times payoff of a point
-abbrev pub add_price : ℕ → List ℤ → Fraction → Point → Result Fraction Wide
-add_price limit v total point = after (payoff_of limit v point.0) (λ h. plus_product limit total point.1 h)
+abbrev pub add_price : ℕ → List BundleLeg → Fraction → Point → Result Fraction Wide
+add_price limit bundle total point =
+    after (bundle_payoff_of limit bundle point.0) (λ h. plus_product limit total point.1 h)
 
--- the price of an option
-abbrev pub price_of : ℕ → List ℤ → List Point → Result Fraction Wide
-price_of limit v points = fold_steps (add_price limit v) (whole (pos 0)) points
+-- the price of a bundle
+abbrev pub price_of : ℕ → List BundleLeg → List Point → Result Fraction Wide
+price_of limit bundle points = fold_steps (add_price limit bundle) (whole (pos 0)) points
 
 -- for a buy how far the limit is above the price, and for a sell how far below
 abbrev pub gain_at : ℕ → Side → Fraction → Fraction → Result Fraction Wide
@@ -53,7 +54,7 @@ plus_gain limit total quantity gain =
 -- the same of an order
 abbrev pub add_gain : ℕ → List Point → Fraction → Order → Result Fraction Wide
 add_gain limit points total o =
-    after (price_of limit (option_of o.form) points)
+    after (price_of limit (bundle_of o) points)
     (λ price. after (gain_at limit o.side (whole (pos o.price)) price) (plus_gain limit total o.quantity))
 
 -- the bound of the measure

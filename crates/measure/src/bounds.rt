@@ -1,14 +1,12 @@
 //! The bound of a measure on every surplus.
 
-ghost use Rattle.std.specs.Prelude.{◌≡◌, ◌+◌, All, IfOk, map, pos};
+ghost use Rattle.std.specs.Prelude.{◌≡◌, All, IfOk};
 ghost use Rattle.exact_num.specs.Fits.{meaning};
-ghost use Rattle.exact_num.specs.Fraction.{whole};
 ghost use Rattle.frac.specs.Range.{limit};
 ghost use Rattle.frac.specs.Value.{fraction_of};
-ghost use Rattle.clearing_model.specs.Certificate.{IsFractionMeasure, MeasureProves};
 ghost use Rattle.form.specs.Limits.{HasItsForms};
-ghost use Rattle.measure.specs.Laws.{NoCoverIsAbove};
-ghost use Rattle.measure.specs.Points.{point_of};
+ghost use Rattle.measure.specs.Laws.{IsAboveCovers, IsBoundOf};
+ghost use Rattle.measure.specs.Points.{FitsStates, IsOnStates, points_of};
 ghost use Rattle.measure.specs.Sums.{add_gain, bound_of, gain_at};
 
 use crate::measures::Measure;
@@ -24,18 +22,18 @@ use frac::{Frac128, whole};
 /// Linear Programming, chapter 5.)
 pub fn bound(batch: &Batch, m: &Measure) -> Result<Frac128, Wide>
     requires forms { HasItsForms batch.now }
-    requires states { All (λ point. point.state.count ≡ batch.now.underlyings + 1) m.now.points }
-    ensures steps { meaning fraction_of result ≡ bound_of limit batch.now.orders (map point_of m.now.points) }
-    ensures exact { IfOk result (λ bound. MeasureProves batch.now.orders (map point_of m.now.points) (fraction_of bound)) }
-    ensures duality { IfOk result (λ bound. IsFractionMeasure batch.now.underlyings (map point_of m.now.points) → NoCoverIsAbove batch.now.underlyings batch.now.orders (fraction_of bound)) }
+    requires states { IsOnStates batch.now.underlyings m.now }
+    ensures steps { meaning fraction_of result ≡ bound_of limit batch.now.orders (points_of m.now) }
+    ensures exact { IfOk result (IsBoundOf batch.now m.now) }
+    ensures duality { IfOk result (IsAboveCovers batch.now m.now) }
 {
     sum(batch.orders.as_slice(), m)
 }
 
 // The sum over these orders.
 fn sum(orders: &[Order], m: &Measure) -> Result<Frac128, Wide>
-    requires { All (λ order. All (λ point. point.state.count ≡ order.form.count) m.now.points) orders.now }
-    ensures { meaning fraction_of result ≡ bound_of limit orders.now (map point_of m.now.points) }
+    requires { All (λ order. FitsStates order.bundle m.now.points) orders.now }
+    ensures { meaning fraction_of result ≡ bound_of limit orders.now (points_of m.now) }
 {
     let mut total = Frac128::zero();
     for order in orders {
@@ -45,11 +43,13 @@ fn sum(orders: &[Order], m: &Measure) -> Result<Frac128, Wide>
 }
 
 // The total and the order's quantity times its gain, where it gains.
+#[tactic(auto, unfolding(form::specs::Payoff::bundle_of))]
 fn add_gain(total: Frac128, m: &Measure, order: &Order) -> Result<Frac128, Wide>
-    requires { All (λ point. point.state.count ≡ order.now.form.count) m.now.points }
-    ensures { meaning fraction_of result ≡ add_gain limit (map point_of m.now.points) (fraction_of total) order.now }
+    requires { FitsStates order.now.bundle m.now.points }
+    ensures { meaning fraction_of result
+        ≡ add_gain limit (points_of m.now) (fraction_of total) order.now }
 {
-    let price = price_of(&order.form, m)?;
+    let price = price_of(&order.bundle, m)?;
     let gain = gain_at(order.side, whole(order.price.into()), price)?;
     if gain.sign() > 0 {
         plus_product(total, whole(order.quantity.into()), gain)
@@ -60,7 +60,8 @@ fn add_gain(total: Frac128, m: &Measure, order: &Order) -> Result<Frac128, Wide>
 
 // How far the limit is above the price for a buy, and below it for a sell.
 fn gain_at(side: Side, limit_price: Frac128, price: Frac128) -> Result<Frac128, Wide>
-    ensures { meaning fraction_of result ≡ gain_at limit side (fraction_of limit_price) (fraction_of price) }
+    ensures { meaning fraction_of result
+        ≡ gain_at limit side (fraction_of limit_price) (fraction_of price) }
 {
     match side {
         Side::Buy => limit_price.sub(price),

@@ -52,7 +52,7 @@ impl Points {
     }
 }
 
-/// A pricing measure: weights of states, none below 0, where the sum of `weight * t` is 1. It prices an option at the
+/// A pricing measure: weights of states, none below 0, where the sum of `weight * t` is 1. It prices a bundle at the
 /// sum of weight times payoff.
 #[derive(Debug, Drop)]
 pub struct Measure {

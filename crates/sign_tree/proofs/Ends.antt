@@ -9,9 +9,10 @@ use Rattle.sign_tree.specs.declared.trees.Node.{Node}
 use Rattle.sign_tree.specs.declared.trees.Multiplier.{Multiplier}
 use Rattle.sign_tree.specs.Read.{node_of, placed_of, sign_of}
 use Rattle.sign_tree.proofs.LegLists.{none_signed, length-fraction_legs}
-use Rattle.sign_tree.proofs.Sides.{legs_are_of}
+use Rattle.sign_tree.specs.Left.{batch_legs}
 use Rattle.exact_num.specs.Fraction.{Fraction}
 use Rattle.clearing_model.specs.Written.{WrittenNode, PlacedMultiplier}
+use Rattle.sign_tree.specs.Legs.{leg_count}
 use Rattle.sign_tree.specs.Walk.{FractionLeg, walk, closes_of}
 use Rattle.sign_tree.specs.declared.closing.Left.{Left}
 use Rattle.sign_tree.specs.declared.closing.Stop.{Stop}
@@ -31,9 +32,9 @@ ends_so limit n legs L (Err (WideStop w)) = refl
 
 -- the walk with no sign is the whole one
 pub closes_is : (limit k n : ℕ) (os' os : List Order) (fs : List Frac128) (L : Fraction) (ns' ns : List Node) (ms' ms : List Multiplier) (ss : List ℤ) (x : Result Bool Wide)
-    → k ≡ n → os' ≡ os → ns' ≡ ns → ms' ≡ ms → length fs ≡ length os → length ss ≡ length os → ((i : ℕ) → i < length ss → get_or ss i (pos 0) ≡ pos 0)
-    → walk limit k (legs_are_of os' fs) L (map node_of ns') (map sign_of ss ∷ []) (map placed_of ms') ≡ x
-    → closes_of limit n (legs_are_of os fs) L (map node_of ns) (map placed_of ms) ≡ x
+    → k ≡ n → os' ≡ os → ns' ≡ ns → ms' ≡ ms → length fs ≡ length os → length ss ≡ leg_count os → ((i : ℕ) → i < length ss → get_or ss i (pos 0) ≡ pos 0)
+    → walk limit k (batch_legs os' fs) L (map node_of ns') (map sign_of ss ∷ []) (map placed_of ms') ≡ x
+    → closes_of limit n (batch_legs os fs) L (map node_of ns) (map placed_of ms) ≡ x
 closes_is limit k n os' os fs L ns' ns ms' ms ss x ek eo en em fills signs each h =
-    let legs : length (legs_are_of os fs) ≡ length ss = length-fraction_legs os (map fraction_of fs) (length-map fs fraction_of ∙ fills) ∙ sym signs in
+    let legs : length (batch_legs os fs) ≡ length ss = length-fraction_legs os (map fraction_of fs) (length-map fs fraction_of ∙ fills) ∙ sym signs in
     rw (legs, ← none_signed ss each, ← ek, ← eo, ← en, ← em) h

@@ -1,5 +1,5 @@
 -- The sums of a leaf, over one denominator.
-use Rattle.std.proofs.Common.{◌≡◌, ℕ, zero, suc, ◌+◌, ◌/◌, ◌<◌, ◌≤◌, ◌==◌, Bool, true, false, List, [], ◌∷◌, map, get_or, arith, ℤ, pos, neg_ℤ, ◌+ℤ◌, ◌*ℤ◌, ◌≤ℤ◌, All, Result, Ok, inl, inr, refl, ap, sym, subst, eqb-true}
+use Rattle.std.proofs.Common.{◌≡◌, ℕ, zero, suc, ◌+◌, ◌*◌, ◌/◌, ◌<◌, ◌≤◌, ◌==◌, Bool, true, false, List, [], ◌∷◌, map, get_or, arith, ℤ, pos, neg_ℤ, ◌+ℤ◌, ◌*ℤ◌, ◌≤ℤ◌, All, Result, Ok, inl, inr, refl, ap, sym, subst, eqb-true}
 use Rattle.std.specs.Prelude.{if◌then◌else◌}
 use Rattle.std.proofs.lemmas.Bool.{cases_lt}
 use Rattle.std.proofs.lemmas.Bool.Decides.{nat_tests}
@@ -13,13 +13,13 @@ use Rattle.exact_num.specs.Fraction.{Fraction, whole}
 use Rattle.exact_num.specs.CommonDenominator.{amount_over}
 use Rattle.exact_num.proofs.After.{after_value}
 use Rattle.form.specs.Payoff.{positive_part}
-use Rattle.exact_num.specs.Steps.{plus_product}
+use Rattle.exact_num.specs.Steps.{fold_steps, plus_product}
 use Rattle.exact_num.specs.Tests.{is_above_zero}
 use Rattle.clearing_model.specs.Legs.{Exposure, Long, Short, FilledLeg}
 use Rattle.clearing_model.specs.Tree.{Sign, Unsigned, Plus, Minus, term, entry_of, liability_at}
 use Rattle.clearing_model.specs.Written.{PlacedMultiplier, multiplier_at, multipliers_from}
-use Rattle.exact_num.proofs.Stands.{Stands, zero_stands, plus_stands, less_stands, difference_stands, not_above}
-use Rattle.sign_tree.specs.Walk.{FractionLeg, first_at, left_after, add_term, add_terms, less_liability, entry_sum, entries_close}
+use Rattle.exact_num.proofs.Stands.{Stands, zero_stands, product_stands, plus_stands, less_stands, difference_stands, not_above}
+use Rattle.sign_tree.specs.Walk.{FractionLeg, leg_fill, first_at, left_after, signed_legs, plus_filled, add_term, add_leg, less_liability, entry_sum, entries_close}
 
 -- what a fraction that is not below 0 is over D
 abbrev pub amount_of : ℕ → Fraction → ℕ
@@ -33,8 +33,12 @@ has_amount D f st least =
     let low : pos 0 ≤ℤ amount_over D f = omega (arith, ints, *ℤ_mono (D / f.denominator) (pos 0) f.numerator least) in
     subst (λ w. Stands f w D) (sym (part_above (amount_over D f) low)) st
 
+-- the fill of a leg is that of its order times the size of its count
+abbrev pub leg_amount : ℕ → FractionLeg → ℕ
+leg_amount D leg = amount_of D leg.fill * leg.size
+
 abbrev pub leg_over : ℕ → FractionLeg → FilledLeg
-leg_over D leg = record { exposure = leg.exposure; amount = amount_of D leg.fill; option = leg.option }
+leg_over D leg = record { exposure = leg.exposure; amount = leg_amount D leg; option = leg.option }
 
 -- the legs, their fills over D
 abbrev pub legs_over : ℕ → List FractionLeg → List FilledLeg
@@ -42,6 +46,9 @@ legs_over D legs = map (leg_over D) legs
 
 abbrev pub LegHasAmount : ℕ → FractionLeg → Type 0
 LegHasAmount D leg = HasAmount D leg.fill
+
+pub fill_stands : (limit D : ℕ) (leg : FractionLeg) (f : Fraction) → LegHasAmount D leg → leg_fill limit leg ≡ Ok f → Stands f (pos (leg_amount D leg)) D
+fill_stands limit D leg f st h = product_stands limit leg.fill f (pos leg.size) (pos (amount_of D leg.fill)) D st h
 
 abbrev pub MultiplierHasAmount : ℕ → PlacedMultiplier → Type 0
 MultiplierHasAmount D m = HasAmount D m.by
@@ -107,21 +114,30 @@ left_all P place (m ∷ ms) all = by_test (m.place == place) refl
     by_test true e = rw e (All-tail P m ms all)
     by_test false e = rw e all
 
-term_stands : (limit D : ℕ) (total f by s : Fraction) (exposure : Exposure) (sign : Sign) (t x : ℤ) (a m : ℕ) → Stands total t D → Stands f (pos a) D → Stands by (pos m) D
-    → add_term limit total exposure sign f by x ≡ Ok s → Stands s (t +ℤ term exposure sign a m x) D
-term_stands limit D total f by s Long Unsigned t x a m st sf sb h =
+-- what the fill of a leg stands for, where it fits
+abbrev FillStands : ℕ → Result Fraction Wide → ℕ → Type 0
+FillStands D fill a = (f : Fraction) → fill ≡ Ok f → Stands f (pos a) D
+
+filled_stands : (limit D : ℕ) (total s : Fraction) (fill : Result Fraction Wide) (t x : ℤ) (a : ℕ) → Stands total t D → FillStands D fill a → plus_filled limit total fill x ≡ Ok s → Stands s (t +ℤ (pos a *ℤ x)) D
+filled_stands limit D total s fill t x a st sf h =
+    let f = after_value fill (λ f. plus_product limit total f (whole x)) s h in
+    plus_stands limit total f.value s x t (pos a) D st (sf f.value f.first) f.rest
+
+term_stands : (limit D : ℕ) (total by s : Fraction) (exposure : Exposure) (sign : Sign) (fill : Result Fraction Wide) (t x : ℤ) (a m : ℕ) → Stands total t D → FillStands D fill a → Stands by (pos m) D
+    → add_term limit total exposure sign fill by x ≡ Ok s → Stands s (t +ℤ term exposure sign a m x) D
+term_stands limit D total by s Long Unsigned fill t x a m st sf sb h =
     let e : t +ℤ (pos a *ℤ pos (positive_part x)) ≡ t +ℤ (pos (positive_part x) *ℤ pos a) = omega (arith, ints, products) in
-    subst (λ w. Stands s w D) e (plus_stands limit total f s (pos (positive_part x)) t (pos a) D st sf h)
-term_stands limit D total f by s Long Plus t x a m st sf sb h =
-    let first = after_value (plus_product limit total f (whole x)) (λ sum. plus_product limit sum by (whole x)) s h in
-    let one = plus_stands limit total f first.value x t (pos a) D st sf first.first in
+    subst (λ w. Stands s w D) e (filled_stands limit D total s fill t (pos (positive_part x)) a st sf h)
+term_stands limit D total by s Long Plus fill t x a m st sf sb h =
+    let first = after_value (plus_filled limit total fill x) (λ sum. plus_product limit sum by (whole x)) s h in
+    let one = filled_stands limit D total first.value fill t x a st sf first.first in
     let two = plus_stands limit first.value by s x (t +ℤ (pos a *ℤ x)) (pos m) D one sb first.rest in
     let e : (t +ℤ (pos a *ℤ x)) +ℤ (pos m *ℤ x) ≡ t +ℤ (x *ℤ pos (a + m)) = omega (arith, ints, products) in
     subst (λ w. Stands s w D) e two
-term_stands limit D total f by s Long Minus t x a m st sf sb h =
+term_stands limit D total by s Long Minus fill t x a m st sf sb h =
     let e : t +ℤ neg_ℤ (pos m *ℤ x) ≡ t +ℤ neg_ℤ (x *ℤ pos m) = omega (arith, ints, products) in
     subst (λ w. Stands s w D) e (less_stands limit total by s x t (pos m) D st sb h)
-term_stands limit D total f by s Short sign t x a m st sf sb h =
+term_stands limit D total by s Short sign fill t x a m st sf sb h =
     let e : t +ℤ neg_ℤ (pos m *ℤ x) ≡ t +ℤ neg_ℤ (x *ℤ pos m) = omega (arith, ints, products) in
     subst (λ w. Stands s w D) e (less_stands limit total by s x t (pos m) D st sb h)
 
@@ -136,16 +152,19 @@ nothing_stands total s t D st e =
 
 terms_stand : (limit D i : ℕ) (total s : Fraction) (t : ℤ) (place : ℕ) (legs : List FractionLeg) (signs : List Sign) (ms : List PlacedMultiplier)
     → All (LegHasAmount D) legs → All (MultiplierHasAmount D) ms → RiseFrom place ms → Stands total t D
-    → add_terms limit i total place legs signs ms ≡ Ok s → Stands s (t +ℤ entry_over D i place legs signs ms) D
+    → fold_steps (add_leg limit i) total (signed_legs place legs signs ms) ≡ Ok s → Stands s (t +ℤ entry_over D i place legs signs ms) D
 terms_stand limit D i total s t place [] signs ms legs_are ms_are rise st h = nothing_stands total s t D st (cc)
 terms_stand limit D i total s t place (leg ∷ legs) [] ms legs_are ms_are rise st h = nothing_stands total s t D st (cc)
 terms_stand limit D i total s t place (leg ∷ legs) (sign ∷ signs) ms legs_are ms_are rise st h =
     let x = get_or leg.option i (pos 0) in
+    let by = first_at place ms in
     let m = multiplier_at D ms place in
-    let here = term leg.exposure sign (amount_of D leg.fill) m x in
-    let first = after_value (add_term limit total leg.exposure sign leg.fill (first_at place ms) x) (λ sum. add_terms limit i sum (place + 1) legs signs (left_after place ms)) s h in
-    let one = term_stands limit D total leg.fill (first_at place ms) first.value leg.exposure sign t x (amount_of D leg.fill) m st (All-head (LegHasAmount D) leg legs legs_are) (first_stands D place ms ms_are rise) first.first in
-    let rest = terms_stand limit D i first.value s (t +ℤ here) (place + 1) legs signs (left_after place ms) (All-tail (LegHasAmount D) leg legs legs_are) (left_all (MultiplierHasAmount D) place ms ms_are) (left_rise place ms rise) one first.rest in
+    let here = term leg.exposure sign (leg_amount D leg) m x in
+    let left = left_after place ms in
+    let first = after_value (add_leg limit i total (record { leg = leg; sign = sign; by = by })) (λ next. fold_steps (add_leg limit i) next (signed_legs (place + 1) legs signs left)) s h in
+    let leg_has = All-head (LegHasAmount D) leg legs legs_are in
+    let one = term_stands limit D total by first.value leg.exposure sign (leg_fill limit leg) t x (leg_amount D leg) m st (λ f fits. fill_stands limit D leg f leg_has fits) (first_stands D place ms ms_are rise) first.first in
+    let rest = terms_stand limit D i first.value s (t +ℤ here) (place + 1) legs signs left (All-tail (LegHasAmount D) leg legs legs_are) (left_all (MultiplierHasAmount D) place ms ms_are) (left_rise place ms rise) one first.rest in
     let same = subst (λ (xs : List ℕ). Stands s ((t +ℤ here) +ℤ entry_of i (legs_over D legs) signs xs) D) (left_same D place ms (legs_over D legs)) rest in
     let e : (t +ℤ here) +ℤ entry_over D i (place + 1) legs signs ms ≡ t +ℤ (here +ℤ entry_over D i (place + 1) legs signs ms) = omega (arith, ints) in
     subst (λ w. Stands s w D) e same
@@ -155,7 +174,7 @@ pub entry_stands : (limit D i : ℕ) (legs : List FractionLeg) (L : Fraction) (s
     → All (LegHasAmount D) legs → All (MultiplierHasAmount D) ms → RiseFrom 1 ms → Stands L (amount_over D L) D
     → entry_sum limit legs L signs ms i ≡ Ok s → Stands s (entry_over D i 1 legs signs ms +ℤ neg_ℤ (liability_at (amount_over D L) i)) D
 entry_stands limit D i legs L signs ms s legs_are ms_are rise sl h =
-    let first = after_value (add_terms limit i (whole (pos 0)) 1 legs signs ms) (less_liability limit L i) s h in
+    let first = after_value (fold_steps (add_leg limit i) (whole (pos 0)) (signed_legs 1 legs signs ms)) (less_liability limit L i) s h in
     let sum = terms_stand limit D i (whole (pos 0)) first.value (pos 0) 1 legs signs ms legs_are ms_are rise (zero_stands D) first.first in
     at i (entry_over D i 1 legs signs ms) first.value sum first.rest
   where

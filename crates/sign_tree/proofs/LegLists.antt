@@ -1,102 +1,168 @@
 -- The leg and the sign at an index.
-use Rattle.std.proofs.Common.{◌≡◌, ℕ, zero, suc, ◌+◌, ◌-◌, ◌<◌, ◌≤◌, true, false, negsuc, ◌&&◌, List, [], ◌∷◌, length, get_or, map, drop, replicate, add-one, arith, ℤ, pos, refl, ap, ◌∙◌}
-use Rattle.std.proofs.lemmas.List.{get_or_default}
+use Rattle.std.proofs.Common.{◌≡◌, ℕ, zero, suc, ◌+◌, ◌-◌, ◌<◌, ◌≤◌, true, false, negsuc, Bool, List, [], ◌∷◌, ◌++◌, length, get_or, map, drop, replicate, arith, ℤ, pos, refl, ap, sym, subst, ◌∙◌, slice_get, option_map, Some, None, Ok}
 use Rattle.std.specs.Prelude.{nat_le}
-use Rattle.std.proofs.lemmas.Bool.Decides.{nat_tests}
+use Rattle.std.proofs.lemmas.Option.{slice_get-get_or, slice_get-map, get_or_from_slice_get}
+use Rattle.std.proofs.lemmas.List.{drop_all, get_or_default, length-append, length-map}
 use Rattle.std.proofs.Math.Bool.{and-false}
-use mathlib.Core.Bool.{not}
+use Rattle.std.proofs.lemmas.Bool.Decides.{nat_tests}
+use Rattle.std.proofs.Math.Seq.{drop-append_seam}
+use Rattle.std.proofs.lemmas.List.Sums.{sum_by-cons}
 use Rattle.exact_num.specs.Fraction.{Fraction}
 use Rattle.frac.specs.declared.frac128.Frac128.{Frac128}
 use Rattle.frac.specs.Value.{fraction_of}
-use Rattle.form.specs.declared.orders.Side.{Side}
-use Rattle.form.specs.declared.orders.Side.TheVariants.{Buy, Sell}
+use Rattle.form.specs.declared.legs.Leg.{Leg}
 use Rattle.form.specs.declared.orders.Order.{Order}
-use Rattle.arithmetic.proofs.Lists.{drop_map}
-use Rattle.sign_tree.specs.Read.{sign_of}
-use Rattle.clearing_model.specs.Legs.{Exposure}
+use Rattle.form.specs.Payoff.{BundleLeg, bundle_of, leg_of, legs_in}
+use Rattle.form.proofs.SameBundle.{length-legs_in}
+use Rattle.arithmetic.proofs.Lists.{drop_map, item_first}
+use Rattle.clearing_model.specs.Legs.{Exposure, Long, Short}
 use Rattle.clearing_model.specs.Tree.{Sign, Unsigned}
-use Rattle.sign_tree.specs.Walk.{exposures_of, exposure_of_order, exposure_of_side, leg_of, fraction_legs, is_unsigned, is_within, splits_at, may_split, carries_at}
+use Rattle.sign_tree.specs.Read.{sign_of}
+use Rattle.sign_tree.specs.Legs.{FractionLeg, fraction_leg, fraction_legs, leg_count}
+use Rattle.sign_tree.specs.Left.{IsOfFirst}
+use Rattle.sign_tree.specs.Walk.{is_unsigned, passes_at, passes, is_within, is_within_at}
 
--- the lists of a batch have one length
-pub record AreAsMany (os : List Order) (fs : List Frac128) (ss : List ℤ) : Type 0 where
-  pub fills : length fs ≡ length os
-  pub signs : length ss ≡ length os
+-- what stands in the first of two lists, and in the second
+in_first : {A : Type 0} (xs ys : List A) (i : ℕ) → i < length xs → slice_get (xs ++ ys) i ≡ slice_get xs i
+in_first [] ys i lt = absurd (omega arith)
+in_first (x ∷ xs) ys zero lt = refl
+in_first (x ∷ xs) ys (suc i) lt = in_first xs ys i (omega arith)
 
--- what stands in them at an index
-pub record StandAt (os : List Order) (fs : List Frac128) (ss : List ℤ) (i : ℕ) (o : Order) (f : Frac128) (s : ℤ) : Type 0 where
-  pub within : i < length os
-  pub order : o ≡ get_or os i o
-  pub fill : f ≡ get_or fs i f
-  pub sign : s ≡ get_or ss i (pos 0)
+in_second : {A : Type 0} (xs ys : List A) (i : ℕ) → length xs ≤ i → slice_get (xs ++ ys) i ≡ slice_get ys (i - length xs)
+in_second [] ys i le = let e : i - 0 ≡ i = omega arith in rw e refl
+in_second (x ∷ xs) ys zero le = absurd (omega arith)
+in_second (x ∷ xs) ys (suc i) le =
+    let e : suc i - suc (length xs) ≡ i - length xs = omega arith in
+    rw e (in_second xs ys i (omega arith))
 
-pub carries_here : (os : List Order) (fs : List Frac128) (ss : List ℤ) (i : ℕ) (o : Order) (f : Frac128) (s : ℤ) (by : Fraction) → AreAsMany os fs ss → StandAt os fs ss i o f s
-    → carries_at (fraction_legs os (map fraction_of fs)) (map sign_of ss) i by ≡ (not (is_unsigned (exposure_of_side o.side) (sign_of s)) && is_within (exposure_of_side o.side) (fraction_of f) by)
-carries_here [] fs ss i o f s by many at = absurd (omega (arith, at.within))
-carries_here (p ∷ os) [] ss i o f s by many at = absurd (omega (arith, many.fills))
-carries_here (p ∷ os) (g ∷ fs) [] i o f s by many at = absurd (omega (arith, many.signs))
-carries_here (p ∷ os) (g ∷ fs) (t ∷ ss) zero o f s by many at = rw (at.order, at.fill, at.sign) refl
-carries_here (p ∷ os) (g ∷ fs) (t ∷ ss) (suc i) o f s by many at =
-    carries_here os fs ss i o f s by (record { fills = omega (arith, many.fills); signs = omega (arith, many.signs) })
-    (record { within = omega (arith, at.within); order = at.order; fill = at.fill; sign = at.sign })
+-- the legs of the orders from k on
+abbrev pub legs_from : List Order → List Frac128 → ℕ → List FractionLeg
+legs_from os fs k = fraction_legs (drop k os) (map fraction_of (drop k fs))
 
-pub carries_past : (os : List Order) (fs : List Frac128) (ss : List ℤ) (i : ℕ) (by : Fraction) → AreAsMany os fs ss → length os ≤ i
-    → carries_at (fraction_legs os (map fraction_of fs)) (map sign_of ss) i by ≡ false
-carries_past [] fs ss i by many past = refl
-carries_past (p ∷ os) [] ss i by many past = refl
-carries_past (p ∷ os) (g ∷ fs) [] i by many past = refl
-carries_past (p ∷ os) (g ∷ fs) (t ∷ ss) zero by many past = absurd (omega (arith, past))
-carries_past (p ∷ os) (g ∷ fs) (t ∷ ss) (suc i) by many past =
-    carries_past os fs ss i by (record { fills = omega (arith, many.fills); signs = omega (arith, many.signs) }) (omega (arith, past))
+abbrev pub leg_in : Order → Frac128 → BundleLeg → FractionLeg
+leg_in o f leg = fraction_leg o.side (fraction_of f) leg
 
-pub exposures_are : (os : List Order) (fs : List Fraction) → length fs ≡ length os → exposures_of (fraction_legs os fs) ≡ map exposure_of_order os
-exposures_are [] fs len = refl
-exposures_are (o ∷ os) [] len = absurd (omega arith)
-exposures_are (o ∷ os) (f ∷ fs) len = ap (λ (es : List Exposure). exposure_of_order o ∷ es) (exposures_are os fs (omega arith))
+-- those of the order at k come first
+pub order_first : (os : List Order) (fs : List Frac128) (k : ℕ) (o : Order) (f : Frac128) → length fs ≡ length os → k < length os → o ≡ get_or os k o → f ≡ get_or fs k f
+    → legs_from os fs k ≡ map (leg_in o f) (bundle_of o) ++ legs_from os fs (k + 1)
+order_first os fs k o f len lt io jf = rw (item_first os k o lt io, item_first fs k f (omega arith) jf) refl
 
-pub splits_here : (os : List Order) (ss : List ℤ) (i : ℕ) (o : Order) (s : ℤ) → length ss ≡ length os → i < length os → o ≡ get_or os i o → s ≡ get_or ss i (pos 0)
-    → splits_at (map exposure_of_order os) (map sign_of ss) i ≡ is_unsigned (exposure_of_order o) (sign_of s)
-splits_here [] ss i o s many within order sign = absurd (omega arith)
-splits_here (p ∷ os) [] i o s many within order sign = absurd (omega arith)
-splits_here (p ∷ os) (t ∷ ss) zero o s many within order sign = rw (order, sign) refl
-splits_here (p ∷ os) (t ∷ ss) (suc i) o s many within order sign = splits_here os ss i o s (omega arith) (omega arith) order sign
+pub orders_end : (os : List Order) (fs : List Frac128) (k : ℕ) → length os ≤ k → legs_from os fs k ≡ []
+orders_end os fs k le = rw (drop_all k os le) refl
 
-pub splits_past : (os : List Order) (ss : List ℤ) (i : ℕ) → length os ≤ i → splits_at (map exposure_of_order os) (map sign_of ss) i ≡ false
-splits_past [] ss i past = refl
-splits_past (p ∷ os) [] i past = refl
-splits_past (p ∷ os) (t ∷ ss) zero past = absurd (omega (arith, past))
-splits_past (p ∷ os) (t ∷ ss) (suc i) past = splits_past os ss i (omega (arith, past))
+-- the leg of an order, and those after the order's
+pub length-bundle : (o : Order) → length (bundle_of o) ≡ length (legs_in o.bundle)
+unfolding bundle_of
+length-bundle o = length-map (legs_in o.bundle) leg_of
 
--- the leg at i comes first, and then those after it
-pub legs_drop : (os : List Order) (fs : List Frac128) (ss : List ℤ) (i : ℕ) (o : Order) (f : Frac128) (s : ℤ) → AreAsMany os fs ss → StandAt os fs ss i o f s
-    → drop i (fraction_legs os (map fraction_of fs)) ≡ leg_of (o, fraction_of f) ∷ drop (i + 1) (fraction_legs os (map fraction_of fs))
-legs_drop os fs ss i o f s many at = rw add-one (go os fs i many.fills at.within at.order at.fill)
-  where
-    go : (os : List Order) (fs : List Frac128) (i : ℕ) → length fs ≡ length os → i < length os → o ≡ get_or os i o → f ≡ get_or fs i f
-        → drop i (fraction_legs os (map fraction_of fs)) ≡ leg_of (o, fraction_of f) ∷ drop (suc i) (fraction_legs os (map fraction_of fs))
-    go [] fs i len lt io jf = absurd (omega arith)
-    go (p ∷ os) [] i len lt io jf = absurd (omega arith)
-    go (p ∷ os) (g ∷ fs) zero len lt io jf = rw (io, jf) refl
-    go (p ∷ os) (g ∷ fs) (suc i) len lt io jf = go os fs i (omega arith) (omega arith) io jf
+in_bundle : (o : Order) (i : ℕ) (leg : Leg) → i < length (legs_in o.bundle) → leg ≡ get_or (legs_in o.bundle) i leg → slice_get (bundle_of o) i ≡ Some (leg_of leg)
+unfolding bundle_of
+in_bundle o i leg lt is = slice_get-map leg_of (legs_in o.bundle) i ∙ ap (option_map leg_of) (slice_get-get_or (legs_in o.bundle) i leg lt ∙ ap Some (sym is))
 
+pub leg_here : (o : Order) (f : Frac128) (rest : List FractionLeg) (i : ℕ) (leg : Leg) → i < length (legs_in o.bundle) → leg ≡ get_or (legs_in o.bundle) i leg
+    → slice_get (map (leg_in o f) (bundle_of o) ++ rest) i ≡ Some (leg_in o f (leg_of leg))
+leg_here o f rest i leg lt is =
+    in_first (map (leg_in o f) (bundle_of o)) rest i (omega (arith, length-map (bundle_of o) (leg_in o f), length-bundle o))
+    ∙ slice_get-map (leg_in o f) (bundle_of o) i ∙ ap (option_map (leg_in o f)) (in_bundle o i leg lt is)
+
+pub leg_past : (o : Order) (f : Frac128) (rest : List FractionLeg) (i : ℕ) → length (legs_in o.bundle) ≤ i
+    → slice_get (map (leg_in o f) (bundle_of o) ++ rest) i ≡ slice_get rest (i - length (legs_in o.bundle))
+leg_past o f rest i le =
+    let legs = map (leg_in o f) (bundle_of o) in
+    let size : length legs ≡ length (legs_in o.bundle) = length-map (bundle_of o) (leg_in o f) ∙ length-bundle o in
+    in_second legs rest i (omega arith) ∙ ap (λ n. slice_get rest (i - n)) size
+
+-- the leg at `next` comes first, and then those after it
+pub leg_first : (o : Order) (f : Frac128) (rest : List FractionLeg) (i : ℕ) (leg : Leg) → i < length (legs_in o.bundle) → leg ≡ get_or (legs_in o.bundle) i leg
+    → drop i (map (leg_in o f) (bundle_of o) ++ rest) ≡ leg_in o f (leg_of leg) ∷ drop (i + 1) (map (leg_in o f) (bundle_of o) ++ rest)
+leg_first o f rest i leg lt is =
+    let legs = map (leg_in o f) (bundle_of o) in
+    let x = leg_in o f (leg_of leg) in
+    let within : i < length (legs ++ rest) = omega (arith, length-append legs rest, length-map (bundle_of o) (leg_in o f), length-bundle o) in
+    item_first (legs ++ rest) i x within (sym (get_or_from_slice_get (legs ++ rest) i x x (leg_here o f rest i leg lt is)))
+
+pub legs_end : (o : Order) (f : Frac128) (rest : List FractionLeg) (i : ℕ) → i ≡ length (legs_in o.bundle) → drop i (map (leg_in o f) (bundle_of o) ++ rest) ≡ rest
+legs_end o f rest i e =
+    let legs = map (leg_in o f) (bundle_of o) in
+    let size : i ≡ length legs = omega (arith, e, length-map (bundle_of o) (leg_in o f), length-bundle o) in
+    rw size (drop-append_seam legs rest)
+
+-- the same of the legs that are left, where these are the first order and its fill
+pub first_left : (os rest : List Order) (fs fills : List Frac128) (next : ℕ) (o : Order) (f : Frac128) (leg : Leg) → os ≡ o ∷ rest → fs ≡ f ∷ fills → next < length (legs_in o.bundle) → leg ≡ get_or (legs_in o.bundle) next leg
+    → drop next (fraction_legs os (map fraction_of fs)) ≡ leg_in o f (leg_of leg) ∷ drop (next + 1) (fraction_legs os (map fraction_of fs))
+first_left os rest fs fills next o f leg orders fs_are lt is = rw (orders, fs_are) (leg_first o f (fraction_legs rest (map fraction_of fills)) next leg lt is)
+
+pub next_order : (os rest : List Order) (fs fills : List Frac128) (next : ℕ) (o : Order) (f : Frac128) → os ≡ o ∷ rest → fs ≡ f ∷ fills → next ≡ length (legs_in o.bundle)
+    → drop next (fraction_legs os (map fraction_of fs)) ≡ fraction_legs rest (map fraction_of fills)
+next_order os rest fs fills next o f orders fs_are e = rw (orders, fs_are) (legs_end o f (fraction_legs rest (map fraction_of fills)) next e)
+
+pub of_first : (os rest : List Order) (o : Order) (next : ℕ) → os ≡ o ∷ rest → next < length (legs_in o.bundle) → IsOfFirst os next
+of_first os rest o next is lt = subst (λ os. IsOfFirst os next) (sym is) lt
+
+pub at_start : (os : List Order) → IsOfFirst os 0
+at_start [] = refl
+at_start (o ∷ os) = omega (arith, length-legs_in o.bundle, o.bundle.size_in_range)
+
+-- ---- tests at an index
+pub passes_here : (test : Exposure → Sign → Bool) (legs : List FractionLeg) (ss : List ℤ) (i : ℕ) (leg : FractionLeg) (s : ℤ) → slice_get legs i ≡ Some leg → i < length ss → s ≡ get_or ss i (pos 0)
+    → passes_at test legs (map sign_of ss) i ≡ test leg.exposure (sign_of s)
+passes_here test [] ss i leg s is lt sign = cc
+passes_here test (l ∷ legs) [] i leg s is lt sign = absurd (omega arith)
+passes_here test (l ∷ legs) (t ∷ ss) zero leg s is lt sign =
+    let same : l ≡ leg = cc in
+    rw (same, sign) refl
+passes_here test (l ∷ legs) (t ∷ ss) (suc i) leg s is lt sign = passes_here test legs ss i leg s is (omega arith) sign
+
+pub passes_none : (test : Exposure → Sign → Bool) (legs : List FractionLeg) (signs : List Sign) (i : ℕ) → slice_get legs i ≡ None → passes_at test legs signs i ≡ false
+passes_none test [] signs i none = refl
+passes_none test (l ∷ legs) [] i none = refl
+passes_none test (l ∷ legs) (t ∷ signs) zero none = cc
+passes_none test (l ∷ legs) (t ∷ signs) (suc i) none = passes_none test legs signs i none
+
+pub passes_past : (test : Exposure → Sign → Bool) (legs : List FractionLeg) (ss : List ℤ) (i : ℕ) → length ss ≤ i → passes_at test legs (map sign_of ss) i ≡ false
+passes_past test [] ss i past = refl
+passes_past test (l ∷ legs) [] i past = refl
+passes_past test (l ∷ legs) (t ∷ ss) zero past = absurd (omega arith)
+passes_past test (l ∷ legs) (t ∷ ss) (suc i) past = passes_past test legs ss i (omega arith)
+
+-- the same of places
+pub passes_zero : (test : Exposure → Sign → Bool) (legs : List FractionLeg) (signs : List Sign) (place : ℕ) → place ≡ 0 → passes test legs signs place ≡ false
+passes_zero test legs signs place none = rw none refl
+
+pub passes_behind : (test : Exposure → Sign → Bool) (legs : List FractionLeg) (ss : List ℤ) (place : ℕ) → length ss < place → passes test legs (map sign_of ss) place ≡ false
+passes_behind test legs ss place past = rw (passes_past test legs ss (place - 1) (omega arith)) (and-false (nat_le 1 place))
+
+pub passes_nowhere : (test : Exposure → Sign → Bool) (legs : List FractionLeg) (signs : List Sign) (place : ℕ) → slice_get legs (place - 1) ≡ None → passes test legs signs place ≡ false
+passes_nowhere test legs signs place none = rw (passes_none test legs signs (place - 1) none) (and-false (nat_le 1 place))
+
+pub passes_there : (test : Exposure → Sign → Bool) (legs : List FractionLeg) (ss : List ℤ) (place : ℕ) (leg : FractionLeg) (s : ℤ) → 1 ≤ place → place ≤ length ss → slice_get legs (place - 1) ≡ Some leg → s ≡ get_or ss (place - 1) (pos 0)
+    → passes test legs (map sign_of ss) place ≡ test leg.exposure (sign_of s)
+passes_there test legs ss place leg s one within is sign =
+    let first : nat_le 1 place ≡ true = grind (arith, nat_tests) in
+    rw first (passes_here test legs ss (place - 1) leg s is (omega arith) sign)
+
+pub within_here : (limit : ℕ) (legs : List FractionLeg) (i : ℕ) (leg : FractionLeg) (by : Fraction) → slice_get legs i ≡ Some leg → is_within_at limit legs i by ≡ is_within limit leg.exposure leg by
+within_here limit [] i leg by is = cc
+within_here limit (l ∷ legs) zero leg by is =
+    let same : l ≡ leg = cc in
+    rw same refl
+within_here limit (l ∷ legs) (suc i) leg by is = within_here limit legs i leg by is
+
+pub within_none : (limit : ℕ) (legs : List FractionLeg) (i : ℕ) (by : Fraction) → slice_get legs i ≡ None → is_within_at limit legs i by ≡ Ok true
+within_none limit [] i by none = refl
+within_none limit (l ∷ legs) zero by none = cc
+within_none limit (l ∷ legs) (suc i) by none = within_none limit legs i by none
+
+-- ---- signs
 pub signs_drop : (ss : List ℤ) (i : ℕ) (s : ℤ) → i < length ss → s ≡ get_or ss i (pos 0) → drop i (map sign_of ss) ≡ sign_of s ∷ drop (i + 1) (map sign_of ss)
 signs_drop ss i s lt is = drop_map sign_of ss i s lt (is ∙ get_or_default ss i (pos 0) s lt)
 
 -- a sign that is none is 0
-pub none_is : (side : Side) (s : ℤ) → is_unsigned (exposure_of_side side) (sign_of s) ≡ true → s ≡ pos 0
-none_is Buy (pos zero) h = refl
-none_is Buy (pos (suc n)) h = cc
-none_is Buy (negsuc n) h = cc
-none_is Sell s h = cc
-
--- no order stands past the last one
-pub may_split_past : (os : List Order) (ss : List ℤ) (place : ℕ) → length os < place → may_split (map exposure_of_order os) (map sign_of ss) place ≡ false
-may_split_past os ss place past = rw (splits_past os ss (place - 1) (omega arith)) (and-false (nat_le 1 place))
-
-pub may_split_here : (os : List Order) (ss : List ℤ) (place : ℕ) (o : Order) (s : ℤ) → length ss ≡ length os → 1 ≤ place → place ≤ length os → o ≡ get_or os (place - 1) o → s ≡ get_or ss (place - 1) (pos 0)
-    → may_split (map exposure_of_order os) (map sign_of ss) place ≡ is_unsigned (exposure_of_order o) (sign_of s)
-may_split_here os ss place o s many one within order sign =
-    let test : nat_le 1 place ≡ true = grind (arith, nat_tests) in
-    rw test (splits_here os ss (place - 1) o s many (omega arith) order sign)
+pub none_is : (exposure : Exposure) (s : ℤ) → is_unsigned exposure (sign_of s) ≡ true → s ≡ pos 0
+none_is Long (pos zero) h = refl
+none_is Long (pos (suc n)) h = cc
+none_is Long (negsuc n) h = cc
+none_is Short s h = cc
 
 -- where each sign is 0 no leg is signed
 pub none_signed : (ss : List ℤ) → ((k : ℕ) → k < length ss → get_or ss k (pos 0) ≡ pos 0) → map sign_of ss ≡ replicate (length ss) Unsigned
@@ -105,7 +171,10 @@ none_signed (s ∷ ss) each =
     let here : s ≡ pos 0 = each 0 (omega arith) in
     rw here (ap (λ (signs : List Sign). Unsigned ∷ signs) (none_signed ss (λ k lt. each (suc k) (omega arith))))
 
-pub length-fraction_legs : (os : List Order) (fs : List Fraction) → length fs ≡ length os → length (fraction_legs os fs) ≡ length os
+pub length-fraction_legs : (os : List Order) (fs : List Fraction) → length fs ≡ length os → length (fraction_legs os fs) ≡ leg_count os
 length-fraction_legs [] fs len = refl
 length-fraction_legs (o ∷ os) [] len = absurd (omega arith)
-length-fraction_legs (o ∷ os) (f ∷ fs) len = omega (arith, length-fraction_legs os fs (omega arith))
+length-fraction_legs (o ∷ os) (f ∷ fs) len =
+    let legs = map (fraction_leg o.side f) (bundle_of o) in
+    let rest = length-fraction_legs os fs (omega arith) in
+    omega (arith, length-append legs (fraction_legs os fs), length-map (bundle_of o) (fraction_leg o.side f), length-bundle o, length-legs_in o.bundle, sum_by-cons (λ (order : Order). order.bundle.size) o os, rest)

@@ -1,4 +1,5 @@
 pub mod LegLists
+pub mod MultiplierSteps
 pub mod TermSteps
 pub mod ZeroTerms
 pub mod EntrySteps

@@ -1,5 +1,5 @@
 -- The legs of the walk are those of the fills, and stand over a common denominator with the liability and the multipliers.
-use Rattle.std.proofs.Common.{◌≡◌, ℕ, ◌*◌, ◌≤◌, List, [], ◌∷◌, ◌++◌, length, map, get_or, arith, ℤ, pos, ◌≤ℤ◌, All, refl, ap}
+use Rattle.std.proofs.Common.{◌≡◌, ℕ, ◌≤◌, List, [], ◌∷◌, ◌++◌, length, map, get_or, pos, ◌≤ℤ◌, All, refl, ap}
 use Rattle.std.proofs.lemmas.List.{length-map}
 use Rattle.std.proofs.lemmas.List.Elements.{All-nil, All-cons, All-append}
 use Rattle.arithmetic.proofs.Sums.{All-head, All-tail, All-of_map}
@@ -8,26 +8,26 @@ use Rattle.exact_num.specs.CommonDenominator.{common_denominator, amount_over}
 use Rattle.exact_num.proofs.Fractions.{common_positive}
 use Rattle.exact_num.proofs.Tested.{lowest_are_defined}
 use Rattle.form.specs.declared.orders.Side.{Side}
-use Rattle.form.specs.declared.orders.Side.TheVariants.{Buy, Sell}
 use Rattle.form.specs.declared.orders.Order.{Order}
-use Rattle.form.specs.Payoff.{bundle_of, option_of}
-use Rattle.clearing_model.specs.Legs.{Exposure, Long, Short, FilledLeg, filled_leg, legs_of}
+use Rattle.form.specs.Payoff.{BundleLeg, bundle_of}
+use Rattle.clearing_model.specs.Legs.{FilledLeg, filled_leg, legs_of}
 use Rattle.clearing_model.specs.Written.{PlacedMultiplier}
 use Rattle.clearing_model.specs.Certificate.{filled_over, by_of}
 use Rattle.exact_num.proofs.Stands.{Stands, amounts_stand}
-use Rattle.market_laws.proofs.Single.{one_leg}
-use Rattle.sign_tree.specs.Walk.{FractionLeg, fraction_legs, leg_of, exposure_of_side}
-use Rattle.sign_tree.proofs.LeafSums.{amount_of, has_amount, leg_over, legs_over, LegHasAmount, MultiplierHasAmount}
+use Rattle.sign_tree.specs.Legs.{FractionLeg, fraction_leg, fraction_legs}
+use Rattle.sign_tree.proofs.LeafSums.{amount_of, HasAmount, has_amount, leg_over, legs_over, LegHasAmount, MultiplierHasAmount}
 
 -- the legs of the walk are those of the fills
+bundles_are_same : (D : ℕ) (side : Side) (f : Fraction) (bundle : List BundleLeg) (legs : List FilledLeg) (rest : List FractionLeg) → legs ≡ legs_over D rest
+    → map (filled_leg side (amount_of D f)) bundle ++ legs ≡ legs_over D (map (fraction_leg side f) bundle ++ rest)
+bundles_are_same D side f [] legs rest same = same
+bundles_are_same D side f (leg ∷ bundle) legs rest same =
+    ap (λ (xs : List FilledLeg). filled_leg side (amount_of D f) leg ∷ xs) (bundles_are_same D side f bundle legs rest same)
+
 pub legs_are_same : (D : ℕ) (os : List Order) (fs : List Fraction) → legs_of (filled_over D os fs) ≡ legs_over D (fraction_legs os fs)
-unfolding bundle_of
 legs_are_same D [] fs = refl
 legs_are_same D (o ∷ os) [] = refl
-legs_are_same D (o ∷ os) (f ∷ fs) =
-    let here = one_leg o.side (amount_of D f) (option_of o.form) in
-    let rest = legs_are_same D os fs in
-    cc
+legs_are_same D (o ∷ os) (f ∷ fs) = bundles_are_same D o.side f (bundle_of o) (legs_of (filled_over D os fs)) (fraction_legs os fs) (legs_are_same D os fs)
 
 pub length_of_legs : (E : ℕ) (legs : List FractionLeg) → length (legs_over E legs) ≡ length legs
 length_of_legs E legs = length-map legs (leg_over E)
@@ -53,11 +53,17 @@ pub record StandsOver (D : ℕ) (legs : List FractionLeg) (L : Fraction) (ms : L
 abbrev HasItsAmount : ℕ → Fraction → Type 0
 HasItsAmount D f = Stands f (amount_over D f) D
 
+bundle_has : (D : ℕ) (side : Side) (f : Fraction) (bundle : List BundleLeg) (rest : List FractionLeg) → HasAmount D f → All (LegHasAmount D) rest
+    → All (LegHasAmount D) (map (fraction_leg side f) bundle ++ rest)
+bundle_has D side f [] rest here after = after
+bundle_has D side f (leg ∷ bundle) rest here after =
+    All-cons (LegHasAmount D) (fraction_leg side f leg) (map (fraction_leg side f) bundle ++ rest) here (bundle_has D side f bundle rest here after)
+
 legs_have : (D : ℕ) (os : List Order) (fs : List Fraction) → All (HasItsAmount D) fs → All IsNotBelowZero fs → All (LegHasAmount D) (fraction_legs os fs)
 legs_have D [] fs stand least = All-nil (LegHasAmount D)
 legs_have D (o ∷ os) [] stand least = All-nil (LegHasAmount D)
 legs_have D (o ∷ os) (f ∷ fs) stand least =
-    All-cons (LegHasAmount D) (leg_of (o, f)) (fraction_legs os fs) (has_amount D f (All-head (HasItsAmount D) f fs stand) (All-head IsNotBelowZero f fs least))
+    bundle_has D o.side f (bundle_of o) (fraction_legs os fs) (has_amount D f (All-head (HasItsAmount D) f fs stand) (All-head IsNotBelowZero f fs least))
     (legs_have D os fs (All-tail (HasItsAmount D) f fs stand) (All-tail IsNotBelowZero f fs least))
 
 -- both parts of a list, and what is defined

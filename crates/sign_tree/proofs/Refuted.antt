@@ -1,25 +1,24 @@
 -- A walk that is open has walked no tree that is well formed and closes.
-use Rattle.std.proofs.Common.{◌≡◌, ℕ, ◌+◌, ◌-◌, Bool, true, false, List, [], ◌∷◌, ◌++◌, length, map, replicate, arith, All, Result, Ok, sym, subst, ◌∙◌, append_assoc}
-use Rattle.std.specs.Prelude.{nat_le, slice_set, if◌then◌else◌}
+use Rattle.std.proofs.Common.{◌≡◌, ℕ, ◌+◌, ◌-◌, true, false, List, [], ◌∷◌, ◌++◌, length, map, replicate, arith, All, Ok, inl, inr, sym, subst, ◌∙◌, append_assoc}
+use Rattle.std.specs.Prelude.{nat_le, slice_set}
 use Rattle.std.proofs.lemmas.Bool.{le-leb}
 use Rattle.std.proofs.lemmas.List.{append-nil, length-append}
 use Rattle.std.proofs.Math.Seq.{take-append_seam, drop-append_seam}
-use Rattle.exact_num.specs.declared.misfit.Wide.{Wide}
 use Rattle.exact_num.specs.Fraction.{Fraction, IsLowest}
 use Rattle.exact_num.specs.CommonDenominator.{common_denominator, amount_over}
-use Rattle.exact_num.specs.Fits.{after}
-use Rattle.exact_num.proofs.After.{after_value}
+use Rattle.exact_num.specs.Steps.{and_then, all_of}
+use Rattle.exact_num.proofs.Loops.{not_both}
 use Rattle.form.specs.declared.orders.Order.{Order}
 use Rattle.clearing_model.specs.Legs.{FilledLeg}
 use Rattle.clearing_model.specs.Tree.{Sign, Unsigned, Plus, Minus, IsClosed, IsClosedUnder}
 use Rattle.clearing_model.specs.Written.{WrittenNode, PlacedMultiplier, WrittenTree, Ends, Parts, nodes_of, multipliers_of, tree_over, IsFormed}
 use Rattle.clearing_model.specs.Certificate.{by_of, ClosesAsWritten}
-use Rattle.sign_tree.specs.Walk.{FractionLeg, fraction_legs, exposures_of, may_split, are_placed, leaf_closes, walk}
+use Rattle.sign_tree.specs.Walk.{FractionLeg, fraction_legs, may_split, are_placed, keeps_within, entries_close, leaf_closes, walk}
 use Rattle.sign_tree.specs.Laws.{OpenWalksCloseNoTree}
 use Rattle.sign_tree.proofs.LeafSums.{legs_over}
 use Rattle.sign_tree.proofs.OverCommon.{legs_are_same, length_of_legs, HasPart, with_amounts, StandsOver, first_part, second_part, stand_over}
 use Rattle.sign_tree.proofs.Sound.{IsSound}
-use Rattle.sign_tree.proofs.TakenForms.{rise_from, formed_are_placed, formed_may_split}
+use Rattle.sign_tree.proofs.TakenForms.{rise_from, formed_are_placed, allowed_keep_within, formed_may_split}
 use Rattle.sign_tree.proofs.TakenSums.{low_entries}
 
 leaf_is_not_open : (limit n D E : ℕ) (legs : List FractionLeg) (L : Fraction) (signs : List Sign) (ms : List PlacedMultiplier) → StandsOver D legs L ms → IsSound n D E legs L signs (Ends ms)
@@ -28,13 +27,13 @@ leaf_is_not_open limit n D E legs L signs ms over sound h =
     let placed = sound.formed.1 in
     let ms_are = with_amounts D ms over.parts (λ k d lt. (placed k d lt).2) in
     let rise = rise_from 1 ms (λ k d lt. (placed k d lt).0) sound.formed.0 in
-    let test : are_placed legs signs 0 ms ≡ true = formed_are_placed D E legs signs ms over.one over.legs_are ms_are rise placed sound.closes.0 in
-    low_entries limit D legs L signs ms 0 (n + 1) over.one over.legs_are ms_are rise over.liability (λ j from below. sound.closes.1 j (omega arith)) (rw test at h)
-
--- what follows a step that is not open
-goes_past : (step : Result Bool Wide) (t : Bool) (rest : Result Bool Wide) → (step ≡ Ok false → ⊥) → step ≡ Ok t → (if t then rest else Ok false) ≡ Ok false → rest ≡ Ok false
-goes_past step true rest not_open is h = h
-goes_past step false rest not_open is h = absurd (not_open is)
+    let test : are_placed legs signs ms ≡ true = formed_are_placed E legs signs ms rise placed in
+    let sums = entries_close limit legs L signs ms 0 (n + 1) in
+    let steps : and_then (all_of (keeps_within limit legs) ms) sums ≡ Ok false = rw test at h in
+    elim (not_both (all_of (keeps_within limit legs) ms) sums steps) [
+      | inl above ↦ allowed_keep_within limit D legs ms over.one over.legs_are ms_are rise sound.closes.0 above
+      | inr rest ↦ low_entries limit D legs L signs ms 0 (n + 1) over.one over.legs_are ms_are rise over.liability (λ j from below. sound.closes.1 j (omega arith)) rest.1
+    ]
 
 -- a walk that is open over a sound tree is open over what follows it
 past_tree : (limit n D E : ℕ) (legs : List FractionLeg) (L : Fraction) (tree : WrittenTree) (signs : List Sign) (pending : List (List Sign)) (rest : List WrittenNode) (left : List PlacedMultiplier)
@@ -42,14 +41,17 @@ past_tree : (limit n D E : ℕ) (legs : List FractionLeg) (L : Fraction) (tree :
     → walk limit n legs L (nodes_of tree ++ rest) (signs ∷ pending) (multipliers_of tree ++ left) ≡ Ok false → walk limit n legs L rest pending left ≡ Ok false
 past_tree limit n D E legs L (Ends ms) signs pending rest left over sound h =
     let fits : nat_le (length ms) (length (ms ++ left)) ≡ true = le-leb (length ms) (length (ms ++ left)) (omega (arith, length-append ms left)) in
-    let next : Bool → Result Bool Wide = λ closed. if closed then walk limit n legs L rest pending left else Ok false in
-    let step : after (leaf_closes limit n legs L signs ms) next ≡ Ok false = rw (fits, take-append_seam ms left, drop-append_seam ms left) at h in
-    let first = after_value (leaf_closes limit n legs L signs ms) next false step in
-    goes_past (leaf_closes limit n legs L signs ms) first.value (walk limit n legs L rest pending left) (leaf_is_not_open limit n D E legs L signs ms over sound) first.first first.rest
+    let leaf = leaf_closes limit n legs L signs ms in
+    let next = walk limit n legs L rest pending left in
+    let step : and_then leaf next ≡ Ok false = rw (fits, take-append_seam ms left, drop-append_seam ms left) at h in
+    elim (not_both leaf next step) [
+      | inl opened ↦ absurd (leaf_is_not_open limit n D E legs L signs ms over sound opened)
+      | inr rest ↦ rest.1
+    ]
 past_tree limit n D E legs L (Parts place plus minus) signs pending rest left over sound h =
     let plus_signs = slice_set signs (place - 1) Plus in
     let minus_signs = slice_set signs (place - 1) Minus in
-    let splits : may_split (exposures_of legs) signs place ≡ true = formed_may_split D legs signs place sound.formed.0 sound.closes.0 in
+    let splits : may_split legs signs place ≡ true = formed_may_split D legs signs place sound.formed.0 sound.closes.0 in
     let both : walk limit n legs L (nodes_of plus ++ (nodes_of minus ++ rest)) (plus_signs ∷ minus_signs ∷ pending) (multipliers_of plus ++ (multipliers_of minus ++ left)) ≡ Ok false =
     rw (splits, append_assoc (nodes_of plus) (nodes_of minus) rest, append_assoc (multipliers_of plus) (multipliers_of minus) left) at h in
     let over_plus : StandsOver D legs L (multipliers_of plus) = record {

@@ -1,24 +1,24 @@
 -- A walk that closes has walked closed trees.
-use Rattle.std.proofs.Common.{◌≡◌, ℕ, ◌+◌, ◌-◌, ◌≤◌, true, false, List, [], ◌∷◌, ◌++◌, length, map, take, drop, replicate, arith, All, Ok, refl, ap, sym, subst, ◌∙◌, append_assoc}
-use Rattle.std.specs.Prelude.{nat_le, slice_set, if◌then◌else◌}
+use Rattle.std.proofs.Common.{◌≡◌, ℕ, ◌+◌, ◌-◌, ◌≤◌, true, List, [], ◌∷◌, ◌++◌, length, map, take, drop, replicate, arith, All, Ok, refl, ap, sym, subst, ◌∙◌, append_assoc}
+use Rattle.std.specs.Prelude.{nat_le, slice_set}
 use Rattle.std.proofs.lemmas.Bool.{leb-true, and_parts}
 use Rattle.std.proofs.lemmas.List.{append-nil, take-append-drop, length-take-le}
 use Rattle.std.proofs.lemmas.List.Elements.{All-take, All-drop}
 use Rattle.exact_num.specs.Fraction.{Fraction}
 use Rattle.exact_num.specs.CommonDenominator.{common_denominator, amount_over}
-use Rattle.exact_num.proofs.After.{after_value}
-use Rattle.exact_num.specs.Fits.{after}
+use Rattle.exact_num.specs.Steps.{and_then, all_of}
+use Rattle.exact_num.proofs.Loops.{both}
 use Rattle.form.specs.declared.orders.Order.{Order}
 use Rattle.clearing_model.specs.Legs.{FilledLeg, legs_of}
 use Rattle.clearing_model.specs.Tree.{Sign, Unsigned, Plus, Minus, IsClosed, IsClosedUnder}
 use Rattle.clearing_model.specs.Written.{WrittenNode, SplitNode, LeafNode, PlacedMultiplier, WrittenTree, Ends, Parts, nodes_of, multipliers_of, tree_over, IsWritten, IsFormed}
 use Rattle.clearing_model.specs.Certificate.{filled_over, by_of, ClosesAsWritten}
 use Rattle.exact_num.proofs.Stands.{Stands}
-use Rattle.sign_tree.specs.Walk.{FractionLeg, fraction_legs, exposures_of, may_split, splits_at, are_placed, entries_close, leaf_closes, walk}
+use Rattle.sign_tree.specs.Walk.{FractionLeg, fraction_legs, is_unsigned, passes_at, may_split, are_placed, keeps_within, entries_close, leaf_closes, walk}
 use Rattle.sign_tree.specs.Laws.{WalksCloseTrees}
 use Rattle.sign_tree.proofs.LeafSums.{legs_over, LegHasAmount, then_holds, entries_within}
 use Rattle.sign_tree.proofs.OverCommon.{legs_are_same, length_of_legs, HasPart, with_amounts, stand_over}
-use Rattle.sign_tree.proofs.LeafForms.{taken, are_placed_over, places_rise, are_allowed, unsigned_long}
+use Rattle.sign_tree.proofs.LeafForms.{taken, are_placed_over, pairs_rise, are_allowed, unsigned_long}
 
 -- a tree that is well formed under these signs, and closed over D
 pub record IsSound (n D E : ℕ) (legs : List FractionLeg) (L : Fraction) (signs : List Sign) (tree : WrittenTree) : Type 0 where
@@ -28,12 +28,14 @@ pub record IsSound (n D E : ℕ) (legs : List FractionLeg) (L : Fraction) (signs
 leaf_is_sound : (limit n D E : ℕ) (legs : List FractionLeg) (L : Fraction) (signs : List Sign) (ms : List PlacedMultiplier) → 1 ≤ D → All (LegHasAmount D) legs → Stands L (amount_over D L) D → All (HasPart D) ms
     → leaf_closes limit n legs L signs ms ≡ Ok true → IsSound n D E legs L signs (Ends ms)
 leaf_is_sound limit n D E legs L signs ms one legs_are sl parts h =
-    let tests = then_holds (are_placed legs signs 0 ms) (entries_close limit legs L signs ms 0 (n + 1)) h in
-    let are = taken legs signs 0 ms tests.0 in
+    let sums = entries_close limit legs L signs ms 0 (n + 1) in
+    let tests = then_holds (are_placed legs signs ms) (and_then (all_of (keeps_within limit legs) ms) sums) h in
+    let steps = both (all_of (keeps_within limit legs) ms) sums tests.1 in
+    let are = taken legs signs ms tests.0 in
     let ms_are = with_amounts D ms parts (λ k d lt. (are.each k d lt).least) in
     record {
-      formed = (places_rise 1 ms are.rise, are_placed_over E legs signs ms are.each);
-      closes = (are_allowed D legs signs ms one legs_are ms_are are.each, λ i le. entries_within limit D legs L signs ms 0 (n + 1) legs_are ms_are are.rise sl tests.1 i (omega arith) (omega arith));
+      formed = (pairs_rise 1 ms are.rise, are_placed_over E legs signs ms are.each);
+      closes = (are_allowed limit D legs ms one legs_are ms_are steps.0, λ i le. entries_within limit D legs L signs ms 0 (n + 1) legs_are ms_are are.rise sl steps.1 i (omega arith) (omega arith));
     }
 
 -- trees, one for each of the signs, are written one after another
@@ -45,12 +47,12 @@ AreWritten P (signs ∷ pending) nodes ms =
 
 -- both sides of a split make one tree
 joined : (n D E : ℕ) (legs : List FractionLeg) (L : Fraction) (nodes : List WrittenNode) (signs : List Sign) (pending : List (List Sign)) (ms : List PlacedMultiplier) (place : ℕ)
-    → may_split (exposures_of legs) signs place ≡ true
+    → may_split legs signs place ≡ true
     → AreWritten (IsSound n D E legs L) (slice_set signs (place - 1) Plus ∷ slice_set signs (place - 1) Minus ∷ pending) nodes ms
     → AreWritten (IsSound n D E legs L) (signs ∷ pending) (SplitNode place ∷ nodes) ms
 joined n D E legs L nodes signs pending ms place splits p =
     let m = p.6 in
-    let tests = and_parts (nat_le 1 place) (splits_at (exposures_of legs) signs (place - 1)) splits in
+    let tests = and_parts (nat_le 1 place) (passes_at is_unsigned legs signs (place - 1)) splits in
     let all : nodes ≡ (nodes_of p.0 ++ nodes_of m.0) ++ m.1 = p.3 ∙ ap (λ (x : List WrittenNode). nodes_of p.0 ++ x) m.3 ∙ sym (append_assoc (nodes_of p.0) (nodes_of m.0) m.1) in
     let both : ms ≡ (multipliers_of p.0 ++ multipliers_of m.0) ++ m.2 = p.4 ∙ ap (λ (x : List PlacedMultiplier). multipliers_of p.0 ++ x) m.4 ∙ sym (append_assoc (multipliers_of p.0) (multipliers_of m.0) m.2) in
     let first : 1 ≤ place = leb-true 1 place tests.0 in
@@ -70,21 +72,20 @@ walked limit n D E legs L (node ∷ nodes) [] ms one legs_are sl parts h = cc
 walked limit n D E legs L (SplitNode place ∷ nodes) (signs ∷ pending) ms one legs_are sl parts h =
     let plus_signs = slice_set signs (place - 1) Plus in
     let minus_signs = slice_set signs (place - 1) Minus in
-    let tests = then_holds (may_split (exposures_of legs) signs place) (walk limit n legs L nodes (plus_signs ∷ minus_signs ∷ pending) ms) h in
+    let tests = then_holds (may_split legs signs place) (walk limit n legs L nodes (plus_signs ∷ minus_signs ∷ pending) ms) h in
     joined n D E legs L nodes signs pending ms place tests.0 (walked limit n D E legs L nodes (plus_signs ∷ minus_signs ∷ pending) ms one legs_are sl parts tests.1)
 walked limit n D E legs L (LeafNode count ∷ nodes) (signs ∷ pending) ms one legs_are sl parts h =
-    let outer = then_holds (nat_le count (length ms)) (after (leaf_closes limit n legs L signs (take count ms)) (λ closed. if closed then walk limit n legs L nodes pending (drop count ms) else Ok false)) h in
-    let here = after_value (leaf_closes limit n legs L signs (take count ms)) (λ closed. if closed then walk limit n legs L nodes pending (drop count ms) else Ok false) true outer.1 in
-    let inner = then_holds here.value (walk limit n legs L nodes pending (drop count ms)) here.rest in
-    let len : length (take count ms) ≡ count = length-take-le count ms (leb-true count (length ms) outer.0) in
-    let is : leaf_closes limit n legs L signs (take count ms) ≡ Ok true = here.first ∙ ap Ok inner.0 in (
+    let rest = walk limit n legs L nodes pending (drop count ms) in
+    let outer = then_holds (nat_le count (length ms)) (and_then (leaf_closes limit n legs L signs (take count ms)) rest) h in
+    let steps = both (leaf_closes limit n legs L signs (take count ms)) rest outer.1 in
+    let len : length (take count ms) ≡ count = length-take-le count ms (leb-true count (length ms) outer.0) in (
       Ends (take count ms),
       nodes,
       drop count ms,
       ap (λ (k : ℕ). LeafNode k ∷ nodes) (sym len),
       sym (take-append-drop count ms),
-      leaf_is_sound limit n D E legs L signs (take count ms) one legs_are sl (All-take (HasPart D) count ms parts) is,
-      walked limit n D E legs L nodes pending (drop count ms) one legs_are sl (All-drop (HasPart D) count ms parts) inner.1,
+      leaf_is_sound limit n D E legs L signs (take count ms) one legs_are sl (All-take (HasPart D) count ms parts) steps.0,
+      walked limit n D E legs L nodes pending (drop count ms) one legs_are sl (All-drop (HasPart D) count ms parts) steps.1,
     )
 
 -- a tree alone is the whole of what is written

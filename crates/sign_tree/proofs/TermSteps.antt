@@ -1,55 +1,26 @@
--- The terms of a leaf's entry, order by order.
-use Rattle.std.proofs.Common.{◌≡◌, ℕ, zero, suc, ◌+◌, ◌≤◌, List, [], ◌∷◌, length, get_or, map, drop, arith, ℤ, pos, Result, Ok, Err, refl, ◌∙◌}
-use Rattle.std.proofs.lemmas.List.{drop_all}
-use Rattle.exact_num.specs.declared.misfit.Wide.{Wide}
-use Rattle.exact_num.specs.Fraction.{Fraction}
-use Rattle.exact_num.specs.Fits.{after, meaning}
-use Rattle.frac.specs.declared.frac128.Frac128.{Frac128}
-use Rattle.frac.specs.Value.{fraction_of}
-use Rattle.form.specs.declared.orders.Order.{Order}
+-- The legs with their signs and multipliers, one after another.
+use Rattle.std.proofs.Common.{◌≡◌, ℕ, ◌+◌, ◌<◌, ◌≤◌, List, [], ◌∷◌, length, get_or, map, drop, ℤ, pos, refl}
+use Rattle.arithmetic.proofs.Lists.{drop_map_end}
 use Rattle.clearing_model.specs.Tree.{Sign}
 use Rattle.clearing_model.specs.Written.{PlacedMultiplier}
-use Rattle.exact_num.proofs.After.{after_ok, after_err}
-use Rattle.form.proofs.Vectors.{entry_of_option}
 use Rattle.sign_tree.specs.Read.{sign_of}
-use Rattle.sign_tree.specs.Walk.{exposure_of_side, fraction_legs, first_at, left_after, add_term, add_terms}
-use Rattle.sign_tree.proofs.LegLists.{AreAsMany, StandAt, legs_drop, signs_drop}
+use Rattle.sign_tree.specs.Walk.{FractionLeg, first_at, left_after, signed_legs}
+use Rattle.sign_tree.proofs.LegLists.{signs_drop}
 
--- the term of the order at j, and the terms after it
-terms_step : (limit i : ℕ) (total : Fraction) (os : List Order) (fs : List Frac128) (ss : List ℤ) (ms : List PlacedMultiplier) (j : ℕ) (o : Order) (f : Frac128) (s : ℤ)
-    → AreAsMany os fs ss → StandAt os fs ss j o f s
-    → add_terms limit i total (j + 1) (drop j (fraction_legs os (map fraction_of fs))) (drop j (map sign_of ss)) ms
-    ≡ after (add_term limit total (exposure_of_side o.side) (sign_of s) (fraction_of f) (first_at (j + 1) ms) (get_or o.form.entries i (pos 0)))
-    (λ sum. add_terms limit i sum (j + 1 + 1) (drop (j + 1) (fraction_legs os (map fraction_of fs))) (drop (j + 1) (map sign_of ss)) (left_after (j + 1) ms))
-terms_step limit i total os fs ss ms j o f s many at =
-    rw (legs_drop os fs ss j o f s many at, signs_drop ss j s (omega (arith, many.signs, at.within)) at.sign, entry_of_option o.form i) refl
+-- the first leg has the sign at j
+pub signed_first : (place : ℕ) (legs : List FractionLeg) (ss : List ℤ) (ms : List PlacedMultiplier) (j : ℕ) (leg : FractionLeg) (rest : List FractionLeg) (s : ℤ)
+    → legs ≡ leg ∷ rest → j < length ss → s ≡ get_or ss j (pos 0)
+    → signed_legs place legs (drop j (map sign_of ss)) ms
+    ≡ record { leg = leg; sign = sign_of s; by = first_at place ms } ∷ signed_legs (place + 1) rest (drop (j + 1) (map sign_of ss)) (left_after place ms)
+signed_first place legs ss ms j leg rest s is lt sign = rw (is, signs_drop ss j s lt sign) refl
 
-pub terms_go_on : (limit i : ℕ) (total : Frac128) (os : List Order) (fs : List Frac128) (ss : List ℤ) (ms : List PlacedMultiplier) (j : ℕ) (o : Order) (f : Frac128) (s : ℤ) (r : Result Frac128 Wide) (sum : Frac128)
-    → AreAsMany os fs ss → StandAt os fs ss j o f s
-    → meaning fraction_of r ≡ add_term limit (fraction_of total) (exposure_of_side o.side) (sign_of s) (fraction_of f) (first_at (j + 1) ms) (get_or o.form.entries i (pos 0))
-    → r ≡ Ok sum
-    → add_terms limit i (fraction_of total) (j + 1) (drop j (fraction_legs os (map fraction_of fs))) (drop j (map sign_of ss)) ms
-    ≡ add_terms limit i (fraction_of sum) (j + 1 + 1) (drop (j + 1) (fraction_legs os (map fraction_of fs))) (drop (j + 1) (map sign_of ss)) (left_after (j + 1) ms)
-terms_go_on limit i total os fs ss ms j o f s r sum many at m is =
-    terms_step limit i (fraction_of total) os fs ss ms j o f s many at
-    ∙ after_ok fraction_of (λ sum. add_terms limit i sum (j + 1 + 1) (drop (j + 1) (fraction_legs os (map fraction_of fs))) (drop (j + 1) (map sign_of ss)) (left_after (j + 1) ms)) r _ sum m is
+-- none is left after the last leg, or after the last sign
+pub signed_none : (place : ℕ) (legs : List FractionLeg) (signs : List Sign) (ms : List PlacedMultiplier) → legs ≡ [] → signed_legs place legs signs ms ≡ []
+signed_none place legs signs ms none = rw none refl
 
-pub terms_stop : (limit i : ℕ) (total : Frac128) (os : List Order) (fs : List Frac128) (ss : List ℤ) (ms : List PlacedMultiplier) (j : ℕ) (o : Order) (f : Frac128) (s : ℤ) (r : Result Frac128 Wide) (w : Wide)
-    → AreAsMany os fs ss → StandAt os fs ss j o f s
-    → meaning fraction_of r ≡ add_term limit (fraction_of total) (exposure_of_side o.side) (sign_of s) (fraction_of f) (first_at (j + 1) ms) (get_or o.form.entries i (pos 0))
-    → r ≡ Err w
-    → add_terms limit i (fraction_of total) (j + 1) (drop j (fraction_legs os (map fraction_of fs))) (drop j (map sign_of ss)) ms ≡ Err w
-terms_stop limit i total os fs ss ms j o f s r w many at m is =
-    terms_step limit i (fraction_of total) os fs ss ms j o f s many at
-    ∙ after_err fraction_of (λ sum. add_terms limit i sum (j + 1 + 1) (drop (j + 1) (fraction_legs os (map fraction_of fs))) (drop (j + 1) (map sign_of ss)) (left_after (j + 1) ms)) r _ w m is
-
--- after the last order no term is left
-pub terms_end : (limit i : ℕ) (total : Fraction) (os : List Order) (fs : List Frac128) (signs : List Sign) (ms : List PlacedMultiplier) (j place : ℕ) → length os ≤ j
-    → add_terms limit i total place (drop j (fraction_legs os (map fraction_of fs))) signs ms ≡ Ok total
-terms_end limit i total os fs signs ms j place le = rw (none os fs j le) refl
+pub signed_end : (place : ℕ) (legs : List FractionLeg) (ss : List ℤ) (ms : List PlacedMultiplier) (j : ℕ) → length ss ≤ j → signed_legs place legs (drop j (map sign_of ss)) ms ≡ []
+signed_end place legs ss ms j le = rw (drop_map_end sign_of ss j le) (unsigned legs)
   where
-    none : (os : List Order) (fs : List Frac128) (j : ℕ) → length os ≤ j → drop j (fraction_legs os (map fraction_of fs)) ≡ []
-    none [] fs j le = drop_all j [] (omega arith)
-    none (p ∷ os) [] j le = drop_all j [] (omega arith)
-    none (p ∷ os) (g ∷ fs) zero le = absurd (omega arith)
-    none (p ∷ os) (g ∷ fs) (suc j) le = none os fs j (omega arith)
+    unsigned : (legs : List FractionLeg) → signed_legs place legs [] ms ≡ []
+    unsigned [] = refl
+    unsigned (leg ∷ legs) = refl

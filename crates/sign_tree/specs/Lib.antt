@@ -1,4 +1,6 @@
 pub mod Read
+pub mod Legs
+pub mod Left
 pub mod Walk
 pub mod Verdict
 pub mod Laws

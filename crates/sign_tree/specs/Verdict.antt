@@ -1,7 +1,9 @@
 -- What the walk of the code answers, as what the walk of the definition does.
 use Rattle.std.specs.Prelude.{ℕ, ◌-◌, ◌<◌, ◌≡◌, true, false, Bool, List, [], ◌∷◌, length, map, get_or, ℤ, pos, Result, Ok, Err}
 use Rattle.exact_num.specs.declared.misfit.Wide.{Wide as Misfit}
-use Rattle.form.specs.declared.orders.Order.{Order}
+use Rattle.exact_num.specs.Fraction.{Fraction}
+use Rattle.frac.specs.Range.{limit}
+use Rattle.clearing_model.specs.Tree.{Sign}
 use Rattle.clearing_model.specs.Written.{WrittenNode, PlacedMultiplier}
 use Rattle.sign_tree.specs.declared.closing.Left.{Left}
 use Rattle.sign_tree.specs.declared.closing.Stop.{Stop}
@@ -9,11 +11,11 @@ use Rattle.sign_tree.specs.declared.closing.Stop.TheVariants.{Open as OpenStop, 
 use Rattle.sign_tree.specs.declared.trees.TreeVerdict.{TreeVerdict}
 use Rattle.sign_tree.specs.declared.trees.TreeVerdict.TheVariants.{Closed, Open, Wide}
 use Rattle.sign_tree.specs.Read.{node_of, placed_of, sign_of}
-use Rattle.sign_tree.specs.Walk.{exposure_of_order, may_split}
+use Rattle.sign_tree.specs.Walk.{FractionLeg, may_split, walk}
 
--- a buy without a sign stands at the place, which is the index i
-pub record IsSplit (orders : List Order) (signs : List ℤ) (place i : ℕ) : Type 0 where
-  pub splits : may_split (map exposure_of_order orders) (map sign_of signs) place ≡ true
+-- a long leg without a sign stands at the place, which is the index i
+pub record IsSplit (legs : List FractionLeg) (signs : List ℤ) (place i : ℕ) : Type 0 where
+  pub splits : may_split legs (map sign_of signs) place ≡ true
   pub index : place - 1 ≡ i
   pub within : i < length signs
   pub none : get_or signs i (pos 0) ≡ pos 0
@@ -23,6 +25,12 @@ abbrev pub goes_on : (List WrittenNode → List PlacedMultiplier → Result Bool
 goes_on next (Ok left) = next (map node_of left.nodes.now) (map placed_of left.multipliers.now)
 goes_on next (Err OpenStop) = Ok false
 goes_on next (Err (WideStop w)) = Err w
+
+-- the walk over the subtree at the head of the lists goes on so, whatever subtrees are still to come
+abbrev pub WalksTo : ℕ → List FractionLeg → Fraction → List WrittenNode → List Sign → List PlacedMultiplier → Result Left Stop → Type 0
+WalksTo n legs L nodes signs ms walked =
+    (pending : List (List Sign))
+    → walk limit n legs L nodes (signs ∷ pending) ms ≡ goes_on (λ nodes ms. walk limit n legs L nodes pending ms) walked
 
 abbrev pub tree_verdict : Result Bool Misfit → TreeVerdict
 tree_verdict (Ok true) = Closed

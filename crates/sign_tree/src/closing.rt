@@ -5,40 +5,47 @@ ghost use Rattle.std.specs.List.{All};
 ghost use Rattle.frac.specs.Range.{limit};
 ghost use Rattle.frac.specs.Value.{fraction_of};
 ghost use Rattle.form.specs.Limits.{HasItsForms};
-ghost use Rattle.clearing_model.specs.Tree.{Sign};
 ghost use Rattle.clearing_model.specs.Written.{LeafNode, SplitNode};
+ghost use Rattle.sign_tree.specs.declared.closing.TheConstants.{MAX_SIGNS};
 ghost use Rattle.sign_tree.specs.declared.trees.TreeVerdict.TheVariants.{Closed, Open};
 ghost use Rattle.sign_tree.specs.Laws.{IsClosedOver, IsEnough};
 ghost use Rattle.exact_num.specs.Fraction.{IsNotBelowZero};
+ghost use Rattle.sign_tree.specs.Legs.{leg_count};
+ghost use Rattle.sign_tree.specs.Left.{batch_legs};
 ghost use Rattle.sign_tree.specs.Read.{node_of, placed_of, sign_of};
-ghost use Rattle.sign_tree.specs.Walk.{closes_of, exposure_of_order, fraction_legs, may_split, walk};
-ghost use Rattle.sign_tree.specs.Verdict.{IsSplit, goes_on, is_nothing, tree_verdict};
+ghost use Rattle.sign_tree.specs.Walk.{closes_of, fraction_legs, may_split};
+ghost use Rattle.sign_tree.specs.Verdict.{IsSplit, WalksTo, goes_on, is_nothing, tree_verdict};
 
 use crate::leaf::{is_unsigned, leaf_closes};
+use crate::legs::leg_at;
 use crate::trees::{Multiplier, Node, SignTree, TreeVerdict};
 use exact_num::Wide;
 use form::{Batch, Order};
 use frac::Frac128;
 
+/// The most signs that a walk keeps: 256 orders of four legs each.
+pub const MAX_SIGNS: usize = 1_024;
+
 /// What is left of a tree to be walked.
 #[derive(Clone, Copy)]
-pub struct Left<'a> {
-    pub nodes: &'a [Node],
-    pub multipliers: &'a [Multiplier],
+struct Left<'a> {
+    nodes: &'a [Node],
+    multipliers: &'a [Multiplier],
 }
 
 /// Why a walk ends before its subtree does.
 #[derive(Clone, Copy)]
-pub enum Stop {
+enum Stop {
     Open,
     Wide(Wide),
 }
 
 /// Whether the tree closes over the fills with the liability: every leaf of it shows that no state owes more. Where no
 /// fill is below 0, `Closed` shows that it is well formed and each leaf closes, so that the liability is enough, and
-/// `Open` that it is not so; `Wide` has the first step that does not fit, where nothing failed before. There are as many fills and signs as orders; what the
-/// signs held does not matter. The walk goes one call deeper for each split on its way, of which there are at most as many as buys. Takes
-/// no memory. (Farkas' lemma in its easy direction: Chvatal, Linear Programming, chapter 16.)
+/// `Open` that it is not so; `Wide` has the first step that does not fit, where nothing failed before. There are as many
+/// fills as orders, and as many signs as the orders have legs, which are at most 1,024; what the signs held does not
+/// matter. The walk goes one call deeper for each split on its way, of which there are at most as many as long legs.
+/// Takes no memory. (Farkas' lemma in its easy direction: Chvatal, Linear Programming, chapter 16.)
 pub fn closes(
     batch: &Batch,
     fills: &[Frac128],
@@ -48,11 +55,18 @@ pub fn closes(
 ) -> TreeVerdict
     requires forms { HasItsForms batch.now }
     requires fills { length fills.now ≡ length batch.now.orders }
-    requires signs { length signs.old ≡ length batch.now.orders }
-    ensures walked { result ≡ tree_verdict (closes_of limit batch.now.underlyings (fraction_legs batch.now.orders (map fraction_of fills.now)) (fraction_of liability.now) (map node_of tree.now.nodes) (map placed_of tree.now.multipliers)) }
-    ensures closed { All IsNotBelowZero (map fraction_of fills.now) → result ≡ Closed → IsClosedOver batch.now fills.now liability.now tree.now }
-    ensures enough { All IsNotBelowZero (map fraction_of fills.now) → result ≡ Closed → IsEnough batch.now fills.now liability.now tree.now }
-    ensures refuted { All IsNotBelowZero (map fraction_of fills.now) → result ≡ Open → IsClosedOver batch.now fills.now liability.now tree.now → ⊥ }
+    requires signs { length signs.old ≡ leg_count batch.now.orders }
+    requires few { leg_count batch.now.orders ≤ MAX_SIGNS }
+    ensures walked { result
+        ≡ tree_verdict (closes_of limit batch.now.underlyings
+        (fraction_legs batch.now.orders (map fraction_of fills.now)) (fraction_of liability.now)
+        (map node_of tree.now.nodes) (map placed_of tree.now.multipliers)) }
+    ensures closed { All IsNotBelowZero (map fraction_of fills.now) → result ≡ Closed
+        → IsClosedOver batch.now fills.now liability.now tree.now }
+    ensures enough { All IsNotBelowZero (map fraction_of fills.now) → result ≡ Closed
+        → IsEnough batch.now fills.now liability.now tree.now }
+    ensures refuted { All IsNotBelowZero (map fraction_of fills.now) → result ≡ Open
+        → IsClosedOver batch.now fills.now liability.now tree.now → ⊥ }
 {
     unsign(signs);
     let left = Left {
@@ -72,7 +86,8 @@ pub fn closes(
 
 /// The verdict at the end of the whole walk.
 fn verdict_of(walked: Result<Left, Stop>) -> TreeVerdict
-    ensures { result ≡ tree_verdict (goes_on (λ nodes ms. Ok (is_nothing nodes ms)) walked.entry) }
+    ensures { result
+        ≡ tree_verdict (goes_on (λ nodes ms. Ok (is_nothing nodes ms)) walked.entry) }
 {
     match walked {
         Ok(left) => at_end(left),
@@ -83,7 +98,9 @@ fn verdict_of(walked: Result<Left, Stop>) -> TreeVerdict
 
 /// Whether nothing is left after the whole tree.
 fn at_end(left: Left) -> TreeVerdict
-    ensures { result ≡ tree_verdict (Ok (is_nothing (map node_of left.entry.nodes.now) (map placed_of left.entry.multipliers.now))) }
+    ensures { result
+        ≡ tree_verdict (Ok (is_nothing (map node_of left.entry.nodes.now)
+        (map placed_of left.entry.multipliers.now))) }
 {
     if left.nodes.is_empty() && left.multipliers.is_empty() {
         TreeVerdict::Closed
@@ -112,9 +129,10 @@ fn subtree<'a>(
     left: Left<'a>,
 ) -> Result<Left<'a>, Stop>
     requires fills { length fills.now ≡ length orders.now }
-    requires signs { length signs.old ≡ length orders.now }
     requires entries { (1 ≤ entries) × (entries ≤ 9) }
-    ensures walks { (pending : List (List Sign)) → walk limit (entries - 1) (fraction_legs orders.now (map fraction_of fills.now)) (fraction_of liability.now) (map node_of left.entry.nodes.now) (map sign_of signs.old ∷ pending) (map placed_of left.entry.multipliers.now) ≡ goes_on (λ nodes ms. walk limit (entries - 1) (fraction_legs orders.now (map fraction_of fills.now)) (fraction_of liability.now) nodes pending ms) result }
+    ensures walks { WalksTo (entries - 1) (batch_legs orders.now fills.now)
+        (fraction_of liability.now) (map node_of left.entry.nodes.now) (map sign_of signs.old)
+        (map placed_of left.entry.multipliers.now) result }
     ensures signs { IfOk result (λ rest. signs.new ≡ signs.old) }
     ensures shorter { IfOk result (λ rest. length rest.nodes.now < length left.entry.nodes.now) }
 {
@@ -140,13 +158,14 @@ fn split<'a>(
     left: Left<'a>,
 ) -> Result<Left<'a>, Stop>
     requires fills { length fills.now ≡ length orders.now }
-    requires signs { length signs.old ≡ length orders.now }
     requires entries { (1 ≤ entries) × (entries ≤ 9) }
-    ensures walks { (pending : List (List Sign)) → walk limit (entries - 1) (fraction_legs orders.now (map fraction_of fills.now)) (fraction_of liability.now) (SplitNode place ∷ map node_of left.entry.nodes.now) (map sign_of signs.old ∷ pending) (map placed_of left.entry.multipliers.now) ≡ goes_on (λ nodes ms. walk limit (entries - 1) (fraction_legs orders.now (map fraction_of fills.now)) (fraction_of liability.now) nodes pending ms) result }
+    ensures walks { WalksTo (entries - 1) (batch_legs orders.now fills.now)
+        (fraction_of liability.now) (SplitNode place ∷ map node_of left.entry.nodes.now)
+        (map sign_of signs.old) (map placed_of left.entry.multipliers.now) result }
     ensures signs { IfOk result (λ rest. signs.new ≡ signs.old) }
     ensures shorter { IfOk result (λ rest. length rest.nodes.now < length left.entry.nodes.now) }
 {
-    let Some(i) = split_index(orders, signs, place) else {
+    let Some(i) = split_index(orders, fills, signs, place) else {
         return Err(Stop::Open);
     };
     signs[i] = 1;
@@ -168,9 +187,10 @@ fn leaf<'a>(
     left: Left<'a>,
 ) -> Result<Left<'a>, Stop>
     requires fills { length fills.now ≡ length orders.now }
-    requires signs { length signs.now ≡ length orders.now }
     requires entries { (1 ≤ entries) × (entries ≤ 9) }
-    ensures walks { (pending : List (List Sign)) → walk limit (entries - 1) (fraction_legs orders.now (map fraction_of fills.now)) (fraction_of liability.now) (LeafNode count ∷ map node_of left.entry.nodes.now) (map sign_of signs.now ∷ pending) (map placed_of left.entry.multipliers.now) ≡ goes_on (λ nodes ms. walk limit (entries - 1) (fraction_legs orders.now (map fraction_of fills.now)) (fraction_of liability.now) nodes pending ms) result }
+    ensures walks { WalksTo (entries - 1) (batch_legs orders.now fills.now)
+        (fraction_of liability.now) (LeafNode count ∷ map node_of left.entry.nodes.now)
+        (map sign_of signs.now) (map placed_of left.entry.multipliers.now) result }
     ensures nodes { IfOk result (λ rest. rest.nodes.now ≡ left.entry.nodes.now) }
 {
     let count = count as usize;
@@ -188,17 +208,20 @@ fn leaf<'a>(
     }
 }
 
-/// The index of the buy without a sign at the place, where there is one.
-fn split_index(orders: &[Order], signs: &[i8], place: u32) -> Option<usize>
-    requires { length signs.now ≡ length orders.now }
-    ensures { MatchOption result (may_split (map exposure_of_order orders.now) (map sign_of signs.now) place ≡ false) (IsSplit orders.now signs.now place) }
+/// The index of the long leg without a sign at the place, where there is one.
+fn split_index(orders: &[Order], fills: &[Frac128], signs: &[i8], place: u32) -> Option<usize>
+    requires { length fills.now ≡ length orders.now }
+    ensures { MatchOption result
+        (may_split (batch_legs orders.now fills.now) (map sign_of signs.now) place ≡ false)
+        (IsSplit (batch_legs orders.now fills.now) signs.now place) }
 {
     let place = place as usize;
-    if place == 0 || place > orders.len() {
+    if place == 0 || place > signs.len() {
         return None;
     }
     let i = place - 1;
-    if is_unsigned(&orders[i], signs[i]) {
+    let leg = leg_at(orders, fills, i)?;
+    if is_unsigned(leg.exposure, signs[i]) {
         Some(i)
     } else {
         None

@@ -1,100 +1,155 @@
 //! The check of one leaf: its multipliers stand where they may, and no entry of its sum is above 0.
 
-ghost use Rattle.std.specs.Prelude.{◌≡◌, ◌≤◌, ◌<◌, ◌-◌, ◌^◌, ◌&&◌, length, map, not, pos, ℤ, true, Ok};
+ghost use Rattle.std.specs.Prelude.{◌≡◌, ◌≤◌, ◌<◌, ◌-◌, ◌&&◌, length, map, pos, true, Ok};
+ghost use Rattle.std.specs.List.{list_all};
 ghost use Rattle.exact_num.specs.Fits.{meaning, mul_of};
 ghost use Rattle.exact_num.specs.Fraction.{whole};
 ghost use Rattle.frac.specs.Value.{fraction_of};
 ghost use Rattle.frac.specs.Range.{limit};
-ghost use Rattle.exact_num.specs.Steps.{less_product, plus_product};
+ghost use Rattle.exact_num.specs.Steps.{all_of, fold_steps, less_product, plus_product};
 ghost use Rattle.sign_tree.specs.Read.{placed_of, sign_of};
-ghost use Rattle.sign_tree.specs.Walk.{add_term, add_terms, are_placed, carries_at, entries_close, entry_sum, exposure_of_side, first_at, fraction_legs, is_placed, is_unsigned, is_within, leaf_closes, left_after};
+ghost use Rattle.sign_tree.specs.Left.{batch_legs, exposure_as, leg_as};
+ghost use Rattle.sign_tree.specs.Walk.{SignedLeg, add_leg, add_term, are_placed, entries_close, entry_sum, first_at, has_no_minus, is_unsigned, is_within, keeps_within, leaf_closes, left_after, leg_fill, may_carry, places_rise, plus_filled, signed_legs};
 
+use crate::legs::{BatchLeg, Exposure, LegsLeft, first_leg, leg_at, leg_fill};
 use crate::trees::Multiplier;
 use exact_num::{Exact, Wide, less_product, plus_product};
-use form::{Order, Side};
+use form::Order;
 use frac::{Frac128, whole};
 
-/// Whether the order buys and has no sign.
-pub fn is_unsigned(order: &Order, sign: i8) -> bool
-    ensures { result ≡ is_unsigned (exposure_of_side order.now.side) (sign_of sign) }
+/// Whether the leg is long and has no sign.
+pub fn is_unsigned(exposure: Exposure, sign: i8) -> bool
+    ensures { result ≡ is_unsigned (exposure_as exposure) (sign_of sign) }
 {
-    match order.side {
-        Side::Buy => sign == 0,
-        Side::Sell => false,
+    match exposure {
+        Exposure::Long => sign == 0,
+        Exposure::Short => false,
     }
 }
 
-/// Whether the multiplier is at most the fill, where the order sells.
-fn is_within(order: &Order, fill: Frac128, by: Frac128) -> bool
-    ensures { result ≡ is_within (exposure_of_side order.now.side) (fraction_of fill) (fraction_of by) }
-{
-    match order.side {
-        Side::Buy => true,
-        Side::Sell => by <= fill,
-    }
-}
-
-/// Whether the order may carry the multiplier: it sells or has a sign, and a sell's is at most its fill.
-fn carries(order: &Order, fill: Frac128, sign: i8, by: Frac128) -> bool
-    ensures { result ≡ (not (is_unsigned (exposure_of_side order.now.side) (sign_of sign)) && is_within (exposure_of_side order.now.side) (fraction_of fill) (fraction_of by)) }
-{
-    !is_unsigned(order, sign) && is_within(order, fill, by)
-}
-
-/// Whether there is an order at the index that may carry the multiplier.
-fn carries_at(orders: &[Order], fills: &[Frac128], signs: &[i8], i: usize, by: Frac128) -> bool
-    requires fills { length fills.now ≡ length orders.now }
-    requires signs { length signs.now ≡ length orders.now }
-    ensures { result ≡ carries_at (fraction_legs orders.now (map fraction_of fills.now)) (map sign_of signs.now) i (fraction_of by) }
-{
-    if i >= orders.len() {
-        return false;
-    }
-    carries(&orders[i], fills[i], signs[i], by)
-}
-
-/// Whether the multiplier stands past the place `last`, at an order that may carry it, and is not below 0.
-fn is_placed(
-    orders: &[Order],
-    fills: &[Frac128],
-    signs: &[i8],
-    last: u32,
-    multiplier: &Multiplier,
-) -> bool
-    requires fills { length fills.now ≡ length orders.now }
-    requires signs { length signs.now ≡ length orders.now }
-    ensures { result ≡ is_placed (fraction_legs orders.now (map fraction_of fills.now)) (map sign_of signs.now) last (placed_of multiplier.now) }
-{
-    last < multiplier.place
-        && multiplier.by.sign() >= 0
-        && carries_at(
-            orders,
-            fills,
-            signs,
-            multiplier.place as usize - 1,
-            multiplier.by,
-        )
-}
-
-/// Whether each multiplier of a leaf is placed, and their places rise.
-pub fn are_placed(
-    orders: &[Order],
-    fills: &[Frac128],
-    signs: &[i8],
-    multipliers: &[Multiplier],
-) -> bool
-    requires fills { length fills.now ≡ length orders.now }
-    requires signs { length signs.now ≡ length orders.now }
-    ensures { result ≡ are_placed (fraction_legs orders.now (map fraction_of fills.now)) (map sign_of signs.now) 0 (map placed_of multipliers.now) }
+/// Whether the places rise strictly, the first above 0.
+fn places_rise(multipliers: &[Multiplier]) -> bool
+    ensures { result ≡ places_rise 0 (map placed_of multipliers.now) }
 {
     let mut last = 0;
     for multiplier in multipliers {
-        if !is_placed(orders, fills, signs, last, multiplier) {
+        if multiplier.place <= last {
             return false;
         }
         last = multiplier.place;
     }
     true
+}
+
+/// Whether a leg that is short or has a sign stands at the multiplier's place.
+fn may_carry(orders: &[Order], fills: &[Frac128], signs: &[i8], multiplier: &Multiplier) -> bool
+    requires { length fills.now ≡ length orders.now }
+    ensures { result ≡ may_carry (batch_legs orders.now fills.now) (map sign_of signs.now)
+        (placed_of multiplier.now) }
+{
+    let place = multiplier.place as usize;
+    if place == 0 || place > signs.len() {
+        return false;
+    }
+    match leg_at(orders, fills, place - 1) {
+        Some(leg) => !is_unsigned(leg.exposure, signs[place - 1]),
+        None => false,
+    }
+}
+
+/// The same of each multiplier.
+fn may_all_carry(
+    orders: &[Order],
+    fills: &[Frac128],
+    signs: &[i8],
+    multipliers: &[Multiplier],
+) -> bool
+    requires { length fills.now ≡ length orders.now }
+    ensures { result ≡ list_all
+        (may_carry (batch_legs orders.now fills.now) (map sign_of signs.now))
+        (map placed_of multipliers.now) }
+{
+    for multiplier in multipliers {
+        if !may_carry(orders, fills, signs, multiplier) {
+            return false;
+        }
+    }
+    true
+}
+
+/// Whether the multiplier is not below 0.
+fn has_no_minus(multiplier: &Multiplier) -> bool
+    ensures { result ≡ has_no_minus (placed_of multiplier.now) }
+{
+    multiplier.by.sign() >= 0
+}
+
+/// The same of each multiplier.
+fn have_no_minus(multipliers: &[Multiplier]) -> bool
+    ensures { result ≡ list_all has_no_minus (map placed_of multipliers.now) }
+{
+    for multiplier in multipliers {
+        if !has_no_minus(multiplier) {
+            return false;
+        }
+    }
+    true
+}
+
+/// Whether the places of the multipliers rise, each may stand there, and none is below 0.
+fn are_placed(orders: &[Order], fills: &[Frac128], signs: &[i8], multipliers: &[Multiplier]) -> bool
+    requires { length fills.now ≡ length orders.now }
+    ensures { result ≡ are_placed (batch_legs orders.now fills.now) (map sign_of signs.now)
+        (map placed_of multipliers.now) }
+{
+    places_rise(multipliers)
+        && may_all_carry(orders, fills, signs, multipliers)
+        && have_no_minus(multipliers)
+}
+
+/// Whether the multiplier is at most the leg's fill, where the leg is short.
+fn is_within(leg: BatchLeg, by: Frac128) -> Result<bool, Wide>
+    ensures { result ≡ is_within limit (exposure_as leg.entry.exposure) (leg_as leg.entry)
+        (fraction_of by) }
+{
+    match leg.exposure {
+        Exposure::Long => Ok(true),
+        Exposure::Short => {
+            let fill = leg_fill(leg)?;
+            Ok(by <= fill)
+        }
+    }
+}
+
+/// The same of the leg at the multiplier's place.
+fn keeps_within(orders: &[Order], fills: &[Frac128], multiplier: &Multiplier) -> Result<bool, Wide>
+    requires { length fills.now ≡ length orders.now }
+    ensures { result ≡ keeps_within limit (batch_legs orders.now fills.now)
+        (placed_of multiplier.now) }
+{
+    let index = (multiplier.place as usize).saturating_sub(1);
+    match leg_at(orders, fills, index) {
+        Some(leg) => is_within(leg, multiplier.by),
+        None => Ok(true),
+    }
+}
+
+/// The same of each multiplier.
+fn all_keep_within(
+    orders: &[Order],
+    fills: &[Frac128],
+    multipliers: &[Multiplier],
+) -> Result<bool, Wide>
+    requires { length fills.now ≡ length orders.now }
+    ensures { result ≡ all_of (keeps_within limit (batch_legs orders.now fills.now))
+        (map placed_of multipliers.now) }
+{
+    for multiplier in multipliers {
+        if !keeps_within(orders, fills, multiplier)? {
+            return Ok(false);
+        }
+    }
+    Ok(true)
 }
 
 /// The multiplier of the place, where it comes first, and else 0.
@@ -126,7 +181,8 @@ fn is_nothing(a: Frac128, x: i64) -> bool
 
 /// The total and the product, or the total alone where the product is nothing.
 fn plus_times(total: Frac128, a: Frac128, x: i64) -> Result<Frac128, Wide>
-    ensures { meaning fraction_of result ≡ plus_product limit (fraction_of total) (fraction_of a) (whole x) }
+    ensures { meaning fraction_of result ≡ plus_product limit (fraction_of total) (fraction_of a)
+        (whole x) }
 {
     if is_nothing(a, x) {
         return Ok(total);
@@ -134,9 +190,10 @@ fn plus_times(total: Frac128, a: Frac128, x: i64) -> Result<Frac128, Wide>
     plus_product(total, a, whole(x.into()))
 }
 
-/// The total less the product, or the total alone where the product is nothing.
+/// The total less the product, likewise.
 fn less_times(total: Frac128, a: Frac128, x: i64) -> Result<Frac128, Wide>
-    ensures { meaning fraction_of result ≡ less_product limit (fraction_of total) (fraction_of a) (whole x) }
+    ensures { meaning fraction_of result ≡ less_product limit (fraction_of total) (fraction_of a)
+        (whole x) }
 {
     if is_nothing(a, x) {
         return Ok(total);
@@ -144,29 +201,43 @@ fn less_times(total: Frac128, a: Frac128, x: i64) -> Result<Frac128, Wide>
     less_product(total, a, whole(x.into()))
 }
 
-/// The total and what the order adds to it, `x` being its entry.
-fn add_term(
-    total: Frac128,
-    side: Side,
-    sign: i8,
-    fill: Frac128,
-    by: Frac128,
-    x: i64,
-) -> Result<Frac128, Wide>
-    ensures { meaning fraction_of result ≡ add_term limit (fraction_of total) (exposure_of_side side) (sign_of sign) (fraction_of fill) (fraction_of by) x }
+/// The total and the product of the leg's fill and x.
+fn plus_filled(total: Frac128, leg: BatchLeg, x: i64) -> Result<Frac128, Wide>
+    ensures { meaning fraction_of result ≡ plus_filled limit (fraction_of total)
+        (leg_fill limit (leg_as leg.entry)) x }
 {
-    match side {
-        Side::Buy if sign == 0 => plus_times(total, fill, x.max(0)),
-        Side::Buy if sign > 0 => {
-            let sum = plus_times(total, fill, x)?;
+    let fill = leg_fill(leg)?;
+    plus_times(total, fill, x)
+}
+
+/// The total and what the leg adds to it, `x` being its entry: its fill times that, or times the positive part without a
+/// sign, and its multiplier times it with the leg's sign.
+fn add_term(total: Frac128, leg: BatchLeg, sign: i8, by: Frac128, x: i64) -> Result<Frac128, Wide>
+    ensures { meaning fraction_of result ≡ add_term limit (fraction_of total)
+        (exposure_as leg.entry.exposure) (sign_of sign) (leg_fill limit (leg_as leg.entry))
+        (fraction_of by) x }
+{
+    match leg.exposure {
+        Exposure::Long if sign == 0 => plus_filled(total, leg, x.max(0)),
+        Exposure::Long if sign > 0 => {
+            let sum = plus_filled(total, leg, x)?;
             plus_times(sum, by, x)
         }
         _ => less_times(total, by, x),
     }
 }
 
-/// The terms that all orders add to the entry of a leaf.
-fn add_terms(
+/// The total and what the leg adds to the sum of entry `i`.
+fn add_leg(total: Frac128, leg: BatchLeg, sign: i8, by: Frac128, i: usize) -> Result<Frac128, Wide>
+    requires { i < 9 }
+    ensures { meaning fraction_of result ≡ add_leg limit i (fraction_of total)
+        (record { leg = leg_as leg.entry; sign = sign_of sign; by = fraction_of by }) }
+{
+    add_term(total, leg, sign, by, leg.form.entries[i])
+}
+
+/// What all legs add to the entry of a leaf.
+fn add_legs(
     orders: &[Order],
     fills: &[Frac128],
     signs: &[i8],
@@ -174,29 +245,31 @@ fn add_terms(
     i: usize,
 ) -> Result<Frac128, Wide>
     requires fills { length fills.now ≡ length orders.now }
-    requires signs { length signs.now ≡ length orders.now }
     requires entry { i < 9 }
-    ensures { meaning fraction_of result ≡ add_terms limit i (whole (pos 0)) 1 (fraction_legs orders.now (map fraction_of fills.now)) (map sign_of signs.now) (map placed_of multipliers.now) }
+    ensures { meaning fraction_of result ≡ fold_steps (add_leg limit i) (whole (pos 0))
+        (signed_legs 1 (batch_legs orders.now fills.now) (map sign_of signs.now)
+        (map placed_of multipliers.now)) }
 {
     let mut total = Frac128::zero();
+    let mut left = LegsLeft {
+        orders,
+        fills,
+        next: 0,
+    };
     let mut rest = multipliers;
-    for j in 0..orders.len() {
-        let order = &orders[j];
+    for j in 0..signs.len() {
+        let Some((leg, after)) = first_leg(left) else {
+            return Ok(total);
+        };
         let by = first_at(rest, j + 1);
-        total = add_term(
-            total,
-            order.side,
-            signs[j],
-            fills[j],
-            by,
-            order.form.entries[i],
-        )?;
+        total = add_leg(total, leg, signs[j], by, i)?;
+        left = after;
         rest = left_after(rest, j + 1);
     }
     Ok(total)
 }
 
-/// The entry's sum: the terms, and in entry 0 less the liability.
+/// The entry's sum: what the legs add, and in entry 0 less the liability.
 fn entry_sum(
     orders: &[Order],
     fills: &[Frac128],
@@ -206,11 +279,11 @@ fn entry_sum(
     i: usize,
 ) -> Result<Frac128, Wide>
     requires fills { length fills.now ≡ length orders.now }
-    requires signs { length signs.now ≡ length orders.now }
     requires entry { i < 9 }
-    ensures { meaning fraction_of result ≡ entry_sum limit (fraction_legs orders.now (map fraction_of fills.now)) (fraction_of liability.now) (map sign_of signs.now) (map placed_of multipliers.now) i }
+    ensures { meaning fraction_of result ≡ entry_sum limit (batch_legs orders.now fills.now)
+        (fraction_of liability.now) (map sign_of signs.now) (map placed_of multipliers.now) i }
 {
-    let total = add_terms(orders, fills, signs, multipliers, i)?;
+    let total = add_legs(orders, fills, signs, multipliers, i)?;
     if i == 0 {
         total.sub(*liability)
     } else {
@@ -228,9 +301,10 @@ fn entries_close(
     count: usize,
 ) -> Result<bool, Wide>
     requires fills { length fills.now ≡ length orders.now }
-    requires signs { length signs.now ≡ length orders.now }
     requires entries { count ≤ 9 }
-    ensures { result ≡ entries_close limit (fraction_legs orders.now (map fraction_of fills.now)) (fraction_of liability.now) (map sign_of signs.now) (map placed_of multipliers.now) 0 count }
+    ensures { result ≡ entries_close limit (batch_legs orders.now fills.now)
+        (fraction_of liability.now) (map sign_of signs.now) (map placed_of multipliers.now) 0
+        count }
 {
     for i in 0..count {
         let sum = entry_sum(orders, fills, liability, signs, multipliers, i)?;
@@ -241,7 +315,8 @@ fn entries_close(
     Ok(true)
 }
 
-/// Whether a leaf with these multipliers closes: they are placed, and none of the first `count` entries is above 0.
+/// Whether a leaf with these multipliers closes: they are placed, those of short legs are within the legs' fills, and
+/// none of the first `count` entries is above 0.
 pub fn leaf_closes(
     orders: &[Order],
     fills: &[Frac128],
@@ -251,11 +326,14 @@ pub fn leaf_closes(
     count: usize,
 ) -> Result<bool, Wide>
     requires fills { length fills.now ≡ length orders.now }
-    requires signs { length signs.now ≡ length orders.now }
     requires entries { (1 ≤ count) × (count ≤ 9) }
-    ensures { result ≡ leaf_closes limit (count - 1) (fraction_legs orders.now (map fraction_of fills.now)) (fraction_of liability.now) (map sign_of signs.now) (map placed_of multipliers.now) }
+    ensures { result ≡ leaf_closes limit (count - 1) (batch_legs orders.now fills.now)
+        (fraction_of liability.now) (map sign_of signs.now) (map placed_of multipliers.now) }
 {
     if !are_placed(orders, fills, signs, multipliers) {
+        return Ok(false);
+    }
+    if !all_keep_within(orders, fills, multipliers)? {
         return Ok(false);
     }
     entries_close(orders, fills, liability, signs, multipliers, count)

@@ -1,10 +1,12 @@
 //! Trees of signs with multipliers: the check that a tree closes over the fills of a batch.
 #![tactic(auto)]
 
-pub mod closing;
+mod closing;
 pub mod laws;
-pub mod leaf;
+mod leaf;
+mod legs;
 pub mod trees;
 
-pub use closing::closes;
+pub use closing::{MAX_SIGNS, closes};
+pub use legs::leg_count;
 pub use trees::{Multiplier, Multipliers, Node, Nodes, SignTree, TreeVerdict};

@@ -1,6 +1,7 @@
 //! Certificates and their judgements, one a line: the name, then the number of underlyings, the orders, the fills, the
 //! liability and the surplus, the mark, and the judgement. An order has its side, price, quantity, and the strike and
-//! weights of its call. The mark optimal is its cover: then follow the points of the measure, each with its weight and
+//! weights of its call, or the legs of its bundle: the count of each before its call. The mark optimal is its cover: then
+//! follow the points of the measure, each with its weight and
 //! state, and of a tree its nodes, and the multipliers of its leaves, each with its place.
 
 /// The cases.
@@ -24,6 +25,11 @@ butterfly with a fill above its quantity: 1 | buy 6 1 10 1; sell 8 1 5 1; sell 4
 butterfly without its last fill: 1 | buy 6 1 10 1; sell 8 1 5 1; sell 4 1 12 1 | 1 2/7 | 0 6/7 | line | 3/7 1 0; 4/7 1 12; 4 0 1 = BatchShape
 butterfly with a tree: 1 | buy 6 1 10 1; sell 8 1 5 1; sell 4 1 12 1 | 1 2/7 5/7 | 0 6/7 | tree | 3/7 1 0; 4/7 1 12; 4 0 1 | leaf 0 | = BatchShape
 butterfly after the budget: 1 | buy 6 1 10 1; sell 8 1 5 1; sell 4 1 12 1 | 1 2/7 5/7 | 0 6/7 | budget = Cover
+spread covered by two options: 1 | buy 2 1 1: 10 1, -1: 12 1; sell 6 1 10 1; buy 5 1 12 1 | 1 1 1 | 0 1 | line | 1/2 1 0; 1/2 1 12; 5 0 1 = Yes
+spread of another count: 1 | buy 2 1 1: 10 1, 1: 12 1; sell 6 1 10 1; buy 5 1 12 1 | 1 1 1 | 0 1 | line | 1/2 1 0; 1/2 1 12; 5 0 1 = Cover
+spread that is bought and sold after the budget: 1 | buy 3 1 1: 10 1, -1: 12 1; sell 2 1 1: 10 1, -1: 12 1 | 1 1 | 0 1 | budget = Yes
+spread with its legs in another order: 1 | buy 3 1 1: 10 1, -1: 12 1; sell 2 1 -1: 12 1, 1: 10 1 | 1 1 | 0 1 | budget = Cover
+spread against its options after the budget: 1 | buy 2 1 1: 10 1, -1: 12 1; sell 6 1 10 1; buy 5 1 12 1 | 1 1 1 | 0 1 | budget = Cover
 fills of 0 and a measure of two settlements: 2 | sell 1 4 -10 -1 -1; buy 0 5 4 3 0 | 0 0 | 0 0 | tree | 1/10 1 0 0; 9/10 1 10 0 | leaf 0 | = Yes
 no trade, a weight on the ray: 1 | sell 19 2 0 -1; sell 17 5 0 -1; buy 34 1 2 1 | 0 0 0 | 0 0 | line | 1 1 0; 34 0 1 = Yes
 whole fills of a put and a call: 1 | sell 20 5 2 1; sell 30 3 2 1; buy 20 2 0 -1; sell 22 2 -20 -3 | 0 0 2 0 | 0 40 | line | 1 1 0 = Yes

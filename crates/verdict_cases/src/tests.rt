@@ -6,9 +6,9 @@ use anyhow::{Context, Result, bail, ensure};
 use case_texts::{number, numbers};
 use cert_check::{Claim, Cover, Fills, Judgement, Mark, No, Outcome, verdict};
 use exact_num::{Operator, Wide};
-use form::{Batch, Order, Orders, Side, State, call};
+use form::{Batch, Bundle, Form, Leg, MAX_ORDERS, Order, Orders, Side, State, are_legs, call};
 use measure::{Measure, Points, Weighted};
-use sign_tree::{Multiplier, Multipliers, Node, Nodes, SignTree};
+use sign_tree::{Multiplier, Multipliers, Node, Nodes, SignTree, leg_count};
 use std::alloc::Global;
 
 fn side(word: &str) -> Result<Side> {
@@ -19,11 +19,9 @@ fn side(word: &str) -> Result<Side> {
     }
 }
 
-fn order(alloc: Global, id: u64, text: &str) -> Result<Order> {
+// A call from its strike and its weights.
+fn form(alloc: Global, text: &str) -> Result<Form> {
     let mut words = text.split_whitespace();
-    let side = side(words.next().context("a side")?)?;
-    let price = words.next().context("a price")?.parse::<u64>()?;
-    let quantity = words.next().context("a quantity")?.parse::<u32>()?;
     let strike = words.next().context("a strike")?.parse::<i64>()?;
     ensure!(strike != i64::MIN, "a strike");
     let mut weights = Vec::new(alloc);
@@ -31,14 +29,42 @@ fn order(alloc: Global, id: u64, text: &str) -> Result<Order> {
         weights.push(word.parse::<i16>()?)?;
     }
     ensure!(1 <= weights.len() && weights.len() <= 8, "the weights");
-    let form = call(strike, weights.as_slice());
+    Ok(call(strike, weights.as_slice()))
+}
+
+// A leg from its count and its call.
+fn leg(alloc: Global, text: &str) -> Result<Leg> {
+    let (count, option) = text.split_once(':').context("a leg")?;
+    Ok(Leg {
+        count: count.trim().parse::<i16>()?,
+        form: form(alloc, option)?,
+    })
+}
+
+// One call, or legs.
+fn bundle(alloc: Global, text: &str) -> Result<Bundle> {
+    if !text.contains(':') {
+        return Ok(Bundle::one(form(alloc, text)?));
+    }
+    let mut legs = Vec::new(alloc);
+    for piece in text.split(',') {
+        legs.push(leg(alloc, piece)?)?;
+    }
+    ensure!(are_legs(legs.as_slice()), "the legs");
+    Ok(Bundle::of(legs.as_slice()))
+}
+
+fn order(alloc: Global, id: u64, text: &str) -> Result<Order> {
+    let (word, rest) = text.trim().split_once(' ').context("a side")?;
+    let (price, rest) = rest.split_once(' ').context("a price")?;
+    let (quantity, rest) = rest.split_once(' ').context("a quantity")?;
     Ok(Order {
         id,
         account: 1,
-        side,
-        form,
-        price,
-        quantity,
+        side: side(word)?,
+        bundle: bundle(alloc, rest)?,
+        price: price.parse::<u64>()?,
+        quantity: quantity.parse::<u32>()?,
     })
 }
 
@@ -208,7 +234,8 @@ fn judged(alloc: Global, text: &str) -> Result<Judgement> {
         surplus: number(surplus)?,
     };
     let mark = mark(alloc, &parts[4..])?;
-    let mut signs = vec![in alloc; 0_i8; orders.as_slice().len()]?;
+    ensure!(orders.as_slice().len() <= MAX_ORDERS, "the orders");
+    let mut signs = vec![in alloc; 0_i8; leg_count(orders.as_slice())]?;
     let batch = Batch {
         underlyings,
         orders,

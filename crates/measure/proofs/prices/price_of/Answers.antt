@@ -1,6 +1,6 @@
 use Rattle.std.proofs.Common.{map, rules}
 use Rattle.frac.specs.Range.{limit}
-use Rattle.form.specs.Payoff.{option_of}
+use Rattle.form.specs.Payoff.{bundle_legs}
 use Rattle.measure.specs.Laws.{IsPrice}
 use Rattle.measure.specs.Points.{point_of}
 use Rattle.measure.specs.Sums.{price_of}
@@ -9,7 +9,7 @@ use Rattle.measure.proofs.prices.price_of.Goals as goal
 
 pub returns-clause-exact : goal.returns-clause-exact
 returns-clause-exact c =
-    let v = option_of c.args.form.now in
+    let bundle = bundle_legs c.args.bundle.now in
     let points = map point_of c.args.m.now.points in
-    of_value (IsPrice v points) (price_of limit v points) c.sum.result (search rules)
-    (λ price h. prices_are_exact limit v points price (weights_lowest c.args.m.now.points) h)
+    of_value (IsPrice bundle points) (price_of limit bundle points) c.sum.result (search rules)
+    (λ price h. prices_are_exact limit bundle points price (weights_lowest c.args.m.now.points) h)

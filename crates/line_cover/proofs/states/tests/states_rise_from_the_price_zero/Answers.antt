@@ -1,10 +1,11 @@
-use Rattle.std.proofs.Common.{◌≡◌, arith, [], ◌∷◌}
+use Rattle.std.proofs.Common.{arith, [], ◌∷◌}
 use Rattle.std.proofs.lemmas.List.Elements.{All-from_recursion}
 use Rattle.form.specs.declared.orders.Order.{Order}
+use Rattle.form.specs.Payoff.{IsOnCount}
 use Rattle.line_cover.proofs.states.tests.states_rise_from_the_price_zero.Goals as goal
 
 abbrev OnOne : Order → Type 0
-OnOne order = order.form.count ≡ 2
+OnOne order = IsOnCount 2 order.bundle
 
 pub breakpoints-requires-clause-forms : goal.breakpoints-requires-clause-forms
 breakpoints-requires-clause-forms g c = record {

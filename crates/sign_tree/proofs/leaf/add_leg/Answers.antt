@@ -1,0 +1,12 @@
+use Rattle.std.proofs.Common.{rules, FitsSigned, get_or, pos}
+use Rattle.std.proofs.lemmas.Int.{to_z-of_z}
+use mir.Syntax.{w8, w64}
+use Rattle.form.proofs.Vectors.{entry_of_option}
+use Rattle.sign_tree.proofs.leaf.add_leg.Goals as goal
+
+pub returns : goal.returns
+returns c =
+    let form = c.args.leg.form.now in
+    let fits : FitsSigned w8 c.args.sign = search rules in
+    let fits' : FitsSigned w64 (get_or form.entries c.args.i (pos 0)) = search rules in
+    rw (entry_of_option form c.args.i, ← to_z-of_z w8 c.args.sign fits, ← to_z-of_z w64 _ fits') c.add_term.ensures
