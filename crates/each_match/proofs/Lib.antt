@@ -1,5 +1,4 @@
 pub mod Balances
-pub mod Bundles
 pub mod Fills
 pub mod Gains
 pub mod InLine

@@ -1,4 +1,4 @@
--- The auctions of all options, each run where the first order of its option stands.
+-- The auctions of all bundles, each run where the first order of its bundle stands.
 use Rattle.std.proofs.Common.{◌≡◌, ℕ, ◌+◌, ◌≤◌, List, [], ◌++◌, Bool, true, false, ◌&&◌, ◌||◌, if◌then◌else◌, length, get_or, take, take_all, Some, slice_get, refl, sym, ap, subst, ◌∙◌, arith}
 use Rattle.std.proofs.lemmas.List.Folds.{list_any_more, list_any_at}
 use Rattle.std.proofs.lemmas.List.Sums.{sum_by-append}

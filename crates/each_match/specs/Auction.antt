@@ -1,4 +1,4 @@
--- The double auction of one option, over its two queues.
+-- The double auction of one bundle, over its two queues.
 --
 -- While both queues have orders and the first buy's price is above the first sell's, the smaller of
 -- the two quantities left is filled in both. An order of which nothing is left leaves its queue.

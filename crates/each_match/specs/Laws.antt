@@ -1,4 +1,4 @@
--- What the match of each option by itself implies.
+-- What the match of each bundle by itself implies.
 use Rattle.std.specs.Prelude.{ℕ, ◌≡◌, ◌<◌, List, [], Some, pos, ◌*ℤ◌, ◌≤ℤ◌}
 use Rattle.std.specs.List.{zip, All, slice_get}
 use Rattle.std.specs.Option.{option_map_or}
@@ -23,7 +23,7 @@ AuctionGoesOn =
     (buys sells : List Offer)
     → auction buys sells ≡ option_map_or (trade_then auction buys sells) (next_trade buys sells) []
 
--- each order is filled, order by order, by the auction of the two queues of its own option
+-- each order is filled, order by order, by the auction of the two queues of its own bundle
 abbrev pub AreFilledByAuction : List Order → List ℕ → Type 0
 AreFilledByAuction orders fills =
     (place : ℕ) (order : Order)
@@ -36,7 +36,7 @@ MatchIsTheAuction = (orders : List Order) → AreFilledByAuction orders (match_b
 abbrev pub MatchIsWithin : Type 0
 MatchIsWithin = (orders : List Order) → AreFills orders (match_by_option orders) 1
 
--- of each option as much is bought as sold
+-- of each bundle as much is bought as sold
 abbrev pub MatchIsBalanced : Type 0
 MatchIsBalanced = (orders : List Order) → AreBalanced (matched orders)
 
@@ -67,19 +67,19 @@ IsFilledAt price fill =
     (IsBetter fill.0.side fill.0.price price → fill.1 ≡ fill.0.quantity)
     × (IsBetter fill.0.side price fill.0.price → fill.1 ≡ 0)
 
--- one price for each option parts its orders
+-- one price for each bundle parts its orders
 abbrev pub MatchHasPrices : Type 0
 MatchHasPrices =
     (orders : List Order)
     → (price : List BundleLeg → ℕ)
     × All (λ (fill : Filled). IsFilledAt (price (bundle_of fill.0)) fill) (matched orders)
 
--- no fills g over F of the orders that sell of each option just what they buy of it earn more than the fills m
+-- no fills g over F of the orders that sell of each bundle just what they buy of it earn more than the fills m
 abbrev pub IsBestBalanced : List Order → List ℕ → Type 0
 IsBestBalanced orders m =
     (g : List ℕ) (F : ℕ) → AreFills orders g F → AreBalanced (zip orders g)
     → premium (zip orders g) ≤ℤ (premium (zip orders m) *ℤ pos F)
 
--- so the match is the best of the fills that balance each option
+-- so the match is the best of the fills that balance each bundle
 abbrev pub MatchIsTheBest : Type 0
 MatchIsTheBest = (orders : List Order) → IsBestBalanced orders (match_by_option orders)

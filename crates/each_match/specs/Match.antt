@@ -1,4 +1,4 @@
--- The match of each option by itself: each order is filled by the auction of its own option.
+-- The match of each bundle by itself: each order is filled by the auction of its own bundle.
 use Rattle.std.specs.Prelude.{ℕ, ◌+◌, List, [], ◌∷◌}
 use Rattle.form.specs.declared.orders.Order.{Order}
 use Rattle.form.specs.declared.orders.Side.TheVariants.{Buy, Sell}

@@ -1,4 +1,4 @@
--- The queues of the buys and the sells of one option.
+-- The queues of the buys and the sells of one bundle.
 --
 -- The buys stand by falling price, the sells by rising price. At one price the order with the smaller
 -- number stands first.

@@ -1,4 +1,4 @@
--- The trades of all options of a batch, in one list.
+-- The trades of all bundles of a batch, in one list.
 use Rattle.std.specs.Prelude.{ℕ, ◌≡◌, List, take, Bool, Some}
 use Rattle.std.specs.List.{slice_get, list_any}
 use Rattle.form.specs.declared.orders.Order.{Order}

@@ -9,7 +9,7 @@ pub fn auction_goes_on()
     ensures { AuctionGoesOn }
 {}
 
-/// Each order is filled, order by order, by the auction of the two queues of its own option.
+/// Each order is filled, order by order, by the auction of the two queues of its own bundle.
 pub fn match_is_the_auction()
     ensures { MatchIsTheAuction }
 {}
@@ -19,7 +19,7 @@ pub fn match_is_within()
     ensures { MatchIsWithin }
 {}
 
-/// Of each option as much is bought as sold.
+/// Of each bundle as much is bought as sold.
 pub fn match_is_balanced()
     ensures { MatchIsBalanced }
 {}
@@ -39,13 +39,13 @@ pub fn match_covers()
     ensures { MatchCovers }
 {}
 
-/// Each option has one price, in ticks, that parts its orders: those with a better limit are filled whole, and those
+/// Each bundle has one price, in ticks, that parts its orders: those with a better limit are filled whole, and those
 /// with a worse one are not filled. A buy's limit is better above the price, a sell's below it.
 pub fn match_has_prices()
     ensures { MatchHasPrices }
 {}
 
-/// No fills that balance each option by itself, fractions of orders included, earn more than the match.
+/// No fills that balance each bundle by itself, fractions of orders included, earn more than the match.
 ///
 /// Source: weak duality of the double auction. Balanced fills earn what their orders gain at the prices of
 /// [`match_has_prices`], and no fills gain more there than the match.

@@ -1,4 +1,4 @@
-//! The match of each option by itself: a double auction of the buys and the sells of one option.
+//! The match of each bundle by itself: a double auction of the buys and the sells of one bundle.
 #![tactic(auto)]
 
 mod auction;

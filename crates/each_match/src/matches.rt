@@ -1,4 +1,4 @@
-// The match of each option by itself.
+// The match of each bundle by itself.
 ghost use Rattle.std.specs.Prelude.{◌≡◌, ◌≤◌, ◌≤ℤ◌, length, pos, IfOk};
 ghost use Rattle.std.specs.List.{zip};
 ghost use Rattle.clearing_model.specs.Balance.{AreBalanced};
@@ -9,21 +9,21 @@ ghost use Rattle.each_match.specs.Match.{match_by_option};
 ghost use Rattle.each_match.specs.Trades.{is_seen, AreTradesOf};
 
 use crate::auction::{Trade, auction, filled};
-use crate::queues::{is_same_option, queue};
+use crate::queues::{is_for_same_bundle, queue};
 use form::{Batch, Order, Side};
 use std::alloc::{AllocError, Global};
 
-// Whether an order before a place is of the option of an order.
-fn is_seen(orders: &[Order], place: usize, option: &Order) -> bool
+// Whether an order before a place is for the bundle of an order.
+fn is_seen(orders: &[Order], place: usize, order: &Order) -> bool
     requires { place ≤ length orders.now }
-    ensures { result ≡ is_seen orders.now place (bundle_of option.now) }
+    ensures { result ≡ is_seen orders.now place (bundle_of order.now) }
 {
     orders[..place]
         .iter()
-        .any(|earlier| is_same_option(earlier, option))
+        .any(|earlier| is_for_same_bundle(earlier, order))
 }
 
-// The trades of all options, each auctioned where its first order stands.
+// The trades of all bundles, each auctioned where its first order stands.
 fn trades(alloc: Global, orders: &[Order]) -> Result<Vec<Trade>, AllocError>
     ensures { IfOk result (λ trades. AreTradesOf orders.now trades.items) }
 {
@@ -52,13 +52,13 @@ fn fills(alloc: Global, orders: &[Order], trades: &[Trade]) -> Result<Vec<u64>, 
     Ok(fills)
 }
 
-/// Matches the orders of each option by themselves, as a double auction. The buys stand in a queue
+/// Matches the orders of each bundle by themselves, as a double auction. The buys stand in a queue
 /// by falling limit price, the sells by rising limit price; at one price the order with the smaller
 /// id stands first. While the first buy's price is above the first sell's, the smaller of the two
 /// quantities left is filled in both.
 ///
-/// Answers the whole fills in the order of the batch. Of each option as much is bought as sold, so
-/// the fills owe nothing at any settlement. No other fills that balance each option by itself,
+/// Answers the whole fills in the order of the batch. Of each bundle as much is bought as sold, so
+/// the fills owe nothing at any settlement. No other fills that balance each bundle by itself,
 /// fractions included, have a greater premium (in ticks, what buyers pay less what sellers get).
 /// The only error is want of memory.
 pub fn match_each(alloc: Global, batch: &Batch) -> Result<Vec<u64>, AllocError>
@@ -78,17 +78,17 @@ pub fn match_each(alloc: Global, batch: &Batch) -> Result<Vec<u64>, AllocError>
 #[cfg(test)]
 mod tests {
     use super::*;
-    use form::{Orders, call, put};
+    use form::{Bundle, Orders, call, put};
     use std::test::Fail;
 
-    // The worked batch of the fallback, and one where options and places decide.
+    // The worked batch of the fallback, and one where bundles and places decide.
     #[test]
-    fn batches_are_matched_option_by_option(rt: HostRuntime) -> Result<(), Fail> {
+    fn batches_are_matched_bundle_by_bundle(rt: HostRuntime) -> Result<(), Fail> {
         let alloc = rt.alloc();
-        let ten = call(10, &[1]);
-        let five = call(5, &[1]);
+        let ten = Bundle::one(call(10, &[1]));
+        let five = Bundle::one(call(5, &[1]));
         // The put with strike -10 on -1 of the underlying is the call with strike 10 on 1.
-        let same = put(-10, &[-1]);
+        let same = Bundle::one(put(-10, &[-1]));
         let buy = Side::Buy;
         let sell = Side::Sell;
         let fallback = [
@@ -108,13 +108,13 @@ mod tests {
         for rows in [fallback.as_slice(), ties.as_slice()] {
             let mut orders = Vec::new(alloc);
             for (place, row) in rows.iter().enumerate() {
-                let (side, form, price, quantity, _) = *row;
+                let (side, bundle, price, quantity, _) = *row;
                 let id = place as u64;
                 orders.push(Order {
                     id,
                     account: 1,
                     side,
-                    form,
+                    bundle,
                     price,
                     quantity,
                 })?;

@@ -1,11 +1,11 @@
-// The queues of the buys and the sells of one option.
+// The queues of the buys and the sells of one bundle.
 ghost use Rattle.std.specs.Prelude.{◌≡◌, IfOk};
 ghost use Rattle.std.specs.Ordering.{is_lt};
 ghost use Rattle.form.specs.Vector.{is_same_bundle};
 ghost use Rattle.form.specs.Payoff.{bundle_of};
 ghost use Rattle.each_match.specs.Queue.{stands_before, offers_from, queue_of};
 
-use form::{Order, Side};
+use form::{Order, Side, is_same_bundle};
 use std::alloc::{AllocError, Global};
 use std::cmp::Ordering;
 use std::collections::VecDeque;
@@ -37,12 +37,12 @@ impl Offer {
     }
 }
 
-// Whether two orders are of one option.
-#[tactic(auto, using(crate::proofs::Bundles::bundles_equal))]
-pub(crate) fn is_same_option(order: &Order, other: &Order) -> bool
+// Whether two orders are for the same bundle.
+#[tactic(auto, unfolding(form::specs::Payoff::bundle_of))]
+pub(crate) fn is_for_same_bundle(order: &Order, other: &Order) -> bool
     ensures { result ≡ is_same_bundle (bundle_of order.now) (bundle_of other.now) }
 {
-    order.form == other.form
+    is_same_bundle(&order.bundle, &other.bundle)
 }
 
 // The better price comes first: a buy's higher one, a sell's lower one. At one price the smaller
@@ -57,34 +57,34 @@ fn compare(side: Side, offer: &Offer, other: &Offer) -> Ordering
     by_price.then(offer.number.cmp(&other.number))
 }
 
-// The offers on a side for the option of an order, in the order of the batch.
+// The offers on a side for the bundle of an order, in the order of the batch.
 fn offers(
     alloc: Global,
     orders: &[Order],
-    option: &Order,
+    other: &Order,
     side: Side,
 ) -> Result<Vec<Offer>, AllocError>
-    ensures { IfOk result (λ v. v.items ≡ offers_from side (bundle_of option.now) 0 orders.now) }
+    ensures { IfOk result (λ v. v.items ≡ offers_from side (bundle_of other.now) 0 orders.now) }
 {
     let mut offers = Vec::new(alloc);
     for (place, order) in orders.iter().enumerate() {
-        if order.side == side && is_same_option(order, option) {
+        if order.side == side && is_for_same_bundle(order, other) {
             offers.push(Offer::of(place, order))?;
         }
     }
     Ok(offers)
 }
 
-// The queue on a side for the option of an order.
+// The queue on a side for the bundle of an order.
 pub(crate) fn queue(
     alloc: Global,
     orders: &[Order],
-    option: &Order,
+    other: &Order,
     side: Side,
 ) -> Result<VecDeque<Offer>, AllocError>
-    ensures { IfOk result (λ v. v.items ≡ queue_of side (bundle_of option.now) orders.now) }
+    ensures { IfOk result (λ v. v.items ≡ queue_of side (bundle_of other.now) orders.now) }
 {
-    let mut offers = offers(alloc, orders, option, side)?;
+    let mut offers = offers(alloc, orders, other, side)?;
     offers.sort_by(|offer, other| compare(side, offer, other))?;
     Ok(VecDeque::from(offers))
 }

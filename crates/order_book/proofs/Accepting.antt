@@ -4,6 +4,8 @@ use Rattle.std.specs.Prelude.{nat_le}
 use Rattle.std.specs.Option.{option_map, option_map_or}
 use Rattle.std.proofs.lemmas.Bool.Decides.{nat_tests}
 use Rattle.form.specs.declared.limits.TheConstants.{MAX_ORDERS}
+use Rattle.form.specs.Bundles.{form_count, IsOnCount}
+use Rattle.form.proofs.BundleLegs.{on_count-from}
 use Rattle.order_book.specs.declared.limits.TheConstants.{MAX_MARKETS, MAX_ACCEPTED, MAX_BATCHES}
 use Rattle.order_book.specs.declared.new_order.NewOrder.{NewOrder}
 use Rattle.order_book.specs.declared.refusal.BookRefusal.{BookRefusal}
@@ -18,7 +20,7 @@ pub record Accepts (book : BookState) (order : NewOrder) : Type 0 where
   pub market : MarketState
   pub found : market_of book order.market ≡ Some market
   pub unsettled : market.settled ≡ false
-  pub fits : order.form.count ≡ market.underlyings + 1
+  pub fits : IsOnCount (market.underlyings + 1) order.bundle
   pub room : length market.live < MAX_ORDERS
   pub more : book.accepted < MAX_ACCEPTED
 
@@ -45,14 +47,14 @@ accepts book order none = by (market_of book order.market) refl none
     by None e h = cc
     by (Some m) e h =
         let open_market = passes m.settled Settled _ h in
-        let right_form = passes (not (nat_eq order.form.count (m.underlyings + 1))) WeightCount _ open_market.1 in
+        let right_form = passes (not (nat_eq (form_count order.bundle) (m.underlyings + 1))) WeightCount _ open_market.1 in
         let not_full = passes (nat_le MAX_ORDERS (length m.live)) BookFull _ right_form.1 in
         let not_many = passes (nat_le MAX_ACCEPTED book.accepted) TooMany _ not_full.1 in
         record {
           market = m;
           found = e;
           unsettled = open_market.0;
-          fits = same_count order.form.count (m.underlyings + 1) right_form.0;
+          fits = on_count-from (m.underlyings + 1) order.bundle (same_count (form_count order.bundle) (m.underlyings + 1) right_form.0);
           room = less MAX_ORDERS (length m.live) not_full.0;
           more = less MAX_ACCEPTED book.accepted not_many.0;
         }

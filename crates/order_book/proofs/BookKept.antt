@@ -13,6 +13,7 @@ use Rattle.std.proofs.lemmas.Map.Keys.{IsDistinct-push}
 use Rattle.std.proofs.lemmas.Map.Made.{is_some-lookup}
 use Rattle.form.specs.declared.limits.TheConstants.{MAX_UNDERLYINGS}
 use Rattle.form.specs.declared.orders.Order.{Order}
+use Rattle.form.specs.Bundles.{IsOnCount}
 use Rattle.form.specs.Limits.{IsOrderWithin, IsWithinLimits}
 use Rattle.order_book.specs.declared.limits.TheConstants.{MAX_MARKETS, MAX_ACCEPTED, MAX_BATCHES}
 use Rattle.order_book.specs.declared.new_order.NewOrder.{NewOrder}
@@ -41,7 +42,7 @@ rise_push xs y rise below = λ k h.
     (cases_lt (k + 1) (length xs))
 
 pub weaker : (n m u : ℕ) → n ≤ m → (orders : List Order) → All (IsLive u n) orders → All (IsLive u m) orders
-weaker n m u le orders all = All-weaker (IsLive u n) (IsLive u m) (λ o l. let bound = l.number in record { within = l.within; form = l.form; some = l.some; number = omega arith }) orders all
+weaker n m u le orders all = All-weaker (IsLive u n) (IsLive u m) (λ o l. let bound = l.number in record { within = l.within; forms = l.forms; some = l.some; number = omega arith }) orders all
 
 later_kept : (n m : ℕ) → n ≤ m → (s : MarketState) → IsMarketKept n s → IsMarketKept m s
 later_kept n m le s k = record { some = k.some; few = k.few; room = k.room; rise = k.rise; live = weaker n m s.underlyings le s.live k.live; settled = k.settled }
@@ -58,7 +59,7 @@ orders_within accepted m k = All-weaker (IsLive m.underlyings accepted) IsOrderW
 -- they are a batch within the limits
 pub batch_within : (accepted : ℕ) (m : MarketState) → IsMarketKept accepted m → IsWithinLimits (batch_of m)
 batch_within accepted m k = record {
-  has_forms = record { some = k.some; few = k.few; forms = All-weaker (IsLive m.underlyings accepted) (λ (o : Order). o.form.count ≡ m.underlyings + 1) (λ o l. l.form) m.live k.live };
+  has_forms = record { some = k.some; few = k.few; forms = All-weaker (IsLive m.underlyings accepted) (λ (o : Order). IsOnCount (m.underlyings + 1) o.bundle) (λ o l. l.forms) m.live k.live };
   orders_fit = k.room;
   ids_rise = k.rise;
   orders_within = orders_within accepted m k;
@@ -161,7 +162,7 @@ module _ (book : BookState) (kept : IsBookKept book) where
           room = omega arith;
           rise = subst IsStrictlyIncreasing (sym (map-append number_of m.live (fresh ∷ []))) (rise_push (map number_of m.live) (book.accepted + 1) k.rise below);
           live = All-push (IsLive m.underlyings (book.accepted + 1)) m.live fresh (weaker book.accepted (book.accepted + 1) m.underlyings (omega arith) m.live k.live)
-              (record { within = record { option = within.option; price = within.price; some = within.some; quantity = within.quantity }; form = a.fits; some = omega arith; number = omega arith });
+              (record { within = record { options = within.options; price = within.price; some = within.some; quantity = within.quantity; counted = within.counted }; forms = a.fits; some = omega arith; number = omega arith });
           settled = λ settled. absurd (true≢false (sym settled ∙ a.unsettled));
         })
 

@@ -63,7 +63,7 @@ with_number number order = record {
   id = number;
   account = order.account;
   side = order.side;
-  form = order.form;
+  bundle = order.bundle;
   price = order.price;
   quantity = order.quantity;
 }

@@ -5,6 +5,7 @@ use Rattle.std.specs.List.Sorted.{IsStrictlyIncreasing}
 use Rattle.std.specs.Map.{keys_of}
 use Rattle.form.specs.declared.limits.TheConstants.{MAX_ORDERS, MAX_UNDERLYINGS}
 use Rattle.form.specs.declared.orders.Order.{Order}
+use Rattle.form.specs.Bundles.{IsOnCount}
 use Rattle.form.specs.Limits.{IsOrderWithin}
 use Rattle.order_book.specs.declared.limits.TheConstants.{MAX_MARKETS, MAX_ACCEPTED, MAX_BATCHES}
 use Rattle.order_book.specs.Markets.{MarketState, live_orders}
@@ -14,7 +15,7 @@ use Rattle.order_book.specs.Book.{BookState}
 -- a live order of a market on this number of underlyings, where so many orders were accepted
 pub record IsLive (underlyings accepted : ℕ) (order : Order) : Type 0 where
   pub within : IsOrderWithin order
-  pub form : order.form.count ≡ underlyings + 1
+  pub forms : IsOnCount (underlyings + 1) order.bundle
   pub some : 1 ≤ order.id
   pub number : order.id ≤ accepted
 

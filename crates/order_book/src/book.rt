@@ -94,10 +94,10 @@ impl Book {
         Some(self.markets.get(market)?.info())
     }
 
-    /// Looks whether an order's market is there, not settled and for the order's option.
+    /// Looks whether an order's market is there, not settled and for the order's bundle.
     ///
     /// The first of these: `NoMarket` where no market has the number; `Settled` where it is settled; `WeightCount` where
-    /// the option has another number of underlyings than the market.
+    /// the bundle has another number of underlyings than the market.
     pub fn check_order(&self, order: &NewOrder) -> Result<(), BookRefusal>
         ensures refused { TellsFirst unless_memory result (order_refusals self.now order.now) }
         ensures no_memory { result ≢ Err BookRefusal.Memory }
@@ -106,7 +106,7 @@ impl Book {
         if market.settled {
             return Err(BookRefusal::Settled);
         }
-        if order.form.count != market.underlyings + 1 {
+        if order.bundle.form_count() != market.underlyings + 1 {
             return Err(BookRefusal::WeightCount);
         }
         Ok(())
@@ -137,7 +137,7 @@ impl Book {
         self.check_room(order.market)
     }
 
-    /// Accepts an order whose option, price and quantity are within the limits, and answers its number, which is one
+    /// Accepts an order whose options, price and quantity are within the limits, and answers its number, which is one
     /// more than the orders accepted before. It goes last among the live orders of its market.
     ///
     /// As `check_order` refuses, and then the first of these: `BookFull` where the market has 256 live orders; `TooMany`
@@ -232,7 +232,7 @@ fn with_number(order: &NewOrder, id: u64) -> Order
         id,
         account: order.account,
         side: order.side,
-        form: order.form,
+        bundle: order.bundle,
         price: order.price,
         quantity: order.quantity,
     }

@@ -5,4 +5,4 @@ use Rattle.each_match.proofs.queues.offers.Given as goal
 
 abbrev pub invariant-loop-place : goal.invariant-loop-place
 invariant-loop-place l =
-    l.offers.items ++ offers_from l.side (bundle_of l.option) l.place (drop l.place l.orders) ≡ offers_from l.side (bundle_of l.option) 0 l.orders
+    l.offers.items ++ offers_from l.side (bundle_of l.other) l.place (drop l.place l.orders) ≡ offers_from l.side (bundle_of l.other) 0 l.orders
