@@ -1,11 +1,13 @@
 //! Orders on one underlying within the limits of the exchange, read from texts.
 
-ghost use Rattle.std.specs.Prelude.{◌≡◌, ◌≤◌, ◌≢◌, IfOk, pos, unsigned_abs};
+ghost use Rattle.std.specs.Prelude.{◌≡◌, ◌≤◌, ◌≢◌, All, IfOk, pos, unsigned_abs};
 ghost use Rattle.form.specs.Limits.{IsListed, IsOrderWithin, IsWithinLimits};
-ghost use Rattle.form.specs.Payoff.{option_of};
+ghost use Rattle.form.specs.Payoff.{IsOnCount, count_sizes, legs_in, option_of};
 
 use anyhow::{Context, Result, bail, ensure};
-use form::{Batch, Form, MAX_ORDERS, MAX_PRICE, MAX_QUANTITY, Order, Orders, Side, call, put};
+use form::{
+    Batch, Bundle, Form, MAX_ORDERS, MAX_PRICE, MAX_QUANTITY, Order, Orders, Side, call, put,
+};
 use std::alloc::Global;
 
 fn side(word: &str) -> Result<Side> {
@@ -53,10 +55,21 @@ fn option(kind: &str, strike: i64, weight: i16) -> Result<Form>
     }
 }
 
+/// The bundle of the option.
+fn bundle(form: Form) -> Bundle
+    requires listed { IsListed (option_of form) }
+    requires one { form.count ≡ 2 }
+    ensures options { All (λ leg. IsListed (option_of leg.form)) (legs_in result) }
+    ensures one { IsOnCount 2 result }
+    ensures counted { count_sizes result ≡ 1 }
+{
+    Bundle::one(form)
+}
+
 /// The order of a text, with this id.
 fn order(id: u64, text: &str) -> Result<Order>
     ensures within { IfOk result IsOrderWithin }
-    ensures one { IfOk result (λ order. order.form.count ≡ 2) }
+    ensures one { IfOk result (λ order. IsOnCount 2 order.bundle) }
     ensures id { IfOk result (λ order. order.id ≡ id) }
 {
     let mut words = text.split_whitespace();
@@ -74,7 +87,7 @@ fn order(id: u64, text: &str) -> Result<Order>
         id,
         account: 1,
         side,
-        form,
+        bundle: bundle(form),
         price,
         quantity,
     })

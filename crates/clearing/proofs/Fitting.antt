@@ -15,8 +15,8 @@ use Rattle.form.specs.declared.limits.TheConstants.{MAX_PRICE, MAX_QUANTITY}
 use Rattle.form.specs.declared.orders.Order.{Order}
 use Rattle.form.specs.declared.orders.Side.{Side}
 use Rattle.form.specs.declared.orders.Side.TheVariants.{Buy, Sell}
-use Rattle.form.specs.Vector.{is_same_option}
-use Rattle.form.specs.Payoff.{option_of}
+use Rattle.form.specs.Vector.{is_same_bundle}
+use Rattle.form.specs.Payoff.{BundleLeg, bundle_of}
 use Rattle.exact_num.specs.Steps.{fold_steps, and_then}
 use Rattle.form.specs.Steps.{add_for_side}
 use Rattle.exact_num.specs.Tests.{is_same}
@@ -93,19 +93,19 @@ same_fits : (test : Bool) (side : Side) (t : ℤ) (a bound : ℕ) → unsigned_a
 same_fits true side t a bound low quantity fits = fill_fits side t a bound low quantity fits
 same_fits false side t a bound low quantity fits = record { value = t; small = omega (arith, low); is = refl }
 
-all_same_fit : (v : List ℤ) (orders : List Order) (amounts : List ℕ) (t : ℤ) (bound : ℕ) → unsigned_abs t ≤ bound → All (λ amount. amount ≤ MAX_QUANTITY) amounts
-    → bound + length orders * MAX_QUANTITY ≤ largest → IsWhole (fold_steps (add_same largest v) (whole t) (zip orders (wholes amounts))) (bound + length orders * MAX_QUANTITY)
-all_same_fit v [] amounts t bound low small fits = record { value = t; small = omega (arith, low); is = refl }
-all_same_fit v (o ∷ orders) [] t bound low small fits = record { value = t; small = omega (arith, low); is = refl }
-all_same_fit v (o ∷ orders) (a ∷ amounts) t bound low small fits =
+all_same_fit : (bundle : List BundleLeg) (orders : List Order) (amounts : List ℕ) (t : ℤ) (bound : ℕ) → unsigned_abs t ≤ bound → All (λ amount. amount ≤ MAX_QUANTITY) amounts
+    → bound + length orders * MAX_QUANTITY ≤ largest → IsWhole (fold_steps (add_same largest bundle) (whole t) (zip orders (wholes amounts))) (bound + length orders * MAX_QUANTITY)
+all_same_fit bundle [] amounts t bound low small fits = record { value = t; small = omega (arith, low); is = refl }
+all_same_fit bundle (o ∷ orders) [] t bound low small fits = record { value = t; small = omega (arith, low); is = refl }
+all_same_fit bundle (o ∷ orders) (a ∷ amounts) t bound low small fits =
     let Q : ℕ → Type 0 = λ amount. amount ≤ MAX_QUANTITY in
-    let first = same_fits (is_same_option (option_of o.form) v) o.side t a bound low (All-head Q a amounts small) (omega (arith, fits)) in
-    let rest = all_same_fit v orders amounts first.value (bound + MAX_QUANTITY) first.small (All-tail Q a amounts small) (omega (arith, fits)) in
+    let first = same_fits (is_same_bundle (bundle_of o) bundle) o.side t a bound low (All-head Q a amounts small) (omega (arith, fits)) in
+    let rest = all_same_fit bundle orders amounts first.value (bound + MAX_QUANTITY) first.small (All-tail Q a amounts small) (omega (arith, fits)) in
     record { value = rest.value; small = omega (arith, rest.small); is = rw first.is rest.is }
 
-at_fits : (v : List ℤ) (orders : List Order) (amounts : List ℕ) → length orders ≤ 256 → All (λ amount. amount ≤ MAX_QUANTITY) amounts → (b : Bool) × (balances_at largest (zip orders (wholes amounts)) v ≡ Ok b)
-at_fits v orders amounts few small =
-    let sum = all_same_fit v orders amounts (pos 0) 0 (omega arith) small (omega (arith, few)) in
+at_fits : (bundle : List BundleLeg) (orders : List Order) (amounts : List ℕ) → length orders ≤ 256 → All (λ amount. amount ≤ MAX_QUANTITY) amounts → (b : Bool) × (balances_at largest (zip orders (wholes amounts)) bundle ≡ Ok b)
+at_fits bundle orders amounts few small =
+    let sum = all_same_fit bundle orders amounts (pos 0) 0 (omega arith) small (omega (arith, few)) in
     (is_same (whole sum.value) (whole (pos 0)), rw sum.is refl)
 
 -- the second check where the first ends
@@ -117,7 +117,7 @@ then_ends (Err w) second f s = absurd (ends (Err w) f.0 w f.1 refl)
 all_fit : (orders : List Order) (amounts : List ℕ) (rest : List Order) → length orders ≤ 256 → All (λ amount. amount ≤ MAX_QUANTITY) amounts → (b : Bool) × (balances_all largest (zip orders (wholes amounts)) rest ≡ Ok b)
 all_fit orders amounts [] few small = (true, refl)
 all_fit orders amounts (o ∷ rest) few small =
-    then_ends (balances_at largest (zip orders (wholes amounts)) (option_of o.form)) (balances_all largest (zip orders (wholes amounts)) rest) (at_fits (option_of o.form) orders amounts few small) (all_fit orders amounts rest few small)
+    then_ends (balances_at largest (zip orders (wholes amounts)) (bundle_of o)) (balances_all largest (zip orders (wholes amounts)) rest) (at_fits (bundle_of o) orders amounts few small) (all_fit orders amounts rest few small)
 
 pub balances_fit : (orders : List Order) (amounts : List ℕ) (w : Misfit) → length orders ≤ 256 → All (λ amount. amount ≤ MAX_QUANTITY) amounts → fallback_holds largest (zip orders (wholes amounts)) orders (whole (pos 0)) ≡ Err w → ⊥
 balances_fit orders amounts w few small =

@@ -1,11 +1,10 @@
 -- Each outcome meets every condition of a certificate.
-use Rattle.std.proofs.Common.{◌≡◌, refl, ℕ, ◌≤◌, ◌+◌, Bool, true, false, ◌&&◌, if◌then◌else◌, List, [], ◌∷◌, length, map, get_or, pos, ◌≤ℤ◌, All, ap, ap₂, sym, ◌∙◌, subst, arith}
+use Rattle.std.proofs.Common.{◌≡◌, refl, ℕ, ◌≤◌, Bool, true, false, ◌&&◌, if◌then◌else◌, List, [], ◌∷◌, length, map, get_or, pos, ◌≤ℤ◌, All, ap, ap₂, sym, ◌∙◌, subst, arith}
 use Rattle.std.specs.List.{zip, sum}
 use Rattle.std.specs.Prelude.{nat_le, nat_lt}
 use Rattle.std.proofs.lemmas.Bool.{and_parts, le-leb, lt-ltb}
 use Rattle.std.proofs.lemmas.List.{length-map}
-use Rattle.std.proofs.lemmas.List.Elements.{All-nil, All-cons, All-weaker}
-use Rattle.std.proofs.lemmas.Int.{ints}
+use Rattle.std.proofs.lemmas.List.Elements.{All-weaker}
 use Rattle.arithmetic.proofs.Sums.{All-head, All-tail}
 use Rattle.exact_num.specs.declared.misfit.Wide.{Wide as Misfit}
 use Rattle.exact_num.specs.Fraction.{Fraction, whole}
@@ -17,8 +16,8 @@ use Rattle.form.specs.declared.orders.Batch.{Batch}
 use Rattle.clearing_model.specs.Clearing.{AreOn, premium}
 use Rattle.clearing_model.specs.Certificate.{Point, fraction_weight, AreFractionFills, IsPremiumLessLiability}
 use Rattle.form.specs.Limits.{IsOrderWithin, IsWithinLimits}
-use Rattle.form.specs.Payoff.{BundleLeg, IsState, bundle_of, option_of}
-use Rattle.form.proofs.Vectors.{length-option_of}
+use Rattle.form.specs.Payoff.{IsState}
+use Rattle.form.proofs.BundleLegs.{is_bundle_of}
 use Rattle.form.specs.States.{vector_of}
 use Rattle.form.specs.StateOf.{state_of, is_state, made_or_first, nine_vector}
 use Rattle.measure.specs.declared.measures.Measure.{Measure}
@@ -50,13 +49,7 @@ use Rattle.clearing.proofs.Wholes.{wholes, whole_is, wholes_are, owes_nothing, p
 
 -- each order of a batch within the limits is on its underlyings
 pub are_on : (batch : Batch) → IsWithinLimits batch → AreOn batch.underlyings batch.orders
-unfolding bundle_of
-are_on batch within k d lt =
-    let leg : BundleLeg = record { count = pos 1; option = option_of (get_or batch.orders k d).form } in
-    let P : BundleLeg → Type 0 = λ leg. (leg.count ≡ pos 0 → ⊥) × (length leg.option ≡ batch.underlyings + 1) in
-    let counted : pos 1 ≡ pos 0 → ⊥ = λ e. absurd (omega (arith, ints)) in
-    let entries = length-option_of (get_or batch.orders k d).form ∙ within.has_forms.forms k d lt in
-    (omega arith, omega arith, All-cons P leg [] (counted, entries) (All-nil P))
+are_on batch within k d lt = is_bundle_of batch.underlyings (get_or batch.orders k d) (within.has_forms.forms k d lt)
 
 -- ---- the fallback
 -- its numbers as fractions

@@ -1,4 +1,4 @@
--- The outcome of a batch: what the reference run clears, or where it stops, the match of each option by itself.
+-- The outcome of a batch: what the reference run clears, or where it stops, the match of each bundle by itself.
 use Rattle.std.specs.Prelude.{ℕ, ◌≡◌, List, [], ◌∷◌, map, pos, Bool, true, ◌&&◌, if◌then◌else◌}
 use Rattle.exact_num.specs.Fraction.{Fraction, whole}
 use Rattle.frac.specs.declared.frac128.Frac128.{Frac128}
@@ -13,14 +13,14 @@ use Rattle.clearing_model.specs.Certificate.{Point, fraction_weight}
 use Rattle.clearing_model.specs.Clearing.{premium}
 use Rattle.measure.specs.declared.measures.Weighted.{Weighted}
 use Rattle.measure.specs.declared.measures.Measure.{Measure}
-use Rattle.measure.specs.Points.{point_of}
 use Rattle.cert_check.specs.declared.outcome.Cover.TheVariants.{Line}
 use Rattle.cert_check.specs.declared.outcome.Mark.{Mark}
 use Rattle.cert_check.specs.declared.outcome.Mark.TheVariants.{Optimal, Wide, Budget}
 use Rattle.cert_check.specs.declared.outcome.Outcome.{Outcome}
 use Rattle.each_match.specs.Match.{match_by_option}
 use Rattle.each_match.specs.Laws.{matched}
-use Rattle.master_program.specs.Reading.{Reading, reading_with}
+use Rattle.master_program.specs.Reading.{Reading}
+use Rattle.rounds.specs.Answers.{claimed_in}
 use Rattle.rounds.specs.Run.{joint_run}
 use Rattle.table_run.specs.Ending.{Ending, done, wide_at, no_unit_left, unbounded}
 
@@ -41,11 +41,11 @@ optimal_outcome r units =
       units = units;
     }
 
--- whole numbers of the options as numbers of the code
+-- whole numbers of bundles as numbers of the code
 abbrev pub whole_fills : List ℕ → List Frac128
 whole_fills amounts = map (λ (amount : ℕ). value_of (whole (pos amount))) amounts
 
--- the match of each option by itself: it owes nothing, and leaves its premium
+-- the match of each bundle by itself: it owes nothing, and leaves its premium
 unfoldable pub fallback : List Order → Mark → ℕ → Outcome
 fallback orders mark units =
     record {
@@ -81,8 +81,7 @@ outcome_of batch units = outcome_at batch.orders units (joint_run largest larges
 
 -- what an outcome with this measure claims, as fractions
 abbrev pub claim_of : Outcome → Measure → Reading
-claim_of outcome measure =
-    reading_with (map fraction_of outcome.fills) (fraction_of outcome.claim.surplus) (map point_of measure.points) (fraction_of outcome.claim.liability)
+claim_of outcome measure = claimed_in (map fraction_of outcome.fills) outcome.claim measure
 
 -- the mark of an outcome and its units are those of the end of the run: what was cleared, the step that did not fit, or a unit
 -- wanted beyond the limit

@@ -4,6 +4,7 @@ ghost use Rattle.frac.specs.Range.{limit as largest};
 ghost use Rattle.frac.specs.Value.{fraction_of};
 ghost use Rattle.clearing_model.specs.Certificate.{AreFractionFills};
 ghost use Rattle.form.specs.Limits.{IsWithinLimits};
+ghost use Rattle.cert_check.specs.declared.outcome.Cover.TheVariants.{Line};
 ghost use Rattle.cert_check.specs.declared.outcome.Judgement.TheVariants.{Yes};
 ghost use Rattle.cert_check.specs.Conditions.{IfOptimal};
 ghost use Rattle.cert_check.specs.Events.{verdict_of};
@@ -12,7 +13,7 @@ ghost use Rattle.rounds.specs.Answers.{reading_in};
 ghost use Rattle.clearing.specs.Outcome.{IsMarked, optimal_outcome, outcome_of};
 
 use crate::fallback::fallback;
-use cert_check::{Claim, Cover, Fills, Mark, Outcome};
+use cert_check::{Claim, Fills, Mark, Outcome};
 use form::Batch;
 use frac::Frac128;
 use rounds::{Joint, solve_joint};
@@ -21,16 +22,16 @@ use std::alloc::{AllocError, Global};
 
 /// What a solve found on one underlying, as the outcome that it proves.
 fn optimal_outcome(joint: Joint<Frac128>, units: u32) -> Outcome
+    requires { joint.cover ≡ Line }
     ensures { result ≡ optimal_outcome (reading_in fraction_of joint) units }
 {
     let Joint {
         fills,
         liability,
         surplus,
+        cover,
         measure,
-        ..
     } = joint;
-    let cover = Cover::Line;
     Outcome {
         fills: Fills::from_vec(fills),
         claim: Claim { liability, surplus },
@@ -57,7 +58,7 @@ fn outcome(alloc: Global, batch: &Batch, limit: u32) -> Result<Outcome, AllocErr
 }
 
 /// Clears a batch: the fills that earn the greatest surplus with their proof, or where the run stops, at a number that does
-/// not fit or for want of a unit, the match of each option by itself. The batch is within the limits of the exchange and on
+/// not fit or for want of a unit, the match of each bundle by itself. The batch is within the limits of the exchange and on
 /// one underlying, and at most `limit` units of work are spent. The only error is want of memory.
 pub fn clear(alloc: Global, batch: &Batch, limit: u32) -> Result<Outcome, AllocError>
     requires within { IsWithinLimits batch.now }

@@ -1,4 +1,4 @@
-//! The match of each option by itself, for a batch whose run stops.
+//! The match of each bundle by itself, for a batch whose run stops.
 ghost use Rattle.std.specs.Prelude.{◌≡◌, ◌≤◌, ◌*◌, IfOk, length, unsigned_abs};
 ghost use Rattle.std.specs.List.{All, zip};
 ghost use Rattle.exact_num.specs.Fraction.{whole};
@@ -79,7 +79,7 @@ fn whole_fills(alloc: Global, amounts: &[u64]) -> Result<Vec<Frac128>, AllocErro
     Ok(fills)
 }
 
-/// The match of each option by itself, with the mark of a run that stopped after so many units. Its liability is 0, and its
+/// The match of each bundle by itself, with the mark of a run that stopped after so many units. Its liability is 0, and its
 /// surplus what buyers pay less what sellers get. The only error is want of memory.
 pub(crate) fn fallback(
     alloc: Global,

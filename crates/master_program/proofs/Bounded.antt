@@ -1,10 +1,9 @@
 -- The master program is one, and in no direction does its objective rise without an end.
-use Rattle.std.proofs.Common.{◌≡◌, ℕ, zero, suc, ◌+◌, ◌*◌, ◌≤◌, List, [], ◌∷◌, ◌++◌, length, map, replicate, arith, ℤ, pos, negsuc, ◌*ℤ◌, ◌≤ℤ◌, ◌<ℤ◌, refl, ap, sym, ◌∙◌, subst}
+use Rattle.std.proofs.Common.{◌≡◌, ℕ, zero, suc, ◌+◌, ◌*◌, ◌≤◌, List, [], ◌∷◌, ◌++◌, length, map, replicate, arith, ℤ, pos, negsuc, ◌*ℤ◌, ◌≤ℤ◌, refl, ap, sym, ◌∙◌, subst}
 use Rattle.std.proofs.lemmas.Int.{ints}
 use Rattle.std.proofs.lemmas.List.{length-map, length-append, length-replicate}
 use Rattle.std.proofs.Math.Nat.{mul-pos}
 use Rattle.arithmetic.specs.Sums.{dot_ℤ}
-use Rattle.arithmetic.proofs.Integers.{*ℤ_mono, *ℤ_cancel_le}
 use Rattle.arithmetic.proofs.Products.{products}
 use Rattle.exact_num.specs.Fraction.{Fraction, IsLowest, IsDefined, whole, plain_dot, AtMost}
 use Rattle.exact_num.specs.CommonDenominator.{AreParts}

@@ -13,6 +13,7 @@ use Rattle.exact_num.specs.Fraction.{Fraction, IsDefined, IsLowest, whole, negat
 use Rattle.exact_num.specs.CommonDenominator.{common_denominator, amount_over, signed_amounts_over, IsPart, AreParts}
 use Rattle.exact_num.proofs.Fractions.{divides, common_positive}
 use Rattle.exact_num.proofs.Ratios.{dot_part, sum_part, neg_part, whole_part, same_part, one_part, sign_part, more_parts, append_parts}
+use Rattle.exact_num.proofs.Tested.{lowest_are_defined}
 use Rattle.table_run.specs.Places.{at, listed}
 use Rattle.table_run.specs.Program.{column}
 use Rattle.form.specs.declared.orders.Side.{Side}
@@ -25,7 +26,7 @@ use Rattle.master_program.specs.Master.{pays, order_cost, order_entry, quantity_
 use Rattle.master_program.proofs.Matrix.{entry, flat, at_whole, column_is}
 use Rattle.master_program.proofs.Sums.{dot-replicate, quantity_rows_count, rows_count, rows_long, unit_column, slack_column, entry_of_order, last_entry, order_column, last_column, mass_sum, column_sum}
 use Rattle.master_program.specs.Certified.{IsSolved}
-use Rattle.master_program.proofs.Primal.{all_first, all_later, lowest_is_defined, amounts_are_parts}
+use Rattle.master_program.proofs.Primal.{all_first, all_later, amounts_are_parts}
 
 abbrev pub times : ℕ → List ℤ → List ℤ
 times k xs = map (λ (x : ℤ). x *ℤ pos k) xs
@@ -145,13 +146,13 @@ dual first orders states fills slack L S duals weights reduced w h =
     let dual_lows : All IsLowest duals = all_first IsLowest duals weights h.optimum.y_sign.lowest in
     let dual_signs : All IsNotBelowZero duals = all_first IsNotBelowZero duals weights h.optimum.y_sign.sign in
     let defined : All IsDefined (w ∷ weights) =
-    lowest_is_defined (w ∷ weights) (All-cons IsLowest w weights (All-head IsLowest w [] (all_later IsLowest reduced (w ∷ []) h.optimum.reduced_sign.lowest)) (all_later IsLowest duals weights h.optimum.y_sign.lowest)) in
+    lowest_are_defined (w ∷ weights) (All-cons IsLowest w weights (All-head IsLowest w [] (all_later IsLowest reduced (w ∷ []) h.optimum.reduced_sign.lowest)) (all_later IsLowest duals weights h.optimum.y_sign.lowest)) in
     let signs : All IsNotBelowZero (w ∷ weights) =
     All-cons IsNotBelowZero w weights (All-head IsNotBelowZero w [] (all_later IsNotBelowZero reduced (w ∷ []) h.optimum.reduced_sign.sign)) (all_later IsNotBelowZero duals weights h.optimum.y_sign.sign) in
     let W : ℕ = common_denominator (w ∷ weights) in
     let C : ℕ = common_denominator duals in
     let F : ℕ = W * C in
-    let C1 : 1 ≤ C = common_positive duals (lowest_is_defined duals dual_lows) in
+    let C1 : 1 ≤ C = common_positive duals (lowest_are_defined duals dual_lows) in
     let F1 : 1 ≤ F = mul-pos (common_positive (w ∷ weights) defined) C1 in
     let w' : ℤ = amount_over W w in
     let ws : List ℤ = signed_amounts_over W weights in
@@ -162,7 +163,7 @@ dual first orders states fills slack L S duals weights reduced w h =
     let swap : C * W ≡ F = omega arith in
     let weight_parts : AreParts F (w ∷ weights) (times C (w' ∷ ws)) =
     subst (λ (v : ℕ). AreParts v (w ∷ weights) (times C (w' ∷ ws))) swap (more_parts W C (w ∷ weights) (w' ∷ ws) (amounts_are_parts W (w ∷ weights) defined (divides (w ∷ weights)))) in
-    let dual_parts : AreParts F duals Y = more_parts C W duals ys (amounts_are_parts C duals (lowest_is_defined duals dual_lows) (divides duals)) in
+    let dual_parts : AreParts F duals Y = more_parts C W duals ys (amounts_are_parts C duals (lowest_are_defined duals dual_lows) (divides duals)) in
     let parts : AreParts F y (Y ++ Z) = append_parts F duals weights Y Z dual_parts weight_parts.1 in
     let len : length Y ≡ k = length-map ys (λ (x : ℤ). x *ℤ pos W) ∙ length-map duals (amount_over C) ∙ h.duals_count in
     let cost_at : ℕ → ℤ = λ j. entry j (costs_of first orders) in

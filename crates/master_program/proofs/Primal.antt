@@ -12,6 +12,7 @@ use Rattle.exact_num.specs.Fraction.{Fraction, IsDefined, IsLowest, whole, plain
 use Rattle.exact_num.specs.CommonDenominator.{common_denominator, amount_over, signed_amounts_over, IsPart, AreParts}
 use Rattle.exact_num.proofs.Fractions.{divides, common_positive, amount_is_exact}
 use Rattle.exact_num.proofs.Ratios.{dot_part, same_part, sign_part, append_parts}
+use Rattle.exact_num.proofs.Tested.{lowest_are_defined}
 use Rattle.table_run.specs.Places.{at}
 use Rattle.table_run.specs.Program.{row}
 use Rattle.form.specs.declared.orders.Order.{Order}
@@ -32,10 +33,6 @@ pub all_later : (P : Fraction → Type 0) (fs gs : List Fraction) → ((j : ℕ)
 all_later P [] [] h = All-nil P
 all_later P [] (g ∷ gs) h = All-cons P g gs (h 0) (all_later P [] gs (λ j. h (suc j)))
 all_later P (f ∷ fs) gs h = all_later P fs gs (λ j. h (suc j))
-
-pub lowest_is_defined : (fs : List Fraction) → All IsLowest fs → All IsDefined fs
-lowest_is_defined [] h = All-nil IsDefined
-lowest_is_defined (f ∷ fs) h = All-cons IsDefined f fs (All-head IsLowest f fs h).positive (lowest_is_defined fs (All-tail IsLowest f fs h))
 
 -- each fraction is its amount over what its denominator divides
 pub amounts_are_parts : (F : ℕ) (fs : List Fraction) → All IsDefined fs → All (λ f. f.denominator ∣ F) fs → AreParts F fs (signed_amounts_over F fs)
@@ -105,7 +102,7 @@ primal first orders states fills slack L S duals weights reduced w one h =
     let s : ℤ = Lo -ℤ signed_net (zip orders X) first in
     let x : List Fraction = fills ++ (slack ∷ []) in
     let lows = h.optimum.x_sign.lowest in
-    let defined : All IsDefined fills = lowest_is_defined fills (all_first IsLowest fills (slack ∷ []) lows) in
+    let defined : All IsDefined fills = lowest_are_defined fills (all_first IsLowest fills (slack ∷ []) lows) in
     let slack_low : IsLowest slack = All-head IsLowest slack [] (all_later IsLowest fills (slack ∷ []) lows) in
     let slack_sign = All-head IsNotBelowZero slack [] (all_later IsNotBelowZero fills (slack ∷ []) h.optimum.x_sign.sign) in
     let D1 : 1 ≤ D = common_positive (L ∷ fills) (All-cons IsDefined L fills h.liability_defined defined) in

@@ -3,8 +3,8 @@ use Rattle.std.proofs.Common.{◌≡◌, ℕ, zero, suc, ◌+◌, List, [], ◌�
 use Rattle.std.specs.Prelude.{Result, Ok}
 use Rattle.std.proofs.lemmas.List.{take-append-drop, length-take-le, length-drop, length-replicate}
 use Rattle.std.proofs.lemmas.List.Sums.{sum_by-cons}
-use Rattle.std.proofs.lemmas.List.Elements.{All-nil, All-cons}
-use Rattle.arithmetic.proofs.Sums.{All-head, All-tail}
+use Rattle.std.proofs.lemmas.List.Elements.{All-cons}
+use Rattle.arithmetic.proofs.Lists.{All-zip_right}
 use Rattle.exact_num.specs.declared.misfit.Wide.{Wide}
 use Rattle.exact_num.specs.Fraction.{Fraction, IsLowest}
 use Rattle.exact_num.proofs.After.{after_value}
@@ -18,7 +18,7 @@ use Rattle.form.specs.Vector.{IsState}
 use Rattle.clearing_model.specs.Certificate.{Point}
 use Rattle.market_laws.proofs.Certificate.{cover_and_measure_are_optimal}
 use Rattle.master_program.specs.Master.{zero_prices, plain_master, master}
-use Rattle.master_program.specs.Reading.{Reading, reading_with, liability_of, weighty}
+use Rattle.master_program.specs.Reading.{Reading, reading_with, liability_of, points_with_weight}
 use Rattle.master_program.proofs.Bounded.{master_is_program, master_is_bounded}
 use Rattle.master_program.proofs.Steps.{steps_give_master}
 use Rattle.master_program.specs.Certified.{IsSolved, IsCertifiedAt}
@@ -46,17 +46,12 @@ zero_prices_are n =
 abbrev LowestWeight : Point → Type 0
 LowestWeight point = IsLowest point.1
 
-lowest_points : (states : List (List ℕ)) (weights : List Fraction) → All IsLowest weights → All LowestWeight (zip states weights)
-lowest_points [] weights h = All-nil LowestWeight
-lowest_points (z ∷ states) [] h = All-nil LowestWeight
-lowest_points (z ∷ states) (w ∷ weights) h = All-cons LowestWeight (z, w) (zip states weights) (All-head IsLowest w weights h) (lowest_points states weights (All-tail IsLowest w weights h))
-
 ok_reading : (a b : Reading) (r : Result Reading Wide) → r ≡ Ok a → r ≡ Ok b → a ≡ b
 ok_reading a b r h k = cc
 
 -- the points of weight 0 left out
 without_empty : (n : ℕ) (orders : List Order) (states : List (List ℕ)) (fills : List Fraction) (S L : Fraction) (points : List Point) → All LowestWeight points
-    → IsCertifiedAt n orders states (reading_with fills S points L) → IsCertifiedAt n orders states (reading_with fills S (weighty points) L)
+    → IsCertifiedAt n orders states (reading_with fills S points L) → IsCertifiedAt n orders states (reading_with fills S (points_with_weight points) L)
 without_empty n orders states fills S L points low c =
     let d = empty_points_drop n orders S points low c.measure in
     record {
@@ -80,7 +75,7 @@ readings_are_certified limit n orders states x y reduced S r are is h =
     let duals : List Fraction = take k y in
     let weights : List Fraction = drop k y in
     let points : List Point = measure_points first states (at reduced k) weights in
-    let step = after_value (liability_of limit orders fills slack) (λ L. Ok (reading_with fills S (weighty points) L)) r h in
+    let step = after_value (liability_of limit orders fills slack) (λ L. Ok (reading_with fills S (points_with_weight points) L)) r h in
     let L : Fraction = step.value in
     let ex : x ≡ fills ++ (slack ∷ []) = last_apart x k is.x_sign.count in
     let ey : y ≡ duals ++ weights = sym (take-append-drop k y) in
@@ -98,9 +93,9 @@ readings_are_certified limit n orders states x y reduced S r are is h =
       liability_defined = read.lowest.positive;
       liability_is = read.liability;
     } in
-    let low : All LowestWeight points = All-cons LowestWeight (first, at reduced k) (zip states weights) (is.reduced_sign.lowest k) (lowest_points states weights (all_later IsLowest duals weights optimum.y_sign.lowest)) in
+    let low : All LowestWeight points = All-cons LowestWeight (first, at reduced k) (zip states weights) (is.reduced_sign.lowest k) (All-zip_right IsLowest states weights (all_later IsLowest duals weights optimum.y_sign.lowest)) in
     let c = master_certifies n first orders states fills slack L S duals weights (take k reduced) (at reduced k) refl (zero_prices_are n) are solved in
-    subst (λ v. IsCertifiedAt n orders (first ∷ states) v) (ok_reading (reading_with fills S (weighty points) L) r _ refl step.rest) (without_empty n orders (first ∷ states) fills S L points low c)
+    subst (λ v. IsCertifiedAt n orders (first ∷ states) v) (ok_reading (reading_with fills S (points_with_weight points) L) r _ refl step.rest) (without_empty n orders (first ∷ states) fills S L points low c)
 
 -- ---- the reading of a run
 pub run_is_as_said : (payoff_limit limit n left spent : ℕ) (orders : List Order) (states : List (List ℕ)) (p : LinearProgram) → master payoff_limit limit orders states ≡ Ok p

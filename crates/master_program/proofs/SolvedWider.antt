@@ -1,6 +1,6 @@
 -- A solve without a misfit is the same with each greater limit.
-use Rattle.std.proofs.Common.{◌≡◌, ℕ, ◌≤◌, List, refl}
-use Rattle.table_run.specs.Ending.{Ending, done}
+use Rattle.std.proofs.Common.{ℕ, ◌≤◌, List, refl}
+use Rattle.table_run.specs.Ending.{done}
 use Rattle.table_run.specs.Run.{Optimum, run, optimum}
 use Rattle.table_run.proofs.Endings.{IsAlike, on_answer-alike, on_steps-alike}
 use Rattle.table_run.proofs.Wider.{same_with_greater_limit as same_run}

@@ -2,13 +2,13 @@
 use Rattle.std.proofs.Common.{◌≡◌, ℕ, List, ◌∷◌, All, subst}
 use Rattle.std.specs.Prelude.{Ok}
 use Rattle.table_run.specs.Program.{LinearProgram}
-use Rattle.table_run.specs.Ending.{Ending, done}
+use Rattle.table_run.specs.Ending.{done}
 use Rattle.table_run.specs.Run.{Optimum, run, optimum}
 use Rattle.table_run.proofs.Endings.{EndsWith, ends_with, on_answer-ends, on_steps-ends}
 use Rattle.form.specs.declared.orders.Order.{Order}
 use Rattle.form.specs.Vector.{IsState}
 use Rattle.line_cover.specs.Breakpoints.{later_states}
-use Rattle.master_program.specs.Master.{zero_prices, plain_master, master}
+use Rattle.master_program.specs.Master.{zero_prices, master}
 use Rattle.master_program.specs.Reading.{Reading}
 use Rattle.master_program.specs.Solve.{reading_at, on_optimum, master_run, master_solve}
 use Rattle.master_program.specs.Certified.{IsCertifiedAt}

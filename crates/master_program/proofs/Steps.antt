@@ -3,6 +3,7 @@ use Rattle.std.proofs.Common.{◌≡◌, ℕ, zero, suc, ◌+◌, List, [], ◌�
 use Rattle.std.specs.Prelude.{Result, Ok, Err, if◌then◌else◌}
 use Rattle.std.proofs.lemmas.Int.{ints}
 use Rattle.std.proofs.lemmas.List.{map-append}
+use Rattle.std.proofs.lemmas.Simd.{map-map}
 use Rattle.std.proofs.lemmas.Grind.{flat_map-append}
 use Rattle.arithmetic.specs.Sums.{positive_part}
 use Rattle.exact_num.specs.declared.misfit.Wide.{Wide}
@@ -14,12 +15,11 @@ use Rattle.table_run.specs.Program.{LinearProgram}
 use Rattle.form.specs.declared.orders.Side.{Side}
 use Rattle.form.specs.declared.orders.Side.TheVariants.{Buy, Sell}
 use Rattle.form.specs.declared.orders.Order.{Order}
-use Rattle.form.specs.Vector.{scale_of, dot, strike_entry}
-use Rattle.form.specs.Payoff.{option_of}
+use Rattle.form.specs.Vector.{scale_of, dot, strike_entry, over_legs}
+use Rattle.form.specs.Payoff.{bundle_of}
 use Rattle.clearing_model.specs.Clearing.{for_side}
-use Rattle.form.proofs.Vectors.{bundle_pays}
-use Rattle.form.proofs.DotSteps.{payoffs_are_exact}
-use Rattle.master_program.specs.Master.{zero_prices, pays, order_cost, order_entry, costs_of, quantity_rows, state_row, rows_of, right_sides_of, plain_master, all_of, signed_for, first_payoff, order_payoff, cost_steps, entry_steps, row_steps, rows_steps, quantity_steps, master}
+use Rattle.form.proofs.LegSteps.{bundle_payoffs_are_exact}
+use Rattle.master_program.specs.Master.{zero_prices, pays, order_cost, order_entry, costs_of, quantity_rows, state_row, rows_of, right_sides_of, plain_master, map_steps, signed_for, payoff_at_zero, order_payoff, cost_steps, entry_steps, row_steps, rows_steps, quantity_steps, master}
 use Rattle.master_program.specs.Laws.{StepsGiveMaster}
 use Rattle.master_program.proofs.Matrix.{flat}
 
@@ -49,13 +49,13 @@ minus_is a b = omega (arith, ints)
 sub_gives : (limit : ℕ) (a b : ℤ) → Gives (sub_of limit (whole a) (whole b)) (whole (a -ℤ b))
 sub_gives limit a b s h = add_whole_is limit a (neg_ℤ b) s h ∙ ap whole (minus_is a b)
 
-pub all_give : {A B : Type 0} (f : A → Result B Wide) (g : A → B) (xs : List A) → ((x : A) → Gives (f x) (g x)) → Gives (all_of f xs) (map g xs)
-unfolding all_of
+pub all_give : {A B : Type 0} (f : A → Result B Wide) (g : A → B) (xs : List A) → ((x : A) → Gives (f x) (g x)) → Gives (map_steps f xs) (map g xs)
+unfolding map_steps
 all_give f g [] h = gives_ok [] [] refl
 all_give f g (x ∷ xs) h =
     let goal = g x ∷ map g xs in
-    gives_after (f x) (λ y. after (all_of f xs) (λ ys. Ok (y ∷ ys))) (g x) goal (h x)
-    (gives_after (all_of f xs) (λ ys. Ok (g x ∷ ys)) (map g xs) goal (all_give f g xs h) (gives_ok goal goal refl))
+    gives_after (f x) (λ y. after (map_steps f xs) (λ ys. Ok (y ∷ ys))) (g x) goal (h x)
+    (gives_after (map_steps f xs) (λ ys. Ok (g x ∷ ys)) (map g xs) goal (all_give f g xs h) (gives_ok goal goal refl))
 
 -- ---- payoffs
 zero_dot : (v : List ℤ) (n : ℕ) → dot v (replicate n 0) ≡ pos 0
@@ -67,13 +67,15 @@ first_dot : (v : List ℤ) (n : ℕ) → strike_entry v ≡ dot v (zero_prices n
 first_dot [] n = refl
 first_dot (a ∷ v) n = omega (arith, ints, zero_dot v n)
 
-pub first_is : (o : Order) (n : ℕ) → first_payoff o ≡ pays o (zero_prices n)
-first_is o n = ap (λ x. pos (positive_part x)) (first_dot (option_of o.form) n) ∙ sym (bundle_pays o (zero_prices n))
+pub first_is : (o : Order) (n : ℕ) → payoff_at_zero o ≡ pays o (zero_prices n)
+unfolding payoff_at_zero
+first_is o n = λ j. over_legs (λ v. positive_part (first_dot v n j)) (bundle_of o)
 
-payoff_gives : (limit : ℕ) (o : Order) (z : List ℕ) → Gives (order_payoff limit o z) (whole (pays o z))
-payoff_gives limit o z s h = payoffs_are_exact limit (option_of o.form) z s h ∙ ap whole (sym (bundle_pays o z))
+pub payoff_gives : (limit : ℕ) (o : Order) (z : List ℕ) → Gives (order_payoff limit o z) (whole (pays o z))
+unfolding order_payoff
+payoff_gives limit o z s h = bundle_payoffs_are_exact limit (bundle_of o) z s h
 
-side_is : (side : Side) (d e : ℤ) → d ≡ e → signed_for side (whole d) ≡ whole (for_side side e)
+pub side_is : (side : Side) (d e : ℤ) → d ≡ e → signed_for side (whole d) ≡ whole (for_side side e)
 side_is Buy d e h = ap whole h
 side_is Sell d e h = ap (λ x. whole (neg_ℤ x)) h
 
@@ -82,7 +84,7 @@ cost_gives : (limit n : ℕ) (o : Order) → Gives (cost_steps limit o) (whole (
 unfolding cost_steps
 cost_gives limit n o =
     let p : ℤ = pos o.price in
-    let f : ℤ = first_payoff o in
+    let f : ℤ = payoff_at_zero o in
     let goal : Fraction = whole (order_cost (zero_prices n) o) in
     let costed : Fraction → Fraction → Result Fraction Wide = λ price first. after (sub_of limit price first) (λ cost. Ok (signed_for o.side cost)) in
     gives_after (whole_of limit p) (λ price. after (whole_of limit f) (costed price)) (whole p) goal (whole_gives limit p)
@@ -95,7 +97,7 @@ unfolding entry_steps
 entry_gives payoff_limit limit n z o =
     let h : ℤ = pays o z in
     let t : ℤ = pos (scale_of z) in
-    let f : ℤ = first_payoff o in
+    let f : ℤ = payoff_at_zero o in
     let goal : Fraction = whole (order_entry (zero_prices n) z o) in
     let signed : Fraction → Result Fraction Wide = λ entry. Ok (signed_for o.side entry) in
     let less : Fraction → Fraction → Result Fraction Wide = λ payoff aside. after (whole_of limit payoff.numerator) (λ owed. after (sub_of limit owed aside) signed) in
@@ -108,13 +110,9 @@ entry_gives payoff_limit limit n z o =
     (gives_after (sub_of limit (whole h) (whole (t *ℤ f))) signed (whole (h -ℤ (t *ℤ f))) goal (sub_gives limit h (t *ℤ f))
     (gives_ok (signed_for o.side (whole (h -ℤ (t *ℤ f)))) goal (side_is o.side (h -ℤ (t *ℤ f)) (h -ℤ (t *ℤ pays o (zero_prices n))) (ap (λ x. h -ℤ (t *ℤ x)) (first_is o n)))))))))
 
-map-map : {A B C : Type 0} (f : A → B) (g : B → C) (xs : List A) → map (λ x. g (f x)) xs ≡ map g (map f xs)
-map-map f g [] = refl
-map-map f g (x ∷ xs) = ap (λ v. g (f x) ∷ v) (map-map f g xs)
-
 -- numbers of orders and one at the end, as fractions
 with_last : (f : Order → ℤ) (x : ℤ) (orders : List Order) → map (λ o. whole (f o)) orders ++ (whole x ∷ []) ≡ map whole (map f orders ++ (x ∷ []))
-with_last f x orders = ap (λ v. v ++ (whole x ∷ [])) (map-map f whole orders) ∙ sym (map-append whole (map f orders) (x ∷ []))
+with_last f x orders = ap (λ v. v ++ (whole x ∷ [])) (sym (map-map whole f orders)) ∙ sym (map-append whole (map f orders) (x ∷ []))
 
 row_gives : (payoff_limit limit n : ℕ) (orders : List Order) (z : List ℕ) → Gives (row_steps payoff_limit limit orders z) (map whole (state_row (zero_prices n) orders z))
 unfolding row_steps
@@ -122,7 +120,7 @@ row_gives payoff_limit limit n orders z =
     let entries : List Fraction = map (λ o. whole (order_entry (zero_prices n) z o)) orders in
     let t : ℤ = pos (scale_of z) in
     let goal : List Fraction = map whole (state_row (zero_prices n) orders z) in
-    gives_after (all_of (entry_steps payoff_limit limit z) orders) (λ es. after (whole_of limit t) (λ t. Ok (es ++ (negated t ∷ [])))) entries goal
+    gives_after (map_steps (entry_steps payoff_limit limit z) orders) (λ es. after (whole_of limit t) (λ t. Ok (es ++ (negated t ∷ [])))) entries goal
     (all_give (entry_steps payoff_limit limit z) (λ o. whole (order_entry (zero_prices n) z o)) orders (entry_gives payoff_limit limit n z))
     (gives_after (whole_of limit t) (λ t. Ok (entries ++ (negated t ∷ []))) (whole t) goal (whole_gives limit t)
     (gives_ok (entries ++ (whole (neg_ℤ t) ∷ [])) goal (with_last (order_entry (zero_prices n) z) (neg_ℤ t) orders)))
@@ -163,11 +161,11 @@ steps_give_master payoff_limit limit n orders states p h =
     let built : List Fraction → List Fraction → List Fraction → Result LinearProgram Wide = λ costs quantities rows. Ok (program_of (k + 1) m (heads ++ rows) (quantities ++ zeros) (costs ++ last)) in
     let same = same_program (k + 1) m (heads ++ rows) (flat (rows_of first orders states)) (quantities ++ zeros) (map whole (right_sides_of orders states)) (costs ++ last) (map whole (costs_of first orders))
     (sym (flat_map-append (map whole) (quantity_rows k) (map (state_row first orders) states)))
-    (ap (λ v. v ++ zeros) (map-map (λ (o : Order). pos o.quantity) whole orders) ∙ ap (λ v. map whole (map (λ (o : Order). pos o.quantity) orders) ++ v) (zeros_are (length states)) ∙ sym (map-append whole (map (λ (o : Order). pos o.quantity) orders) (replicate (length states) (pos 0))))
+    (ap (λ v. v ++ zeros) (sym (map-map whole (λ (o : Order). pos o.quantity) orders)) ∙ ap (λ v. map whole (map (λ (o : Order). pos o.quantity) orders) ++ v) (zeros_are (length states)) ∙ sym (map-append whole (map (λ (o : Order). pos o.quantity) orders) (replicate (length states) (pos 0))))
     (with_last (order_cost first) (negsuc 0) orders) in
-    gives_after (all_of (cost_steps limit) orders) (λ costs. after (all_of (quantity_steps limit) orders) (λ quantities. after (rows_steps payoff_limit limit orders states) (built costs quantities))) costs goal
+    gives_after (map_steps (cost_steps limit) orders) (λ costs. after (map_steps (quantity_steps limit) orders) (λ quantities. after (rows_steps payoff_limit limit orders states) (built costs quantities))) costs goal
     (all_give (cost_steps limit) (λ o. whole (order_cost first o)) orders (cost_gives limit n))
-    (gives_after (all_of (quantity_steps limit) orders) (λ quantities. after (rows_steps payoff_limit limit orders states) (built costs quantities)) quantities goal
+    (gives_after (map_steps (quantity_steps limit) orders) (λ quantities. after (rows_steps payoff_limit limit orders states) (built costs quantities)) quantities goal
     (all_give (quantity_steps limit) (λ (o : Order). whole (pos o.quantity)) orders (λ o. whole_gives limit (pos o.quantity)))
     (gives_after (rows_steps payoff_limit limit orders states) (built costs quantities) rows goal (rows_give payoff_limit limit n orders states)
     (gives_ok (program_of (k + 1) m (heads ++ rows) (quantities ++ zeros) (costs ++ last)) goal same))) p h

@@ -1,5 +1,5 @@
 -- The verdict refuses no covered reading.
-use Rattle.std.proofs.Common.{◌≡◌, ℕ, List, length, map, get_or, pos, ◌≤ℤ◌, All, ap, sym, ◌∙◌, subst}
+use Rattle.std.proofs.Common.{ℕ, List, length, map, get_or, pos, ◌≤ℤ◌, All, ap, sym, ◌∙◌, subst}
 use Rattle.std.proofs.lemmas.List.{length-map}
 use Rattle.exact_num.specs.Fraction.{Fraction}
 use Rattle.frac.specs.Value.{fraction_of}
@@ -12,7 +12,6 @@ use Rattle.measure.specs.Points.{point_of}
 use Rattle.cert_check.specs.declared.outcome.Cover.{Cover}
 use Rattle.cert_check.specs.declared.outcome.Cover.TheVariants.{Line}
 use Rattle.cert_check.specs.declared.outcome.Mark.{Mark}
-use Rattle.cert_check.specs.declared.outcome.Mark.TheVariants.{Optimal}
 use Rattle.cert_check.specs.declared.outcome.No.{No}
 use Rattle.cert_check.specs.declared.outcome.No.TheVariants as no
 use Rattle.cert_check.specs.declared.outcome.Outcome.{Outcome}
@@ -34,10 +33,6 @@ record IsSound (n : ℕ) (batch : Batch) (cover : Cover) (r : Reading) : Type 0 
   measure : IsFractionMeasure n r.measure
   proves : MeasureProves batch.orders r.measure r.surplus
 
--- a fact of the cover and the measure, where the mark is optimal with these
-of_mark : (mark : Mark) (cover : Cover) (measure : Measure) (P : Cover → Measure → Type 0) → mark ≡ Optimal cover measure → P cover measure → IfOptimal mark P
-of_mark mark cover measure P e h = subst (λ (m : Mark). IfOptimal m P) (sym e) h
-
 abbrev AreStates : ℕ → List Point → Type 0
 AreStates n points = All (λ (point : Point). IsState n point.0) points
 
@@ -47,7 +42,7 @@ met batch outcome cover measure r s o no.BatchShape =
     record {
       orders = s.on;
       fills = sym (length-map outcome.fills fraction_of) ∙ ap length o.fills ∙ s.fills.0;
-      mark = of_mark outcome.mark cover measure (λ c m. IsCoverOn n c × AreStates n (map point_of m.points)) o.mark (s.cover_on, subst (AreStates n) (sym o.points) s.measure.states);
+      mark = subst (λ (mark : Mark). IfOptimal mark (λ c m. IsCoverOn n c × AreStates n (map point_of m.points))) (sym o.mark) (s.cover_on, subst (AreStates n) (sym o.points) s.measure.states);
     }
 met batch outcome cover measure r s o no.Fill = subst (AreFractionFills batch.orders) (sym o.fills) s.fills
 met batch outcome cover measure r s o no.Cover =
@@ -62,9 +57,9 @@ met batch outcome cover measure r s o no.Cover =
       subst (λ (mark : Mark). IsEnough n orders (map fraction_of outcome.fills) (fraction_of outcome.claim.liability) mark) (sym o.mark) closes,
     )
 met batch outcome cover measure r s o no.Measure =
-    of_mark outcome.mark cover measure (λ c m. HasUnitMass (map point_of m.points)) o.mark (subst HasUnitMass (sym o.points) s.measure.unit)
+    subst (λ (mark : Mark). IfOptimal mark (λ c m. HasUnitMass (map point_of m.points))) (sym o.mark) (subst HasUnitMass (sym o.points) s.measure.unit)
 met batch outcome cover measure r s o no.Bound =
-    of_mark outcome.mark cover measure (λ c m. MeasureProves batch.orders (map point_of m.points) (fraction_of outcome.claim.surplus)) o.mark
+    subst (λ (mark : Mark). IfOptimal mark (λ c m. MeasureProves batch.orders (map point_of m.points) (fraction_of outcome.claim.surplus))) (sym o.mark)
     (subst (λ (points : List Point). MeasureProves batch.orders points (fraction_of outcome.claim.surplus)) (sym o.points)
     (subst (λ (S : Fraction). MeasureProves batch.orders r.measure S) (sym o.surplus) s.proves))
 

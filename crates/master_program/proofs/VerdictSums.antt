@@ -9,7 +9,6 @@ use Rattle.form.specs.declared.orders.Batch.{Batch}
 use Rattle.exact_num.specs.Steps.{and_then}
 use Rattle.measure.specs.declared.measures.Measure.{Measure}
 use Rattle.measure.specs.Points.{point_of}
-use Rattle.measure.specs.Sums.{has_unit_mass}
 use Rattle.cert_check.specs.declared.outcome.Cover.{Cover}
 use Rattle.cert_check.specs.declared.outcome.Mark.TheVariants.{Optimal}
 use Rattle.cert_check.specs.declared.outcome.No.{No}
@@ -17,11 +16,11 @@ use Rattle.cert_check.specs.declared.outcome.No.TheVariants as no
 use Rattle.cert_check.specs.declared.outcome.Outcome.{Outcome}
 use Rattle.cert_check.specs.declared.outcome.Judgement.{Judgement}
 use Rattle.cert_check.specs.declared.outcome.Judgement.TheVariants.{Yes, No as Refused, Wide as TooWide}
-use Rattle.cert_check.specs.Tests.{surplus_holds, cover_holds, bound_holds}
+use Rattle.cert_check.specs.Tests.{surplus_holds, cover_holds, measure_holds, bound_holds}
 use Rattle.cert_check.specs.Events.{check, verdict_of}
 use Rattle.cert_check.specs.Shape.{has_shape, are_fills}
 use Rattle.master_program.specs.Reading.{Reading, reading_with}
-use Rattle.master_program.specs.Verdict.{IsOutcomeOf, sums_on, sums_of, SumsDecide, SumsThatFitPass}
+use Rattle.master_program.specs.Verdict.{sums_on, sums_of, SumsDecide, SumsThatFitPass}
 
 abbrev judgement_of : (shape fills : Bool) (S C M B : Result Bool Wide) → Judgement
 judgement_of shape fills S C M B =
@@ -54,7 +53,7 @@ sums_are batch fills L S cover measure units h =
     let fs : List Fraction = map fraction_of fills in
     let points = map point_of measure.points in
     decided (has_shape batch (optimal fills L S cover measure units)) (are_fills batch.orders fills) (surplus_holds limit (zip batch.orders fs) (fraction_of L) (fraction_of S))
-    (cover_holds limit batch.underlyings batch.orders fs (fraction_of L) cover) (has_unit_mass limit points) (bound_holds limit batch.orders points (fraction_of S)) h
+    (cover_holds limit batch.underlyings batch.orders fs (fraction_of L) cover) (measure_holds limit points) (bound_holds limit batch.orders points (fraction_of S)) h
 
 pub sums_decide : SumsDecide
 sums_decide batch outcome cover measure r o refused =

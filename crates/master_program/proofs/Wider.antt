@@ -1,5 +1,5 @@
 -- A greater limit changes nothing where each step fits.
-use Rattle.std.proofs.Common.{◌≡◌, ℕ, ◌≤◌, List, [], ◌∷◌, ◌++◌, length, zip, take, ℤ, pos}
+use Rattle.std.proofs.Common.{ℕ, ◌≤◌, List, [], ◌∷◌, ◌++◌, length, zip, take, pos}
 use Rattle.std.specs.Prelude.{Result, Ok}
 use Rattle.exact_num.specs.declared.misfit.Wide.{Wide}
 use Rattle.exact_num.specs.Fraction.{Fraction, negated}
@@ -8,17 +8,21 @@ use Rattle.exact_num.proofs.GreaterLimits.{Agree, same, both, whole_agrees, add_
 use Rattle.table_run.specs.Places.{at, fraction_zero}
 use Rattle.form.specs.declared.orders.Order.{Order}
 use Rattle.form.specs.Vector.{scale_of}
-use Rattle.exact_num.specs.Steps.{plus_product, less_product}
-use Rattle.master_program.specs.Master.{all_of, signed_for, first_payoff, order_payoff, cost_steps, entry_steps, row_steps, rows_steps, quantity_steps, master}
-use Rattle.master_program.specs.Reading.{add_owed, add_all_owed, liability_of}
+use Rattle.exact_num.specs.Steps.{fold_steps, plus_product, less_product}
+use Rattle.master_program.specs.Master.{map_steps, signed_for, payoff_at_zero, order_payoff, cost_steps, entry_steps, row_steps, rows_steps, quantity_steps, master}
+use Rattle.master_program.specs.Reading.{add_owed, liability_of}
 use Rattle.master_program.specs.Laws.{SameWithGreaterLimit}
 
-pub all_more : {A B : Type 0} (f f' : A → Result B Wide) → ((x : A) → Agree (f x) (f' x)) → (xs : List A) → Agree (all_of f xs) (all_of f' xs)
-unfolding all_of
+pub all_more : {A B : Type 0} (f f' : A → Result B Wide) → ((x : A) → Agree (f x) (f' x)) → (xs : List A) → Agree (map_steps f xs) (map_steps f' xs)
+unfolding map_steps
 all_more f f' h [] = same (Ok [])
 all_more f f' h (x ∷ xs) =
-    both (f x) (f' x) (λ y. after (all_of f xs) (λ ys. Ok (y ∷ ys))) (λ y. after (all_of f' xs) (λ ys. Ok (y ∷ ys))) (h x)
-    (λ y. both (all_of f xs) (all_of f' xs) (λ ys. Ok (y ∷ ys)) (λ ys. Ok (y ∷ ys)) (all_more f f' h xs) (λ ys. same (Ok (y ∷ ys))))
+    both (f x) (f' x) (λ y. after (map_steps f xs) (λ ys. Ok (y ∷ ys))) (λ y. after (map_steps f' xs) (λ ys. Ok (y ∷ ys))) (h x)
+    (λ y. both (map_steps f xs) (map_steps f' xs) (λ ys. Ok (y ∷ ys)) (λ ys. Ok (y ∷ ys)) (all_more f f' h xs) (λ ys. same (Ok (y ∷ ys))))
+
+pub folds_agree : {A T : Type 0} (step step' : T → A → Result T Wide) → ((total : T) (x : A) → Agree (step total x) (step' total x)) → (total : T) (xs : List A) → Agree (fold_steps step total xs) (fold_steps step' total xs)
+folds_agree step step' h total [] = same (Ok total)
+folds_agree step step' h total (x ∷ xs) = both _ _ _ _ (h total x) (λ next. folds_agree step step' h next xs)
 
 -- the total and a product, or less a product
 pub plus_agrees : (l l' : ℕ) → l ≤ l' → (total a b : Fraction) → Agree (plus_product l total a b) (plus_product l' total a b)
@@ -32,7 +36,7 @@ cost_agrees : (l l' : ℕ) → l ≤ l' → (o : Order) → Agree (cost_steps l 
 unfolding cost_steps
 cost_agrees l l' le o =
     both _ _ _ _ (whole_agrees l l' le (pos o.price))
-    (λ price. both _ _ _ _ (whole_agrees l l' le (first_payoff o))
+    (λ price. both _ _ _ _ (whole_agrees l l' le (payoff_at_zero o))
     (λ first. both _ _ _ _ (add_agrees l l' le price (negated first)) (λ cost. same (Ok (signed_for o.side cost)))))
 
 entry_agrees : (payoff_limit l l' : ℕ) → l ≤ l' → (z : List ℕ) (o : Order) → Agree (entry_steps payoff_limit l z o) (entry_steps payoff_limit l' z o)
@@ -40,7 +44,7 @@ unfolding entry_steps
 entry_agrees payoff_limit l l' le z o =
     both _ _ _ _ (same (order_payoff payoff_limit o z))
     (λ payoff. both _ _ _ _ (whole_agrees l l' le (pos (scale_of z)))
-    (λ t. both _ _ _ _ (whole_agrees l l' le (first_payoff o))
+    (λ t. both _ _ _ _ (whole_agrees l l' le (payoff_at_zero o))
     (λ first. both _ _ _ _ (mul_agrees l l' le t first)
     (λ aside. both _ _ _ _ (whole_agrees l l' le payoff.numerator)
     (λ owed. both _ _ _ _ (add_agrees l l' le owed (negated aside)) (λ entry. same (Ok (signed_for o.side entry))))))))
@@ -69,17 +73,12 @@ master_agrees payoff_limit l l' le orders states =
 owed_agrees : (l l' : ℕ) → l ≤ l' → (total : Fraction) (fill : Order × Fraction) → Agree (add_owed l total fill) (add_owed l' total fill)
 unfolding add_owed
 owed_agrees l l' le total fill =
-    both _ _ _ _ (whole_agrees l l' le (first_payoff fill.0))
+    both _ _ _ _ (whole_agrees l l' le (payoff_at_zero fill.0))
     (λ first. plus_agrees l l' le total fill.1 (signed_for fill.0.side first))
-
-all_owed_agree : (l l' : ℕ) → l ≤ l' → (total : Fraction) (fills : List (Order × Fraction)) → Agree (add_all_owed l total fills) (add_all_owed l' total fills)
-unfolding add_all_owed
-all_owed_agree l l' le total [] = same (Ok total)
-all_owed_agree l l' le total (fill ∷ fills) = both _ _ _ _ (owed_agrees l l' le total fill) (λ sum. all_owed_agree l l' le sum fills)
 
 liability_agrees : (l l' : ℕ) → l ≤ l' → (orders : List Order) (fills : List Fraction) (slack : Fraction) → Agree (liability_of l orders fills slack) (liability_of l' orders fills slack)
 unfolding liability_of
-liability_agrees l l' le orders fills slack = both _ _ _ _ (all_owed_agree l l' le fraction_zero (zip orders fills)) (λ owed. add_agrees l l' le owed slack)
+liability_agrees l l' le orders fills slack = both _ _ _ _ (folds_agree (add_owed l) (add_owed l') (owed_agrees l l' le) fraction_zero (zip orders fills)) (λ owed. add_agrees l l' le owed slack)
 
 pub same_with_greater_limit : SameWithGreaterLimit
 same_with_greater_limit payoff_limit l l' first orders states le =

@@ -1,8 +1,9 @@
 -- The numbers of the master program, and of what is read off its optimum.
-use Rattle.std.proofs.Common.{◌≡◌, ℕ, zero, suc, ◌+◌, ◌≤◌, List, [], ◌∷◌, ◌++◌, length, map, replicate, take, drop, zip, ℤ, pos, negsuc, unsigned_abs, subst, arith, ◌∙◌, Bool, true, false}
-use Rattle.std.specs.Prelude.{Result, Ok, if◌then◌else◌}
+use Rattle.std.proofs.Common.{◌≡◌, ℕ, zero, suc, ◌+◌, ◌≤◌, List, [], ◌∷◌, ◌++◌, length, map, replicate, take, drop, zip, ℤ, pos, negsuc, unsigned_abs, subst, arith, ◌∙◌}
+use Rattle.std.specs.Prelude.{Result, Ok}
 use Rattle.std.specs.List.{All, flat_map}
 use Rattle.std.proofs.lemmas.List.Elements.{All-nil, All-cons, All-head, All-tail, All-append, All-map, All-replicate, All-weaker, All-take, All-drop, All-from_get_or, All-get_or}
+use Rattle.arithmetic.proofs.Lists.{All-zip_right}
 use Rattle.exact_num.specs.declared.misfit.Wide.{Wide}
 use Rattle.exact_num.specs.Fraction.{Fraction, IsLowest, whole, negated}
 use Rattle.exact_num.specs.Fits.{sub_of, mul_of, whole_of, after}
@@ -11,7 +12,7 @@ use Rattle.exact_num.proofs.After.{after_value}
 use Rattle.exact_num.proofs.WithinLimits.{whole_within, negated_within, add_within, taken_within}
 use Rattle.table_run.specs.Places.{at, fraction_zero}
 use Rattle.table_run.specs.Program.{LinearProgram}
-use Rattle.table_run.specs.Ending.{Ending, done}
+use Rattle.table_run.specs.Ending.{done}
 use Rattle.table_run.specs.Run.{Optimum, optimum, run}
 use Rattle.table_run.specs.Optimum.{IsOptimum, IsAsSaid}
 use Rattle.table_run.specs.Sizes.{AreWithin, IsProgramWithin, IsEndWithin}
@@ -23,10 +24,11 @@ use Rattle.form.specs.declared.orders.Order.{Order}
 use Rattle.form.specs.declared.orders.Side.{Side}
 use Rattle.form.specs.declared.orders.Side.TheVariants.{Buy, Sell}
 use Rattle.clearing_model.specs.Certificate.{Point}
-use Rattle.master_program.specs.Master.{zero_prices, plain_master, quantity_rows, all_of, signed_for, first_payoff, cost_steps, entry_steps, row_steps, rows_steps, quantity_steps, order_payoff, master}
-use Rattle.master_program.specs.Reading.{Reading, reading_with, reading_of, liability_of, add_all_owed, has_weight, weighty, points_of}
+use Rattle.master_program.specs.Master.{zero_prices, plain_master, quantity_rows, map_steps, signed_for, payoff_at_zero, cost_steps, entry_steps, row_steps, rows_steps, quantity_steps, order_payoff, master}
+use Rattle.master_program.specs.Reading.{Reading, reading_with, owed_of, liability_of, points_with_weight, points_of}
 use Rattle.master_program.specs.Solve.{reading_at, on_optimum, master_run, master_solve}
 use Rattle.master_program.specs.Sizes.{MasterIsWithin, OfEachNumber, SolvesAreLowest, SolvesAreWithin}
+use Rattle.master_program.proofs.Dropped.{kept}
 use Rattle.master_program.proofs.Liability.{liability_is_read}
 use Rattle.master_program.proofs.Read.{run_is_as_said}
 
@@ -35,12 +37,12 @@ signed_within : (l : ℕ) (side : Side) (x : Fraction) → IsWithin l x → IsWi
 signed_within l Buy x within = within
 signed_within l Sell x within = negated_within l x within
 
-all_within : {A : Type 0} (l : ℕ) (f : A → Result Fraction Wide) → ((x : A) (y : Fraction) → f x ≡ Ok y → IsWithin l y) → (xs : List A) (ys : List Fraction) → all_of f xs ≡ Ok ys → AreWithin l ys
-unfolding all_of
+all_within : {A : Type 0} (l : ℕ) (f : A → Result Fraction Wide) → ((x : A) (y : Fraction) → f x ≡ Ok y → IsWithin l y) → (xs : List A) (ys : List Fraction) → map_steps f xs ≡ Ok ys → AreWithin l ys
+unfolding map_steps
 all_within l f h [] ys k = let e : [] ≡ ys = cc in subst (AreWithin l) e (All-nil (IsWithin l))
 all_within l f h (x ∷ xs) ys k =
     let a = after_value (f x) _ ys k in
-    let b = after_value (all_of f xs) _ ys a.rest in
+    let b = after_value (map_steps f xs) _ ys a.rest in
     let e : a.value ∷ b.value ≡ ys = cc in
     subst (AreWithin l) e (All-cons (IsWithin l) a.value b.value (h x a.value a.first) (all_within l f h xs b.value b.first))
 
@@ -55,7 +57,7 @@ cost_within : (l : ℕ) (order : Order) (s : Fraction) → cost_steps l order �
 unfolding cost_steps
 cost_within l order s k =
     let price = after_value (whole_of l (pos order.price)) _ s k in
-    let first = after_value (whole_of l (first_payoff order)) _ s price.rest in
+    let first = after_value (whole_of l (payoff_at_zero order)) _ s price.rest in
     turned_within l order.side price.value first.value s first.rest
 
 entry_within : (payoff_limit l : ℕ) (z : List ℕ) (order : Order) (s : Fraction) → entry_steps payoff_limit l z order ≡ Ok s → IsWithin l s
@@ -63,7 +65,7 @@ unfolding entry_steps
 entry_within payoff_limit l z order s k =
     let payoff = after_value (order_payoff payoff_limit order z) _ s k in
     let t = after_value (whole_of l (pos (scale_of z))) _ s payoff.rest in
-    let first = after_value (whole_of l (first_payoff order)) _ s t.rest in
+    let first = after_value (whole_of l (payoff_at_zero order)) _ s t.rest in
     let aside = after_value (mul_of l t.value first.value) _ s first.rest in
     let owed = after_value (whole_of l payoff.value.numerator) _ s aside.rest in
     turned_within l order.side owed.value aside.value s owed.rest
@@ -71,7 +73,7 @@ entry_within payoff_limit l z order s k =
 row_within : (payoff_limit l : ℕ) (orders : List Order) (z : List ℕ) (s : List Fraction) → 1 ≤ l → row_steps payoff_limit l orders z ≡ Ok s → AreWithin l s
 unfolding row_steps
 row_within payoff_limit l orders z s one k =
-    let entries = after_value (all_of (entry_steps payoff_limit l z) orders) _ s k in
+    let entries = after_value (map_steps (entry_steps payoff_limit l z) orders) _ s k in
     let t = after_value (whole_of l (pos (scale_of z))) _ s entries.rest in
     let same : entries.value ++ (negated t.value ∷ []) ≡ s = cc in
     let last = All-cons (IsWithin l) (negated t.value) [] (negated_within l t.value (taken_within l _ t.value one t.first)) (All-nil (IsWithin l)) in
@@ -107,8 +109,8 @@ units_within l (r ∷ rows) one within =
 pub master_is_within : MasterIsWithin
 unfolding master
 master_is_within payoff_limit l orders states p one k =
-    let costs = after_value (all_of (cost_steps l) orders) _ p k in
-    let quantities = after_value (all_of (quantity_steps l) orders) _ p costs.rest in
+    let costs = after_value (map_steps (cost_steps l) orders) _ p k in
+    let quantities = after_value (map_steps (quantity_steps l) orders) _ p costs.rest in
     let rows = after_value (rows_steps payoff_limit l orders states) _ p quantities.rest in
     let units = flat_map (map whole) (quantity_rows (length orders)) in
     let same : record {
@@ -130,20 +132,6 @@ master_is_within payoff_limit l orders states p one k =
 abbrev OfWeight : (Fraction → Type 0) → Point → Type 0
 OfWeight P point = P point.1
 
-All-weights : (P : Fraction → Type 0) (states : List (List ℕ)) (weights : List Fraction) → All P weights → All (OfWeight P) (zip states weights)
-All-weights P [] weights all = All-nil (OfWeight P)
-All-weights P (z ∷ states) [] all = All-nil (OfWeight P)
-All-weights P (z ∷ states) (w ∷ weights) all =
-    All-cons (OfWeight P) (z, w) (zip states weights) (All-head P w weights all) (All-weights P states weights (All-tail P w weights all))
-
-All-weighty : (P : Point → Type 0) (points : List Point) → All P points → All P (weighty points)
-All-weighty P [] all = All-nil P
-All-weighty P (point ∷ points) all = by (has_weight point) (All-weighty P points (All-tail P point points all))
-  where
-    by : (b : Bool) → All P (weighty points) → All P (if b then point ∷ weighty points else weighty points)
-    by true later = All-cons P point (weighty points) (All-head P point points all) later
-    by false later = later
-
 -- a solve that is done, with the optimum that it was read off
 record IsReadOff (payoff_limit limit left spent n : ℕ) (orders : List Order) (states : List (List ℕ)) (r : Reading) : Type 0 where
   program : LinearProgram
@@ -156,7 +144,7 @@ record IsReadOff (payoff_limit limit left spent n : ℕ) (orders : List Order) (
   ends : run limit program left spent ≡ done (optimum x y reduced value) units
   liability : Fraction
   adds_up : liability_of limit orders (take (length orders) x) (at x (length orders)) ≡ Ok liability
-  is : reading_with (take (length orders) x) value (weighty (points_of (length orders) (zero_prices n) states y reduced)) liability ≡ r
+  is : reading_with (take (length orders) x) value (points_with_weight (points_of (length orders) (zero_prices n) states y reduced)) liability ≡ r
 
 read_off : (payoff_limit limit left spent n units : ℕ) (orders : List Order) (states : List (List ℕ)) (r : Reading)
     → master_solve payoff_limit limit left spent n orders states ≡ done r units → IsReadOff payoff_limit limit left spent n orders states r
@@ -174,8 +162,8 @@ read_off payoff_limit limit left spent n units orders states r h =
     by p built (optimum x y reduced value) at_unit ends rest =
         let k = length orders in
         let read = on_steps-done at_unit (reading_at limit (zero_prices n) orders states (optimum x y reduced value)) (λ q. done q at_unit) r units rest in
-        let step = after_value (liability_of limit orders (take k x) (at x k)) (λ L. Ok (reading_with (take k x) value (weighty (points_of k (zero_prices n) states y reduced)) L)) read.value read.first in
-        let here : reading_with (take k x) value (weighty (points_of k (zero_prices n) states y reduced)) step.value ≡ read.value = let e = step.rest in cc in
+        let step = after_value (liability_of limit orders (take k x) (at x k)) (λ L. Ok (reading_with (take k x) value (points_with_weight (points_of k (zero_prices n) states y reduced)) L)) read.value read.first in
+        let here : reading_with (take k x) value (points_with_weight (points_of k (zero_prices n) states y reduced)) step.value ≡ read.value = let e = step.rest in cc in
         record {
           program = p;
           built = built;
@@ -195,12 +183,12 @@ each_number : (P : Fraction → Type 0) (payoff_limit limit left spent n : ℕ) 
     → All P o.x → All P o.y → P (at o.reduced (length orders)) → P o.value → P o.liability → OfEachNumber P r
 each_number P payoff_limit limit left spent n orders states r o of_x of_y of_first of_value of_liability =
     let k = length orders in
-    let later = All-weights P states (drop k o.y) (All-drop P k o.y of_y) in
+    let later = All-zip_right P states (drop k o.y) (All-drop P k o.y of_y) in
     subst (OfEachNumber P) o.is (record {
       fills = All-take P k o.x of_x;
       liability = of_liability;
       surplus = of_value;
-      weights = All-weighty (OfWeight P) (points_of k (zero_prices n) states o.y o.reduced) (All-cons (OfWeight P) (zero_prices n, at o.reduced k) (zip states (drop k o.y)) of_first later);
+      weights = kept (OfWeight P) (points_of k (zero_prices n) states o.y o.reduced) (All-cons (OfWeight P) (zero_prices n, at o.reduced k) (zip states (drop k o.y)) of_first later);
     })
 
 pub solves_are_lowest : SolvesAreLowest
@@ -216,7 +204,7 @@ solves_are_lowest payoff_limit limit left spent n units orders states r h =
 liability_within : (l : ℕ) (orders : List Order) (fills : List Fraction) (slack L : Fraction) → liability_of l orders fills slack ≡ Ok L → IsWithin l L
 unfolding liability_of
 liability_within l orders fills slack L h =
-    let owed = after_value (add_all_owed l fraction_zero (zip orders fills)) _ L h in
+    let owed = after_value (owed_of l (zip orders fills)) _ L h in
     add_within l owed.value slack L owed.rest
 
 pub solves_are_within : SolvesAreWithin

@@ -10,10 +10,10 @@ use Rattle.table_run.specs.Program.{LinearProgram}
 use Rattle.form.specs.declared.orders.Side.{Side}
 use Rattle.form.specs.declared.orders.Side.TheVariants.{Buy, Sell}
 use Rattle.form.specs.declared.orders.Order.{Order}
-use Rattle.form.specs.Vector.{scale_of, positive_part, strike_entry, bundle_payoff}
-use Rattle.form.specs.Payoff.{option_of, bundle_of}
+use Rattle.form.specs.Vector.{scale_of, positive_part, strike_entry, over_legs, bundle_payoff}
+use Rattle.form.specs.Payoff.{bundle_of}
 use Rattle.clearing_model.specs.Clearing.{for_side}
-use Rattle.form.specs.Steps.{payoff_of}
+use Rattle.form.specs.Steps.{bundle_payoff_of, payoff_of}
 
 -- the settlement of n underlyings at which all prices are 0
 abbrev pub zero_prices : ℕ → List ℕ
@@ -64,28 +64,32 @@ plain_master first orders states = record {
 
 -- ---- the same step by step: payoffs within a limit of their own, and all other numbers within the limit
 -- f at each item in order, or the first misfit
-unfoldable pub all_of : {A B : Type 0} → (A → Result B Wide) → List A → Result (List B) Wide
-all_of f [] = Ok []
-all_of f (x ∷ xs) = after (f x) (λ y. after (all_of f xs) (λ ys. Ok (y ∷ ys)))
+unfoldable pub map_steps : {A B : Type 0} → (A → Result B Wide) → List A → Result (List B) Wide
+map_steps f [] = Ok []
+map_steps f (x ∷ xs) = after (f x) (λ y. after (map_steps f xs) (λ ys. Ok (y ∷ ys)))
 
 -- x for a buy, and its opposite for a sell
 abbrev pub signed_for : Side → Fraction → Fraction
 signed_for Buy x = x
 signed_for Sell x = negated x
 
--- what an order pays where all prices are 0: its strike's entry, or 0 where that is below 0
-abbrev pub first_payoff : Order → ℤ
-first_payoff order = pos (positive_part (strike_entry (option_of order.form)))
+-- what an option pays where all prices are 0: its strike's entry, or 0 where that is below 0
+abbrev pub strike_payoff : List ℤ → ℕ
+strike_payoff v = positive_part (strike_entry v)
 
--- the payoff of an order at a state
-abbrev pub order_payoff : ℕ → Order → List ℕ → Result Fraction Wide
-order_payoff payoff_limit order z = payoff_of payoff_limit (option_of order.form) z
+-- what the bundle of an order pays there
+unfoldable pub payoff_at_zero : Order → ℤ
+payoff_at_zero order = over_legs strike_payoff (bundle_of order)
+
+-- the payoff of an order's bundle at a state
+unfoldable pub order_payoff : ℕ → Order → List ℕ → Result Fraction Wide
+order_payoff payoff_limit order z = bundle_payoff_of payoff_limit (bundle_of order) z
 
 -- the price less the payoff at the first state, the sign last
 unfoldable pub cost_steps : ℕ → Order → Result Fraction Wide
 cost_steps limit order =
     after (whole_of limit (pos order.price))
-    (λ price. after (whole_of limit (first_payoff order))
+    (λ price. after (whole_of limit (payoff_at_zero order))
     (λ first. after (sub_of limit price first) (λ cost. Ok (signed_for order.side cost))))
 
 -- the payoff; t times the payoff at the first state; their difference; the sign last
@@ -93,7 +97,7 @@ unfoldable pub entry_steps : ℕ → ℕ → List ℕ → Order → Result Fract
 entry_steps payoff_limit limit z order =
     after (order_payoff payoff_limit order z)
     (λ payoff. after (whole_of limit (pos (scale_of z)))
-    (λ t. after (whole_of limit (first_payoff order))
+    (λ t. after (whole_of limit (payoff_at_zero order))
     (λ first. after (mul_of limit t first)
     (λ aside. after (whole_of limit payoff.numerator)
     (λ owed. after (sub_of limit owed aside) (λ entry. Ok (signed_for order.side entry)))))))
@@ -101,7 +105,7 @@ entry_steps payoff_limit limit z order =
 -- the row of a state, order by order, and -t last
 unfoldable pub row_steps : ℕ → ℕ → List Order → List ℕ → Result (List Fraction) Wide
 row_steps payoff_limit limit orders z =
-    after (all_of (entry_steps payoff_limit limit z) orders)
+    after (map_steps (entry_steps payoff_limit limit z) orders)
     (λ entries. after (whole_of limit (pos (scale_of z))) (λ t. Ok (entries ++ (negated t ∷ []))))
 
 -- the rows of states one after another
@@ -118,8 +122,8 @@ quantity_steps limit order = whole_of limit (pos order.quantity)
 -- with its right side last
 unfoldable pub master : ℕ → ℕ → List Order → List (List ℕ) → Result LinearProgram Wide
 master payoff_limit limit orders states =
-    after (all_of (cost_steps limit) orders)
-    (λ costs. after (all_of (quantity_steps limit) orders)
+    after (map_steps (cost_steps limit) orders)
+    (λ costs. after (map_steps (quantity_steps limit) orders)
     (λ quantities. after (rows_steps payoff_limit limit orders states)
     (λ rows. Ok (record {
       variables = length orders + 1;
@@ -131,5 +135,5 @@ master payoff_limit limit orders states =
 
 -- opens these definitions, for a proof that computes with numerals
 unfoldable pub master_steps : Unit {0}
-unfolding payoff_of all_of cost_steps entry_steps row_steps rows_steps master
+unfolding bundle_of bundle_payoff_of payoff_of payoff_at_zero order_payoff map_steps cost_steps entry_steps row_steps rows_steps master
 master_steps = tt

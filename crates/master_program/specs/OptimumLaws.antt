@@ -10,7 +10,7 @@ use Rattle.form.specs.declared.orders.Order.{Order}
 use Rattle.form.specs.Vector.{IsState, scale_of}
 use Rattle.clearing_model.specs.Certificate.{Point, FillsCover, IsFractionMeasure, MeasureProves}
 use Rattle.master_program.specs.Master.{zero_prices, plain_master, master}
-use Rattle.master_program.specs.Reading.{Reading, reading_with, reading_of, weighty}
+use Rattle.master_program.specs.Reading.{Reading, reading_with, reading_of, points_with_weight}
 use Rattle.master_program.specs.Solve.{master_solve}
 use Rattle.line_cover.specs.Breakpoints.{later_states}
 use Rattle.master_program.specs.Certified.{IsSolved, IsCertifiedAt, IsGreatestByMeasure, IsGreatestByLine}
@@ -32,7 +32,7 @@ abbrev pub EmptyPointsDrop : Type 0
 EmptyPointsDrop =
     (n : ℕ) (orders : List Order) (S : Fraction) (points : List Point) → All (λ (point : Point). IsLowest point.1) points
     → IsFractionMeasure n points
-    → IsFractionMeasure n (weighty points) × (MeasureProves orders points S → MeasureProves orders (weighty points) S)
+    → IsFractionMeasure n (points_with_weight points) × (MeasureProves orders points S → MeasureProves orders (points_with_weight points) S)
 
 -- what is read off an optimum is certified at the states
 abbrev pub ReadingsAreCertified : Type 0

@@ -7,9 +7,9 @@ use Rattle.exact_num.specs.Fits.{add_of, whole_of, after}
 use Rattle.table_run.specs.Places.{at, fraction_zero}
 use Rattle.exact_num.specs.Tests.{is_above_zero}
 use Rattle.form.specs.declared.orders.Order.{Order}
-use Rattle.exact_num.specs.Steps.{plus_product}
+use Rattle.exact_num.specs.Steps.{fold_steps, plus_product}
 use Rattle.clearing_model.specs.Certificate.{Point}
-use Rattle.master_program.specs.Master.{first_payoff, signed_for}
+use Rattle.master_program.specs.Master.{payoff_at_zero, signed_for}
 
 -- the fills with what they owe and earn, and the states that show it, with their weights
 pub record Reading : Type 0 where
@@ -22,26 +22,25 @@ pub record Reading : Type 0 where
 -- the total and what the fill of an order owes at the first state
 unfoldable pub add_owed : ℕ → Fraction → Order × Fraction → Result Fraction Wide
 add_owed limit total fill =
-    after (whole_of limit (first_payoff fill.0)) (λ first. plus_product limit total fill.1 (signed_for fill.0.side first))
+    after (whole_of limit (payoff_at_zero fill.0)) (λ first. plus_product limit total fill.1 (signed_for fill.0.side first))
 
--- order by order
-unfoldable pub add_all_owed : ℕ → Fraction → List (Order × Fraction) → Result Fraction Wide
-add_all_owed limit total [] = Ok total
-add_all_owed limit total (fill ∷ fills) = after (add_owed limit total fill) (λ sum. add_all_owed limit sum fills)
+-- what the fills owe at the first state, order by order
+abbrev pub owed_of : ℕ → List (Order × Fraction) → Result Fraction Wide
+owed_of limit fills = fold_steps (add_owed limit) fraction_zero fills
 
--- what the fills owe at the first state, and the slack last
+-- that, and the slack last
 unfoldable pub liability_of : ℕ → List Order → List Fraction → Fraction → Result Fraction Wide
 liability_of limit orders fills slack =
-    after (add_all_owed limit fraction_zero (zip orders fills)) (λ owed. add_of limit owed slack)
+    after (owed_of limit (zip orders fills)) (λ owed. add_of limit owed slack)
 
 -- ---- the measure
 abbrev pub has_weight : Point → Bool
 has_weight point = is_above_zero point.1
 
 -- the points of weight above 0, in order
-abbrev pub weighty : List Point → List Point
-weighty [] = []
-weighty (point ∷ points) = if has_weight point then point ∷ weighty points else weighty points
+abbrev pub points_with_weight : List Point → List Point
+points_with_weight [] = []
+points_with_weight (point ∷ points) = if has_weight point then point ∷ points_with_weight points else points_with_weight points
 
 -- the weight of the first state is the reduced cost of the slack, the variable after k fills; that of another is the dual
 -- value of its row, which stands after the k rows of quantities
@@ -59,9 +58,9 @@ reading_of limit first orders states x y reduced value =
     let k = length orders in
     let fills = take k x in
     after (liability_of limit orders fills (at x k))
-    (λ liability. Ok (reading_with fills value (weighty (points_of k first states y reduced)) liability))
+    (λ liability. Ok (reading_with fills value (points_with_weight (points_of k first states y reduced)) liability))
 
 -- opens these definitions, for a proof that computes with numerals
 unfoldable pub reading_steps : Unit {0}
-unfolding add_owed add_all_owed liability_of
+unfolding add_owed liability_of
 reading_steps = tt

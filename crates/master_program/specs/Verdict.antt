@@ -11,7 +11,6 @@ use Rattle.clearing_model.specs.Certificate.{FillsCover}
 use Rattle.measure.specs.declared.measures.Measure.{Measure}
 use Rattle.exact_num.specs.Steps.{and_then}
 use Rattle.measure.specs.Points.{point_of}
-use Rattle.measure.specs.Sums.{has_unit_mass}
 use Rattle.cert_check.specs.declared.outcome.Cover.{Cover}
 use Rattle.cert_check.specs.declared.outcome.Cover.TheVariants.{Line}
 use Rattle.cert_check.specs.declared.outcome.Mark.TheVariants.{Optimal}
@@ -20,7 +19,7 @@ use Rattle.cert_check.specs.declared.outcome.Outcome.{Outcome}
 use Rattle.cert_check.specs.declared.outcome.Judgement.{Judgement}
 use Rattle.cert_check.specs.declared.outcome.Judgement.TheVariants.{Yes, No as Refused, Wide as TooWide}
 use Rattle.cert_check.specs.Conditions.{IsCoverOn, Closes, Meets, conditions}
-use Rattle.cert_check.specs.Tests.{surplus_holds, cover_holds, bound_holds}
+use Rattle.cert_check.specs.Tests.{surplus_holds, cover_holds, measure_holds, bound_holds}
 use Rattle.cert_check.specs.Events.{verdict_of}
 use Rattle.master_program.specs.Reading.{Reading}
 use Rattle.master_program.specs.Certified.{IsCertifiedAt, IsGreatestByLine}
@@ -63,7 +62,7 @@ LineReadingsAreNotRefused =
 abbrev pub sums_with : ℕ → List Order → Reading → Result Bool Wide → Result Bool Wide
 sums_with wide_limit orders r cover_closes =
     and_then (surplus_holds wide_limit (zip orders r.fills) r.liability r.surplus)
-    (and_then cover_closes (and_then (has_unit_mass wide_limit r.measure) (bound_holds wide_limit orders r.measure r.surplus)))
+    (and_then cover_closes (and_then (measure_holds wide_limit r.measure) (bound_holds wide_limit orders r.measure r.surplus)))
 
 -- the sums on a reading that claims this cover
 abbrev pub sums_on : Batch → Reading → Cover → Result Bool Wide

@@ -1,5 +1,5 @@
 -- Worked batches: their master programs, and what is read off the optimum of each.
-use Rattle.std.specs.Prelude.{◌≡◌, ℕ, ◌^◌, ◌-◌, List, [], ◌∷◌, ℤ, pos, Result, Ok}
+use Rattle.std.specs.Prelude.{◌≡◌, ℕ, ◌^◌, ◌-◌, List, [], ◌∷◌, ℤ, pos, negsuc, Result, Ok}
 use Rattle.exact_num.specs.declared.misfit.Wide.{Wide}
 use Rattle.exact_num.specs.declared.misfit.Operator.TheVariants.{Add}
 use Rattle.exact_num.specs.Fraction.{Fraction, whole, over}
@@ -10,8 +10,10 @@ use Rattle.table_run.specs.Run.{optimum}
 use Rattle.table_run.specs.Worked.{minus, wholes, at_most, program_of, worked, empty_batch, one_option_matched, equal_prices_stay, lower_strike_covers, butterfly_by_two_sells, cover_too_dear, surplus_too_wide}
 use Rattle.form.specs.declared.orders.Side.{Side}
 use Rattle.form.specs.declared.orders.Side.TheVariants.{Buy, Sell}
+use Rattle.form.specs.declared.legs.Leg.{Leg}
 use Rattle.form.specs.declared.orders.Order.{Order}
 use Rattle.form.specs.FormOf.{form_of}
+use Rattle.form.specs.BundleOf.{bundle_one, bundle_made}
 use Rattle.master_program.specs.Master.{zero_prices, master}
 use Rattle.master_program.specs.Reading.{Reading, reading_of}
 use Rattle.master_program.specs.Solve.{master_solve}
@@ -19,11 +21,19 @@ use Rattle.master_program.specs.Solve.{master_solve}
 -- an order for one option
 abbrev pub order_for : Side → List ℤ → ℕ → ℕ → Order
 order_for side option price quantity =
-    record { id = 1; account = 1; side = side; form = form_of option; price = price; quantity = quantity }
+    record { id = 1; account = 1; side = side; bundle = bundle_one (form_of option); price = price; quantity = quantity }
 
 -- an order for one call on one underlying, with a strike above 0
 abbrev pub call_order : Side → ℕ → ℕ → Order
 call_order side strike price = order_for side (minus strike ∷ pos 1 ∷ []) price 1
+
+-- a call on one underlying that counts so often in a bundle
+abbrev pub call_leg : ℤ → ℕ → Leg
+call_leg count strike = record { count = count; form = form_of (minus strike ∷ pos 1 ∷ []) }
+
+-- an order for a bundle of legs
+abbrev pub bundle_order : Side → List Leg → ℕ → Order
+bundle_order side legs price = record { id = 1; account = 1; side = side; bundle = bundle_made legs; price = price; quantity = 1 }
 
 -- the price s, and the slope beyond the last price
 abbrev pub at_price : ℕ → List ℕ
@@ -141,6 +151,30 @@ pub record PutAboveItsStrike : Type 0 where
         surplus = whole (pos 2);
         measure = (at_price 0, whole (pos 1)) ∷ [];
       })
+
+-- ---- a spread that two options cover: buy call 10 less call 12 at 2, sell call 10 at 6, buy call 12 at 5
+abbrev pub spread : List Order
+spread =
+    bundle_order Buy (call_leg (pos 1) 10 ∷ call_leg (negsuc 0) 12 ∷ []) 2
+    ∷ call_order Sell 10 6
+    ∷ call_order Buy 12 5
+    ∷ []
+
+abbrev pub spread_states : List (List ℕ)
+spread_states = at_price 10 ∷ at_price 12 ∷ slope ∷ []
+
+-- beyond both strikes the spread pays 2: its column is that of call 10 less that of call 12
+abbrev pub SpreadIsCovered : Type 0
+SpreadIsCovered =
+    worked_master spread spread_states
+    ≡ Ok (program_of (pos 2 ∷ minus 6 ∷ pos 5 ∷ minus 1 ∷ [])
+    (at_most (pos 1 ∷ pos 0 ∷ pos 0 ∷ pos 0 ∷ []) (pos 1)
+    ∷ at_most (pos 0 ∷ pos 1 ∷ pos 0 ∷ pos 0 ∷ []) (pos 1)
+    ∷ at_most (pos 0 ∷ pos 0 ∷ pos 1 ∷ pos 0 ∷ []) (pos 1)
+    ∷ at_most (pos 0 ∷ pos 0 ∷ pos 0 ∷ minus 1 ∷ []) (pos 0)
+    ∷ at_most (pos 2 ∷ minus 2 ∷ pos 0 ∷ minus 1 ∷ []) (pos 0)
+    ∷ at_most (pos 0 ∷ minus 1 ∷ pos 1 ∷ pos 0 ∷ []) (pos 0)
+    ∷ []))
 
 -- ---- two underlyings: buy call 8 on both at 8, sell call 4 on the first at 3, sell call 6 on the second at 2; the states are
 -- the two axes and the prices 4 and 6, at which the slack is needed

@@ -2,7 +2,7 @@
 ghost use Rattle.master_program.specs.Laws.{MasterIsBounded, MasterIsProgram, QuantityRowsAreUnitRows, SameWithGreaterLimit, StepsGiveMaster};
 ghost use Rattle.master_program.specs.Sizes.{MasterIsWithin, SolvesAreLowest, SolvesAreWithin};
 ghost use Rattle.master_program.specs.Solve.{SolvesAreTheSame};
-ghost use Rattle.master_program.specs.Worked.{ButterflyByTwoSells, CoverTooDear, EmptyBatch, EqualPricesStay, LowerStrikeCovers, OneOptionMatched, PutAboveItsStrike, SecondRound, SurplusTooWide, WholeSolves};
+ghost use Rattle.master_program.specs.Worked.{ButterflyByTwoSells, CoverTooDear, EmptyBatch, EqualPricesStay, LowerStrikeCovers, OneOptionMatched, PutAboveItsStrike, SecondRound, SpreadIsCovered, SurplusTooWide, WholeSolves};
 
 /// Where each step fits, the steps give the program of whole numbers.
 pub fn steps_give_master()
@@ -60,6 +60,7 @@ pub fn worked_batches_are_read()
     ensures butterfly_by_two_sells { ButterflyByTwoSells }
     ensures cover_too_dear { CoverTooDear }
     ensures put_above_its_strike { PutAboveItsStrike }
+    ensures spread { SpreadIsCovered }
     ensures second_round { SecondRound }
     ensures surplus_too_wide { SurplusTooWide }
     ensures whole_solves { WholeSolves }

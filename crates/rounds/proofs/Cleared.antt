@@ -2,7 +2,7 @@
 use Rattle.std.proofs.Common.{◌≡◌, ℕ, List, Bool, IfOk, Result, Ok, Err, sym, subst}
 use Rattle.exact_num.specs.Fraction.{Fraction}
 use Rattle.frac.specs.Range.{limit}
-use Rattle.table_run.specs.Ending.{Ending, done}
+use Rattle.table_run.specs.Ending.{done}
 use Rattle.table_run.proofs.Endings.{DoneWhereFits, EndsWith, ends_with, where_fits-done, where_fits-ends}
 use Rattle.form.specs.declared.orders.Order.{Order}
 use Rattle.form.specs.declared.orders.Batch.{Batch}

@@ -10,28 +10,28 @@ use Rattle.table_run.specs.Table.{unit_row}
 use Rattle.form.specs.declared.orders.Order.{Order}
 use Rattle.form.specs.Vector.{scale_of}
 use Rattle.master_program.specs.Laws.{unit_rows}
-use Rattle.master_program.specs.Master.{all_of, cost_steps, quantity_steps, entry_steps, quantity_rows, row_steps, rows_steps, master}
-use Rattle.rounds.specs.declared.building.Unbuilt.{Unbuilt}
-use Rattle.rounds.specs.declared.building.Unbuilt.TheVariants.{Wide, Memory}
+use Rattle.master_program.specs.Master.{map_steps, cost_steps, quantity_steps, entry_steps, quantity_rows, row_steps, rows_steps, master}
+use Rattle.rounds.specs.declared.building.BuildError.{BuildError}
+use Rattle.rounds.specs.declared.building.BuildError.TheVariants.{Wide, Memory}
 use Rattle.rounds.specs.Built.{IsBuilt, HasAdded, added}
 use Rattle.rounds.specs.Parts.{costs_steps, right_sides_steps, coefficients_steps, slack_steps, program_with}
 
 -- ---- a part that is there, and one that is not
-pub part_goes_on : {A B D : Type 0} (f : A → B) (steps : Result B Misfit) (rest : B → Result D Misfit) (result : Result A Unbuilt) (a : A) → result ≡ Ok a → IsBuilt f steps result → after steps rest ≡ rest (f a)
+pub part_goes_on : {A B D : Type 0} (f : A → B) (steps : Result B Misfit) (rest : B → Result D Misfit) (result : Result A BuildError) (a : A) → result ≡ Ok a → IsBuilt f steps result → after steps rest ≡ rest (f a)
 part_goes_on f steps rest result a ok h =
     let is : steps ≡ Ok (f a) = subst (λ r. IsBuilt f steps r) ok h in
     ap (λ s. after s rest) is
 
-pub part_stops : {A B C D : Type 0} (f : A → B) (g : C → D) (steps : Result B Misfit) (rest : B → Result D Misfit) (result : Result A Unbuilt) (stop : Unbuilt) → result ≡ Err stop → IsBuilt f steps result → IsBuilt g (after steps rest) (Err stop)
+pub part_stops : {A B C D : Type 0} (f : A → B) (g : C → D) (steps : Result B Misfit) (rest : B → Result D Misfit) (result : Result A BuildError) (stop : BuildError) → result ≡ Err stop → IsBuilt f steps result → IsBuilt g (after steps rest) (Err stop)
 part_stops f g steps rest result Memory err h = tt
 part_stops f g steps rest result (Wide w) err h =
     let is : steps ≡ Err w = subst (λ r. IsBuilt f steps r) err h in
     ap (λ s. after s rest) is
 
-pub built_as : {A B : Type 0} (f : A → B) (a b : Result B Misfit) (result : Result A Unbuilt) → a ≡ b → IsBuilt f b result → IsBuilt f a result
+pub built_as : {A B : Type 0} (f : A → B) (a b : Result B Misfit) (result : Result A BuildError) → a ≡ b → IsBuilt f b result → IsBuilt f a result
 built_as f a b result e h = subst (λ s. IsBuilt f s result) (sym e) h
 
-pub stops_as : {A B C D : Type 0} (f : A → B) (g : C → D) (all : Result D Misfit) (steps : Result B Misfit) (rest : B → Result D Misfit) (result : Result A Unbuilt) (stop : Unbuilt) → all ≡ after steps rest → result ≡ Err stop → IsBuilt f steps result → IsBuilt g all (Err stop)
+pub stops_as : {A B C D : Type 0} (f : A → B) (g : C → D) (all : Result D Misfit) (steps : Result B Misfit) (rest : B → Result D Misfit) (result : Result A BuildError) (stop : BuildError) → all ≡ after steps rest → result ≡ Err stop → IsBuilt f steps result → IsBuilt g all (Err stop)
 stops_as f g all steps rest result stop e err h = built_as g all (after steps rest) (Err stop) e (part_stops f g steps rest result stop err h)
 
 -- ---- lists one behind another
@@ -44,19 +44,19 @@ both_is xs (Ok ys) (Err w) = refl
 both_is xs (Err w) b = refl
 
 -- what is left to add, behind what was added, after a part that is there
-pub list_goes_on : (start xs mid : List Fraction) (all a b : Result (List Fraction) Misfit) (result : Result (Unit {0}) Unbuilt) (done : Unit {0}) → added start all ≡ added xs (both a b) → result ≡ Ok done → HasAdded xs a result mid → added start all ≡ added mid b
+pub list_goes_on : (start xs mid : List Fraction) (all a b : Result (List Fraction) Misfit) (result : Result (Unit {0}) BuildError) (done : Unit {0}) → added start all ≡ added xs (both a b) → result ≡ Ok done → HasAdded xs a result mid → added start all ≡ added mid b
 list_goes_on start xs mid all a b result done e ok h = e ∙ both_is xs a b ∙ part_goes_on (λ (d : Unit {0}). mid) (added xs a) (λ mid. added mid b) result done ok h
 
 -- and after one that is not
-pub list_stops : (start xs mid new : List Fraction) (all a b : Result (List Fraction) Misfit) (result : Result (Unit {0}) Unbuilt) (stop : Unbuilt) → added start all ≡ added xs (both a b) → result ≡ Err stop → HasAdded xs a result mid → HasAdded start all (Err stop) new
+pub list_stops : (start xs mid new : List Fraction) (all a b : Result (List Fraction) Misfit) (result : Result (Unit {0}) BuildError) (stop : BuildError) → added start all ≡ added xs (both a b) → result ≡ Err stop → HasAdded xs a result mid → HasAdded start all (Err stop) new
 list_stops start xs mid new all a b result stop e err h =
     built_as (λ (d : Unit {0}). new) (added start all) _ (Err stop) (e ∙ both_is xs a b)
     (part_stops (λ (d : Unit {0}). mid) (λ (d : Unit {0}). new) (added xs a) (λ mid. added mid b) result stop err h)
 
 -- a row is its entries and that of the slack
-pub row_is : (payoff_limit limit : ℕ) (orders : List Order) (z : List ℕ) → row_steps payoff_limit limit orders z ≡ both (all_of (entry_steps payoff_limit limit z) orders) (slack_steps limit z)
+pub row_is : (payoff_limit limit : ℕ) (orders : List Order) (z : List ℕ) → row_steps payoff_limit limit orders z ≡ both (map_steps (entry_steps payoff_limit limit z) orders) (slack_steps limit z)
 unfolding row_steps
-row_is payoff_limit limit orders z = go (all_of (entry_steps payoff_limit limit z) orders) (whole_of limit (pos (scale_of z)))
+row_is payoff_limit limit orders z = go (map_steps (entry_steps payoff_limit limit z) orders) (whole_of limit (pos (scale_of z)))
   where
     go : (entries : Result (List Fraction) Misfit) (t : Result Fraction Misfit)
         → after entries (λ entries. after t (λ t. Ok (entries ++ (negated t ∷ [])))) ≡ both entries (after t (λ t. Ok (negated t ∷ [])))
@@ -90,7 +90,7 @@ pub master_is : (payoff_limit limit : ℕ) (orders : List Order) (states : List 
     (λ right_sides. after (coefficients_steps payoff_limit limit orders states)
     (λ coefficients. Ok (program_with (length orders + 1) (length orders + length states) coefficients right_sides costs))))
 unfolding master
-master_is payoff_limit limit orders states = go (all_of (cost_steps limit) orders) (all_of (quantity_steps limit) orders) (rows_steps payoff_limit limit orders states)
+master_is payoff_limit limit orders states = go (map_steps (cost_steps limit) orders) (map_steps (quantity_steps limit) orders) (rows_steps payoff_limit limit orders states)
   where
     go : (costs quantities rows : Result (List Fraction) Misfit)
         → after costs (λ costs. after quantities (λ quantities. after rows (λ rows. Ok (program_with (length orders + 1) (length orders + length states) (flat_map (map whole) (quantity_rows (length orders)) ++ rows) (quantities ++ replicate (length states) fraction_zero) (costs ++ (whole (negsuc 0) ∷ []))))))

@@ -1,9 +1,6 @@
 pub mod Added
 pub mod Cleared
 pub mod Joined
-pub mod Judged
-pub mod Owed
-pub mod Paired
 pub mod ReadOff
 pub mod Solve
 pub mod WorkedRuns

@@ -1,6 +1,5 @@
 -- From the master program that was built to its solution.
-use Rattle.std.proofs.Common.{◌≡◌, ℕ, zero, suc, ◌+◌, ◌≤◌, List, [], ◌∷◌, length, map, take, drop, get_or, filter_map, fold, All, Option, Some, None, Bool, true, false, if◌then◌else◌, refl, ap, sym, ◌∙◌, subst, arith, vec_len, Vec, Global, Result, Ok, Err}
-use Rattle.std.specs.List.{cons_option}
+use Rattle.std.proofs.Common.{◌≡◌, ℕ, zero, suc, ◌*◌, ◌≤◌, List, [], ◌∷◌, length, map, take, drop, get_or, All, refl, ap, sym, ◌∙◌, subst, arith, vec_len, Vec, Global, Result, Ok, Err}
 use Rattle.std.proofs.lemmas.List.{length-map, length-append}
 use Rattle.exact_num.specs.Fraction.{Fraction, IsNotBelowZero}
 use Rattle.table_run.specs.Places.{at}
@@ -9,7 +8,10 @@ use Rattle.table_run.specs.Ending.{Ending, done, unbounded, wide_at, no_unit_lef
 use Rattle.table_run.specs.Run.{Optimum}
 use Rattle.form.specs.declared.orders.Order.{Order}
 use Rattle.form.specs.declared.states.State.{State}
+use Rattle.form.specs.Payoff.{IsOnCount, bundle_of}
 use Rattle.form.specs.States.{vector_of}
+use Rattle.form.proofs.BundleLegs.{bundle_of-legs}
+use Rattle.form.proofs.SameBundle.{length-bundle_legs}
 use Rattle.simplex.specs.declared.program.Program.{Program}
 use Rattle.simplex.specs.Programs.{as_program}
 use Rattle.simplex.specs.declared.solved.Solved.{Solved}
@@ -21,8 +23,8 @@ use Rattle.rounds.specs.Answers.{IsJointAnswer}
 use Rattle.rounds.specs.Run.{sums_hold, after_optimum, joint_run}
 use Rattle.master_program.specs.Reading.{Reading}
 use Rattle.master_program.specs.Solve.{on_optimum, master_run, master_solve}
-use Rattle.line_cover.specs.Line.{breakpoint_of_order}
-use Rattle.line_cover.specs.Breakpoints.{is_below, insert, in_rising_price, last_state, later_states}
+use Rattle.line_cover.specs.Line.{legs_of_orders}
+use Rattle.line_cover.specs.Breakpoints.{later_states}
 use Rattle.master_program.specs.Master.{zero_prices, plain_master, master}
 use Rattle.master_program.proofs.Steps.{steps_give_master}
 use Rattle.master_program.proofs.Bounded.{master_is_program}
@@ -42,37 +44,12 @@ all_signs value [] h k d low = absurd (omega (arith, low))
 all_signs value (x ∷ xs) h zero d low = h zero
 all_signs value (x ∷ xs) h (suc k) d low = all_signs value xs (λ j. h (suc j)) k d (omega (arith, low))
 
--- ---- how many states there are
-insert_more : (ys : List (List ℕ)) (y z : List ℕ) (later : List (List ℕ)) (first second : Bool) → length later ≤ length ys + 1 → length (if first then z ∷ y ∷ ys else if second then y ∷ later else y ∷ ys) ≤ suc (length ys) + 1
-insert_more ys y z later true second h = omega arith
-insert_more ys y z later false true h = omega (arith, h)
-insert_more ys y z later false false h = omega arith
-
-length-insert : (ys : List (List ℕ)) (z : List ℕ) → length (insert ys z) ≤ length ys + 1
-unfolding insert
-length-insert [] z = omega arith
-length-insert (y ∷ ys) z = insert_more ys y z (insert ys z) (is_below z y) (is_below y z) (length-insert ys z)
-
-length-inserted : (zs ys : List (List ℕ)) → length (fold insert ys zs) ≤ length ys + length zs
-length-inserted [] ys = omega arith
-length-inserted (z ∷ zs) ys = omega (arith, length-inserted zs (insert ys z), length-insert ys z)
-
-length-rising : (zs : List (List ℕ)) → length (in_rising_price zs) ≤ length zs
-unfolding in_rising_price
-length-rising zs = omega (arith, length-inserted zs [])
-
-counted_some : (r : Option (List ℕ)) (rest : List (List ℕ)) (n : ℕ) → length rest ≤ n → length (cons_option r rest) ≤ suc n
-counted_some None rest n h = omega (arith, h)
-counted_some (Some z) rest n h = omega (arith, h)
-
-length-some : (orders : List Order) → length (filter_map breakpoint_of_order orders) ≤ length orders
-length-some [] = omega arith
-length-some (o ∷ os) = counted_some (breakpoint_of_order o) (filter_map breakpoint_of_order os) (length os) (length-some os)
-
-pub length-later : (orders : List Order) → length (later_states orders) ≤ length orders + 1
-length-later orders =
-    let breaks = filter_map breakpoint_of_order orders in
-    omega (arith, length-append (in_rising_price breaks) (last_state ∷ []), length-rising breaks, length-some orders)
+-- ---- a bundle has at most four legs
+pub legs_few : (orders : List Order) → length (legs_of_orders orders) ≤ length orders * 4
+legs_few [] = omega arith
+legs_few (o ∷ os) =
+    let legs = ap length (bundle_of-legs o) ∙ length-bundle_legs o.bundle in
+    omega (arith, length-append (bundle_of o) (legs_of_orders os), legs, o.bundle.size_in_range.1, legs_few os)
 
 -- ---- the first state and those after it
 pub some_states : (states : List State) (first : List ℕ) (later : List (List ℕ)) → map vector_of states ≡ first ∷ later → 1 ≤ length states
@@ -93,11 +70,11 @@ later_are (s ∷ states) first later back e is =
     ap (map vector_of) is ∙ tail
 
 -- each order has as many entries as each of the later states
-pub same_counts : (orders : List Order) (states back : List State) → All (λ (o : Order). o.form.count ≡ 2) orders → All (λ (s : State). s.count ≡ 2) states → back ≡ drop 1 states → All (λ (s : State). All (λ (o : Order). o.form.count ≡ s.count) orders) back
-same_counts orders [] back forms counts is = subst (All (λ (s : State). All (λ (o : Order). o.form.count ≡ s.count) orders)) (sym is) (λ k d low. absurd (omega (arith, low)))
+pub same_counts : (orders : List Order) (states back : List State) → All (λ (o : Order). IsOnCount 2 o.bundle) orders → All (λ (s : State). s.count ≡ 2) states → back ≡ drop 1 states → All (λ (s : State). All (λ (o : Order). IsOnCount s.count o.bundle) orders) back
+same_counts orders [] back forms counts is = subst (All (λ (s : State). All (λ (o : Order). IsOnCount s.count o.bundle) orders)) (sym is) (λ k d low. absurd (omega (arith, low)))
 same_counts orders (s ∷ states) back forms counts is =
-    subst (All (λ (s : State). All (λ (o : Order). o.form.count ≡ s.count) orders)) (sym is)
-    (λ k d low i o low_o. forms i o low_o ∙ sym (counts (suc k) d (omega (arith, low))))
+    subst (All (λ (s : State). All (λ (o : Order). IsOnCount s.count o.bundle) orders)) (sym is)
+    (λ k d low i o low_o j leg low_leg. forms i o low_o j leg low_leg ∙ sym (counts (suc k) d (omega (arith, low))))
 
 -- ---- the run, and how the solution of the master program ends it
 abbrev pub from_run : (wide_limit limit : ℕ) → List Order → Ending Optimum → Ending Reading

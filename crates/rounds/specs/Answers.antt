@@ -1,12 +1,12 @@
 -- What the answers of the code say of the run.
-use Rattle.std.specs.Prelude.{◌≡◌, ℕ, map, Result, Ok, Err}
+use Rattle.std.specs.Prelude.{ℕ, List, map, Result}
 use Rattle.exact_num.specs.Fraction.{Fraction}
 use Rattle.simplex.specs.Answers.{IsAnswerBy}
 use Rattle.simplex.specs.declared.stop.Stop.{Stop}
-use Rattle.simplex.specs.declared.stop.Stop.TheVariants.{Wide, Budget, Memory}
 use Rattle.measure.specs.Points.{point_of}
-use Rattle.cert_check.specs.declared.outcome.Judgement.{Judgement}
-use Rattle.cert_check.specs.declared.outcome.Judgement.TheVariants.{Yes, Wide as TooWide}
+use Rattle.frac.specs.Value.{fraction_of}
+use Rattle.measure.specs.declared.measures.Measure.{Measure}
+use Rattle.cert_check.specs.declared.outcome.Claim.{Claim}
 use Rattle.master_program.specs.Reading.{Reading, reading_with}
 use Rattle.rounds.specs.declared.joint.Joint.{Joint}
 use Rattle.table_run.specs.Ending.{Ending, done}
@@ -23,9 +23,6 @@ joint_ending value joint spent = done (reading_in value joint) spent
 abbrev pub IsJointAnswer : {A : Type 0} → (A → Fraction) → Ending Reading → Result (Joint A) Stop → ℕ → Type 0
 IsJointAnswer value ending result spent = IsAnswerBy (joint_ending value) ending result spent
 
--- the answer is the judgement, which is no No: a step that does not fit stops the run after so many units
-abbrev pub IsJudged : Judgement → Result (Unit {0}) Stop → ℕ → Type 0
-IsJudged judgement (Ok passes) spent = judgement ≡ Yes
-IsJudged judgement (Err (Wide unit wide)) spent = (judgement ≡ TooWide wide) × (unit ≡ spent)
-IsJudged judgement (Err Budget) spent = ⊥
-IsJudged judgement (Err Memory) spent = Unit {0}
+-- what fills, a claim and a measure of the code claim
+abbrev pub claimed_in : List Fraction → Claim → Measure → Reading
+claimed_in fills claim measure = reading_with fills (fraction_of claim.surplus) (map point_of measure.points) (fraction_of claim.liability)

@@ -5,11 +5,11 @@ use Rattle.exact_num.specs.Fraction.{Fraction}
 use Rattle.exact_num.specs.Fits.{after}
 use Rattle.simplex.specs.declared.stop.Stop.{Stop}
 use Rattle.simplex.specs.declared.stop.Stop.TheVariants.{Wide as WideStop, Memory as NoMemory}
-use Rattle.rounds.specs.declared.building.Unbuilt.{Unbuilt}
-use Rattle.rounds.specs.declared.building.Unbuilt.TheVariants.{Wide, Memory}
+use Rattle.rounds.specs.declared.building.BuildError.{BuildError}
+use Rattle.rounds.specs.declared.building.BuildError.TheVariants.{Wide, Memory}
 
 -- the call has built what the steps give, or met their first misfit; want of memory says nothing
-abbrev pub IsBuilt : {A B : Type 0} → (A → B) → Result B Misfit → Result A Unbuilt → Type 0
+abbrev pub IsBuilt : {A B : Type 0} → (A → B) → Result B Misfit → Result A BuildError → Type 0
 IsBuilt f steps (Ok a) = steps ≡ Ok (f a)
 IsBuilt f steps (Err (Wide w)) = steps ≡ Err w
 IsBuilt f steps (Err Memory) = Unit {0}
@@ -19,10 +19,10 @@ abbrev pub added : List Fraction → Result (List Fraction) Misfit → Result (L
 added old steps = after steps (λ more. Ok (old ++ more))
 
 -- the call has added what the steps give to the list
-abbrev pub HasAdded : List Fraction → Result (List Fraction) Misfit → Result (Unit {0}) Unbuilt → List Fraction → Type 0
+abbrev pub HasAdded : List Fraction → Result (List Fraction) Misfit → Result (Unit {0}) BuildError → List Fraction → Type 0
 HasAdded old steps result new = IsBuilt (λ (done : Unit {0}). new) (added old steps) result
 
 -- the stop of a run that has spent so many units
-abbrev pub stop_at : ℕ → Unbuilt → Stop
+abbrev pub stop_at : ℕ → BuildError → Stop
 stop_at unit (Wide w) = WideStop unit w
 stop_at unit Memory = NoMemory

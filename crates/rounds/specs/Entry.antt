@@ -5,12 +5,12 @@ use Rattle.exact_num.specs.Fraction.{Fraction}
 use Rattle.exact_num.specs.Fits.{sub_of, mul_of, whole_of, after}
 use Rattle.form.specs.declared.orders.Order.{Order}
 use Rattle.form.specs.Vector.{scale_of}
-use Rattle.master_program.specs.Master.{first_payoff}
+use Rattle.master_program.specs.Master.{payoff_at_zero}
 
 -- t times what the order pays at the first state
 abbrev pub put_aside : ℕ → List ℕ → Order → Result Fraction Wide
 put_aside limit z order =
-    after (whole_of limit (pos (scale_of z))) (λ t. after (whole_of limit (first_payoff order)) (λ first. mul_of limit t first))
+    after (whole_of limit (pos (scale_of z))) (λ t. after (whole_of limit (payoff_at_zero order)) (λ first. mul_of limit t first))
 
 -- a whole number less another number
 abbrev pub whole_less : ℕ → ℤ → Fraction → Result Fraction Wide

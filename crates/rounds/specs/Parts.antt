@@ -8,16 +8,16 @@ use Rattle.table_run.specs.Places.{fraction_zero}
 use Rattle.table_run.specs.Program.{LinearProgram}
 use Rattle.form.specs.declared.orders.Order.{Order}
 use Rattle.form.specs.Vector.{scale_of}
-use Rattle.master_program.specs.Master.{all_of, cost_steps, quantity_steps, quantity_rows, rows_steps}
+use Rattle.master_program.specs.Master.{map_steps, cost_steps, quantity_steps, quantity_rows, rows_steps}
 
 -- the costs of the orders and of the slack
 abbrev pub costs_steps : ℕ → List Order → Result (List Fraction) Wide
-costs_steps limit orders = after (all_of (cost_steps limit) orders) (λ costs. Ok (costs ++ (whole (negsuc 0) ∷ [])))
+costs_steps limit orders = after (map_steps (cost_steps limit) orders) (λ costs. Ok (costs ++ (whole (negsuc 0) ∷ [])))
 
 -- the quantities of the orders, and 0 for each of so many states
 abbrev pub right_sides_steps : ℕ → List Order → ℕ → Result (List Fraction) Wide
 right_sides_steps limit orders states =
-    after (all_of (quantity_steps limit) orders) (λ quantities. Ok (quantities ++ replicate states fraction_zero))
+    after (map_steps (quantity_steps limit) orders) (λ quantities. Ok (quantities ++ replicate states fraction_zero))
 
 -- the entry of the slack in a state's row
 abbrev pub slack_steps : ℕ → List ℕ → Result (List Fraction) Wide

@@ -6,7 +6,7 @@ use Rattle.exact_num.specs.declared.misfit.Operator.TheVariants.{Add}
 use Rattle.frac.specs.Range.{limit}
 use Rattle.table_run.specs.Worked.{wholes}
 use Rattle.form.specs.declared.orders.Order.{Order}
-use Rattle.master_program.specs.Worked.{at_price, slope, one_option, equal_prices, lower_strike, butterfly, dear_cover, large_batch}
+use Rattle.master_program.specs.Worked.{at_price, slope, one_option, equal_prices, lower_strike, butterfly, dear_cover, spread, large_batch}
 use Rattle.master_program.specs.Reading.{Reading}
 use Rattle.rounds.specs.Run.{joint_run}
 use Rattle.table_run.specs.Ending.{Ending, done, wide_at, no_unit_left}
@@ -79,6 +79,17 @@ DearCoverIsLeft =
       surplus = whole (pos 0);
       measure = (at_price 12, whole (pos 1)) ∷ (slope, whole (pos 4)) ∷ [];
     }) 2
+
+-- buy call 10 less call 12 at 2, sell call 10 at 6, buy call 12 at 5: two options cover the spread
+abbrev pub SpreadCleared : Type 0
+SpreadCleared =
+    worked_run 100 spread
+    ≡ done (record {
+      fills = wholes (pos 1 ∷ pos 1 ∷ pos 1 ∷ []);
+      liability = whole (pos 0);
+      surplus = whole (pos 1);
+      measure = (at_price 0, over (pos 1) 2) ∷ (at_price 12, over (pos 1) 2) ∷ (slope, whole (pos 5)) ∷ [];
+    }) 3
 
 -- prices, quantities and weights near their limits: the surplus does not fit, in the sixth turn
 abbrev pub LargeBatchIsTooWide : Type 0

@@ -1,36 +1,36 @@
 //! Lists of numbers that are built step by step.
 ghost use Rattle.std.specs.Prelude.{◌≡◌, ◌++◌, ◌∷◌, [], OnOk, IfErr};
-ghost use Rattle.rounds.specs.declared.building.Unbuilt.TheVariants.{Memory, Wide as Misfit};
+ghost use Rattle.rounds.specs.declared.building.BuildError.TheVariants.{Memory, Wide as Misfit};
 
 use exact_num::{Exact, Wide};
 use simplex::Stop;
 use std::alloc::AllocError;
 
-/// Why a list of numbers is not there.
+/// Why a list of numbers could not be built.
 #[derive(Clone, Copy, PartialEq, Eq, Debug)]
-pub(crate) enum Unbuilt {
+pub(crate) enum BuildError {
     /// A number did not fit.
     Wide(Wide),
     Memory,
 }
 
-impl From<Wide> for Unbuilt {
-    ghost from_gives = { λ wide unbuilt. unbuilt ≡ Misfit wide };
+impl From<Wide> for BuildError {
+    ghost from_gives = { λ wide error. error ≡ Misfit wide };
 
-    fn from(wide: Wide) -> Unbuilt {
-        Unbuilt::Wide(wide)
+    fn from(wide: Wide) -> BuildError {
+        BuildError::Wide(wide)
     }
 }
 
-impl From<AllocError> for Unbuilt {
-    ghost from_gives = { λ _ unbuilt. unbuilt ≡ Memory };
+impl From<AllocError> for BuildError {
+    ghost from_gives = { λ _ error. error ≡ Memory };
 
-    fn from(_error: AllocError) -> Unbuilt {
-        Unbuilt::Memory
+    fn from(_error: AllocError) -> BuildError {
+        BuildError::Memory
     }
 }
 
-impl Unbuilt {
+impl BuildError {
     ghost use Rattle.rounds.specs.Built.{stop_at};
 
     // The stop of a run that has spent these units.
@@ -38,19 +38,19 @@ impl Unbuilt {
         ensures { result ≡ stop_at unit self }
     {
         match self {
-            Unbuilt::Wide(wide) => Stop::Wide { unit, wide },
-            Unbuilt::Memory => Stop::Memory,
+            BuildError::Wide(wide) => Stop::Wide { unit, wide },
+            BuildError::Memory => Stop::Memory,
         }
     }
 }
 
 // Adds a number at the end.
-pub(crate) fn push<N: Exact>(numbers: &mut Vec<N>, number: N) -> Result<(), Unbuilt>
+pub(crate) fn push<N: Exact>(numbers: &mut Vec<N>, number: N) -> Result<(), BuildError>
     ensures ok { OnOk result (numbers.new.items ≡ numbers.old.items ++ number ∷ []) }
-    ensures err { IfErr result (λ unbuilt. unbuilt ≡ Memory) }
+    ensures err { IfErr result (λ error. error ≡ Memory) }
 {
     match numbers.push(number) {
         Ok(()) => Ok(()),
-        Err(_) => Err(Unbuilt::Memory),
+        Err(_) => Err(BuildError::Memory),
     }
 }

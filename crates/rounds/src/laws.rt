@@ -1,6 +1,6 @@
 //! What the reference run on one underlying implies: the contracts of functions that do nothing.
 ghost use Rattle.rounds.specs.Laws.{ClearedIsGreatest, ClearedPassesTheVerdict, NoRunIsWithoutOptimum};
-ghost use Rattle.rounds.specs.Worked.{ButterflyCleared, DearCoverIsLeft, EqualPricesAreLeft, LargeBatchIsTooWide, LowerStrikeCleared, NoOrderCleared, OneOptionCleared, OneUnitIsTooFew};
+ghost use Rattle.rounds.specs.Worked.{ButterflyCleared, DearCoverIsLeft, EqualPricesAreLeft, LargeBatchIsTooWide, LowerStrikeCleared, NoOrderCleared, OneOptionCleared, OneUnitIsTooFew, SpreadCleared};
 
 /// What a run clears is covered at every price and in the slope beyond, its measure proves its surplus, and no fills
 /// cover more, whatever the limits and the units.
@@ -27,5 +27,6 @@ pub fn worked_batches_are_run()
     ensures lower_strike { LowerStrikeCleared }
     ensures butterfly { ButterflyCleared }
     ensures dear_cover { DearCoverIsLeft }
+    ensures spread { SpreadCleared }
     ensures too_wide { LargeBatchIsTooWide }
 {}

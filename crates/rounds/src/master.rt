@@ -1,18 +1,21 @@
 //! The master program of a batch over the states of its market.
-ghost use Rattle.std.specs.Prelude.{◌≡◌, ◌≤◌, ◌+◌, ◌^◌, ◌-◌, ◌++◌, map, unsigned_abs, OnOk, length};
+ghost use Rattle.std.specs.Prelude.{◌≡◌, ◌≤◌, ◌+◌, ◌^◌, ◌-◌, ◌++◌, ◌*ℤ◌, pos, map, unsigned_abs, OnOk, length};
 ghost use Rattle.std.specs.List.{All};
-ghost use Rattle.exact_num.specs.Fits.{meaning};
+ghost use Rattle.exact_num.specs.Fits.{meaning, whole_of};
+ghost use Rattle.exact_num.specs.Fraction.{whole};
+ghost use Rattle.form.specs.Payoff.{IsOnCount, option_of};
 ghost use Rattle.form.specs.States.{vector_of};
+ghost use Rattle.form.specs.Vector.{scale_of};
 ghost use Rattle.simplex.specs.Programs.{as_program};
 ghost use Rattle.master_program.specs.Laws.{unit_rows};
-ghost use Rattle.master_program.specs.Master.{all_of, cost_steps, entry_steps, first_payoff, master, quantity_steps, row_steps, rows_steps, signed_for};
+ghost use Rattle.master_program.specs.Master.{map_steps, cost_steps, entry_steps, master, order_payoff, payoff_at_zero, quantity_steps, row_steps, rows_steps, signed_for, strike_payoff};
 ghost use Rattle.rounds.specs.Built.{HasAdded, IsBuilt};
 ghost use Rattle.rounds.specs.Entry.{put_aside, whole_less};
 ghost use Rattle.rounds.specs.Parts.{coefficients_steps, costs_steps, right_sides_steps, slack_steps};
 
-use crate::building::{Unbuilt, push};
+use crate::building::{BuildError, push};
 use exact_num::{Exact, Wide};
-use form::{Order, Side, State, payoff};
+use form::{Form, Leg, Order, Side, State, bundle_payoff};
 use simplex::Program;
 use simplex::fill::{push_slacks, push_zeros};
 use std::alloc::{AllocError, Global};
@@ -27,11 +30,45 @@ pub(crate) fn for_side<N: Exact>(side: Side, number: N) -> N
     }
 }
 
-/// What an order pays where all prices are 0.
-pub(crate) fn first_payoff(order: &Order) -> i128
-    ensures { result ≡ first_payoff order.now }
+/// What an option pays where all prices are 0.
+fn strike_payoff(form: &Form) -> i128
+    ensures payoff { result ≡ pos (strike_payoff (option_of form.now)) }
+    ensures small { unsigned_abs result ≤ 2 ^ 63 }
 {
-    i128::from(order.form.entries[0]).max(0)
+    i128::from(form.entries[0]).max(0)
+}
+
+/// What a leg pays there.
+fn leg_payoff(leg: &Leg) -> i128
+    ensures payoff { result ≡ leg.now.count *ℤ pos (strike_payoff (option_of leg.now.form)) }
+    ensures small { unsigned_abs result ≤ 2 ^ 78 }
+{
+    i128::from(leg.count) * strike_payoff(&leg.form)
+}
+
+/// What the bundle of an order pays there.
+fn payoff_at_zero(order: &Order) -> i128
+    ensures { result ≡ payoff_at_zero order.now }
+{
+    let mut total = 0;
+    for leg in order.bundle.as_slice() {
+        total += leg_payoff(leg);
+    }
+    total
+}
+
+/// The same as an exact number.
+pub(crate) fn exact_at_zero<N: Exact>(order: &Order) -> Result<N, Wide>
+    ensures { meaning N.fraction result ≡ whole_of (unsigned_abs N.LIMIT) (payoff_at_zero order.now) }
+{
+    N::from_whole(payoff_at_zero(order))
+}
+
+/// The t of a state `(t, s)`.
+fn scale<N: Exact>(state: &State) -> Result<N, Wide>
+    ensures { meaning N.fraction result ≡ whole_of (unsigned_abs N.LIMIT) (pos (scale_of (vector_of state.now))) }
+{
+    N::from_whole(state.entries[0])
 }
 
 /// What one unit of an order earns when its payoff at the first state is put aside.
@@ -40,7 +77,7 @@ fn cost<N: Exact>(order: &Order) -> Result<N, Wide>
     ensures { meaning N.fraction result ≡ cost_steps (unsigned_abs N.LIMIT) order.now }
 {
     let price = N::from_whole(i128::from(order.price))?;
-    let first = N::from_whole(first_payoff(order))?;
+    let first = exact_at_zero(order)?;
     let cost = price.sub(first)?;
     Ok(for_side(order.side, cost))
 }
@@ -49,8 +86,8 @@ fn cost<N: Exact>(order: &Order) -> Result<N, Wide>
 fn put_aside<N: Exact>(order: &Order, state: &State) -> Result<N, Wide>
     ensures { meaning N.fraction result ≡ put_aside (unsigned_abs N.LIMIT) (vector_of state.now) order.now }
 {
-    let t = N::from_whole(state.entries[0])?;
-    let first = N::from_whole(first_payoff(order))?;
+    let t: N = scale(state)?;
+    let first = exact_at_zero(order)?;
     t.mul(first)
 }
 
@@ -62,21 +99,29 @@ fn less<N: Exact>(v: i128, number: N) -> Result<N, Wide>
     whole.sub(number)
 }
 
+/// What the bundle of an order pays at a state.
+fn order_payoff(order: &Order, state: &State) -> Result<i128, Wide>
+    requires { IsOnCount state.now.count order.now.bundle }
+    ensures { meaning whole result ≡ order_payoff (2 ^ 127 - 1) order.now (vector_of state.now) }
+{
+    bundle_payoff(&order.bundle, state)
+}
+
 /// What one unit of an order owes at a state above what is put aside for it.
 #[tactic(auto, unfolding(master_program::specs::Master::entry_steps))]
 fn entry<N: Exact>(order: &Order, state: &State) -> Result<N, Wide>
-    requires { order.now.form.count ≡ state.now.count }
+    requires { IsOnCount state.now.count order.now.bundle }
     ensures { meaning N.fraction result ≡ entry_steps (2 ^ 127 - 1) (unsigned_abs N.LIMIT) (vector_of state.now) order.now }
 {
-    let owed = payoff(&order.form, state)?;
+    let owed = order_payoff(order, state)?;
     let aside = put_aside(order, state)?;
     let entry = less(owed, aside)?;
     Ok(for_side(order.side, entry))
 }
 
 /// Adds the costs of the orders.
-fn add_costs<N: Exact>(costs: &mut Vec<N>, orders: &[Order]) -> Result<(), Unbuilt>
-    ensures { HasAdded (map N.fraction costs.old.items) (all_of (cost_steps (unsigned_abs N.LIMIT)) orders.now) result (map N.fraction costs.new.items) }
+fn add_costs<N: Exact>(costs: &mut Vec<N>, orders: &[Order]) -> Result<(), BuildError>
+    ensures { HasAdded (map N.fraction costs.old.items) (map_steps (cost_steps (unsigned_abs N.LIMIT)) orders.now) result (map N.fraction costs.new.items) }
 {
     for order in orders {
         push(costs, cost(order)?)?;
@@ -85,7 +130,7 @@ fn add_costs<N: Exact>(costs: &mut Vec<N>, orders: &[Order]) -> Result<(), Unbui
 }
 
 /// The costs of the orders, and 1 lost for each unit of the slack.
-fn costs<N: Exact>(alloc: Global, orders: &[Order]) -> Result<Vec<N>, Unbuilt>
+fn costs<N: Exact>(alloc: Global, orders: &[Order]) -> Result<Vec<N>, BuildError>
     ensures { IsBuilt (λ costs. map N.fraction costs.items) (costs_steps (unsigned_abs N.LIMIT) orders.now) result }
 {
     let mut costs = Vec::new(alloc);
@@ -102,8 +147,8 @@ fn quantity<N: Exact>(order: &Order) -> Result<N, Wide>
 }
 
 /// Adds the quantities of the orders.
-fn add_quantities<N: Exact>(right_sides: &mut Vec<N>, orders: &[Order]) -> Result<(), Unbuilt>
-    ensures { HasAdded (map N.fraction right_sides.old.items) (all_of (quantity_steps (unsigned_abs N.LIMIT)) orders.now) result (map N.fraction right_sides.new.items) }
+fn add_quantities<N: Exact>(right_sides: &mut Vec<N>, orders: &[Order]) -> Result<(), BuildError>
+    ensures { HasAdded (map N.fraction right_sides.old.items) (map_steps (quantity_steps (unsigned_abs N.LIMIT)) orders.now) result (map N.fraction right_sides.new.items) }
 {
     for order in orders {
         push(right_sides, quantity(order)?)?;
@@ -112,7 +157,11 @@ fn add_quantities<N: Exact>(right_sides: &mut Vec<N>, orders: &[Order]) -> Resul
 }
 
 /// The quantities of the orders, and 0 for each state.
-fn right_sides<N: Exact>(alloc: Global, orders: &[Order], states: usize) -> Result<Vec<N>, Unbuilt>
+fn right_sides<N: Exact>(
+    alloc: Global,
+    orders: &[Order],
+    states: usize,
+) -> Result<Vec<N>, BuildError>
     ensures { IsBuilt (λ right_sides. map N.fraction right_sides.items) (right_sides_steps (unsigned_abs N.LIMIT) orders.now states) result }
 {
     let mut right_sides = Vec::new(alloc);
@@ -137,9 +186,9 @@ fn add_entries<N: Exact>(
     coefficients: &mut Vec<N>,
     orders: &[Order],
     state: &State,
-) -> Result<(), Unbuilt>
-    requires { All (λ o. o.form.count ≡ state.now.count) orders.now }
-    ensures { HasAdded (map N.fraction coefficients.old.items) (all_of (entry_steps (2 ^ 127 - 1) (unsigned_abs N.LIMIT) (vector_of state.now)) orders.now) result (map N.fraction coefficients.new.items) }
+) -> Result<(), BuildError>
+    requires { All (λ o. IsOnCount state.now.count o.bundle) orders.now }
+    ensures { HasAdded (map N.fraction coefficients.old.items) (map_steps (entry_steps (2 ^ 127 - 1) (unsigned_abs N.LIMIT) (vector_of state.now)) orders.now) result (map N.fraction coefficients.new.items) }
 {
     for order in orders {
         push(coefficients, entry(order, state)?)?;
@@ -148,10 +197,10 @@ fn add_entries<N: Exact>(
 }
 
 /// Adds the entry of the slack in the row of a state.
-fn add_slack<N: Exact>(coefficients: &mut Vec<N>, state: &State) -> Result<(), Unbuilt>
+fn add_slack<N: Exact>(coefficients: &mut Vec<N>, state: &State) -> Result<(), BuildError>
     ensures { HasAdded (map N.fraction coefficients.old.items) (slack_steps (unsigned_abs N.LIMIT) (vector_of state.now)) result (map N.fraction coefficients.new.items) }
 {
-    let t = N::from_whole(state.entries[0])?;
+    let t: N = scale(state)?;
     push(coefficients, t.neg())
 }
 
@@ -160,8 +209,8 @@ fn add_row<N: Exact>(
     coefficients: &mut Vec<N>,
     orders: &[Order],
     state: &State,
-) -> Result<(), Unbuilt>
-    requires { All (λ o. o.form.count ≡ state.now.count) orders.now }
+) -> Result<(), BuildError>
+    requires { All (λ o. IsOnCount state.now.count o.bundle) orders.now }
     ensures { HasAdded (map N.fraction coefficients.old.items) (row_steps (2 ^ 127 - 1) (unsigned_abs N.LIMIT) orders.now (vector_of state.now)) result (map N.fraction coefficients.new.items) }
 {
     add_entries(coefficients, orders, state)?;
@@ -173,8 +222,8 @@ fn add_rows<N: Exact>(
     coefficients: &mut Vec<N>,
     orders: &[Order],
     states: &[State],
-) -> Result<(), Unbuilt>
-    requires { All (λ state. All (λ o. o.form.count ≡ state.count) orders.now) states.now }
+) -> Result<(), BuildError>
+    requires { All (λ state. All (λ o. IsOnCount state.count o.bundle) orders.now) states.now }
     ensures { HasAdded (map N.fraction coefficients.old.items) (rows_steps (2 ^ 127 - 1) (unsigned_abs N.LIMIT) orders.now (map vector_of states.now)) result (map N.fraction coefficients.new.items) }
 {
     for state in states {
@@ -188,9 +237,9 @@ fn coefficients<N: Exact>(
     alloc: Global,
     orders: &[Order],
     states: &[State],
-) -> Result<Vec<N>, Unbuilt>
+) -> Result<Vec<N>, BuildError>
     requires few { length orders.now ≤ 256 }
-    requires forms { All (λ state. All (λ o. o.form.count ≡ state.count) orders.now) states.now }
+    requires forms { All (λ state. All (λ o. IsOnCount state.count o.bundle) orders.now) states.now }
     ensures { IsBuilt (λ coefficients. map N.fraction coefficients.items) (coefficients_steps (2 ^ 127 - 1) (unsigned_abs N.LIMIT) orders.now (map vector_of states.now)) result }
 {
     let mut coefficients = Vec::new(alloc);
@@ -204,10 +253,10 @@ pub(crate) fn master<N: Exact>(
     alloc: Global,
     orders: &[Order],
     states: &[State],
-) -> Result<Program<N>, Unbuilt>
+) -> Result<Program<N>, BuildError>
     requires few { length orders.now ≤ 256 }
-    requires few_states { length states.now ≤ 257 }
-    requires forms { All (λ state. All (λ o. o.form.count ≡ state.count) orders.now) states.now }
+    requires few_states { length states.now ≤ 1025 }
+    requires forms { All (λ state. All (λ o. IsOnCount state.count o.bundle) orders.now) states.now }
     ensures { IsBuilt (as_program N.fraction) (master (2 ^ 127 - 1) (unsigned_abs N.LIMIT) orders.now (map vector_of states.now)) result }
 {
     let costs = costs(alloc, orders)?;

@@ -4,14 +4,14 @@ ghost use Rattle.std.specs.List.{zip};
 ghost use Rattle.exact_num.specs.Fits.{meaning};
 ghost use Rattle.form.specs.States.{vector_of};
 ghost use Rattle.measure.specs.Points.{point_of};
-ghost use Rattle.table_run.specs.Places.{fraction_zero};
-ghost use Rattle.master_program.specs.Reading.{add_all_owed, add_owed, liability_of, points_of, reading_of, weighty};
+ghost use Rattle.cert_check.specs.declared.outcome.Cover.TheVariants.{Line};
+ghost use Rattle.master_program.specs.Reading.{add_owed, liability_of, owed_of, points_of, reading_of, points_with_weight};
 ghost use Rattle.rounds.specs.Answers.{reading_in};
 ghost use Rattle.rounds.specs.Built.{IsBuilt};
 
-use crate::building::Unbuilt;
+use crate::building::BuildError;
 use crate::joint::Joint;
-use crate::master::{first_payoff, for_side};
+use crate::master::{exact_at_zero, for_side};
 use cert_check::Cover;
 use exact_num::sums::plus_product;
 use exact_num::{Exact, Wide};
@@ -25,14 +25,14 @@ use std::alloc::{AllocError, Global};
 fn add_owed<N: Exact>(total: N, order: &Order, fill: N) -> Result<N, Wide>
     ensures { meaning N.fraction result ≡ add_owed (unsigned_abs N.LIMIT) (N.fraction total) (order.now, N.fraction fill) }
 {
-    let first = N::from_whole(first_payoff(order))?;
+    let first = exact_at_zero(order)?;
     plus_product(total, fill, for_side(order.side, first))
 }
 
 /// What the fills owe at the price 0.
 fn owed<N: Exact>(orders: &[Order], fills: &[N]) -> Result<N, Wide>
     requires { length fills.now ≡ length orders.now }
-    ensures { meaning N.fraction result ≡ add_all_owed (unsigned_abs N.LIMIT) fraction_zero (zip orders.now (map N.fraction fills.now)) }
+    ensures { meaning N.fraction result ≡ owed_of (unsigned_abs N.LIMIT) (zip orders.now (map N.fraction fills.now)) }
 {
     let mut total = N::zero();
     for i in 0..orders.len() {
@@ -58,7 +58,7 @@ fn add_point<N: Exact>(
     state: &State,
     weight: N,
 ) -> Result<(), AllocError>
-    ensures { OnOk result (map point_of points.new.items ≡ map point_of points.old.items ++ weighty ((vector_of state.now, N.fraction weight) ∷ [])) }
+    ensures { OnOk result (map point_of points.new.items ≡ map point_of points.old.items ++ points_with_weight ((vector_of state.now, N.fraction weight) ∷ [])) }
 {
     if weight.sign() > 0 {
         points.push(Weighted {
@@ -76,7 +76,7 @@ fn add_points<N: Exact>(
     weights: &[N],
 ) -> Result<(), AllocError>
     requires { length weights.now ≡ length states.now }
-    ensures { OnOk result (map point_of points.new.items ≡ map point_of points.old.items ++ weighty (zip (map vector_of states.now) (map N.fraction weights.now))) }
+    ensures { OnOk result (map point_of points.new.items ≡ map point_of points.old.items ++ points_with_weight (zip (map vector_of states.now) (map N.fraction weights.now))) }
 {
     for i in 0..states.len() {
         let state = &states[i];
@@ -94,7 +94,7 @@ fn measure<N: Exact>(
     weights: &[N],
 ) -> Result<Measure, AllocError>
     requires { length weights.now ≡ length later.now }
-    ensures { IfOk result (λ m. map point_of m.points ≡ weighty ((vector_of first.now, N.fraction first_weight) ∷ zip (map vector_of later.now) (map N.fraction weights.now))) }
+    ensures { IfOk result (λ m. map point_of m.points ≡ points_with_weight ((vector_of first.now, N.fraction first_weight) ∷ zip (map vector_of later.now) (map N.fraction weights.now))) }
 {
     let mut points = Vec::new(alloc);
     add_point(&mut points, first, first_weight)?;
@@ -121,11 +121,12 @@ pub(crate) fn read_off<N: Exact>(
     first: &State,
     later: &[State],
     optimum: Optimum<N>,
-) -> Result<Joint<N>, Unbuilt>
+) -> Result<Joint<N>, BuildError>
     requires x { vec_len optimum.x ≡ length orders.now + 1 }
     requires y { vec_len optimum.y ≡ length orders.now + length later.now }
     requires reduced { vec_len optimum.reduced ≡ length orders.now + 1 }
-    ensures { IsBuilt (reading_in N.fraction) (reading_of (unsigned_abs N.LIMIT) (vector_of first.now) orders.now (map vector_of later.now) (map N.fraction optimum.x.items) (map N.fraction optimum.y.items) (map N.fraction optimum.reduced.items) (N.fraction optimum.value)) result }
+    ensures cover { IfOk result (λ joint. joint.cover ≡ Line) }
+    ensures built { IsBuilt (reading_in N.fraction) (reading_of (unsigned_abs N.LIMIT) (vector_of first.now) orders.now (map vector_of later.now) (map N.fraction optimum.x.items) (map N.fraction optimum.y.items) (map N.fraction optimum.reduced.items) (N.fraction optimum.value)) result }
 {
     let Optimum {
         mut x,

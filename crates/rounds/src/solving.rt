@@ -2,7 +2,8 @@
 ghost use Rattle.std.specs.Prelude.{◌≡◌, ◌≤◌, ◌-◌, ◌+◌, ◌∷◌, ◌++◌, [], IfOk, length, map, unsigned_abs, vec_len};
 ghost use Rattle.std.specs.List.{All};
 ghost use Rattle.frac.specs.Range.{limit};
-ghost use Rattle.form.specs.Limits.{IsWithinLimits};
+ghost use Rattle.form.specs.Limits.{HasItsForms, IsWithinLimits};
+ghost use Rattle.form.specs.Payoff.{IsOnCount};
 ghost use Rattle.form.specs.States.{vector_of};
 ghost use Rattle.simplex.specs.Answers.{HoldsOf, IsAnswer};
 ghost use Rattle.table_run.specs.Optimum.{IsOptimum};
@@ -34,15 +35,15 @@ fn solve_master<N: Exact>(
     budget: &mut Budget,
 ) -> Result<Solved<N>, Stop>
     requires few { length orders.now ≤ 256 }
-    requires few_states { length later.now ≤ 257 }
-    requires forms { All (λ state. All (λ o. o.form.count ≡ state.count) orders.now) later.now }
+    requires few_states { length later.now ≤ 1025 }
+    requires forms { All (λ state. All (λ o. IsOnCount state.count o.bundle) orders.now) later.now }
     ensures run { IsAnswer N.fraction (master_run limit (unsigned_abs N.LIMIT) (budget.old.limit - budget.old.spent) budget.old.spent orders.now (map vector_of later.now)) result budget.new.spent }
     ensures holds { HoldsOf N.fraction (plain_master (zero_prices 1) orders.now (map vector_of later.now)) result }
     ensures limit { budget.new.limit ≡ budget.old.limit }
 {
     let program = match master(alloc, orders, later) {
         Ok(program) => program,
-        Err(unbuilt) => return Err(unbuilt.at(budget.spent)),
+        Err(error) => return Err(error.at(budget.spent)),
     };
     solve(alloc, &program, budget)
 }
@@ -56,7 +57,7 @@ fn certify_optimum<N: Exact>(
     unit: u32,
 ) -> Result<Joint<N>, Stop>
     requires one { batch.now.underlyings ≡ 1 }
-    requires forms { All (λ o. o.form.count ≡ 2) batch.now.orders }
+    requires forms { HasItsForms batch.now }
     requires states { map vector_of states.now ≡ first_state ∷ later_states batch.now.orders }
     requires optimum { IsOptimum (plain_master (zero_prices 1) batch.now.orders (later_states batch.now.orders)) (map N.fraction optimum.x.items) (map N.fraction optimum.y.items) (map N.fraction optimum.reduced.items) (N.fraction optimum.value) }
     ensures cover { IfOk result (λ joint. joint.cover ≡ Line) }
@@ -65,7 +66,7 @@ fn certify_optimum<N: Exact>(
     let (first, later) = states.split_at(1);
     match read_off(alloc, batch.orders.as_slice(), &first[0], later, optimum) {
         Ok(joint) => certify(alloc, batch, joint, unit),
-        Err(unbuilt) => Err(unbuilt.at(unit)),
+        Err(error) => Err(error.at(unit)),
     }
 }
 

@@ -2,6 +2,7 @@ use Rattle.std.proofs.Common.{rules, ◌≡◌, ◌+◌, length, List, All, subs
 use Rattle.std.proofs.lemmas.List.Elements.{All-push}
 use Rattle.form.specs.declared.orders.Order.{Order}
 use Rattle.form.specs.Limits.{IsOrderWithin, IsWithinLimits}
+use Rattle.form.specs.Payoff.{IsOnCount}
 use Rattle.clear_cases.proofs.Numbered.{AreNumbered, one_more, ids_rise}
 use Rattle.clear_cases.proofs.orders.batch.Goals as goal
 
@@ -12,7 +13,7 @@ loop-piece-preserved c =
     let pushed = c.in_ok-push.ensures.items in
     let kept = c.loop-piece.invariant in
     let next : order.id ≡ 0 + length items = omega (arith, c.in_ok-order.ensures.id, c.len-id.ensures, c.loop-piece.all.ok) in
-    let HasForm : Order → Type 0 = λ order. order.form.count ≡ 2 in
+    let HasForm : Order → Type 0 = λ order. IsOnCount 2 order.bundle in
     record {
       few = search rules;
       within = subst (λ (os : List Order). All IsOrderWithin os) (sym pushed) (All-push IsOrderWithin items order kept.within c.in_ok-order.ensures.within);

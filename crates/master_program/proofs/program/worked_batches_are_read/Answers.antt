@@ -1,4 +1,4 @@
-use Rattle.master_program.proofs.WorkedBatches.{solves_end, no_order_is_matched, equal_prices_are_built, lower_strike_is_built, large_batch_is_built, one_option_is_matched, butterfly_is_matched, cover_is_too_dear, put_is_bought, basket_is_covered}
+use Rattle.master_program.proofs.WorkedBatches.{solves_end, no_order_is_matched, equal_prices_are_built, lower_strike_is_built, large_batch_is_built, one_option_is_matched, butterfly_is_matched, cover_is_too_dear, put_is_bought, spread_is_covered, basket_is_covered}
 use Rattle.master_program.proofs.program.worked_batches_are_read.Goals as goal
 
 pub returns-clause-one_option_matched : goal.returns-clause-one_option_matched
@@ -12,6 +12,9 @@ returns-clause-cover_too_dear c = cover_is_too_dear
 
 pub returns-clause-put_above_its_strike : goal.returns-clause-put_above_its_strike
 returns-clause-put_above_its_strike c = put_is_bought
+
+pub returns-clause-spread : goal.returns-clause-spread
+returns-clause-spread c = spread_is_covered
 
 pub returns-clause-second_round : goal.returns-clause-second_round
 returns-clause-second_round c = basket_is_covered

@@ -1,4 +1,4 @@
-use Rattle.rounds.proofs.WorkedRuns.{one_option_is_cleared, one_unit_is_too_few, equal_prices_are_left, no_order_is_cleared, lower_strike_is_cleared, butterfly_is_cleared, dear_cover_is_left, large_batch_is_too_wide}
+use Rattle.rounds.proofs.WorkedRuns.{one_option_is_cleared, one_unit_is_too_few, equal_prices_are_left, no_order_is_cleared, lower_strike_is_cleared, butterfly_is_cleared, dear_cover_is_left, spread_is_cleared, large_batch_is_too_wide}
 use Rattle.rounds.proofs.laws.worked_batches_are_run.Goals as goal
 
 pub returns-clause-one_option : goal.returns-clause-one_option
@@ -15,6 +15,9 @@ returns-clause-butterfly c = butterfly_is_cleared
 
 pub returns-clause-dear_cover : goal.returns-clause-dear_cover
 returns-clause-dear_cover c = dear_cover_is_left
+
+pub returns-clause-spread : goal.returns-clause-spread
+returns-clause-spread c = spread_is_cleared
 
 pub returns-clause-no_order : goal.returns-clause-no_order
 returns-clause-no_order c = no_order_is_cleared

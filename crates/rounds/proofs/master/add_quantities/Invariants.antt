@@ -1,5 +1,5 @@
 use Rattle.std.proofs.Common.{◌≡◌, drop, map, unsigned_abs}
-use Rattle.master_program.specs.Master.{all_of, quantity_steps}
+use Rattle.master_program.specs.Master.{map_steps, quantity_steps}
 use Rattle.rounds.specs.Built.{added}
 use Rattle.rounds.proofs.master.add_quantities.Given as goal
 
@@ -7,5 +7,5 @@ use Rattle.rounds.proofs.master.add_quantities.Given as goal
 abbrev pub invariant-loop-order : goal.invariant-loop-order
 invariant-loop-order g l =
     let f = quantity_steps (unsigned_abs g.N.Exact.LIMIT) in
-    added (map g.N.Exact.fraction l.fn.right_sides.items) (all_of f l.orders)
-    ≡ added (map g.N.Exact.fraction l.right_sides.items) (all_of f (drop l.order-index l.orders))
+    added (map g.N.Exact.fraction l.fn.right_sides.items) (map_steps f l.orders)
+    ≡ added (map g.N.Exact.fraction l.right_sides.items) (map_steps f (drop l.order-index l.orders))

@@ -1,26 +1,26 @@
-use Rattle.std.proofs.Common.{ℕ, ◌≡◌, ◌+◌, ◌-◌, ◌∙◌, List, Ok, length, map, drop, ap, subst, arith, unsigned_abs}
+use Rattle.std.proofs.Common.{ℕ, ◌≡◌, ◌+◌, ◌-◌, ◌∙◌, List, Ok, length, map, drop, get_or, ap, subst, arith, unsigned_abs}
 use Rattle.std.proofs.lemmas.Result.{err_from_is_err_and}
-use Rattle.std.proofs.lemmas.List.{length-map}
+use Rattle.std.proofs.lemmas.List.{length-drop}
 use Rattle.frac.specs.Range.{limit}
 use Rattle.form.specs.declared.orders.Order.{Order}
+use Rattle.form.specs.Payoff.{IsOnCount}
 use Rattle.form.specs.States.{vector_of}
+use Rattle.form.proofs.BundleLegs.{is_bundle_of}
 use Rattle.simplex.specs.Answers.{HoldsOf, IsAnswer}
 use Rattle.line_cover.specs.Breakpoints.{first_state, later_states}
-use Rattle.master_program.specs.Master.{master, plain_master, zero_prices}
+use Rattle.master_program.specs.Master.{plain_master, zero_prices}
 use Rattle.master_program.proofs.Bounded.{master_is_bounded}
 use Rattle.clearing_model.specs.Clearing.{AreOn}
-use Rattle.cert_check.proofs.Shapes.{order_is_on}
 use Rattle.rounds.proofs.Cleared.{answer_is_greatest, answer_passes}
 use Rattle.master_program.specs.Solve.{master_run}
-use Rattle.rounds.proofs.Solve.{later_are, length-later, from_run, joint_is, stops_as_solved, solved_as, answers_as}
+use Rattle.rounds.proofs.Solve.{later_are, legs_few, from_run, joint_is, stops_as_solved, solved_as, answers_as}
 use Rattle.rounds.proofs.solving.solve_joint.Goals as goal
 
 pub solve_master-requires-clause-few_states : goal.solve_master-requires-clause-few_states
 solve_master-requires-clause-few_states g c =
-    let orders = c.args.batch.now.orders in
-    let back = c.split_at.ensures.back ∙ ap (drop 1) c.as_slice.ensures.value in
-    let later : map vector_of c.split_at.result.1.now ≡ later_states orders = later_are c.in_ok-states.states.items first_state (later_states orders) c.split_at.result.1.now c.in_ok-states.ensures.states back in
-    omega (arith, length-map c.split_at.result.1.now vector_of, ap length later, length-later orders, c.requires.limits.orders_fit)
+    let states = c.in_ok-states.states.items in
+    let later = ap length (c.split_at.ensures.back ∙ ap (drop 1) c.as_slice.ensures.value) ∙ length-drop 1 states in
+    omega (arith, later, c.in_ok-states.ensures.few, legs_few c.args.batch.now.orders, c.requires.limits.orders_fit)
 
 pub returns-in_err-x-clause-run : goal.returns-in_err-x-clause-run
 returns-in_err-x-clause-run g c =
@@ -65,5 +65,5 @@ returns-clause-certified g c =
 pub returns-clause-yes : goal.returns-clause-yes
 returns-clause-yes g c =
     let batch = c.args.batch.now in
-    let on : AreOn 1 batch.orders = λ k d low. order_is_on 1 _ (c.requires.limits.has_forms.forms k d low ∙ ap (λ (n : ℕ). n + 1) c.requires.one) in
+    let on : AreOn 1 batch.orders = λ k d low. is_bundle_of 1 _ (subst (λ (n : ℕ). IsOnCount (n + 1) (get_or batch.orders k d).bundle) c.requires.one (c.requires.limits.has_forms.forms k d low)) in
     answer_passes g.N.Exact.fraction (unsigned_abs g.N.Exact.LIMIT) _ _ c.solve_master.new.budget.spent batch c.certify_optimum.result c.requires.one on (returns-clause-run g c)
