@@ -1,16 +1,21 @@
 -- The steps of a product.
-use Rattle.std.proofs.Common.{◌≡◌, ℕ, ◌*◌, ◌/◌, ◌≤◌, true, false, ℤ, pos, ◌*ℤ◌, refl, sym, ap, ◌∙◌}
+use Rattle.std.proofs.Common.{◌≡◌, ℕ, ◌*◌, ◌/◌, ◌≤◌, true, false, ℤ, pos, negsuc, ◌*ℤ◌, refl, sym, ap, ◌∙◌}
 use Rattle.std.specs.Prelude.{Option, Some, None, unsigned_abs, nat_le, int_div, if◌then◌else◌}
 use Rattle.arithmetic.specs.Gcd.{gcd}
 use Rattle.exact_num.specs.declared.misfit.Operator.TheVariants.{Mul}
 use Rattle.exact_num.specs.Fraction.{Fraction, IsLowest, over}
-use Rattle.exact_num.specs.Fits.{size_fits, product_above, product_below, product_fits, product_value, mul_of, misfit}
+use Rattle.exact_num.specs.Fits.{size_fits, product_above, product_below, product_fits, product_value, mul_of, misfit, signed_by}
 use Rattle.exact_num.specs.Laws.{IsWithin}
 use Rattle.exact_num.proofs.Exactness.{products_are_exact}
 use Rattle.frac.specs.Range.{within, within_natural, product_within}
 use Rattle.frac.proofs.Choices.{chosen_none, chosen_some, some_answers}
 use Rattle.std.proofs.lemmas.Bool.{leb-true}
 use Rattle.exact_num.proofs.WholeNumbers.{product_fits-wholes, product_value-wholes}
+
+-- a quotient of sizes, with the sign of the number
+pub signed_quotient : (n : ℤ) (g : ℕ) → signed_by n (pos (unsigned_abs n / g)) ≡ int_div n (pos g)
+signed_quotient (pos n) g = refl
+signed_quotient (negsuc n) g = refl
 
 -- the factors without their common divisors, multiplied
 pub above_is : (x y : Fraction) (g h : ℕ) (a c : ℤ) → g ≡ gcd (unsigned_abs x.numerator) y.denominator → h ≡ gcd (unsigned_abs y.numerator) x.denominator

@@ -1,8 +1,9 @@
 -- The steps of a sum.
-use Rattle.std.proofs.Common.{◌≡◌, ℕ, ◌*◌, ◌/◌, ◌≤◌, true, false, ◌&&◌, ℤ, pos, ◌*ℤ◌, ◌+ℤ◌, refl, sym, ap, ◌∙◌}
-use Rattle.std.specs.Prelude.{Option, Some, None, unsigned_abs, nat_le, int_div, if◌then◌else◌}
-use Rattle.std.proofs.lemmas.Bool.{and_parts, leb-true}
-use Rattle.std.proofs.Math.Nat.{le_trans, div-le_self}
+use Rattle.std.proofs.Common.{◌≡◌, ℕ, ◌*◌, ◌/◌, ◌<◌, ◌≤◌, true, false, ◌&&◌, ℤ, pos, ◌*ℤ◌, ◌+ℤ◌, arith, refl, sym, ap, ◌∙◌}
+use Rattle.std.specs.Prelude.{Option, Some, None, unsigned_abs, nat_le, int_div}
+use Rattle.std.proofs.lemmas.Bool.{and_parts, leb-true, le-leb}
+use Rattle.std.proofs.lemmas.Int.{ints}
+use Rattle.std.proofs.Math.Nat.{le_trans, div-le_self, div_self}
 use Rattle.arithmetic.specs.Gcd.{gcd}
 use Rattle.arithmetic.proofs.Quotients.{unsigned_abs-int_div}
 use Rattle.exact_num.specs.declared.misfit.Operator.TheVariants.{Add}
@@ -12,7 +13,8 @@ use Rattle.exact_num.specs.Laws.{IsWithin}
 use Rattle.exact_num.proofs.Exactness.{sums_are_exact}
 use Rattle.frac.specs.Range.{within, within_natural, total_within, sum_within}
 use Rattle.frac.proofs.Choices.{chosen_none, chosen_some, some_answers}
-use Rattle.exact_num.proofs.WholeNumbers.{sum_fits-wholes, sum_value-wholes}
+use Rattle.arithmetic.proofs.GcdLaws.{gcd_self}
+use Rattle.std.proofs.Math.Bool.{and-true}
 
 -- ---- the total: what the code's two numerators are
 pub record IsParts (limit : ℕ) (x y : Fraction) (left right : Option ℤ) : Type 0 where
@@ -118,7 +120,74 @@ pub sum_is_within : (limit : ℕ) (x y s : Fraction) → IsLowest x → IsLowest
 unfolding add_of
 sum_is_within limit x y s p q e = (sums_are_exact limit x y s p q (sym (some_answers (sum_fits limit x y) s (sum_value x y) (misfit Add x y) e))).within
 
--- ---- the sum of whole numbers
-pub wholes_sum : (limit : ℕ) (a b : ℤ) (d e : ℕ) → d ≡ 1 → e ≡ 1 → 1 ≤ limit → unsigned_abs a ≤ limit → unsigned_abs b ≤ limit
-    → sum_within limit (over a d) (over b e) ≡ (if size_fits limit (a +ℤ b) then Some (over (a +ℤ b) 1) else None)
-wholes_sum limit a b d e p q one left right = rw (p, q, sum_fits-wholes limit a b one left right, sum_value-wholes a b) refl
+-- ---- the sum over one denominator
+left_is : (a b : ℤ) (d : ℕ) → 0 < d → sum_left (over a d) (over b d) ≡ a
+unfolding sum_left sum_divisor
+left_is a b d positive = rw (gcd_self d, div_self positive) (omega (arith, ints))
+
+right_is : (a b : ℤ) (d : ℕ) → 0 < d → sum_right (over a d) (over b d) ≡ b
+unfolding sum_right sum_divisor
+right_is a b d positive = rw (gcd_self d, div_self positive) (omega (arith, ints))
+
+total_over_one : (a b : ℤ) (d : ℕ) → 0 < d → sum_total (over a d) (over b d) ≡ a +ℤ b
+unfolding sum_total
+total_over_one a b d positive = rw (left_is a b d positive, right_is a b d positive) refl
+
+common_is : (a b : ℤ) (d : ℕ) → 0 < d → sum_common (over a d) (over b d) ≡ gcd (unsigned_abs (a +ℤ b)) d
+unfolding sum_common sum_divisor
+common_is a b d positive = rw (total_over_one a b d positive, gcd_self d) refl
+
+below_is : (a b : ℤ) (d : ℕ) → 0 < d → sum_below (over a d) (over b d) ≡ d / gcd (unsigned_abs (a +ℤ b)) d
+unfolding sum_below sum_divisor
+below_is a b d positive = rw (common_is a b d positive, gcd_self d, div_self positive) (omega arith)
+
+fits_over_one : (limit : ℕ) (a b : ℤ) (d : ℕ) → 0 < d → d ≤ limit → unsigned_abs a ≤ limit → unsigned_abs b ≤ limit → sum_fits limit (over a d) (over b d) ≡ size_fits limit (a +ℤ b)
+unfolding sum_fits
+fits_over_one limit a b d positive low left right =
+    rw (
+      left_is a b d positive,
+      right_is a b d positive,
+      total_over_one a b d positive,
+      below_is a b d positive,
+      le-leb (unsigned_abs a) limit left,
+      le-leb (unsigned_abs b) limit right,
+      le-leb (d / gcd (unsigned_abs (a +ℤ b)) d) limit (le_trans (div-le_self d (gcd (unsigned_abs (a +ℤ b)) d)) low),
+      and-true (size_fits limit (a +ℤ b)),
+    ) refl
+
+value_over_one : (a b : ℤ) (d : ℕ) → 0 < d
+    → sum_value (over a d) (over b d) ≡ over (int_div (a +ℤ b) (pos (gcd (unsigned_abs (a +ℤ b)) d))) (d / gcd (unsigned_abs (a +ℤ b)) d)
+unfolding sum_value
+value_over_one a b d positive = rw (total_over_one a b d positive, common_is a b d positive, below_is a b d positive) refl
+
+pub over_one_stops : (limit : ℕ) (x y : Fraction) (r : Option ℤ) → 0 < x.denominator → y.denominator ≡ x.denominator → IsWithin limit x → IsWithin limit y
+    → r ≡ within limit (x.numerator +ℤ y.numerator) → r ≡ None → None ≡ sum_within limit x y
+over_one_stops limit x y r positive same p q h n =
+    let off : size_fits limit (x.numerator +ℤ y.numerator) ≡ false = chosen_none _ _ r h n in
+    let fits : sum_fits limit x y ≡ false =
+    ap (λ (d : ℕ). sum_fits limit x (over y.numerator d)) same ∙ fits_over_one limit x.numerator y.numerator x.denominator positive p.below p.above q.above ∙ off in
+    rw fits refl
+
+pub over_one_ends : (limit : ℕ) (x y : Fraction) (r : Option ℤ) (s n : ℤ) (shared e : ℕ) → 0 < x.denominator → y.denominator ≡ x.denominator → IsWithin limit x → IsWithin limit y
+    → r ≡ within limit (x.numerator +ℤ y.numerator) → r ≡ Some s → shared ≡ gcd (unsigned_abs s) x.denominator → n ≡ int_div s (pos shared) → e ≡ x.denominator / shared → SumEnds limit x y n e
+over_one_ends limit x y r s n shared e positive same p q h is_s es en ee =
+    let a = x.numerator in
+    let b = y.numerator in
+    let d = x.denominator in
+    let one = chosen_some _ _ s r h is_s in
+    let on : size_fits limit (a +ℤ b) ≡ true = one.0 in
+    let is_shared : shared ≡ gcd (unsigned_abs (a +ℤ b)) d = es ∙ ap (λ (z : ℤ). gcd (unsigned_abs z) d) one.1 in
+    let size : unsigned_abs s ≤ limit = rw one.1 (leb-true _ _ on) in
+    let above : n ≡ int_div (a +ℤ b) (pos (gcd (unsigned_abs (a +ℤ b)) d)) =
+    en ∙ ap (λ (z : ℤ). int_div z (pos shared)) one.1 ∙ ap (λ (m : ℕ). int_div (a +ℤ b) (pos m)) is_shared in
+    let below : e ≡ d / gcd (unsigned_abs (a +ℤ b)) d = ee ∙ ap (λ (m : ℕ). d / m) is_shared in
+    record {
+      fits = ap (λ (i : ℕ). sum_fits limit x (over b i)) same ∙ fits_over_one limit a b d positive p.below p.above q.above ∙ on;
+      value =
+          ap (λ (z : ℤ). over z e) above
+          ∙ ap (λ (m : ℕ). over (int_div (a +ℤ b) (pos (gcd (unsigned_abs (a +ℤ b)) d))) m) below
+          ∙ sym (value_over_one a b d positive)
+          ∙ ap (λ (i : ℕ). sum_value x (over b i)) (sym same);
+      above = rw (en, unsigned_abs-int_div s shared) (le_trans (div-le_self (unsigned_abs s) shared) size);
+      below = rw ee (le_trans (div-le_self d shared) p.below);
+    }

@@ -1,20 +1,55 @@
 //! Products of fractions within a limit, for both widths, and inverses.
-ghost use Rattle.std.specs.Prelude.{◌≡◌, ◌≢◌, ◌<◌, ◌^◌, ◌*◌, pos, ◌*ℤ◌};
+ghost use Rattle.std.specs.Prelude.{◌≡◌, ◌≢◌, ◌<◌, ◌^◌, ◌*◌, ◌&&◌, pos, ◌*ℤ◌, nat_lt, unsigned_abs};
 ghost use Rattle.std.specs.Option.{option_map};
 ghost use Rattle.exact_num.specs.Fits.{product_above, product_below, inverse};
 ghost use Rattle.frac.specs.Range.{product_within};
 ghost use Rattle.frac.specs.Value.{fraction_of};
 
 use crate::frac128::Frac128;
+use crate::quotients::SHORT;
 use crate::sizes::{
-    common, natural_product, natural_quotient, quotient, whole_product, with_sign_of,
+    common, natural_product, natural_quotient, quotient, short_divisor, short_quotient,
+    whole_product, with_sign_of,
 };
+
+/// Whether both parts are of 64 bits.
+#[inline(always)]
+fn is_short(x: Frac128) -> bool
+    ensures { result ≡ nat_lt (unsigned_abs x.numerator) (2 ^ 64) && nat_lt x.denominator (2 ^ 64) }
+{
+    x.numerator.unsigned_abs() <= SHORT && x.denominator <= SHORT
+}
 
 /// Two fractions, neither numerator having a divisor in common with the other's denominator.
 #[derive(Clone, Copy)]
 struct Factors {
     numerators: (i128, i128),
     denominators: (u128, u128),
+}
+
+/// The two fractions without these divisors, where all parts are of 64 bits.
+#[inline(always)]
+fn crossed_short(x: Frac128, y: Frac128) -> Factors
+    requires left { (unsigned_abs x.numerator < 2 ^ 64) × (x.denominator < 2 ^ 64) }
+    requires right { (unsigned_abs y.numerator < 2 ^ 64) × (y.denominator < 2 ^ 64) }
+    ensures above { result.numerators.0 *ℤ result.numerators.1
+        ≡ product_above (fraction_of x) (fraction_of y) }
+    ensures below { result.denominators.0 * result.denominators.1
+        ≡ product_below (fraction_of x) (fraction_of y) }
+{
+    let a = x.numerator.unsigned_abs() as u64;
+    let b = x.denominator as u64;
+    let c = y.numerator.unsigned_abs() as u64;
+    let d = y.denominator as u64;
+    let g = short_divisor(a, d);
+    let h = short_divisor(c, b);
+    Factors {
+        numerators: (
+            with_sign_of(x.numerator, short_quotient(a, g)),
+            with_sign_of(y.numerator, short_quotient(c, h)),
+        ),
+        denominators: (short_quotient(b, h), short_quotient(d, g)),
+    }
 }
 
 /// The two fractions without these divisors: their products are those of a product in lowest terms.
@@ -25,6 +60,9 @@ fn crossed(x: Frac128, y: Frac128) -> Factors
     ensures below { result.denominators.0 * result.denominators.1
         ≡ product_below (fraction_of x) (fraction_of y) }
 {
+    if is_short(x) && is_short(y) {
+        return crossed_short(x, y);
+    }
     let g = common(x.numerator, y.denominator);
     let h = common(y.numerator, x.denominator);
     Factors {

@@ -38,14 +38,18 @@ pub fn divisor(a: u128, b: u128) -> u128
     }
 }
 
-// The same of short numbers: its type says that what is divided by it fits in 64 bits too.
+/// The same of numbers of 64 bits: the type says that what is divided by it is as short.
 #[inline(always)]
-fn short_divisor(a: u64, b: u64) -> u64
+pub fn short_divisor(a: u64, b: u64) -> u64
     requires { 0 < b }
     ensures value { result ≡ gcd_of a b }
     ensures above_zero { 0 < result }
 {
-    gcd(a as u128, b as u128) as u64
+    if a == 1 || b == 1 {
+        1
+    } else {
+        gcd(a as u128, b as u128) as u64
+    }
 }
 
 /// The greatest common divisor of the size of `n` and `d`.
@@ -69,10 +73,19 @@ pub fn natural_quotient(a: u128, b: u128) -> u128
     if b == 1 {
         a
     } else if a <= SHORT && b <= SHORT {
-        (a as u64 / b as u64) as u128
+        short_quotient(a as u64, b as u64)
     } else {
         a / b
     }
+}
+
+/// The quotient of numbers of 64 bits, rounded down.
+#[inline(always)]
+pub fn short_quotient(a: u64, b: u64) -> u128
+    requires { 0 < b }
+    ensures { result ≡ a / b }
+{
+    if b == 1 { a as u128 } else { (a / b) as u128 }
 }
 
 /// The quotient, rounded toward zero.

@@ -36,20 +36,21 @@ fn total(x: Frac128, y: Frac128, g: u128, limit: u128) -> Option<i128>
     whole_sum(left, right, limit)
 }
 
-/// The sum of two whole numbers.
+/// The sum of two fractions over one denominator, such as whole numbers: nothing is divided but by
+/// what the numerator shares with it.
 #[inline(always)]
-fn sum_of_wholes(x: Frac128, y: Frac128, limit: u128) -> Option<Frac128>
-    requires left { x.denominator ≡ 1 }
-    requires right { y.denominator ≡ 1 }
+fn sum_over_one(x: Frac128, y: Frac128, limit: u128) -> Option<Frac128>
+    requires same { x.denominator ≡ y.denominator }
     requires left_within { IsWithin limit (fraction_of x) }
     requires right_within { IsWithin limit (fraction_of y) }
     requires signed_limit { limit < 2 ^ 127 }
     ensures { option_map fraction_of result ≡ sum_within limit (fraction_of x) (fraction_of y) }
 {
     let above = whole_sum(x.numerator, y.numerator, limit)?;
+    let shared = common(above, x.denominator);
     Some(Frac128 {
-        numerator: above,
-        denominator: 1,
+        numerator: quotient(above, shared),
+        denominator: natural_quotient(x.denominator, shared),
     })
 }
 
@@ -61,8 +62,8 @@ pub fn sum(x: Frac128, y: Frac128, limit: u128) -> Option<Frac128>
     requires signed_limit { limit < 2 ^ 127 }
     ensures { option_map fraction_of result ≡ sum_within limit (fraction_of x) (fraction_of y) }
 {
-    if x.denominator == 1 && y.denominator == 1 {
-        return sum_of_wholes(x, y, limit);
+    if x.denominator == y.denominator {
+        return sum_over_one(x, y, limit);
     }
     let g = divisor(x.denominator, y.denominator);
     let above = total(x, y, g, limit)?;

@@ -1,8 +1,15 @@
-use Rattle.std.proofs.Common.{◌≡◌, ◌≤◌, ◌∙◌, arith}
+use Rattle.std.proofs.Common.{◌≡◌, ◌≤◌, ◌∙◌, sym, ap, arith, inl, inr}
 use Rattle.arithmetic.specs.Gcd.{gcd}
-use Rattle.arithmetic.proofs.GcdLaws.{gcd_comm, gcd_pos_right}
+use Rattle.arithmetic.proofs.GcdLaws.{gcd-one, gcd_comm, gcd_pos_right}
 use Rattle.arithmetic.proofs.BinaryGcd.{gcd-le_left}
 use Rattle.frac.proofs.sizes.short_divisor.Goals as goal
+
+pub returns-then-b-eq1-clause-value : goal.returns-then-b-eq1-clause-value
+returns-then-b-eq1-clause-value c =
+    elim c.if-b-eq1.either [
+      | inl e ↦ sym (ap (λ n. gcd n c.args.b) e ∙ gcd_comm 1 c.args.b ∙ gcd-one c.args.b)
+      | inr w ↦ sym (ap (gcd c.args.a) w.1 ∙ gcd-one c.args.a)
+    ]
 
 pub overflow_cast-result : goal.overflow_cast-result
 overflow_cast-result c =
@@ -10,5 +17,5 @@ overflow_cast-result c =
     let small : c.gcd.result ≤ c.args.b = rw e (gcd-le_left c.args.b c.args.a c.requires) in
     record { fits = omega (arith, small, c.ranges.b.fits) }
 
-pub returns-clause-above_zero : goal.returns-clause-above_zero
-returns-clause-above_zero c = rw c.gcd.ensures (gcd_pos_right _ _ c.requires)
+pub returns-else-b-eq1-clause-above_zero : goal.returns-else-b-eq1-clause-above_zero
+returns-else-b-eq1-clause-above_zero c = rw c.gcd.ensures (gcd_pos_right _ _ c.requires)
