@@ -1,1 +1,5 @@
+pub mod Gains
+pub mod HeldIn
 pub mod Quotients
+pub mod Settlements
+pub mod Worth

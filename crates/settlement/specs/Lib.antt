@@ -1,2 +1,4 @@
 pub mod Premium
+pub mod Payout
+pub mod Positions
 pub mod Worked

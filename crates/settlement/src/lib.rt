@@ -2,7 +2,15 @@
 #![tactic(auto)]
 
 pub mod laws;
+mod limits;
+pub mod payouts;
+mod position;
+mod positions;
 pub mod premiums;
 mod rounding;
 
+pub use limits::{MAX_GAIN, MAX_PAYOFF, MAX_SETTLEMENT_PRICE};
+pub use payouts::payout;
+pub use position::{PaidOut, Position};
+pub use positions::Positions;
 pub use premiums::premium;

@@ -19,7 +19,7 @@ pub fn premium(side: &Side, fill: &Frac128, price: u64) -> u64
     ensures fits { result ≤ MAX_QUANTITY * MAX_PRICE }
 {
     match side {
-        Side::Buy => rounded_up(fill, price),
-        Side::Sell => rounded_down(fill, price),
+        Side::Buy => rounded_up(fill, price.into()),
+        Side::Sell => rounded_down(fill, price.into()),
     }
 }

@@ -1,6 +1,7 @@
 use Rattle.std.proofs.Common.{◌≡◌, rules, arith}
 use Rattle.form.specs.Vector.{positive_part}
 use Rattle.frac.specs.Value.{fraction_of}
+use Rattle.settlement.specs.declared.limits.TheConstants.{MAX_GAIN}
 use Rattle.settlement.proofs.Quotients.{down_fits, up_fits}
 use Rattle.settlement.proofs.rounding.rounded_down.Goals as goal
 
@@ -9,7 +10,7 @@ mul_div_floor-requires-clause-share_fits c =
     let fill = fraction_of c.args.fill.now in
     let above : c.unsigned_abs.result ≡ positive_part fill.numerator = search rules in
     let below : c.unsigned_abs-2.result ≡ fill.denominator = search rules in
-    let small = up_fits fill _ _ c.into.result c.args.fill.now.lowest.positive c.requires.fill above below in
+    let small = up_fits fill.numerator c.unsigned_abs.result c.unsigned_abs-2.result c.args.ticks MAX_GAIN (omega (arith, c.args.fill.now.lowest.positive)) above (rw below c.requires.few) c.requires.not_below_zero in
     omega (arith, small)
 
 pub returns-clause-fits : goal.returns-clause-fits
@@ -17,7 +18,7 @@ returns-clause-fits c =
     let fill = fraction_of c.args.fill.now in
     let above : c.unsigned_abs.result ≡ positive_part fill.numerator = search rules in
     let below : c.unsigned_abs-2.result ≡ fill.denominator = search rules in
-    let small = up_fits fill _ _ c.into.result c.args.fill.now.lowest.positive c.requires.fill above below in
+    let small = up_fits fill.numerator c.unsigned_abs.result c.unsigned_abs-2.result c.args.ticks MAX_GAIN (omega (arith, c.args.fill.now.lowest.positive)) above (rw below c.requires.few) c.requires.not_below_zero in
     omega (arith, down_fits _ _ _ small)
 
 pub overflow_cast-result : goal.overflow_cast-result
