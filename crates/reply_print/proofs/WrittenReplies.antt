@@ -26,9 +26,11 @@ use Rattle.cert_check.specs.declared.outcome.Cover.TheVariants.{Line, Tree}
 use Rattle.cert_check.specs.declared.outcome.Mark.{Mark}
 use Rattle.cert_check.specs.declared.outcome.Mark.TheVariants as mark
 use Rattle.cert_check.specs.declared.outcome.Outcome.{Outcome}
-use Rattle.reply_print.specs.declared.batches.Batch.{Batch}
-use Rattle.reply_print.specs.declared.batches.Leg.{Leg}
-use Rattle.reply_print.specs.declared.batches.Order.{Order}
+use Rattle.form.specs.declared.orders.Batch.{Batch}
+use Rattle.form.specs.declared.legs.Leg.{Leg}
+use Rattle.form.specs.declared.bundles.Bundle.{Bundle}
+use Rattle.form.specs.declared.orders.Order.{Order}
+use Rattle.form.specs.Bundles.{legs_in, IsCounted}
 use Rattle.reply_print.specs.declared.payouts.PaidOut.{PaidOut}
 use Rattle.reply_print.specs.declared.replies.Reply.{Reply}
 use Rattle.reply_print.specs.declared.replies.Reply.TheVariants.{Opened, Deposited, Withdrawn, Listed, Placed, Cancelled, Cleared, Settled, Balance, Refused}
@@ -38,7 +40,7 @@ use Rattle.reply_print.specs.OutcomePieces.{state_entries, point_piece, multipli
 use Rattle.reply_print.specs.Piece.{Piece, whole}
 use Rattle.reply_print.specs.ReplyPieces.{reply_piece, signed_amount, paid_piece, moved_piece, ordered_piece, refused_with, cleared_with, cleared_middle, cleared_end}
 use Rattle.reply_print.specs.Words.{reason_word, side_word, mark_word, operator_word}
-use Rattle.reply_print.specs.Within.{IsWithin, IsLine, IsBatchNumber, IsMarket, IsPlace, IsBatchWithin, IsOrderWithin, IsLegWithin, IsMarkWithin, IsCoverWithin, IsNodeWithin, IsPointWithin, IsPair, IsPaidWithin, IsSmall, IsRefusal}
+use Rattle.reply_print.specs.Within.{IsWithin, IsLine, IsBatchNumber, IsMarket, IsPlace, IsBatchWithin, IsOrderWithin, IsMarkWithin, IsCoverWithin, IsNodeWithin, IsPointWithin, IsPair, IsPaidWithin, IsSmall, IsRefusal}
 use Rattle.reply_print.specs.Written.{is_plain, IsWritten, AreWritten, HasWritten, is_short}
 use Rattle.reply_print.proofs.Digits.{plain-signed_decimal, plain-fraction_text}
 
@@ -124,8 +126,15 @@ form_written n form h = entries_written n (option_of form) h.strike (from_all _ 
 count_short : (z : ℤ) → unsigned_abs z ≤ 1000 → is_short z ≡ true
 count_short z h = entry_short z (omega arith)
 
+-- a leg of an order within its ranges
+abbrev pub IsLegWithin : Leg → Type 0
+IsLegWithin leg = IsCounted leg × IsListed (option_of leg.form)
+
+pub legs_within : (bundle : Bundle) → All (λ (leg : Leg). IsListed (option_of leg.form)) (legs_in bundle) → AllByRecursion IsLegWithin (legs_in bundle)
+legs_within bundle h = from_all IsLegWithin (legs_in bundle) (λ k d lt. (bundle.counted k d lt, h k d lt))
+
 leg_written : (leg : Leg) → IsLegWithin leg → IsWritten 2 (leg_piece leg)
-leg_written leg h = (refl, (refl, count_short leg.count h.1, (refl, form_written 0 leg.form h.2, tt)))
+leg_written leg h = (refl, (refl, count_short leg.count h.0.1, (refl, form_written 0 leg.form h.1, tt)))
 
 side_plain : (side : Side) → is_plain (side_word side) ≡ true
 side_plain Buy = refl
@@ -133,11 +142,11 @@ side_plain Sell = refl
 
 order_written : (single : Bool) (legs : List Leg) (order : Order) → AllByRecursion IsLegWithin legs → IsOrderWithin order → IsWritten 4 (order_with single legs order)
 order_written true [] order l h =
-    (refl, (refl, short order.account (omega arith), (refl, short order.id (omega arith), (refl, short order.price (omega arith), (refl, short order.quantity (omega arith), (refl, side_plain order.side, tt))))))
+    (refl, (refl, short order.account (omega arith), (refl, short order.id (omega arith), (refl, short order.price (omega (arith, h.2.price)), (refl, short order.quantity (omega (arith, h.2.quantity)), (refl, side_plain order.side, tt))))))
 order_written true (leg ∷ legs) order l h =
-    (refl, (refl, short order.account (omega arith), (refl, form_written 2 leg.form l.0.2, (refl, short order.id (omega arith), (refl, short order.price (omega arith), (refl, short order.quantity (omega arith), (refl, side_plain order.side, tt)))))))
+    (refl, (refl, short order.account (omega arith), (refl, form_written 2 leg.form l.0.1, (refl, short order.id (omega arith), (refl, short order.price (omega (arith, h.2.price)), (refl, short order.quantity (omega (arith, h.2.quantity)), (refl, side_plain order.side, tt)))))))
 order_written false legs order l h =
-    (refl, (refl, short order.account (omega arith), (refl, each_written IsLegWithin 2 leg_piece leg_written legs l, (refl, short order.id (omega arith), (refl, short order.price (omega arith), (refl, short order.quantity (omega arith), (refl, side_plain order.side, tt)))))))
+    (refl, (refl, short order.account (omega arith), (refl, each_written IsLegWithin 2 leg_piece leg_written legs l, (refl, short order.id (omega arith), (refl, short order.price (omega (arith, h.2.price)), (refl, short order.quantity (omega (arith, h.2.quantity)), (refl, side_plain order.side, tt)))))))
 
 -- ---- certificates
 
@@ -190,7 +199,7 @@ end_written : (mark : Mark) (single : Bool) (batch : Batch) (outcome : Outcome) 
     → HasWritten 5 (cleared_end batch outcome mark single)
 end_written mark single batch outcome b u w = (
   refl,
-  each_written IsOrderWithin 4 (order_piece single) (λ order h. order_written single order.legs order h.2.1 h) batch.orders b.2,
+  each_written IsOrderWithin 4 (order_piece single) (λ order h. order_written single (legs_in order.bundle) order (legs_within order.bundle h.2.options) h) batch.orders b.2,
   (
     refl,
     refl,

@@ -7,8 +7,9 @@ use Rattle.frac.specs.declared.frac128.Frac128.{Frac128}
 use Rattle.frac.specs.Value.{fraction_of}
 use Rattle.form.specs.declared.forms.Form.{Form}
 use Rattle.form.specs.Payoff.{option_of}
-use Rattle.reply_print.specs.declared.batches.Leg.{Leg}
-use Rattle.reply_print.specs.declared.batches.Order.{Order}
+use Rattle.form.specs.Bundles.{legs_in}
+use Rattle.form.specs.declared.legs.Leg.{Leg}
+use Rattle.form.specs.declared.orders.Order.{Order}
 use Rattle.reply_print.specs.Numbers.{fraction_text}
 use Rattle.reply_print.specs.Piece.{Piece, whole, words, list, object, Pieces, no_pieces, piece, Fields, no_fields, field}
 use Rattle.reply_print.specs.Words.{side_word}
@@ -52,7 +53,7 @@ is_single (leg ∷ second ∷ more) = false
 
 -- whether the line has version 1: every order is one leg of count 1
 abbrev pub are_single : List Order → Bool
-are_single orders = list_all (λ (order : Order). is_single order.legs) orders
+are_single orders = list_all (λ (order : Order). is_single (legs_in order.bundle)) orders
 
 -- the form of the first leg
 abbrev pub first_form_piece : List Leg → Piece
@@ -76,7 +77,7 @@ order_with single legs order =
     (field (codes "side") (words (side_word order.side)) no_fields))))))
 
 abbrev pub order_piece : Bool → Order → Piece
-order_piece single order = order_with single order.legs order
+order_piece single order = order_with single (legs_in order.bundle) order
 
 abbrev pub version_of : Bool → ℕ
 version_of single = if single then 1 else 2

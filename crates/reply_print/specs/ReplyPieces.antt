@@ -4,7 +4,7 @@ use Rattle.form.specs.declared.orders.Side.{Side}
 use Rattle.form.specs.declared.orders.Side.TheVariants.{Buy, Sell}
 use Rattle.cert_check.specs.declared.outcome.Mark.{Mark}
 use Rattle.cert_check.specs.declared.outcome.Outcome.{Outcome}
-use Rattle.reply_print.specs.declared.batches.Batch.{Batch}
+use Rattle.form.specs.declared.orders.Batch.{Batch}
 use Rattle.reply_print.specs.declared.payouts.PaidOut.{PaidOut}
 use Rattle.reply_print.specs.declared.replies.Reply.{Reply}
 use Rattle.reply_print.specs.declared.replies.Reply.TheVariants.{Opened, Deposited, Withdrawn, Listed, Placed, Cancelled, Cleared, Settled, Balance, Refused}

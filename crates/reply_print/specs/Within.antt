@@ -1,12 +1,11 @@
 -- Replies within their ranges.
-use Rattle.std.specs.Prelude.{◌≡◌, ℕ, ◌+◌, ◌*◌, ◌^◌, ◌<◌, ◌≤◌, ℤ, pos, ◌≤ℤ◌, unsigned_abs, List, [], ◌∷◌, length, Bool, true, ◌==◌, ⊤, false}
+use Rattle.std.specs.Prelude.{◌≡◌, ℕ, ◌+◌, ◌^◌, ◌<◌, ◌≤◌, ℤ, pos, ◌≤ℤ◌, unsigned_abs, List, [], ◌∷◌, length, Bool, true, ◌==◌, ⊤, false}
 use Rattle.std.specs.List.{AllByRecursion}
 use Rattle.exact_num.specs.Fraction.{IsLowest, over}
 use Rattle.form.specs.declared.orders.Side.{Side}
 use Rattle.form.specs.declared.orders.Side.TheVariants.{Buy, Sell}
-use Rattle.form.specs.declared.limits.TheConstants.{MAX_UNDERLYINGS, MAX_PRICE, MAX_QUANTITY, MAX_ORDERS}
-use Rattle.form.specs.Limits.{IsListed}
-use Rattle.form.specs.Payoff.{option_of}
+use Rattle.form.specs.declared.limits.TheConstants.{MAX_UNDERLYINGS, MAX_ORDERS}
+use Rattle.form.specs.Limits as limits
 use Rattle.measure.specs.declared.measures.Weighted.{Weighted}
 use Rattle.sign_tree.specs.declared.trees.Node.{Node}
 use Rattle.sign_tree.specs.declared.trees.Node.TheVariants.{Split, Leaf}
@@ -17,9 +16,8 @@ use Rattle.cert_check.specs.declared.outcome.Mark.{Mark}
 use Rattle.cert_check.specs.declared.outcome.Mark.TheVariants as mark
 use Rattle.cert_check.specs.declared.outcome.Outcome.{Outcome}
 use Rattle.reply_print.specs.OutcomePieces.{state_entries, count_of}
-use Rattle.reply_print.specs.declared.batches.Batch.{Batch}
-use Rattle.reply_print.specs.declared.batches.Leg.{Leg}
-use Rattle.reply_print.specs.declared.batches.Order.{Order}
+use Rattle.form.specs.declared.orders.Batch.{Batch}
+use Rattle.form.specs.declared.orders.Order.{Order}
 use Rattle.reply_print.specs.declared.payouts.PaidOut.{PaidOut}
 use Rattle.reply_print.specs.declared.replies.Reply.{Reply}
 use Rattle.reply_print.specs.declared.replies.Reply.TheVariants.{Opened, Deposited, Withdrawn, Listed, Placed, Cancelled, Cleared, Settled, Balance, Refused}
@@ -51,20 +49,8 @@ IsSmall z = unsigned_abs z < 2 ^ 127
 
 -- ---- orders
 
-abbrev pub sizes_of : List Leg → ℕ
-sizes_of [] = 0
-sizes_of (leg ∷ legs) = unsigned_abs leg.count + sizes_of legs
-
-abbrev pub IsLegWithin : Leg → Type 0
-IsLegWithin leg = (1 ≤ unsigned_abs leg.count) × (unsigned_abs leg.count ≤ 1000) × IsListed (option_of leg.form)
-
-abbrev pub IsBundleWithin : List Leg → Type 0
-IsBundleWithin legs = IsFrom 1 4 (length legs) × AllByRecursion IsLegWithin legs
-
 abbrev pub IsOrderWithin : Order → Type 0
-IsOrderWithin order =
-    IsOrderNumber order.id × IsAccount order.account × IsBundleWithin order.legs × (order.price ≤ MAX_PRICE) × IsFrom 1 MAX_QUANTITY order.quantity
-    × (order.quantity * sizes_of order.legs ≤ MAX_QUANTITY)
+IsOrderWithin order = IsOrderNumber order.id × IsAccount order.account × limits.IsOrderWithin order
 
 -- ---- certificates
 

@@ -10,11 +10,11 @@ ghost use Rattle.reply_print.specs.CertificateMember.{with_certificate};
 ghost use Rattle.reply_print.specs.ReplyPieces.{cleared_end, cleared_middle, cleared_with, cleared_piece};
 ghost use Rattle.reply_print.specs.Within.{IsPair, IsCoverWithin, IsMarkWithin};
 
-use crate::Batch;
 use crate::order_values::{fills_value, fraction_value, is_version_1, orders_value};
 use crate::outcome_values::{certificate_value, wide_value};
 use crate::words::mark;
 use cert_check::{Mark, Outcome};
+use form::Batch;
 use serde_json::{Map, Value};
 use std::alloc::{AllocError, Global};
 

@@ -1,7 +1,6 @@
 //! Replies, what each is written as, and its line.
 #![tactic(auto)]
 
-pub mod batches;
 mod cleared_values;
 pub mod laws;
 mod lines;
@@ -12,7 +11,6 @@ pub mod replies;
 mod small_values;
 pub mod words;
 
-pub use batches::{Batch, Leg, Legs, Order, Orders};
 pub use lines::print;
 pub use payouts::{PaidOut, Payouts};
 pub use replies::Reply;

@@ -25,7 +25,9 @@ fn settled_value(
         ≡ piece_data (settled_piece line market lapsed payouts.now)) }
 {
     let payouts = payouts_value(alloc, payouts)?;
-    json!(in alloc; {"lapsed": lapsed, "line": line, "market": market, "payouts": payouts, "reply": "settled"})
+    json!(in alloc; {
+        "lapsed": lapsed, "line": line, "market": market, "payouts": payouts, "reply": "settled"
+    })
 }
 
 fn reply_value(alloc: Global, line: u32, reply: &Reply) -> Result<Value, AllocError>

@@ -2,6 +2,7 @@
 ghost use Rattle.std.specs.Prelude.{◌≡◌, ◌==◌, ◌≤◌, ◌<◌, ℤ, true, IfOk, length, string_bytes, take, Some};
 ghost use Rattle.exact_num.specs.Fraction.{Fraction};
 ghost use Rattle.frac.specs.Value.{fraction_of};
+ghost use Rattle.form.specs.Bundles.{legs_in};
 ghost use Rattle.serde_json.specs.View.{view};
 ghost use Rattle.reply_print.specs.BatchPieces.{fraction, each, form_piece, leg_piece, order_piece, order_with, is_single, are_single, first_form_piece};
 ghost use Rattle.reply_print.specs.Numbers.{fraction_text};
@@ -9,11 +10,11 @@ ghost use Rattle.reply_print.specs.Piece.{whole};
 ghost use Rattle.reply_print.specs.PieceData.{piece_data};
 ghost use Rattle.reply_print.specs.ReplyPieces.{paid_piece, signed_amount};
 
+use crate::PaidOut;
 use crate::small_values::whole_text;
 use crate::words::side;
-use crate::{Leg, Order, PaidOut};
 use exact_num::Exact;
-use form::{Form, Side};
+use form::{Form, Leg, Order, Side};
 use frac::Frac128;
 use serde_json::{Value, json};
 use std::alloc::{AllocError, Global};
@@ -95,16 +96,22 @@ fn first_form(alloc: Global, legs: &[Leg]) -> Result<Value, AllocError>
 }
 
 fn order_value(alloc: Global, order: &Order, single: bool) -> Result<Value, AllocError>
-    requires { single ≡ true → is_single order.now.legs ≡ true }
+    requires { single ≡ true → is_single (legs_in order.now.bundle) ≡ true }
     ensures { IfOk result (λ v. view v ≡ piece_data (order_piece single order.now)) }
 {
     let side = side(order.side);
     if single {
-        let form = first_form(alloc, order.legs.as_slice())?;
-        json!(in alloc; {"account": order.account, "form": form, "order": order.id, "price": order.price, "quantity": order.quantity, "side": side})
+        let form = first_form(alloc, order.bundle.as_slice())?;
+        json!(in alloc; {
+            "account": order.account, "form": form, "order": order.id, "price": order.price,
+            "quantity": order.quantity, "side": side
+        })
     } else {
-        let legs = legs_value(alloc, order.legs.as_slice())?;
-        json!(in alloc; {"account": order.account, "legs": legs, "order": order.id, "price": order.price, "quantity": order.quantity, "side": side})
+        let legs = legs_value(alloc, order.bundle.as_slice())?;
+        json!(in alloc; {
+            "account": order.account, "legs": legs, "order": order.id, "price": order.price,
+            "quantity": order.quantity, "side": side
+        })
     }
 }
 
@@ -137,7 +144,9 @@ fn paid_value(alloc: Global, paid: &PaidOut) -> Result<Value, AllocError>
     ensures { IfOk result (λ v. view v ≡ piece_data (paid_piece paid.now)) }
 {
     let amount = whole_text(alloc, signed(paid.side, paid.amount))?;
-    json!(in alloc; {"account": paid.account, "amount": &amount, "batch": paid.batch, "order": paid.order})
+    json!(in alloc; {
+        "account": paid.account, "amount": &amount, "batch": paid.batch, "order": paid.order
+    })
 }
 
 pub(crate) fn payouts_value(alloc: Global, payouts: &[PaidOut]) -> Result<Value, AllocError>
@@ -154,7 +163,9 @@ pub(crate) fn payouts_value(alloc: Global, payouts: &[PaidOut]) -> Result<Value,
 pub(crate) fn is_version_1(orders: &[Order]) -> bool
     ensures { result ≡ are_single orders.now }
 {
-    orders.iter().all(|order| is_one_leg(order.legs.as_slice()))
+    orders
+        .iter()
+        .all(|order| is_one_leg(order.bundle.as_slice()))
 }
 
 fn is_one_leg(legs: &[Leg]) -> bool

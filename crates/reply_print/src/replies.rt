@@ -1,7 +1,8 @@
 //! What a command line is answered.
 
-use crate::{Batch, Payouts};
+use crate::Payouts;
 use cert_check::Outcome;
+use form::Batch;
 
 /// What a command line is answered. Balances and amounts are in ticks.
 #[derive(Debug, Drop)]

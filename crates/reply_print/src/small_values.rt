@@ -71,7 +71,10 @@ pub(crate) fn balance_value(
 {
     let balance = whole_text(alloc, balance)?;
     let reserved = whole_text(alloc, reserved)?;
-    json!(in alloc; {"account": account, "balance": &balance, "line": line, "reply": "balance", "reserved": &reserved})
+    json!(in alloc; {
+        "account": account, "balance": &balance, "line": line, "reply": "balance",
+        "reserved": &reserved
+    })
 }
 
 pub(crate) fn refused_value(
@@ -84,7 +87,9 @@ pub(crate) fn refused_value(
 {
     let reason = reason(number);
     if number == 8 {
-        json!(in alloc; {"field": field, "line": line, "number": number, "reason": reason, "reply": "refused"})
+        json!(in alloc; {
+            "field": field, "line": line, "number": number, "reason": reason, "reply": "refused"
+        })
     } else {
         json!(in alloc; {"line": line, "number": number, "reason": reason, "reply": "refused"})
     }

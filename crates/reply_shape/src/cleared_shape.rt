@@ -361,7 +361,9 @@ fn has_fills(value: &Value) -> bool
 }
 
 fn amounts_shape(value: &Value) -> bool
-    ensures { result ≡ (has_at (codes "surplus") text_value (view value.now) && (has_at (codes "underlyings") whole_number (view value.now) && has_at (codes "units") whole_number (view value.now))) }
+    ensures { result ≡ (has_at (codes "surplus") text_value (view value.now)
+        && (has_at (codes "underlyings") whole_number (view value.now)
+        && has_at (codes "units") whole_number (view value.now))) }
 {
     has_text(value, "surplus") && has_whole(value, "underlyings") && has_whole(value, "units")
 }

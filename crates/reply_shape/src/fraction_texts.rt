@@ -61,7 +61,8 @@ fn is_lowest(above: u128, below: u128) -> bool
 
 #[tactic(auto, using(crate::proofs::Capped::capped, crate::proofs::Capped::capped_one))]
 fn is_lowest_text(above: &[u8], below: Option<&[u8]>) -> bool
-    ensures { result ≡ is_lowest_if_small (fraction_from above.now (option_map (λ b. b.now) below.entry)) }
+    ensures { result
+        ≡ is_lowest_if_small (fraction_from above.now (option_map (λ b. b.now) below.entry)) }
 {
     match below {
         None => is_lowest(size_of(above), 1),

@@ -39,7 +39,8 @@ fn settled_numbers(value: &Value) -> bool
     }
 }
 
-/// Whether the texts of the reply that this word names are numbers where they should be. The value has its shape.
+/// Whether the texts of the reply that this word names are numbers where they should be. The value
+/// has its shape.
 pub fn has_numbers(value: &Value, word: &str) -> bool
     ensures { result ≡ numbers_are word.now (view value.now) }
 {

@@ -1,5 +1,5 @@
 -- The fraction of two texts, part by part.
-use Rattle.std.proofs.Common.{◌≡◌, ℕ, ◌-◌, ◌^◌, ◌<◌, ◌≤◌, ℤ, unsigned_abs, Bool, true, false, ◌&&◌, nat_le, nat_lt, cond, Some, None, refl, arith}
+use Rattle.std.proofs.Common.{◌≡◌, ℕ, ◌^◌, ◌<◌, ℤ, unsigned_abs, Bool, true, false, ◌&&◌, nat_le, nat_lt, cond, Some, None, refl, arith}
 use Rattle.std.proofs.lemmas.Bool.{leb-false, le-ltb}
 use Rattle.exact_num.specs.Fraction.{over}
 use Rattle.frac.specs.Range.{limit}

@@ -1,21 +1,21 @@
 // The orders and the batch that are taken out of a line, where they are within their ranges.
-ghost use Rattle.std.specs.Prelude.{◌≡◌, ◌∷◌, [], ◌≤◌, IfOk, length, option_map, pos, unsigned_abs, nat_le};
-ghost use Rattle.std.specs.List.{list_all};
+ghost use Rattle.std.specs.Prelude.{◌≡◌, ◌≤◌, ◌*◌, IfOk, length, map, option_map, unsigned_abs, nat_le};
+ghost use Rattle.std.specs.List.{list_all, sum};
 ghost use Rattle.serde_json.specs.View.{view};
-ghost use Rattle.reply_print.specs.Within.{sizes_of};
-ghost use Rattle.reply_text.specs.BatchValues.{entry_from as entry_found, is_zero, has_limits as limits_kept, listed_form as form_listed, form_at as form_found, count_at as count_found, leg_of, leg_from as leg_found, bundle_from as bundle_found, side_at as side_found, is_bundle, order_for as order_for_legs, order_from as order_found};
+ghost use Rattle.form.specs.BundleOf.{bundle_one};
+ghost use Rattle.form.specs.Bundles.{count_sizes};
+ghost use Rattle.reply_text.specs.BatchValues.{entry_from as entry_found, is_zero, has_limits as limits_kept, listed_form as form_listed, form_at as form_found, count_at as count_found, leg_from as leg_found, bundle_by, bundle_from as bundle_found, side_at as side_found, order_for as order_for_bundle, order_from as order_found};
 ghost use Rattle.reply_text.specs.ReplyValues.{batch_from as batch_found};
 ghost use Rattle.reply_text.specs.Taking.{values_map};
 
 use crate::taking::{account_at, items_at, natural_at, order_at, size_at};
-use form::{Form, MAX_ORDERS, MAX_PRICE, MAX_QUANTITY, MAX_STRIKE, MAX_WEIGHT, Side};
-use reply_print::{Batch, Leg, Legs, Order, Orders};
+use form::{
+    Batch, Bundle, Form, Leg, MAX_COUNT, MAX_OPTIONS, MAX_ORDERS, MAX_PRICE, MAX_QUANTITY,
+    MAX_STRIKE, MAX_WEIGHT, Order, Orders, Side, are_legs,
+};
 use reply_shape::look::{is_word, number_at};
 use serde_json::Value;
 use std::alloc::{AllocError, Global};
-
-// The largest size of a leg's count.
-const MAX_COUNT: u64 = 1_000;
 
 fn entry_from(value: &Value) -> Option<i64>
     ensures { result ≡ entry_found (view value.now) }
@@ -84,13 +84,12 @@ fn form_at(alloc: Global, value: &Value) -> Result<Option<Form>, AllocError>
     Ok(listed_form(entries.as_slice()))
 }
 
-// A count that is not 0.
+// The count of a leg, at most 1000 in size.
 fn count_at(value: &Value) -> Option<i16>
     ensures { result ≡ count_found (view value.now) }
 {
     let count = value.get("count").and_then(Value::as_i64)?;
-    let size = count.unsigned_abs();
-    if 1 <= size && size <= MAX_COUNT {
+    if count.unsigned_abs() <= u64::from(MAX_COUNT) {
         Some(count as i16)
     } else {
         None
@@ -122,24 +121,29 @@ fn all_legs(alloc: Global, items: &[Value]) -> Result<Option<Vec<Leg>>, AllocErr
     Ok(Some(legs))
 }
 
-// The bundle of one leg.
-fn one_leg(alloc: Global, form: Form) -> Result<Legs, AllocError>
-    ensures { IfOk result (λ legs. legs ≡ leg_of (pos 1) form ∷ []) }
+fn bundle_by(legs: &[Leg]) -> Option<Bundle>
+    ensures { result ≡ bundle_by legs.now }
 {
-    let mut legs = Vec::new(alloc);
-    legs.push(Leg { count: 1, form })?;
-    Ok(Legs::from_vec(legs))
+    if are_legs(legs) {
+        Some(Bundle::of(legs))
+    } else {
+        None
+    }
+}
+
+// The bundle of one option that counts once.
+fn one_option(form: Form) -> Bundle
+    ensures { result ≡ bundle_one form }
+{
+    Bundle::one(form)
 }
 
 // The form of version 1, or the legs of version 2.
-fn legs_from(alloc: Global, value: &Value, single: bool) -> Result<Option<Legs>, AllocError>
+fn bundle_from(alloc: Global, value: &Value, single: bool) -> Result<Option<Bundle>, AllocError>
     ensures { IfOk result (λ o. o ≡ bundle_found single (view value.now)) }
 {
     if single {
-        let Some(form) = form_at(alloc, value)? else {
-            return Ok(None);
-        };
-        Ok(Some(one_leg(alloc, form)?))
+        Ok(form_at(alloc, value)?.map(one_option))
     } else {
         let Some(items) = items_at(value, "legs") else {
             return Ok(None);
@@ -147,7 +151,7 @@ fn legs_from(alloc: Global, value: &Value, single: bool) -> Result<Option<Legs>,
         let Some(legs) = all_legs(alloc, items)? else {
             return Ok(None);
         };
-        Ok(Some(Legs::from_vec(legs)))
+        Ok(bundle_by(legs.as_slice()))
     }
 }
 
@@ -165,7 +169,7 @@ fn side_at(value: &Value) -> Option<Side>
 // The sum of the sizes of the counts of at most four legs.
 fn sizes(legs: &[Leg]) -> u64
     requires { length legs.now ≤ 4 }
-    ensures sum { result ≡ sizes_of legs.now }
+    ensures sum { result ≡ sum (map (λ leg. unsigned_abs leg.count) legs.now) }
     ensures bound { result ≤ 131072 }
 {
     let mut sum = 0u64;
@@ -175,14 +179,11 @@ fn sizes(legs: &[Leg]) -> u64
     sum
 }
 
-// One to four legs, and no more of them than an order may have.
-fn are_within(legs: &[Leg], quantity: u32) -> bool
-    ensures { result ≡ is_bundle legs.now quantity }
+// Whether an order may have so many of a bundle.
+fn is_within(bundle: &Bundle, quantity: u32) -> bool
+    ensures { result ≡ nat_le (quantity * count_sizes bundle.now) MAX_OPTIONS }
 {
-    if legs.is_empty() || legs.len() > 4 {
-        return false;
-    }
-    u64::from(quantity) * sizes(legs) <= u64::from(MAX_QUANTITY)
+    u64::from(quantity) * sizes(bundle.as_slice()) <= u64::from(MAX_OPTIONS)
 }
 
 fn order_from(alloc: Global, value: &Value, single: bool) -> Result<Option<Order>, AllocError>
@@ -191,28 +192,28 @@ fn order_from(alloc: Global, value: &Value, single: bool) -> Result<Option<Order
     let Some(account) = account_at(value) else {
         return Ok(None);
     };
-    let Some(legs) = legs_from(alloc, value, single)? else {
+    let Some(bundle) = bundle_from(alloc, value, single)? else {
         return Ok(None);
     };
-    Ok(order_for(value, account, legs))
+    Ok(order_for(value, account, bundle))
 }
 
-// The order of an account for these legs.
-fn order_for(value: &Value, account: u32, legs: Legs) -> Option<Order>
-    ensures { result ≡ order_for_legs account legs (view value.now) }
+// The order of an account for this bundle.
+fn order_for(value: &Value, account: u32, bundle: Bundle) -> Option<Order>
+    ensures { result ≡ order_for_bundle account bundle (view value.now) }
 {
     let id = order_at(value)?;
     let price = natural_at(value, 0, MAX_PRICE, "price")?;
     let quantity = natural_at(value, 1, u64::from(MAX_QUANTITY), "quantity")? as u32;
     let side = side_at(value)?;
-    if !are_within(legs.as_slice(), quantity) {
+    if !is_within(&bundle, quantity) {
         return None;
     }
     Some(Order {
         id,
         account,
         side,
-        legs,
+        bundle,
         price,
         quantity,
     })

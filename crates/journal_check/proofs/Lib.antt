@@ -1,0 +1,6 @@
+mod FirstLine
+mod Found
+mod Counting
+mod LineSays
+mod ReportsSay
+mod Journals

@@ -1,0 +1,114 @@
+-- What is found of a line says what the line is.
+use Rattle.std.proofs.Common.{◌≡◌, ℕ, List, Bool, true, false, Option, Some, None, Ok, Err, refl, sym, ap, ◌∙◌, true≢false, if◌then◌else◌}
+use Rattle.std.specs.Str.{bytes_eq}
+use Rattle.frac.specs.Range.{limit}
+use Rattle.form.specs.declared.orders.Batch.{Batch}
+use Rattle.cert_check.specs.declared.outcome.No.{No}
+use Rattle.cert_check.specs.declared.outcome.No.TheVariants as no
+use Rattle.cert_check.specs.declared.outcome.Judgement.{Judgement}
+use Rattle.cert_check.specs.declared.outcome.Judgement.TheVariants as judgement
+use Rattle.cert_check.specs.declared.outcome.Outcome.{Outcome}
+use Rattle.cert_check.specs.Conditions.{IsFirstUnmet}
+use Rattle.cert_check.specs.Events.{verdict_of}
+use Rattle.cert_check.proofs.Yes.{said, yes_covers, yes_on_optimal_proves}
+use Rattle.serde_json.specs.Data.{Data}
+use Rattle.reply_print.specs.declared.replies.Reply.{Reply}
+use Rattle.reply_print.specs.declared.replies.Reply.TheVariants.{Opened, Deposited, Withdrawn, Listed, Placed, Cancelled, Cleared as ClearedReply, Settled, Balance, Refused}
+use Rattle.reply_print.specs.ReplyPieces.{reply_line}
+use Rattle.reply_shape.specs.NumberTexts.{has_numbers}
+use Rattle.reply_shape.specs.Shape.{has_shape}
+use Rattle.reply_text.specs.declared.faults.LineFault.TheVariants as fault
+use Rattle.reply_text.specs.Reading.{LineRead, reading, IsLineOf, if_json, json_of, if_in_range}
+use Rattle.reply_text.specs.ReplyValues.{pair_from}
+use Rattle.reply_text.proofs.RoundTrip.{reading_spells}
+use Rattle.journal_check.specs.declared.findings.Finding.{Finding}
+use Rattle.journal_check.specs.declared.findings.Finding.TheVariants.{Plain, Cleared, Faulty}
+use Rattle.journal_check.specs.Findings.{finding_of, read_finding, reply_finding, cleared_finding, no_reason}
+use Rattle.journal_check.specs.Laws.{IsSoundLine, IsClearedLine, HasReason}
+
+abbrev pub FindingSays : List ℕ → Finding → Type 0
+FindingSays text (Faulty reason) = HasReason text reason
+FindingSays text (Cleared optimal) = IsSoundLine text
+FindingSays text Plain = IsSoundLine text
+
+-- ---- no line reads as want of memory
+
+abbrev is_memory : LineRead → Bool
+is_memory (Ok pair) = false
+is_memory (Err fault.NotJson) = false
+is_memory (Err fault.Shape) = false
+is_memory (Err fault.Number) = false
+is_memory (Err fault.Range) = false
+is_memory (Err fault.Spelling) = false
+is_memory (Err fault.Memory) = true
+
+spelled : (pair : ℕ × Reply) (b : Bool) → is_memory (if b then Ok pair else Err fault.Spelling) ≡ false
+spelled pair true = refl
+spelled pair false = refl
+
+in_range : (text : List ℕ) (taken : Option (ℕ × Reply)) → is_memory (if_in_range text taken) ≡ false
+in_range text None = refl
+in_range text (Some pair) = spelled pair (bytes_eq (reply_line pair.0 pair.1) text)
+
+tested : (read : LineRead) (shape numbers : Bool) → is_memory read ≡ false → is_memory (if shape then (if numbers then read else Err fault.Number) else Err fault.Shape) ≡ false
+tested read true true h = h
+tested read true false h = refl
+tested read false numbers h = refl
+
+json : (text : List ℕ) (value : Option Data) → is_memory (if_json text value) ≡ false
+json text None = refl
+json text (Some d) = tested (if_in_range text (pair_from d)) (has_shape d) (has_numbers d) (in_range text (pair_from d))
+
+never_memory : (text : List ℕ) → reading text ≡ Err fault.Memory → ⊥
+never_memory text e = true≢false (sym (ap is_memory e) ∙ json text (json_of text))
+
+-- ---- what is found
+
+cleared_line : {P : Batch → Outcome → Type 0} (text : List ℕ) (line number market : ℕ) (batch : Batch) (outcome : Outcome)
+    → IsLineOf text line (ClearedReply number market batch outcome) → P batch outcome → IsClearedLine text P
+cleared_line text line number market batch outcome h has =
+    record { line = line; number = number; market = market; batch = batch; outcome = outcome; is_line = h; has = has }
+
+unmet : (text : List ℕ) (line number market : ℕ) (batch : Batch) (outcome : Outcome) (condition : No) → IsLineOf text line (ClearedReply number market batch outcome)
+    → IsFirstUnmet batch outcome condition → HasReason text (no_reason condition)
+unmet text line number market batch outcome no.BatchShape h f = cleared_line text line number market batch outcome h f
+unmet text line number market batch outcome no.Fill h f = cleared_line text line number market batch outcome h f
+unmet text line number market batch outcome no.Cover h f = cleared_line text line number market batch outcome h f
+unmet text line number market batch outcome no.Measure h f = cleared_line text line number market batch outcome h f
+unmet text line number market batch outcome no.Bound h f = cleared_line text line number market batch outcome h f
+
+judged : (text : List ℕ) (line number market : ℕ) (batch : Batch) (outcome : Outcome) (j : Judgement) → IsLineOf text line (ClearedReply number market batch outcome)
+    → verdict_of limit batch outcome ≡ j → FindingSays text (cleared_finding j outcome.mark)
+judged text line number market batch outcome judgement.Yes h e = record {
+  line = line;
+  reply = ClearedReply number market batch outcome;
+  is_line = h;
+  certified = record { covered = yes_covers batch outcome e; proved = yes_on_optimal_proves batch outcome e };
+}
+judged text line number market batch outcome (judgement.No condition) h e =
+    unmet text line number market batch outcome condition h (said batch outcome (judgement.No condition) e).1
+judged text line number market batch outcome (judgement.Wide w) h e = cleared_line text line number market batch outcome h (w, e)
+
+sound : (text : List ℕ) (line : ℕ) (r : Reply) → IsLineOf text line r → FindingSays text (reply_finding r)
+sound text line (Opened account) h = record { line = line; reply = Opened account; is_line = h; certified = tt }
+sound text line (Deposited account balance) h = record { line = line; reply = Deposited account balance; is_line = h; certified = tt }
+sound text line (Withdrawn account balance) h = record { line = line; reply = Withdrawn account balance; is_line = h; certified = tt }
+sound text line (Listed market underlyings) h = record { line = line; reply = Listed market underlyings; is_line = h; certified = tt }
+sound text line (Placed order) h = record { line = line; reply = Placed order; is_line = h; certified = tt }
+sound text line (Cancelled order) h = record { line = line; reply = Cancelled order; is_line = h; certified = tt }
+sound text line (ClearedReply number market batch outcome) h = judged text line number market batch outcome (verdict_of limit batch outcome) h refl
+sound text line (Settled market lapsed payouts) h = record { line = line; reply = Settled market lapsed payouts; is_line = h; certified = tt }
+sound text line (Balance account balance reserved) h = record { line = line; reply = Balance account balance reserved; is_line = h; certified = tt }
+sound text line (Refused number field) h = record { line = line; reply = Refused number field; is_line = h; certified = tt }
+
+found : (text : List ℕ) (read : LineRead) → reading text ≡ read → FindingSays text (read_finding read)
+found text (Ok pair) e = sound text pair.0 pair.1 (reading_spells text pair.0 pair.1 e)
+found text (Err fault.NotJson) e = e
+found text (Err fault.Shape) e = e
+found text (Err fault.Number) e = e
+found text (Err fault.Range) e = e
+found text (Err fault.Spelling) e = e
+found text (Err fault.Memory) e = absurd (never_memory text e)
+
+pub line_says : (text : List ℕ) → FindingSays text (finding_of text)
+line_says text = found text (reading text) refl

@@ -1,0 +1,101 @@
+-- What a report on a journal says.
+use Rattle.std.specs.Prelude.{ℕ, ◌≡◌, ◌≤◌, ◌-◌, List, [], ◌∷◌, ◌++◌, length, map, take, get_or, Err, None}
+use Rattle.std.specs.List.{All}
+use Rattle.frac.specs.Range.{limit}
+use Rattle.form.specs.declared.orders.Batch.{Batch}
+use Rattle.exact_num.specs.declared.misfit.Wide.{Wide as Misfit}
+use Rattle.cert_check.specs.declared.outcome.No.{No}
+use Rattle.cert_check.specs.declared.outcome.No.TheVariants as no
+use Rattle.cert_check.specs.declared.outcome.Judgement.TheVariants as judgement
+use Rattle.cert_check.specs.declared.outcome.Outcome.{Outcome}
+use Rattle.cert_check.specs.Conditions.{IfOptimal, IsFirstUnmet}
+use Rattle.cert_check.specs.Events.{verdict_of}
+use Rattle.cert_check.specs.Laws.{IsCovered, IsProved}
+use Rattle.reply_print.specs.declared.replies.Reply.{Reply}
+use Rattle.reply_print.specs.declared.replies.Reply.TheVariants as reply
+use Rattle.reply_text.specs.declared.faults.LineFault.TheVariants as fault
+use Rattle.reply_text.specs.Reading.{reading, IsLineOf}
+use Rattle.journal_check.specs.declared.reports.Reason.{Reason}
+use Rattle.journal_check.specs.declared.reports.Reason.TheVariants.{NotJson, Shape, Number, Range, Spelling, BatchShape, Fill, Cover, Measure, Bound, Wide}
+use Rattle.journal_check.specs.declared.reports.Report.{Report}
+use Rattle.journal_check.specs.declared.reports.Report.TheVariants.{Sound, Faulty}
+use Rattle.journal_check.specs.JournalLines.{lines_of}
+use Rattle.reply_print.specs.ReplyPieces.{reply_line}
+use Rattle.reply_print.specs.Within.{IsWithin}
+use Rattle.journal_check.specs.Findings.{fault_in, reply_finding}
+use Rattle.journal_check.specs.Reports.{counted, report_of}
+
+-- the fills cover the claimed surplus, and with the mark optimal no fills cover more
+pub record IsCertified (batch : Batch) (outcome : Outcome) : Type 0 where
+  pub covered : IsCovered batch outcome
+  pub proved : IfOptimal outcome.mark (λ cover measure. IsProved batch outcome)
+
+abbrev pub IfCleared : Reply → (Batch → Outcome → Type 0) → Type 0
+IfCleared (reply.Cleared number market batch outcome) P = P batch outcome
+IfCleared other P = Unit {0}
+
+-- the line of a reply within its ranges, which is certified if it is a cleared batch
+pub record IsSoundLine (text : List ℕ) : Type 0 where
+  pub line : ℕ
+  pub reply : Reply
+  pub is_line : IsLineOf text line reply
+  pub certified : IfCleared reply IsCertified
+
+-- the line of a cleared batch and an outcome of which something holds
+pub record IsClearedLine (text : List ℕ) (P : Batch → Outcome → Type 0) : Type 0 where
+  pub line : ℕ
+  pub number : ℕ
+  pub market : ℕ
+  pub batch : Batch
+  pub outcome : Outcome
+  pub is_line : IsLineOf text line (reply.Cleared number market batch outcome)
+  pub has : P batch outcome
+
+-- the first condition that is not met is this one
+abbrev pub IsUnmet : List ℕ → No → Type 0
+IsUnmet text condition = IsClearedLine text (λ batch outcome. IsFirstUnmet batch outcome condition)
+
+-- the line fails the test first
+abbrev pub HasReason : List ℕ → Reason → Type 0
+HasReason text NotJson = reading text ≡ Err fault.NotJson
+HasReason text Shape = reading text ≡ Err fault.Shape
+HasReason text Number = reading text ≡ Err fault.Number
+HasReason text Range = reading text ≡ Err fault.Range
+HasReason text Spelling = reading text ≡ Err fault.Spelling
+HasReason text BatchShape = IsUnmet text no.BatchShape
+HasReason text Fill = IsUnmet text no.Fill
+HasReason text Cover = IsUnmet text no.Cover
+HasReason text Measure = IsUnmet text no.Measure
+HasReason text Bound = IsUnmet text no.Bound
+HasReason text Wide = IsClearedLine text (λ batch outcome. (w : Misfit) × (verdict_of limit batch outcome ≡ judgement.Wide w))
+
+-- the line of this number, counted from 1, fails the test, and those before it are sound
+pub record IsFirstFault (texts : List (List ℕ)) (line : ℕ) (reason : Reason) : Type 0 where
+  pub some : 1 ≤ line
+  pub within : line ≤ length texts
+  pub before : All IsSoundLine (take (line - 1) texts)
+  pub fails : HasReason (get_or texts (line - 1) []) reason
+
+abbrev pub Says : List (List ℕ) → Report → Type 0
+Says texts (Sound batches lines optimal) = All IsSoundLine texts
+Says texts (Faulty line reason) = IsFirstFault texts line reason
+
+-- where a report names no line all are sound, and else the line that it names is the first that is not
+abbrev pub ReportsSay : Type 0
+ReportsSay = (bytes : List ℕ) → Says (lines_of bytes) (report_of bytes)
+
+-- a line and a reply within their ranges, which is no fault
+pub record IsSoundReply (pair : ℕ × Reply) : Type 0 where
+  pub within : IsWithin pair.0 pair.1
+  pub sound : fault_in (reply_finding pair.1) ≡ None
+
+-- the lines of replies, each with its line feed
+abbrev pub journal_of : List (ℕ × Reply) → List ℕ
+journal_of [] = []
+journal_of (pair ∷ pairs) = reply_line pair.0 pair.1 ++ 10 ∷ journal_of pairs
+
+-- a journal of sound replies is sound, and the report has their counts
+abbrev pub JournalsAreCounted : Type 0
+JournalsAreCounted =
+    (pairs : List (ℕ × Reply)) → All IsSoundReply pairs
+    → report_of (journal_of pairs) ≡ counted (map (λ pair. reply_finding pair.1) pairs)

@@ -1,0 +1,4 @@
+pub mod JournalLines
+pub mod Findings
+pub mod Reports
+pub mod Laws

@@ -1,0 +1,45 @@
+// The call over the lines.
+ghost use Rattle.std.specs.Prelude.{◌≡◌, IfOk};
+ghost use Rattle.journal_check.specs.JournalLines.{lines_of};
+ghost use Rattle.journal_check.specs.Laws.{Says};
+ghost use Rattle.journal_check.specs.Reports.{report_of};
+
+use crate::Report;
+use crate::findings::{Finding, found_in};
+use crate::journal_lines::cut_line;
+use std::alloc::{AllocError, Global};
+
+/// The report on a journal: the first line that is no sound reply and why, or else how many lines
+/// there are. Each line ends with a line feed, which the last may lack; what stands behind the last
+/// line feed is a line unless it is empty. A line is sound where it reads as a reply and, if that is
+/// a cleared batch, the verdict on it is yes. An error is want of memory.
+pub fn check_journal(alloc: Global, bytes: &[u8]) -> Result<Report, AllocError>
+    ensures report { IfOk result (λ r. r ≡ report_of bytes.now) }
+    ensures says { IfOk result (Says (lines_of bytes.now)) }
+{
+    let mut batches = 0;
+    let mut lines = 0;
+    let mut optimal = 0;
+    let mut rest = bytes;
+    while !rest.is_empty() {
+        let cut = cut_line(rest);
+        rest = cut.rest;
+        lines += 1;
+        match found_in(alloc, cut.line)? {
+            Finding::Faulty(reason) => {
+                let line = lines;
+                return Ok(Report::Faulty { line, reason });
+            }
+            Finding::Cleared { optimal: marked } => {
+                batches += 1;
+                optimal += u64::from(marked);
+            }
+            Finding::Plain => {}
+        }
+    }
+    Ok(Report::Sound {
+        batches,
+        lines,
+        optimal,
+    })
+}

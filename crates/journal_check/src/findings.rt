@@ -1,0 +1,115 @@
+// What is found of one line.
+ghost use Rattle.std.specs.Prelude.{◌≡◌, ◌≢◌, ◌≤◌, IfOk, length};
+ghost use Rattle.journal_check.specs.Findings.{cleared_finding as cleared_is, fault_finding as fault_is, finding_of, is_marked as is_marked_by, no_reason as reason_is, reply_finding as reply_is};
+ghost use Rattle.reply_print.specs.Within.{IsBatchWithin, IsReplyWithin};
+ghost use Rattle.frac.specs.Range.{limit};
+ghost use Rattle.cert_check.specs.Events.{verdict_of};
+ghost use Rattle.sign_tree.specs.Legs.{leg_count};
+
+use crate::Reason;
+use cert_check::{Judgement, Mark, No, Outcome, verdict};
+use form::{Batch, Order};
+use reply_text::{LineFault, Reply, read_line};
+use std::alloc::{AllocError, Global};
+
+// What a line is found to be.
+#[derive(Clone, Copy)]
+pub(crate) enum Finding {
+    // A sound reply on no batch.
+    Plain,
+    // A cleared batch whose verdict is yes, and whether it is marked optimal.
+    Cleared { optimal: bool },
+    // No sound reply.
+    Faulty(Reason),
+}
+
+fn no_reason(no: No) -> Reason
+    ensures { result ≡ reason_is no }
+{
+    match no {
+        No::BatchShape => Reason::BatchShape,
+        No::Fill => Reason::Fill,
+        No::Cover => Reason::Cover,
+        No::Measure => Reason::Measure,
+        No::Bound => Reason::Bound,
+    }
+}
+
+fn is_marked(mark: &Mark) -> bool
+    ensures { result ≡ is_marked_by mark.now }
+{
+    match mark {
+        Mark::Optimal { .. } => true,
+        Mark::Wide(_) | Mark::Budget => false,
+    }
+}
+
+fn judged(judgement: Judgement, mark: &Mark) -> Finding
+    ensures { result ≡ cleared_is judgement mark.now }
+{
+    match judgement {
+        Judgement::Yes => Finding::Cleared {
+            optimal: is_marked(mark),
+        },
+        Judgement::No(no) => Finding::Faulty(no_reason(no)),
+        Judgement::Wide(_) => Finding::Faulty(Reason::Wide),
+    }
+}
+
+// How many legs the orders of a batch have.
+fn leg_count(orders: &[Order]) -> usize
+    requires { length orders.now ≤ 256 }
+    ensures count { result ≡ leg_count orders.now }
+    ensures few { result ≤ 1024 }
+{
+    let mut count = 0;
+    for order in orders {
+        count += usize::from(order.bundle.size);
+    }
+    count
+}
+
+// Judges a cleared batch by the verdict.
+fn cleared_finding(alloc: Global, batch: &Batch, outcome: &Outcome) -> Result<Finding, AllocError>
+    requires { IsBatchWithin batch.now }
+    ensures { IfOk result (λ f. f
+        ≡ cleared_is (verdict_of limit batch.now outcome.now) outcome.now.mark) }
+{
+    let mut signs = vec![in alloc; 0; leg_count(batch.orders.as_slice())]?;
+    Ok(judged(verdict(batch, outcome, &mut signs), &outcome.mark))
+}
+
+fn reply_finding(alloc: Global, reply: &Reply) -> Result<Finding, AllocError>
+    requires { IsReplyWithin reply.now }
+    ensures { IfOk result (λ f. f ≡ reply_is reply.now) }
+{
+    match reply {
+        Reply::Cleared { batch, outcome, .. } => cleared_finding(alloc, batch, outcome),
+        _ => Ok(Finding::Plain),
+    }
+}
+
+// A line that fails a test of reading, if it is not memory that is wanting.
+fn fault_finding(fault: LineFault) -> Result<Finding, AllocError>
+    ensures value { IfOk result (λ f. f ≡ fault_is fault) }
+    ensures no_memory { IfOk result (λ f. fault ≢ LineFault.Memory) }
+{
+    match fault {
+        LineFault::NotJson => Ok(Finding::Faulty(Reason::NotJson)),
+        LineFault::Shape => Ok(Finding::Faulty(Reason::Shape)),
+        LineFault::Number => Ok(Finding::Faulty(Reason::Number)),
+        LineFault::Range => Ok(Finding::Faulty(Reason::Range)),
+        LineFault::Spelling => Ok(Finding::Faulty(Reason::Spelling)),
+        LineFault::Memory => Err(AllocError),
+    }
+}
+
+// What a line is found to be.
+pub(crate) fn found_in(alloc: Global, line: &[u8]) -> Result<Finding, AllocError>
+    ensures { IfOk result (λ f. f ≡ finding_of line.now) }
+{
+    match read_line(alloc, line) {
+        Ok((_, reply)) => reply_finding(alloc, &reply),
+        Err(fault) => fault_finding(fault),
+    }
+}
