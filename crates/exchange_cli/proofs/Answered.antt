@@ -1,54 +1,61 @@
 -- The output of a run is the text of its answers, and each of them keeps what is promised.
-use Rattle.std.proofs.Common.{◌≡◌, ℕ, ◌+◌, List, [], ◌∷◌, ◌++◌, Option, IfOk, map, Result, Ok, Err, All, refl, ap, arith}
+use Rattle.std.proofs.Common.{◌≡◌, ℕ, ◌+◌, List, [], ◌∷◌, ◌++◌, Option, All, refl, ap, arith}
 use Rattle.std.proofs.KnownBytes.{Appends-nil}
-use Rattle.std.proofs.lemmas.List.Elements.{All-nil, All-cons}
-use Rattle.exchange_core.specs.declared.command.Command.{Command}
-use Rattle.exchange_core.specs.declared.refusal.Refusal.{Refusal}
-use Rattle.exchange_core.specs.declared.reply.Reply.{Reply}
+use Rattle.std.proofs.lemmas.List.Elements.{All-nil, All-cons, All-head, All-tail}
 use Rattle.cert_check.specs.declared.outcome.Outcome.{Outcome}
 use Rattle.cert_check.specs.Laws.{IsCovered}
-use Rattle.form.specs.declared.orders.Batch.{Batch}
+use Rattle.command_text.specs.declared.command.Body.{Body}
+use Rattle.command_text.specs.declared.command.Body.TheVariants.{Command, Syntax, Range}
+use Rattle.command_text.specs.declared.command.Line.{Line}
+use Rattle.command_text.specs.Lines.{commands_in}
+use Rattle.command_text.specs.Within.{BodyIsWithin, IsLineWithin}
+use Rattle.command_text.proofs.ReadWithin.{inputs_are_within}
+use Rattle.exchange_core.specs.declared.reply.Reply.{Reply}
 use Rattle.exchange_core.specs.Covered.{IfCleared, OfEachCleared, IsProvedGreatest}
 use Rattle.exchange_core.specs.ExchangeState.{ExchangeState, empty_exchange}
 use Rattle.exchange_core.specs.Kept.{IsKept}
-use Rattle.exchange_core.specs.Within.{IsWithin}
 use Rattle.exchange_core.proofs.Covered.{step_is_covered, step_is_optimal, step_is_marked}
 use Rattle.exchange_core.proofs.Keeping.{empty_is_kept, step_keeps}
-use Rattle.exchange_cli.specs.Commands.{command_of}
-use Rattle.exchange_cli.specs.Lines.{lines_of, without_return}
-use Rattle.exchange_cli.specs.Output.{reply_to, line_output, output_from, output}
-use Rattle.exchange_cli.specs.Promises.{IsCoveredIn, IsGreatestIn, IsMarkedIn, KeepsPromises, TellAnswers, WroteFront, OutputIsAnswers, OfEachAnswer}
-use Rattle.exchange_cli.specs.Replies.{Answer, answer_to, answers_from, answers_text, answers}
+use Rattle.form.specs.declared.orders.Batch.{Batch}
+use Rattle.exchange_cli.specs.Output.{reply_to, output_from, output}
+use Rattle.exchange_cli.specs.Promises.{IsCoveredIn, IsGreatestIn, IsMarkedIn, TellAnswers, WroteFront, OutputIsAnswers, OfEachAnswer}
+use Rattle.exchange_cli.specs.Replies.{Answer, IsMarkedAs, answer_to, answers_from, answers_text, answers}
 use Rattle.exchange_cli.specs.Texts.{reply_text}
-use Rattle.exchange_cli.proofs.Within.{command_within}
 
 -- what is kept of an exchange is kept by each line
-answer_keeps : (state : ExchangeState) (said : Result Command Refusal) → IsKept state → IfOk said IsWithin → IsKept (reply_to state said).1
-answer_keeps state (Ok command) kept within = step_keeps state command kept within
-answer_keeps state (Err refusal) kept within = kept
+answer_keeps : (state : ExchangeState) (said : Body) → IsKept state → BodyIsWithin said → IsKept (reply_to state said).1
+answer_keeps state (Command command) kept within = step_keeps state command kept within
+answer_keeps state Syntax kept within = kept
+answer_keeps state (Range field) kept within = kept
 
 -- what holds of the answer to each line, in each state that an exchange may be in, holds of all
-module _ (Q : Answer → Type 0) (each : (number : ℕ) (state : ExchangeState) (said : Result Command Refusal) → IsKept state → Q (answer_to number state said)) where
-  lines_have : (number : ℕ) (state : ExchangeState) (lines : List (List ℕ)) → IsKept state → All Q (answers_from number state lines)
-  lines_have number state [] kept = All-nil Q
-  lines_have number state ([] ∷ lines) kept = lines_have (number + 1) state lines kept
-  lines_have number state ((b ∷ bs) ∷ lines) kept =
-      let said : Result Command Refusal = command_of (b ∷ bs) in
-      let after : ExchangeState = (reply_to state said).1 in
-      All-cons Q (answer_to number state said) (answers_from (number + 1) after lines) (each number state said kept)
-      (lines_have (number + 1) after lines (answer_keeps state said kept (command_within (b ∷ bs))))
+module _ (Q : Answer → Type 0) (each : (state : ExchangeState) (line : Line) → IsKept state → Q (answer_to state line)) where
+  lines_have : (state : ExchangeState) (lines : List Line) → IsKept state → All IsLineWithin lines → All Q (answers_from state lines)
+  lines_have state [] kept within = All-nil Q
+  lines_have state (line ∷ lines) kept within =
+      let after : ExchangeState = (reply_to state line.body).1 in
+      All-cons Q (answer_to state line) (answers_from after lines) (each state line kept)
+      (lines_have after lines (answer_keeps state line.body kept (All-head IsLineWithin line lines within)) (All-tail IsLineWithin line lines within))
 
   answers_have : (input : List ℕ) → All Q (answers input)
-  answers_have input = lines_have 1 empty_exchange (map without_return (lines_of input)) empty_is_kept
+  answers_have input = lines_have empty_exchange (commands_in input) empty_is_kept (inputs_are_within input)
 
 -- a refusal clears nothing
-batch_has : (P : Batch → Outcome → Type 0) → OfEachCleared P → (number : ℕ) (state : ExchangeState) (said : Result Command Refusal) → IsKept state → IfCleared P (answer_to number state said).reply
-batch_has P each number state (Ok command) kept = each state command kept
-batch_has P each number state (Err refusal) kept = tt
+reply_has : (P : Batch → Outcome → Type 0) → OfEachCleared P → (state : ExchangeState) (said : Body) → IsKept state → IfCleared P (reply_to state said).0
+reply_has P each state (Command command) kept = each state command kept
+reply_has P each state Syntax kept = tt
+reply_has P each state (Range field) kept = tt
 
-answer_marked : (number : ℕ) (state : ExchangeState) (said : Result Command Refusal) → IsKept state → IsMarkedIn (answer_to number state said)
-answer_marked number state (Ok command) kept = step_is_marked state command
-answer_marked number state (Err refusal) kept = tt
+batch_has : (P : Batch → Outcome → Type 0) → OfEachCleared P → (state : ExchangeState) (line : Line) → IsKept state → IfCleared P (answer_to state line).reply
+batch_has P each state line kept = reply_has P each state line.body kept
+
+reply_marked : (state : ExchangeState) (said : Body) → IsMarkedAs said (reply_to state said).0
+reply_marked state (Command command) = step_is_marked state command
+reply_marked state Syntax = tt
+reply_marked state (Range field) = tt
+
+answer_marked : (state : ExchangeState) (line : Line) → IsKept state → IsMarkedIn (answer_to state line)
+answer_marked state line kept = reply_marked state line.body
 
 pub answers_are_covered : OfEachAnswer IsCoveredIn
 answers_are_covered = answers_have IsCoveredIn (batch_has IsCovered step_is_covered)
@@ -59,21 +66,14 @@ optimal_is_greatest = answers_have IsGreatestIn (batch_has IsProvedGreatest step
 pub answers_are_marked : OfEachAnswer IsMarkedIn
 answers_are_marked = answers_have IsMarkedIn answer_marked
 
--- a line more, which is stripped already
-line_more : (number : ℕ) (state : ExchangeState) (line : List ℕ) (lines : List (List ℕ))
-    → ((n : ℕ) (s : ExchangeState) → output_from n s lines ≡ answers_text (answers_from n s (map without_return lines)))
-    → (line_output number state line).0 ++ output_from (number + 1) (line_output number state line).1 lines ≡ answers_text (answers_from number state (line ∷ map without_return lines))
-line_more number state [] lines later = later (number + 1) state
-line_more number state (b ∷ bs) lines later =
-    let now : Reply × ExchangeState = reply_to state (command_of (b ∷ bs)) in
-    ap (λ l. (reply_text number now.0 ++ 10 ∷ []) ++ l) (later (number + 1) now.1)
-
-lines_are_written : (lines : List (List ℕ)) (number : ℕ) (state : ExchangeState) → output_from number state lines ≡ answers_text (answers_from number state (map without_return lines))
-lines_are_written [] number state = refl
-lines_are_written (line ∷ lines) number state = line_more number state (without_return line) lines (lines_are_written lines)
+lines_are_written : (lines : List Line) (state : ExchangeState) → output_from state lines ≡ answers_text (answers_from state lines)
+lines_are_written [] state = refl
+lines_are_written (line ∷ lines) state =
+    let now : Reply × ExchangeState = reply_to state line.body in
+    ap (λ l. (reply_text line.number now.0 ++ 10 ∷ []) ++ l) (lines_are_written lines now.1)
 
 pub output_is_answers : OutputIsAnswers
-output_is_answers input = lines_are_written (lines_of input) 1 empty_exchange
+output_is_answers input = lines_are_written (commands_in input) empty_exchange
 
 -- what is written for an input keeps what is promised
 pub output_tells : (input : List ℕ) → TellAnswers (output input)

@@ -1,11 +1,7 @@
-pub mod Commands
-pub mod Lines
-pub mod Numbers
 pub mod Output
 pub mod Progress
 pub mod Promises
 pub mod Replies
 pub mod Status
 pub mod Texts
-pub mod Trades
 pub mod Words

@@ -1,11 +1,15 @@
 -- The text of a reply: a compact JSON object, keys in byte order.
-use Rattle.std.specs.Prelude.{ℕ, ℤ, List, [], ◌∷◌, ◌++◌, map, fold, codes, decimal, ◌==◌, if◌then◌else◌}
+use Rattle.std.specs.Prelude.{ℕ, ℤ, pos, Bool, false, List, [], ◌∷◌, ◌++◌, map, fold, codes, decimal, ◌==◌, if◌then◌else◌}
 use Rattle.std.specs.Fmt.{signed_decimal}
+use Rattle.std.specs.List.{list_all}
+use Rattle.std.specs.Ordering.{int_eq}
 use Rattle.form.specs.declared.orders.Batch.{Batch}
 use Rattle.form.specs.declared.orders.Order.{Order}
 use Rattle.form.specs.declared.orders.Side.{Side}
 use Rattle.form.specs.declared.orders.Side.TheVariants.{Buy, Sell}
-use Rattle.form.specs.Payoff.{option_of}
+use Rattle.form.specs.declared.bundles.Bundle.{Bundle}
+use Rattle.form.specs.declared.legs.Leg.{Leg}
+use Rattle.form.specs.Payoff.{first_option, legs_in, option_of}
 use Rattle.exact_num.specs.Fraction.{Fraction}
 use Rattle.frac.specs.declared.frac128.Frac128.{Frac128}
 use Rattle.frac.specs.Value.{fraction_of}
@@ -25,6 +29,7 @@ reason_text number =
     else if number == 5 then codes "MarketExists"
     else if number == 6 then codes "Settled"
     else if number == 7 then codes "WeightCount"
+    else if number == 8 then codes "Range"
     else if number == 9 then codes "Funds"
     else if number == 10 then codes "BookFull"
     else if number == 11 then codes "NoOrder"
@@ -82,21 +87,49 @@ side_text Sell = codes "sell"
 abbrev pub option_text : List ℤ → List ℕ
 option_text option = with_commas (map signed_decimal option)
 
+-- ---- what an order is for
+abbrev pub is_single : List Leg → Bool
+is_single (leg ∷ []) = int_eq leg.count (pos 1)
+is_single legs = false
+
+-- one option that counts once
+abbrev pub is_one_option : Bundle → Bool
+is_one_option bundle = is_single (legs_in bundle)
+
+abbrev pub are_options : List Order → Bool
+are_options orders = list_all (λ (order : Order). is_one_option order.bundle) orders
+
+-- a line of the first version has such orders alone
+abbrev pub version_of : List Order → ℕ
+version_of orders = if are_options orders then 1 else 2
+
+abbrev pub leg_text : Leg → List ℕ
+leg_text leg = codes "{\"count\":" ++ (signed_decimal leg.count ++ (codes ",\"form\":[" ++ (option_text (option_of leg.form) ++ codes "]}")))
+
+abbrev pub legs_text : List Leg → List ℕ
+legs_text legs = with_commas (map leg_text legs)
+
+-- the option in a line of the first version, and else each leg
+abbrev pub bundle_text : ℕ → Bundle → List ℕ
+bundle_text version bundle =
+    if version == 1 then codes "\"form\":[" ++ (option_text (first_option bundle) ++ codes "]")
+    else codes "\"legs\":[" ++ (legs_text (legs_in bundle) ++ codes "]")
+
 -- an order up to its number
-abbrev pub order_head : Order → List ℕ
-order_head order =
-    codes "{\"account\":" ++ (decimal order.account ++ (codes ",\"form\":[" ++ (option_text (option_of order.form) ++ (codes "],\"order\":" ++ decimal order.id))))
+abbrev pub order_head : ℕ → Order → List ℕ
+order_head version order =
+    codes "{\"account\":" ++ (decimal order.account ++ (codes "," ++ (bundle_text version order.bundle ++ (codes ",\"order\":" ++ decimal order.id))))
 
 -- what an order asks and which way
 abbrev pub order_tail : Order → List ℕ
 order_tail order =
     codes ",\"price\":" ++ (decimal order.price ++ (codes ",\"quantity\":" ++ (decimal order.quantity ++ (codes ",\"side\":\"" ++ (side_text order.side ++ codes "\"}")))))
 
-abbrev pub order_text : Order → List ℕ
-order_text order = order_head order ++ order_tail order
+abbrev pub order_text : ℕ → Order → List ℕ
+order_text version order = order_head version order ++ order_tail order
 
-abbrev pub orders_text : List Order → List ℕ
-orders_text orders = with_commas (map order_text orders)
+abbrev pub orders_text : ℕ → List Order → List ℕ
+orders_text version orders = with_commas (map (order_text version) orders)
 
 -- whether the surplus is proved the greatest, or what the run stopped at
 abbrev pub mark_text : Mark → List ℕ
@@ -115,21 +148,26 @@ cleared_by line market outcome =
     ++ (codes ",\"mark\":\"" ++ (mark_text outcome.mark ++ (codes "\",\"market\":" ++ decimal market))))))
 
 abbrev pub book_text : List Order → List ℕ
-book_text orders = codes ",\"orders\":[" ++ (orders_text orders ++ codes "],\"reply\":\"cleared\"")
+book_text orders = codes ",\"orders\":[" ++ (orders_text (version_of orders) orders ++ codes "],\"reply\":\"cleared\"")
 
 -- what is left to the house at every settlement, and the work of the run
-abbrev pub cleared_tail : ℕ → Outcome → List ℕ
-cleared_tail underlyings outcome =
+abbrev pub cleared_tail : ℕ → ℕ → Outcome → List ℕ
+cleared_tail version underlyings outcome =
     codes ",\"surplus\":\"" ++ (fraction_text (fraction_of outcome.claim.surplus) ++ (codes "\",\"underlyings\":" ++ (decimal underlyings
-    ++ (codes ",\"units\":" ++ (decimal outcome.units ++ codes ",\"version\":1}")))))
+    ++ (codes ",\"units\":" ++ (decimal outcome.units ++ (codes ",\"version\":" ++ (decimal version ++ codes "}")))))))
 
 abbrev pub cleared_text : ℕ → ℕ → ℕ → Batch → Outcome → List ℕ
 cleared_text line number market batch outcome =
-    ((cleared_head number outcome.fills ++ cleared_by line market outcome) ++ book_text batch.orders) ++ cleared_tail batch.underlyings outcome
+    ((cleared_head number outcome.fills ++ cleared_by line market outcome) ++ book_text batch.orders) ++ cleared_tail (version_of batch.orders) batch.underlyings outcome
 
-abbrev pub refused_text : ℕ → ℕ → List ℕ
-refused_text line number =
-    codes "{\"line\":" ++ (decimal line ++ (codes ",\"number\":" ++ (decimal number ++ (codes ",\"reason\":\"" ++ (reason_text number ++ codes "\",\"reply\":\"refused\"}")))))
+-- a refusal behind the brace, or behind the field that is out of its range
+abbrev pub refusal_text : ℕ → ℕ → List ℕ
+refusal_text line number =
+    codes "\"line\":" ++ (decimal line ++ (codes ",\"number\":" ++ (decimal number ++ (codes ",\"reason\":\"" ++ (reason_text number ++ codes "\",\"reply\":\"refused\"}")))))
+
+abbrev pub refused_text : ℕ → ℕ → ℕ → List ℕ
+refused_text line number field =
+    if number == 8 then codes "{\"field\":" ++ (decimal field ++ (codes "," ++ refusal_text line number)) else codes "{" ++ refusal_text line number
 
 -- the reply line of a command line, without its line feed
 abbrev pub reply_text : ℕ → Reply → List ℕ
@@ -141,4 +179,4 @@ reply_text line (Placed order) = ordered_text (codes "placed") line order
 reply_text line (Cancelled order) = ordered_text (codes "cancelled") line order
 reply_text line (Cleared number market batch outcome) = cleared_text line number market batch outcome
 reply_text line (Balance account balance reserved) = balance_text line account balance reserved
-reply_text line (Refused number field) = refused_text line number
+reply_text line (Refused number field) = refused_text line number field

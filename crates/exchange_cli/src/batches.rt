@@ -3,11 +3,11 @@ ghost use Rattle.std.specs.Prelude.{◌≡◌, map, fold, IfOk, OnOk, string_byt
 ghost use Rattle.std.specs.Fmt.{signed_decimal};
 ghost use Rattle.form.specs.Payoff.{option_of};
 ghost use Rattle.frac.specs.Value.{fraction_of};
-ghost use Rattle.exchange_cli.specs.Texts.{with_piece, with_commas, fraction_text, fill_text, fills_text, side_text, option_text, order_head, order_tail, order_text, orders_text, book_text, mark_text, cleared_head, cleared_by, cleared_tail, cleared_text};
+ghost use Rattle.exchange_cli.specs.Texts.{with_piece, with_commas, fraction_text, fill_text, fills_text, side_text, option_text, is_one_option, are_options, version_of, leg_text, legs_text, bundle_text, order_head, order_tail, order_text, orders_text, book_text, mark_text, cleared_head, cleared_by, cleared_tail, cleared_text};
 
 use cert_check::{Mark, Outcome};
 use exact_num::Exact;
-use form::{Batch, Form, Order, Side};
+use form::{Batch, Bundle, Form, Leg, Order, Side};
 use frac::Frac128;
 use std::alloc::{AllocError, Global};
 
@@ -76,14 +76,70 @@ fn print_option(alloc: Global, form: &Form) -> Result<String, AllocError>
     print_entries(alloc, &form.entries[..form.count as usize])
 }
 
-fn print_order_head(alloc: Global, order: &Order) -> Result<String, AllocError>
-    ensures { IfOk result (λ text. string_bytes text ≡ order_head order.now) }
+// Whether a bundle is one option that counts once.
+fn is_one_option(bundle: &Bundle) -> bool
+    ensures { result ≡ is_one_option bundle.now }
 {
-    let option = print_option(alloc, &order.form)?;
+    if let [leg] = bundle.as_slice() {
+        return leg.count == 1;
+    }
+    false
+}
+
+// Whether each order is for one such option.
+fn are_options(orders: &[Order]) -> bool
+    ensures { result ≡ are_options orders.now }
+{
+    orders.iter().all(|order| is_one_option(&order.bundle))
+}
+
+// The version of the line that has these orders.
+fn version(orders: &[Order]) -> u8
+    ensures { result ≡ version_of orders.now }
+{
+    if are_options(orders) { 1 } else { 2 }
+}
+
+fn print_leg(alloc: Global, leg: &Leg) -> Result<String, AllocError>
+    ensures { IfOk result (λ text. string_bytes text ≡ leg_text leg.now) }
+{
+    let option = print_option(alloc, &leg.form)?;
     let option = option.as_str();
+    let count = leg.count;
+    format!(in alloc; "{{\"count\":{count},\"form\":[{option}]}}")
+}
+
+fn print_legs(alloc: Global, legs: &[Leg]) -> Result<String, AllocError>
+    ensures { IfOk result (λ text. string_bytes text ≡ legs_text legs.now) }
+{
+    let mut text = String::new(alloc);
+    for leg in legs {
+        append(&mut text, &print_leg(alloc, leg)?)?;
+    }
+    Ok(text)
+}
+
+fn print_bundle(alloc: Global, version: u8, bundle: &Bundle) -> Result<String, AllocError>
+    ensures { IfOk result (λ text. string_bytes text ≡ bundle_text version bundle.now) }
+{
+    if version == 1 {
+        let option = print_option(alloc, &bundle.legs[0].form)?;
+        let option = option.as_str();
+        return format!(in alloc; "\"form\":[{option}]");
+    }
+    let legs = print_legs(alloc, bundle.as_slice())?;
+    let legs = legs.as_str();
+    format!(in alloc; "\"legs\":[{legs}]")
+}
+
+fn print_order_head(alloc: Global, version: u8, order: &Order) -> Result<String, AllocError>
+    ensures { IfOk result (λ text. string_bytes text ≡ order_head version order.now) }
+{
+    let bundle = print_bundle(alloc, version, &order.bundle)?;
+    let bundle = bundle.as_str();
     let account = order.account;
     let id = order.id;
-    format!(in alloc; "{{\"account\":{account},\"form\":[{option}],\"order\":{id}")
+    format!(in alloc; "{{\"account\":{account},{bundle},\"order\":{id}")
 }
 
 fn print_order_tail(alloc: Global, order: &Order) -> Result<String, AllocError>
@@ -95,20 +151,20 @@ fn print_order_tail(alloc: Global, order: &Order) -> Result<String, AllocError>
     format!(in alloc; ",\"price\":{price},\"quantity\":{quantity},\"side\":\"{side}\"}}")
 }
 
-fn print_order(alloc: Global, order: &Order) -> Result<String, AllocError>
-    ensures { IfOk result (λ text. string_bytes text ≡ order_text order.now) }
+fn print_order(alloc: Global, version: u8, order: &Order) -> Result<String, AllocError>
+    ensures { IfOk result (λ text. string_bytes text ≡ order_text version order.now) }
 {
-    let mut text = print_order_head(alloc, order)?;
+    let mut text = print_order_head(alloc, version, order)?;
     text.push_str(&print_order_tail(alloc, order)?)?;
     Ok(text)
 }
 
-fn print_orders(alloc: Global, orders: &[Order]) -> Result<String, AllocError>
-    ensures { IfOk result (λ text. string_bytes text ≡ orders_text orders.now) }
+fn print_orders(alloc: Global, version: u8, orders: &[Order]) -> Result<String, AllocError>
+    ensures { IfOk result (λ text. string_bytes text ≡ orders_text version orders.now) }
 {
     let mut text = String::new(alloc);
     for order in orders {
-        append(&mut text, &print_order(alloc, order)?)?;
+        append(&mut text, &print_order(alloc, version, order)?)?;
     }
     Ok(text)
 }
@@ -131,12 +187,7 @@ fn mark(mark: &Mark) -> &'static str
     }
 }
 
-fn print_by(
-    alloc: Global,
-    line: usize,
-    market: u32,
-    outcome: &Outcome,
-) -> Result<String, AllocError>
+fn print_by(alloc: Global, line: u32, market: u32, outcome: &Outcome) -> Result<String, AllocError>
     ensures { IfOk result (λ text. string_bytes text ≡ cleared_by line market outcome.now) }
 {
     let liability = print_fraction(alloc, outcome.claim.liability)?;
@@ -150,26 +201,32 @@ fn print_by(
 fn print_book(alloc: Global, orders: &[Order]) -> Result<String, AllocError>
     ensures { IfOk result (λ text. string_bytes text ≡ book_text orders.now) }
 {
-    let orders = print_orders(alloc, orders)?;
+    let orders = print_orders(alloc, version(orders), orders)?;
     let orders = orders.as_str();
     format!(in alloc; ",\"orders\":[{orders}],\"reply\":\"cleared\"")
 }
 
-fn print_tail(alloc: Global, underlyings: u8, outcome: &Outcome) -> Result<String, AllocError>
-    ensures { IfOk result (λ text. string_bytes text ≡ cleared_tail underlyings outcome.now) }
+fn print_tail(
+    alloc: Global,
+    version: u8,
+    underlyings: u8,
+    outcome: &Outcome,
+) -> Result<String, AllocError>
+    ensures { IfOk result (λ text.
+        string_bytes text ≡ cleared_tail version underlyings outcome.now) }
 {
     let surplus = print_fraction(alloc, outcome.claim.surplus)?;
     let surplus = surplus.as_str();
     let units = outcome.units;
     format!(in alloc;
-        ",\"surplus\":\"{surplus}\",\"underlyings\":{underlyings},\"units\":{units},\"version\":1}}"
+        ",\"surplus\":\"{surplus}\",\"underlyings\":{underlyings},\"units\":{units},\"version\":{version}}}"
     )
 }
 
 // The reply line of a cleared batch, without its line feed.
 pub(crate) fn print_cleared(
     alloc: Global,
-    line: usize,
+    line: u32,
     number: u32,
     market: u32,
     batch: &Batch,
@@ -181,6 +238,7 @@ pub(crate) fn print_cleared(
     let mut text = print_head(alloc, number, outcome.fills.as_slice())?;
     text.push_str(&print_by(alloc, line, market, outcome)?)?;
     text.push_str(&print_book(alloc, batch.orders.as_slice())?)?;
-    text.push_str(&print_tail(alloc, batch.underlyings, outcome)?)?;
+    let version = version(batch.orders.as_slice());
+    text.push_str(&print_tail(alloc, version, batch.underlyings, outcome)?)?;
     Ok(text)
 }

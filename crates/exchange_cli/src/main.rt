@@ -1,11 +1,9 @@
 //! The exchange program: command lines in, reply lines out.
 #![tactic(auto)]
 
+pub mod answers;
 mod batches;
-mod commands;
 pub mod laws;
-mod lines;
-mod numbers;
 mod run;
 #[cfg(test)]
 mod sessions;
@@ -13,7 +11,6 @@ mod status;
 #[cfg(test)]
 mod tests;
 mod texts;
-mod trades;
 
 use port_io::{StdSink, StdSource};
 pub use run::{MAX_INPUT, exchange};

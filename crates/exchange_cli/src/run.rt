@@ -1,21 +1,21 @@
 // The top call, and the loop over the lines.
 ghost use Rattle.std.specs.Prelude.{◌≡◌, ◌≢◌, ◌⊎◌, ◌≤◌, ◌<◌, ◌+◌, [], ◌∷◌, Some, map, codes, length, IfOk, OnOk, OnErr, IfSome, IsSomeAnd, IsErrOf, string_bytes};
+ghost use Rattle.std.specs.List.{All};
 ghost use Rattle.std.specs.Io.KnownBytes.{Appends};
+ghost use Rattle.command_text.specs.Lines.{IsPlaceIn, line_at};
 ghost use Rattle.port_io.specs.Faults.{Rose, raised};
 ghost use Rattle.port_io.specs.Reads.{TakesUpTo};
 ghost use Rattle.port_io.specs.Writes.{AppendsFront};
 ghost use Rattle.exchange_core.specs.ExchangeState.{empty_exchange};
-ghost use Rattle.exchange_core.specs.Within.{IsWithin};
-ghost use Rattle.exchange_cli.specs.Output.{output, output_from, line_output, reply_to};
+ghost use Rattle.exchange_cli.specs.Output.{output, output_from};
 ghost use Rattle.exchange_cli.specs.Promises.{TellAnswers, Wrote, WroteFront};
 ghost use Rattle.exchange_cli.specs.Words.{is_run};
 ghost use Rattle.exchange_cli.specs.declared.run.AnswerFailure.TheVariants.{OutOfMemory, SinkFailed};
 
-use crate::commands::read_command;
-use crate::lines::{pieces, strip_return, without_last};
+use crate::answers::answer;
 use crate::status::Status;
-use crate::texts::print;
-use exchange_core::{Command, Exchange, Refusal, Reply};
+use command_text::{RawLine, raw_lines};
+use exchange_core::Exchange;
 use port_io::{ReadStop, Sink, Source, WriteStop, read_all, write_all};
 use std::alloc::{AllocError, Global};
 
@@ -45,50 +45,25 @@ impl From<WriteStop> for AnswerFailure {
     }
 }
 
-// The reply to what a line says.
-fn reply_to(exchange: &mut Exchange, said: &Result<Command, Refusal>) -> Result<Reply, AllocError>
-    requires { IfOk said.now IsWithin }
-    ensures { IfOk result (λ reply. (reply, exchange.new) ≡ reply_to exchange.old said.now) }
-{
-    match said {
-        Ok(command) => exchange.step(command),
-        Err(refusal) => Ok(Reply::refused(*refusal)),
-    }
-}
-
-// What is written for a line.
-fn answer(
+// Answers the lines at these places in order.
+fn answer_all<K: Sink>(
     alloc: Global,
-    exchange: &mut Exchange,
-    number: usize,
-    line: &[u8],
-) -> Result<String, AllocError>
-    ensures { IfOk result (λ text.
-        (string_bytes text, exchange.new) ≡ line_output number exchange.old line.now) }
-{
-    if line.is_empty() {
-        return Ok(String::new(alloc));
-    }
-    let said = read_command(alloc, line)?;
-    let reply = reply_to(exchange, &said)?;
-    let mut text = print(alloc, number, &reply)?;
-    text.push('\n')?;
-    Ok(text)
-}
-
-// Answers the lines in order.
-fn answer_all<K: Sink>(alloc: Global, lines: &[&[u8]], sink: &mut K) -> Result<(), AnswerFailure>
+    input: &[u8],
+    lines: &[RawLine],
+    sink: &mut K,
+) -> Result<(), AnswerFailure>
+    requires { All (IsPlaceIn input.now) lines.now }
     ensures ok { OnOk result (Appends (K.written sink.old) (K.written sink.new)
-        (output_from 1 empty_exchange (map (λ p. p.now) lines.now))) }
+        (output_from empty_exchange (map (line_at input.now) lines.now))) }
     ensures front { OnErr result (AppendsFront (K.written sink.old) (K.written sink.new)
-        (output_from 1 empty_exchange (map (λ p. p.now) lines.now))) }
+        (output_from empty_exchange (map (line_at input.now) lines.now))) }
     ensures fault { IsErrOf result AnswerFailure.SinkFailed →
         Rose (K.faults sink.old) (K.faults sink.new) }
     ensures later { K.faults sink.old ≤ K.faults sink.new }
 {
     let mut exchange = Exchange::new(alloc);
-    for (index, line) in lines.iter().enumerate() {
-        let text = answer(alloc, &mut exchange, index + 1, strip_return(line))?;
+    for line in lines {
+        let text = answer(alloc, &mut exchange, line.number, line.text(input))?;
         write_all(sink, text.as_bytes())?;
     }
     Ok(())
@@ -96,6 +71,7 @@ fn answer_all<K: Sink>(alloc: Global, lines: &[&[u8]], sink: &mut K) -> Result<(
 
 // Answers all lines of an input.
 fn answer_input<K: Sink>(alloc: Global, input: &[u8], sink: &mut K) -> Result<(), AnswerFailure>
+    requires { length input.now ≤ MAX_INPUT }
     ensures ok { OnOk result
         (Appends (K.written sink.old) (K.written sink.new) (output input.now)) }
     ensures front { OnErr result
@@ -104,8 +80,8 @@ fn answer_input<K: Sink>(alloc: Global, input: &[u8], sink: &mut K) -> Result<()
         Rose (K.faults sink.old) (K.faults sink.new) }
     ensures later { K.faults sink.old ≤ K.faults sink.new }
 {
-    let lines = pieces(alloc, input, b'\n')?;
-    answer_all(alloc, without_last(&lines), sink)
+    let lines = raw_lines(alloc, input)?;
+    answer_all(alloc, input, &lines, sink)
 }
 
 // Whether the words are the one word `run`.

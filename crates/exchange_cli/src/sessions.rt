@@ -2,7 +2,7 @@
 //
 // In order: nothing at all; lines that are no command, empty ones, numbers at and past their limits; the reserve;
 // refusals in their order; two markets, whose orders and batches are counted together; a batch with fractional fills and one
-// whose surplus is too wide.
+// whose surplus is too wide; bundles, refused in their order and cleared.
 pub(crate) static SESSIONS: &str = r#"==
 fly,1
 = {"line":1,"number":1,"reason":"Syntax","reply":"refused"}
@@ -20,27 +20,27 @@ open,7,
 open,07
 = {"line":8,"number":1,"reason":"Syntax","reply":"refused"}
 open,-1
-= {"line":9,"number":1,"reason":"Syntax","reply":"refused"}
+= {"field":2,"line":9,"number":8,"reason":"Range","reply":"refused"}
 open,0
-= {"line":10,"number":1,"reason":"Syntax","reply":"refused"}
+= {"field":2,"line":10,"number":8,"reason":"Range","reply":"refused"}
 open,+7
 = {"line":11,"number":1,"reason":"Syntax","reply":"refused"}
 open,"7"
-= {"line":12,"number":1,"reason":"Syntax","reply":"refused"}
+= {"line":12,"number":3,"reason":"AccountExists","reply":"refused"}
 open,1000000000
-= {"line":13,"number":1,"reason":"Syntax","reply":"refused"}
+= {"field":2,"line":13,"number":8,"reason":"Range","reply":"refused"}
 open,999999999
 = {"account":999999999,"line":14,"reply":"opened"}
 deposit,7,0
-= {"line":15,"number":1,"reason":"Syntax","reply":"refused"}
+= {"field":3,"line":15,"number":8,"reason":"Range","reply":"refused"}
 deposit,7,1000000000000001
-= {"line":16,"number":1,"reason":"Syntax","reply":"refused"}
+= {"field":3,"line":16,"number":8,"reason":"Range","reply":"refused"}
 deposit,7,1000000000000000
 = {"account":7,"balance":"1000000000000000","line":17,"reply":"deposited"}
 withdraw,7,0
-= {"line":18,"number":1,"reason":"Syntax","reply":"refused"}
+= {"field":3,"line":18,"number":8,"reason":"Range","reply":"refused"}
 withdraw,7,1000000000000001
-= {"line":19,"number":1,"reason":"Syntax","reply":"refused"}
+= {"field":3,"line":19,"number":8,"reason":"Range","reply":"refused"}
 withdraw,7
 = {"line":20,"number":1,"reason":"Syntax","reply":"refused"}
 withdraw,7,1,1
@@ -48,9 +48,9 @@ withdraw,7,1,1
 withdraw,8,1
 = {"line":22,"number":2,"reason":"NoAccount","reply":"refused"}
 market,1,0
-= {"line":23,"number":1,"reason":"Syntax","reply":"refused"}
+= {"field":3,"line":23,"number":8,"reason":"Range","reply":"refused"}
 market,1,9
-= {"line":24,"number":1,"reason":"Syntax","reply":"refused"}
+= {"field":3,"line":24,"number":8,"reason":"Range","reply":"refused"}
 market,1,2
 = {"line":25,"number":90,"reason":"NotBuilt","reply":"refused"}
 market,1,1
@@ -58,7 +58,7 @@ market,1,1
 buy,7,1,calls,10,7,1,1
 = {"line":27,"number":1,"reason":"Syntax","reply":"refused"}
 buy,7,1,call,10,7,1,0
-= {"line":28,"number":1,"reason":"Syntax","reply":"refused"}
+= {"field":8,"line":28,"number":8,"reason":"Range","reply":"refused"}
 buy,7,1,call,10,7,1
 = {"line":29,"number":1,"reason":"Syntax","reply":"refused"}
 buy,7,1,call,10,7,1,1,1,1,1,1,1,1,1,1
@@ -68,17 +68,17 @@ buy,7,1,call,10,7,1,1,1,1,1,1,1,1,1
 buy,7,1,call,-1000000000,1000000000000,1000,-1000
 = {"line":32,"order":1,"reply":"placed"}
 sell,7,1,put,1000000001,7,1,1
-= {"line":33,"number":1,"reason":"Syntax","reply":"refused"}
+= {"field":5,"line":33,"number":8,"reason":"Range","reply":"refused"}
 sell,7,1,put,1,1000000000001,1,1
-= {"line":34,"number":1,"reason":"Syntax","reply":"refused"}
+= {"field":6,"line":34,"number":8,"reason":"Range","reply":"refused"}
 sell,7,1,put,1,1,1000001,1
-= {"line":35,"number":1,"reason":"Syntax","reply":"refused"}
+= {"field":7,"line":35,"number":8,"reason":"Range","reply":"refused"}
 sell,7,1,put,1,1,1,1001
-= {"line":36,"number":1,"reason":"Syntax","reply":"refused"}
+= {"field":8,"line":36,"number":8,"reason":"Range","reply":"refused"}
 cancel,7,0
-= {"line":37,"number":1,"reason":"Syntax","reply":"refused"}
+= {"field":3,"line":37,"number":8,"reason":"Range","reply":"refused"}
 cancel,7,1000001
-= {"line":38,"number":1,"reason":"Syntax","reply":"refused"}
+= {"field":3,"line":38,"number":8,"reason":"Range","reply":"refused"}
 cancel,7,1000000
 = {"line":39,"number":11,"reason":"NoOrder","reply":"refused"}
 cancel,7
@@ -86,9 +86,9 @@ cancel,7
 cancel,7,1,1
 = {"line":41,"number":1,"reason":"Syntax","reply":"refused"}
 clear,1,0
-= {"line":42,"number":1,"reason":"Syntax","reply":"refused"}
+= {"field":3,"line":42,"number":8,"reason":"Range","reply":"refused"}
 clear,1,20001
-= {"line":43,"number":1,"reason":"Syntax","reply":"refused"}
+= {"field":3,"line":43,"number":8,"reason":"Range","reply":"refused"}
 clear,1,20000
 = {"batch":1,"fills":["1000"],"liability":"1000000000000","line":44,"mark":"optimal","market":1,"orders":[{"account":7,"form":[1000000000,-1000],"order":1,"price":1000000000000,"quantity":1000,"side":"buy"}],"reply":"cleared","surplus":"999000000000000","underlyings":1,"units":1,"version":1}
 balance,7
@@ -96,11 +96,13 @@ balance,7
 balance,8
 = {"line":46,"number":2,"reason":"NoAccount","reply":"refused"}
 settle
-= {"line":47,"number":90,"reason":"NotBuilt","reply":"refused"}
+= {"line":47,"number":1,"reason":"Syntax","reply":"refused"}
 settle,"
-= {"line":48,"number":90,"reason":"NotBuilt","reply":"refused"}
+= {"line":48,"number":1,"reason":"Syntax","reply":"refused"}
 settled,1,1
 = {"line":49,"number":1,"reason":"Syntax","reply":"refused"}
+settle,1,1
+= {"line":50,"number":90,"reason":"NotBuilt","reply":"refused"}
 ==
 open,1
 = {"account":1,"line":1,"reply":"opened"}
@@ -152,9 +154,9 @@ market,1,1
 buy,1,1,call,10,7,1,1
 = {"line":5,"order":1,"reply":"placed"}
 buy,9,9,call,0,1,1,0
-= {"line":6,"number":1,"reason":"Syntax","reply":"refused"}
+= {"field":8,"line":6,"number":8,"reason":"Range","reply":"refused"}
 buy,1,1,call,0,1000000000001,1,1
-= {"line":7,"number":1,"reason":"Syntax","reply":"refused"}
+= {"field":6,"line":7,"number":8,"reason":"Range","reply":"refused"}
 buy,9,9,call,0,1,1,1
 = {"line":8,"number":4,"reason":"NoMarket","reply":"refused"}
 buy,9,1,call,0,1,1,1,1
@@ -269,4 +271,43 @@ clear,1,20000
 = {"batch":2,"fills":["0","0","0","0","0"],"liability":"0","line":18,"mark":"wide","market":1,"orders":[{"account":1,"form":[-500001,1],"order":4,"price":400000000,"quantity":999999,"side":"buy"},{"account":1,"form":[-899999999,1],"order":5,"price":200000,"quantity":1,"side":"buy"},{"account":2,"form":[0,1000],"order":6,"price":1501501501,"quantity":1000000,"side":"sell"},{"account":2,"form":[-1000000000,999],"order":7,"price":1000000000,"quantity":1000000,"side":"sell"},{"account":2,"form":[-999999999,1],"order":8,"price":0,"quantity":1000000,"side":"sell"}],"reply":"cleared","surplus":"0","underlyings":1,"units":6,"version":1}
 balance,0
 = {"account":0,"balance":"2","line":19,"reply":"balance","reserved":"0"}
+==
+open,1
+= {"account":1,"line":1,"reply":"opened"}
+open,2
+= {"account":2,"line":2,"reply":"opened"}
+deposit,1,100
+= {"account":1,"balance":"100","line":3,"reply":"deposited"}
+market,1,1
+= {"line":4,"market":1,"reply":"listed","underlyings":1}
+bundle,1,9,buy,2,1,2,1,call,10,1,-1,call,12,1
+= {"line":5,"number":4,"reason":"NoMarket","reply":"refused"}
+bundle,9,1,buy,2,1,2,1,call,10,1,1,-1,call,12,1,1
+= {"line":6,"number":7,"reason":"WeightCount","reply":"refused"}
+bundle,9,1,buy,2,1,2,1,call,10,1,-1,call,12,1
+= {"line":7,"number":2,"reason":"NoAccount","reply":"refused"}
+bundle,1,1,buy,101,1,2,1,call,10,1,-1,call,12,1
+= {"line":8,"number":9,"reason":"Funds","reply":"refused"}
+bundle,1,1,buy,2,1,5
+= {"field":7,"line":9,"number":8,"reason":"Range","reply":"refused"}
+bundle,1,1,buy,2,1000000,2,1,call,10,1,-1,call,12,1
+= {"field":6,"line":10,"number":8,"reason":"Range","reply":"refused"}
+bundle,1,1,buy,2,1,2,1,call,10,1,-1,call,12,1
+= {"line":11,"order":1,"reply":"placed"}
+sell,2,1,call,10,6,1,1
+= {"line":12,"order":2,"reply":"placed"}
+buy,1,1,call,12,5,1,1
+= {"line":13,"order":3,"reply":"placed"}
+balance,1
+= {"account":1,"balance":"100","line":14,"reply":"balance","reserved":"7"}
+clear,1,100
+= {"batch":1,"fills":["1","1","1"],"liability":"0","line":15,"mark":"optimal","market":1,"orders":[{"account":1,"legs":[{"count":1,"form":[-10,1]},{"count":-1,"form":[-12,1]}],"order":1,"price":2,"quantity":1,"side":"buy"},{"account":2,"legs":[{"count":1,"form":[-10,1]}],"order":2,"price":6,"quantity":1,"side":"sell"},{"account":1,"legs":[{"count":1,"form":[-12,1]}],"order":3,"price":5,"quantity":1,"side":"buy"}],"reply":"cleared","surplus":"1","underlyings":1,"units":3,"version":2}
+balance,1
+= {"account":1,"balance":"93","line":16,"reply":"balance","reserved":"0"}
+balance,0
+= {"account":0,"balance":"1","line":17,"reply":"balance","reserved":"0"}
+bundle,1,1,buy,2,1,1,1,call,10,1
+= {"line":18,"order":4,"reply":"placed"}
+clear,1,100
+= {"batch":2,"fills":["0"],"liability":"0","line":19,"mark":"optimal","market":1,"orders":[{"account":1,"form":[-10,1],"order":4,"price":2,"quantity":1,"side":"buy"}],"reply":"cleared","surplus":"0","underlyings":1,"units":1,"version":1}
 "#;

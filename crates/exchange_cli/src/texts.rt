@@ -1,6 +1,6 @@
 // The text of a reply.
 ghost use Rattle.std.specs.Prelude.{◌≡◌, IfOk, string_bytes};
-ghost use Rattle.exchange_cli.specs.Texts.{reply_text, moved_text, ordered_text, listed_text, balance_text, refused_text, reason_text};
+ghost use Rattle.exchange_cli.specs.Texts.{reply_text, moved_text, ordered_text, listed_text, balance_text, refusal_text, refused_text, reason_text};
 
 use crate::batches::print_cleared;
 use exchange_core::Reply;
@@ -19,6 +19,7 @@ fn reason(number: u32) -> &'static str
         5 => "MarketExists",
         6 => "Settled",
         7 => "WeightCount",
+        8 => "Range",
         9 => "Funds",
         10 => "BookFull",
         11 => "NoOrder",
@@ -32,7 +33,7 @@ fn reason(number: u32) -> &'static str
 fn print_moved(
     alloc: Global,
     reply: &str,
-    line: usize,
+    line: u32,
     account: u32,
     balance: i128,
 ) -> Result<String, AllocError>
@@ -44,7 +45,7 @@ fn print_moved(
 }
 
 // What became of an order, under the word of the reply.
-fn print_ordered(alloc: Global, reply: &str, line: usize, order: u64) -> Result<String, AllocError>
+fn print_ordered(alloc: Global, reply: &str, line: u32, order: u64) -> Result<String, AllocError>
     ensures { IfOk result (λ text. string_bytes text ≡ ordered_text reply.now line order) }
 {
     format!(in alloc; "{{\"line\":{line},\"order\":{order},\"reply\":\"{reply}\"}}")
@@ -52,7 +53,7 @@ fn print_ordered(alloc: Global, reply: &str, line: usize, order: u64) -> Result<
 
 fn print_balance(
     alloc: Global,
-    line: usize,
+    line: u32,
     account: u32,
     balance: i128,
     reserved: i128,
@@ -64,18 +65,31 @@ fn print_balance(
     )
 }
 
-fn print_refused(alloc: Global, line: usize, number: u32) -> Result<String, AllocError>
-    ensures { IfOk result (λ text. string_bytes text ≡ refused_text line number) }
+// A refusal behind the brace, or behind the field that is out of its range.
+fn print_refusal(alloc: Global, line: u32, number: u32) -> Result<String, AllocError>
+    ensures { IfOk result (λ text. string_bytes text ≡ refusal_text line number) }
 {
     let reason = reason(number);
     format!(in alloc;
-        "{{\"line\":{line},\"number\":{number},\"reason\":\"{reason}\",\"reply\":\"refused\"}}"
+        "\"line\":{line},\"number\":{number},\"reason\":\"{reason}\",\"reply\":\"refused\"}}"
     )
+}
+
+fn print_refused(alloc: Global, line: u32, number: u32, field: u8) -> Result<String, AllocError>
+    ensures { IfOk result (λ text. string_bytes text ≡ refused_text line number field) }
+{
+    let refusal = print_refusal(alloc, line, number)?;
+    let refusal = refusal.as_str();
+    if number == 8 {
+        format!(in alloc; "{{\"field\":{field},{refusal}")
+    } else {
+        format!(in alloc; "{{{refusal}")
+    }
 }
 
 fn print_listed(
     alloc: Global,
-    line: usize,
+    line: u32,
     market: u32,
     underlyings: u8,
 ) -> Result<String, AllocError>
@@ -87,7 +101,7 @@ fn print_listed(
 }
 
 // The reply line, without its line feed.
-pub(crate) fn print(alloc: Global, line: usize, reply: &Reply) -> Result<String, AllocError>
+pub(crate) fn print(alloc: Global, line: u32, reply: &Reply) -> Result<String, AllocError>
     ensures { IfOk result (λ text. string_bytes text ≡ reply_text line reply.now) }
 {
     match reply {
@@ -117,6 +131,6 @@ pub(crate) fn print(alloc: Global, line: usize, reply: &Reply) -> Result<String,
             balance,
             reserved,
         } => print_balance(alloc, line, *account, *balance, *reserved),
-        Reply::Refused { number, field: _ } => print_refused(alloc, line, *number),
+        Reply::Refused { number, field } => print_refused(alloc, line, *number, *field),
     }
 }

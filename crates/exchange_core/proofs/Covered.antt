@@ -20,8 +20,8 @@ use Rattle.order_book.specs.Refusals.{is_settled}
 use Rattle.refusals.specs.Refusals.{first_of}
 use Rattle.order_book.proofs.BookKept.{batch_within, market_kept}
 use Rattle.order_book.proofs.MarketLists.{at_found}
-use Rattle.exchange_core.specs.declared.command.Command.{Command}
-use Rattle.exchange_core.specs.declared.command.Command.TheVariants.{Open, Deposit, Withdraw, Market, Trade, Cancel, Clear, Balance as BalanceOf}
+use Rattle.command_text.specs.declared.command.Command.{Command}
+use Rattle.command_text.specs.declared.command.Command.TheVariants.{Open, Deposit, Withdraw, Market, Trade, Bundle, Cancel, Clear, Settle, Balance as BalanceOf}
 use Rattle.exchange_core.specs.declared.refusal.Refusal.{Refusal}
 use Rattle.exchange_core.specs.declared.refusal.Refusal.TheVariants.{NoMarket, Settled, TooMany}
 use Rattle.exchange_core.specs.declared.reply.Reply.{Reply}
@@ -57,9 +57,11 @@ module _ (P : Batch → Outcome → Type 0) (each : clearing.OfEachOutcome P) wh
   effect_has state (Withdraw account amount) kept none = tt
   effect_has state (Market market underlyings) kept none = tt
   effect_has state (Trade side account market kind strike price quantity count weights) kept none = tt
+  effect_has state (Bundle side account market price quantity bundle) kept none = tt
   effect_has state (Cancel account order) kept none = tt
   effect_has state (Clear market budget) kept none =
       each (batch_in state market) budget (on_one state.book kept.book kept.single market (unsettled state.book market) (market_of state.book market) refl none)
+  effect_has state (Settle market count prices) kept none = tt
   effect_has state (BalanceOf account) kept none = tt
 
   pub step_has : OfEachCleared P
@@ -87,8 +89,10 @@ effect_marked state (Deposit account amount) = tt
 effect_marked state (Withdraw account amount) = tt
 effect_marked state (Market market underlyings) = tt
 effect_marked state (Trade side account market kind strike price quantity count weights) = tt
+effect_marked state (Bundle side account market price quantity bundle) = tt
 effect_marked state (Cancel account order) = tt
 effect_marked state (Clear market budget) = outcomes_are_marked (batch_in state market) budget
+effect_marked state (Settle market count prices) = tt
 effect_marked state (BalanceOf account) = tt
 
 pub step_is_marked : StepIsMarked

@@ -1,5 +1,5 @@
 -- The refusals of ledger and book by their names in the exchange.
-use Rattle.std.proofs.Common.{◌≡◌, ℕ, ℤ, pos, ◌*◌, ◌-ℤ◌, List, [], ◌∷◌, ◌++◌, Bool, true, false, not, int_lt, nat_eq, if◌then◌else◌, None, Some, inl, inr, refl, ap, ◌∙◌, arith}
+use Rattle.std.proofs.Common.{◌≡◌, ℕ, ℤ, pos, ◌*◌, ◌-ℤ◌, List, ◌++◌, Bool, true, false, not, int_lt, nat_eq, if◌then◌else◌, None, Some, inl, inr, refl, ap, ◌∙◌, arith}
 use Rattle.std.proofs.lemmas.Bool.Decides.{nat_tests}
 use Rattle.cash_ledger.specs.declared.ledger.LedgerRefusal.{LedgerRefusal}
 use Rattle.cash_ledger.specs.declared.ledger.LedgerRefusal.TheVariants as from_ledger

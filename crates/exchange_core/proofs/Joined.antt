@@ -1,5 +1,5 @@
 -- Ledger and book stay joined: the house is open, live orders are of open accounts, and reserves are the sums over live buys.
-use Rattle.std.proofs.Common.{◌≡◌, ℕ, ◌+◌, ◌≤◌, [], ◌∷◌, ◌++◌, Bool, true, false, if◌then◌else◌, nat_eq, map, Option, None, Some, IsSome, Ok, Err, refl, sym, ap, ◌∙◌, subst, arith}
+use Rattle.std.proofs.Common.{◌≡◌, ℕ, ◌+◌, ◌≤◌, [], ◌∷◌, ◌++◌, true, None, Some, IsSome, refl, sym, ap, ◌∙◌, subst, arith}
 use Rattle.std.proofs.lemmas.Bool.Decides.{nat_tests}
 use Rattle.cash_ledger.specs.Ledger.{LedgerState, is_open, reserved_of}
 use Rattle.cash_ledger.specs.declared.limits.TheConstants.{MAX_RESERVED}
@@ -14,7 +14,7 @@ use Rattle.order_book.proofs.Accepting.{accepts, finishable}
 use Rattle.order_book.proofs.AllLive.{live-without_in_each, live-with_market}
 use Rattle.exchange_core.specs.ExchangeState.{state_of}
 use Rattle.exchange_core.specs.Kept.{IsKept, AreJoined}
-use Rattle.exchange_core.specs.Reserves.{cost_of, cost_of_new, reserve_by, reserve_of, own_amount, AddsReserve, FreesReserve, FreesReserves}
+use Rattle.exchange_core.specs.Reserves.{cost_of_new, reserve_by, reserve_of, own_amount, AddsReserve, FreesReserve, FreesReserves}
 use Rattle.exchange_core.proofs.Keeping.{kept-entries, kept-open, kept-market, kept-place, kept-cancel, kept-batch}
 use Rattle.exchange_core.proofs.ReserveSums.{reserve_of-append, reserve_of-replaced, reserve_of-without, reserve_of-small}
 

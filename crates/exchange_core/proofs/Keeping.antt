@@ -1,16 +1,21 @@
 -- What an exchange keeps stays true at each command.
-use Rattle.std.proofs.Common.{◌≡◌, ℕ, ◌+◌, ◌*◌, ◌≤◌, ℤ, neg_ℤ, List, [], ◌∷◌, ◌++◌, length, take, true, false, not, nat_eq, nat_le, Option, None, Some, refl, sym, ap, ◌∙◌, subst, arith}
-use Rattle.std.specs.List.{All}
+use Rattle.std.proofs.Common.{◌≡◌, ℕ, ◌+◌, ◌*◌, ◌≤◌, ℤ, pos, unsigned_abs, map, List, [], ◌∷◌, ◌++◌, take, true, false, nat_eq, Option, None, Some, refl, sym, ap, ◌∙◌, subst, arith}
+use Rattle.std.specs.List.{All, sum}
 use Rattle.std.specs.Option.{option_map_or}
-use Rattle.std.proofs.lemmas.List.{length-map, length-take}
-use Rattle.std.proofs.lemmas.List.Elements.{All-nil, All-push}
+use Rattle.std.proofs.lemmas.List.{length-take}
+use Rattle.std.proofs.lemmas.List.Elements.{All-cons, All-nil, All-push, All-take}
 use Rattle.std.proofs.lemmas.Map.Keys.{IsDistinct-from_apart}
 use Rattle.cash_ledger.specs.declared.entry.Entry.{Entry}
 use Rattle.cash_ledger.specs.Ledger.{is_open}
 use Rattle.form.specs.declared.orders.Side.{Side}
 use Rattle.form.specs.Limits.{IsListed}
-use Rattle.form.proofs.SameForm.{option-form_of}
-use Rattle.order_book.specs.declared.limits.TheConstants.{MAX_MARKETS}
+use Rattle.form.specs.declared.bundles.Bundle.{Bundle}
+use Rattle.form.specs.declared.legs.Leg.{Leg}
+use Rattle.form.specs.declared.limits.TheConstants.{MAX_OPTIONS, MAX_PRICE, MAX_QUANTITY}
+use Rattle.form.specs.BundleOf.{bundle_one}
+use Rattle.form.specs.FormOf.{form_of}
+use Rattle.form.specs.Payoff.{count_sizes, option_of}
+use Rattle.form.proofs.MadeBundles.{legs_in-bundle_one}
 use Rattle.order_book.specs.declared.new_order.NewOrder.{NewOrder}
 use Rattle.order_book.specs.Book.{live_of, with_number, after_batch}
 use Rattle.order_book.specs.Kept.{IsMarketKept}
@@ -21,20 +26,20 @@ use Rattle.order_book.specs.Within.{IsNewOrderWithin}
 use Rattle.order_book.proofs.Accepting.{listable, accepts, finishable}
 use Rattle.order_book.proofs.AllLive.{live-with_market}
 use Rattle.order_book.proofs.BookKept.{kept-with_market, kept-with_order, kept-without_order, kept-after_batch}
-use Rattle.exchange_core.specs.declared.command.Command.{Command}
-use Rattle.exchange_core.specs.declared.command.Command.TheVariants.{Open, Deposit, Withdraw, Market, Trade, Cancel, Clear, Balance}
-use Rattle.exchange_core.specs.declared.command.Kind.{Kind}
-use Rattle.exchange_core.specs.declared.command.Kind.TheVariants.{Call, Put}
+use Rattle.command_text.specs.declared.command.Command.{Command}
+use Rattle.command_text.specs.declared.command.Command.TheVariants.{Open, Deposit, Withdraw, Market, Trade, Bundle as BundleOrder, Cancel, Clear, Settle, Balance}
+use Rattle.command_text.specs.declared.command.Kind.{Kind}
 use Rattle.exchange_core.specs.declared.refusal.Refusal.{Refusal}
 use Rattle.exchange_core.specs.ExchangeState.{ExchangeState, empty_exchange}
 use Rattle.exchange_core.specs.Kept.{IsKept, IsOfOpen, IsOnOne}
 use Rattle.exchange_core.specs.Laws.{StepKeeps}
-use Rattle.exchange_core.specs.Orders.{option_by, order_by}
+use Rattle.command_text.specs.Options.{option_by}
+use Rattle.exchange_core.specs.Orders.{order_by, order_for}
 use Rattle.exchange_core.specs.Refusals.{place_refusals, refusal_of}
 use Rattle.exchange_core.specs.Step.{open_effect, market_effect, place_effect, cancel_effect, effect, refusal_effect}
-use Rattle.exchange_core.specs.Within.{IsWithin, IsOffer, AreWeights}
+use Rattle.command_text.specs.Within.{Between, IsWithin, IsOffer, IsBundleOf}
+use Rattle.command_text.proofs.Listing.{IsSmall, form_listed}
 use Rattle.exchange_core.proofs.FirstRefusal.{market_none, place_none, batch_none}
-use Rattle.exchange_core.proofs.Listing as listing
 use Rattle.exchange_core.proofs.OnOne.{IsOnOne-replaced, IsOnOne-without}
 use Rattle.exchange_core.proofs.LiveAccounts.{All-live_in, All-replaced, All-without_in_each, any-push, stay_open}
 
@@ -106,28 +111,35 @@ module _ (state : ExchangeState) (kept : IsKept state) where
         single = IsOnOne-replaced market [] state.book.markets kept.single;
       }
 
--- ---- the order of a trade is within the limits
-length_option : (kind : Kind) (strike : ℤ) (weights : List ℤ) → length (option_by kind strike weights) ≡ length weights + 1
-length_option Call strike weights = omega arith
-length_option Put strike weights = let same = length-map weights neg_ℤ in omega arith
-
-some_weights : (weights : List ℤ) → AreWeights weights → 1 ≤ length weights
-some_weights weights are = let (k, w, inside, at, other) = are.some in omega arith
-
+-- ---- the order of a trade or for a bundle is within the limits
 pub order_within : (side : Side) (account market : ℕ) (kind : Kind) (strike : ℤ) (price quantity count : ℕ) (weights : List ℤ) → IsOffer strike price quantity count weights
     → IsNewOrderWithin (order_by side account market kind strike price quantity count weights)
 order_within side account market kind strike price quantity count weights offer =
     let used = take count weights in
-    let long = length_option kind strike used in
-    let some = some_weights used offer.weights_within in
+    let form = form_of (option_by kind strike used) in
     let few = length-take count weights in
-    let most = offer.count_within in
+    let most = offer.count_within.1 in
+    let listed = form_listed kind strike used (omega (arith, few)) offer.strike_within (All-take IsSmall count weights offer.weights_within) offer.some in
+    let is = legs_in-bundle_one form in
+    let one : count_sizes (bundle_one form) ≡ 1 = ap (λ legs. sum (map (λ (leg : Leg). unsigned_abs leg.count) legs)) is in
+    let P : Leg → Type 0 = λ leg. IsListed (option_of leg.form) in
     record {
-      option = subst IsListed (sym (option-form_of (option_by kind strike used) (omega arith) (omega arith))) (listing.listed kind strike used offer.strike_within offer.weights_within);
+      options = subst (All P) (sym is) (All-cons P (record { count = pos 1; form = form }) [] listed (All-nil P));
       price = offer.price_within;
-      some = offer.some;
-      quantity = offer.quantity_within;
+      some = offer.quantity_within.0;
+      quantity = offer.quantity_within.1;
+      counted = subst (λ n. quantity * n ≤ MAX_OPTIONS) (sym one) (omega (arith, offer.quantity_within.1));
     }
+
+pub bundle_within : (side : Side) (account market price quantity : ℕ) (bundle : Bundle) → price ≤ MAX_PRICE → Between 1 MAX_QUANTITY quantity → IsBundleOf quantity bundle
+    → IsNewOrderWithin (order_for side account market price quantity bundle)
+bundle_within side account market price quantity bundle low between is = record {
+  options = is.options;
+  price = low;
+  some = between.0;
+  quantity = between.1;
+  counted = is.limited;
+}
 
 -- ---- the step
 module _ (state : ExchangeState) (kept : IsKept state) where
@@ -145,10 +157,13 @@ module _ (state : ExchangeState) (kept : IsKept state) where
       kept-market state kept market underlyings parts.0 parts.1
   kept-effect (Trade side account market kind strike price quantity count weights) within none =
       kept-trade (order_by side account market kind strike price quantity count weights) (order_within side account market kind strike price quantity count weights within.2) none
+  kept-effect (BundleOrder side account market price quantity bundle) within none =
+      kept-trade (order_for side account market price quantity bundle) (bundle_within side account market price quantity bundle within.2 within.3 within.4) none
   kept-effect (Cancel account order) within none = kept-cancel state kept order
   kept-effect (Clear market budget) within none =
       let finished = kept-batch state kept market (batch_none state.book market none) in
       kept-entries (record state { book = after_batch state.book market }) finished state.accounts _ refl
+  kept-effect (Settle market count prices) within none = kept
   kept-effect (Balance account) within none = kept
 
 pub step_keeps : StepKeeps

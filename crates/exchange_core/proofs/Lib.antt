@@ -3,7 +3,6 @@ pub mod Covered
 pub mod FirstRefusal
 pub mod Joined
 pub mod Keeping
-pub mod Listing
 pub mod LiveAccounts
 pub mod OnOne
 pub mod ReserveSums

@@ -1,5 +1,5 @@
 -- Markets stay on one underlying, whatever becomes of their live orders, and their batches are on one.
-use Rattle.std.proofs.Common.{◌≡◌, ℕ, List, [], ◌∷◌, Bool, true, false, not, if◌then◌else◌, nat_eq, None, Some, refl, arith}
+use Rattle.std.proofs.Common.{ℕ, List, [], ◌∷◌, true, false, if◌then◌else◌, nat_eq}
 use Rattle.std.specs.List.{All}
 use Rattle.std.proofs.lemmas.List.Elements.{All-nil, All-cons, All-head, All-tail, All-map}
 use Rattle.form.specs.declared.orders.Order.{Order}

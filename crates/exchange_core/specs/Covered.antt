@@ -5,8 +5,8 @@ use Rattle.cert_check.specs.Conditions.{IfOptimal}
 use Rattle.cert_check.specs.Laws.{IsCovered, IsMeasured, IsProved}
 use Rattle.clearing.specs.Outcome.{IsMarked}
 use Rattle.form.specs.declared.orders.Batch.{Batch}
-use Rattle.exchange_core.specs.declared.command.Command.{Command}
-use Rattle.exchange_core.specs.declared.command.Command.TheVariants.{Open, Deposit, Withdraw, Market, Trade, Cancel, Clear, Balance as BalanceOf}
+use Rattle.command_text.specs.declared.command.Command.{Command}
+use Rattle.command_text.specs.declared.command.Command.TheVariants.{Open, Deposit, Withdraw, Market, Trade, Bundle, Cancel, Clear, Settle, Balance as BalanceOf}
 use Rattle.exchange_core.specs.declared.reply.Reply.{Reply}
 use Rattle.exchange_core.specs.declared.reply.Reply.TheVariants.{Opened, Deposited, Withdrawn, Listed, Placed, Cancelled, Cleared, Balance, Refused}
 use Rattle.exchange_core.specs.ExchangeState.{ExchangeState}
@@ -47,8 +47,10 @@ budget_of (Deposit account amount) = 0
 budget_of (Withdraw account amount) = 0
 budget_of (Market market underlyings) = 0
 budget_of (Trade side account market kind strike price quantity count weights) = 0
+budget_of (Bundle side account market price quantity bundle) = 0
 budget_of (Cancel account order) = 0
 budget_of (Clear market budget) = budget
+budget_of (Settle market count prices) = 0
 budget_of (BalanceOf account) = 0
 
 -- the mark and the units of a batch that is cleared are those of the end of the run: what it cleared, the step that did not

@@ -10,5 +10,4 @@ pub mod Refusals
 pub mod Reply
 pub mod Reserves
 pub mod Step
-pub mod Within
 pub mod Worked

@@ -1,6 +1,6 @@
 -- The refusals of each command, each with its condition, in the order in which they are tried: those of ledger and book, by
 -- their names in the exchange.
-use Rattle.std.specs.Prelude.{ℕ, ℤ, ◌*◌, Bool, not, nat_eq, List, [], ◌∷◌, ◌++◌, Option}
+use Rattle.std.specs.Prelude.{ℕ, ℤ, ◌*◌, Bool, true, not, nat_eq, List, [], ◌∷◌, ◌++◌, Option}
 use Rattle.cash_ledger.specs.declared.ledger.LedgerRefusal.{LedgerRefusal}
 use Rattle.cash_ledger.specs.Ledger.{LedgerState, free_of}
 use Rattle.cash_ledger.specs.Refusals.{open_refusals, account_refusals, payment_refusals}
@@ -8,16 +8,15 @@ use Rattle.form.specs.declared.orders.Side.{Side}
 use Rattle.form.specs.declared.orders.Side.TheVariants.{Buy, Sell}
 use Rattle.order_book.specs.declared.new_order.NewOrder.{NewOrder}
 use Rattle.order_book.specs.declared.refusal.BookRefusal.{BookRefusal}
-use Rattle.order_book.specs.Book.{BookState}
 use Rattle.order_book.specs.Refusals as book
 use Rattle.refusals.specs.Refusals.{first_of, named}
-use Rattle.exchange_core.specs.declared.command.Command.{Command}
-use Rattle.exchange_core.specs.declared.command.Command.TheVariants.{Open, Deposit, Withdraw, Market, Trade, Cancel, Clear, Balance}
+use Rattle.command_text.specs.declared.command.Command.{Command}
+use Rattle.command_text.specs.declared.command.Command.TheVariants.{Open, Deposit, Withdraw, Market, Trade, Bundle, Cancel, Clear, Settle, Balance}
 use Rattle.exchange_core.specs.declared.refusal.Refusal.{Refusal}
 use Rattle.exchange_core.specs.declared.refusal.Refusal.TheVariants.{NotBuilt}
 use Rattle.exchange_core.specs.ExchangeState.{ExchangeState}
 use Rattle.exchange_core.specs.Failures.{ledger_failure, book_failure, unless_memory}
-use Rattle.exchange_core.specs.Orders.{order_by}
+use Rattle.exchange_core.specs.Orders.{order_by, order_for}
 use Rattle.exchange_core.specs.Reserves.{free_in}
 
 -- ---- by their names in the exchange
@@ -54,6 +53,10 @@ place_refusals state order =
     by_book (book.order_refusals state.book order)
     ++ (by_ledger (by_account state order) ++ by_book (book.room_refusals state.book order.market))
 
+-- what is not built is refused
+abbrev pub not_built : List (Bool × Refusal)
+not_built = (true, NotBuilt) ∷ []
+
 -- a market of several underlyings is not built
 abbrev pub on_several : ℕ → List (Bool × Refusal)
 on_several underlyings = (not (nat_eq underlyings 1), NotBuilt) ∷ []
@@ -65,9 +68,11 @@ refusals state (Withdraw account amount) = by_ledger (payment_refusals state.acc
 refusals state (Market market underlyings) = by_book (book.market_refusals state.book market) ++ on_several underlyings
 refusals state (Trade side account market kind strike price quantity count weights) =
     place_refusals state (order_by side account market kind strike price quantity count weights)
+refusals state (Bundle side account market price quantity bundle) = place_refusals state (order_for side account market price quantity bundle)
 refusals state (Cancel account order) =
     by_ledger (account_refusals state.accounts account) ++ by_book (book.cancel_refusals state.book account order)
 refusals state (Clear market budget) = by_book (book.batch_refusals state.book market)
+refusals state (Settle market count prices) = not_built
 refusals state (Balance account) = by_ledger (account_refusals state.accounts account)
 
 abbrev pub refusal_of : ExchangeState → Command → Option Refusal

@@ -2,8 +2,8 @@
 use Rattle.exchange_core.specs.declared.refusal.Refusal.{Refusal}
 use Rattle.exchange_core.specs.declared.reply.Reply.{Reply}
 use Rattle.exchange_core.specs.declared.reply.Reply.TheVariants.{Refused}
-use Rattle.exchange_core.specs.Refusal.{number_of}
+use Rattle.exchange_core.specs.Refusal.{field_of, number_of}
 
--- the reply to a line that is refused as a whole
+-- the reply to a line that is refused
 abbrev pub refused_with : Refusal → Reply
-refused_with refusal = Refused (number_of refusal) 0
+refused_with refusal = Refused (number_of refusal) (field_of refusal)

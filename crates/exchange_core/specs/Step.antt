@@ -7,17 +7,22 @@ use Rattle.clearing.specs.Outcome.{outcome_of}
 use Rattle.form.specs.declared.orders.Batch.{Batch}
 use Rattle.order_book.specs.declared.new_order.NewOrder.{NewOrder}
 use Rattle.order_book.specs.Book as book
-use Rattle.exchange_core.specs.declared.command.Command.{Command}
-use Rattle.exchange_core.specs.declared.command.Command.TheVariants.{Open, Deposit, Withdraw, Market, Trade, Cancel, Clear, Balance}
+use Rattle.command_text.specs.declared.command.Command.{Command}
+use Rattle.command_text.specs.declared.command.Command.TheVariants.{Open, Deposit, Withdraw, Market, Trade, Bundle, Cancel, Clear, Settle, Balance}
 use Rattle.exchange_core.specs.declared.refusal.Refusal.{Refusal}
+use Rattle.exchange_core.specs.declared.refusal.Refusal.TheVariants.{NotBuilt}
 use Rattle.exchange_core.specs.declared.reply.Reply.{Reply}
 use Rattle.exchange_core.specs.declared.reply.Reply.TheVariants as reply
 use Rattle.exchange_core.specs.ExchangeState.{ExchangeState}
-use Rattle.exchange_core.specs.Orders.{order_by}
+use Rattle.exchange_core.specs.Orders.{order_by, order_for}
 use Rattle.exchange_core.specs.Premiums.{premium_entries}
 use Rattle.exchange_core.specs.Refusals.{refusal_of}
 use Rattle.exchange_core.specs.Reply.{refused_with}
 use Rattle.exchange_core.specs.Reserves.{reserve_in}
+
+-- a refusal leaves the state as it was
+abbrev pub refusal_effect : ExchangeState → Refusal → Reply × ExchangeState
+refusal_effect state refusal = (refused_with refusal, state)
 
 -- ---- the effects of commands that are accepted
 abbrev pub open_effect : ExchangeState → ℕ → Reply × ExchangeState
@@ -74,15 +79,13 @@ effect state (Withdraw account amount) = withdraw_effect state account amount
 effect state (Market market underlyings) = market_effect state market underlyings
 effect state (Trade side account market kind strike price quantity count weights) =
     place_effect state (order_by side account market kind strike price quantity count weights)
+effect state (Bundle side account market price quantity bundle) = place_effect state (order_for side account market price quantity bundle)
 effect state (Cancel account order) = cancel_effect state order
 effect state (Clear market budget) = clear_effect state market budget
+effect state (Settle market count prices) = refusal_effect state NotBuilt
 effect state (Balance account) = balance_effect state account
 
 -- ---- the step
--- a refusal leaves the state as it was
-abbrev pub refusal_effect : ExchangeState → Refusal → Reply × ExchangeState
-refusal_effect state refusal = (refused_with refusal, state)
-
 -- the reply to a command, and the state after it: the first refusal that it meets, or its effect
 abbrev pub step : ExchangeState → Command → Reply × ExchangeState
 step state command = option_map_or (refusal_effect state) (refusal_of state command) (effect state command)

@@ -4,9 +4,9 @@ use Rattle.cash_ledger.specs.declared.entry.Cause.TheVariants as cause
 use Rattle.cash_ledger.specs.Entries.{balance_of}
 use Rattle.form.specs.declared.orders.Side.{Side}
 use Rattle.form.specs.declared.orders.Side.TheVariants.{Buy, Sell}
-use Rattle.exchange_core.specs.declared.command.Command.{Command}
-use Rattle.exchange_core.specs.declared.command.Command.TheVariants.{Open, Withdraw, Market, Trade, Cancel, Clear, Balance}
-use Rattle.exchange_core.specs.declared.command.Kind.TheVariants.{Call}
+use Rattle.command_text.specs.declared.command.Command.{Command}
+use Rattle.command_text.specs.declared.command.Command.TheVariants.{Open, Withdraw, Market, Trade, Cancel, Clear, Balance}
+use Rattle.command_text.specs.declared.command.Kind.TheVariants.{Call}
 use Rattle.exchange_core.specs.declared.refusal.Refusal.TheVariants.{NoAccount, AccountExists, NoMarket, MarketExists, WeightCount, Funds, NoOrder, NotOwner, NotBuilt}
 use Rattle.exchange_core.specs.declared.reply.Reply.TheVariants.{Withdrawn, Cancelled}
 use Rattle.exchange_core.specs.declared.reply.Reply.TheVariants as reply

@@ -14,7 +14,7 @@ ghost use Rattle.exchange_core.specs.Premiums.{premiums_of, premium_entries};
 ghost use Rattle.exchange_core.specs.Failures.{unless_memory};
 ghost use Rattle.exchange_core.specs.Refusals.{by_book};
 ghost use Rattle.exchange_core.specs.Step.{clear_effect, Does};
-ghost use Rattle.exchange_core.specs.Within.{IsBudget};
+ghost use Rattle.command_text.specs.Within.{IsBudget};
 
 use crate::Reply;
 use crate::failure::Failure;

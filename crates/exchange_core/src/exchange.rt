@@ -4,21 +4,22 @@ ghost use Rattle.cash_ledger.specs.Ledger.{balance_in};
 ghost use Rattle.clearing.specs.Outcome.{IsMarked};
 ghost use Rattle.order_book.specs.Within.{IsNewOrderWithin};
 ghost use Rattle.refusals.specs.Refusals.{TellsFirst};
-ghost use Rattle.exchange_core.specs.declared.command.Command.TheVariants as Command;
+ghost use Rattle.command_text.specs.declared.command.Command.TheVariants as Command;
 ghost use Rattle.exchange_core.specs.Covered.{IfCleared, IsMarkedFor};
 ghost use Rattle.exchange_core.specs.ExchangeState.{empty_exchange};
 ghost use Rattle.exchange_core.specs.Kept.{IsKept};
 ghost use Rattle.exchange_core.specs.Failures.{unless_memory};
 ghost use Rattle.exchange_core.specs.Refusals.{refusals, place_refusals};
 ghost use Rattle.exchange_core.specs.Step.{step, effect, place_effect, clear_effect, Does};
-ghost use Rattle.exchange_core.specs.Within.{IsWithin, IsAccount, IsAmount, IsBudget};
+ghost use Rattle.command_text.specs.Within.{IsWithin, IsAccount, IsAmount, IsBudget};
 
 use crate::clear::clear;
 use crate::failure::Failure;
 use crate::place::{cancel, place};
-use crate::trade::option_form;
-use crate::{Command, Refusal, Reply};
+use crate::trade::one_option;
+use crate::{Refusal, Reply};
 use cash_ledger::{Ledger, LedgerRefusal};
+use command_text::Command;
 use order_book::{Book, NewOrder};
 use std::alloc::{AllocError, Global};
 use std::marker::Model;
@@ -194,13 +195,29 @@ impl Exchange {
                 account: *account,
                 market: *market,
                 side: *side,
-                form: option_form(*kind, *strike, *count, weights),
+                bundle: one_option(*kind, *strike, *count, weights),
+                price: *price,
+                quantity: *quantity,
+            }),
+            Command::Bundle {
+                side,
+                account,
+                market,
+                price,
+                quantity,
+                bundle,
+            } => self.place(&NewOrder {
+                account: *account,
+                market: *market,
+                side: *side,
+                bundle: *bundle,
                 price: *price,
                 quantity: *quantity,
             }),
             Command::Cancel { account, order } => self.cancel(*account, *order),
             Command::Clear { market, budget } => self.clear(*market, *budget),
             Command::Balance { account } => self.tell_balance(*account),
+            Command::Settle { .. } => Err(Failure::Refused(Refusal::NotBuilt)),
         }
     }
 

@@ -4,11 +4,9 @@
 #![tactic(auto)]
 
 mod clear;
-mod command;
 mod exchange;
 mod failure;
 pub mod laws;
-mod limits;
 mod place;
 mod refusal;
 mod reply;
@@ -16,9 +14,8 @@ mod reserve;
 mod trade;
 
 pub use cash_ledger::{MAX_ACCOUNT, MAX_AMOUNT};
-pub use command::{Command, Kind};
+pub use command_text::{Command, Kind, MAX_BUDGET, MAX_MARKET};
 pub use exchange::Exchange;
-pub use limits::{MAX_BUDGET, MAX_MARKET};
 pub use order_book::{MAX_ACCEPTED, MAX_BATCHES};
 pub use refusal::Refusal;
 pub use reply::Reply;

@@ -2,7 +2,7 @@
 ghost use Rattle.std.specs.Prelude.{◌≡◌, ◌+◌, IfOk, OnOk, OnErr};
 ghost use Rattle.order_book.specs.Book.{with_order, without_order};
 ghost use Rattle.order_book.specs.Within.{IsNewOrderWithin};
-ghost use Rattle.exchange_core.specs.declared.command.Command.TheVariants as Command;
+ghost use Rattle.command_text.specs.declared.command.Command.TheVariants as Command;
 ghost use Rattle.exchange_core.specs.ExchangeState.{state_of};
 ghost use Rattle.exchange_core.specs.Kept.{AreJoined};
 ghost use Rattle.exchange_core.specs.Refusals.{refusals, place_refusals};

@@ -1,5 +1,5 @@
 ghost use Rattle.std.specs.Prelude.{◌≡◌};
-ghost use Rattle.exchange_core.specs.Refusal.{number_of};
+ghost use Rattle.exchange_core.specs.Refusal.{field_of, number_of};
 
 /// Why a command line is refused. A refused command changes nothing.
 #[derive(Clone, Copy, Debug, PartialEq, Eq)]
@@ -18,6 +18,8 @@ pub enum Refusal {
     Settled,
     /// The option has another number of weights than the market has underlyings.
     WeightCount,
+    /// The number of this field of the line is out of its range.
+    Range { field: u8 },
     /// The account's balance less its reserve is below the amount.
     Funds,
     /// The market has as many live orders as it may have.
@@ -45,12 +47,23 @@ impl Refusal {
             Refusal::MarketExists => 5,
             Refusal::Settled => 6,
             Refusal::WeightCount => 7,
+            Refusal::Range { field: _ } => 8,
             Refusal::Funds => 9,
             Refusal::BookFull => 10,
             Refusal::NoOrder => 11,
             Refusal::NotOwner => 12,
             Refusal::TooMany => 13,
             Refusal::NotBuilt => 90,
+        }
+    }
+
+    /// The field that is told in the reply line: 0 but where a number is out of its range.
+    pub fn field(self) -> u8
+        ensures { result ≡ field_of self }
+    {
+        match self {
+            Refusal::Range { field } => field,
+            _ => 0,
         }
     }
 }

@@ -57,13 +57,13 @@ pub enum Reply {
 }
 
 impl Reply {
-    /// The reply to a line that is refused as a whole.
+    /// The reply to a line that is refused.
     pub fn refused(refusal: Refusal) -> Reply
         ensures { result ≡ refused_with refusal }
     {
         Reply::Refused {
             number: refusal.number(),
-            field: 0,
+            field: refusal.field(),
         }
     }
 }

@@ -1,22 +1,19 @@
-// The option of a trade.
+// The bundle of a trade.
 ghost use Rattle.std.specs.Prelude.{◌≡◌, ◌≤◌, take, unsigned_abs};
 ghost use Rattle.form.specs.declared.limits.TheConstants.{MAX_STRIKE};
+ghost use Rattle.form.specs.BundleOf.{bundle_one};
 ghost use Rattle.form.specs.FormOf.{form_of};
-ghost use Rattle.exchange_core.specs.Orders.{option_by};
+ghost use Rattle.command_text.specs.Options.{option_by};
 
-use crate::command::Kind;
-use form::{Form, call, put};
+use command_text::{Kind, option_form};
+use form::Bundle;
 
-// The form of an option with the first `count` of the weights.
-pub(crate) fn option_form(kind: Kind, strike: i64, count: u8, weights: &[i16; 8]) -> Form
+// One option with the first `count` of the weights, which counts once.
+pub(crate) fn one_option(kind: Kind, strike: i64, count: u8, weights: &[i16; 8]) -> Bundle
     requires some { 1 ≤ count }
     requires few { count ≤ 8 }
     requires strike { unsigned_abs strike ≤ MAX_STRIKE }
-    ensures { result ≡ form_of (option_by kind strike (take count weights.now)) }
+    ensures { result ≡ bundle_one (form_of (option_by kind strike (take count weights.now))) }
 {
-    let weights = &weights[..count as usize];
-    match kind {
-        Kind::Call => call(strike, weights),
-        Kind::Put => put(strike, weights),
-    }
+    Bundle::one(option_form(kind, strike, count, weights))
 }

@@ -1,33 +1,41 @@
-use Rattle.std.proofs.Common.{rules, [], length, map, ◌∙◌, ap, arith, ◌+◌, ◌<◌}
+use Rattle.std.proofs.Common.{rules, get_or, length, map, ◌∙◌, ap, arith, ◌<◌}
 use Rattle.std.proofs.lemmas.List.{get_or-map, length-map}
+use Rattle.command_text.specs.declared.lines.RawLine.{RawLine}
+use Rattle.command_text.specs.Lines.{line_at}
 use Rattle.exchange_cli.specs.Output.{line_output}
 use Rattle.exchange_cli.proofs.Written.{line_written, line_cut, front_written, on_err}
 use Rattle.exchange_cli.proofs.run.answer_all.Goals as goal
 
-pub loop-index-preserved : goal.loop-index-preserved
-loop-index-preserved g c =
-    let i = c.loop-index.index in
-    let state = c.loop-index.exchange in
-    let lines = map (λ p. p.now) c.args.lines.now in
+-- what stands for a line past the last
+abbrev no_line : RawLine
+no_line = record { number = 0; from = 0; to = 0 }
+
+pub loop-line-preserved : goal.loop-line-preserved
+loop-line-preserved g c =
+    let i = c.loop-line.line-index in
+    let state = c.loop-line.exchange in
+    let raw = get_or c.args.lines.now i no_line in
+    let lines = map (line_at c.args.input.now) c.args.lines.now in
     let lt : i < length c.args.lines.now = omega arith in
-    let low : i < length lines = omega (arith, length-map c.args.lines.now (λ p. p.now)) in
-    let at = get_or-map (λ p. p.now) c.args.lines.now i _ [] lt in
-    let is = ap (λ t. (t, c.answer.new.exchange)) c.as_bytes.ensures.value ∙ c.in_ok-text.ensures ∙ ap (line_output (i + 1) state) c.strip_return.ensures in
+    let low : i < length lines = omega (arith, length-map c.args.lines.now (line_at c.args.input.now)) in
+    let at = get_or-map (line_at c.args.input.now) c.args.lines.now i no_line (line_at c.args.input.now raw) lt in
+    let is = ap (λ t. (t, c.answer.new.exchange)) c.as_bytes.ensures.value ∙ c.in_ok-text.ensures ∙ ap (line_output raw.number state) c.text.ensures.bytes in
     record {
-      rest = line_written (i + 1) i state c.answer.new.exchange lines _ c.as_bytes.result.now low at is _ _ _ _ c.loop-index.invariant.rest c.in_ok-write_all.ensures.ok;
+      rest = line_written i state c.answer.new.exchange lines (line_at c.args.input.now raw) c.as_bytes.result.now low at is _ _ _ _ c.loop-line.invariant.rest c.in_ok-write_all.ensures.ok;
       calm = search rules;
     }
 
 pub returns-in_err-text-clause-front : goal.returns-in_err-text-clause-front
-returns-in_err-text-clause-front g c = on_err c.from_residual.result _ (front_written _ _ _ _ c.loop-index.invariant.rest)
+returns-in_err-text-clause-front g c = on_err c.from_residual.result _ (front_written _ _ _ _ c.loop-line.invariant.rest)
 
 pub returns-in_err-write_all-clause-front : goal.returns-in_err-write_all-clause-front
 returns-in_err-write_all-clause-front g c =
-    let i = c.loop-index.index in
-    let state = c.loop-index.exchange in
-    let lines = map (λ p. p.now) c.args.lines.now in
+    let i = c.loop-line.line-index in
+    let state = c.loop-line.exchange in
+    let raw = get_or c.args.lines.now i no_line in
+    let lines = map (line_at c.args.input.now) c.args.lines.now in
     let lt : i < length c.args.lines.now = omega arith in
-    let low : i < length lines = omega (arith, length-map c.args.lines.now (λ p. p.now)) in
-    let at = get_or-map (λ p. p.now) c.args.lines.now i _ [] lt in
-    let is = ap (λ t. (t, c.answer.new.exchange)) c.as_bytes.ensures.value ∙ c.in_ok-text.ensures ∙ ap (line_output (i + 1) state) c.strip_return.ensures in
-    on_err c.from_residual-in_err-write_all.result _ (line_cut (i + 1) i state c.answer.new.exchange lines _ c.as_bytes.result.now low at is _ _ _ _ c.loop-index.invariant.rest c.in_err-write_all.ensures.front)
+    let low : i < length lines = omega (arith, length-map c.args.lines.now (line_at c.args.input.now)) in
+    let at = get_or-map (line_at c.args.input.now) c.args.lines.now i no_line (line_at c.args.input.now raw) lt in
+    let is = ap (λ t. (t, c.answer.new.exchange)) c.as_bytes.ensures.value ∙ c.in_ok-text.ensures ∙ ap (line_output raw.number state) c.text.ensures.bytes in
+    on_err c.from_residual-in_err-write_all.result _ (line_cut i state c.answer.new.exchange lines (line_at c.args.input.now raw) c.as_bytes.result.now low at is _ _ _ _ c.loop-line.invariant.rest c.in_err-write_all.ensures.front)

@@ -1,13 +1,15 @@
-use Rattle.std.proofs.Common.{◌≡◌, ◌+◌, map, drop}
+use Rattle.std.proofs.Common.{◌≡◌, map, drop}
+use Rattle.command_text.specs.Lines.{line_at}
 use Rattle.exchange_core.specs.ExchangeState.{empty_exchange}
 use Rattle.exchange_cli.specs.Output.{output_from}
 use Rattle.exchange_cli.specs.Progress.{HasWritten}
 use Rattle.exchange_cli.proofs.run.answer_all.Given as goal
 
-abbrev pub invariant-loop-index : goal.invariant-loop-index
-invariant-loop-index g l =
+abbrev pub invariant-loop-line : goal.invariant-loop-line
+invariant-loop-line g l =
     let K = g.K.Sink in
+    let lines = map (line_at l.input) l.lines in
     record {
-      rest : HasWritten (K.written l.fn.sink) (K.written l.sink) (output_from 1 empty_exchange (map (λ p. p.now) l.lines)) (output_from (l.index + 1) l.exchange (drop l.index (map (λ p. p.now) l.lines)));
+      rest : HasWritten (K.written l.fn.sink) (K.written l.sink) (output_from empty_exchange lines) (output_from l.exchange (drop l.line-index lines));
       calm : K.faults l.sink ≡ K.faults l.fn.sink;
     }

@@ -1,4 +1,4 @@
-use Rattle.std.proofs.Common.{◌≡◌, ℕ, None, Err, sym, ap, ◌∙◌, ◌++◌, subst}
+use Rattle.std.proofs.Common.{ℕ, Err, sym, ap, ◌∙◌, ◌++◌, subst}
 use Rattle.std.proofs.lemmas.Result.{err_from_is_err_and}
 use Rattle.cash_ledger.specs.declared.ledger.LedgerRefusal.TheVariants as from_ledger
 use Rattle.cash_ledger.specs.Refusals as ledger_refusals

@@ -1,0 +1,13 @@
+// The limits of what a command may say, beside those of forms, orders and accounts.
+
+/// The greatest number of a market.
+pub const MAX_MARKET: u32 = 999_999_999;
+
+/// The greatest number of an order.
+pub const MAX_ORDER: u64 = 1_000_000;
+
+/// The greatest work budget of a clear, in units.
+pub const MAX_BUDGET: u32 = 20_000;
+
+/// The highest settlement price of an underlying, in ticks.
+pub const MAX_SETTLEMENT: u32 = 1_000_000_000;
