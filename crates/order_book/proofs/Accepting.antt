@@ -13,7 +13,7 @@ use Rattle.order_book.specs.declared.refusal.BookRefusal.TheVariants.{NoMarket, 
 use Rattle.order_book.specs.Markets.{MarketState}
 use Rattle.order_book.specs.Book.{BookState, market_of, info_of, is_trading}
 use Rattle.order_book.specs.declared.market.MarketInfo.{MarketInfo}
-use Rattle.order_book.specs.Refusals.{market_refusals, place_refusals, batch_refusals, has_form_for, is_full}
+use Rattle.order_book.specs.Refusals.{market_refusals, place_refusals, batch_refusals, close_refusals, has_form_for, is_full}
 use Rattle.refusals.specs.Refusals.{first_of}
 
 pub record Accepts (book : BookState) (order : NewOrder) : Type 0 where
@@ -59,16 +59,33 @@ accepts book order none = by (market_of book order.market) refl none
           more = less MAX_ACCEPTED book.accepted not_many.0;
         }
 
--- a market whose batch may be finished: it is there, and there is room for one batch more
-pub finishable : (book : BookState) (market : ℕ) → first_of (batch_refusals book market) ≡ None → (m : MarketState) × (market_of book market ≡ Some m) × (book.finished < MAX_BATCHES)
+-- a market whose batch may be finished: it is there and not settled, and there is room for one batch more
+pub finishable : (book : BookState) (market : ℕ) → first_of (batch_refusals book market) ≡ None
+    → (m : MarketState) × (market_of book market ≡ Some m) × (book.finished < MAX_BATCHES) × (m.settled ≡ false)
 finishable book market none = by (market_of book market) refl none
   where
     by : (r : Option MarketState) → market_of book market ≡ r
         → first_of ((not (is_some (option_map info_of r)), NoMarket) ∷ (option_map_or (λ (found : MarketInfo). found.settled) (option_map info_of r) false, Settled)
         ∷ (nat_le MAX_BATCHES book.finished, TooMany) ∷ []) ≡ None
-        → (m : MarketState) × (market_of book market ≡ Some m) × (book.finished < MAX_BATCHES)
+        → (m : MarketState) × (market_of book market ≡ Some m) × (book.finished < MAX_BATCHES) × (m.settled ≡ false)
     by None e h = cc
-    by (Some m) e h = (m, e, less MAX_BATCHES book.finished (passes (nat_le MAX_BATCHES book.finished) TooMany None (passes m.settled Settled _ h).1).0)
+    by (Some m) e h =
+        let unsettled = passes m.settled Settled _ h in
+        (m, e, less MAX_BATCHES book.finished (passes (nat_le MAX_BATCHES book.finished) TooMany None unsettled.1).0, unsettled.0)
+
+-- a market that may be settled at so many prices: it is there, not settled, and on as many underlyings
+pub closable : (book : BookState) (market prices : ℕ) → first_of (close_refusals book market prices) ≡ None
+    → (m : MarketState) × (market_of book market ≡ Some m) × (m.settled ≡ false) × (prices ≡ m.underlyings)
+closable book market prices none = by (market_of book market) refl none
+  where
+    by : (r : Option MarketState) → market_of book market ≡ r
+        → first_of ((not (is_some (option_map info_of r)), NoMarket) ∷ (option_map_or (λ (found : MarketInfo). found.settled) (option_map info_of r) false, Settled)
+        ∷ (option_map_or (λ (found : MarketInfo). not (nat_eq prices found.underlyings)) (option_map info_of r) false, WeightCount) ∷ []) ≡ None
+        → (m : MarketState) × (market_of book market ≡ Some m) × (m.settled ≡ false) × (prices ≡ m.underlyings)
+    by None e h = cc
+    by (Some m) e h =
+        let unsettled = passes m.settled Settled _ h in
+        (m, e, unsettled.0, same_count prices m.underlyings (passes (not (nat_eq prices m.underlyings)) WeightCount None unsettled.1).0)
 
 -- a market that is not settled is there
 pub trading_found : (book : BookState) (market : ℕ) → is_trading book market ≡ true → (m : MarketState) × (market_of book market ≡ Some m)

@@ -6,7 +6,7 @@ use Rattle.std.specs.Option.{option_map_or}
 use Rattle.std.proofs.lemmas.List.Elements.{All-head, All-tail, filter-append}
 use Rattle.form.specs.declared.orders.Order.{Order}
 use Rattle.order_book.specs.Kept.{IsMarketKept}
-use Rattle.order_book.specs.Markets.{MarketState, Markets, has_number, live_in, live_orders, with_live, with_live_in, without, without_in_each}
+use Rattle.order_book.specs.Markets.{MarketState, Markets, has_number, changed_in, live_in, live_orders, without, without_in_each}
 use Rattle.order_book.specs.Numbers.{number_count}
 use Rattle.order_book.proofs.LiveOrders.{number_count-append, fresh_counted}
 
@@ -24,18 +24,19 @@ live-without_in_each number (m ∷ markets) =
 
 -- a sum over orders, as the live orders of one market are others
 module _ (f : List Order → ℕ) (append : (xs ys : List Order) → f (xs ++ ys) ≡ f xs + f ys) where
-  pub sum-replaced : (market : ℕ) (live : List Order) (markets : Markets) → IsSome (lookup (nat_eq market) markets)
-      → f (live_orders (with_live_in market live markets)) + f (live_in market markets) ≡ f (live_orders markets) + f live
-  sum-replaced market live [] there = cc
-  sum-replaced market live (m ∷ markets) there =
+  pub sum-replaced : (market : ℕ) (change : MarketState → MarketState) (live : List Order) → ((m : MarketState) → (change m).live ≡ live)
+      → (markets : Markets) → IsSome (lookup (nat_eq market) markets)
+      → f (live_orders (changed_in change market markets)) + f (live_in market markets) ≡ f (live_orders markets) + f live
+  sum-replaced market change live is [] there = cc
+  sum-replaced market change live is (m ∷ markets) there =
       let more = append m.1.live (live_orders markets) in
       let Goal : Bool → Type 0 = λ b. IsSome (cond b (Some m.1) (lookup (nat_eq market) markets))
-      → f (live_orders (if b then (m.0, with_live m.1 live) ∷ markets else m ∷ with_live_in market live markets))
+      → f (live_orders (if b then (m.0, change m.1) ∷ markets else m ∷ changed_in change market markets))
       + f (option_map_or (λ (s : MarketState). s.live) (cond b (Some m.1) (lookup (nat_eq market) markets)) [])
       ≡ f (m.1.live ++ live_orders markets) + f live in
       (elim (nat_eq market m.0) as Goal [
-        | true ↦ λ h. omega (arith, more, append live (live_orders markets))
-        | false ↦ λ h. omega (arith, more, append m.1.live (live_orders (with_live_in market live markets)), sum-replaced market live markets h)
+        | true ↦ λ h. omega (arith, more, append (change m.1).live (live_orders markets), ap f (is m.1))
+        | false ↦ λ h. omega (arith, more, append m.1.live (live_orders (changed_in change market markets)), sum-replaced market change live is markets h)
       ]) there
 
 -- no live order has the number that comes next

@@ -17,9 +17,9 @@ use Rattle.form.specs.Bundles.{IsOnCount}
 use Rattle.form.specs.Limits.{IsOrderWithin, IsWithinLimits}
 use Rattle.order_book.specs.declared.limits.TheConstants.{MAX_MARKETS, MAX_ACCEPTED, MAX_BATCHES}
 use Rattle.order_book.specs.declared.new_order.NewOrder.{NewOrder}
-use Rattle.order_book.specs.Markets.{MarketState, Markets, has_number, live_in, live_orders, with_live, with_live_in, without, without_in_each}
+use Rattle.order_book.specs.Markets.{MarketState, Markets, closed, has_number, changed_in, live_in, live_orders, with_live, with_live_in, without, without_in_each}
 use Rattle.order_book.specs.Numbers.{number_count, AreNumberedApart}
-use Rattle.order_book.specs.Book.{BookState, market_of, batch_of, with_market, with_number, with_order, without_order, after_batch}
+use Rattle.order_book.specs.Book.{BookState, market_of, batch_of, with_market, with_number, with_order, without_order, after_batch, after_close}
 use Rattle.order_book.specs.Within.{IsNewOrderWithin}
 use Rattle.order_book.specs.Kept.{IsLive, IsMarketKept, IsBookKept}
 use Rattle.order_book.proofs.Accepting.{Accepts}
@@ -101,34 +101,45 @@ module _ (book : BookState) (kept : IsBookKept book) where
   pub live_within : (market place : ℕ) (m : MarketState) → market_of book market ≡ Some m → IfSome (slice_get m.live place) IsOrderWithin
   live_within market place m found = at_place place m.live (orders_within book.accepted m (market_kept market m found))
 
-  -- one market with other live orders
+  -- one market changed
   module _ (market : ℕ) (m : MarketState) (found : market_of book market ≡ Some m) where
-    changed_markets : (live : List Order) (accepted : ℕ) → book.accepted ≤ accepted → IsMarketKept accepted (with_live m live) → All (λ (e : ℕ × MarketState). IsMarketKept accepted e.1) (with_live_in market live book.markets)
-    changed_markets live accepted le one =
+    changed_markets : (change : MarketState → MarketState) (accepted : ℕ) → book.accepted ≤ accepted → IsMarketKept accepted (change m) → All (λ (e : ℕ × MarketState). IsMarketKept accepted e.1) (changed_in change market book.markets)
+    changed_markets change accepted le one =
         all_changed market IsOneKept (λ e. IsMarketKept accepted e.1) (λ e ne k. later_kept book.accepted accepted le e.1 k)
-        live book.markets m kept.distinct found (λ _. one) kept.markets
+        change book.markets m kept.distinct found (λ _. one) kept.markets
 
-    changed_book : (live : List Order) (accepted finished : ℕ) → book.accepted ≤ accepted → accepted ≤ MAX_ACCEPTED → finished ≤ MAX_BATCHES → IsMarketKept accepted (with_live m live)
-        → AreNumberedApart (live_orders (with_live_in market live book.markets))
-        → IsBookKept (record { markets = with_live_in market live book.markets; accepted = accepted; finished = finished })
-    changed_book live accepted finished le few few_batches one apart =
-        let long = length_changed market live book.markets m found in
+    changed_book : (change : MarketState → MarketState) (accepted finished : ℕ) → book.accepted ≤ accepted → accepted ≤ MAX_ACCEPTED → finished ≤ MAX_BATCHES → IsMarketKept accepted (change m)
+        → AreNumberedApart (live_orders (changed_in change market book.markets))
+        → IsBookKept (record { markets = changed_in change market book.markets; accepted = accepted; finished = finished })
+    changed_book change accepted finished le few few_batches one apart =
+        let long = length_changed market change book.markets m found in
         let short = kept.few in
         record {
           few = omega arith;
-          distinct = subst (IsDistinct nat_eq) (sym (keys_changed market live book.markets m found)) kept.distinct;
-          markets = changed_markets live accepted le one;
+          distinct = subst (IsDistinct nat_eq) (sym (keys_changed market change book.markets m found)) kept.distinct;
+          markets = changed_markets change accepted le one;
           numbers = apart;
           accepted = few;
           finished = few_batches;
         }
 
-    pub kept-after_batch : book.finished < MAX_BATCHES → IsBookKept (after_batch book market)
-    kept-after_batch more =
+    -- without live orders, settled or not
+    emptied : (settled : Bool) → IsMarketKept book.accepted (record { underlyings = m.underlyings; settled = settled; live = [] })
+    emptied settled =
         let k = market_kept market m found in
-        changed_book [] book.accepted (book.finished + 1) (omega arith) kept.accepted (omega arith)
-        (record { some = k.some; few = k.few; room = omega arith; rise = (λ i h. absurd (omega arith)); live = All-nil (IsLive m.underlyings book.accepted); settled = λ is. refl })
-        (λ q. omega (arith, sum-replaced (number_count q) (number_count-append q) market [] book.markets (subst IsSome (sym found) refl), kept.numbers q))
+        record { some = k.some; few = k.few; room = omega arith; rise = (λ i h. absurd (omega arith)); live = All-nil (IsLive m.underlyings book.accepted); settled = λ is. refl }
+
+    emptied_book : (change : MarketState → MarketState) (finished : ℕ) → ((s : MarketState) → (change s).live ≡ []) → finished ≤ MAX_BATCHES → IsMarketKept book.accepted (change m)
+        → IsBookKept (record { markets = changed_in change market book.markets; accepted = book.accepted; finished = finished })
+    emptied_book change finished none few_batches one =
+        changed_book change book.accepted finished (omega arith) kept.accepted few_batches one
+        (λ q. omega (arith, sum-replaced (number_count q) (number_count-append q) market change [] none book.markets (subst IsSome (sym found) refl), kept.numbers q))
+
+    pub kept-after_batch : book.finished < MAX_BATCHES → IsBookKept (after_batch book market)
+    kept-after_batch more = emptied_book (λ s. with_live s []) (book.finished + 1) (λ s. refl) (omega arith) (emptied m.settled)
+
+    pub kept-after_close : IsBookKept (after_close book market)
+    kept-after_close = emptied_book closed book.finished (λ s. refl) kept.finished (emptied true)
 
   pub kept-with_market : (market underlyings : ℕ) → market_of book market ≡ None → 1 ≤ underlyings → underlyings ≤ MAX_UNDERLYINGS → length book.markets < MAX_MARKETS → IsBookKept (with_market book market underlyings)
   kept-with_market market underlyings fresh some few room =
@@ -170,7 +181,7 @@ module _ (book : BookState) (kept : IsBookKept book) where
     placed_numbers q =
         let live = live_in order.market book.markets in
         by (nat_eq q (book.accepted + 1)) refl (number_count-append q live (with_number (book.accepted + 1) order ∷ []))
-        (sum-replaced (number_count q) (number_count-append q) order.market (live ++ with_number (book.accepted + 1) order ∷ []) book.markets (subst IsSome (sym a.found) refl))
+        (sum-replaced (number_count q) (number_count-append q) order.market (λ s. with_live s (live ++ with_number (book.accepted + 1) order ∷ [])) (live ++ with_number (book.accepted + 1) order ∷ []) (λ s. refl) book.markets (subst IsSome (sym a.found) refl))
       where
         none : nat_eq q (book.accepted + 1) ≡ true → number_count q (live_orders book.markets) ≡ 0
         none same =
@@ -189,7 +200,7 @@ module _ (book : BookState) (kept : IsBookKept book) where
     kept-with_order =
         let more = a.more in
         let is = live_found order.market book.markets a.market a.found in
-        changed_book order.market a.market a.found _ (book.accepted + 1) book.finished (omega arith) (omega arith) kept.finished (placed_market _ is) placed_numbers
+        changed_book order.market a.market a.found (λ s. with_live s (live_in order.market book.markets ++ with_number (book.accepted + 1) order ∷ [])) (book.accepted + 1) book.finished (omega arith) (omega arith) kept.finished (placed_market _ is) placed_numbers
 
   pub kept-without_order : (number : ℕ) → IsBookKept (without_order book number)
   kept-without_order number =

@@ -7,7 +7,7 @@ use Rattle.form.specs.declared.orders.Order.{Order}
 use Rattle.form.specs.declared.orders.Batch.{Batch}
 use Rattle.order_book.specs.declared.market.MarketInfo.{MarketInfo}
 use Rattle.order_book.specs.declared.new_order.NewOrder.{NewOrder}
-use Rattle.order_book.specs.Markets.{MarketState, Markets, has_number, live_in, live_orders, with_live_in, without_in_each}
+use Rattle.order_book.specs.Markets.{MarketState, Markets, closed, has_number, changed_in, live_in, live_orders, with_live_in, without_in_each}
 
 pub record BookState : Type 0 where
   pub markets : Markets
@@ -84,3 +84,7 @@ without_order book number = record book { markets = without_in_each number book.
 -- the book with a batch of the market finished: it has no live orders left
 abbrev pub after_batch : BookState → ℕ → BookState
 after_batch book market = record book { markets = with_live_in market [] book.markets; finished = book.finished + 1 }
+
+-- the book with the market settled: its live orders have lapsed
+abbrev pub after_close : BookState → ℕ → BookState
+after_close book market = record book { markets = changed_in closed market book.markets }

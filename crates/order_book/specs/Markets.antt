@@ -1,5 +1,5 @@
 -- Markets as plain lists.
-use Rattle.std.specs.Prelude.{ℕ, Bool, List, [], ◌∷◌, nat_eq, not, filter, map, Option, Some, None, is_some, if◌then◌else◌}
+use Rattle.std.specs.Prelude.{ℕ, Bool, true, List, [], ◌∷◌, nat_eq, not, filter, map, Option, Some, None, is_some, if◌then◌else◌}
 use Rattle.std.specs.List.{find, flat_map}
 use Rattle.std.specs.Map.{lookup}
 use Rattle.std.specs.Option.{option_map_or}
@@ -31,10 +31,18 @@ live_in market markets = option_map_or (λ (m : MarketState). m.live) (lookup (n
 abbrev pub live_orders : Markets → List Order
 live_orders markets = flat_map (λ (m : ℕ × MarketState). m.1.live) markets
 
+-- a market that is settled: it has no live orders
+abbrev pub closed : MarketState → MarketState
+closed market = record market { settled = true; live = [] }
+
+-- the markets with one of them changed
+abbrev pub changed_in : (MarketState → MarketState) → ℕ → Markets → Markets
+changed_in change market [] = []
+changed_in change market (m ∷ markets) = if nat_eq market m.0 then (m.0, change m.1) ∷ markets else m ∷ changed_in change market markets
+
 -- the markets with other live orders in one of them
 abbrev pub with_live_in : ℕ → List Order → Markets → Markets
-with_live_in market live [] = []
-with_live_in market live (m ∷ markets) = if nat_eq market m.0 then (m.0, with_live m.1 live) ∷ markets else m ∷ with_live_in market live markets
+with_live_in market live markets = changed_in (λ m. with_live m live) market markets
 
 -- the orders but those with the number
 abbrev pub without : ℕ → List Order → List Order

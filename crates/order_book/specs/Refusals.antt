@@ -66,6 +66,14 @@ room_refusals book market =
 abbrev pub place_refusals : BookState → NewOrder → List (Bool × BookRefusal)
 place_refusals book order = order_refusals book order ++ room_refusals book order.market
 
+-- of a market that is to be settled at this number of prices
+abbrev pub close_refusals : BookState → ℕ → ℕ → List (Bool × BookRefusal)
+close_refusals book market prices =
+    (not (is_market book market), NoMarket)
+    ∷ (is_settled book market, Settled)
+    ∷ (market_has book market (λ found. not (nat_eq prices found.underlyings)), WeightCount)
+    ∷ []
+
 -- of a live order that an account cancels
 abbrev pub cancel_refusals : BookState → ℕ → ℕ → List (Bool × BookRefusal)
 cancel_refusals book account number =

@@ -1,11 +1,11 @@
-ghost use Rattle.std.specs.Prelude.{◌≡◌, ◌+◌, ◌≤◌, ◌<◌, ◌≢◌, ℕ, nat_eq, true, Some, Err, slice_get, IfOk, IfSome, OnOk, OnErr};
+ghost use Rattle.std.specs.Prelude.{◌≡◌, ◌+◌, ◌≤◌, ◌<◌, ◌≢◌, ℕ, length, nat_eq, true, Some, Err, slice_get, IfOk, IfSome, OnOk, OnErr};
 ghost use Rattle.std.specs.Option.{option_map};
 ghost use Rattle.form.specs.declared.limits.TheConstants.{MAX_ORDERS, MAX_UNDERLYINGS};
 ghost use Rattle.form.specs.Limits.{IsOrderWithin, IsWithinLimits};
 ghost use Rattle.order_book.specs.declared.limits.TheConstants.{MAX_BATCHES};
 ghost use Rattle.order_book.specs.declared.refusal.BookRefusal.TheVariants as BookRefusal;
-ghost use Rattle.order_book.specs.Book.{empty_book, market_of, live_of, order_of, info_in, is_trading, batch_of, with_number, with_market, with_order, without_order, after_batch};
-ghost use Rattle.order_book.specs.Refusals.{unless_memory, market_refusals, order_refusals, room_refusals, place_refusals, batch_refusals, cancel_refusals};
+ghost use Rattle.order_book.specs.Book.{empty_book, market_of, live_of, order_of, info_in, is_trading, batch_of, with_number, with_market, with_order, without_order, after_batch, after_close};
+ghost use Rattle.order_book.specs.Refusals.{unless_memory, market_refusals, order_refusals, room_refusals, place_refusals, batch_refusals, close_refusals, cancel_refusals};
 ghost use Rattle.order_book.specs.Within.{IsNewOrderWithin};
 ghost use Rattle.order_book.specs.Kept.{IsBookKept};
 ghost use Rattle.refusals.specs.Refusals.{TellsFirst};
@@ -211,6 +211,34 @@ impl Book {
         self.markets.clear(market);
         self.finished += 1;
         self.finished
+    }
+
+    /// Looks whether a market may be settled at this number of prices.
+    ///
+    /// The first of these: `NoMarket` where no market has the number; `Settled` where it is settled; `WeightCount` where
+    /// it has another number of underlyings. Takes no memory.
+    pub fn check_close(&self, market: u32, prices: u8) -> Result<(), BookRefusal>
+        ensures refused { TellsFirst unless_memory result (close_refusals self.now market prices) }
+        ensures no_memory { result ≢ Err BookRefusal.Memory }
+    {
+        let market = self.info(market).ok_or(BookRefusal::NoMarket)?;
+        if market.settled {
+            return Err(BookRefusal::Settled);
+        }
+        if prices != market.underlyings {
+            return Err(BookRefusal::WeightCount);
+        }
+        Ok(())
+    }
+
+    /// Settles a market that is there and not settled, for good: its live orders lapse. Answers how many they were.
+    /// Takes no memory.
+    pub fn close(&mut self, market: u32) -> u32
+        requires { is_trading self.old market ≡ true }
+        ensures lapsed { result ≡ length (live_of self.old market) }
+        ensures closed { self.new ≡ after_close self.old market }
+    {
+        self.markets.close(market) as u32
     }
 
     /// The live order of a market at a place, counted from 0 in rising number.

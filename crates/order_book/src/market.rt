@@ -3,7 +3,7 @@ ghost use Rattle.std.specs.Prelude.{◌≡◌, ◌≤◌, ◌++◌, [], ◌∷�
 ghost use Rattle.std.specs.List.{find};
 ghost use Rattle.form.specs.declared.limits.TheConstants.{MAX_ORDERS};
 ghost use Rattle.order_book.specs.Book.{batch_of, info_of};
-ghost use Rattle.order_book.specs.Markets.{has_number, with_live, without};
+ghost use Rattle.order_book.specs.Markets.{closed, has_number, with_live, without};
 
 use crate::live_orders::LiveOrders;
 use form::{Batch, Order, Orders};
@@ -111,5 +111,16 @@ impl Market {
         ensures { self.new ≡ with_live self.old [] }
     {
         self.live.clear();
+    }
+
+    // Settles the market for good. Answers how many live orders lapse.
+    pub(crate) fn close(&mut self) -> usize
+        ensures lapsed { result ≡ length self.old.live }
+        ensures closed { self.new ≡ closed self.old }
+    {
+        let lapsed = self.live.len();
+        self.clear();
+        self.settled = true;
+        lapsed
     }
 }

@@ -3,7 +3,7 @@ ghost use Rattle.std.specs.Prelude.{◌≡◌, ◌≤◌, ◌++◌, [], ◌∷�
 ghost use Rattle.std.specs.List.{find};
 ghost use Rattle.std.specs.Map.{lookup};
 ghost use Rattle.std.specs.Option.{option_copied};
-ghost use Rattle.order_book.specs.Markets.{has_number, live_in, with_live_in, without, holder_of};
+ghost use Rattle.order_book.specs.Markets.{closed, has_number, changed_in, live_in, with_live_in, without, holder_of};
 
 use crate::market::Market;
 use form::Order;
@@ -108,5 +108,14 @@ impl Markets {
         ensures { self.new ≡ with_live_in market [] self.old }
     {
         self.by_number.get_mut(&market).unwrap().clear();
+    }
+
+    // Settles a market that is there, for good. Answers how many of its live orders lapse.
+    pub(crate) fn close(&mut self, market: u32) -> usize
+        requires { IsSome (lookup (nat_eq market) self.old) }
+        ensures lapsed { result ≡ length (live_in market self.old) }
+        ensures closed { self.new ≡ changed_in closed market self.old }
+    {
+        self.by_number.get_mut(&market).unwrap().close()
     }
 }

@@ -13,7 +13,7 @@ pub enum BookRefusal {
     MarketExists,
     #[error("the market is settled")]
     Settled,
-    #[error("the option has another number of underlyings than the market")]
+    #[error("the market is on another number of underlyings")]
     WeightCount,
     #[error("the market has as many live orders as it may have")]
     BookFull,
