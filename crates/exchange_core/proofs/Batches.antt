@@ -17,7 +17,8 @@ use Rattle.frac.specs.declared.frac128.Frac128.{Frac128}
 use Rattle.frac.specs.Value.{fraction_of}
 use Rattle.order_book.specs.Book.{BookState, batch_of, market_of, live_of}
 use Rattle.order_book.specs.Markets.{MarketState}
-use Rattle.order_book.proofs.MarketLists.{at_found}
+use Rattle.order_book.proofs.MarketLists.{at_found, live_found}
+use Rattle.order_book.proofs.BookKept.{market_kept, orders_within}
 use Rattle.settlement.specs.Premium.{IsHeld}
 use Rattle.exchange_core.specs.Kept.{AreJoined, IsOfOpen, IsOnOne, IsPayable}
 use Rattle.exchange_core.proofs.LiveAccounts.{All-live_in}
@@ -45,6 +46,17 @@ pub batch_payable : (ledger : LedgerState) (book : BookState) → AreJoined ledg
 batch_payable ledger book joined market batch live within accounts orders same are =
     let held = subst (λ l. All (IsOfOpen l) (live_of book market)) (sym same) (All-live_in (IsOfOpen ledger.accounts) market book.markets joined.kept.accounts) in
     subst (λ l. All (IsPayable accounts) l) (sym are) (payable accounts batch.orders (subst (λ l. All (IsOfOpen accounts) l) live held) within)
+
+pub market_there : (book : BookState) (market : ℕ) (m : MarketState) → market_of book market ≡ Some m → IsSome (market_of book market)
+market_there book market m found = subst IsSome (sym found) refl
+
+-- the live orders of a market
+pub live_payable : (ledger : LedgerState) (book : BookState) → AreJoined ledger book → (market : ℕ) (m : MarketState) → market_of book market ≡ Some m
+    → (accounts : List ℕ) → accounts ≡ ledger.accounts → All (IsPayable accounts) (live_of book market)
+live_payable ledger book joined market m found accounts same =
+    let within = orders_within book.accepted m (market_kept book joined.kept.book market m found) in
+    let held = subst (λ l. All (IsOfOpen l) (live_of book market)) (sym same) (All-live_in (IsOfOpen ledger.accounts) market book.markets joined.kept.accounts) in
+    payable accounts (live_of book market) held (subst (All IsOrderWithin) (sym (live_found market book.markets m found)) within)
 
 -- ---- the batch may be cleared
 -- it is on one underlying

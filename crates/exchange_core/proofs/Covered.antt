@@ -60,7 +60,7 @@ module _ (P : Batch → Outcome → Type 0) (each : clearing.OfEachOutcome P) wh
   effect_has state (Bundle side account market price quantity bundle) kept none = tt
   effect_has state (Cancel account order) kept none = tt
   effect_has state (Clear market budget) kept none =
-      each (batch_in state market) budget (on_one state.book kept.book kept.single market (unsettled state.book market) (market_of state.book market) refl none)
+      each (batch_in state market) budget (on_one state.book kept.orders.book kept.orders.single market (unsettled state.book market) (market_of state.book market) refl none)
   effect_has state (Settle market count prices) kept none = tt
   effect_has state (BalanceOf account) kept none = tt
 

@@ -16,7 +16,7 @@ use Rattle.order_book.specs.Refusals as book_refusals
 use Rattle.refusals.specs.Refusals.{first_of}
 use Rattle.refusals.proofs.FirstRefusal.{IsAlike, first_behind, none_in_both, none_unnamed}
 use Rattle.exchange_core.specs.declared.refusal.Refusal.TheVariants.{NoAccount, AccountExists, NoMarket, MarketExists, Settled, WeightCount, Funds, BookFull, NoOrder, NotOwner, TooMany, NotBuilt}
-use Rattle.exchange_core.specs.ExchangeState.{ExchangeState, state_of}
+use Rattle.exchange_core.specs.ExchangeState.{ExchangeState, without_positions}
 use Rattle.exchange_core.specs.Failures.{ledger_failure, book_failure, unless_memory}
 use Rattle.exchange_core.specs.Kept.{AreJoined}
 use Rattle.exchange_core.specs.Refusals.{ledger_name, book_name, by_ledger, by_book, cost_refusals, order_cost_refusals, by_account, place_refusals, on_several}
@@ -43,10 +43,10 @@ book_alike from_book.Memory = record { alike = inl (refl, refl, refl) }
 
 -- ---- what is free of a balance, by ledger and exchange
 module _ (ledger : LedgerState) (book : BookState) (joined : AreJoined ledger book) where
-  pub free-joined : (account : ℕ) → free_of ledger account ≡ free_in (state_of ledger book) account
+  pub free-joined : (account : ℕ) → free_of ledger account ≡ free_in (without_positions ledger book) account
   free-joined account = ap (λ n. balance_of account ledger.entries -ℤ pos n) (joined.reserves account)
 
-  pub cost-joined : (order : NewOrder) → order_cost_refusals ledger order ≡ by_account (state_of ledger book) order
+  pub cost-joined : (order : NewOrder) → order_cost_refusals ledger order ≡ by_account (without_positions ledger book) order
   cost-joined order = ap (λ free. cost_refusals order.side ledger.accounts order.account free (order.quantity * order.price)) (free-joined order.account)
 
 -- ---- where nothing is refused
@@ -84,6 +84,9 @@ place_none state order none =
       first_behind market room (none_unnamed book_name market (refl, (refl, (refl, tt))) parts.0) ∙ none_unnamed book_name room (refl, (refl, tt)) others.1,
       cost_open order.side state.accounts order.account (free_in state order.account) (order.quantity * order.price) (cost_unnamed order.side state.accounts order.account (free_in state order.account) (order.quantity * order.price) others.0),
     )
+
+pub close_none : (book : BookState) (market prices : ℕ) → first_of (by_book (book_refusals.close_refusals book market prices)) ≡ None → first_of (book_refusals.close_refusals book market prices) ≡ None
+close_none book market prices none = none_unnamed book_name (book_refusals.close_refusals book market prices) (refl, (refl, (refl, tt))) none
 
 pub batch_none : (book : BookState) (market : ℕ) → first_of (by_book (book_refusals.batch_refusals book market)) ≡ None → first_of (book_refusals.batch_refusals book market) ≡ None
 batch_none book market none = none_unnamed book_name (book_refusals.batch_refusals book market) (refl, (refl, (refl, tt))) none

@@ -5,17 +5,16 @@ use Rattle.cash_ledger.specs.Ledger.{LedgerState, is_open, reserved_of}
 use Rattle.cash_ledger.specs.declared.limits.TheConstants.{MAX_RESERVED}
 use Rattle.form.specs.declared.orders.Order.{Order}
 use Rattle.order_book.specs.declared.new_order.NewOrder.{NewOrder}
-use Rattle.order_book.specs.Book.{BookState, market_of, live_of, order_of, with_number, with_market, with_order, without_order, after_batch}
-use Rattle.order_book.specs.Markets.{live_orders}
+use Rattle.order_book.specs.Book.{BookState, market_of, live_of, order_of, with_number, with_market, with_order, without_order, after_batch, after_close}
+use Rattle.order_book.specs.Markets.{MarketState, closed, live_orders, with_live}
 use Rattle.order_book.specs.Refusals.{market_refusals, place_refusals, batch_refusals}
 use Rattle.refusals.specs.Refusals.{first_of}
 use Rattle.order_book.specs.Within.{IsNewOrderWithin}
 use Rattle.order_book.proofs.Accepting.{accepts, finishable}
 use Rattle.order_book.proofs.AllLive.{live-without_in_each, live-with_market}
-use Rattle.exchange_core.specs.ExchangeState.{state_of}
-use Rattle.exchange_core.specs.Kept.{IsKept, AreJoined}
+use Rattle.exchange_core.specs.Kept.{AreOrdersKept, AreJoined}
 use Rattle.exchange_core.specs.Reserves.{cost_of_new, reserve_by, reserve_of, own_amount, AddsReserve, FreesReserve, FreesReserves}
-use Rattle.exchange_core.proofs.Keeping.{kept-entries, kept-open, kept-market, kept-place, kept-cancel, kept-batch}
+use Rattle.exchange_core.proofs.Keeping.{kept-open, kept-market, kept-place, kept-cancel, kept-batch, kept-close}
 use Rattle.exchange_core.proofs.ReserveSums.{reserve_of-append, reserve_of-replaced, reserve_of-without, reserve_of-small}
 
 module _ (ledger : LedgerState) (book : BookState) (joined : AreJoined ledger book) where
@@ -24,8 +23,8 @@ module _ (ledger : LedgerState) (book : BookState) (joined : AreJoined ledger bo
   reserve_bounded q = omega (arith, joined.reserves q, reserve_of-small q book.accepted book.markets joined.kept.book.markets, joined.kept.book.few)
 
   module _ (after : LedgerState) (same : after.accounts ≡ ledger.accounts) where
-    kept : IsKept (state_of after book)
-    kept = kept-entries (state_of ledger book) joined.kept after.accounts after.entries same
+    kept : AreOrdersKept after.accounts book
+    kept = subst (λ l. AreOrdersKept l book) (sym same) joined.kept
 
     -- nothing is reserved and nothing is placed
     pub joined-entries : ((q : ℕ) → reserved_of after q ≡ reserved_of ledger q) → AreJoined after book
@@ -39,14 +38,14 @@ module _ (ledger : LedgerState) (book : BookState) (joined : AreJoined ledger bo
         let live = live_of book order.market in
         let there = subst IsSome (sym (accepts book order none).found) refl in
         record {
-          kept = kept-place (state_of after book) kept order within none (ap (λ l. is_open l order.account) same ∙ held);
-          reserves = λ q. omega (arith, reserves q, joined.reserves q, reserve_of-append q live (new ∷ []), reserve_of-replaced q order.market (live ++ new ∷ []) book.markets there);
+          kept = kept-place after.accounts book kept order within none (ap (λ l. is_open l order.account) same ∙ held);
+          reserves = λ q. omega (arith, reserves q, joined.reserves q, reserve_of-append q live (new ∷ []), reserve_of-replaced q order.market (λ m. with_live m (live ++ new ∷ [])) (live ++ new ∷ []) (λ m. refl) book.markets there);
         }
 
     pub joined-cancel : (number : ℕ) (order : Order) → order_of book number ≡ Some order → FreesReserve ledger after order
         → AreJoined after (without_order book number)
     joined-cancel number order found reserves = record {
-      kept = kept-cancel (state_of after book) kept number;
+      kept = kept-cancel after.accounts book kept number;
       reserves = λ q. omega (arith, reserves q, joined.reserves q, ap (reserve_of q) (live-without_in_each number book.markets), reserve_of-without q number order (live_orders book.markets) found (joined.kept.book.numbers number));
     }
 
@@ -54,26 +53,35 @@ module _ (ledger : LedgerState) (book : BookState) (joined : AreJoined ledger bo
         → FreesReserves ledger after (live_of book market)
         → AreJoined after (after_batch book market)
     joined-batch market none reserves =
-        let (m, found, more) = finishable book market none in
+        let (m, found, more, unsettled) = finishable book market none in
         let there = subst IsSome (sym found) refl in
         record {
-          kept = kept-batch (state_of after book) kept market none;
-          reserves = λ q. omega (arith, reserves q, joined.reserves q, reserve_of-replaced q market [] book.markets there);
+          kept = kept-batch after.accounts book kept market none;
+          reserves = λ q. omega (arith, reserves q, joined.reserves q, reserve_of-replaced q market (λ m. with_live m []) [] (λ m. refl) book.markets there);
+        }
+
+    pub joined-close : (market : ℕ) (m : MarketState) → market_of book market ≡ Some m → FreesReserves ledger after (live_of book market)
+        → AreJoined after (after_close book market)
+    joined-close market m found reserves =
+        let there = subst IsSome (sym found) refl in
+        record {
+          kept = kept-close after.accounts book kept market m found;
+          reserves = λ q. omega (arith, reserves q, joined.reserves q, reserve_of-replaced q market closed [] (λ m. refl) book.markets there);
         }
 
   -- an account more
   pub joined-open : (after : LedgerState) (account : ℕ) → after.accounts ≡ ledger.accounts ++ account ∷ [] → ((q : ℕ) → reserved_of after q ≡ reserved_of ledger q) → AreJoined after book
   joined-open after account same reserves =
-      let opened = kept-open (state_of ledger book) joined.kept account in
+      let opened = kept-open ledger.accounts book joined.kept account in
       record {
-        kept = kept-entries _ opened after.accounts after.entries same;
+        kept = subst (λ l. AreOrdersKept l book) (sym same) opened;
         reserves = λ q. reserves q ∙ joined.reserves q;
       }
 
   -- a market more
   pub joined-market : (market underlyings : ℕ) → first_of (market_refusals book market) ≡ None → underlyings ≡ 1 → AreJoined ledger (with_market book market underlyings)
   joined-market market underlyings none one = record {
-    kept = kept-market (state_of ledger book) joined.kept market underlyings none one;
+    kept = kept-market ledger.accounts book joined.kept market underlyings none one;
     reserves = λ q. joined.reserves q ∙ ap (reserve_of q) (sym (live-with_market market underlyings book.markets));
   }
 
@@ -84,7 +92,7 @@ module _ (ledger : LedgerState) (book : BookState) (joined : AreJoined ledger bo
 
   -- and of each account at least what the orders of one market reserve
   pub reserve_live : (market : ℕ) → IsSome (market_of book market) → (q : ℕ) → reserve_of q (live_of book market) ≤ reserved_of ledger q
-  reserve_live market there q = omega (arith, joined.reserves q, reserve_of-replaced q market [] book.markets there)
+  reserve_live market there q = omega (arith, joined.reserves q, reserve_of-replaced q market (λ m. with_live m []) [] (λ m. refl) book.markets there)
 
 pub own_amount-own : (account amount : ℕ) → own_amount account account amount ≡ amount
 own_amount-own account amount = grind (arith, nat_tests)

@@ -1,11 +1,10 @@
 -- What an exchange keeps stays true at each command.
-use Rattle.std.proofs.Common.{◌≡◌, ℕ, ◌+◌, ◌*◌, ◌≤◌, ℤ, pos, unsigned_abs, map, List, [], ◌∷◌, ◌++◌, take, true, false, nat_eq, Option, None, Some, refl, sym, ap, ◌∙◌, subst, arith}
+use Rattle.std.proofs.Common.{◌≡◌, ℕ, ◌+◌, ◌*◌, ◌≤◌, ℤ, pos, unsigned_abs, map, List, [], ◌∷◌, ◌++◌, take, true, false, nat_eq, Option, None, Some, refl, sym, ap, subst, arith}
 use Rattle.std.specs.List.{All, sum}
 use Rattle.std.specs.Option.{option_map_or}
 use Rattle.std.proofs.lemmas.List.{length-take}
 use Rattle.std.proofs.lemmas.List.Elements.{All-cons, All-nil, All-push, All-take}
 use Rattle.std.proofs.lemmas.Map.Keys.{IsDistinct-from_apart}
-use Rattle.cash_ledger.specs.declared.entry.Entry.{Entry}
 use Rattle.cash_ledger.specs.Ledger.{is_open}
 use Rattle.form.specs.declared.orders.Side.{Side}
 use Rattle.form.specs.Limits.{IsListed}
@@ -17,99 +16,103 @@ use Rattle.form.specs.FormOf.{form_of}
 use Rattle.form.specs.Payoff.{count_sizes, option_of}
 use Rattle.form.proofs.MadeBundles.{legs_in-bundle_one}
 use Rattle.order_book.specs.declared.new_order.NewOrder.{NewOrder}
-use Rattle.order_book.specs.Book.{live_of, with_number, after_batch}
+use Rattle.order_book.specs.Book.{BookState, market_of, live_of, with_number, with_market, with_order, without_order, after_batch, after_close}
 use Rattle.order_book.specs.Kept.{IsMarketKept}
-use Rattle.order_book.specs.Markets.{MarketState, live_orders}
+use Rattle.order_book.specs.Markets.{MarketState, closed, live_orders, with_live}
 use Rattle.order_book.specs.Refusals.{market_refusals, place_refusals as book_place_refusals, batch_refusals}
 use Rattle.refusals.specs.Refusals.{first_of}
 use Rattle.order_book.specs.Within.{IsNewOrderWithin}
-use Rattle.order_book.proofs.Accepting.{listable, accepts, finishable}
+use Rattle.order_book.proofs.Accepting.{listable, accepts, finishable, closable}
 use Rattle.order_book.proofs.AllLive.{live-with_market}
-use Rattle.order_book.proofs.BookKept.{kept-with_market, kept-with_order, kept-without_order, kept-after_batch}
+use Rattle.order_book.proofs.BookKept.{kept-with_market, kept-with_order, kept-without_order, kept-after_batch, kept-after_close}
 use Rattle.command_text.specs.declared.command.Command.{Command}
 use Rattle.command_text.specs.declared.command.Command.TheVariants.{Open, Deposit, Withdraw, Market, Trade, Bundle as BundleOrder, Cancel, Clear, Settle, Balance}
 use Rattle.command_text.specs.declared.command.Kind.{Kind}
 use Rattle.exchange_core.specs.declared.refusal.Refusal.{Refusal}
 use Rattle.exchange_core.specs.ExchangeState.{ExchangeState, empty_exchange}
-use Rattle.exchange_core.specs.Kept.{IsKept, IsOfOpen, IsOnOne}
+use Rattle.exchange_core.specs.Kept.{AreOrdersKept, IsKept, IsOfOpen, IsOnOne, IsPositionKept}
 use Rattle.exchange_core.specs.Laws.{StepKeeps}
 use Rattle.command_text.specs.Options.{option_by}
 use Rattle.exchange_core.specs.Orders.{order_by, order_for}
 use Rattle.exchange_core.specs.Refusals.{place_refusals, refusal_of}
-use Rattle.exchange_core.specs.Step.{open_effect, market_effect, place_effect, cancel_effect, effect, refusal_effect}
+use Rattle.exchange_core.specs.Step.{place_effect, effect, refusal_effect}
 use Rattle.command_text.specs.Within.{Between, IsWithin, IsOffer, IsBundleOf}
 use Rattle.command_text.proofs.Listing.{IsSmall, form_listed}
-use Rattle.exchange_core.proofs.FirstRefusal.{market_none, place_none, batch_none}
+use Rattle.exchange_core.proofs.FirstRefusal.{market_none, place_none, batch_none, close_none}
+use Rattle.exchange_core.proofs.NewPositions.{cleared-kept}
 use Rattle.exchange_core.proofs.OnOne.{IsOnOne-replaced, IsOnOne-without}
 use Rattle.exchange_core.proofs.LiveAccounts.{All-live_in, All-replaced, All-without_in_each, any-push, stay_open}
+use Rattle.exchange_core.proofs.PositionsKept.{positions-open, positions-market, positions-live, positions-cancel, positions-closed}
 
 pub empty_is_kept : IsKept empty_exchange
 empty_is_kept = record {
-  house = refl;
-  accounts = All-nil (IsOfOpen (0 ∷ []));
-  book = record { few = omega arith; distinct = IsDistinct-from_apart nat_eq [] (λ i j d before inside. absurd (omega arith)); markets = All-nil (λ (m : ℕ × MarketState). IsMarketKept 0 m.1); numbers = λ number. omega arith; accepted = omega arith; finished = omega arith };
-  single = All-nil IsOnOne;
+  orders = record {
+    house = refl;
+    accounts = All-nil (IsOfOpen (0 ∷ []));
+    book = record { few = omega arith; distinct = IsDistinct-from_apart nat_eq [] (λ i j d before inside. absurd (omega arith)); markets = All-nil (λ (m : ℕ × MarketState). IsMarketKept 0 m.1); numbers = λ number. omega arith; accepted = omega arith; finished = omega arith };
+    single = All-nil IsOnOne;
+  };
+  positions = All-nil (IsPositionKept (0 ∷ []) []);
 }
 
 -- ---- by what changes
-module _ (state : ExchangeState) (kept : IsKept state) where
-  -- other entries, and the same accounts
-  pub kept-entries : (accounts : List ℕ) (entries : List Entry) → accounts ≡ state.accounts → IsKept (record { accounts = accounts; entries = entries; book = state.book })
-  kept-entries accounts entries same = record {
-    house = ap (λ l. is_open l 0) same ∙ kept.house;
-    accounts = subst (λ l. All (IsOfOpen l) (live_orders state.book.markets)) (sym same) kept.accounts;
-    book = kept.book;
-    single = kept.single;
-  }
-
-  pub kept-open : (account : ℕ) → IsKept (open_effect state account).1
+module _ (accounts : List ℕ) (book : BookState) (kept : AreOrdersKept accounts book) where
+  pub kept-open : (account : ℕ) → AreOrdersKept (accounts ++ account ∷ []) book
   kept-open account = record {
-    house = any-push 0 state.accounts account kept.house;
-    accounts = stay_open state.accounts account (live_orders state.book.markets) kept.accounts;
+    house = any-push 0 accounts account kept.house;
+    accounts = stay_open accounts account (live_orders book.markets) kept.accounts;
     book = kept.book;
     single = kept.single;
   }
 
-  pub kept-market : (market underlyings : ℕ) → first_of (market_refusals state.book market) ≡ None → underlyings ≡ 1 → IsKept (market_effect state market underlyings).1
+  pub kept-market : (market underlyings : ℕ) → first_of (market_refusals book market) ≡ None → underlyings ≡ 1 → AreOrdersKept accounts (with_market book market underlyings)
   kept-market market underlyings none one =
-      let free = listable state.book market none in
+      let free = listable book market none in
       record {
         house = kept.house;
-        accounts = subst (All (IsOfOpen state.accounts)) (sym (live-with_market market underlyings state.book.markets)) kept.accounts;
-        book = kept-with_market state.book kept.book market underlyings free.0 (omega (arith, one)) (omega (arith, one)) free.1;
-        single = All-push IsOnOne state.book.markets (market, record { underlyings = underlyings; settled = false; live = [] }) kept.single one;
+        accounts = subst (All (IsOfOpen accounts)) (sym (live-with_market market underlyings book.markets)) kept.accounts;
+        book = kept-with_market book kept.book market underlyings free.0 (omega (arith, one)) (omega (arith, one)) free.1;
+        single = All-push IsOnOne book.markets (market, record { underlyings = underlyings; settled = false; live = [] }) kept.single one;
       }
 
-  pub kept-place : (order : NewOrder) → IsNewOrderWithin order → first_of (book_place_refusals state.book order) ≡ None → is_open state.accounts order.account ≡ true → IsKept (place_effect state order).1
+  pub kept-place : (order : NewOrder) → IsNewOrderWithin order → first_of (book_place_refusals book order) ≡ None → is_open accounts order.account ≡ true → AreOrdersKept accounts (with_order book order)
   kept-place order within none held =
-      let IsOf = IsOfOpen state.accounts in
-      let new = with_number (state.book.accepted + 1) order in
-      let live = live_of state.book order.market in
+      let IsOf = IsOfOpen accounts in
+      let new = with_number (book.accepted + 1) order in
+      let live = live_of book order.market in
       record {
         house = kept.house;
-        accounts = All-replaced IsOf order.market (live ++ new ∷ []) state.book.markets kept.accounts
-            (All-push IsOf live new (All-live_in IsOf order.market state.book.markets kept.accounts) held);
-        book = kept-with_order state.book kept.book order within (accepts state.book order none);
-        single = IsOnOne-replaced order.market (live ++ new ∷ []) state.book.markets kept.single;
+        accounts = All-replaced IsOf order.market (λ m. with_live m (live ++ new ∷ [])) (live ++ new ∷ []) (λ m. refl) book.markets kept.accounts
+            (All-push IsOf live new (All-live_in IsOf order.market book.markets kept.accounts) held);
+        book = kept-with_order book kept.book order within (accepts book order none);
+        single = IsOnOne-replaced order.market (λ m. with_live m (live ++ new ∷ [])) (λ m. refl) book.markets kept.single;
       }
 
-  pub kept-cancel : (number : ℕ) → IsKept (cancel_effect state number).1
+  pub kept-cancel : (number : ℕ) → AreOrdersKept accounts (without_order book number)
   kept-cancel number = record {
     house = kept.house;
-    accounts = All-without_in_each (IsOfOpen state.accounts) number state.book.markets kept.accounts;
-    book = kept-without_order state.book kept.book number;
-    single = IsOnOne-without number state.book.markets kept.single;
+    accounts = All-without_in_each (IsOfOpen accounts) number book.markets kept.accounts;
+    book = kept-without_order book kept.book number;
+    single = IsOnOne-without number book.markets kept.single;
   }
 
-  pub kept-batch : (market : ℕ) → first_of (batch_refusals state.book market) ≡ None → IsKept (record state { book = after_batch state.book market })
+  pub kept-batch : (market : ℕ) → first_of (batch_refusals book market) ≡ None → AreOrdersKept accounts (after_batch book market)
   kept-batch market none =
-      let (m, found, more) = finishable state.book market none in
+      let (m, found, more, unsettled) = finishable book market none in
       record {
         house = kept.house;
-        accounts = All-replaced (IsOfOpen state.accounts) market [] state.book.markets kept.accounts (All-nil (IsOfOpen state.accounts));
-        book = kept-after_batch state.book kept.book market m found more;
-        single = IsOnOne-replaced market [] state.book.markets kept.single;
+        accounts = All-replaced (IsOfOpen accounts) market (λ m. with_live m []) [] (λ m. refl) book.markets kept.accounts (All-nil (IsOfOpen accounts));
+        book = kept-after_batch book kept.book market m found more;
+        single = IsOnOne-replaced market (λ m. with_live m []) (λ m. refl) book.markets kept.single;
       }
+
+  pub kept-close : (market : ℕ) (m : MarketState) → market_of book market ≡ Some m → AreOrdersKept accounts (after_close book market)
+  kept-close market m found = record {
+    house = kept.house;
+    accounts = All-replaced (IsOfOpen accounts) market closed [] (λ m. refl) book.markets kept.accounts (All-nil (IsOfOpen accounts));
+    book = kept-after_close book kept.book market m found;
+    single = IsOnOne-replaced market closed (λ m. refl) book.markets kept.single;
+  }
 
 -- ---- the order of a trade or for a bundle is within the limits
 pub order_within : (side : Side) (account market : ℕ) (kind : Kind) (strike : ℤ) (price quantity count : ℕ) (weights : List ℤ) → IsOffer strike price quantity count weights
@@ -146,24 +149,44 @@ module _ (state : ExchangeState) (kept : IsKept state) where
   kept-trade : (order : NewOrder) → IsNewOrderWithin order → first_of (place_refusals state order) ≡ None → IsKept (place_effect state order).1
   kept-trade order within none =
       let parts = place_none state order none in
-      kept-place state kept order within parts.0 parts.1
+      record {
+        orders = kept-place state.accounts state.book kept.orders order within parts.0 parts.1;
+        positions = positions-live state.accounts order.market _ state.book.markets state.positions kept.positions;
+      }
 
   kept-effect : (command : Command) → IsWithin command → refusal_of state command ≡ None → IsKept (effect state command).1
-  kept-effect (Open account) within none = kept-open state kept account
-  kept-effect (Deposit account amount) within none = kept-entries state kept state.accounts _ refl
-  kept-effect (Withdraw account amount) within none = kept-entries state kept state.accounts _ refl
+  kept-effect (Open account) within none = record {
+    orders = kept-open state.accounts state.book kept.orders account;
+    positions = positions-open state.accounts account state.book.markets state.positions kept.positions;
+  }
+  kept-effect (Deposit account amount) within none = record { orders = kept.orders; positions = kept.positions }
+  kept-effect (Withdraw account amount) within none = record { orders = kept.orders; positions = kept.positions }
   kept-effect (Market market underlyings) within none =
       let parts = market_none state.book market underlyings none in
-      kept-market state kept market underlyings parts.0 parts.1
+      record {
+        orders = kept-market state.accounts state.book kept.orders market underlyings parts.0 parts.1;
+        positions = positions-market state.accounts state.book.markets _ state.positions kept.positions;
+      }
   kept-effect (Trade side account market kind strike price quantity count weights) within none =
       kept-trade (order_by side account market kind strike price quantity count weights) (order_within side account market kind strike price quantity count weights within.2) none
   kept-effect (BundleOrder side account market price quantity bundle) within none =
       kept-trade (order_for side account market price quantity bundle) (bundle_within side account market price quantity bundle within.2 within.3 within.4) none
-  kept-effect (Cancel account order) within none = kept-cancel state kept order
+  kept-effect (Cancel account order) within none = record {
+    orders = kept-cancel state.accounts state.book kept.orders order;
+    positions = positions-cancel state.accounts order state.book.markets state.positions kept.positions;
+  }
   kept-effect (Clear market budget) within none =
-      let finished = kept-batch state kept market (batch_none state.book market none) in
-      kept-entries (record state { book = after_batch state.book market }) finished state.accounts _ refl
-  kept-effect (Settle market count prices) within none = kept
+      let told = batch_none state.book market none in
+      record {
+        orders = kept-batch state.accounts state.book kept.orders market told;
+        positions = cleared-kept state kept market budget told;
+      }
+  kept-effect (Settle market count prices) within none =
+      let (m, found, unsettled, same) = closable state.book market count (close_none state.book market count none) in
+      record {
+        orders = kept-close state.accounts state.book kept.orders market m found;
+        positions = positions-closed state.accounts market state.book.markets state.positions kept.positions;
+      }
   kept-effect (Balance account) within none = kept
 
 pub step_keeps : StepKeeps

@@ -6,7 +6,7 @@ use Rattle.std.specs.Option.{option_map_or}
 use Rattle.std.proofs.lemmas.List.Elements.{All-nil, All-cons, All-head, All-tail, All-append, All-filter, All-weaker}
 use Rattle.cash_ledger.specs.Ledger.{is_open}
 use Rattle.form.specs.declared.orders.Order.{Order}
-use Rattle.order_book.specs.Markets.{MarketState, Markets, has_number, live_in, live_orders, with_live, with_live_in, without_in_each}
+use Rattle.order_book.specs.Markets.{MarketState, Markets, has_number, changed_in, live_in, live_orders, without_in_each}
 use Rattle.exchange_core.specs.Kept.{IsOfOpen}
 use Rattle.order_book.proofs.AllLive.{live-without_in_each}
 
@@ -29,14 +29,15 @@ module _ (P : Order → Type 0) where
         | false ↦ All-live_in market markets (All-back P m.1.live (live_orders markets) all)
       ]
 
-  pub All-replaced : (market : ℕ) (live : List Order) (markets : Markets) → All P (live_orders markets) → All P live → All P (live_orders (with_live_in market live markets))
-  All-replaced market live [] all new = All-nil P
-  All-replaced market live (m ∷ markets) all new =
+  pub All-replaced : (market : ℕ) (change : MarketState → MarketState) (live : List Order) → ((m : MarketState) → (change m).live ≡ live)
+      → (markets : Markets) → All P (live_orders markets) → All P live → All P (live_orders (changed_in change market markets))
+  All-replaced market change live is [] all new = All-nil P
+  All-replaced market change live is (m ∷ markets) all new =
       let front = All-front P m.1.live (live_orders markets) all in
       let back = All-back P m.1.live (live_orders markets) all in
-      elim (nat_eq market m.0) as (λ b. All P (live_orders (if b then (m.0, with_live m.1 live) ∷ markets else m ∷ with_live_in market live markets))) [
-        | true ↦ All-append P live (live_orders markets) new back
-        | false ↦ All-append P m.1.live (live_orders (with_live_in market live markets)) front (All-replaced market live markets back new)
+      elim (nat_eq market m.0) as (λ b. All P (live_orders (if b then (m.0, change m.1) ∷ markets else m ∷ changed_in change market markets))) [
+        | true ↦ All-append P (change m.1).live (live_orders markets) (subst (All P) (sym (is m.1)) new) back
+        | false ↦ All-append P m.1.live (live_orders (changed_in change market markets)) front (All-replaced market change live is markets back new)
       ]
 
   pub All-without_in_each : (number : ℕ) (markets : Markets) → All P (live_orders markets) → All P (live_orders (without_in_each number markets))

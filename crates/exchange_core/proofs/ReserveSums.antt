@@ -1,5 +1,5 @@
 -- The sums of what live orders reserve, as orders come and go.
-use Rattle.std.proofs.Common.{◌≡◌, ℕ, ◌+◌, ◌*◌, ◌≤◌, List, [], ◌∷◌, ◌++◌, Bool, true, false, cond, not, if◌then◌else◌, nat_eq, length, Some, IsSome, ap, arith}
+use Rattle.std.proofs.Common.{◌≡◌, ℕ, zero, suc, drop, slice_get, ◌+◌, ◌*◌, ◌≤◌, List, [], ◌∷◌, ◌++◌, Bool, true, false, cond, not, if◌then◌else◌, nat_eq, length, Some, IsSome, ap, ◌∙◌, arith}
 use Rattle.std.specs.List.{All, find}
 use Rattle.std.specs.Map.{lookup}
 use Rattle.std.proofs.lemmas.List.Elements.{All-head, All-tail}
@@ -9,7 +9,7 @@ use Rattle.form.specs.declared.orders.Order.{Order}
 use Rattle.form.specs.declared.orders.Side.{Side}
 use Rattle.form.specs.declared.orders.Side.TheVariants.{Buy, Sell}
 use Rattle.order_book.specs.Kept.{IsLive, IsMarketKept}
-use Rattle.order_book.specs.Markets.{MarketState, Markets, has_number, live_in, live_orders, with_live_in, without}
+use Rattle.order_book.specs.Markets.{MarketState, Markets, has_number, changed_in, live_in, live_orders, without}
 use Rattle.order_book.specs.Numbers.{number_count}
 use Rattle.order_book.proofs.AllLive.{sum-replaced}
 use Rattle.order_book.proofs.LiveOrders.{without_none, none_counted}
@@ -20,8 +20,8 @@ reserve_of-append q [] ys = omega arith
 reserve_of-append q (x ∷ xs) ys = omega (arith, reserve_of-append q xs ys)
 
 -- the live orders of one market replaced
-pub reserve_of-replaced : (q market : ℕ) (live : List Order) (markets : Markets) → IsSome (lookup (nat_eq market) markets)
-    → reserve_of q (live_orders (with_live_in market live markets)) + reserve_of q (live_in market markets) ≡ reserve_of q (live_orders markets) + reserve_of q live
+pub reserve_of-replaced : (q market : ℕ) (change : MarketState → MarketState) (live : List Order) → ((m : MarketState) → (change m).live ≡ live) → (markets : Markets) → IsSome (lookup (nat_eq market) markets)
+    → reserve_of q (live_orders (changed_in change market markets)) + reserve_of q (live_in market markets) ≡ reserve_of q (live_orders markets) + reserve_of q live
 reserve_of-replaced q = sum-replaced (reserve_of q) (reserve_of-append q)
 
 -- the order with a number taken out of orders of which no other has it
@@ -66,3 +66,24 @@ reserve_of-small q accepted (m ∷ markets) kept =
     let first = All-head IsOne m markets kept in
     let live = live_small q m.1.underlyings accepted m.1.live first.live in
     omega (arith, reserve_of-append q m.1.live (live_orders markets), live, first.room, reserve_of-small q accepted markets (All-tail IsOne m markets kept))
+
+-- ---- orders from a place on
+dropped : (q place : ℕ) (order : Order) (orders : List Order) → slice_get orders place ≡ Some order
+    → reserve_of q (drop place orders) ≡ reserve_by q order + reserve_of q (drop (suc place) orders)
+dropped q place order [] found = cc
+dropped q zero order (o ∷ orders) found =
+    let same : o ≡ order = cc in
+    ap (λ (x : Order). reserve_by q x + reserve_of q orders) same
+dropped q (suc place) order (o ∷ orders) found = dropped q place order orders found
+
+pub reserve_of-dropped : (q place : ℕ) (order : Order) (orders : List Order) → slice_get orders place ≡ Some order
+    → reserve_of q (drop place orders) ≡ reserve_by q order + reserve_of q (drop (place + 1) orders)
+reserve_of-dropped q place order orders found =
+    let next : suc place ≡ place + 1 = omega arith in
+    dropped q place order orders found ∙ ap (λ n. reserve_by q order + reserve_of q (drop n orders)) next
+
+-- what is left of a sum is no more
+pub reserve_of-drop : (q place : ℕ) (orders : List Order) → reserve_of q (drop place orders) ≤ reserve_of q orders
+reserve_of-drop q zero orders = omega arith
+reserve_of-drop q (suc place) [] = omega arith
+reserve_of-drop q (suc place) (o ∷ orders) = omega (arith, reserve_of-drop q place orders)

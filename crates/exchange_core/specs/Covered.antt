@@ -8,7 +8,7 @@ use Rattle.form.specs.declared.orders.Batch.{Batch}
 use Rattle.command_text.specs.declared.command.Command.{Command}
 use Rattle.command_text.specs.declared.command.Command.TheVariants.{Open, Deposit, Withdraw, Market, Trade, Bundle, Cancel, Clear, Settle, Balance as BalanceOf}
 use Rattle.exchange_core.specs.declared.reply.Reply.{Reply}
-use Rattle.exchange_core.specs.declared.reply.Reply.TheVariants.{Opened, Deposited, Withdrawn, Listed, Placed, Cancelled, Cleared, Balance, Refused}
+use Rattle.exchange_core.specs.declared.reply.Reply.TheVariants.{Opened, Deposited, Withdrawn, Listed, Placed, Cancelled, Cleared, Settled, Balance, Refused}
 use Rattle.exchange_core.specs.ExchangeState.{ExchangeState}
 use Rattle.exchange_core.specs.Kept.{IsKept}
 use Rattle.exchange_core.specs.Step.{step}
@@ -22,6 +22,7 @@ IfCleared P (Listed market underlyings) = ⊤
 IfCleared P (Placed order) = ⊤
 IfCleared P (Cancelled order) = ⊤
 IfCleared P (Cleared number market batch outcome) = P batch outcome
+IfCleared P (Settled market lapsed payouts) = ⊤
 IfCleared P (Balance account balance reserved) = ⊤
 IfCleared P (Refused number field) = ⊤
 

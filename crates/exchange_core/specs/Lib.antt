@@ -4,6 +4,8 @@ pub mod Failures
 pub mod Kept
 pub mod Laws
 pub mod Orders
+pub mod Payoffs
+pub mod Positions
 pub mod Premiums
 pub mod Refusal
 pub mod Refusals

@@ -1,6 +1,6 @@
 -- The refusals of each command, each with its condition, in the order in which they are tried: those of ledger and book, by
 -- their names in the exchange.
-use Rattle.std.specs.Prelude.{ℕ, ℤ, ◌*◌, Bool, true, not, nat_eq, List, [], ◌∷◌, ◌++◌, Option}
+use Rattle.std.specs.Prelude.{ℕ, ℤ, ◌*◌, Bool, not, nat_eq, List, [], ◌∷◌, ◌++◌, Option}
 use Rattle.cash_ledger.specs.declared.ledger.LedgerRefusal.{LedgerRefusal}
 use Rattle.cash_ledger.specs.Ledger.{LedgerState, free_of}
 use Rattle.cash_ledger.specs.Refusals.{open_refusals, account_refusals, payment_refusals}
@@ -53,10 +53,6 @@ place_refusals state order =
     by_book (book.order_refusals state.book order)
     ++ (by_ledger (by_account state order) ++ by_book (book.room_refusals state.book order.market))
 
--- what is not built is refused
-abbrev pub not_built : List (Bool × Refusal)
-not_built = (true, NotBuilt) ∷ []
-
 -- a market of several underlyings is not built
 abbrev pub on_several : ℕ → List (Bool × Refusal)
 on_several underlyings = (not (nat_eq underlyings 1), NotBuilt) ∷ []
@@ -72,7 +68,7 @@ refusals state (Bundle side account market price quantity bundle) = place_refusa
 refusals state (Cancel account order) =
     by_ledger (account_refusals state.accounts account) ++ by_book (book.cancel_refusals state.book account order)
 refusals state (Clear market budget) = by_book (book.batch_refusals state.book market)
-refusals state (Settle market count prices) = not_built
+refusals state (Settle market count prices) = by_book (book.close_refusals state.book market count)
 refusals state (Balance account) = by_ledger (account_refusals state.accounts account)
 
 abbrev pub refusal_of : ExchangeState → Command → Option Refusal

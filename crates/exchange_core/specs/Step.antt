@@ -1,5 +1,5 @@
 -- One step of the exchange: the reply to a command, and the state after it.
-use Rattle.std.specs.Prelude.{ℕ, pos, ◌≡◌, ◌+◌, [], ◌∷◌, ◌++◌, Result, IfOk}
+use Rattle.std.specs.Prelude.{ℕ, pos, length, take, List, ◌≡◌, ◌+◌, [], ◌∷◌, ◌++◌, Result, IfOk}
 use Rattle.std.specs.Option.{option_map_or}
 use Rattle.cash_ledger.specs.declared.entry.Entry.{Entry}
 use Rattle.cash_ledger.specs.Entries.{balance_of, deposit_of, withdrawal_of}
@@ -10,15 +10,17 @@ use Rattle.order_book.specs.Book as book
 use Rattle.command_text.specs.declared.command.Command.{Command}
 use Rattle.command_text.specs.declared.command.Command.TheVariants.{Open, Deposit, Withdraw, Market, Trade, Bundle, Cancel, Clear, Settle, Balance}
 use Rattle.exchange_core.specs.declared.refusal.Refusal.{Refusal}
-use Rattle.exchange_core.specs.declared.refusal.Refusal.TheVariants.{NotBuilt}
 use Rattle.exchange_core.specs.declared.reply.Reply.{Reply}
 use Rattle.exchange_core.specs.declared.reply.Reply.TheVariants as reply
 use Rattle.exchange_core.specs.ExchangeState.{ExchangeState}
 use Rattle.exchange_core.specs.Orders.{order_by, order_for}
+use Rattle.exchange_core.specs.Payoffs.{payoff_entries}
+use Rattle.exchange_core.specs.Positions.{positions_in}
 use Rattle.exchange_core.specs.Premiums.{premium_entries}
 use Rattle.exchange_core.specs.Refusals.{refusal_of}
 use Rattle.exchange_core.specs.Reply.{refused_with}
 use Rattle.exchange_core.specs.Reserves.{reserve_in}
+use Rattle.settlement.specs.Positions.{outside, payouts_of}
 
 -- a refusal leaves the state as it was
 abbrev pub refusal_effect : ExchangeState → Refusal → Reply × ExchangeState
@@ -58,14 +60,31 @@ abbrev pub batch_in : ExchangeState → ℕ → Batch
 batch_in state market =
     option_map_or book.batch_of (book.market_of state.book market) (record { underlyings = 0; orders = [] })
 
--- the batch has its outcome within the budget, the premiums of its fills move, and what is unfilled lapses
+-- the batch has its outcome within the budget, the premiums of its fills move and they are positions, and what is unfilled
+-- lapses
 abbrev pub clear_effect : ExchangeState → ℕ → ℕ → Reply × ExchangeState
 clear_effect state market budget =
     let batch = batch_in state market in
     let outcome = outcome_of batch budget in
     let number = state.book.finished + 1 in (
       reply.Cleared number market batch outcome,
-      record state { entries = state.entries ++ premium_entries number batch.orders outcome.fills; book = book.after_batch state.book market },
+      record state {
+        entries = state.entries ++ premium_entries number batch.orders outcome.fills;
+        book = book.after_batch state.book market;
+        positions = state.positions ++ positions_in market number batch.orders outcome.fills;
+      },
+    )
+
+-- the market is settled for good at the prices: its live orders lapse, its positions are paid out and taken out
+abbrev pub settle_effect : ExchangeState → ℕ → List ℕ → Reply × ExchangeState
+settle_effect state market prices =
+    let payouts = payouts_of market prices state.positions in (
+      reply.Settled market (length (book.live_of state.book market)) payouts,
+      record state {
+        entries = state.entries ++ payoff_entries payouts;
+        book = book.after_close state.book market;
+        positions = outside market state.positions;
+      },
     )
 
 abbrev pub balance_effect : ExchangeState → ℕ → Reply × ExchangeState
@@ -82,7 +101,7 @@ effect state (Trade side account market kind strike price quantity count weights
 effect state (Bundle side account market price quantity bundle) = place_effect state (order_for side account market price quantity bundle)
 effect state (Cancel account order) = cancel_effect state order
 effect state (Clear market budget) = clear_effect state market budget
-effect state (Settle market count prices) = refusal_effect state NotBuilt
+effect state (Settle market count prices) = settle_effect state market (take count prices)
 effect state (Balance account) = balance_effect state account
 
 -- ---- the step

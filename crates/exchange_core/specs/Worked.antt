@@ -5,10 +5,10 @@ use Rattle.cash_ledger.specs.Entries.{balance_of}
 use Rattle.form.specs.declared.orders.Side.{Side}
 use Rattle.form.specs.declared.orders.Side.TheVariants.{Buy, Sell}
 use Rattle.command_text.specs.declared.command.Command.{Command}
-use Rattle.command_text.specs.declared.command.Command.TheVariants.{Open, Withdraw, Market, Trade, Cancel, Clear, Balance}
+use Rattle.command_text.specs.declared.command.Command.TheVariants.{Open, Withdraw, Market, Trade, Cancel, Clear, Settle, Balance}
 use Rattle.command_text.specs.declared.command.Kind.TheVariants.{Call}
-use Rattle.exchange_core.specs.declared.refusal.Refusal.TheVariants.{NoAccount, AccountExists, NoMarket, MarketExists, WeightCount, Funds, NoOrder, NotOwner, NotBuilt}
-use Rattle.exchange_core.specs.declared.reply.Reply.TheVariants.{Withdrawn, Cancelled}
+use Rattle.exchange_core.specs.declared.refusal.Refusal.TheVariants.{NoAccount, AccountExists, NoMarket, Settled as SettledFor, MarketExists, WeightCount, Funds, NoOrder, NotOwner, NotBuilt}
+use Rattle.exchange_core.specs.declared.reply.Reply.TheVariants.{Withdrawn, Cancelled, Settled}
 use Rattle.exchange_core.specs.declared.reply.Reply.TheVariants as reply
 use Rattle.exchange_core.specs.ExchangeState.{ExchangeState}
 use Rattle.exchange_core.specs.Refusals.{refusal_of}
@@ -20,6 +20,7 @@ opened_market = record {
   accounts = 0 ∷ 1 ∷ 2 ∷ [];
   entries = record { account = 1; amount = pos 100; cause = cause.Deposit } ∷ [];
   book = record { markets = (1, record { underlyings = 1; settled = false; live = [] }) ∷ []; accepted = 0; finished = 0 };
+  positions = [];
 }
 
 -- an order for one call with strike 10, with this many weights of 1
@@ -84,3 +85,28 @@ balances accounts state = map (λ account. balance_of account state.entries) acc
 -- the buy is filled, and 2/7 and 5/7 of the sells: the buyer pays 6, and each seller gets 16/7 or 20/7, rounded down
 abbrev pub ButterflyIsPaid : Type 0
 ButterflyIsPaid = balances (0 ∷ 1 ∷ 2 ∷ 3 ∷ []) (after butterfly (Clear 1 100)) ≡ pos 2 ∷ pos 94 ∷ pos 2 ∷ pos 2 ∷ []
+
+-- ---- its settlement
+-- one price and no more
+abbrev pub at_price : ℕ → Command
+at_price price = Settle 1 1 (price ∷ 0 ∷ 0 ∷ 0 ∷ 0 ∷ 0 ∷ 0 ∷ 0 ∷ [])
+
+abbrev pub settled_butterfly : ExchangeState
+settled_butterfly = after (after butterfly (Clear 1 100)) (at_price 11)
+
+-- at 11 the buy gains 1, and the sells lose 12/7, which is rounded to 2, and nothing. Then the market is settled for good
+pub record ButterflyIsSettled : Type 0 where
+  pub reply : (step (after butterfly (Clear 1 100)) (at_price 11)).0
+      ≡ Settled 1 0 (
+      record { batch = 1; order = 1; account = 1; side = Buy; amount = 1 }
+      ∷ record { batch = 1; order = 2; account = 2; side = Sell; amount = 2 }
+      ∷ record { batch = 1; order = 3; account = 3; side = Buy; amount = 0 } ∷ [])
+  pub balances : balances (0 ∷ 1 ∷ 2 ∷ 3 ∷ []) settled_butterfly ≡ pos 3 ∷ pos 95 ∷ pos 0 ∷ pos 2 ∷ []
+  pub positions : settled_butterfly.positions ≡ []
+  pub settle_again : refusal_of settled_butterfly (at_price 0) ≡ Some SettledFor
+  pub clear_again : refusal_of settled_butterfly (Clear 1 1) ≡ Some SettledFor
+  pub bid_again : refusal_of settled_butterfly (call_at Buy 1 10 7) ≡ Some SettledFor
+  -- of several refusals the first in order
+  pub no_market : refusal_of butterfly (Settle 9 2 (0 ∷ 0 ∷ 0 ∷ 0 ∷ 0 ∷ 0 ∷ 0 ∷ 0 ∷ [])) ≡ Some NoMarket
+  pub two_prices : refusal_of butterfly (Settle 1 2 (0 ∷ 0 ∷ 0 ∷ 0 ∷ 0 ∷ 0 ∷ 0 ∷ 0 ∷ [])) ≡ Some WeightCount
+  pub settled_before_count : refusal_of settled_butterfly (Settle 1 2 (0 ∷ 0 ∷ 0 ∷ 0 ∷ 0 ∷ 0 ∷ 0 ∷ 0 ∷ [])) ≡ Some SettledFor

@@ -9,7 +9,7 @@ ghost use Rattle.refusals.specs.Refusals.{TellsFirst};
 ghost use Rattle.settlement.specs.Premium.{IsHeld};
 ghost use Rattle.exchange_core.specs.Covered.{IfCleared};
 ghost use Rattle.exchange_core.specs.ExchangeState.{state_of};
-ghost use Rattle.exchange_core.specs.Kept.{IsPayable, AreJoined};
+ghost use Rattle.exchange_core.specs.Kept.{IsPayable, AreJoined, ArePositionsKept};
 ghost use Rattle.exchange_core.specs.Premiums.{premiums_of, premium_entries};
 ghost use Rattle.exchange_core.specs.Failures.{unless_memory};
 ghost use Rattle.exchange_core.specs.Refusals.{by_book};
@@ -18,13 +18,14 @@ ghost use Rattle.command_text.specs.Within.{IsBudget};
 
 use crate::Reply;
 use crate::failure::Failure;
+use crate::hold::hold_all;
 use crate::reserve::release_all;
 use cash_ledger::{Cause, Ledger};
 use exact_num::Exact;
 use form::{Order, Side};
 use frac::Frac128;
 use order_book::Book;
-use settlement::premium;
+use settlement::{Positions, premium};
 use std::alloc::Global;
 
 // Moves the premium of a fill, for which the ledger has room. A fill of 0 has none.
@@ -67,30 +68,38 @@ fn pay_all(ledger: &mut Ledger, batch: u32, orders: &[Order], fills: &[Frac128])
     }
 }
 
-// Clears the live orders of a market within a work budget, in units: finds their outcome, moves the premiums of its fills and
-// gives free what the orders reserve.
+// Clears the live orders of a market within a work budget, in units: finds their outcome, moves the premiums of its fills, which
+// are positions from then on, and gives free what the orders reserve.
 pub(crate) fn clear(
     alloc: Global,
     ledger: &mut Ledger,
     book: &mut Book,
+    positions: &mut Positions,
     market: u32,
     budget: u32,
 ) -> Result<Reply, Failure>
     requires joined { AreJoined ledger.old book.old }
+    requires positions { ArePositionsKept
+        ledger.old.accounts book.old.markets positions.old.list }
     requires budget { IsBudget budget }
     ensures refused { TellsFirst unless_memory result (by_book (batch_refusals book.old market)) }
-    ensures ok { Does result (state_of ledger.new book.new)
-        (clear_effect (state_of ledger.old book.old) market budget) }
+    ensures ok { Does result (state_of ledger.new book.new positions.new.list)
+        (clear_effect (state_of ledger.old book.old positions.old.list) market budget) }
     ensures marked { IfOk result (IfCleared (λ batch outcome. IsMarked batch budget outcome)) }
     ensures joined { AreJoined ledger.new book.new }
-    ensures err { OnErr result (state_of ledger.new book.new ≡ state_of ledger.old book.old) }
+    ensures positions { ArePositionsKept
+        ledger.new.accounts book.new.markets positions.new.list }
+    ensures err { OnErr result (state_of ledger.new book.new positions.new.list
+        ≡ state_of ledger.old book.old positions.old.list) }
 {
     let batch = book.batch(market)?;
     let outcome = clearing::clear(alloc, &batch, budget)?;
     let orders = batch.orders.as_slice();
     ledger.room(2 * orders.len())?;
+    positions.room(orders.len())?;
     let number = book.finish_batch(market);
     pay_all(ledger, number, orders, outcome.fills.as_slice());
+    hold_all(positions, market, number, orders, outcome.fills.as_slice());
     release_all(ledger, orders);
     Ok(Reply::Cleared {
         number,

@@ -16,35 +16,39 @@ ghost use Rattle.command_text.specs.Within.{IsWithin, IsAccount, IsAmount, IsBud
 use crate::clear::clear;
 use crate::failure::Failure;
 use crate::place::{cancel, place};
+use crate::settle::settle;
 use crate::trade::one_option;
 use crate::{Refusal, Reply};
 use cash_ledger::{Ledger, LedgerRefusal};
 use command_text::Command;
 use order_book::{Book, NewOrder};
+use settlement::Positions;
 use std::alloc::{AllocError, Global};
 use std::marker::Model;
 
-/// The accounts with their balances and reserves, and the markets with their live orders.
+/// The accounts with their balances and reserves, the markets with their live orders, and the positions.
 #[derive(Drop)]
 pub struct Exchange {
     alloc: Global,
     ledger: Ledger,
     book: Book,
+    positions: Positions,
 }
 
 impl Model for Exchange {
     ghost use Rattle.exchange_core.specs.ExchangeState.{ExchangeState, state_of};
-    ghost use Rattle.exchange_core.specs.Kept.{AreJoined};
+    ghost use Rattle.exchange_core.specs.Kept.{AreJoined, ArePositionsKept};
 
     ghost Value = { ExchangeState };
 
-    ghost view = { λ s. state_of s.ledger s.book };
+    ghost view = { λ s. state_of s.ledger s.book s.positions.list };
 
-    ghost invariant = { λ s. AreJoined s.ledger s.book };
+    ghost invariant = { λ s. AreJoined s.ledger s.book
+        × ArePositionsKept s.ledger.accounts s.book.markets s.positions.list };
 }
 
 impl Exchange {
-    /// No account but the house, no entry, no market and no order.
+    /// No account but the house, no entry, no market, no order and no position.
     pub fn new(alloc: Global) -> Self
         ensures { result ≡ empty_exchange }
     {
@@ -52,6 +56,7 @@ impl Exchange {
             alloc,
             ledger: Ledger::new(alloc),
             book: Book::new(alloc),
+            positions: Positions::new(alloc),
         }
     }
 
@@ -145,7 +150,31 @@ impl Exchange {
         ensures marked { IfOk result (IfCleared (λ batch outcome. IsMarked batch budget outcome)) }
         ensures err { OnErr result (self.new ≡ self.old) }
     {
-        clear(self.alloc, &mut self.ledger, &mut self.book, market, budget)
+        clear(
+            self.alloc,
+            &mut self.ledger,
+            &mut self.book,
+            &mut self.positions,
+            market,
+            budget,
+        )
+    }
+
+    fn settle(&mut self, market: u32, count: u8, prices: &[u32; 8]) -> Result<Reply, Failure>
+        requires { IsWithin (Command.Settle market count prices.now) }
+        ensures refused { TellsFirst unless_memory result
+            (refusals self.old (Command.Settle market count prices.now)) }
+        ensures ok { Does result self.new
+            (effect self.old (Command.Settle market count prices.now)) }
+        ensures err { OnErr result (self.new ≡ self.old) }
+    {
+        settle(
+            &mut self.ledger,
+            &mut self.book,
+            &mut self.positions,
+            market,
+            &prices[..count as usize],
+        )
     }
 
     fn tell_balance(&self, account: u32) -> Result<Reply, Failure>
@@ -217,7 +246,11 @@ impl Exchange {
             Command::Cancel { account, order } => self.cancel(*account, *order),
             Command::Clear { market, budget } => self.clear(*market, *budget),
             Command::Balance { account } => self.tell_balance(*account),
-            Command::Settle { .. } => Err(Failure::Refused(Refusal::NotBuilt)),
+            Command::Settle {
+                market,
+                count,
+                prices,
+            } => self.settle(*market, *count, prices),
         }
     }
 

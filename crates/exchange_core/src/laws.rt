@@ -4,7 +4,7 @@ ghost use Rattle.exchange_core.specs.Covered.{StepIsCovered, StepIsMarked, StepI
 ghost use Rattle.exchange_core.specs.ExchangeState.{empty_exchange};
 ghost use Rattle.exchange_core.specs.Kept.{IsKept};
 ghost use Rattle.exchange_core.specs.Laws.{StepKeeps};
-ghost use Rattle.exchange_core.specs.Worked.{ButterflyIsPaid, ReserveIsKept, RefusalsInOrder};
+ghost use Rattle.exchange_core.specs.Worked.{ButterflyIsPaid, ButterflyIsSettled, ReserveIsKept, RefusalsInOrder};
 
 /// From each state that an exchange may be in, a reply that clears a batch tells fills that cover its surplus, which is not
 /// below 0.
@@ -28,8 +28,9 @@ pub fn empty_is_kept()
     ensures { IsKept empty_exchange }
 {}
 
-/// And it is kept by each step: the house open, each live order of an open account, within the limits, and in a market
-/// on as many underlyings as its option, which is not settled; each market on one underlying.
+/// And it is kept by each step: the house open; each live order of an open account, within the limits, and in a market
+/// on as many underlyings as its options, which is not settled; each market on one underlying; and each position of an
+/// open account, in such a market, with a fill above 0 that counts at most 1,000,000 options within the limits.
 pub fn step_keeps()
     ensures { StepKeeps }
 {}
@@ -48,4 +49,9 @@ pub fn refusals_in_order()
 /// with the house.
 pub fn butterfly_is_paid()
     ensures { ButterflyIsPaid }
+{}
+
+/// The same batch settled at 11, when the house has 3; and its market is settled for good: worked rows.
+pub fn butterfly_is_settled()
+    ensures { ButterflyIsSettled }
 {}

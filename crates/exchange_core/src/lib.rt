@@ -1,4 +1,4 @@
-//! The exchange: one step for each command, over the accounts of its ledger and the markets of its book.
+//! The exchange: one step for each command, over the accounts of its ledger, the markets of its book and the positions.
 //!
 //! A call takes memory only where it may answer want of it.
 #![tactic(auto)]
@@ -6,11 +6,13 @@
 mod clear;
 mod exchange;
 mod failure;
+mod hold;
 pub mod laws;
 mod place;
 mod refusal;
 mod reply;
 mod reserve;
+mod settle;
 mod trade;
 
 pub use cash_ledger::{MAX_ACCOUNT, MAX_AMOUNT};

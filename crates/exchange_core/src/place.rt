@@ -3,7 +3,7 @@ ghost use Rattle.std.specs.Prelude.{◌≡◌, ◌+◌, IfOk, OnOk, OnErr};
 ghost use Rattle.order_book.specs.Book.{with_order, without_order};
 ghost use Rattle.order_book.specs.Within.{IsNewOrderWithin};
 ghost use Rattle.command_text.specs.declared.command.Command.TheVariants as Command;
-ghost use Rattle.exchange_core.specs.ExchangeState.{state_of};
+ghost use Rattle.exchange_core.specs.ExchangeState.{without_positions};
 ghost use Rattle.exchange_core.specs.Kept.{AreJoined};
 ghost use Rattle.exchange_core.specs.Refusals.{refusals, place_refusals};
 ghost use Rattle.exchange_core.specs.Failures.{unless_memory};
@@ -19,7 +19,7 @@ pub(crate) fn place(ledger: &mut Ledger, book: &mut Book, order: &NewOrder) -> R
     requires joined { AreJoined ledger.old book.old }
     requires within { IsNewOrderWithin order.now }
     ensures refused { TellsFirst unless_memory result
-        (place_refusals (state_of ledger.old book.old) order.now) }
+        (place_refusals (without_positions ledger.old book.old) order.now) }
     ensures number { IfOk result (λ number. number ≡ book.old.accepted + 1) }
     ensures ok { OnOk result (book.new ≡ with_order book.old order.now) }
     ensures accounts { ledger.new.accounts ≡ ledger.old.accounts }
@@ -47,7 +47,7 @@ pub(crate) fn cancel(
 ) -> Result<(), Failure>
     requires joined { AreJoined ledger.old book.old }
     ensures refused { TellsFirst unless_memory result
-        (refusals (state_of ledger.old book.old) (Command.Cancel account number)) }
+        (refusals (without_positions ledger.old book.old) (Command.Cancel account number)) }
     ensures ok { OnOk result (book.new ≡ without_order book.old number) }
     ensures accounts { ledger.new.accounts ≡ ledger.old.accounts }
     ensures entries { ledger.new.entries ≡ ledger.old.entries }

@@ -4,6 +4,7 @@ ghost use Rattle.exchange_core.specs.Reply.{refused_with};
 use crate::Refusal;
 use cert_check::Outcome;
 use form::Batch;
+use settlement::Payouts;
 
 /// What a command line is answered. Balances and amounts are in ticks.
 #[derive(Debug, Drop)]
@@ -42,6 +43,12 @@ pub enum Reply {
         market: u32,
         batch: Batch,
         outcome: Outcome,
+    },
+    /// The market is settled: how many live orders lapsed, and what its positions were paid, in their order.
+    Settled {
+        market: u32,
+        lapsed: u32,
+        payouts: Payouts,
     },
     /// The balance of an account, and what of it is reserved for its live buys.
     Balance {

@@ -1,7 +1,12 @@
-use Rattle.std.proofs.Common.{sym, ap, ◌∙◌, subst, arith}
+use Rattle.std.proofs.Common.{List, ◌++◌, sym, ap, ◌∙◌, subst, arith}
+use Rattle.order_book.specs.Book.{BookState}
 use Rattle.order_book.specs.Refusals.{unless_memory}
 use Rattle.refusals.specs.Refusals.{refusal_in}
-use Rattle.exchange_core.specs.Kept.{AreJoined}
+use Rattle.exchange_core.specs.Kept.{AreJoined, ArePositionsKept}
+use Rattle.exchange_core.specs.Positions.{positions_in}
+use Rattle.settlement.specs.declared.position.Position.{Position}
+use Rattle.exchange_core.proofs.NewPositions.{fills_held, with_batch_kept}
+use Rattle.exchange_core.proofs.PositionsKept.{positions-at, positions-same}
 use Rattle.exchange_core.specs.Reserves.{reserve_of}
 use Rattle.exchange_core.proofs.Batches.{batch_found, batch_on_one, batch_payable, fills_paid}
 use Rattle.exchange_core.proofs.Joined.{joined-batch, reserve_live}
@@ -45,3 +50,20 @@ returns-clause-joined c =
     (joined-batch c.args.ledger.now c.args.book.now c.requires.joined c.release_all.new.ledger
     (c.release_all.ensures.accounts ∙ c.pay_all.ensures.accounts ∙ c.room.ensures.accounts) c.args.market none
     (λ q. omega (arith, ap (reserve_of q) (found.1 ∙ sym c.as_slice-orders.ensures), c.release_all.ensures.reserves q, c.pay_all.ensures.reserves q, c.room.ensures.reserves q)))
+
+pub hold_all-requires-clause-held : goal.hold_all-requires-clause-held
+hold_all-requires-clause-held c =
+    fills_held c.in_ok-batch.batch c.in_ok-outcome.outcome c.as_slice-orders.result.now c.as_slice-2.result.now c.in_ok-batch.ensures.within c.in_ok-outcome.ensures.within c.as_slice-orders.ensures c.as_slice-2.ensures
+
+pub returns-clause-positions : goal.returns-clause-positions
+returns-clause-positions c =
+    let none = sym c.batch.ensures.refused ∙ ap (refusal_in unless_memory) c.in_ok-batch.was in
+    let found = batch_found c.args.book.now c.args.market c.in_ok-batch.batch c.in_ok-batch.ensures.batch in
+    let same = c.release_all.ensures.accounts ∙ c.pay_all.ensures.accounts ∙ c.room.ensures.accounts in
+    let old = c.args.positions.now.list in
+    let kept = with_batch_kept c.args.ledger.now.accounts c.args.book.now old c.requires.joined.kept c.requires.positions c.args.market c.finish_batch-number.result none
+    c.in_ok-batch.batch c.in_ok-outcome.outcome c.as_slice-orders.result.now c.as_slice-2.result.now found.1 c.in_ok-outcome.ensures.within c.as_slice-orders.ensures c.as_slice-2.ensures in
+    let new = positions_in c.args.market c.finish_batch-number.result c.as_slice-orders.result.now c.as_slice-2.result.now in
+    let list = c.hold_all.ensures.list ∙ ap (λ (l : List Position). l ++ new) c.room-2.ensures.list in
+    subst (λ (l : List Position). ArePositionsKept c.release_all.new.ledger.accounts c.finish_batch-number.new.self.markets l) (sym list)
+    (positions-at _ (ap (λ (b : BookState). b.markets) c.finish_batch-number.ensures.finished) (positions-same _ same kept))

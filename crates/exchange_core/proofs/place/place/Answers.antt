@@ -6,7 +6,7 @@ use Rattle.order_book.specs.declared.refusal.BookRefusal.TheVariants as from_boo
 use Rattle.order_book.specs.Refusals as book_refusals
 use Rattle.refusals.specs.Refusals.{first_of, refusal_in}
 use Rattle.refusals.proofs.FirstRefusal.{first_behind, none_named, told_named, told_in_front}
-use Rattle.exchange_core.specs.ExchangeState.{state_of}
+use Rattle.exchange_core.specs.ExchangeState.{without_positions}
 use Rattle.exchange_core.specs.Failures.{ledger_failure, book_failure, unless_memory}
 use Rattle.exchange_core.specs.Kept.{AreJoined}
 use Rattle.exchange_core.specs.Refusals.{ledger_name, book_name, by_ledger, by_book, by_account, order_cost_refusals}
@@ -22,7 +22,7 @@ returns-in_err-check_order-clause-refused c =
     let order = c.args.order.now in
     told_in_front book_refusals.unless_memory from_book.Memory unless_memory book_failure c.check_order.result c.from_residual.result c.in_err-check_order.field-0.0
     (book_alike c.in_err-check_order.field-0.0) c.in_err-check_order.was (p.1 ∙ ap Err p.2) (book_refusals.order_refusals book order)
-    (by_ledger (by_account (state_of ledger book) order) ++ by_book (book_refusals.room_refusals book order.market)) c.check_order.ensures.no_memory c.check_order.ensures.refused
+    (by_ledger (by_account (without_positions ledger book) order) ++ by_book (book_refusals.room_refusals book order.market)) c.check_order.ensures.no_memory c.check_order.ensures.refused
 
 pub reserve_cost-requires-clause-reserved : goal.reserve_cost-requires-clause-reserved
 reserve_cost-requires-clause-reserved c = reserve_bounded _ _ c.requires.joined _
@@ -39,7 +39,7 @@ returns-in_err-cost-clause-refused c =
     told_in_front ledger_refusals.unless_memory from_ledger.Memory unless_memory ledger_failure c.reserve_cost.result c.from_residual-in_err-cost.result c.in_err-cost.field-0.0
     (ledger_alike c.in_err-cost.field-0.0) c.in_err-cost.was (p.1 ∙ ap Err p.2) (order_cost_refusals ledger order) room c.reserve_cost.ensures.no_memory c.reserve_cost.ensures.refused
     ∙ ap (λ refusals. first_of (by_ledger refusals ++ room)) (cost-joined ledger book c.requires.joined order)
-    ∙ sym (first_behind (by_book market) (by_ledger (by_account (state_of ledger book) order) ++ room) none)
+    ∙ sym (first_behind (by_book market) (by_ledger (by_account (without_positions ledger book) order) ++ room) none)
 
 pub returns-in-Ok-clause-joined : goal.returns-in-Ok-clause-joined
 returns-in-Ok-clause-joined c =
@@ -61,7 +61,7 @@ returns-in-Err-clause-refused c =
     let room = book_refusals.room_refusals book order.market in
     let unrefused = sym c.check_order.ensures.refused ∙ ap (refusal_in book_refusals.unless_memory) c.in_ok-check_order.was in
     let paid = none_named ledger_name (order_cost_refusals ledger order) (sym c.reserve_cost.ensures.refused ∙ ap (refusal_in ledger_refusals.unless_memory) c.in_ok-cost.was) in
-    let account = by_account (state_of ledger book) order in
+    let account = by_account (without_positions ledger book) order in
     told_named {S = ℕ} book_refusals.unless_memory from_book.Memory unless_memory book_failure c.place.result (Err c.into.result) c.in-Err.refusal
     (book_alike c.in-Err.refusal) c.in-Err.is (ap Err c.into.ensures) room (c.place.ensures.refused ∙ first_behind market room unrefused)
     ∙ sym (first_behind (by_ledger account) (by_book room) (ap (λ refusals. first_of (by_ledger refusals)) (sym (cost-joined ledger book c.requires.joined order)) ∙ paid))
