@@ -1,5 +1,5 @@
 -- The text of a reply: a compact JSON object, keys in byte order.
-use Rattle.std.specs.Prelude.{ℕ, ℤ, pos, Bool, false, List, [], ◌∷◌, ◌++◌, map, fold, codes, decimal, ◌==◌, if◌then◌else◌}
+use Rattle.std.specs.Prelude.{ℕ, ℤ, pos, neg_ℤ, Bool, false, List, [], ◌∷◌, ◌++◌, map, fold, codes, decimal, ◌==◌, if◌then◌else◌}
 use Rattle.std.specs.Fmt.{signed_decimal}
 use Rattle.std.specs.List.{list_all}
 use Rattle.std.specs.Ordering.{int_eq}
@@ -17,7 +17,8 @@ use Rattle.cert_check.specs.declared.outcome.Mark.{Mark}
 use Rattle.cert_check.specs.declared.outcome.Mark.TheVariants as mark
 use Rattle.cert_check.specs.declared.outcome.Outcome.{Outcome}
 use Rattle.exchange_core.specs.declared.reply.Reply.{Reply}
-use Rattle.exchange_core.specs.declared.reply.Reply.TheVariants.{Opened, Deposited, Withdrawn, Listed, Placed, Cancelled, Cleared, Balance, Refused}
+use Rattle.exchange_core.specs.declared.reply.Reply.TheVariants.{Opened, Deposited, Withdrawn, Listed, Placed, Cancelled, Cleared, Settled, Balance, Refused}
+use Rattle.settlement.specs.declared.position.PaidOut.{PaidOut}
 
 -- the name of the refusal of a number
 unfoldable pub reason_text : ℕ → List ℕ
@@ -160,6 +161,25 @@ abbrev pub cleared_text : ℕ → ℕ → ℕ → Batch → Outcome → List ℕ
 cleared_text line number market batch outcome =
     ((cleared_head number outcome.fills ++ cleared_by line market outcome) ++ book_text batch.orders) ++ cleared_tail (version_of batch.orders) batch.underlyings outcome
 
+-- ---- a settled market
+-- what an account gets, below 0 where it pays
+abbrev pub gain_of : Side → ℕ → ℤ
+gain_of Buy amount = pos amount
+gain_of Sell amount = neg_ℤ (pos amount)
+
+abbrev pub payout_text : PaidOut → List ℕ
+payout_text paid =
+    codes "{\"account\":" ++ (decimal paid.account ++ (codes ",\"amount\":\"" ++ (signed_decimal (gain_of paid.side paid.amount) ++ (codes "\",\"batch\":" ++ (decimal paid.batch
+    ++ (codes ",\"order\":" ++ (decimal paid.order ++ codes "}")))))))
+
+abbrev pub payouts_text : List PaidOut → List ℕ
+payouts_text payouts = with_commas (map payout_text payouts)
+
+abbrev pub settled_text : ℕ → ℕ → ℕ → List PaidOut → List ℕ
+settled_text line market lapsed payouts =
+    codes "{\"lapsed\":" ++ (decimal lapsed ++ (codes ",\"line\":" ++ (decimal line ++ (codes ",\"market\":" ++ (decimal market
+    ++ (codes ",\"payouts\":[" ++ (payouts_text payouts ++ codes "],\"reply\":\"settled\"}")))))))
+
 -- a refusal behind the brace, or behind the field that is out of its range
 abbrev pub refusal_text : ℕ → ℕ → List ℕ
 refusal_text line number =
@@ -178,5 +198,6 @@ reply_text line (Listed market underlyings) = listed_text line market underlying
 reply_text line (Placed order) = ordered_text (codes "placed") line order
 reply_text line (Cancelled order) = ordered_text (codes "cancelled") line order
 reply_text line (Cleared number market batch outcome) = cleared_text line number market batch outcome
+reply_text line (Settled market lapsed payouts) = settled_text line market lapsed payouts
 reply_text line (Balance account balance reserved) = balance_text line account balance reserved
 reply_text line (Refused number field) = refused_text line number field

@@ -12,7 +12,7 @@ use frac::Frac128;
 use std::alloc::{AllocError, Global};
 
 // Appends a piece, after a comma where something stands before it.
-fn append(text: &mut String, piece: &str) -> Result<(), AllocError>
+pub(crate) fn append(text: &mut String, piece: &str) -> Result<(), AllocError>
     ensures { OnOk result (string_bytes text.new ≡ with_piece (string_bytes text.old) piece.now) }
 {
     if !text.is_empty() {

@@ -7,6 +7,7 @@ pub mod laws;
 mod run;
 #[cfg(test)]
 mod sessions;
+mod settled;
 mod status;
 #[cfg(test)]
 mod tests;

@@ -2,7 +2,7 @@
 //
 // In order: nothing at all; lines that are no command, empty ones, numbers at and past their limits; the reserve;
 // refusals in their order; two markets, whose orders and batches are counted together; a batch with fractional fills and one
-// whose surplus is too wide; bundles, refused in their order and cleared.
+// whose surplus is too wide; bundles, refused in their order, cleared and settled; a batch that is settled for good.
 pub(crate) static SESSIONS: &str = r#"==
 fly,1
 = {"line":1,"number":1,"reason":"Syntax","reply":"refused"}
@@ -101,8 +101,22 @@ settle,"
 = {"line":48,"number":1,"reason":"Syntax","reply":"refused"}
 settled,1,1
 = {"line":49,"number":1,"reason":"Syntax","reply":"refused"}
+settle,1,1000000001
+= {"field":3,"line":50,"number":8,"reason":"Range","reply":"refused"}
+settle,2,1
+= {"line":51,"number":4,"reason":"NoMarket","reply":"refused"}
+settle,1,1,1
+= {"line":52,"number":7,"reason":"WeightCount","reply":"refused"}
+buy,7,1,call,10,0,1,1
+= {"line":53,"order":2,"reply":"placed"}
 settle,1,1
-= {"line":50,"number":90,"reason":"NotBuilt","reply":"refused"}
+= {"lapsed":1,"line":54,"market":1,"payouts":[{"account":7,"amount":"999999000000","batch":1,"order":1}],"reply":"settled"}
+cancel,7,2
+= {"line":55,"number":11,"reason":"NoOrder","reply":"refused"}
+settle,1,1,1
+= {"line":56,"number":6,"reason":"Settled","reply":"refused"}
+balance,0
+= {"account":0,"balance":"999000001000000","line":57,"reply":"balance","reserved":"0"}
 ==
 open,1
 = {"account":1,"line":1,"reply":"opened"}
@@ -310,4 +324,47 @@ bundle,1,1,buy,2,1,1,1,call,10,1
 = {"line":18,"order":4,"reply":"placed"}
 clear,1,100
 = {"batch":2,"fills":["0"],"liability":"0","line":19,"mark":"optimal","market":1,"orders":[{"account":1,"form":[-10,1],"order":4,"price":2,"quantity":1,"side":"buy"}],"reply":"cleared","surplus":"0","underlyings":1,"units":1,"version":1}
+sell,2,1,call,10,6,1,1
+= {"line":20,"order":5,"reply":"placed"}
+settle,1,11
+= {"lapsed":1,"line":21,"market":1,"payouts":[{"account":1,"amount":"1","batch":1,"order":1},{"account":2,"amount":"-1","batch":1,"order":2},{"account":1,"amount":"0","batch":1,"order":3}],"reply":"settled"}
+balance,2
+= {"account":2,"balance":"5","line":22,"reply":"balance","reserved":"0"}
+balance,0
+= {"account":0,"balance":"1","line":23,"reply":"balance","reserved":"0"}
+==
+open,1
+= {"account":1,"line":1,"reply":"opened"}
+open,2
+= {"account":2,"line":2,"reply":"opened"}
+open,3
+= {"account":3,"line":3,"reply":"opened"}
+deposit,1,100
+= {"account":1,"balance":"100","line":4,"reply":"deposited"}
+market,1,1
+= {"line":5,"market":1,"reply":"listed","underlyings":1}
+buy,1,1,call,10,6,1,1
+= {"line":6,"order":1,"reply":"placed"}
+sell,2,1,call,5,8,1,1
+= {"line":7,"order":2,"reply":"placed"}
+sell,3,1,call,12,4,1,1
+= {"line":8,"order":3,"reply":"placed"}
+clear,1,20000
+= {"batch":1,"fills":["1","2/7","5/7"],"liability":"0","line":9,"mark":"optimal","market":1,"orders":[{"account":1,"form":[-10,1],"order":1,"price":6,"quantity":1,"side":"buy"},{"account":2,"form":[-5,1],"order":2,"price":8,"quantity":1,"side":"sell"},{"account":3,"form":[-12,1],"order":3,"price":4,"quantity":1,"side":"sell"}],"reply":"cleared","surplus":"6/7","underlyings":1,"units":3,"version":1}
+settle,1,11
+= {"lapsed":0,"line":10,"market":1,"payouts":[{"account":1,"amount":"1","batch":1,"order":1},{"account":2,"amount":"-2","batch":1,"order":2},{"account":3,"amount":"0","batch":1,"order":3}],"reply":"settled"}
+balance,0
+= {"account":0,"balance":"3","line":11,"reply":"balance","reserved":"0"}
+balance,1
+= {"account":1,"balance":"95","line":12,"reply":"balance","reserved":"0"}
+balance,2
+= {"account":2,"balance":"0","line":13,"reply":"balance","reserved":"0"}
+balance,3
+= {"account":3,"balance":"2","line":14,"reply":"balance","reserved":"0"}
+settle,1,0
+= {"line":15,"number":6,"reason":"Settled","reply":"refused"}
+clear,1,1
+= {"line":16,"number":6,"reason":"Settled","reply":"refused"}
+buy,1,1,call,10,7,1,1
+= {"line":17,"number":6,"reason":"Settled","reply":"refused"}
 "#;

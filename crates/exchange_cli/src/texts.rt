@@ -3,6 +3,7 @@ ghost use Rattle.std.specs.Prelude.{◌≡◌, IfOk, string_bytes};
 ghost use Rattle.exchange_cli.specs.Texts.{reply_text, moved_text, ordered_text, listed_text, balance_text, refusal_text, refused_text, reason_text};
 
 use crate::batches::print_cleared;
+use crate::settled::print_settled;
 use exchange_core::Reply;
 use std::alloc::{AllocError, Global};
 
@@ -126,6 +127,11 @@ pub(crate) fn print(alloc: Global, line: u32, reply: &Reply) -> Result<String, A
             batch,
             outcome,
         } => print_cleared(alloc, line, *number, *market, batch, outcome),
+        Reply::Settled {
+            market,
+            lapsed,
+            payouts,
+        } => print_settled(alloc, line, *market, *lapsed, payouts.as_slice()),
         Reply::Balance {
             account,
             balance,
