@@ -1,8 +1,7 @@
-//! Batches on one underlying and the outcomes of their clears.
+//! Batches and the outcomes of their clears.
 #![tactic(auto)]
 
 #[cfg(test)]
 mod cases;
-pub mod orders;
 #[cfg(test)]
 mod tests;

@@ -1,31 +1,86 @@
-//! Each case, from the text of its batch to that of its outcome.
-ghost use Rattle.std.specs.Prelude.{◌≤◌};
+//! Each case, from its command lines to the text of its outcome.
+ghost use Rattle.command_text.specs.Within.{BodyIsWithin};
 
 use crate::cases::CASES;
-use crate::orders::batch;
-use anyhow::{Context, Result, ensure};
+use anyhow::{Context, Result, bail, ensure};
 use case_texts::{print_number, print_wide};
-use cert_check::{Mark, Outcome};
-use clearing::clear;
+use cert_check::{Cover, Mark, Outcome};
+use command_text::{Body, commands};
 use exact_num::Exact;
-use measure::Weighted;
+use exchange_core::{Exchange, Reply};
+use measure::{Measure, Weighted};
+use sign_tree::{Node, SignTree};
 use std::alloc::{AllocError, Global};
+
+// Two accounts, of which the first can pay for all that it buys.
+static ACCOUNTS: &str = "open,1\nopen,2\ndeposit,1,1000000000000000\n";
+
+fn print_count(text: &mut String, count: u32) -> Result<(), AllocError> {
+    print_number(text, (i128::from(count), 1))
+}
 
 fn print_point(text: &mut String, point: &Weighted) -> Result<(), AllocError> {
     text.push_str(";")?;
     print_number(text, point.weight.parts())?;
-    print_number(text, (point.state.entries[0], 1))?;
-    print_number(text, (point.state.entries[1], 1))
+    for entry in point.state.entries.iter().take(point.state.count as usize) {
+        print_number(text, (*entry, 1))?;
+    }
+    Ok(())
+}
+
+fn print_measure(text: &mut String, measure: &Measure) -> Result<(), AllocError> {
+    for point in measure.points.as_slice() {
+        print_point(text, point)?;
+    }
+    Ok(())
+}
+
+fn print_node(text: &mut String, node: &Node) -> Result<(), AllocError> {
+    match node {
+        Node::Split { place } => {
+            text.push_str(" split")?;
+            print_count(text, *place)
+        }
+        Node::Leaf { count } => {
+            text.push_str(" leaf")?;
+            print_count(text, *count)
+        }
+    }
+}
+
+fn print_nodes(text: &mut String, tree: &SignTree) -> Result<(), AllocError> {
+    for node in tree.nodes.as_slice() {
+        print_node(text, node)?;
+    }
+    Ok(())
+}
+
+fn print_multipliers(text: &mut String, tree: &SignTree) -> Result<(), AllocError> {
+    for multiplier in tree.multipliers.as_slice() {
+        text.push_str(";")?;
+        print_count(text, multiplier.place)?;
+        print_number(text, multiplier.by.parts())?;
+    }
+    Ok(())
+}
+
+fn print_cover(text: &mut String, cover: &Cover) -> Result<(), AllocError> {
+    match cover {
+        Cover::Line => text.push_str(" | line"),
+        Cover::Tree(tree) => {
+            text.push_str(" |")?;
+            print_nodes(text, tree)?;
+            print_multipliers(text, tree)
+        }
+    }
 }
 
 fn print_mark(text: &mut String, mark: &Mark) -> Result<(), AllocError> {
     match mark {
-        Mark::Optimal { measure, .. } => {
+        Mark::Optimal { cover, measure } => {
             text.push_str(" optimal")?;
-            for point in measure.points.as_slice() {
-                print_point(text, point)?;
-            }
-            Ok(())
+            print_measure(text, measure)?;
+            print_cover(text, cover)
         }
         Mark::Wide(wide) => print_wide(text, wide),
         Mark::Budget => text.push_str(" budget"),
@@ -41,34 +96,52 @@ fn print(alloc: Global, outcome: &Outcome) -> Result<String, AllocError> {
     print_number(&mut text, outcome.claim.liability.parts())?;
     print_number(&mut text, outcome.claim.surplus.parts())?;
     text.push_str(" |")?;
-    print_number(&mut text, (i128::from(outcome.units), 1))?;
+    print_count(&mut text, outcome.units)?;
     text.push_str(" |")?;
     print_mark(&mut text, &outcome.mark)?;
     Ok(text)
 }
 
-// The outcome of the batch of a text, as a text.
-fn cleared(alloc: Global, text: &str) -> Result<String> {
-    let (limit, orders) = text.split_once('|').context("a limit")?;
-    let limit = limit.trim().parse::<u32>()?;
-    ensure!(1 <= limit, "a limit");
-    ensure!(limit <= 20_000, "a limit");
-    let batch = batch(alloc, orders.trim())?;
-    Ok(print(alloc, &clear(alloc, &batch, limit)?)?)
+// Takes the exchange one line further, and answers the outcome of the batch that it clears.
+fn carry_out(exchange: &mut Exchange, said: &Body) -> Result<Option<Outcome>>
+    requires { BodyIsWithin said.now }
+{
+    let Body::Command(command) = said else {
+        bail!("a command");
+    };
+    match exchange.step(command)? {
+        Reply::Cleared { outcome, .. } => Ok(Some(outcome)),
+        Reply::Refused { number, .. } => bail!("refused as {number}"),
+        _ => Ok(None),
+    }
 }
 
-// Whether the batch of the line clears as the line says.
-fn clears_so(alloc: Global, line: &str) -> Result<bool> {
-    let (_, case) = line.split_once(':').context("a name")?;
-    let (case, outcome) = case.split_once('=').context("an outcome")?;
-    Ok(cleared(alloc, case)?.as_str().trim() == outcome.trim())
+// The outcome of the batch that the last of the command lines clears.
+fn cleared(alloc: Global, text: &str) -> Result<Outcome> {
+    ensure!(text.len() <= 16_777_216, "a text");
+    let mut exchange = Exchange::new(alloc);
+    let mut last = None;
+    for line in &commands(alloc, text.as_bytes())? {
+        last = carry_out(&mut exchange, &line.body)?;
+    }
+    last.context("a batch that is cleared")
+}
+
+// Whether the batch of a case clears as the case says.
+fn clears_so(alloc: Global, case: &str) -> Result<bool> {
+    let (input, outcome) = case.split_once('=').context("an outcome")?;
+    let (_, lines) = input.split_once('\n').context("a name")?;
+    let text = format!(in alloc; "{ACCOUNTS}{lines}")?;
+    let cleared = cleared(alloc, &text)?;
+    Ok(print(alloc, &cleared)?.as_str().trim() == outcome.trim())
 }
 
 #[test]
 fn each_batch_clears_as_it_says(rt: HostRuntime) -> Result<()> {
-    for line in CASES.split_terminator('\n') {
-        let so = clears_so(rt.alloc(), line)?;
-        assert!(rt; so, "{line}");
+    let (_, cases) = CASES.split_once("== ").context("a case")?;
+    for case in cases.split("== ") {
+        let so = clears_so(rt.alloc(), case)?;
+        assert!(rt; so, "{case}");
     }
     Ok(())
 }

@@ -1,5 +1,5 @@
 -- What a solve found is the outcome of its reading.
-use Rattle.std.proofs.Common.{◌≡◌, ℕ, ◌-◌, List, map, pos, true, Err, refl, sym, subst, arith}
+use Rattle.std.proofs.Common.{◌≡◌, ℕ, List, map, pos, true, Err, refl, sym, subst}
 use Rattle.std.specs.List.{zip}
 use Rattle.exact_num.specs.declared.misfit.Wide.{Wide as Misfit}
 use Rattle.exact_num.specs.Fraction.{whole}
@@ -11,8 +11,8 @@ use Rattle.clearing_model.specs.Clearing.{premium}
 use Rattle.each_match.specs.Match.{match_by_option}
 use Rattle.simplex.specs.declared.stop.Stop.{Stop}
 use Rattle.simplex.specs.declared.stop.Stop.TheVariants.{Wide as WideStop, Budget as BudgetStop}
-use Rattle.rounds.specs.Answers.{IsJointAnswer}
-use Rattle.rounds.specs.Run.{joint_run}
+use Rattle.rounds.specs.Answers.{IsCoverAs, IsJointAnswer, limits_of}
+use Rattle.rounds.specs.Run.{WrittenCover, Solution, joint_run}
 use Rattle.table_run.specs.Ending.{Ending, done, wide_at, no_unit_left}
 use Rattle.frac.specs.declared.frac128.Frac128.{Frac128}
 use Rattle.frac.specs.Value.{fraction_of}
@@ -20,13 +20,12 @@ use Rattle.frac.proofs.ValueOf.{value-fraction_of}
 use Rattle.measure.specs.declared.measures.Weighted.{Weighted}
 use Rattle.measure.specs.Points.{point_of}
 use Rattle.cert_check.specs.declared.outcome.Cover.{Cover}
-use Rattle.cert_check.specs.declared.outcome.Cover.TheVariants.{Line}
 use Rattle.cert_check.specs.declared.outcome.Mark.TheVariants.{Optimal, Wide, Budget}
 use Rattle.cert_check.specs.declared.outcome.Mark.{Mark}
 use Rattle.cert_check.specs.declared.outcome.Outcome.{Outcome}
 use Rattle.master_program.specs.Reading.{Reading, reading_with}
-use Rattle.clearing.specs.Outcome.{optimal_outcome, fallback, whole_fills, has_values, outcome_of, IsMarked}
-use Rattle.clearing.proofs.Values.{values_are, points_are}
+use Rattle.clearing.specs.Outcome.{optimal_outcome, fallback, whole_fills, has_values, run_of, outcome_of, IsMarked}
+use Rattle.clearing.proofs.Values.{values_are, points_are, cover_is}
 
 -- an outcome of these parts
 abbrev pub outcome_with : List Frac128 → Frac128 → Frac128 → Cover → List Weighted → ℕ → Outcome
@@ -38,11 +37,16 @@ outcome_with fills liability surplus cover points units =
       units = units;
     }
 
-pub optimal_outcome-parts : (fills : List Frac128) (L S : Frac128) (points : List Weighted) (units : ℕ)
-    → outcome_with fills L S Line points units ≡ optimal_outcome (reading_with (map fraction_of fills) (fraction_of S) (map point_of points) (fraction_of L)) units
+-- what its numbers claim as fractions
+abbrev pub reading_of : List Frac128 → Frac128 → Frac128 → List Weighted → Reading
+reading_of fills liability surplus points =
+    reading_with (map fraction_of fills) (fraction_of surplus) (map point_of points) (fraction_of liability)
+
+pub optimal_outcome-parts : (fills : List Frac128) (L S : Frac128) (written : WrittenCover) (cover : Cover) (points : List Weighted) (units : ℕ) → IsCoverAs written cover
+    → outcome_with fills L S cover points units ≡ optimal_outcome (reading_of fills L S points, written) units
 unfolding optimal_outcome
-optimal_outcome-parts fills L S points units =
-    λ i. outcome_with (values_are fills i) (sym (value-fraction_of L) i) (sym (value-fraction_of S) i) Line (points_are points i) units
+optimal_outcome-parts fills L S written cover points units is =
+    λ i. outcome_with (values_are fills i) (sym (value-fraction_of L) i) (sym (value-fraction_of S) i) (cover_is written cover is i) (points_are points i) units
 
 -- the match and its premium are the fallback
 pub fallback-parts : (orders : List Order) (mark : Mark) (units : ℕ) (fills : List Frac128) (L S : Frac128) (amounts : List ℕ)
@@ -52,40 +56,42 @@ unfolding fallback
 fallback-parts orders mark units fills L S amounts is e eL eS = rw (eS, eL, e, is) refl
 
 -- ---- the outcome at each end of the run
-pub joint_run-whole : (orders : List Order) (limit spent units : ℕ) (end : Ending Reading) → limit ≡ units → spent ≡ 0 → joint_run largest largest (limit - spent) spent orders ≡ end → joint_run largest largest units 0 orders ≡ end
-joint_run-whole orders limit spent units end el es h =
-    let e : limit - spent ≡ units = omega arith in
-    subst (λ s. joint_run largest largest units s orders ≡ end) es (subst (λ left. joint_run largest largest left spent orders ≡ end) e h)
+pub run_of-budget : (batch : Batch) (limit spent units : ℕ) (end : Ending Solution) → limit ≡ units → spent ≡ 0
+    → joint_run (limits_of largest limit) batch.underlyings batch.orders spent ≡ end → run_of batch units ≡ end
+run_of-budget batch limit spent units end el es h =
+    subst (λ s. joint_run (limits_of largest units) batch.underlyings batch.orders s ≡ end) es
+    (subst (λ l. joint_run (limits_of largest l) batch.underlyings batch.orders spent ≡ end) el h)
 
-pub outcome_of-done : (batch : Batch) (units spent : ℕ) (r : Reading) → joint_run largest largest units 0 batch.orders ≡ done r spent → has_values r ≡ true → optimal_outcome r spent ≡ outcome_of batch units
+pub outcome_of-done : (batch : Batch) (units spent : ℕ) (s : Solution) → run_of batch units ≡ done s spent → has_values s ≡ true → optimal_outcome s spent ≡ outcome_of batch units
 unfolding outcome_of
-outcome_of-done batch units spent r run test = rw (run, test) refl
+outcome_of-done batch units spent s run test = rw (run, test) refl
 
-pub outcome_of-wide_at : (batch : Batch) (units spent : ℕ) (w : Misfit) → joint_run largest largest units 0 batch.orders ≡ wide_at spent w → fallback batch.orders (Wide w) spent ≡ outcome_of batch units
+pub outcome_of-wide_at : (batch : Batch) (units spent : ℕ) (w : Misfit) → run_of batch units ≡ wide_at spent w → fallback batch.orders (Wide w) spent ≡ outcome_of batch units
 unfolding outcome_of
 outcome_of-wide_at batch units spent w run = rw run refl
 
-pub outcome_of-no_unit_left : (batch : Batch) (units spent : ℕ) → joint_run largest largest units 0 batch.orders ≡ no_unit_left spent → fallback batch.orders Budget units ≡ outcome_of batch units
+pub outcome_of-no_unit_left : (batch : Batch) (units spent : ℕ) → run_of batch units ≡ no_unit_left spent → fallback batch.orders Budget units ≡ outcome_of batch units
 unfolding outcome_of
 outcome_of-no_unit_left batch units spent run = rw run refl
 
 -- and its mark
-pub IsMarked-done : (batch : Batch) (units : ℕ) (fills : List Frac128) (L S : Frac128) (points : List Weighted) (spent : ℕ)
-    → joint_run largest largest units 0 batch.orders ≡ done (reading_with (map fraction_of fills) (fraction_of S) (map point_of points) (fraction_of L)) spent
-    → IsMarked batch units (optimal_outcome (reading_with (map fraction_of fills) (fraction_of S) (map point_of points) (fraction_of L)) spent)
-IsMarked-done batch units fills L S points spent run = subst (IsMarked batch units) (optimal_outcome-parts fills L S points spent) run
+pub IsMarked-done : (batch : Batch) (units : ℕ) (fills : List Frac128) (L S : Frac128) (written : WrittenCover) (cover : Cover) (points : List Weighted) (spent : ℕ) → IsCoverAs written cover
+    → run_of batch units ≡ done (reading_of fills L S points, written) spent
+    → IsMarked batch units (optimal_outcome (reading_of fills L S points, written) spent)
+IsMarked-done batch units fills L S written cover points spent is run =
+    subst (IsMarked batch units) (optimal_outcome-parts fills L S written cover points spent is) (written, is, run)
 
-pub IsMarked-wide_at : (batch : Batch) (units spent : ℕ) (w : Misfit) → joint_run largest largest units 0 batch.orders ≡ wide_at spent w → IsMarked batch units (fallback batch.orders (Wide w) spent)
+pub IsMarked-wide_at : (batch : Batch) (units spent : ℕ) (w : Misfit) → run_of batch units ≡ wide_at spent w → IsMarked batch units (fallback batch.orders (Wide w) spent)
 unfolding fallback
 IsMarked-wide_at batch units spent w run = run
 
-pub IsMarked-no_unit_left : (batch : Batch) (units spent : ℕ) → joint_run largest largest units 0 batch.orders ≡ no_unit_left spent → IsMarked batch units (fallback batch.orders Budget units)
+pub IsMarked-no_unit_left : (batch : Batch) (units spent : ℕ) → run_of batch units ≡ no_unit_left spent → IsMarked batch units (fallback batch.orders Budget units)
 unfolding fallback
 IsMarked-no_unit_left batch units spent run = ((spent, run), refl)
 
 -- what an answer of a stop says
-pub IsJointAnswer-wide : (end : Ending Reading) (stop : Stop) (unit : ℕ) (w : Misfit) (spent : ℕ) → stop ≡ WideStop unit w → IsJointAnswer fraction_of end (Err stop) spent → end ≡ wide_at unit w
+pub IsJointAnswer-wide : (end : Ending Solution) (stop : Stop) (unit : ℕ) (w : Misfit) (spent : ℕ) → stop ≡ WideStop unit w → IsJointAnswer fraction_of end (Err stop) spent → end ≡ wide_at unit w
 IsJointAnswer-wide end stop unit w spent is h = (subst (λ s. IsJointAnswer fraction_of end (Err s) spent) is h).0
 
-pub IsJointAnswer-budget : (end : Ending Reading) (stop : Stop) (spent : ℕ) → stop ≡ BudgetStop → IsJointAnswer fraction_of end (Err stop) spent → end ≡ no_unit_left spent
+pub IsJointAnswer-budget : (end : Ending Solution) (stop : Stop) (spent : ℕ) → stop ≡ BudgetStop → IsJointAnswer fraction_of end (Err stop) spent → end ≡ no_unit_left spent
 IsJointAnswer-budget end stop spent is h = subst (λ s. IsJointAnswer fraction_of end (Err s) spent) is h

@@ -23,7 +23,6 @@ use Rattle.form.specs.StateOf.{state_of, is_state, made_or_first, nine_vector}
 use Rattle.measure.specs.declared.measures.Measure.{Measure}
 use Rattle.measure.specs.Points.{point_of}
 use Rattle.cert_check.specs.declared.outcome.Cover.{Cover}
-use Rattle.cert_check.specs.declared.outcome.Cover.TheVariants.{Line}
 use Rattle.cert_check.specs.declared.outcome.Mark.{Mark}
 use Rattle.cert_check.specs.declared.outcome.Mark.TheVariants.{Wide, Budget}
 use Rattle.cert_check.specs.declared.outcome.No.{No}
@@ -35,16 +34,19 @@ use Rattle.each_match.specs.Match.{match_by_option}
 use Rattle.each_match.specs.Laws.{matched}
 use Rattle.each_match.proofs.MatchLaws.{match_is_within, match_is_balanced, match_earns, fills_small}
 use Rattle.master_program.specs.Reading.{Reading}
-use Rattle.master_program.specs.Certified.{IsGreatestByLine}
+use Rattle.master_program.specs.Certified.{IsGreatestByMeasure}
 use Rattle.master_program.specs.Verdict.{IsOutcomeOf, IsNotRefused}
 use Rattle.master_program.proofs.Verdict.{line_readings_are_not_refused}
-use Rattle.rounds.proofs.Cleared.{cleared_is_greatest}
-use Rattle.rounds.specs.Run.{joint_run}
+use Rattle.search_laws.proofs.Rounds.{rounds_are_not_refused}
+use Rattle.rounds.proofs.JointRuns.{cleared_is_greatest}
+use Rattle.rounds.specs.Answers.{IsCoverAs, limits_of}
+use Rattle.rounds.specs.Laws.{IsGreatestBy}
+use Rattle.rounds.specs.Run.{WrittenCover, by_line, by_tree, Solution}
 use Rattle.table_run.specs.Ending.{Ending, done, wide_at, no_unit_left, unbounded}
-use Rattle.clearing.specs.Outcome.{weighted_of, measure_of, optimal_outcome, fallback, is_value, are_values, has_values, outcome_at, outcome_of}
-use Rattle.clearing.specs.Laws.{IsOnOne, OutcomesMeetAll, OutcomesAreWithin, OutcomesAreCovered, OutcomesAreMeasured, OptimalIsGreatest}
+use Rattle.clearing.specs.Outcome.{weighted_of, measure_of, tree_of, cover_of, optimal_outcome, fallback, is_value, are_values, multipliers_in, reading_has_values, has_values, outcome_at, run_of, outcome_of}
+use Rattle.clearing.specs.Laws.{OutcomesMeetAll, OutcomesAreWithin, OutcomesAreCovered, OutcomesAreMeasured, OptimalIsGreatest}
 use Rattle.clearing.proofs.Surplus.{premium_small}
-use Rattle.clearing.proofs.Values.{fraction_is, fractions_are}
+use Rattle.clearing.proofs.Values.{fraction_is, fractions_are, is_cover_of}
 use Rattle.clearing.proofs.Wholes.{wholes, whole_is, wholes_are, owes_nothing, premium_is_left, fills_are}
 
 -- each order of a batch within the limits is on its underlyings
@@ -125,18 +127,25 @@ vector_is n z some few is =
     let above : nat_lt 0 (sum z) ≡ true = lt-ltb 0 (sum z) is.1 in
     made_vector z (is_state z) refl (rw (least, most, above) refl)
 
-points_are : (points : List Point) → All (λ (point : Point). IsState 1 point.0) points → are_values (map fraction_weight points) ≡ true → map point_of (map weighted_of points) ≡ points
-points_are [] states test = refl
-points_are (p ∷ points) states test =
-    let P : Point → Type 0 = λ point. IsState 1 point.0 in
+points_are : (n : ℕ) (points : List Point) → 1 ≤ n → n ≤ 8 → All (λ (point : Point). IsState n point.0) points → are_values (map fraction_weight points) ≡ true → map point_of (map weighted_of points) ≡ points
+points_are n [] some few states test = refl
+points_are n (p ∷ points) some few states test =
+    let P : Point → Type 0 = λ point. IsState n point.0 in
     let parts = and_parts (is_value p.1) (are_values (map fraction_weight points)) test in
-    let state = vector_is 1 p.0 (omega arith) (omega arith) (All-head P p points states) in
-    ap₂ (λ (x : Point) (xs : List Point). x ∷ xs) (ap₂ (λ (z : List ℕ) (w : Fraction). (z, w)) state (fraction_is p.1 parts.0)) (points_are points (All-tail P p points states) parts.1)
+    let state = vector_is n p.0 some few (All-head P p points states) in
+    ap₂ (λ (x : Point) (xs : List Point). x ∷ xs) (ap₂ (λ (z : List ℕ) (w : Fraction). (z, w)) state (fraction_is p.1 parts.0)) (points_are n points some few (All-tail P p points states) parts.1)
 
-pub claims_the_reading : (orders : List Order) (r : Reading) (units : ℕ) → IsGreatestByLine orders r → has_values r ≡ true → IsOutcomeOf r (optimal_outcome r units) Line (measure_of r.measure)
+-- whatever covers it, the measure proves it
+measured_by : (n : ℕ) (orders : List Order) (r : Reading) (cover : WrittenCover) → IsGreatestBy n orders (r, cover) → IsGreatestByMeasure n orders r
+measured_by n orders r by_line greatest = subst (λ (k : ℕ). IsGreatestByMeasure k orders r) (sym greatest.0) greatest.1.by_measure
+measured_by n orders r (by_tree tree) greatest = greatest.1.by_measure
+
+pub claims_the_reading : (batch : Batch) (r : Reading) (cover : WrittenCover) (units : ℕ) → IsWithinLimits batch → IsGreatestBy batch.underlyings batch.orders (r, cover) → has_values (r, cover) ≡ true
+    → IsOutcomeOf r (optimal_outcome (r, cover) units) (cover_of cover) (measure_of r.measure)
 unfolding optimal_outcome
-claims_the_reading orders r units greatest test =
-    let parts = and_parts (is_value r.liability && is_value r.surplus) (are_values r.fills && are_values (map fraction_weight r.measure)) test in
+claims_the_reading batch r cover units within greatest test =
+    let whole = and_parts (reading_has_values r) (are_values (multipliers_in cover)) test in
+    let parts = and_parts (is_value r.liability && is_value r.surplus) (are_values r.fills && are_values (map fraction_weight r.measure)) whole.0 in
     let claim = and_parts (is_value r.liability) (is_value r.surplus) parts.0 in
     let lists = and_parts (are_values r.fills) (are_values (map fraction_weight r.measure)) parts.1 in
     record {
@@ -144,12 +153,21 @@ claims_the_reading orders r units greatest test =
       liability = fraction_is r.liability claim.0;
       surplus = fraction_is r.surplus claim.1;
       mark = refl;
-      points = points_are r.measure greatest.by_measure.measure.states lists.1;
+      points = points_are batch.underlyings r.measure within.has_forms.some within.has_forms.few (measured_by batch.underlyings batch.orders r cover greatest).measure.states lists.1;
     }
 
-pub optimal_outcome-not_refused : (batch : Batch) (r : Reading) (units : ℕ) → IsOnOne batch → IsGreatestByLine batch.orders r → has_values r ≡ true → IsNotRefused batch (optimal_outcome r units)
-optimal_outcome-not_refused batch r units on greatest test =
-    line_readings_are_not_refused batch (optimal_outcome r units) (measure_of r.measure) r on.1 (are_on batch on.0) greatest (claims_the_reading batch.orders r units greatest test)
+pub covers_the_reading : (r : Reading) (cover : WrittenCover) → has_values (r, cover) ≡ true → IsCoverAs cover (cover_of cover)
+covers_the_reading r cover test = is_cover_of cover (and_parts (reading_has_values r) (are_values (multipliers_in cover)) test).1
+
+optimal_outcome-not_refused : (batch : Batch) (r : Reading) (cover : WrittenCover) (units : ℕ) → IsWithinLimits batch → IsGreatestBy batch.underlyings batch.orders (r, cover) → has_values (r, cover) ≡ true
+    → IsNotRefused batch (optimal_outcome (r, cover) units)
+optimal_outcome-not_refused batch r by_line units within greatest test =
+    line_readings_are_not_refused batch (optimal_outcome (r, by_line) units) (measure_of r.measure) r greatest.0 (are_on batch within) greatest.1
+    (claims_the_reading batch r by_line units within greatest test)
+optimal_outcome-not_refused batch r (by_tree tree) units within greatest test =
+    let written = covers_the_reading r (by_tree tree) test in
+    rounds_are_not_refused batch (optimal_outcome (r, by_tree tree) units) (tree_of tree) (measure_of r.measure) r tree greatest.0 (are_on batch within) greatest.1 written.0 written.1
+    (claims_the_reading batch r (by_tree tree) units within greatest test)
 
 -- ---- each outcome
 abbrev MeetsAll : Batch → Outcome → Type 0
@@ -158,32 +176,37 @@ MeetsAll batch outcome = All (Meets batch outcome) conditions
 all_met : (batch : Batch) (outcome : Outcome) → ((condition : No) → Meets batch outcome condition) → MeetsAll batch outcome
 all_met batch outcome each k d lt = each (get_or conditions k d)
 
-at_cleared : (batch : Batch) (units spent : ℕ) (r : Reading) (test : Bool) → has_values r ≡ test → IsOnOne batch → IsGreatestByLine batch.orders r → MeetsAll batch (if test then optimal_outcome r spent else fallback batch.orders Budget units)
-at_cleared batch units spent r true is on greatest = (optimal_outcome-not_refused batch r spent on greatest is).meets
-at_cleared batch units spent r false is on greatest = all_met batch _ (budget_meets batch units on.0)
+at_cleared : (batch : Batch) (units spent : ℕ) (s : Solution) (test : Bool) → has_values s ≡ test → IsWithinLimits batch → IsGreatestBy batch.underlyings batch.orders s
+    → MeetsAll batch (if test then optimal_outcome s spent else fallback batch.orders Budget units)
+at_cleared batch units spent s true is within greatest = (optimal_outcome-not_refused batch s.0 s.1 spent within greatest is).meets
+at_cleared batch units spent s false is within greatest = all_met batch _ (budget_meets batch units within)
 
-at_end : (batch : Batch) (units : ℕ) (end : Ending Reading) → IsOnOne batch → joint_run largest largest units 0 batch.orders ≡ end → MeetsAll batch (outcome_at batch.orders units end)
-at_end batch units (done r spent) on is =
-    at_cleared batch units spent r (has_values r) refl on (cleared_is_greatest largest largest units 0 spent batch.orders r is)
-at_end batch units (wide_at spent w) on is = all_met batch _ (wide_meets batch w spent on.0)
-at_end batch units (no_unit_left spent) on is = all_met batch _ (budget_meets batch units on.0)
-at_end batch units (unbounded d spent) on is = all_met batch _ (budget_meets batch units on.0)
+-- what the run of a batch clears is the greatest
+pub run_is_greatest : (batch : Batch) (units spent : ℕ) (s : Solution) → IsWithinLimits batch → run_of batch units ≡ done s spent → IsGreatestBy batch.underlyings batch.orders s
+run_is_greatest batch units spent s within is =
+    cleared_is_greatest (limits_of largest units) batch.underlyings 0 spent batch.orders s within.has_forms.some within.has_forms.few (omega arith) is
+
+at_end : (batch : Batch) (units : ℕ) (end : Ending Solution) → IsWithinLimits batch → run_of batch units ≡ end → MeetsAll batch (outcome_at batch.orders units end)
+at_end batch units (done s spent) within is = at_cleared batch units spent s (has_values s) refl within (run_is_greatest batch units spent s within is)
+at_end batch units (wide_at spent w) within is = all_met batch _ (wide_meets batch w spent within)
+at_end batch units (no_unit_left spent) within is = all_met batch _ (budget_meets batch units within)
+at_end batch units (unbounded d spent) within is = all_met batch _ (budget_meets batch units within)
 
 pub outcomes_meet_all : OutcomesMeetAll
 unfolding outcome_of
-outcomes_meet_all batch units on = at_end batch units (joint_run largest largest units 0 batch.orders) on refl
+outcomes_meet_all batch units within = at_end batch units (run_of batch units) within refl
 
 pub outcomes_are_within : OutcomesAreWithin
-outcomes_are_within batch units on =
+outcomes_are_within batch units within =
     let P = Meets batch (outcome_of batch units) in
-    let rest = All-tail P no.BatchShape (no.Fill ∷ no.Cover ∷ no.Measure ∷ no.Bound ∷ []) (outcomes_meet_all batch units on) in
+    let rest = All-tail P no.BatchShape (no.Fill ∷ no.Cover ∷ no.Measure ∷ no.Bound ∷ []) (outcomes_meet_all batch units within) in
     All-head P no.Fill (no.Cover ∷ no.Measure ∷ no.Bound ∷ []) rest
 
 pub outcomes_are_covered : OutcomesAreCovered
-outcomes_are_covered batch units on = conditions_cover batch (outcome_of batch units) (outcomes_meet_all batch units on)
+outcomes_are_covered batch units within = conditions_cover batch (outcome_of batch units) (outcomes_meet_all batch units within)
 
 pub outcomes_are_measured : OutcomesAreMeasured
-outcomes_are_measured batch units on = conditions_measure batch (outcome_of batch units) (outcomes_meet_all batch units on)
+outcomes_are_measured batch units within = conditions_measure batch (outcome_of batch units) (outcomes_meet_all batch units within)
 
 pub optimal_is_greatest : OptimalIsGreatest
-optimal_is_greatest batch units on = conditions_prove batch (outcome_of batch units) (outcomes_meet_all batch units on)
+optimal_is_greatest batch units within = conditions_prove batch (outcome_of batch units) (outcomes_meet_all batch units within)

@@ -1,5 +1,5 @@
 -- The verdict on each outcome is yes.
-use Rattle.std.proofs.Common.{subst, ◌≡◌, refl, ℕ, ◌≤◌, Bool, true, false, if◌then◌else◌, map, sym, ◌∙◌, Result, Ok, Err}
+use Rattle.std.proofs.Common.{◌≡◌, refl, ℕ, ◌≤◌, Bool, true, false, if◌then◌else◌, map, sym, ◌∙◌, Result, Ok, Err, arith}
 use Rattle.std.specs.List.{zip}
 use Rattle.std.proofs.lemmas.List.Elements.{All-weaker}
 use Rattle.exact_num.specs.declared.misfit.Wide.{Wide as Misfit}
@@ -8,7 +8,6 @@ use Rattle.frac.specs.Value.{fraction_of}
 use Rattle.form.specs.declared.limits.TheConstants.{MAX_PRICE}
 use Rattle.form.specs.declared.orders.Order.{Order}
 use Rattle.form.specs.declared.orders.Batch.{Batch}
-use Rattle.clearing_model.specs.Clearing.{AreOn}
 use Rattle.form.specs.Limits.{IsOrderWithin, IsWithinLimits}
 use Rattle.exact_num.specs.Steps.{and_then}
 use Rattle.cert_check.specs.declared.outcome.Mark.TheVariants.{Wide, Budget}
@@ -22,22 +21,22 @@ use Rattle.cert_check.specs.Tests.{surplus_holds}
 use Rattle.cert_check.specs.Events.{cover_condition_holds, verdict_of}
 use Rattle.cert_check.proofs.Yes.{said}
 use Rattle.each_match.specs.Match.{match_by_option}
-use Rattle.master_program.specs.Reading.{Reading}
-use Rattle.rounds.proofs.Cleared.{cleared_is_greatest, cleared_passes_the_verdict}
-use Rattle.rounds.specs.Run.{joint_run}
+use Rattle.rounds.proofs.JointRuns.{cleared_passes_the_verdict}
+use Rattle.rounds.specs.Answers.{limits_of}
+use Rattle.rounds.specs.Run.{Solution}
 use Rattle.table_run.specs.Ending.{Ending, done, wide_at, no_unit_left, unbounded}
-use Rattle.clearing.specs.Outcome.{measure_of, optimal_outcome, fallback, has_values, outcome_at, outcome_of}
-use Rattle.clearing.specs.Laws.{IsOnOne, OutcomesAreJudgedYes}
+use Rattle.clearing.specs.Outcome.{measure_of, cover_of, optimal_outcome, fallback, has_values, outcome_at, run_of, outcome_of}
+use Rattle.clearing.specs.Laws.{OutcomesAreJudgedYes}
 use Rattle.clearing.proofs.Fitting.{surplus_fits, balances_fit}
 use Rattle.clearing.proofs.Judged.{not_wide, after_fills, is_yes}
-use Rattle.clearing.proofs.Outcomes.{IsFallback, is_fallback, amounts_small, wide_meets, budget_meets, claims_the_reading, are_on}
+use Rattle.clearing.proofs.Outcomes.{IsFallback, is_fallback, amounts_small, wide_meets, budget_meets, claims_the_reading, covers_the_reading, run_is_greatest, are_on}
 
 -- ---- what a run clears
-optimal_outcome-yes : (batch : Batch) (r : Reading) (limit units : ℕ) → IsOnOne batch → has_values r ≡ true → joint_run largest largest limit 0 batch.orders ≡ done r units → verdict_of largest batch (optimal_outcome r units) ≡ Yes
-optimal_outcome-yes batch r limit units on test run =
-    let are : AreOn 1 batch.orders = subst (λ n. AreOn n batch.orders) on.1 (are_on batch on.0) in
-    cleared_passes_the_verdict largest limit 0 units batch r on.1 are run (optimal_outcome r units) (measure_of r.measure)
-    (claims_the_reading batch.orders r units (cleared_is_greatest largest largest limit 0 units batch.orders r run) test)
+optimal_outcome-yes : (batch : Batch) (s : Solution) (units spent : ℕ) → IsWithinLimits batch → has_values s ≡ true → run_of batch units ≡ done s spent → verdict_of largest batch (optimal_outcome s spent) ≡ Yes
+optimal_outcome-yes batch (r, cover) units spent within test run =
+    cleared_passes_the_verdict (limits_of largest units) 0 spent batch (r, cover) within.has_forms.some within.has_forms.few (are_on batch within) (omega arith) refl run
+    (cover_of cover) (covers_the_reading r cover test) (optimal_outcome (r, cover) spent) (measure_of r.measure)
+    (claims_the_reading batch r cover spent within (run_is_greatest batch units spent (r, cover) within run) test)
 
 -- ---- the fallback
 -- what meets each condition is not refused
@@ -77,17 +76,17 @@ budget_is_yes batch units within =
     (λ v. after_fills batch outcome v (not_wide no.Cover (cover_condition_holds largest batch outcome) Yes v (λ u e. cover_fits batch outcome u within (is_fallback batch Budget units within) refl e) (λ holds e. cc)))
 
 -- ---- each outcome
-at_cleared : (batch : Batch) (units spent : ℕ) (r : Reading) (test : Bool) → has_values r ≡ test → IsOnOne batch → joint_run largest largest units 0 batch.orders ≡ done r spent
-    → verdict_of largest batch (if test then optimal_outcome r spent else fallback batch.orders Budget units) ≡ Yes
-at_cleared batch units spent r true is on run = optimal_outcome-yes batch r units spent on is run
-at_cleared batch units spent r false is on run = budget_is_yes batch units on.0
+at_cleared : (batch : Batch) (units spent : ℕ) (s : Solution) (test : Bool) → has_values s ≡ test → IsWithinLimits batch → run_of batch units ≡ done s spent
+    → verdict_of largest batch (if test then optimal_outcome s spent else fallback batch.orders Budget units) ≡ Yes
+at_cleared batch units spent s true is within run = optimal_outcome-yes batch s units spent within is run
+at_cleared batch units spent s false is within run = budget_is_yes batch units within
 
-at_end : (batch : Batch) (units : ℕ) (end : Ending Reading) → IsOnOne batch → joint_run largest largest units 0 batch.orders ≡ end → verdict_of largest batch (outcome_at batch.orders units end) ≡ Yes
-at_end batch units (done r spent) on is = at_cleared batch units spent r (has_values r) refl on is
-at_end batch units (wide_at spent w) on is = wide_is_yes batch w spent on.0
-at_end batch units (no_unit_left spent) on is = budget_is_yes batch units on.0
-at_end batch units (unbounded d spent) on is = budget_is_yes batch units on.0
+at_end : (batch : Batch) (units : ℕ) (end : Ending Solution) → IsWithinLimits batch → run_of batch units ≡ end → verdict_of largest batch (outcome_at batch.orders units end) ≡ Yes
+at_end batch units (done s spent) within is = at_cleared batch units spent s (has_values s) refl within is
+at_end batch units (wide_at spent w) within is = wide_is_yes batch w spent within
+at_end batch units (no_unit_left spent) within is = budget_is_yes batch units within
+at_end batch units (unbounded d spent) within is = budget_is_yes batch units within
 
 pub outcomes_are_judged_yes : OutcomesAreJudgedYes
 unfolding outcome_of
-outcomes_are_judged_yes batch units on = at_end batch units (joint_run largest largest units 0 batch.orders) on refl
+outcomes_are_judged_yes batch units within = at_end batch units (run_of batch units) within refl

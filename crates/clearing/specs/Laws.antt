@@ -13,13 +13,9 @@ use Rattle.cert_check.specs.Events.{verdict_of}
 use Rattle.cert_check.specs.Laws.{IsCovered, IsMeasured, IsProved}
 use Rattle.clearing.specs.Outcome.{IsMarked, outcome_of}
 
--- a batch on one underlying within the limits of the exchange
-abbrev pub IsOnOne : Batch → Type 0
-IsOnOne batch = IsWithinLimits batch × (batch.underlyings ≡ 1)
-
--- a fact of the outcome of each such batch, with any number of units
+-- a fact of the outcome of each batch within the limits of the exchange, with any number of units
 abbrev pub OfEachOutcome : (Batch → Outcome → Type 0) → Type 0
-OfEachOutcome P = (batch : Batch) (units : ℕ) → IsOnOne batch → P batch (outcome_of batch units)
+OfEachOutcome P = (batch : Batch) (units : ℕ) → IsWithinLimits batch → P batch (outcome_of batch units)
 
 -- each condition of a certificate is met
 abbrev pub OutcomesMeetAll : Type 0
@@ -47,4 +43,4 @@ OutcomesAreJudgedYes = OfEachOutcome (λ batch outcome. verdict_of largest batch
 
 -- the mark and the units are those of the end of the run: it is missing only where the run stops
 abbrev pub OutcomesAreMarked : Type 0
-OutcomesAreMarked = (batch : Batch) (units : ℕ) → IsMarked batch units (outcome_of batch units)
+OutcomesAreMarked = (batch : Batch) (units : ℕ) → IsWithinLimits batch → IsMarked batch units (outcome_of batch units)

@@ -4,13 +4,11 @@ ghost use Rattle.frac.specs.Range.{limit as largest};
 ghost use Rattle.frac.specs.Value.{fraction_of};
 ghost use Rattle.clearing_model.specs.Certificate.{AreFractionFills};
 ghost use Rattle.form.specs.Limits.{IsWithinLimits};
-ghost use Rattle.cert_check.specs.declared.outcome.Cover.TheVariants.{Line};
 ghost use Rattle.cert_check.specs.declared.outcome.Judgement.TheVariants.{Yes};
 ghost use Rattle.cert_check.specs.Conditions.{IfOptimal};
 ghost use Rattle.cert_check.specs.Events.{verdict_of};
 ghost use Rattle.cert_check.specs.Laws.{IsCovered, IsMeasured, IsProved};
-ghost use Rattle.rounds.specs.Answers.{reading_in};
-ghost use Rattle.clearing.specs.Outcome.{IsMarked, optimal_outcome, outcome_of};
+ghost use Rattle.clearing.specs.Outcome.{IsMarked, IsOptimalOutcome, outcome_of};
 
 use crate::fallback::fallback;
 use cert_check::{Claim, Fills, Mark, Outcome};
@@ -20,10 +18,9 @@ use rounds::{Joint, solve_joint};
 use simplex::{Budget, Stop};
 use std::alloc::{AllocError, Global};
 
-/// What a solve found on one underlying, as the outcome that it proves.
+/// What a solve found, as the outcome that it proves.
 fn optimal_outcome(joint: Joint<Frac128>, units: u32) -> Outcome
-    requires { joint.cover ≡ Line }
-    ensures { result ≡ optimal_outcome (reading_in fraction_of joint) units }
+    ensures { IsOptimalOutcome joint units result }
 {
     let Joint {
         fills,
@@ -43,7 +40,6 @@ fn optimal_outcome(joint: Joint<Frac128>, units: u32) -> Outcome
 /// The outcome of a batch, from the end of its run.
 fn outcome(alloc: Global, batch: &Batch, limit: u32) -> Result<Outcome, AllocError>
     requires within { IsWithinLimits batch.now }
-    requires underlyings { batch.now.underlyings ≡ 1 }
     requires limit { limit ≤ 20000 }
     ensures outcome { IfOk result (λ outcome. outcome ≡ outcome_of batch.now limit) }
     ensures marked { IfOk result (IsMarked batch.now limit) }
@@ -58,11 +54,10 @@ fn outcome(alloc: Global, batch: &Batch, limit: u32) -> Result<Outcome, AllocErr
 }
 
 /// Clears a batch: the fills that earn the greatest surplus with their proof, or where the run stops, at a number that does
-/// not fit or for want of a unit, the match of each bundle by itself. The batch is within the limits of the exchange and on
-/// one underlying, and at most `limit` units of work are spent. The only error is want of memory.
+/// not fit or for want of a unit, the match of each bundle by itself. The batch is within the limits of the exchange, on 1 to
+/// 8 underlyings, and at most `limit` units of work are spent. The only error is want of memory.
 pub fn clear(alloc: Global, batch: &Batch, limit: u32) -> Result<Outcome, AllocError>
     requires within { IsWithinLimits batch.now }
-    requires underlyings { batch.now.underlyings ≡ 1 }
     requires limit { (1 ≤ limit) × (limit ≤ 20000) }
 
     // What the definition computes, with the mark and the units of the end of the run.

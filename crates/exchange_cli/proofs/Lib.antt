@@ -1,3 +1,2 @@
-pub mod Answered
-pub mod Pieces
+pub mod Served
 pub mod Written

@@ -1,7 +1,4 @@
-pub mod Output
-pub mod Progress
-pub mod Promises
-pub mod Replies
+pub mod Failures
+pub mod Requests
 pub mod Status
-pub mod Texts
-pub mod Words
+pub mod Wrote

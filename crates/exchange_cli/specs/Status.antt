@@ -1,7 +1,7 @@
 -- The numbers and texts of the statuses.
 use Rattle.std.specs.Prelude.{ℕ, List, [], codes}
 use Rattle.exchange_cli.specs.declared.status.Status.{Status}
-use Rattle.exchange_cli.specs.declared.status.Status.TheVariants.{Done, Usage, ReadFault, WriteFault, TooLong, Memory}
+use Rattle.exchange_cli.specs.declared.status.Status.TheVariants.{Done, Usage, ReadFault, WriteFault, TooLong, CheckNo, Memory}
 
 -- the exit status of the program
 abbrev pub code_of : Status → ℕ
@@ -10,6 +10,7 @@ code_of Usage = 2
 code_of ReadFault = 3
 code_of WriteFault = 4
 code_of TooLong = 5
+code_of CheckNo = 6
 code_of Memory = 70
 
 -- what the program writes to standard error, without its line feed
@@ -19,4 +20,5 @@ text_of Usage = codes "usage: exchange run, exchange check, or exchange demo SEE
 text_of ReadFault = codes "read fault"
 text_of WriteFault = codes "write fault"
 text_of TooLong = codes "input too long"
+text_of CheckNo = codes "check failed"
 text_of Memory = codes "out of memory"

@@ -1,20 +1,22 @@
 //! The exchange program: command lines in, reply lines out.
 #![tactic(auto)]
 
-pub mod answers;
-mod batches;
-pub mod laws;
+mod check;
+mod demo;
+mod failure;
+mod program;
 mod run;
+mod serving;
 #[cfg(test)]
 mod sessions;
-mod settled;
 mod status;
 #[cfg(test)]
 mod tests;
-mod texts;
 
+pub use check::MAX_JOURNAL;
 use port_io::{StdSink, StdSource};
-pub use run::{MAX_INPUT, exchange};
+pub use program::exchange;
+pub use run::MAX_INPUT;
 pub use status::Status;
 use std::io;
 use std::process::ExitCode;

@@ -51,8 +51,8 @@ market,1,0
 = {"field":3,"line":23,"number":8,"reason":"Range","reply":"refused"}
 market,1,9
 = {"field":3,"line":24,"number":8,"reason":"Range","reply":"refused"}
-market,1,2
-= {"line":25,"number":90,"reason":"NotBuilt","reply":"refused"}
+market,3,8
+= {"line":25,"market":3,"reply":"listed","underlyings":8}
 market,1,1
 = {"line":26,"market":1,"reply":"listed","underlyings":1}
 buy,7,1,calls,10,7,1,1
@@ -90,7 +90,7 @@ clear,1,0
 clear,1,20001
 = {"field":3,"line":43,"number":8,"reason":"Range","reply":"refused"}
 clear,1,20000
-= {"batch":1,"fills":["1000"],"liability":"1000000000000","line":44,"mark":"optimal","market":1,"orders":[{"account":7,"form":[1000000000,-1000],"order":1,"price":1000000000000,"quantity":1000,"side":"buy"}],"reply":"cleared","surplus":"999000000000000","underlyings":1,"units":1,"version":1}
+= {"batch":1,"certificate":{"cover":"line","measure":[{"state":["1","0"],"weight":"1"}]},"fills":["1000"],"liability":"1000000000000","line":44,"mark":"optimal","market":1,"orders":[{"account":7,"form":[1000000000,-1000],"order":1,"price":1000000000000,"quantity":1000,"side":"buy"}],"reply":"cleared","surplus":"999000000000000","underlyings":1,"units":1,"version":1}
 balance,7
 = {"account":7,"balance":"0","line":45,"reply":"balance","reserved":"0"}
 balance,8
@@ -233,7 +233,7 @@ clear,3,1
 balance,1
 = {"account":1,"balance":"88","line":12,"reply":"balance","reserved":"14"}
 clear,3,1
-= {"batch":2,"fills":[],"liability":"0","line":13,"mark":"optimal","market":3,"orders":[],"reply":"cleared","surplus":"0","underlyings":1,"units":0,"version":1}
+= {"batch":2,"certificate":{"cover":"line","measure":[{"state":["1","0"],"weight":"1"}]},"fills":[],"liability":"0","line":13,"mark":"optimal","market":3,"orders":[],"reply":"cleared","surplus":"0","underlyings":1,"units":0,"version":1}
 cancel,1,3
 = {"line":14,"number":11,"reason":"NoOrder","reply":"refused"}
 cancel,1,2
@@ -241,7 +241,7 @@ cancel,1,2
 balance,1
 = {"account":1,"balance":"88","line":16,"reply":"balance","reserved":"0"}
 clear,5,1
-= {"batch":3,"fills":["0"],"liability":"0","line":17,"mark":"optimal","market":5,"orders":[{"account":2,"form":[-10,1],"order":4,"price":9,"quantity":2,"side":"sell"}],"reply":"cleared","surplus":"0","underlyings":1,"units":0,"version":1}
+= {"batch":3,"certificate":{"cover":"line","measure":[{"state":["1","0"],"weight":"1"}]},"fills":["0"],"liability":"0","line":17,"mark":"optimal","market":5,"orders":[{"account":2,"form":[-10,1],"order":4,"price":9,"quantity":2,"side":"sell"}],"reply":"cleared","surplus":"0","underlyings":1,"units":0,"version":1}
 balance,2
 = {"account":2,"balance":"6","line":18,"reply":"balance","reserved":"0"}
 balance,0
@@ -262,7 +262,7 @@ sell,2,1,call,5,8,1,1
 sell,2,1,call,12,4,1,1
 = {"line":7,"order":3,"reply":"placed"}
 clear,1,20000
-= {"batch":1,"fills":["1","2/7","5/7"],"liability":"0","line":8,"mark":"optimal","market":1,"orders":[{"account":1,"form":[-10,1],"order":1,"price":6,"quantity":1,"side":"buy"},{"account":2,"form":[-5,1],"order":2,"price":8,"quantity":1,"side":"sell"},{"account":2,"form":[-12,1],"order":3,"price":4,"quantity":1,"side":"sell"}],"reply":"cleared","surplus":"6/7","underlyings":1,"units":3,"version":1}
+= {"batch":1,"certificate":{"cover":"line","measure":[{"state":["1","0"],"weight":"3/7"},{"state":["1","12"],"weight":"4/7"},{"state":["0","1"],"weight":"4"}]},"fills":["1","2/7","5/7"],"liability":"0","line":8,"mark":"optimal","market":1,"orders":[{"account":1,"form":[-10,1],"order":1,"price":6,"quantity":1,"side":"buy"},{"account":2,"form":[-5,1],"order":2,"price":8,"quantity":1,"side":"sell"},{"account":2,"form":[-12,1],"order":3,"price":4,"quantity":1,"side":"sell"}],"reply":"cleared","surplus":"6/7","underlyings":1,"units":3,"version":1}
 balance,1
 = {"account":1,"balance":"94","line":9,"reply":"balance","reserved":"0"}
 balance,2
@@ -282,7 +282,7 @@ sell,2,1,call,1000000000,1000000000,1000000,999
 sell,2,1,call,999999999,0,1000000,1
 = {"line":17,"order":8,"reply":"placed"}
 clear,1,20000
-= {"batch":2,"fills":["0","0","0","0","0"],"liability":"0","line":18,"mark":"wide","market":1,"orders":[{"account":1,"form":[-500001,1],"order":4,"price":400000000,"quantity":999999,"side":"buy"},{"account":1,"form":[-899999999,1],"order":5,"price":200000,"quantity":1,"side":"buy"},{"account":2,"form":[0,1000],"order":6,"price":1501501501,"quantity":1000000,"side":"sell"},{"account":2,"form":[-1000000000,999],"order":7,"price":1000000000,"quantity":1000000,"side":"sell"},{"account":2,"form":[-999999999,1],"order":8,"price":0,"quantity":1000000,"side":"sell"}],"reply":"cleared","surplus":"0","underlyings":1,"units":6,"version":1}
+= {"batch":2,"fills":["0","0","0","0","0"],"liability":"0","line":18,"mark":"wide","market":1,"orders":[{"account":1,"form":[-500001,1],"order":4,"price":400000000,"quantity":999999,"side":"buy"},{"account":1,"form":[-899999999,1],"order":5,"price":200000,"quantity":1,"side":"buy"},{"account":2,"form":[0,1000],"order":6,"price":1501501501,"quantity":1000000,"side":"sell"},{"account":2,"form":[-1000000000,999],"order":7,"price":1000000000,"quantity":1000000,"side":"sell"},{"account":2,"form":[-999999999,1],"order":8,"price":0,"quantity":1000000,"side":"sell"}],"reply":"cleared","surplus":"0","underlyings":1,"units":6,"version":1,"wide":{"left":"398748100250250500749500501/1000000000000","operator":"add","right":"99599999800200000/997999999001"}}
 balance,0
 = {"account":0,"balance":"2","line":19,"reply":"balance","reserved":"0"}
 ==
@@ -315,7 +315,7 @@ buy,1,1,call,12,5,1,1
 balance,1
 = {"account":1,"balance":"100","line":14,"reply":"balance","reserved":"7"}
 clear,1,100
-= {"batch":1,"fills":["1","1","1"],"liability":"0","line":15,"mark":"optimal","market":1,"orders":[{"account":1,"legs":[{"count":1,"form":[-10,1]},{"count":-1,"form":[-12,1]}],"order":1,"price":2,"quantity":1,"side":"buy"},{"account":2,"legs":[{"count":1,"form":[-10,1]}],"order":2,"price":6,"quantity":1,"side":"sell"},{"account":1,"legs":[{"count":1,"form":[-12,1]}],"order":3,"price":5,"quantity":1,"side":"buy"}],"reply":"cleared","surplus":"1","underlyings":1,"units":3,"version":2}
+= {"batch":1,"certificate":{"cover":"line","measure":[{"state":["1","0"],"weight":"1/2"},{"state":["1","12"],"weight":"1/2"},{"state":["0","1"],"weight":"5"}]},"fills":["1","1","1"],"liability":"0","line":15,"mark":"optimal","market":1,"orders":[{"account":1,"legs":[{"count":1,"form":[-10,1]},{"count":-1,"form":[-12,1]}],"order":1,"price":2,"quantity":1,"side":"buy"},{"account":2,"legs":[{"count":1,"form":[-10,1]}],"order":2,"price":6,"quantity":1,"side":"sell"},{"account":1,"legs":[{"count":1,"form":[-12,1]}],"order":3,"price":5,"quantity":1,"side":"buy"}],"reply":"cleared","surplus":"1","underlyings":1,"units":3,"version":2}
 balance,1
 = {"account":1,"balance":"93","line":16,"reply":"balance","reserved":"0"}
 balance,0
@@ -323,7 +323,7 @@ balance,0
 bundle,1,1,buy,2,1,1,1,call,10,1
 = {"line":18,"order":4,"reply":"placed"}
 clear,1,100
-= {"batch":2,"fills":["0"],"liability":"0","line":19,"mark":"optimal","market":1,"orders":[{"account":1,"form":[-10,1],"order":4,"price":2,"quantity":1,"side":"buy"}],"reply":"cleared","surplus":"0","underlyings":1,"units":1,"version":1}
+= {"batch":2,"certificate":{"cover":"line","measure":[{"state":["1","0"],"weight":"1"},{"state":["0","1"],"weight":"2"}]},"fills":["0"],"liability":"0","line":19,"mark":"optimal","market":1,"orders":[{"account":1,"form":[-10,1],"order":4,"price":2,"quantity":1,"side":"buy"}],"reply":"cleared","surplus":"0","underlyings":1,"units":1,"version":1}
 sell,2,1,call,10,6,1,1
 = {"line":20,"order":5,"reply":"placed"}
 settle,1,11
@@ -350,7 +350,7 @@ sell,2,1,call,5,8,1,1
 sell,3,1,call,12,4,1,1
 = {"line":8,"order":3,"reply":"placed"}
 clear,1,20000
-= {"batch":1,"fills":["1","2/7","5/7"],"liability":"0","line":9,"mark":"optimal","market":1,"orders":[{"account":1,"form":[-10,1],"order":1,"price":6,"quantity":1,"side":"buy"},{"account":2,"form":[-5,1],"order":2,"price":8,"quantity":1,"side":"sell"},{"account":3,"form":[-12,1],"order":3,"price":4,"quantity":1,"side":"sell"}],"reply":"cleared","surplus":"6/7","underlyings":1,"units":3,"version":1}
+= {"batch":1,"certificate":{"cover":"line","measure":[{"state":["1","0"],"weight":"3/7"},{"state":["1","12"],"weight":"4/7"},{"state":["0","1"],"weight":"4"}]},"fills":["1","2/7","5/7"],"liability":"0","line":9,"mark":"optimal","market":1,"orders":[{"account":1,"form":[-10,1],"order":1,"price":6,"quantity":1,"side":"buy"},{"account":2,"form":[-5,1],"order":2,"price":8,"quantity":1,"side":"sell"},{"account":3,"form":[-12,1],"order":3,"price":4,"quantity":1,"side":"sell"}],"reply":"cleared","surplus":"6/7","underlyings":1,"units":3,"version":1}
 settle,1,11
 = {"lapsed":0,"line":10,"market":1,"payouts":[{"account":1,"amount":"1","batch":1,"order":1},{"account":2,"amount":"-2","batch":1,"order":2},{"account":3,"amount":"0","batch":1,"order":3}],"reply":"settled"}
 balance,0

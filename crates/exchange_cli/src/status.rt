@@ -6,9 +6,9 @@ use std::io::ErrorKind;
 /// How a call of the program ended.
 #[derive(Clone, Copy, Debug, PartialEq, Eq)]
 pub enum Status {
-    /// The input was read to its end, and every reply was written.
+    /// All was done: the replies, the summary, or the report that names no fault was written.
     Done,
-    /// The words are none that the program knows.
+    /// The words have none of the forms that the program knows.
     Usage,
     /// A read failed; nothing was written.
     ReadFault,
@@ -16,6 +16,8 @@ pub enum Status {
     WriteFault,
     /// The input is longer than the limit; nothing was written.
     TooLong,
+    /// A line of the journal has a fault; the report that names it was written.
+    CheckNo,
     /// There was no memory; a front of the output was written.
     Memory,
 }
@@ -43,6 +45,7 @@ impl Status {
             Status::ReadFault => 3,
             Status::WriteFault => 4,
             Status::TooLong => 5,
+            Status::CheckNo => 6,
             Status::Memory => 70,
         }
     }
@@ -57,6 +60,7 @@ impl Status {
             Status::ReadFault => "read fault",
             Status::WriteFault => "write fault",
             Status::TooLong => "input too long",
+            Status::CheckNo => "check failed",
             Status::Memory => "out of memory",
         }
     }

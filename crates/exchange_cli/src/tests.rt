@@ -15,7 +15,7 @@ static MATCHED_REPLIES: &str = r#"{"account":1,"line":1,"reply":"opened"}
 {"line":4,"market":1,"reply":"listed","underlyings":1}
 {"line":5,"order":1,"reply":"placed"}
 {"line":6,"order":2,"reply":"placed"}
-{"batch":1,"fills":["1","1"],"liability":"0","line":7,"mark":"optimal","market":1,"orders":[{"account":1,"form":[-10,1],"order":1,"price":7,"quantity":1,"side":"buy"},{"account":2,"form":[-10,1],"order":2,"price":5,"quantity":1,"side":"sell"}],"reply":"cleared","surplus":"2","underlyings":1,"units":2,"version":1}
+{"batch":1,"certificate":{"cover":"line","measure":[{"state":["1","0"],"weight":"1"},{"state":["0","1"],"weight":"5"}]},"fills":["1","1"],"liability":"0","line":7,"mark":"optimal","market":1,"orders":[{"account":1,"form":[-10,1],"order":1,"price":7,"quantity":1,"side":"buy"},{"account":2,"form":[-10,1],"order":2,"price":5,"quantity":1,"side":"sell"}],"reply":"cleared","surplus":"2","underlyings":1,"units":2,"version":1}
 {"account":0,"balance":"2","line":8,"reply":"balance","reserved":"0"}
 "#;
 
@@ -155,12 +155,62 @@ fn a_failed_write_leaves_the_lines_before_it(rt: HostRuntime) -> Result<(), Fail
 }
 
 #[test]
-fn only_the_word_run_is_known(rt: HostRuntime) -> Result<(), Fail> {
+fn other_words_are_usage(rt: HostRuntime) -> Result<(), Fail> {
     let alloc = rt.alloc();
-    for words in "|run now|Run|demo 1|demo 1 0|check|--help".split('|') {
+    for words in "|run now|Run|demo 1|demo 1 0|demo 01 1|demo 1 1 1|check 1|--help".split('|') {
         let (status, _) = run(alloc, words, MATCHED.as_bytes(), 0, 0)?;
         assert_eq!(rt; status, Status::Usage, "at {words}");
     }
+    Ok(())
+}
+
+#[test]
+fn journals_are_checked(rt: HostRuntime) -> Result<(), Fail> {
+    let alloc = rt.alloc();
+    let (status, sink) = run(alloc, "check", MATCHED_REPLIES.as_bytes(), 0, 0)?;
+    assert_eq!(rt; status, Status::Done);
+    let sound = "{\"batches\":1,\"lines\":8,\"optimal\":1,\"verdict\":\"yes\"}\n";
+    assert_lines(&rt, sink.written(), sound);
+    let forged = MATCHED_REPLIES.replace(alloc, "\"surplus\":\"2\"", "\"surplus\":\"3\"")?;
+    let (status, sink) = run(alloc, "check", forged.as_bytes(), 0, 0)?;
+    assert_eq!(rt; status, Status::CheckNo);
+    let faulty = "{\"line\":7,\"reason\":\"Cover\",\"verdict\":\"no\"}\n";
+    assert_lines(&rt, sink.written(), faulty);
+    for fault in 1..2u32 {
+        let (status, _) = run(alloc, "check", MATCHED_REPLIES.as_bytes(), fault, 0)?;
+        assert_eq!(rt; status, Status::ReadFault);
+        let (status, _) = run(alloc, "check", MATCHED_REPLIES.as_bytes(), 0, fault)?;
+        assert_eq!(rt; status, Status::WriteFault);
+    }
+    Ok(())
+}
+
+#[test]
+fn messages_take_effect_once(rt: HostRuntime) -> Result<(), Fail> {
+    let alloc = rt.alloc();
+    let messages = "7,1,open,1\n7,1,open,1\n7,3,open,2\n";
+    let wanted = r#"{"number":1,"of":{"account":1,"line":1,"reply":"opened"},"session":7}
+{"number":1,"of":{"account":1,"line":1,"reply":"opened"},"session":7}
+{"expected":2,"line":3,"number":17,"reason":"Ahead","reply":"gate","session":7}
+"#;
+    let (status, sink) = run(alloc, "sessions", messages.as_bytes(), 0, 0)?;
+    assert_eq!(rt; status, Status::Done);
+    assert_lines(&rt, sink.written(), wanted);
+    let (status, _) = run(alloc, "sessions", messages.as_bytes(), 0, 2)?;
+    assert_eq!(rt; status, Status::WriteFault);
+    Ok(())
+}
+
+#[test]
+fn a_demo_is_summarised(rt: HostRuntime) -> Result<(), Fail> {
+    let alloc = rt.alloc();
+    let (status, sink) = run(alloc, "demo 1 1", b"open,1", 1, 0)?;
+    assert_eq!(rt; status, Status::Done);
+    assert_lines(
+        &rt,
+        sink.written(),
+        "{\"batches\":1,\"budget\":0,\"house\":\"0\",\"lines\":84,\"optimal\":1,\"refused\":0,\"wide\":0}\n",
+    );
     Ok(())
 }
 

@@ -17,10 +17,10 @@ use Rattle.frac.specs.declared.frac128.Frac128.{Frac128}
 use Rattle.frac.specs.Value.{fraction_of}
 use Rattle.order_book.specs.Book.{BookState, batch_of, market_of, live_of}
 use Rattle.order_book.specs.Markets.{MarketState}
-use Rattle.order_book.proofs.MarketLists.{at_found, live_found}
+use Rattle.order_book.proofs.MarketLists.{live_found}
 use Rattle.order_book.proofs.BookKept.{market_kept, orders_within}
 use Rattle.settlement.specs.Premium.{IsHeld}
-use Rattle.exchange_core.specs.Kept.{AreJoined, IsOfOpen, IsOnOne, IsPayable}
+use Rattle.exchange_core.specs.Kept.{AreJoined, IsOfOpen, IsPayable}
 use Rattle.exchange_core.proofs.LiveAccounts.{All-live_in}
 
 -- ---- the batch is the market's
@@ -58,17 +58,7 @@ live_payable ledger book joined market m found accounts same =
     let held = subst (λ l. All (IsOfOpen l) (live_of book market)) (sym same) (All-live_in (IsOfOpen ledger.accounts) market book.markets joined.kept.accounts) in
     payable accounts (live_of book market) held (subst (All IsOrderWithin) (sym (live_found market book.markets m found)) within)
 
--- ---- the batch may be cleared
--- it is on one underlying
-found_on_one : (book : BookState) (market : ℕ) (found : Option MarketState) (batch : Batch) → market_of book market ≡ found → All IsOnOne book.markets → option_map batch_of found ≡ Some batch → batch.underlyings ≡ 1
-found_on_one book market None batch at single is = cc
-found_on_one book market (Some m) batch at single is =
-    let same : batch_of m ≡ batch = cc in
-    ap (λ (b : Batch). b.underlyings) (sym same) ∙ at_found market IsOnOne book.markets m at single
-
-pub batch_on_one : (book : BookState) (market : ℕ) (batch : Batch) → All IsOnOne book.markets → option_map batch_of (market_of book market) ≡ Some batch → batch.underlyings ≡ 1
-batch_on_one book market batch single is = found_on_one book market (market_of book market) batch refl single is
-
+-- ---- what is paid
 -- a fill from 0 to the quantity of such an order may be paid for
 abbrev pub MayBePaid : Frac128 → Type 0
 MayBePaid fill = IsHeld (fraction_of fill)

@@ -1,6 +1,5 @@
 -- The refusals of ledger and book by their names in the exchange.
-use Rattle.std.proofs.Common.{◌≡◌, ℕ, ℤ, pos, ◌*◌, ◌-ℤ◌, List, ◌++◌, Bool, true, false, not, int_lt, nat_eq, if◌then◌else◌, None, Some, inl, inr, refl, ap, ◌∙◌, arith}
-use Rattle.std.proofs.lemmas.Bool.Decides.{nat_tests}
+use Rattle.std.proofs.Common.{◌≡◌, ℕ, ℤ, pos, ◌*◌, ◌-ℤ◌, List, ◌++◌, Bool, true, false, not, int_lt, if◌then◌else◌, None, Some, inl, inr, refl, ap, ◌∙◌}
 use Rattle.cash_ledger.specs.declared.ledger.LedgerRefusal.{LedgerRefusal}
 use Rattle.cash_ledger.specs.declared.ledger.LedgerRefusal.TheVariants as from_ledger
 use Rattle.cash_ledger.specs.Entries.{balance_of}
@@ -15,11 +14,11 @@ use Rattle.order_book.specs.Book.{BookState}
 use Rattle.order_book.specs.Refusals as book_refusals
 use Rattle.refusals.specs.Refusals.{first_of}
 use Rattle.refusals.proofs.FirstRefusal.{IsAlike, first_behind, none_in_both, none_unnamed}
-use Rattle.exchange_core.specs.declared.refusal.Refusal.TheVariants.{NoAccount, AccountExists, NoMarket, MarketExists, Settled, WeightCount, Funds, BookFull, NoOrder, NotOwner, TooMany, NotBuilt}
+use Rattle.exchange_core.specs.declared.refusal.Refusal.TheVariants.{NoAccount, AccountExists, NoMarket, MarketExists, Settled, WeightCount, Funds, BookFull, NoOrder, NotOwner, TooMany}
 use Rattle.exchange_core.specs.ExchangeState.{ExchangeState, without_positions}
 use Rattle.exchange_core.specs.Failures.{ledger_failure, book_failure, unless_memory}
 use Rattle.exchange_core.specs.Kept.{AreJoined}
-use Rattle.exchange_core.specs.Refusals.{ledger_name, book_name, by_ledger, by_book, cost_refusals, order_cost_refusals, by_account, place_refusals, on_several}
+use Rattle.exchange_core.specs.Refusals.{ledger_name, book_name, by_ledger, by_book, cost_refusals, order_cost_refusals, by_account, place_refusals}
 use Rattle.exchange_core.specs.Reserves.{free_in}
 
 -- ---- each refusal has a name, and want of memory has none
@@ -64,15 +63,8 @@ cost_unnamed Buy accounts account free cost none = none_unnamed ledger_name (cos
 cost_unnamed Sell accounts account free cost none = none_unnamed ledger_name (cost_refusals Sell accounts account free cost) (refl, tt) none
 
 -- the book lists the market, places the order, finishes a batch of the market
-pub market_none : (book : BookState) (market underlyings : ℕ) → first_of (by_book (book_refusals.market_refusals book market) ++ on_several underlyings) ≡ None
-    → (first_of (book_refusals.market_refusals book market) ≡ None) × (underlyings ≡ 1)
-market_none book market underlyings none =
-    let parts = none_in_both (by_book (book_refusals.market_refusals book market)) (on_several underlyings) none in
-    (none_unnamed book_name (book_refusals.market_refusals book market) (refl, (refl, tt)) parts.0, single (nat_eq underlyings 1) refl parts.1)
-  where
-    single : (b : Bool) → nat_eq underlyings 1 ≡ b → (if not b then Some NotBuilt else None) ≡ None → underlyings ≡ 1
-    single true e h = grind (arith, nat_tests)
-    single false e h = cc
+pub market_none : (book : BookState) (market : ℕ) → first_of (by_book (book_refusals.market_refusals book market)) ≡ None → first_of (book_refusals.market_refusals book market) ≡ None
+market_none book market none = none_unnamed book_name (book_refusals.market_refusals book market) (refl, (refl, tt)) none
 
 pub place_none : (state : ExchangeState) (order : NewOrder) → first_of (place_refusals state order) ≡ None
     → (first_of (book_refusals.place_refusals state.book order) ≡ None) × (is_open state.accounts order.account ≡ true)

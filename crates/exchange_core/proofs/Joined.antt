@@ -9,7 +9,9 @@ use Rattle.order_book.specs.Book.{BookState, market_of, live_of, order_of, with_
 use Rattle.order_book.specs.Markets.{MarketState, closed, live_orders, with_live}
 use Rattle.order_book.specs.Refusals.{market_refusals, place_refusals, batch_refusals}
 use Rattle.refusals.specs.Refusals.{first_of}
+use Rattle.form.specs.declared.limits.TheConstants.{MAX_UNDERLYINGS}
 use Rattle.order_book.specs.Within.{IsNewOrderWithin}
+use Rattle.command_text.specs.Within.{Between}
 use Rattle.order_book.proofs.Accepting.{accepts, finishable}
 use Rattle.order_book.proofs.AllLive.{live-without_in_each, live-with_market}
 use Rattle.exchange_core.specs.Kept.{AreOrdersKept, AreJoined}
@@ -79,9 +81,9 @@ module _ (ledger : LedgerState) (book : BookState) (joined : AreJoined ledger bo
       }
 
   -- a market more
-  pub joined-market : (market underlyings : ℕ) → first_of (market_refusals book market) ≡ None → underlyings ≡ 1 → AreJoined ledger (with_market book market underlyings)
-  joined-market market underlyings none one = record {
-    kept = kept-market ledger.accounts book joined.kept market underlyings none one;
+  pub joined-market : (market underlyings : ℕ) → first_of (market_refusals book market) ≡ None → Between 1 MAX_UNDERLYINGS underlyings → AreJoined ledger (with_market book market underlyings)
+  joined-market market underlyings none within = record {
+    kept = kept-market ledger.accounts book joined.kept market underlyings none within;
     reserves = λ q. joined.reserves q ∙ ap (reserve_of q) (sym (live-with_market market underlyings book.markets));
   }
 

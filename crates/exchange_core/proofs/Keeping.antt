@@ -1,5 +1,5 @@
 -- What an exchange keeps stays true at each command.
-use Rattle.std.proofs.Common.{◌≡◌, ℕ, ◌+◌, ◌*◌, ◌≤◌, ℤ, pos, unsigned_abs, map, List, [], ◌∷◌, ◌++◌, take, true, false, nat_eq, Option, None, Some, refl, sym, ap, subst, arith}
+use Rattle.std.proofs.Common.{◌≡◌, ℕ, ◌+◌, ◌*◌, ◌≤◌, ℤ, pos, unsigned_abs, map, List, [], ◌∷◌, ◌++◌, take, true, nat_eq, Option, None, Some, refl, sym, ap, subst, arith}
 use Rattle.std.specs.List.{All, sum}
 use Rattle.std.specs.Option.{option_map_or}
 use Rattle.std.proofs.lemmas.List.{length-take}
@@ -10,7 +10,7 @@ use Rattle.form.specs.declared.orders.Side.{Side}
 use Rattle.form.specs.Limits.{IsListed}
 use Rattle.form.specs.declared.bundles.Bundle.{Bundle}
 use Rattle.form.specs.declared.legs.Leg.{Leg}
-use Rattle.form.specs.declared.limits.TheConstants.{MAX_OPTIONS, MAX_PRICE, MAX_QUANTITY}
+use Rattle.form.specs.declared.limits.TheConstants.{MAX_OPTIONS, MAX_PRICE, MAX_QUANTITY, MAX_UNDERLYINGS}
 use Rattle.form.specs.BundleOf.{bundle_one}
 use Rattle.form.specs.FormOf.{form_of}
 use Rattle.form.specs.Payoff.{count_sizes, option_of}
@@ -30,7 +30,7 @@ use Rattle.command_text.specs.declared.command.Command.TheVariants.{Open, Deposi
 use Rattle.command_text.specs.declared.command.Kind.{Kind}
 use Rattle.exchange_core.specs.declared.refusal.Refusal.{Refusal}
 use Rattle.exchange_core.specs.ExchangeState.{ExchangeState, empty_exchange}
-use Rattle.exchange_core.specs.Kept.{AreOrdersKept, IsKept, IsOfOpen, IsOnOne, IsPositionKept}
+use Rattle.exchange_core.specs.Kept.{AreOrdersKept, IsKept, IsOfOpen, IsPositionKept}
 use Rattle.exchange_core.specs.Laws.{StepKeeps}
 use Rattle.command_text.specs.Options.{option_by}
 use Rattle.exchange_core.specs.Orders.{order_by, order_for}
@@ -40,7 +40,6 @@ use Rattle.command_text.specs.Within.{Between, IsWithin, IsOffer, IsBundleOf}
 use Rattle.command_text.proofs.Listing.{IsSmall, form_listed}
 use Rattle.exchange_core.proofs.FirstRefusal.{market_none, place_none, batch_none, close_none}
 use Rattle.exchange_core.proofs.NewPositions.{cleared-kept}
-use Rattle.exchange_core.proofs.OnOne.{IsOnOne-replaced, IsOnOne-without}
 use Rattle.exchange_core.proofs.LiveAccounts.{All-live_in, All-replaced, All-without_in_each, any-push, stay_open}
 use Rattle.exchange_core.proofs.PositionsKept.{positions-open, positions-market, positions-live, positions-cancel, positions-closed}
 
@@ -50,7 +49,6 @@ empty_is_kept = record {
     house = refl;
     accounts = All-nil (IsOfOpen (0 ∷ []));
     book = record { few = omega arith; distinct = IsDistinct-from_apart nat_eq [] (λ i j d before inside. absurd (omega arith)); markets = All-nil (λ (m : ℕ × MarketState). IsMarketKept 0 m.1); numbers = λ number. omega arith; accepted = omega arith; finished = omega arith };
-    single = All-nil IsOnOne;
   };
   positions = All-nil (IsPositionKept (0 ∷ []) []);
 }
@@ -62,17 +60,15 @@ module _ (accounts : List ℕ) (book : BookState) (kept : AreOrdersKept accounts
     house = any-push 0 accounts account kept.house;
     accounts = stay_open accounts account (live_orders book.markets) kept.accounts;
     book = kept.book;
-    single = kept.single;
   }
 
-  pub kept-market : (market underlyings : ℕ) → first_of (market_refusals book market) ≡ None → underlyings ≡ 1 → AreOrdersKept accounts (with_market book market underlyings)
-  kept-market market underlyings none one =
+  pub kept-market : (market underlyings : ℕ) → first_of (market_refusals book market) ≡ None → Between 1 MAX_UNDERLYINGS underlyings → AreOrdersKept accounts (with_market book market underlyings)
+  kept-market market underlyings none within =
       let free = listable book market none in
       record {
         house = kept.house;
         accounts = subst (All (IsOfOpen accounts)) (sym (live-with_market market underlyings book.markets)) kept.accounts;
-        book = kept-with_market book kept.book market underlyings free.0 (omega (arith, one)) (omega (arith, one)) free.1;
-        single = All-push IsOnOne book.markets (market, record { underlyings = underlyings; settled = false; live = [] }) kept.single one;
+        book = kept-with_market book kept.book market underlyings free.0 within.0 within.1 free.1;
       }
 
   pub kept-place : (order : NewOrder) → IsNewOrderWithin order → first_of (book_place_refusals book order) ≡ None → is_open accounts order.account ≡ true → AreOrdersKept accounts (with_order book order)
@@ -85,7 +81,6 @@ module _ (accounts : List ℕ) (book : BookState) (kept : AreOrdersKept accounts
         accounts = All-replaced IsOf order.market (λ m. with_live m (live ++ new ∷ [])) (live ++ new ∷ []) (λ m. refl) book.markets kept.accounts
             (All-push IsOf live new (All-live_in IsOf order.market book.markets kept.accounts) held);
         book = kept-with_order book kept.book order within (accepts book order none);
-        single = IsOnOne-replaced order.market (λ m. with_live m (live ++ new ∷ [])) (λ m. refl) book.markets kept.single;
       }
 
   pub kept-cancel : (number : ℕ) → AreOrdersKept accounts (without_order book number)
@@ -93,7 +88,6 @@ module _ (accounts : List ℕ) (book : BookState) (kept : AreOrdersKept accounts
     house = kept.house;
     accounts = All-without_in_each (IsOfOpen accounts) number book.markets kept.accounts;
     book = kept-without_order book kept.book number;
-    single = IsOnOne-without number book.markets kept.single;
   }
 
   pub kept-batch : (market : ℕ) → first_of (batch_refusals book market) ≡ None → AreOrdersKept accounts (after_batch book market)
@@ -103,7 +97,6 @@ module _ (accounts : List ℕ) (book : BookState) (kept : AreOrdersKept accounts
         house = kept.house;
         accounts = All-replaced (IsOfOpen accounts) market (λ m. with_live m []) [] (λ m. refl) book.markets kept.accounts (All-nil (IsOfOpen accounts));
         book = kept-after_batch book kept.book market m found more;
-        single = IsOnOne-replaced market (λ m. with_live m []) (λ m. refl) book.markets kept.single;
       }
 
   pub kept-close : (market : ℕ) (m : MarketState) → market_of book market ≡ Some m → AreOrdersKept accounts (after_close book market)
@@ -111,7 +104,6 @@ module _ (accounts : List ℕ) (book : BookState) (kept : AreOrdersKept accounts
     house = kept.house;
     accounts = All-replaced (IsOfOpen accounts) market closed [] (λ m. refl) book.markets kept.accounts (All-nil (IsOfOpen accounts));
     book = kept-after_close book kept.book market m found;
-    single = IsOnOne-replaced market closed (λ m. refl) book.markets kept.single;
   }
 
 -- ---- the order of a trade or for a bundle is within the limits
@@ -162,9 +154,8 @@ module _ (state : ExchangeState) (kept : IsKept state) where
   kept-effect (Deposit account amount) within none = record { orders = kept.orders; positions = kept.positions }
   kept-effect (Withdraw account amount) within none = record { orders = kept.orders; positions = kept.positions }
   kept-effect (Market market underlyings) within none =
-      let parts = market_none state.book market underlyings none in
       record {
-        orders = kept-market state.accounts state.book kept.orders market underlyings parts.0 parts.1;
+        orders = kept-market state.accounts state.book kept.orders market underlyings (market_none state.book market none) within.1;
         positions = positions-market state.accounts state.book.markets _ state.positions kept.positions;
       }
   kept-effect (Trade side account market kind strike price quantity count weights) within none =

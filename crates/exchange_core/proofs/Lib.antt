@@ -7,5 +7,4 @@ pub mod NewPositions
 pub mod Settled
 pub mod Keeping
 pub mod LiveAccounts
-pub mod OnOne
 pub mod ReserveSums

@@ -25,13 +25,13 @@ use Rattle.order_book.specs.Markets.{MarketState, Markets, with_live_in}
 use Rattle.order_book.specs.Refusals.{batch_refusals}
 use Rattle.order_book.proofs.Accepting.{finishable}
 use Rattle.order_book.proofs.BookKept.{batch_within, market_kept, orders_within}
-use Rattle.order_book.proofs.MarketLists.{at_found, live_found}
+use Rattle.order_book.proofs.MarketLists.{live_found}
 use Rattle.refusals.specs.Refusals.{first_of}
 use Rattle.settlement.specs.declared.position.Position.{Position}
 use Rattle.settlement.specs.Payout.{IsHolding}
 use Rattle.settlement.proofs.Quotients.{above}
 use Rattle.exchange_core.specs.ExchangeState.{ExchangeState}
-use Rattle.exchange_core.specs.Kept.{AreHeld, AreOrdersKept, ArePositionsKept, IsKept, IsOfOpen, IsOnOne, IsPositionKept, trading_on}
+use Rattle.exchange_core.specs.Kept.{AreHeld, AreOrdersKept, ArePositionsKept, IsKept, IsOfOpen, IsPositionKept, trading_on}
 use Rattle.exchange_core.specs.Positions.{position_of, positions_of, positions_in}
 use Rattle.exchange_core.specs.Step.{batch_in}
 use Rattle.exchange_core.proofs.LiveAccounts.{All-live_in}
@@ -149,10 +149,9 @@ cleared-kept state kept market budget none =
     let (m, found, more, unsettled) = finishable state.book market none in
     let is = ap (λ r. option_map_or batch_of r (record { underlyings = 0; orders = [] })) found in
     let within = batch_within state.book.accepted m (market_kept state.book kept.orders.book market m found) in
-    let one = at_found market IsOnOne state.book.markets m found kept.orders.single in
     let After = IsPositionKept state.accounts (with_live_in market [] state.book.markets) in
     let number = state.book.finished + 1 in
     subst (λ (b : Batch). All After (state.positions ++ positions_in market number b.orders (outcome_of b budget).fills)) (sym is)
     (All-append After state.positions (positions_in market number m.live (outcome_of (batch_of m) budget).fills)
     (positions-live state.accounts market [] state.book.markets state.positions kept.positions)
-    (batch_positions state.accounts state.book kept.orders market number m found unsettled (outcome_of (batch_of m) budget).fills (outcomes_are_within (batch_of m) budget (within, one))))
+    (batch_positions state.accounts state.book kept.orders market number m found unsettled (outcome_of (batch_of m) budget).fills (outcomes_are_within (batch_of m) budget within)))

@@ -7,8 +7,8 @@ use Rattle.clearing.specs.Outcome.{IsMarked}
 use Rattle.form.specs.declared.orders.Batch.{Batch}
 use Rattle.command_text.specs.declared.command.Command.{Command}
 use Rattle.command_text.specs.declared.command.Command.TheVariants.{Open, Deposit, Withdraw, Market, Trade, Bundle, Cancel, Clear, Settle, Balance as BalanceOf}
-use Rattle.exchange_core.specs.declared.reply.Reply.{Reply}
-use Rattle.exchange_core.specs.declared.reply.Reply.TheVariants.{Opened, Deposited, Withdrawn, Listed, Placed, Cancelled, Cleared, Settled, Balance, Refused}
+use Rattle.reply_print.specs.declared.replies.Reply.{Reply}
+use Rattle.reply_print.specs.declared.replies.Reply.TheVariants.{Opened, Deposited, Withdrawn, Listed, Placed, Cancelled, Cleared, Settled, Balance, Refused}
 use Rattle.exchange_core.specs.ExchangeState.{ExchangeState}
 use Rattle.exchange_core.specs.Kept.{IsKept}
 use Rattle.exchange_core.specs.Step.{step}
@@ -54,10 +54,10 @@ budget_of (Clear market budget) = budget
 budget_of (Settle market count prices) = 0
 budget_of (BalanceOf account) = 0
 
--- the mark and the units of a batch that is cleared are those of the end of the run: what it cleared, the step that did not
+-- from such a state, the mark and the units of a batch that is cleared are those of the end of the run: what it cleared, the step that did not
 -- fit, or a unit wanted beyond the budget
 abbrev pub IsMarkedFor : Command → Reply → Type 0
 IsMarkedFor command reply = IfCleared (λ batch outcome. IsMarked batch (budget_of command) outcome) reply
 
 abbrev pub StepIsMarked : Type 0
-StepIsMarked = (state : ExchangeState) (command : Command) → IsMarkedFor command (step state command).0
+StepIsMarked = (state : ExchangeState) (command : Command) → IsKept state → IsMarkedFor command (step state command).0

@@ -26,10 +26,6 @@ use Rattle.exchange_core.specs.Reserves.{reserve_of}
 abbrev pub IsOfOpen : List ℕ → Order → Type 0
 IsOfOpen accounts order = is_open accounts order.account ≡ true
 
--- a market is on one underlying: one on several is not built
-abbrev pub IsOnOne : ℕ × MarketState → Type 0
-IsOnOne market = market.1.underlyings ≡ 1
-
 -- the underlyings of a market that is not settled
 abbrev pub on_if_trading : MarketState → Option ℕ
 on_if_trading market = if market.settled then None else Some market.underlyings
@@ -53,12 +49,11 @@ abbrev pub ArePositionsKept : List ℕ → Markets → List Position → Type 0
 ArePositionsKept accounts markets positions = All (IsPositionKept accounts markets) positions
 
 -- the house is open, each live order is of an open account, and the book is kept: each live order is within the limits and
--- in a market on as many underlyings as its options, which is not settled. Each market is on one underlying
+-- in a market on as many underlyings as its options, which is not settled
 pub record AreOrdersKept (opened : List ℕ) (state : BookState) : Type 0 where
   pub house : is_open opened 0 ≡ true
   pub accounts : All (IsOfOpen opened) (live_orders state.markets)
   pub book : IsBookKept state
-  pub single : All IsOnOne state.markets
 
 -- the same of an exchange, and its positions are kept
 pub record IsKept (state : ExchangeState) : Type 0 where

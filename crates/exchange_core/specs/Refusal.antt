@@ -1,7 +1,7 @@
 -- The numbers of the refusals in reply lines, and the field that is told with one of them.
 use Rattle.std.specs.Prelude.{ℕ}
 use Rattle.exchange_core.specs.declared.refusal.Refusal.{Refusal}
-use Rattle.exchange_core.specs.declared.refusal.Refusal.TheVariants.{Syntax, NoAccount, AccountExists, NoMarket, MarketExists, Settled, WeightCount, Range, Funds, BookFull, NoOrder, NotOwner, TooMany, NotBuilt}
+use Rattle.exchange_core.specs.declared.refusal.Refusal.TheVariants.{Syntax, NoAccount, AccountExists, NoMarket, MarketExists, Settled, WeightCount, Range, Funds, BookFull, NoOrder, NotOwner, TooMany}
 
 abbrev pub number_of : Refusal → ℕ
 number_of Syntax = 1
@@ -17,7 +17,6 @@ number_of BookFull = 10
 number_of NoOrder = 11
 number_of NotOwner = 12
 number_of TooMany = 13
-number_of NotBuilt = 90
 
 -- the field that is out of its range; 0 where the refusal is another
 abbrev pub field_of : Refusal → ℕ
@@ -34,4 +33,3 @@ field_of BookFull = 0
 field_of NoOrder = 0
 field_of NotOwner = 0
 field_of TooMany = 0
-field_of NotBuilt = 0

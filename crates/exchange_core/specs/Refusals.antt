@@ -1,6 +1,6 @@
 -- The refusals of each command, each with its condition, in the order in which they are tried: those of ledger and book, by
 -- their names in the exchange.
-use Rattle.std.specs.Prelude.{ℕ, ℤ, ◌*◌, Bool, not, nat_eq, List, [], ◌∷◌, ◌++◌, Option}
+use Rattle.std.specs.Prelude.{ℕ, ℤ, ◌*◌, Bool, List, ◌++◌, Option}
 use Rattle.cash_ledger.specs.declared.ledger.LedgerRefusal.{LedgerRefusal}
 use Rattle.cash_ledger.specs.Ledger.{LedgerState, free_of}
 use Rattle.cash_ledger.specs.Refusals.{open_refusals, account_refusals, payment_refusals}
@@ -13,7 +13,6 @@ use Rattle.refusals.specs.Refusals.{first_of, named}
 use Rattle.command_text.specs.declared.command.Command.{Command}
 use Rattle.command_text.specs.declared.command.Command.TheVariants.{Open, Deposit, Withdraw, Market, Trade, Bundle, Cancel, Clear, Settle, Balance}
 use Rattle.exchange_core.specs.declared.refusal.Refusal.{Refusal}
-use Rattle.exchange_core.specs.declared.refusal.Refusal.TheVariants.{NotBuilt}
 use Rattle.exchange_core.specs.ExchangeState.{ExchangeState}
 use Rattle.exchange_core.specs.Failures.{ledger_failure, book_failure, unless_memory}
 use Rattle.exchange_core.specs.Orders.{order_by, order_for}
@@ -53,15 +52,11 @@ place_refusals state order =
     by_book (book.order_refusals state.book order)
     ++ (by_ledger (by_account state order) ++ by_book (book.room_refusals state.book order.market))
 
--- a market of several underlyings is not built
-abbrev pub on_several : ℕ → List (Bool × Refusal)
-on_several underlyings = (not (nat_eq underlyings 1), NotBuilt) ∷ []
-
 abbrev pub refusals : ExchangeState → Command → List (Bool × Refusal)
 refusals state (Open account) = by_ledger (open_refusals state.accounts account)
 refusals state (Deposit account amount) = by_ledger (account_refusals state.accounts account)
 refusals state (Withdraw account amount) = by_ledger (payment_refusals state.accounts account (free_in state account) amount)
-refusals state (Market market underlyings) = by_book (book.market_refusals state.book market) ++ on_several underlyings
+refusals state (Market market underlyings) = by_book (book.market_refusals state.book market)
 refusals state (Trade side account market kind strike price quantity count weights) =
     place_refusals state (order_by side account market kind strike price quantity count weights)
 refusals state (Bundle side account market price quantity bundle) = place_refusals state (order_for side account market price quantity bundle)

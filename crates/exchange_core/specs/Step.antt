@@ -10,8 +10,8 @@ use Rattle.order_book.specs.Book as book
 use Rattle.command_text.specs.declared.command.Command.{Command}
 use Rattle.command_text.specs.declared.command.Command.TheVariants.{Open, Deposit, Withdraw, Market, Trade, Bundle, Cancel, Clear, Settle, Balance}
 use Rattle.exchange_core.specs.declared.refusal.Refusal.{Refusal}
-use Rattle.exchange_core.specs.declared.reply.Reply.{Reply}
-use Rattle.exchange_core.specs.declared.reply.Reply.TheVariants as reply
+use Rattle.reply_print.specs.declared.replies.Reply.{Reply}
+use Rattle.reply_print.specs.declared.replies.Reply.TheVariants as reply
 use Rattle.exchange_core.specs.ExchangeState.{ExchangeState}
 use Rattle.exchange_core.specs.Orders.{order_by, order_for}
 use Rattle.exchange_core.specs.Payoffs.{payoff_entries}

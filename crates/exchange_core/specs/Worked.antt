@@ -7,9 +7,9 @@ use Rattle.form.specs.declared.orders.Side.TheVariants.{Buy, Sell}
 use Rattle.command_text.specs.declared.command.Command.{Command}
 use Rattle.command_text.specs.declared.command.Command.TheVariants.{Open, Withdraw, Market, Trade, Cancel, Clear, Settle, Balance}
 use Rattle.command_text.specs.declared.command.Kind.TheVariants.{Call}
-use Rattle.exchange_core.specs.declared.refusal.Refusal.TheVariants.{NoAccount, AccountExists, NoMarket, Settled as SettledFor, MarketExists, WeightCount, Funds, NoOrder, NotOwner, NotBuilt}
-use Rattle.exchange_core.specs.declared.reply.Reply.TheVariants.{Withdrawn, Cancelled, Settled}
-use Rattle.exchange_core.specs.declared.reply.Reply.TheVariants as reply
+use Rattle.exchange_core.specs.declared.refusal.Refusal.TheVariants.{NoAccount, AccountExists, NoMarket, Settled as SettledFor, MarketExists, WeightCount, Funds, NoOrder, NotOwner}
+use Rattle.reply_print.specs.declared.replies.Reply.TheVariants.{Withdrawn, Cancelled, Settled}
+use Rattle.reply_print.specs.declared.replies.Reply.TheVariants as reply
 use Rattle.exchange_core.specs.ExchangeState.{ExchangeState}
 use Rattle.exchange_core.specs.Refusals.{refusal_of}
 use Rattle.exchange_core.specs.Step.{step}
@@ -60,7 +60,7 @@ RefusalsInOrder =
     × (refusal_of in_debt (trade Buy 1 1 0 1) ≡ Some Funds)
     × (refusal_of bid (Open 1) ≡ Some AccountExists)
     × (refusal_of bid (Market 1 2) ≡ Some MarketExists)
-    × (refusal_of bid (Market 2 2) ≡ Some NotBuilt)
+    × (refusal_of bid (Market 2 8) ≡ None)
     × (refusal_of bid (Cancel 1 99) ≡ Some NoOrder)
     × (refusal_of bid (Cancel 2 1) ≡ Some NotOwner)
     × (refusal_of bid (Clear 9 1) ≡ Some NoMarket)
@@ -110,3 +110,26 @@ pub record ButterflyIsSettled : Type 0 where
   pub no_market : refusal_of butterfly (Settle 9 2 (0 ∷ 0 ∷ 0 ∷ 0 ∷ 0 ∷ 0 ∷ 0 ∷ 0 ∷ [])) ≡ Some NoMarket
   pub two_prices : refusal_of butterfly (Settle 1 2 (0 ∷ 0 ∷ 0 ∷ 0 ∷ 0 ∷ 0 ∷ 0 ∷ 0 ∷ [])) ≡ Some WeightCount
   pub settled_before_count : refusal_of settled_butterfly (Settle 1 2 (0 ∷ 0 ∷ 0 ∷ 0 ∷ 0 ∷ 0 ∷ 0 ∷ 0 ∷ [])) ≡ Some SettledFor
+
+-- ---- a basket on two underlyings
+-- accounts 1 to 3 are open, account 1 has 100, and market 1 is on two underlyings
+abbrev pub on_two : ExchangeState
+on_two = record three_traders {
+  book = record { markets = (1, record { underlyings = 2; settled = false; live = [] }) ∷ []; accepted = 0; finished = 0 };
+}
+
+-- an order for one call with this strike on weights of the two
+abbrev pub basket_at : Side → ℕ → ℕ → ℕ → ℤ → ℤ → Command
+basket_at side account strike price first second =
+    Trade side account 1 Call (pos strike) price 1 2 (first ∷ second ∷ pos 0 ∷ pos 0 ∷ pos 0 ∷ pos 0 ∷ pos 0 ∷ pos 0 ∷ [])
+
+-- a call on the sum with strike 10 is bought at 6; one on the first with strike 4 is sold at 3, and one on the second with
+-- strike 6 at 2
+abbrev pub basket : ExchangeState
+basket = after (after (after on_two (basket_at Buy 1 10 6 (pos 1) (pos 1))) (basket_at Sell 2 4 3 (pos 1) (pos 0))) (basket_at Sell 3 6 2 (pos 0) (pos 1))
+
+-- all are filled, with 11 units: where the sum is above 10, both sells cover it
+pub record BasketIsPaid : Type 0 where
+  pub cleared : balances (0 ∷ 1 ∷ 2 ∷ 3 ∷ []) (after basket (Clear 1 11)) ≡ pos 1 ∷ pos 94 ∷ pos 3 ∷ pos 2 ∷ []
+  -- with a unit less the run stops, and the match of each option by itself fills nothing
+  pub one_short : balances (0 ∷ 1 ∷ 2 ∷ 3 ∷ []) (after basket (Clear 1 10)) ≡ pos 0 ∷ pos 100 ∷ pos 0 ∷ pos 0 ∷ []

@@ -11,14 +11,15 @@ ghost use Rattle.exchange_core.specs.Kept.{IsKept};
 ghost use Rattle.exchange_core.specs.Failures.{unless_memory};
 ghost use Rattle.exchange_core.specs.Refusals.{refusals, place_refusals};
 ghost use Rattle.exchange_core.specs.Step.{step, effect, place_effect, clear_effect, Does};
-ghost use Rattle.command_text.specs.Within.{IsWithin, IsAccount, IsAmount, IsBudget};
+ghost use Rattle.command_text.specs.Within.{Between, IsWithin, IsAccount, IsAmount, IsBudget};
+ghost use Rattle.form.specs.declared.limits.TheConstants.{MAX_UNDERLYINGS};
 
+use crate::Reply;
 use crate::clear::clear;
 use crate::failure::Failure;
 use crate::place::{cancel, place};
 use crate::settle::settle;
 use crate::trade::one_option;
-use crate::{Refusal, Reply};
 use cash_ledger::{Ledger, LedgerRefusal};
 use command_text::Command;
 use order_book::{Book, NewOrder};
@@ -106,15 +107,12 @@ impl Exchange {
     }
 
     fn list(&mut self, market: u32, underlyings: u8) -> Result<Reply, Failure>
+        requires { Between 1 MAX_UNDERLYINGS underlyings }
         ensures refused { TellsFirst unless_memory result
             (refusals self.old (Command.Market market underlyings)) }
         ensures ok { Does result self.new (effect self.old (Command.Market market underlyings)) }
         ensures err { OnErr result (self.new ≡ self.old) }
     {
-        self.book.check_market(market)?;
-        if underlyings != 1 {
-            return Err(Failure::Refused(Refusal::NotBuilt));
-        }
         self.book.market(market, underlyings)?;
         Ok(Reply::Listed {
             market,
@@ -267,7 +265,7 @@ impl Exchange {
     {
         match self.carry_out(command) {
             Ok(reply) => Ok(reply),
-            Err(Failure::Refused(refusal)) => Ok(Reply::refused(refusal)),
+            Err(Failure::Refused(refusal)) => Ok(refusal.reply()),
             Err(Failure::Memory) => Err(AllocError),
         }
     }

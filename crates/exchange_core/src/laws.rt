@@ -4,7 +4,7 @@ ghost use Rattle.exchange_core.specs.Covered.{StepIsCovered, StepIsMarked, StepI
 ghost use Rattle.exchange_core.specs.ExchangeState.{empty_exchange};
 ghost use Rattle.exchange_core.specs.Kept.{IsKept};
 ghost use Rattle.exchange_core.specs.Laws.{StepKeeps};
-ghost use Rattle.exchange_core.specs.Worked.{ButterflyIsPaid, ButterflyIsSettled, ReserveIsKept, RefusalsInOrder};
+ghost use Rattle.exchange_core.specs.Worked.{BasketIsPaid, ButterflyIsPaid, ButterflyIsSettled, ReserveIsKept, RefusalsInOrder};
 
 /// From each state that an exchange may be in, a reply that clears a batch tells fills that cover its surplus, which is not
 /// below 0.
@@ -17,7 +17,7 @@ pub fn step_is_optimal()
     ensures { StepIsOptimal }
 {}
 
-/// The mark of a batch that is cleared and its units are those of the end of its run: so it is missing only where the run stops
+/// From each such state, the mark of a batch that is cleared and its units are those of the end of its run: so it is missing only where the run stops
 /// at a number that does not fit, or for want of a unit beyond the budget.
 pub fn step_is_marked()
     ensures { StepIsMarked }
@@ -29,8 +29,7 @@ pub fn empty_is_kept()
 {}
 
 /// And it is kept by each step: the house open; each live order of an open account, within the limits, and in a market
-/// on as many underlyings as its options, which is not settled; each market on one underlying; and each position of an
-/// open account, in such a market, with a fill above 0 that counts at most 1,000,000 options within the limits.
+/// on as many underlyings as its options, which is not settled; and each position of an open account, in such a market, with a fill above 0 that counts at most 1,000,000 options within the limits.
 pub fn step_keeps()
     ensures { StepKeeps }
 {}
@@ -54,4 +53,10 @@ pub fn butterfly_is_paid()
 /// The same batch settled at 11, when the house has 3; and its market is settled for good: worked rows.
 pub fn butterfly_is_settled()
     ensures { ButterflyIsSettled }
+{}
+
+/// A batch on two underlyings, from the orders to the balances: a call on the sum is bought at 6, calls on each price are sold at
+/// 3 and 2 and cover it, and 1 stays with the house. It takes 11 units of work: with 10 nothing is filled.
+pub fn basket_is_paid()
+    ensures { BasketIsPaid }
 {}

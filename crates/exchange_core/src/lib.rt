@@ -20,4 +20,4 @@ pub use command_text::{Command, Kind, MAX_BUDGET, MAX_MARKET};
 pub use exchange::Exchange;
 pub use order_book::{MAX_ACCEPTED, MAX_BATCHES};
 pub use refusal::Refusal;
-pub use reply::Reply;
+pub use reply_print::Reply;

@@ -30,8 +30,6 @@ pub enum Refusal {
     NotOwner,
     /// There are as many accounts, markets, orders or batches as there may be.
     TooMany,
-    /// The exchange does not serve this yet.
-    NotBuilt,
 }
 
 impl Refusal {
@@ -53,7 +51,6 @@ impl Refusal {
             Refusal::NoOrder => 11,
             Refusal::NotOwner => 12,
             Refusal::TooMany => 13,
-            Refusal::NotBuilt => 90,
         }
     }
 

@@ -2,5 +2,5 @@ mod FirstLine
 mod Found
 mod Counting
 mod LineSays
-mod ReportsSay
-mod Journals
+pub mod ReportsSay
+pub mod Journals

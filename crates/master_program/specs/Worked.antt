@@ -112,12 +112,12 @@ pub record ButterflyByTwoSells : Type 0 where
 abbrev pub dear_cover : List Order
 dear_cover = call_order Buy 10 6 ∷ call_order Sell 12 4 ∷ []
 
-abbrev pub dear_cover_states : List (List ℕ)
-dear_cover_states = at_price 10 ∷ at_price 12 ∷ slope ∷ []
+abbrev pub at_both_strikes : List (List ℕ)
+at_both_strikes = at_price 10 ∷ at_price 12 ∷ slope ∷ []
 
 pub record CoverTooDear : Type 0 where
-  pub program : worked_master dear_cover dear_cover_states ≡ Ok cover_too_dear
-  pub reading : worked_reading dear_cover dear_cover_states (wholes (pos 0 ∷ pos 0 ∷ pos 0 ∷ [])) (wholes (pos 0 ∷ pos 0 ∷ pos 0 ∷ pos 1 ∷ pos 4 ∷ [])) (wholes (pos 0 ∷ pos 0 ∷ pos 0 ∷ [])) (whole (pos 0))
+  pub program : worked_master dear_cover at_both_strikes ≡ Ok cover_too_dear
+  pub reading : worked_reading dear_cover at_both_strikes (wholes (pos 0 ∷ pos 0 ∷ pos 0 ∷ [])) (wholes (pos 0 ∷ pos 0 ∷ pos 0 ∷ pos 1 ∷ pos 4 ∷ [])) (wholes (pos 0 ∷ pos 0 ∷ pos 0 ∷ [])) (whole (pos 0))
       ≡ Ok (record {
         fills = wholes (pos 0 ∷ pos 0 ∷ []);
         liability = whole (pos 0);
@@ -160,13 +160,10 @@ spread =
     ∷ call_order Buy 12 5
     ∷ []
 
-abbrev pub spread_states : List (List ℕ)
-spread_states = at_price 10 ∷ at_price 12 ∷ slope ∷ []
-
 -- beyond both strikes the spread pays 2: its column is that of call 10 less that of call 12
 abbrev pub SpreadIsCovered : Type 0
 SpreadIsCovered =
-    worked_master spread spread_states
+    worked_master spread at_both_strikes
     ≡ Ok (program_of (pos 2 ∷ minus 6 ∷ pos 5 ∷ minus 1 ∷ [])
     (at_most (pos 1 ∷ pos 0 ∷ pos 0 ∷ pos 0 ∷ []) (pos 1)
     ∷ at_most (pos 0 ∷ pos 1 ∷ pos 0 ∷ pos 0 ∷ []) (pos 1)

@@ -34,17 +34,13 @@ printed-plain (b ∷ s) h =
     let parts = and_parts (is_plain_byte b) (is_plain s) h in
     and_from (is_printed b) _ (printed_byte b parts.0) (printed-plain s parts.1)
 
-small_size : (z : ℤ) → is_short z ≡ true → unsigned_abs z < 10 ^ 64
-small_size (pos n) h = omega (arith, ltb-true n (2 ^ 63) h)
-small_size (negsuc n) h = omega (arith, ltb-true (suc n) (2 ^ 63) h)
-
 printed_comma : (later : Bool) (t : List ℕ) → are_printed t ≡ true → are_printed (comma_after later ++ t) ≡ true
 printed_comma true t h = h
 printed_comma false t h = h
 
 mutual
   printed-piece : (n : ℕ) (p : Piece) → IsWritten n p → are_printed (piece_text p) ≡ true
-  printed-piece n (whole z) h = printed-plain (signed_decimal z) (plain-signed_decimal z (small_size z h))
+  printed-piece n (whole z) h = printed-plain (signed_decimal z) (plain-signed_decimal z)
   printed-piece n (words s) h = printed-append s (34 ∷ []) (printed-plain s h) refl
   printed-piece zero (list ps) h = absurd h
   printed-piece (suc n) (list ps) h = printed-pieces n false ps h

@@ -1,4 +1,5 @@
 pub mod Plain
+pub mod PlainPieces
 pub mod Compact
 pub mod ReadBack
 pub mod Digits

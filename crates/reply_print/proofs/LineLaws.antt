@@ -9,16 +9,17 @@ use Rattle.reply_print.specs.PieceData.{piece_data, pieces_data, fields_data}
 use Rattle.reply_print.specs.ReplyPieces.{reply_piece, reply_line}
 use Rattle.reply_print.specs.Within.{IsWithin}
 use Rattle.reply_print.proofs.Compact.{compact-piece}
+use Rattle.reply_print.proofs.PlainPieces.{reply_plain}
 use Rattle.reply_print.proofs.ReadBack.{read-piece}
 use Rattle.reply_print.proofs.WrittenReplies.{written}
 
 -- the line of a reply is the compact text of its value
-pub line_is_compact : (line : ℕ) (reply : Reply) → IsWithin line reply → reply_line line reply ≡ compact_text (piece_data (reply_piece line reply))
-line_is_compact line reply h = sym (compact-piece 6 (reply_piece line reply) (written line reply h))
+pub line_is_compact : (line : ℕ) (reply : Reply) → reply_line line reply ≡ compact_text (piece_data (reply_piece line reply))
+line_is_compact line reply = sym (compact-piece (reply_piece line reply) (reply_plain line reply))
 
 -- and reads as its value
 pub line_reads : (line : ℕ) (reply : Reply) → IsWithin line reply → read (reply_line line reply) ≡ Some (piece_data (reply_piece line reply))
-line_reads line reply h = read-piece 6 (reply_piece line reply) (written line reply h) (omega arith)
+line_reads line reply h = read-piece 6 (reply_piece line reply) (reply_plain line reply) (written line reply h) (omega arith)
 
 -- no value of a line has a float
 mutual
@@ -38,5 +39,5 @@ mutual
   no_member_float (field k p fs) = rw (no_float p) (no_member_float fs)
 
 -- what is written for the value of a reply is its line
-pub written_line : (line : ℕ) (reply : Reply) (d : Data) (bytes : List ℕ) → IsWithin line reply → d ≡ piece_data (reply_piece line reply) → (has_float d ≡ false → bytes ≡ compact_text d) → bytes ≡ reply_line line reply
-written_line line reply d bytes h e w = w (ap has_float e ∙ no_float (reply_piece line reply)) ∙ ap compact_text e ∙ sym (line_is_compact line reply h)
+pub written_line : (line : ℕ) (reply : Reply) (d : Data) (bytes : List ℕ) → d ≡ piece_data (reply_piece line reply) → (has_float d ≡ false → bytes ≡ compact_text d) → bytes ≡ reply_line line reply
+written_line line reply d bytes e w = w (ap has_float e ∙ no_float (reply_piece line reply)) ∙ ap compact_text e ∙ sym (line_is_compact line reply)

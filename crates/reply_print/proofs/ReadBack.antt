@@ -22,6 +22,7 @@ use Rattle.reply_print.specs.Piece.{Piece, whole, words, list, object, Pieces, n
 use Rattle.reply_print.specs.PieceData.{piece_data, pieces_data, fields_data}
 use Rattle.reply_print.specs.Written.{is_after, are_rising, IsWritten, AreWritten, HasWritten}
 use Rattle.reply_print.proofs.Compact.{compact-piece}
+use Rattle.reply_print.proofs.PlainPieces.{HasPlainTexts}
 
 -- ---- members in order go in one after another
 
@@ -121,10 +122,10 @@ mutual
       ∙ ap Some (joined-joined found more (fields_data fs))
 
 -- the text reads as the value
-pub read-piece : (n : ℕ) (p : Piece) → IsWritten n p → n ≤ max_depth → read (piece_text p) ≡ Some (piece_data p)
-read-piece n p h shallow =
+pub read-piece : (n : ℕ) (p : Piece) → HasPlainTexts p → IsWritten n p → n ≤ max_depth → read (piece_text p) ≡ Some (piece_data p)
+read-piece n p plain h shallow =
     let j = outline (piece_data p) in
-    let text : piece_text p ≡ print (json_tokens j) = sym (compact-piece n p h) ∙ sym (print-outline (piece_data p)) in
+    let text : piece_text p ≡ print (json_tokens j) = sym (compact-piece p plain) ∙ sym (print-outline (piece_data p)) in
     let lexed : tokens (piece_text p) ≡ json_tokens j = ap tokens text ∙ tokens-print (json_tokens j) (ArePrintable-json_tokens j (has_numbers n p h)) in
     let parsed : json.value max_depth (tokens (piece_text p)) ≡ Some (j, []) =
     ap (json.value max_depth) (lexed ∙ sym (append-nil (json_tokens j))) ∙ value-json_tokens j max_depth [] (omega (arith, levels n p h)) in

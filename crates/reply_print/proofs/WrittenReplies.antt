@@ -31,7 +31,7 @@ use Rattle.form.specs.declared.legs.Leg.{Leg}
 use Rattle.form.specs.declared.bundles.Bundle.{Bundle}
 use Rattle.form.specs.declared.orders.Order.{Order}
 use Rattle.form.specs.Bundles.{legs_in, IsCounted}
-use Rattle.reply_print.specs.declared.payouts.PaidOut.{PaidOut}
+use Rattle.settlement.specs.declared.position.PaidOut.{PaidOut}
 use Rattle.reply_print.specs.declared.replies.Reply.{Reply}
 use Rattle.reply_print.specs.declared.replies.Reply.TheVariants.{Opened, Deposited, Withdrawn, Listed, Placed, Cancelled, Cleared, Settled, Balance, Refused}
 use Rattle.reply_print.specs.BatchPieces.{whole_words, fraction, pieces_of, form_piece, leg_piece, order_with, order_piece, are_single, version_of}
@@ -43,31 +43,15 @@ use Rattle.reply_print.specs.Words.{reason_word, side_word, mark_word, operator_
 use Rattle.reply_print.specs.Within.{IsWithin, IsLine, IsBatchNumber, IsMarket, IsPlace, IsBatchWithin, IsOrderWithin, IsMarkWithin, IsCoverWithin, IsNodeWithin, IsPointWithin, IsPair, IsPaidWithin, IsSmall, IsRefusal}
 use Rattle.reply_print.specs.Written.{is_plain, IsWritten, AreWritten, HasWritten, is_short}
 use Rattle.reply_print.proofs.Digits.{plain-signed_decimal, plain-fraction_text}
+use Rattle.reply_print.proofs.PlainPieces.{reason_plain, side_plain, operator_plain, fraction_plain}
 
 pub short : (n : ℕ) → n < 2 ^ 63 → is_short (pos n) ≡ true
 short n h = lt-ltb n (2 ^ 63) h
-
-pub plain_small : (z : ℤ) → IsSmall z → is_plain (signed_decimal z) ≡ true
-plain_small z h = plain-signed_decimal z (omega arith)
 
 -- each piece of a list
 pub each_written : {A : Type 0} (P : A → Type 0) (n : ℕ) (f : A → Piece) → ((x : A) → P x → IsWritten n (f x)) → (xs : List A) → AllByRecursion P xs → AreWritten n (pieces_of f xs)
 each_written P n f step [] h = tt
 each_written P n f step (x ∷ xs) h = (step x h.0, each_written P n f step xs h.1)
-
-plain_either : (b : Bool) (x y : List ℕ) → is_plain x ≡ true → is_plain y ≡ true → is_plain (cond b x y) ≡ true
-plain_either true x y h k = h
-plain_either false x y h k = k
-
-reason_plain : (number : ℕ) → is_plain (reason_word number) ≡ true
-reason_plain number =
-    plain_either (number == 1) _ _ refl (plain_either (number == 2) _ _ refl (plain_either (number == 3) _ _ refl (plain_either (number == 4) _ _ refl
-    (plain_either (number == 5) _ _ refl (plain_either (number == 6) _ _ refl (plain_either (number == 7) _ _ refl (plain_either (number == 8) _ _ refl
-    (plain_either (number == 9) _ _ refl (plain_either (number == 10) _ _ refl (plain_either (number == 11) _ _ refl (plain_either (number == 12) _ _ refl refl)))))))))))
-
-signed_small : (side : Side) (amount : ℕ) → amount ≤ 8001000000000000000 → IsSmall (signed_amount side amount)
-signed_small Buy amount h = omega arith
-signed_small Sell amount h = omega (arith, ints)
 
 paid_written : (paid : PaidOut) → IsPaidWithin paid → IsWritten 4 (paid_piece paid)
 paid_written paid h = (
@@ -77,15 +61,15 @@ paid_written paid h = (
     short paid.account (omega arith),
     (
       refl,
-      plain_small (signed_amount paid.side paid.amount) (signed_small paid.side paid.amount h.3),
+      plain-signed_decimal (signed_amount paid.side paid.amount),
       (refl, short paid.batch (omega arith), (refl, short paid.order (omega arith), tt)),
     ),
   ),
 )
 
-moved_written : (reply : List ℕ) (line account : ℕ) (balance : ℤ) → is_plain reply ≡ true → IsLine line → account ≤ 999999999 → IsSmall balance → IsWritten 6 (moved_piece reply line account balance)
-moved_written reply line account balance r l a b =
-    (refl, (refl, short account (omega arith), (refl, plain_small balance b, (refl, short line (omega arith), (refl, r, tt)))))
+moved_written : (reply : List ℕ) (line account : ℕ) (balance : ℤ) → is_plain reply ≡ true → IsLine line → account ≤ 999999999 → IsWritten 6 (moved_piece reply line account balance)
+moved_written reply line account balance r l a =
+    (refl, (refl, short account (omega arith), (refl, plain-signed_decimal balance, (refl, short line (omega arith), (refl, r, tt)))))
 
 ordered_written : (reply : List ℕ) (line order : ℕ) → is_plain reply ≡ true → IsLine line → order ≤ 1000000 → IsWritten 6 (ordered_piece reply line order)
 ordered_written reply line order r l o = (refl, (refl, short line (omega arith), (refl, short order (omega arith), (refl, r, tt))))
@@ -97,12 +81,6 @@ refused_written line number place reason false l n f r =
     (refl, (refl, short line (omega arith), (refl, short number (omega arith), (refl, r, (refl, refl, tt)))))
 
 -- ---- cleared lines
-
-fraction_plain : (x : Frac128) → is_plain (fraction_text (fraction_of x)) ≡ true
-fraction_plain x = plain-fraction_text (fraction_of x) (omega (arith, x.above_fits)) (omega (arith, x.below_fits))
-
-pair_plain : (x : ℤ × ℤ) → IsPair x → is_plain (fraction_text (over x.0 (unsigned_abs x.1))) ≡ true
-pair_plain x h = plain-fraction_text (over x.0 (unsigned_abs x.1)) (omega arith) (omega arith)
 
 fills_written : (xs : List Frac128) → AreWritten 4 (pieces_of fraction xs)
 fills_written [] = tt
@@ -136,10 +114,6 @@ legs_within bundle h = from_all IsLegWithin (legs_in bundle) (λ k d lt. (bundle
 leg_written : (leg : Leg) → IsLegWithin leg → IsWritten 2 (leg_piece leg)
 leg_written leg h = (refl, (refl, count_short leg.count h.0.1, (refl, form_written 0 leg.form h.1, tt)))
 
-side_plain : (side : Side) → is_plain (side_word side) ≡ true
-side_plain Buy = refl
-side_plain Sell = refl
-
 order_written : (single : Bool) (legs : List Leg) (order : Order) → AllByRecursion IsLegWithin legs → IsOrderWithin order → IsWritten 4 (order_with single legs order)
 order_written true [] order l h =
     (refl, (refl, short order.account (omega arith), (refl, short order.id (omega arith), (refl, short order.price (omega (arith, h.2.price)), (refl, short order.quantity (omega (arith, h.2.quantity)), (refl, side_plain order.side, tt))))))
@@ -151,7 +125,7 @@ order_written false legs order l h =
 -- ---- certificates
 
 point_written : (point : Weighted) → IsPointWithin point → IsWritten 3 (point_piece point)
-point_written point h = (refl, (refl, each_written IsSmall 1 whole_words plain_small (state_entries point.state) h, (refl, fraction_plain point.weight, tt)))
+point_written point h = (refl, (refl, each_written IsSmall 1 whole_words (λ z small. plain-signed_decimal z) (state_entries point.state) h, (refl, fraction_plain point.weight, tt)))
 
 multiplier_written : (m : Multiplier) → IsPlace m.place → IsWritten 1 (multiplier_piece m)
 multiplier_written m h = (refl, (refl, short m.place (omega arith), (refl, fraction_plain m.by, tt)))
@@ -182,14 +156,9 @@ cover_written (Tree tree) h = nodes_written tree.nodes tree.multipliers h.0 h.1
 certificate_written : (cover : Cover) (measure : Measure) → IsCoverWithin cover → AllByRecursion IsPointWithin measure.points → IsWritten 5 (certificate_piece cover measure)
 certificate_written cover measure c m = (refl, (refl, cover_written cover c, (refl, each_written IsPointWithin 3 point_piece point_written measure.points m, tt)))
 
-operator_plain : (o : Operator) → is_plain (operator_word o) ≡ true
-operator_plain operator.Add = refl
-operator_plain operator.Mul = refl
-operator_plain operator.Div = refl
-operator_plain operator.Whole = refl
-
-wide_written : (w : Wide) → IsPair w.left → IsPair w.right → IsWritten 5 (wide_piece w)
-wide_written w h k = (refl, (refl, pair_plain w.left h, (refl, operator_plain w.operator, (refl, pair_plain w.right k, tt))))
+wide_written : (w : Wide) → IsWritten 5 (wide_piece w)
+wide_written w =
+    (refl, (refl, plain-fraction_text (over w.left.0 (unsigned_abs w.left.1)), (refl, operator_plain w.operator, (refl, plain-fraction_text (over w.right.0 (unsigned_abs w.right.1)), tt))))
 
 version_short : (single : Bool) → is_short (pos (version_of single)) ≡ true
 version_short true = refl
@@ -233,14 +202,14 @@ cleared_written : (mark : Mark) (single : Bool) (line number market : ℕ) (batc
 cleared_written (mark.Optimal cover measure) single line number market batch outcome l n m b u k =
     (refl, (refl, short number (omega arith), (refl, certificate_written cover measure k.0 k.1, middle_written (mark.Optimal cover measure) single line market batch outcome l m b u refl tt)))
 cleared_written (mark.Wide w) single line number market batch outcome l n m b u k =
-    (refl, (refl, short number (omega arith), middle_written (mark.Wide w) single line market batch outcome l m b u refl (refl, wide_written w k.0 k.1, tt)))
+    (refl, (refl, short number (omega arith), middle_written (mark.Wide w) single line market batch outcome l m b u refl (refl, wide_written w, tt)))
 cleared_written mark.Budget single line number market batch outcome l n m b u k =
     (refl, (refl, short number (omega arith), middle_written mark.Budget single line market batch outcome l m b u refl tt))
 
 pub written : (line : ℕ) (reply : Reply) → IsWithin line reply → IsWritten 6 (reply_piece line reply)
 written line (Opened account) h = (refl, (refl, short account (omega arith), (refl, short line (omega arith), (refl, refl, tt))))
-written line (Deposited account balance) h = moved_written (codes "deposited") line account balance refl h.0 (omega arith) h.1.1
-written line (Withdrawn account balance) h = moved_written (codes "withdrawn") line account balance refl h.0 (omega arith) h.1.1
+written line (Deposited account balance) h = moved_written (codes "deposited") line account balance refl h.0 (omega arith)
+written line (Withdrawn account balance) h = moved_written (codes "withdrawn") line account balance refl h.0 (omega arith)
 written line (Listed market underlyings) h = (refl, (refl, short line (omega arith), (refl, short market (omega arith), (refl, refl, (refl, short underlyings (omega arith), tt)))))
 written line (Placed order) h = ordered_written (codes "placed") line order refl h.0 (omega arith)
 written line (Cancelled order) h = ordered_written (codes "cancelled") line order refl h.0 (omega arith)
@@ -264,8 +233,8 @@ written line (Balance account balance reserved) h = (
     short account (omega arith),
     (
       refl,
-      plain_small balance h.1.1,
-      (refl, short line (omega arith), (refl, refl, (refl, plain_small reserved h.1.2, tt))),
+      plain-signed_decimal balance,
+      (refl, short line (omega arith), (refl, refl, (refl, plain-signed_decimal reserved, tt))),
     ),
   ),
 )

@@ -5,7 +5,7 @@ use Rattle.form.specs.declared.orders.Side.TheVariants.{Buy, Sell}
 use Rattle.cert_check.specs.declared.outcome.Mark.{Mark}
 use Rattle.cert_check.specs.declared.outcome.Outcome.{Outcome}
 use Rattle.form.specs.declared.orders.Batch.{Batch}
-use Rattle.reply_print.specs.declared.payouts.PaidOut.{PaidOut}
+use Rattle.settlement.specs.declared.position.PaidOut.{PaidOut}
 use Rattle.reply_print.specs.declared.replies.Reply.{Reply}
 use Rattle.reply_print.specs.declared.replies.Reply.TheVariants.{Opened, Deposited, Withdrawn, Listed, Placed, Cancelled, Cleared, Settled, Balance, Refused}
 use Rattle.reply_print.specs.BatchPieces.{natural, whole_words, fraction, each, are_single, order_piece, version_of}

@@ -8,7 +8,6 @@ ghost use Rattle.reply_print.specs.OutcomePieces.{wide_field, certificate_field}
 ghost use Rattle.reply_print.specs.PieceData.{piece_data, fields_data};
 ghost use Rattle.reply_print.specs.CertificateMember.{with_certificate};
 ghost use Rattle.reply_print.specs.ReplyPieces.{cleared_end, cleared_middle, cleared_with, cleared_piece};
-ghost use Rattle.reply_print.specs.Within.{IsPair, IsCoverWithin, IsMarkWithin};
 
 use crate::order_values::{fills_value, fraction_value, is_version_1, orders_value};
 use crate::outcome_values::{certificate_value, wide_value};
@@ -65,7 +64,6 @@ fn with_words(
 
 // The step that did not fit, with the mark wide alone.
 fn wide_members(alloc: Global, mark: &Mark) -> Result<Map<String, Value>, AllocError>
-    requires { IsMarkWithin mark.now }
     ensures { IfOk result (λ m. members_view m.entries ≡ fields_data (wide_field mark.now)) }
 {
     match mark {
@@ -104,7 +102,6 @@ fn end_members(
     outcome: &Outcome,
     single: bool,
 ) -> Result<Map<String, Value>, AllocError>
-    requires within { IsMarkWithin outcome.now.mark }
     requires single { single ≡ are_single batch.now.orders }
     ensures { IfOk result (λ m. members_view m.entries
         ≡ fields_data (cleared_end batch.now outcome.now outcome.now.mark single)) }
@@ -143,7 +140,6 @@ fn middle_members(
     batch: &Batch,
     outcome: &Outcome,
 ) -> Result<Map<String, Value>, AllocError>
-    requires within { IsMarkWithin outcome.now.mark }
     ensures { IfOk result (λ m. members_view m.entries
         ≡ fields_data (cleared_middle outcome.now.mark (are_single batch.now.orders)
         line market batch.now outcome.now)) }
@@ -162,7 +158,6 @@ fn certified(
     map: Map<String, Value>,
     mark: &Mark,
 ) -> Result<Map<String, Value>, AllocError>
-    requires within { IsMarkWithin mark.now }
     ensures { IfOk result (λ m. members_view m.entries
         ≡ with_certificate mark.now (members_view map.entries)) }
 {
@@ -184,7 +179,6 @@ pub(crate) fn cleared_value(
     batch: &Batch,
     outcome: &Outcome,
 ) -> Result<Value, AllocError>
-    requires within { IsMarkWithin outcome.now.mark }
     ensures { IfOk result (λ v. view v
         ≡ piece_data (cleared_piece line number market batch.now outcome.now)) }
 {

@@ -6,11 +6,10 @@ pub mod laws;
 mod lines;
 mod order_values;
 mod outcome_values;
-pub mod payouts;
 pub mod replies;
 mod small_values;
 pub mod words;
 
 pub use lines::print;
-pub use payouts::{PaidOut, Payouts};
 pub use replies::Reply;
+pub use settlement::{PaidOut, Payouts};

@@ -3,15 +3,15 @@ ghost use Rattle.std.specs.Prelude.{◌≡◌, IfOk};
 ghost use Rattle.serde_json.specs.View.{view};
 ghost use Rattle.reply_print.specs.PieceData.{piece_data};
 ghost use Rattle.reply_print.specs.ReplyPieces.{settled_piece, reply_piece, reply_line};
-ghost use Rattle.reply_print.specs.Within.{IsWithin, IsReplyWithin};
 
+use crate::Reply;
 use crate::cleared_values::cleared_value;
 use crate::order_values::payouts_value;
 use crate::small_values::{
     balance_value, listed_value, moved_value, opened_value, ordered_value, refused_value,
 };
-use crate::{PaidOut, Reply};
 use serde_json::{Value, json};
+use settlement::PaidOut;
 use std::alloc::{AllocError, Global};
 
 fn settled_value(
@@ -31,7 +31,6 @@ fn settled_value(
 }
 
 fn reply_value(alloc: Global, line: u32, reply: &Reply) -> Result<Value, AllocError>
-    requires { IsReplyWithin reply.now }
     ensures { IfOk result (λ v. view v ≡ piece_data (reply_piece line reply.now)) }
 {
     match reply {
@@ -68,9 +67,8 @@ fn reply_value(alloc: Global, line: u32, reply: &Reply) -> Result<Value, AllocEr
     }
 }
 
-/// The line of a reply, without its line feed, for a line and a reply within their ranges.
+/// The line of a reply, without its line feed.
 pub fn print(alloc: Global, line: u32, reply: &Reply) -> Result<Vec<u8>, AllocError>
-    requires { IsWithin line reply.now }
     ensures { IfOk result (λ text. text.items ≡ reply_line line reply.now) }
 {
     let value = reply_value(alloc, line, reply)?;

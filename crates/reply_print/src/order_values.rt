@@ -10,13 +10,13 @@ ghost use Rattle.reply_print.specs.Piece.{whole};
 ghost use Rattle.reply_print.specs.PieceData.{piece_data};
 ghost use Rattle.reply_print.specs.ReplyPieces.{paid_piece, signed_amount};
 
-use crate::PaidOut;
 use crate::small_values::whole_text;
 use crate::words::side;
 use exact_num::Exact;
 use form::{Form, Leg, Order, Side};
 use frac::Frac128;
 use serde_json::{Value, json};
+use settlement::PaidOut;
 use std::alloc::{AllocError, Global};
 
 fn entry_value(entry: i64) -> Value

@@ -8,7 +8,6 @@ ghost use Rattle.reply_print.specs.Numbers.{fraction_text};
 ghost use Rattle.reply_print.specs.OutcomePieces.{state_entries, point_piece, multiplier_piece, node_piece, node_pieces, count_of as count_is, cover_piece, certificate_piece, pair_words, wide_piece};
 ghost use Rattle.reply_print.specs.Piece.{list, words};
 ghost use Rattle.reply_print.specs.PieceData.{piece_data};
-ghost use Rattle.reply_print.specs.Within.{IsPair, IsCoverWithin, leaves_of};
 
 use crate::order_values::fraction_value;
 use crate::small_values::whole_text;
@@ -78,9 +77,8 @@ pub(crate) fn leaf_value(alloc: Global, multipliers: &[Multiplier]) -> Result<Va
     Ok(Value::Array(values))
 }
 
-// An operand, whose denominator is at least 1.
+// An operand.
 fn pair_value(alloc: Global, pair: (i128, i128)) -> Result<Value, AllocError>
-    requires { IsPair pair }
     ensures { IfOk result (λ v. view v ≡ piece_data (pair_words pair)) }
 {
     let (numerator, denominator) = pair;
@@ -94,8 +92,6 @@ fn pair_value(alloc: Global, pair: (i128, i128)) -> Result<Value, AllocError>
 }
 
 pub(crate) fn wide_value(alloc: Global, wide: &Wide) -> Result<Value, AllocError>
-    requires left { IsPair wide.now.left }
-    requires right { IsPair wide.now.right }
     ensures { IfOk result (λ v. view v ≡ piece_data (wide_piece wide.now)) }
 {
     let left = pair_value(alloc, wide.left)?;
@@ -112,6 +108,14 @@ fn count_of(node: &Node) -> usize
         Node::Split { .. } => 0,
         Node::Leaf { count } => *count as usize,
     }
+}
+
+// The first multipliers, as many as there are up to a count, and those behind them.
+fn split(multipliers: &[Multiplier], count: usize) -> (&[Multiplier], &[Multiplier])
+    ensures own { result.0.now ≡ take count multipliers.now }
+    ensures rest { result.1.now ≡ drop count multipliers.now }
+{
+    multipliers.split_at(count.min(multipliers.len()))
 }
 
 fn node_value(alloc: Global, node: &Node, multipliers: &[Multiplier]) -> Result<Value, AllocError>
@@ -131,22 +135,20 @@ fn nodes_value(
     nodes: &[Node],
     multipliers: &[Multiplier],
 ) -> Result<Value, AllocError>
-    requires { leaves_of nodes.now ≡ length multipliers.now }
     ensures { IfOk result (λ v. view v
         ≡ piece_data (list (node_pieces nodes.now multipliers.now))) }
 {
     let mut values = Vec::new(alloc);
-    let mut from = 0;
+    let mut left = multipliers;
     for node in nodes {
-        let count = count_of(node);
-        values.push(node_value(alloc, node, &multipliers[from..from + count])?)?;
-        from += count;
+        let (own, rest) = split(left, count_of(node));
+        values.push(node_value(alloc, node, own)?)?;
+        left = rest;
     }
     Ok(Value::Array(values))
 }
 
 fn cover_value(alloc: Global, cover: &Cover) -> Result<Value, AllocError>
-    requires { IsCoverWithin cover.now }
     ensures { IfOk result (λ v. view v ≡ piece_data (cover_piece cover.now)) }
 {
     match cover {
@@ -160,7 +162,6 @@ pub(crate) fn certificate_value(
     cover: &Cover,
     measure: &Measure,
 ) -> Result<Value, AllocError>
-    requires { IsCoverWithin cover.now }
     ensures { IfOk result (λ v. view v ≡ piece_data (certificate_piece cover.now measure.now)) }
 {
     let cover = cover_value(alloc, cover)?;

@@ -1,13 +1,13 @@
 //! What a command line is answered.
 
-use crate::Payouts;
 use cert_check::Outcome;
 use form::Batch;
+use settlement::Payouts;
 
 /// What a command line is answered. Balances and amounts are in ticks.
 #[derive(Debug, Drop)]
 pub enum Reply {
-    /// The account is open.
+    /// The account is open, with balance 0.
     Opened {
         account: u32,
     },
@@ -34,14 +34,15 @@ pub enum Reply {
     Cancelled {
         order: u64,
     },
-    /// The batch of this number was cleared.
+    /// The batch of this number was cleared: what was filled of its orders, and what is left to the house at every
+    /// settlement, with the proof that it is the greatest, or with what the run stopped at.
     Cleared {
         number: u32,
         market: u32,
         batch: Batch,
         outcome: Outcome,
     },
-    /// The market is settled: how many live orders lapsed, and what each position was paid.
+    /// The market is settled: how many live orders lapsed, and what its positions were paid, in their order.
     Settled {
         market: u32,
         lapsed: u32,

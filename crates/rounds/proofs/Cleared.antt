@@ -1,8 +1,8 @@
--- What the run clears.
-use Rattle.std.proofs.Common.{◌≡◌, ℕ, List, Bool, IfOk, Result, Ok, Err, sym, subst}
+-- What the run on one underlying clears.
+use Rattle.std.proofs.Common.{◌≡◌, ℕ, List, Bool, sym, subst}
 use Rattle.exact_num.specs.Fraction.{Fraction}
 use Rattle.frac.specs.Range.{limit}
-use Rattle.table_run.specs.Ending.{done}
+use Rattle.table_run.specs.Ending.{done, unbounded}
 use Rattle.table_run.proofs.Endings.{DoneWhereFits, EndsWith, ends_with, where_fits-done, where_fits-ends}
 use Rattle.form.specs.declared.orders.Order.{Order}
 use Rattle.form.specs.declared.orders.Batch.{Batch}
@@ -15,49 +15,36 @@ use Rattle.master_program.specs.Certified.{IsGreatestByLine}
 use Rattle.master_program.proofs.Solves.{line_solves_are_greatest, no_solve_rises}
 use Rattle.master_program.proofs.Verdict.{line_readings_are_not_refused}
 use Rattle.master_program.proofs.VerdictSums.{sums_that_fit_pass}
-use Rattle.simplex.specs.declared.stop.Stop.{Stop}
-use Rattle.rounds.specs.declared.joint.Joint.{Joint}
-use Rattle.rounds.specs.Answers.{IsJointAnswer, reading_in}
-use Rattle.rounds.specs.Laws.{PassesTheVerdict, ClearedIsGreatest, NoRunIsWithoutOptimum, ClearedPassesTheVerdict}
-use Rattle.rounds.specs.Run.{sums_hold, joint_run}
+use Rattle.rounds.specs.Laws.{IsYesWith}
+use Rattle.rounds.specs.Run.{sums_hold, line_run}
 
 -- the solve that a run clears, and the sums that fit
-pub cleared_by : (wide_limit limit left spent units : ℕ) (orders : List Order) (r : Reading) → joint_run wide_limit limit left spent orders ≡ done r units
+pub cleared_by : (wide_limit limit left spent units : ℕ) (orders : List Order) (r : Reading) → line_run wide_limit limit left spent orders ≡ done r units
     → DoneWhereFits Reading Bool (master_solve wide_limit limit left spent 1 orders (later_states orders)) (sums_hold wide_limit orders) r
-unfolding joint_run
+unfolding line_run
 cleared_by wide_limit limit left spent units orders r e =
     where_fits-done (master_solve wide_limit limit left spent 1 orders (later_states orders)) (sums_hold wide_limit orders) r units e
 
-pub cleared_is_greatest : ClearedIsGreatest
-cleared_is_greatest wide_limit limit left spent units orders r e =
+pub line_run_is_greatest : (wide_limit limit left spent units : ℕ) (orders : List Order) (r : Reading) → line_run wide_limit limit left spent orders ≡ done r units → IsGreatestByLine orders r
+line_run_is_greatest wide_limit limit left spent units orders r e =
     let c = cleared_by wide_limit limit left spent units orders r e in
     line_solves_are_greatest wide_limit limit left spent c.spent orders r c.first
 
 abbrev IsSome : Reading → ℕ → Type 0
 IsSome r units = Unit {0}
 
-pub no_run_is_without_optimum : NoRunIsWithoutOptimum
-unfolding joint_run
-no_run_is_without_optimum wide_limit limit left spent units orders d e =
+pub line_run_ends : (wide_limit limit left spent units : ℕ) (orders : List Order) (d : List Fraction) → line_run wide_limit limit left spent orders ≡ unbounded d units → ⊥
+unfolding line_run
+line_run_ends wide_limit limit left spent units orders d e =
     let solve = master_solve wide_limit limit left spent 1 orders (later_states orders) in
     subst (EndsWith IsSome) e
     (where_fits-ends IsSome solve (sums_hold wide_limit orders)
     (ends_with IsSome solve (λ r units is. tt) (λ d units is. no_solve_rises wide_limit limit left spent 1 units orders (later_states orders) d is)))
 
-pub cleared_passes_the_verdict : ClearedPassesTheVerdict
-cleared_passes_the_verdict numbers left spent units batch r one on e outcome measure is =
+pub line_run_passes : (numbers left spent units : ℕ) (batch : Batch) (r : Reading) → batch.underlyings ≡ 1 → AreOn 1 batch.orders
+    → line_run limit numbers left spent batch.orders ≡ done r units → IsYesWith batch r Line
+line_run_passes numbers left spent units batch r one on e outcome measure is =
     let c = cleared_by limit numbers left spent units batch.orders r e in
     let greatest = line_solves_are_greatest limit numbers left spent c.spent batch.orders r c.first in
     let not_refused = line_readings_are_not_refused batch outcome measure r one (subst (λ (n : ℕ). AreOn n batch.orders) (sym one) on) greatest is in
     sums_that_fit_pass batch outcome Line measure r c.value is not_refused c.fits
-
--- ---- what the answer of a joint solve has shown
-pub answer_is_greatest : {A : Type 0} (value : A → Fraction) (wide_limit numbers left spent units : ℕ) (orders : List Order) (result : Result (Joint A) Stop)
-    → IsJointAnswer value (joint_run wide_limit numbers left spent orders) result units → IfOk result (λ joint. IsGreatestByLine orders (reading_in value joint))
-answer_is_greatest value wide_limit numbers left spent units orders (Ok joint) is = cleared_is_greatest wide_limit numbers left spent units orders (reading_in value joint) is
-answer_is_greatest value wide_limit numbers left spent units orders (Err stop) is = tt
-
-pub answer_passes : {A : Type 0} (value : A → Fraction) (numbers left spent units : ℕ) (batch : Batch) (result : Result (Joint A) Stop) → batch.underlyings ≡ 1 → AreOn 1 batch.orders
-    → IsJointAnswer value (joint_run limit numbers left spent batch.orders) result units → IfOk result (λ joint. PassesTheVerdict batch (reading_in value joint))
-answer_passes value numbers left spent units batch (Ok joint) one on is = cleared_passes_the_verdict numbers left spent units batch (reading_in value joint) one on is
-answer_passes value numbers left spent units batch (Err stop) one on is = tt

@@ -1,6 +1,11 @@
 pub mod Added
+pub mod Certified
 pub mod Cleared
+pub mod FirstStates
 pub mod Joined
+pub mod JointRuns
 pub mod ReadOff
+pub mod Rounds
 pub mod Solve
+pub mod Stops
 pub mod WorkedRuns

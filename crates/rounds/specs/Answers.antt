@@ -1,15 +1,21 @@
 -- What the answers of the code say of the run.
-use Rattle.std.specs.Prelude.{ℕ, List, map, Result}
+use Rattle.std.specs.Prelude.{ℕ, ◌≡◌, List, map, Result, Ok, Err}
 use Rattle.exact_num.specs.Fraction.{Fraction}
-use Rattle.simplex.specs.Answers.{IsAnswerBy}
 use Rattle.simplex.specs.declared.stop.Stop.{Stop}
+use Rattle.simplex.specs.declared.stop.Stop.TheVariants.{Wide, Budget, Memory}
+use Rattle.frac.specs.Range.{limit as largest}
+use Rattle.cert_check.specs.declared.outcome.Cover.{Cover}
+use Rattle.cert_check.specs.declared.outcome.Cover.TheVariants.{Line, Tree}
+use Rattle.node_program.specs.Rounds.{Limits}
+use Rattle.pricing_oracle.specs.Answers.{IsTreeAs}
+use Rattle.rounds.specs.Run.{WrittenCover, by_line, by_tree, Solution}
 use Rattle.measure.specs.Points.{point_of}
 use Rattle.frac.specs.Value.{fraction_of}
 use Rattle.measure.specs.declared.measures.Measure.{Measure}
 use Rattle.cert_check.specs.declared.outcome.Claim.{Claim}
 use Rattle.master_program.specs.Reading.{Reading, reading_with}
 use Rattle.rounds.specs.declared.joint.Joint.{Joint}
-use Rattle.table_run.specs.Ending.{Ending, done}
+use Rattle.table_run.specs.Ending.{Ending, done, wide_at, no_unit_left}
 
 -- what a joint solve has found, as fractions
 abbrev pub reading_in : {A : Type 0} → (A → Fraction) → Joint A → Reading
@@ -20,8 +26,27 @@ reading_in value joint =
 abbrev pub joint_ending : {A : Type 0} → (A → Fraction) → Joint A → ℕ → Ending Reading
 joint_ending value joint spent = done (reading_in value joint) spent
 
-abbrev pub IsJointAnswer : {A : Type 0} → (A → Fraction) → Ending Reading → Result (Joint A) Stop → ℕ → Type 0
-IsJointAnswer value ending result spent = IsAnswerBy (joint_ending value) ending result spent
+-- the cover of the code is the cover as it is written
+abbrev pub IsCoverAs : WrittenCover → Cover → Type 0
+IsCoverAs by_line Line = Unit {0}
+IsCoverAs by_line (Tree tree) = ⊥
+IsCoverAs (by_tree written) Line = ⊥
+IsCoverAs (by_tree written) (Tree tree) = IsTreeAs written tree
+
+-- a fact of the solution that was found
+abbrev pub OfSolution : {A : Type 0} → (A → Fraction) → (Solution → Type 0) → Joint A → Type 0
+OfSolution value Holds joint = (cover : WrittenCover) × IsCoverAs cover joint.cover × Holds (reading_in value joint, cover)
+
+-- the answer of the call is the end of the run, and the units are those spent; want of memory says nothing
+abbrev pub IsJointAnswer : {A : Type 0} → (A → Fraction) → Ending Solution → Result (Joint A) Stop → ℕ → Type 0
+IsJointAnswer value ending (Ok joint) spent = OfSolution value (λ s. ending ≡ done s spent) joint
+IsJointAnswer value ending (Err (Wide unit wide)) spent = (ending ≡ wide_at unit wide) × (spent ≡ unit)
+IsJointAnswer value ending (Err Budget) spent = ending ≡ no_unit_left spent
+IsJointAnswer value ending (Err Memory) spent = Unit {0}
+
+-- the limits of a run in numbers of the code: payoffs and the sums of the verdict have 128 bits
+abbrev pub limits_of : (limit budget : ℕ) → Limits
+limits_of limit budget = record { payoff_limit = largest; limit = limit; budget = budget }
 
 -- what fills, a claim and a measure of the code claim
 abbrev pub claimed_in : List Fraction → Claim → Measure → Reading

@@ -1,40 +1,53 @@
--- What the reference run on one underlying implies.
-use Rattle.std.specs.Prelude.{ℕ, ◌≡◌, List}
+-- What the reference run implies.
+use Rattle.std.specs.Prelude.{ℕ, ◌≡◌, ◌≤◌, ◌<◌, List}
 use Rattle.exact_num.specs.Fraction.{Fraction}
 use Rattle.frac.specs.Range.{limit}
 use Rattle.form.specs.declared.orders.Order.{Order}
 use Rattle.form.specs.declared.orders.Batch.{Batch}
+use Rattle.form.specs.declared.limits.TheConstants.{MAX_UNDERLYINGS}
 use Rattle.clearing_model.specs.Clearing.{AreOn}
 use Rattle.measure.specs.declared.measures.Measure.{Measure}
-use Rattle.cert_check.specs.declared.outcome.Cover.TheVariants.{Line}
+use Rattle.cert_check.specs.declared.outcome.Cover.{Cover}
 use Rattle.cert_check.specs.declared.outcome.Judgement.TheVariants.{Yes}
 use Rattle.cert_check.specs.declared.outcome.Outcome.{Outcome}
 use Rattle.cert_check.specs.Events.{verdict_of}
 use Rattle.master_program.specs.Reading.{Reading}
 use Rattle.master_program.specs.Certified.{IsGreatestByLine}
 use Rattle.master_program.specs.Verdict.{IsOutcomeOf}
-use Rattle.rounds.specs.Run.{joint_run}
+use Rattle.node_program.specs.Rounds.{Limits}
+use Rattle.search_laws.specs.Rounds.{IsGreatestByTree}
+use Rattle.rounds.specs.Answers.{IsCoverAs}
+use Rattle.rounds.specs.Run.{Solution, by_line, by_tree, joint_run}
 use Rattle.table_run.specs.Ending.{done, unbounded}
 
--- what a run clears is covered by the line, and its measure proves that it is the greatest
+-- what was cleared is covered by the line of one underlying, or else by a tree, and its measure proves that it is the greatest
+abbrev pub IsGreatestBy : ℕ → List Order → Solution → Type 0
+IsGreatestBy n orders (r, by_line) = (n ≡ 1) × IsGreatestByLine orders r
+IsGreatestBy n orders (r, by_tree tree) = (1 < n) × IsGreatestByTree n orders r tree
+
+-- so it is of what a run clears
 abbrev pub ClearedIsGreatest : Type 0
 ClearedIsGreatest =
-    (wide_limit limit left spent units : ℕ) (orders : List Order) (r : Reading)
-    → joint_run wide_limit limit left spent orders ≡ done r units → IsGreatestByLine orders r
+    (limits : Limits) (n spent units : ℕ) (orders : List Order) (s : Solution) → 1 ≤ n → n ≤ MAX_UNDERLYINGS → spent ≤ limits.budget
+    → joint_run limits n orders spent ≡ done s units → IsGreatestBy n orders s
 
--- each run ends with an optimum, or stops
-abbrev pub NoRunIsWithoutOptimum : Type 0
-NoRunIsWithoutOptimum =
-    (wide_limit limit left spent units : ℕ) (orders : List Order) (d : List Fraction)
-    → joint_run wide_limit limit left spent orders ≡ unbounded d units → ⊥
+-- each run ends with what it clears, or stops
+abbrev pub NoRunIsWithoutEnd : Type 0
+NoRunIsWithoutEnd =
+    (limits : Limits) (n spent units : ℕ) (orders : List Order) (d : List Fraction) → 1 ≤ n → n ≤ MAX_UNDERLYINGS → spent ≤ limits.budget
+    → joint_run limits n orders spent ≡ unbounded d units → ⊥
 
--- the verdict on an outcome that claims the reading is yes
-abbrev pub PassesTheVerdict : Batch → Reading → Type 0
-PassesTheVerdict batch r =
-    (outcome : Outcome) (measure : Measure) → IsOutcomeOf r outcome Line measure → verdict_of limit batch outcome ≡ Yes
+-- the verdict on an outcome that claims the reading with the cover is yes
+abbrev pub IsYesWith : Batch → Reading → Cover → Type 0
+IsYesWith batch r cover = (outcome : Outcome) (measure : Measure) → IsOutcomeOf r outcome cover measure → verdict_of limit batch outcome ≡ Yes
+
+-- so it is with each cover that is the solution's
+abbrev pub PassesTheVerdict : Batch → Solution → Type 0
+PassesTheVerdict batch (r, written) = (cover : Cover) → IsCoverAs written cover → IsYesWith batch r cover
 
 -- so it is of what a run clears
 abbrev pub ClearedPassesTheVerdict : Type 0
 ClearedPassesTheVerdict =
-    (limit_of_numbers left spent units : ℕ) (batch : Batch) (r : Reading) → batch.underlyings ≡ 1 → AreOn 1 batch.orders
-    → joint_run limit limit_of_numbers left spent batch.orders ≡ done r units → PassesTheVerdict batch r
+    (limits : Limits) (spent units : ℕ) (batch : Batch) (s : Solution) → 1 ≤ batch.underlyings → batch.underlyings ≤ MAX_UNDERLYINGS
+    → AreOn batch.underlyings batch.orders → spent ≤ limits.budget → limits.payoff_limit ≡ limit
+    → joint_run limits batch.underlyings batch.orders spent ≡ done s units → PassesTheVerdict batch s

@@ -6,3 +6,5 @@ pub mod Answers
 pub mod Laws
 pub mod Worked
 pub mod Optima
+pub mod Readings
+pub mod Round

@@ -8,12 +8,12 @@ use Rattle.table_run.specs.Worked.{wholes}
 use Rattle.form.specs.declared.orders.Order.{Order}
 use Rattle.master_program.specs.Worked.{at_price, slope, one_option, equal_prices, lower_strike, butterfly, dear_cover, spread, large_batch}
 use Rattle.master_program.specs.Reading.{Reading}
-use Rattle.rounds.specs.Run.{joint_run}
+use Rattle.rounds.specs.Run.{line_run}
 use Rattle.table_run.specs.Ending.{Ending, done, wide_at, no_unit_left}
 
 -- the run with so many units
 abbrev pub worked_run : ℕ → List Order → Ending Reading
-worked_run units orders = joint_run limit limit units 0 orders
+worked_run units orders = line_run limit limit units 0 orders
 
 -- buy call 10 at 7, sell call 10 at 5: both are filled, in two turns
 abbrev pub OneOptionCleared : Type 0

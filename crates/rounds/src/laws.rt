@@ -1,16 +1,16 @@
-//! What the reference run on one underlying implies: the contracts of functions that do nothing.
-ghost use Rattle.rounds.specs.Laws.{ClearedIsGreatest, ClearedPassesTheVerdict, NoRunIsWithoutOptimum};
+//! What the reference run implies: the contracts of functions that do nothing.
+ghost use Rattle.rounds.specs.Laws.{ClearedIsGreatest, ClearedPassesTheVerdict, NoRunIsWithoutEnd};
 ghost use Rattle.rounds.specs.Worked.{ButterflyCleared, DearCoverIsLeft, EqualPricesAreLeft, LargeBatchIsTooWide, LowerStrikeCleared, NoOrderCleared, OneOptionCleared, OneUnitIsTooFew, SpreadCleared};
 
-/// What a run clears is covered at every price and in the slope beyond, its measure proves its surplus, and no fills
-/// cover more, whatever the limits and the units.
+/// What a run clears is covered at every settlement, by the line of one underlying or by a tree; its measure proves its
+/// surplus, and no fills cover more, whatever the limits and the units.
 pub fn cleared_is_greatest()
     ensures { ClearedIsGreatest }
 {}
 
-/// Each run ends with an optimum, or stops at a step that does not fit or for want of a unit.
-pub fn no_run_is_without_optimum()
-    ensures { NoRunIsWithoutOptimum }
+/// Each run ends with what it clears, or stops at a step that does not fit or for want of a unit.
+pub fn no_run_is_without_end()
+    ensures { NoRunIsWithoutEnd }
 {}
 
 /// The verdict on what a run clears is yes.

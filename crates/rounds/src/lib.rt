@@ -1,12 +1,18 @@
-//! The joint solve of a batch: one master program over the states of the line, and the sums of the verdict.
+//! The joint solve of a batch. On one underlying: one master program over the states of the line; on several: rounds of a
+//! master program and a search for a state at which its liability is not enough. Last come the sums of the verdict.
 #![tactic(auto)]
 
 mod building;
+mod first_states;
 mod joint;
 mod judging;
 pub mod laws;
+mod line_solve;
 mod master;
+mod master_solve;
 mod reading;
+mod round;
+mod rounds_solve;
 mod solving;
 
 pub use joint::Joint;

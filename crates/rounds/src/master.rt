@@ -4,6 +4,8 @@ ghost use Rattle.std.specs.List.{All};
 ghost use Rattle.exact_num.specs.Fits.{meaning, whole_of};
 ghost use Rattle.exact_num.specs.Fraction.{whole};
 ghost use Rattle.form.specs.Payoff.{IsOnCount, option_of};
+ghost use Rattle.form.specs.declared.limits.TheConstants.{MAX_ORDERS};
+ghost use Rattle.rounds.specs.declared.master.TheConstants.{MAX_STATES};
 ghost use Rattle.form.specs.States.{vector_of};
 ghost use Rattle.form.specs.Vector.{scale_of};
 ghost use Rattle.simplex.specs.Programs.{as_program};
@@ -19,6 +21,9 @@ use form::{Form, Leg, Order, Side, State, bundle_payoff};
 use simplex::Program;
 use simplex::fill::{push_slacks, push_zeros};
 use std::alloc::{AllocError, Global};
+
+/// The most states of a master program besides the one where all prices are 0.
+pub const MAX_STATES: usize = 99_744;
 
 /// The number for a buy, and its opposite for a sell.
 pub(crate) fn for_side<N: Exact>(side: Side, number: N) -> N
@@ -59,14 +64,16 @@ fn payoff_at_zero(order: &Order) -> i128
 
 /// The same as an exact number.
 pub(crate) fn exact_at_zero<N: Exact>(order: &Order) -> Result<N, Wide>
-    ensures { meaning N.fraction result ≡ whole_of (unsigned_abs N.LIMIT) (payoff_at_zero order.now) }
+    ensures { meaning N.fraction result ≡ whole_of (unsigned_abs N.LIMIT)
+        (payoff_at_zero order.now) }
 {
     N::from_whole(payoff_at_zero(order))
 }
 
 /// The t of a state `(t, s)`.
 fn scale<N: Exact>(state: &State) -> Result<N, Wide>
-    ensures { meaning N.fraction result ≡ whole_of (unsigned_abs N.LIMIT) (pos (scale_of (vector_of state.now))) }
+    ensures { meaning N.fraction result ≡ whole_of (unsigned_abs N.LIMIT)
+        (pos (scale_of (vector_of state.now))) }
 {
     N::from_whole(state.entries[0])
 }
@@ -84,7 +91,8 @@ fn cost<N: Exact>(order: &Order) -> Result<N, Wide>
 
 /// What is put aside for one unit of an order at a state: t times its payoff at the first state.
 fn put_aside<N: Exact>(order: &Order, state: &State) -> Result<N, Wide>
-    ensures { meaning N.fraction result ≡ put_aside (unsigned_abs N.LIMIT) (vector_of state.now) order.now }
+    ensures { meaning N.fraction result ≡ put_aside (unsigned_abs N.LIMIT)
+        (vector_of state.now) order.now }
 {
     let t: N = scale(state)?;
     let first = exact_at_zero(order)?;
@@ -111,7 +119,8 @@ fn order_payoff(order: &Order, state: &State) -> Result<i128, Wide>
 #[tactic(auto, unfolding(master_program::specs::Master::entry_steps))]
 fn entry<N: Exact>(order: &Order, state: &State) -> Result<N, Wide>
     requires { IsOnCount state.now.count order.now.bundle }
-    ensures { meaning N.fraction result ≡ entry_steps (2 ^ 127 - 1) (unsigned_abs N.LIMIT) (vector_of state.now) order.now }
+    ensures { meaning N.fraction result ≡ entry_steps (2 ^ 127 - 1) (unsigned_abs N.LIMIT)
+        (vector_of state.now) order.now }
 {
     let owed = order_payoff(order, state)?;
     let aside = put_aside(order, state)?;
@@ -121,7 +130,9 @@ fn entry<N: Exact>(order: &Order, state: &State) -> Result<N, Wide>
 
 /// Adds the costs of the orders.
 fn add_costs<N: Exact>(costs: &mut Vec<N>, orders: &[Order]) -> Result<(), BuildError>
-    ensures { HasAdded (map N.fraction costs.old.items) (map_steps (cost_steps (unsigned_abs N.LIMIT)) orders.now) result (map N.fraction costs.new.items) }
+    ensures { HasAdded (map N.fraction costs.old.items)
+        (map_steps (cost_steps (unsigned_abs N.LIMIT)) orders.now) result
+        (map N.fraction costs.new.items) }
 {
     for order in orders {
         push(costs, cost(order)?)?;
@@ -131,7 +142,8 @@ fn add_costs<N: Exact>(costs: &mut Vec<N>, orders: &[Order]) -> Result<(), Build
 
 /// The costs of the orders, and 1 lost for each unit of the slack.
 fn costs<N: Exact>(alloc: Global, orders: &[Order]) -> Result<Vec<N>, BuildError>
-    ensures { IsBuilt (λ costs. map N.fraction costs.items) (costs_steps (unsigned_abs N.LIMIT) orders.now) result }
+    ensures { IsBuilt (λ costs. map N.fraction costs.items)
+        (costs_steps (unsigned_abs N.LIMIT) orders.now) result }
 {
     let mut costs = Vec::new(alloc);
     add_costs(&mut costs, orders)?;
@@ -148,7 +160,9 @@ fn quantity<N: Exact>(order: &Order) -> Result<N, Wide>
 
 /// Adds the quantities of the orders.
 fn add_quantities<N: Exact>(right_sides: &mut Vec<N>, orders: &[Order]) -> Result<(), BuildError>
-    ensures { HasAdded (map N.fraction right_sides.old.items) (map_steps (quantity_steps (unsigned_abs N.LIMIT)) orders.now) result (map N.fraction right_sides.new.items) }
+    ensures { HasAdded (map N.fraction right_sides.old.items)
+        (map_steps (quantity_steps (unsigned_abs N.LIMIT)) orders.now) result
+        (map N.fraction right_sides.new.items) }
 {
     for order in orders {
         push(right_sides, quantity(order)?)?;
@@ -162,7 +176,8 @@ fn right_sides<N: Exact>(
     orders: &[Order],
     states: usize,
 ) -> Result<Vec<N>, BuildError>
-    ensures { IsBuilt (λ right_sides. map N.fraction right_sides.items) (right_sides_steps (unsigned_abs N.LIMIT) orders.now states) result }
+    ensures { IsBuilt (λ right_sides. map N.fraction right_sides.items)
+        (right_sides_steps (unsigned_abs N.LIMIT) orders.now states) result }
 {
     let mut right_sides = Vec::new(alloc);
     add_quantities(&mut right_sides, orders)?;
@@ -173,7 +188,8 @@ fn right_sides<N: Exact>(
 /// Adds a row for the quantity of each of `count` orders: of its `count + 1` entries the row's own is 1, the others 0.
 fn add_unit_rows<N: Exact>(coefficients: &mut Vec<N>, count: usize) -> Result<(), AllocError>
     requires { count ≤ 256 }
-    ensures { OnOk result (map N.fraction coefficients.new.items ≡ map N.fraction coefficients.old.items ++ unit_rows (count + 1) 0 count) }
+    ensures { OnOk result (map N.fraction coefficients.new.items
+        ≡ map N.fraction coefficients.old.items ++ unit_rows (count + 1) 0 count) }
 {
     for i in 0..count {
         push_slacks(coefficients, count + 1, i)?;
@@ -188,7 +204,9 @@ fn add_entries<N: Exact>(
     state: &State,
 ) -> Result<(), BuildError>
     requires { All (λ o. IsOnCount state.now.count o.bundle) orders.now }
-    ensures { HasAdded (map N.fraction coefficients.old.items) (map_steps (entry_steps (2 ^ 127 - 1) (unsigned_abs N.LIMIT) (vector_of state.now)) orders.now) result (map N.fraction coefficients.new.items) }
+    ensures { HasAdded (map N.fraction coefficients.old.items)
+        (map_steps (entry_steps (2 ^ 127 - 1) (unsigned_abs N.LIMIT) (vector_of state.now))
+        orders.now) result (map N.fraction coefficients.new.items) }
 {
     for order in orders {
         push(coefficients, entry(order, state)?)?;
@@ -198,7 +216,9 @@ fn add_entries<N: Exact>(
 
 /// Adds the entry of the slack in the row of a state.
 fn add_slack<N: Exact>(coefficients: &mut Vec<N>, state: &State) -> Result<(), BuildError>
-    ensures { HasAdded (map N.fraction coefficients.old.items) (slack_steps (unsigned_abs N.LIMIT) (vector_of state.now)) result (map N.fraction coefficients.new.items) }
+    ensures { HasAdded (map N.fraction coefficients.old.items)
+        (slack_steps (unsigned_abs N.LIMIT) (vector_of state.now)) result
+        (map N.fraction coefficients.new.items) }
 {
     let t: N = scale(state)?;
     push(coefficients, t.neg())
@@ -211,7 +231,9 @@ fn add_row<N: Exact>(
     state: &State,
 ) -> Result<(), BuildError>
     requires { All (λ o. IsOnCount state.now.count o.bundle) orders.now }
-    ensures { HasAdded (map N.fraction coefficients.old.items) (row_steps (2 ^ 127 - 1) (unsigned_abs N.LIMIT) orders.now (vector_of state.now)) result (map N.fraction coefficients.new.items) }
+    ensures { HasAdded (map N.fraction coefficients.old.items)
+        (row_steps (2 ^ 127 - 1) (unsigned_abs N.LIMIT) orders.now (vector_of state.now)) result
+        (map N.fraction coefficients.new.items) }
 {
     add_entries(coefficients, orders, state)?;
     add_slack(coefficients, state)
@@ -224,7 +246,9 @@ fn add_rows<N: Exact>(
     states: &[State],
 ) -> Result<(), BuildError>
     requires { All (λ state. All (λ o. IsOnCount state.count o.bundle) orders.now) states.now }
-    ensures { HasAdded (map N.fraction coefficients.old.items) (rows_steps (2 ^ 127 - 1) (unsigned_abs N.LIMIT) orders.now (map vector_of states.now)) result (map N.fraction coefficients.new.items) }
+    ensures { HasAdded (map N.fraction coefficients.old.items)
+        (rows_steps (2 ^ 127 - 1) (unsigned_abs N.LIMIT) orders.now (map vector_of states.now))
+        result (map N.fraction coefficients.new.items) }
 {
     for state in states {
         add_row(coefficients, orders, state)?;
@@ -239,8 +263,11 @@ fn coefficients<N: Exact>(
     states: &[State],
 ) -> Result<Vec<N>, BuildError>
     requires few { length orders.now ≤ 256 }
-    requires forms { All (λ state. All (λ o. IsOnCount state.count o.bundle) orders.now) states.now }
-    ensures { IsBuilt (λ coefficients. map N.fraction coefficients.items) (coefficients_steps (2 ^ 127 - 1) (unsigned_abs N.LIMIT) orders.now (map vector_of states.now)) result }
+    requires forms { All (λ state.
+        All (λ o. IsOnCount state.count o.bundle) orders.now) states.now }
+    ensures { IsBuilt (λ coefficients. map N.fraction coefficients.items)
+        (coefficients_steps (2 ^ 127 - 1) (unsigned_abs N.LIMIT) orders.now
+        (map vector_of states.now)) result }
 {
     let mut coefficients = Vec::new(alloc);
     add_unit_rows(&mut coefficients, orders.len())?;
@@ -248,16 +275,18 @@ fn coefficients<N: Exact>(
     Ok(coefficients)
 }
 
-/// The master program of the orders over the price 0 and these states: costs first, then row by row.
+/// The master program of the orders over the state where all prices are 0 and these states: costs first, then row by row.
 pub(crate) fn master<N: Exact>(
     alloc: Global,
     orders: &[Order],
     states: &[State],
 ) -> Result<Program<N>, BuildError>
-    requires few { length orders.now ≤ 256 }
-    requires few_states { length states.now ≤ 1025 }
-    requires forms { All (λ state. All (λ o. IsOnCount state.count o.bundle) orders.now) states.now }
-    ensures { IsBuilt (as_program N.fraction) (master (2 ^ 127 - 1) (unsigned_abs N.LIMIT) orders.now (map vector_of states.now)) result }
+    requires few { length orders.now ≤ MAX_ORDERS }
+    requires few_states { length states.now ≤ MAX_STATES }
+    requires forms { All (λ state.
+        All (λ o. IsOnCount state.count o.bundle) orders.now) states.now }
+    ensures { IsBuilt (as_program N.fraction) (master (2 ^ 127 - 1)
+        (unsigned_abs N.LIMIT) orders.now (map vector_of states.now)) result }
 {
     let costs = costs(alloc, orders)?;
     let right_sides = right_sides(alloc, orders, states.len())?;

@@ -4,15 +4,14 @@ ghost use Rattle.std.specs.List.{zip};
 ghost use Rattle.exact_num.specs.Fits.{meaning};
 ghost use Rattle.form.specs.States.{vector_of};
 ghost use Rattle.measure.specs.Points.{point_of};
-ghost use Rattle.cert_check.specs.declared.outcome.Cover.TheVariants.{Line};
-ghost use Rattle.master_program.specs.Reading.{add_owed, liability_of, owed_of, points_of, reading_of, points_with_weight};
-ghost use Rattle.rounds.specs.Answers.{reading_in};
+ghost use Rattle.master_program.specs.Reading.{add_owed, liability_of, owed_of, points_with_weight};
+ghost use Rattle.master_program.specs.Solve.{reading_at};
 ghost use Rattle.rounds.specs.Built.{IsBuilt};
+ghost use Rattle.rounds.specs.Optima.{optimum_in};
+ghost use Rattle.rounds.specs.Readings.{reading_as};
 
 use crate::building::BuildError;
-use crate::joint::Joint;
 use crate::master::{exact_at_zero, for_side};
-use cert_check::Cover;
 use exact_num::sums::plus_product;
 use exact_num::{Exact, Wide};
 use form::{Order, State};
@@ -20,19 +19,21 @@ use frac::Frac128;
 use measure::{Measure, Points, Weighted};
 use std::alloc::{AllocError, Global};
 
-/// The total and what the fill of an order owes at the price 0.
+/// The total and what the fill of an order owes where all prices are 0.
 #[tactic(auto, unfolding(master_program::specs::Reading::add_owed))]
 fn add_owed<N: Exact>(total: N, order: &Order, fill: N) -> Result<N, Wide>
-    ensures { meaning N.fraction result ≡ add_owed (unsigned_abs N.LIMIT) (N.fraction total) (order.now, N.fraction fill) }
+    ensures { meaning N.fraction result ≡ add_owed (unsigned_abs N.LIMIT) (N.fraction total)
+        (order.now, N.fraction fill) }
 {
     let first = exact_at_zero(order)?;
     plus_product(total, fill, for_side(order.side, first))
 }
 
-/// What the fills owe at the price 0.
+/// What the fills owe where all prices are 0.
 fn owed<N: Exact>(orders: &[Order], fills: &[N]) -> Result<N, Wide>
     requires { length fills.now ≡ length orders.now }
-    ensures { meaning N.fraction result ≡ owed_of (unsigned_abs N.LIMIT) (zip orders.now (map N.fraction fills.now)) }
+    ensures { meaning N.fraction result ≡ owed_of (unsigned_abs N.LIMIT)
+        (zip orders.now (map N.fraction fills.now)) }
 {
     let mut total = N::zero();
     for i in 0..orders.len() {
@@ -42,11 +43,12 @@ fn owed<N: Exact>(orders: &[Order], fills: &[N]) -> Result<N, Wide>
     Ok(total)
 }
 
-/// What the fills owe at the price 0, and the slack.
+/// What the fills owe where all prices are 0, and the slack.
 #[tactic(auto, unfolding(master_program::specs::Reading::liability_of))]
 fn liability<N: Exact>(orders: &[Order], fills: &[N], slack: N) -> Result<N, Wide>
     requires { length fills.now ≡ length orders.now }
-    ensures { meaning N.fraction result ≡ liability_of (unsigned_abs N.LIMIT) orders.now (map N.fraction fills.now) (N.fraction slack) }
+    ensures { meaning N.fraction result ≡ liability_of (unsigned_abs N.LIMIT) orders.now
+        (map N.fraction fills.now) (N.fraction slack) }
 {
     let owed = owed(orders, fills)?;
     owed.add(slack)
@@ -58,7 +60,9 @@ fn add_point<N: Exact>(
     state: &State,
     weight: N,
 ) -> Result<(), AllocError>
-    ensures { OnOk result (map point_of points.new.items ≡ map point_of points.old.items ++ points_with_weight ((vector_of state.now, N.fraction weight) ∷ [])) }
+    ensures { OnOk result (map point_of points.new.items
+        ≡ map point_of points.old.items
+        ++ points_with_weight ((vector_of state.now, N.fraction weight) ∷ [])) }
 {
     if weight.sign() > 0 {
         points.push(Weighted {
@@ -76,7 +80,9 @@ fn add_points<N: Exact>(
     weights: &[N],
 ) -> Result<(), AllocError>
     requires { length weights.now ≡ length states.now }
-    ensures { OnOk result (map point_of points.new.items ≡ map point_of points.old.items ++ points_with_weight (zip (map vector_of states.now) (map N.fraction weights.now))) }
+    ensures { OnOk result (map point_of points.new.items
+        ≡ map point_of points.old.items
+        ++ points_with_weight (zip (map vector_of states.now) (map N.fraction weights.now))) }
 {
     for i in 0..states.len() {
         let state = &states[i];
@@ -94,7 +100,9 @@ fn measure<N: Exact>(
     weights: &[N],
 ) -> Result<Measure, AllocError>
     requires { length weights.now ≡ length later.now }
-    ensures { IfOk result (λ m. map point_of m.points ≡ points_with_weight ((vector_of first.now, N.fraction first_weight) ∷ zip (map vector_of later.now) (map N.fraction weights.now))) }
+    ensures { IfOk result (λ m. map point_of m.points
+        ≡ points_with_weight ((vector_of first.now, N.fraction first_weight)
+        ∷ zip (map vector_of later.now) (map N.fraction weights.now))) }
 {
     let mut points = Vec::new(alloc);
     add_point(&mut points, first, first_weight)?;
@@ -114,19 +122,29 @@ pub(crate) struct Optimum<N> {
     pub(crate) value: N,
 }
 
-/// What the optimum earns, and what shows it.
+/// What is read off: the fills, the most that the house owes on them, what is left to it, and the states that show it.
+#[derive(Drop)]
+pub(crate) struct Reading<N> {
+    pub(crate) fills: Vec<N>,
+    pub(crate) liability: N,
+    pub(crate) surplus: N,
+    pub(crate) measure: Measure,
+}
+
+/// What the optimum over a first state and later ones earns, and what shows it.
 pub(crate) fn read_off<N: Exact>(
     alloc: Global,
     orders: &[Order],
     first: &State,
     later: &[State],
     optimum: Optimum<N>,
-) -> Result<Joint<N>, BuildError>
+) -> Result<Reading<N>, BuildError>
     requires x { vec_len optimum.x ≡ length orders.now + 1 }
     requires y { vec_len optimum.y ≡ length orders.now + length later.now }
     requires reduced { vec_len optimum.reduced ≡ length orders.now + 1 }
-    ensures cover { IfOk result (λ joint. joint.cover ≡ Line) }
-    ensures built { IsBuilt (reading_in N.fraction) (reading_of (unsigned_abs N.LIMIT) (vector_of first.now) orders.now (map vector_of later.now) (map N.fraction optimum.x.items) (map N.fraction optimum.y.items) (map N.fraction optimum.reduced.items) (N.fraction optimum.value)) result }
+    ensures { IsBuilt (reading_as N.fraction) (reading_at (unsigned_abs N.LIMIT)
+        (vector_of first.now) orders.now (map vector_of later.now)
+        (optimum_in N.fraction optimum)) result }
 {
     let Optimum {
         mut x,
@@ -140,11 +158,10 @@ pub(crate) fn read_off<N: Exact>(
     let liability = liability(orders, &x, slack)?;
     let (_quantities, weights) = y.as_slice().split_at(k);
     let measure = measure(alloc, first, reduced[k], later, weights)?;
-    Ok(Joint {
+    Ok(Reading {
         fills: x,
         liability,
         surplus: value,
-        cover: Cover::Line,
         measure,
     })
 }

@@ -33,8 +33,8 @@ ends_so limit n legs L (Err (WideStop w)) = refl
 -- the walk with no sign is the whole one
 pub closes_is : (limit k n : ℕ) (os' os : List Order) (fs : List Frac128) (L : Fraction) (ns' ns : List Node) (ms' ms : List Multiplier) (ss : List ℤ) (x : Result Bool Wide)
     → k ≡ n → os' ≡ os → ns' ≡ ns → ms' ≡ ms → length fs ≡ length os → length ss ≡ leg_count os → ((i : ℕ) → i < length ss → get_or ss i (pos 0) ≡ pos 0)
-    → walk limit k (batch_legs os' fs) L (map node_of ns') (map sign_of ss ∷ []) (map placed_of ms') ≡ x
-    → closes_of limit n (batch_legs os fs) L (map node_of ns) (map placed_of ms) ≡ x
+    → walk limit k (batch_legs fraction_of os' fs) L (map node_of ns') (map sign_of ss ∷ []) (map placed_of ms') ≡ x
+    → closes_of limit n (batch_legs fraction_of os fs) L (map node_of ns) (map placed_of ms) ≡ x
 closes_is limit k n os' os fs L ns' ns ms' ms ss x ek eo en em fills signs each h =
-    let legs : length (batch_legs os fs) ≡ length ss = length-fraction_legs os (map fraction_of fs) (length-map fs fraction_of ∙ fills) ∙ sym signs in
+    let legs : length (batch_legs fraction_of os fs) ≡ length ss = length-fraction_legs os (map fraction_of fs) (length-map fs fraction_of ∙ fills) ∙ sym signs in
     rw (legs, ← none_signed ss each, ← ek, ← eo, ← en, ← em) h

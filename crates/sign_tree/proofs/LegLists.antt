@@ -8,8 +8,6 @@ use Rattle.std.proofs.lemmas.Bool.Decides.{nat_tests}
 use Rattle.std.proofs.Math.Seq.{drop-append_seam}
 use Rattle.std.proofs.lemmas.List.Sums.{sum_by-cons}
 use Rattle.exact_num.specs.Fraction.{Fraction}
-use Rattle.frac.specs.declared.frac128.Frac128.{Frac128}
-use Rattle.frac.specs.Value.{fraction_of}
 use Rattle.form.specs.declared.legs.Leg.{Leg}
 use Rattle.form.specs.declared.orders.Order.{Order}
 use Rattle.form.specs.Payoff.{BundleLeg, bundle_of, leg_of, legs_in}
@@ -36,19 +34,19 @@ in_second (x ∷ xs) ys (suc i) le =
     rw e (in_second xs ys i (omega arith))
 
 -- the legs of the orders from k on
-abbrev pub legs_from : List Order → List Frac128 → ℕ → List FractionLeg
-legs_from os fs k = fraction_legs (drop k os) (map fraction_of (drop k fs))
+abbrev pub legs_from : {A : Type 0} → (A → Fraction) → List Order → List A → ℕ → List FractionLeg
+legs_from value os fs k = fraction_legs (drop k os) (map value (drop k fs))
 
-abbrev pub leg_in : Order → Frac128 → BundleLeg → FractionLeg
-leg_in o f leg = fraction_leg o.side (fraction_of f) leg
+abbrev pub leg_in : Order → Fraction → BundleLeg → FractionLeg
+leg_in o f leg = fraction_leg o.side f leg
 
 -- those of the order at k come first
-pub order_first : (os : List Order) (fs : List Frac128) (k : ℕ) (o : Order) (f : Frac128) → length fs ≡ length os → k < length os → o ≡ get_or os k o → f ≡ get_or fs k f
-    → legs_from os fs k ≡ map (leg_in o f) (bundle_of o) ++ legs_from os fs (k + 1)
-order_first os fs k o f len lt io jf = rw (item_first os k o lt io, item_first fs k f (omega arith) jf) refl
+pub order_first : {A : Type 0} (value : A → Fraction) (os : List Order) (fs : List A) (k : ℕ) (o : Order) (f : A) → length fs ≡ length os → k < length os → o ≡ get_or os k o → f ≡ get_or fs k f
+    → legs_from value os fs k ≡ map (leg_in o (value f)) (bundle_of o) ++ legs_from value os fs (k + 1)
+order_first value os fs k o f len lt io jf = rw (item_first os k o lt io, item_first fs k f (omega arith) jf) refl
 
-pub orders_end : (os : List Order) (fs : List Frac128) (k : ℕ) → length os ≤ k → legs_from os fs k ≡ []
-orders_end os fs k le = rw (drop_all k os le) refl
+pub orders_end : {A : Type 0} (value : A → Fraction) (os : List Order) (fs : List A) (k : ℕ) → length os ≤ k → legs_from value os fs k ≡ []
+orders_end value os fs k le = rw (drop_all k os le) refl
 
 -- the leg of an order, and those after the order's
 pub length-bundle : (o : Order) → length (bundle_of o) ≡ length (legs_in o.bundle)
@@ -59,13 +57,13 @@ in_bundle : (o : Order) (i : ℕ) (leg : Leg) → i < length (legs_in o.bundle) 
 unfolding bundle_of
 in_bundle o i leg lt is = slice_get-map leg_of (legs_in o.bundle) i ∙ ap (option_map leg_of) (slice_get-get_or (legs_in o.bundle) i leg lt ∙ ap Some (sym is))
 
-pub leg_here : (o : Order) (f : Frac128) (rest : List FractionLeg) (i : ℕ) (leg : Leg) → i < length (legs_in o.bundle) → leg ≡ get_or (legs_in o.bundle) i leg
+pub leg_here : (o : Order) (f : Fraction) (rest : List FractionLeg) (i : ℕ) (leg : Leg) → i < length (legs_in o.bundle) → leg ≡ get_or (legs_in o.bundle) i leg
     → slice_get (map (leg_in o f) (bundle_of o) ++ rest) i ≡ Some (leg_in o f (leg_of leg))
 leg_here o f rest i leg lt is =
     in_first (map (leg_in o f) (bundle_of o)) rest i (omega (arith, length-map (bundle_of o) (leg_in o f), length-bundle o))
     ∙ slice_get-map (leg_in o f) (bundle_of o) i ∙ ap (option_map (leg_in o f)) (in_bundle o i leg lt is)
 
-pub leg_past : (o : Order) (f : Frac128) (rest : List FractionLeg) (i : ℕ) → length (legs_in o.bundle) ≤ i
+pub leg_past : (o : Order) (f : Fraction) (rest : List FractionLeg) (i : ℕ) → length (legs_in o.bundle) ≤ i
     → slice_get (map (leg_in o f) (bundle_of o) ++ rest) i ≡ slice_get rest (i - length (legs_in o.bundle))
 leg_past o f rest i le =
     let legs = map (leg_in o f) (bundle_of o) in
@@ -73,7 +71,7 @@ leg_past o f rest i le =
     in_second legs rest i (omega arith) ∙ ap (λ n. slice_get rest (i - n)) size
 
 -- the leg at `next` comes first, and then those after it
-pub leg_first : (o : Order) (f : Frac128) (rest : List FractionLeg) (i : ℕ) (leg : Leg) → i < length (legs_in o.bundle) → leg ≡ get_or (legs_in o.bundle) i leg
+pub leg_first : (o : Order) (f : Fraction) (rest : List FractionLeg) (i : ℕ) (leg : Leg) → i < length (legs_in o.bundle) → leg ≡ get_or (legs_in o.bundle) i leg
     → drop i (map (leg_in o f) (bundle_of o) ++ rest) ≡ leg_in o f (leg_of leg) ∷ drop (i + 1) (map (leg_in o f) (bundle_of o) ++ rest)
 leg_first o f rest i leg lt is =
     let legs = map (leg_in o f) (bundle_of o) in
@@ -81,20 +79,20 @@ leg_first o f rest i leg lt is =
     let within : i < length (legs ++ rest) = omega (arith, length-append legs rest, length-map (bundle_of o) (leg_in o f), length-bundle o) in
     item_first (legs ++ rest) i x within (sym (get_or_from_slice_get (legs ++ rest) i x x (leg_here o f rest i leg lt is)))
 
-pub legs_end : (o : Order) (f : Frac128) (rest : List FractionLeg) (i : ℕ) → i ≡ length (legs_in o.bundle) → drop i (map (leg_in o f) (bundle_of o) ++ rest) ≡ rest
+pub legs_end : (o : Order) (f : Fraction) (rest : List FractionLeg) (i : ℕ) → i ≡ length (legs_in o.bundle) → drop i (map (leg_in o f) (bundle_of o) ++ rest) ≡ rest
 legs_end o f rest i e =
     let legs = map (leg_in o f) (bundle_of o) in
     let size : i ≡ length legs = omega (arith, e, length-map (bundle_of o) (leg_in o f), length-bundle o) in
     rw size (drop-append_seam legs rest)
 
 -- the same of the legs that are left, where these are the first order and its fill
-pub first_left : (os rest : List Order) (fs fills : List Frac128) (next : ℕ) (o : Order) (f : Frac128) (leg : Leg) → os ≡ o ∷ rest → fs ≡ f ∷ fills → next < length (legs_in o.bundle) → leg ≡ get_or (legs_in o.bundle) next leg
-    → drop next (fraction_legs os (map fraction_of fs)) ≡ leg_in o f (leg_of leg) ∷ drop (next + 1) (fraction_legs os (map fraction_of fs))
-first_left os rest fs fills next o f leg orders fs_are lt is = rw (orders, fs_are) (leg_first o f (fraction_legs rest (map fraction_of fills)) next leg lt is)
+pub first_left : {A : Type 0} (value : A → Fraction) (os rest : List Order) (fs fills : List A) (next : ℕ) (o : Order) (f : A) (leg : Leg) → os ≡ o ∷ rest → fs ≡ f ∷ fills → next < length (legs_in o.bundle) → leg ≡ get_or (legs_in o.bundle) next leg
+    → drop next (fraction_legs os (map value fs)) ≡ leg_in o (value f) (leg_of leg) ∷ drop (next + 1) (fraction_legs os (map value fs))
+first_left value os rest fs fills next o f leg orders fs_are lt is = rw (orders, fs_are) (leg_first o (value f) (fraction_legs rest (map value fills)) next leg lt is)
 
-pub next_order : (os rest : List Order) (fs fills : List Frac128) (next : ℕ) (o : Order) (f : Frac128) → os ≡ o ∷ rest → fs ≡ f ∷ fills → next ≡ length (legs_in o.bundle)
-    → drop next (fraction_legs os (map fraction_of fs)) ≡ fraction_legs rest (map fraction_of fills)
-next_order os rest fs fills next o f orders fs_are e = rw (orders, fs_are) (legs_end o f (fraction_legs rest (map fraction_of fills)) next e)
+pub next_order : {A : Type 0} (value : A → Fraction) (os rest : List Order) (fs fills : List A) (next : ℕ) (o : Order) (f : A) → os ≡ o ∷ rest → fs ≡ f ∷ fills → next ≡ length (legs_in o.bundle)
+    → drop next (fraction_legs os (map value fs)) ≡ fraction_legs rest (map value fills)
+next_order value os rest fs fills next o f orders fs_are e = rw (orders, fs_are) (legs_end o (value f) (fraction_legs rest (map value fills)) next e)
 
 pub of_first : (os rest : List Order) (o : Order) (next : ℕ) → os ≡ o ∷ rest → next < length (legs_in o.bundle) → IsOfFirst os next
 of_first os rest o next is lt = subst (λ os. IsOfFirst os next) (sym is) lt

@@ -1,7 +1,6 @@
--- The legs of the code as those of the walk.
+-- The legs of the code as those of the walk, where `value` tells the fraction that a fill stands for.
 use Rattle.std.specs.Prelude.{ℕ, ◌≡◌, ◌<◌, List, [], ◌∷◌, length, map, drop}
-use Rattle.frac.specs.declared.frac128.Frac128.{Frac128}
-use Rattle.frac.specs.Value.{fraction_of}
+use Rattle.exact_num.specs.Fraction.{Fraction}
 use Rattle.form.specs.declared.orders.Order.{Order}
 use Rattle.form.specs.Payoff.{option_of, legs_in}
 use Rattle.clearing_model.specs.Legs.{Exposure as ModelExposure, Long as ModelLong, Short as ModelShort}
@@ -15,22 +14,22 @@ abbrev pub exposure_as : Exposure → ModelExposure
 exposure_as Long = ModelLong
 exposure_as Short = ModelShort
 
-abbrev pub leg_as : BatchLeg → FractionLeg
-leg_as leg = record { exposure = exposure_as leg.exposure; fill = fraction_of leg.fill; size = leg.size; option = option_of leg.form.now }
+abbrev pub leg_as : {A : Type 0} → (A → Fraction) → BatchLeg A → FractionLeg
+leg_as value leg = record { exposure = exposure_as leg.exposure; fill = value leg.fill; size = leg.size; option = option_of leg.form.now }
 
 -- the legs of orders with these fills
-abbrev pub batch_legs : List Order → List Frac128 → List FractionLeg
-batch_legs orders fills = fraction_legs orders (map fraction_of fills)
+abbrev pub batch_legs : {A : Type 0} → (A → Fraction) → List Order → List A → List FractionLeg
+batch_legs value orders fills = fraction_legs orders (map value fills)
 
 -- the legs that are still to come
-abbrev pub legs_left : LegsLeft → List FractionLeg
-legs_left left = drop left.next (batch_legs left.orders.now left.fills.now)
+abbrev pub legs_left : {A : Type 0} → (A → Fraction) → LegsLeft A → List FractionLeg
+legs_left value left = drop left.next (batch_legs value left.orders.now left.fills.now)
 
 -- the index of a leg of the first order, and 0 where there is none
 abbrev pub IsOfFirst : List Order → ℕ → Type 0
 IsOfFirst [] next = next ≡ 0
 IsOfFirst (order ∷ orders) next = next < length (legs_in order.bundle)
 
-pub record IsAtLeg (left : LegsLeft) : Type 0 where
+pub record IsAtLeg {A : Type 0} (left : LegsLeft A) : Type 0 where
   pub fills : length left.fills.now ≡ length left.orders.now
   pub next : IsOfFirst left.orders.now left.next

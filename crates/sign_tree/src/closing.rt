@@ -130,7 +130,7 @@ fn subtree<'a>(
 ) -> Result<Left<'a>, Stop>
     requires fills { length fills.now ≡ length orders.now }
     requires entries { (1 ≤ entries) × (entries ≤ 9) }
-    ensures walks { WalksTo (entries - 1) (batch_legs orders.now fills.now)
+    ensures walks { WalksTo (entries - 1) (batch_legs fraction_of orders.now fills.now)
         (fraction_of liability.now) (map node_of left.entry.nodes.now) (map sign_of signs.old)
         (map placed_of left.entry.multipliers.now) result }
     ensures signs { IfOk result (λ rest. signs.new ≡ signs.old) }
@@ -159,7 +159,7 @@ fn split<'a>(
 ) -> Result<Left<'a>, Stop>
     requires fills { length fills.now ≡ length orders.now }
     requires entries { (1 ≤ entries) × (entries ≤ 9) }
-    ensures walks { WalksTo (entries - 1) (batch_legs orders.now fills.now)
+    ensures walks { WalksTo (entries - 1) (batch_legs fraction_of orders.now fills.now)
         (fraction_of liability.now) (SplitNode place ∷ map node_of left.entry.nodes.now)
         (map sign_of signs.old) (map placed_of left.entry.multipliers.now) result }
     ensures signs { IfOk result (λ rest. signs.new ≡ signs.old) }
@@ -188,7 +188,7 @@ fn leaf<'a>(
 ) -> Result<Left<'a>, Stop>
     requires fills { length fills.now ≡ length orders.now }
     requires entries { (1 ≤ entries) × (entries ≤ 9) }
-    ensures walks { WalksTo (entries - 1) (batch_legs orders.now fills.now)
+    ensures walks { WalksTo (entries - 1) (batch_legs fraction_of orders.now fills.now)
         (fraction_of liability.now) (LeafNode count ∷ map node_of left.entry.nodes.now)
         (map sign_of signs.now) (map placed_of left.entry.multipliers.now) result }
     ensures nodes { IfOk result (λ rest. rest.nodes.now ≡ left.entry.nodes.now) }
@@ -212,8 +212,8 @@ fn leaf<'a>(
 fn split_index(orders: &[Order], fills: &[Frac128], signs: &[i8], place: u32) -> Option<usize>
     requires { length fills.now ≡ length orders.now }
     ensures { MatchOption result
-        (may_split (batch_legs orders.now fills.now) (map sign_of signs.now) place ≡ false)
-        (IsSplit (batch_legs orders.now fills.now) signs.now place) }
+        (may_split (batch_legs fraction_of orders.now fills.now) (map sign_of signs.now) place ≡ false)
+        (IsSplit (batch_legs fraction_of orders.now fills.now) signs.now place) }
 {
     let place = place as usize;
     if place == 0 || place > signs.len() {

@@ -44,7 +44,7 @@ fn places_rise(multipliers: &[Multiplier]) -> bool
 /// Whether a leg that is short or has a sign stands at the multiplier's place.
 fn may_carry(orders: &[Order], fills: &[Frac128], signs: &[i8], multiplier: &Multiplier) -> bool
     requires { length fills.now ≡ length orders.now }
-    ensures { result ≡ may_carry (batch_legs orders.now fills.now) (map sign_of signs.now)
+    ensures { result ≡ may_carry (batch_legs fraction_of orders.now fills.now) (map sign_of signs.now)
         (placed_of multiplier.now) }
 {
     let place = multiplier.place as usize;
@@ -66,7 +66,7 @@ fn may_all_carry(
 ) -> bool
     requires { length fills.now ≡ length orders.now }
     ensures { result ≡ list_all
-        (may_carry (batch_legs orders.now fills.now) (map sign_of signs.now))
+        (may_carry (batch_legs fraction_of orders.now fills.now) (map sign_of signs.now))
         (map placed_of multipliers.now) }
 {
     for multiplier in multipliers {
@@ -99,7 +99,7 @@ fn have_no_minus(multipliers: &[Multiplier]) -> bool
 /// Whether the places of the multipliers rise, each may stand there, and none is below 0.
 fn are_placed(orders: &[Order], fills: &[Frac128], signs: &[i8], multipliers: &[Multiplier]) -> bool
     requires { length fills.now ≡ length orders.now }
-    ensures { result ≡ are_placed (batch_legs orders.now fills.now) (map sign_of signs.now)
+    ensures { result ≡ are_placed (batch_legs fraction_of orders.now fills.now) (map sign_of signs.now)
         (map placed_of multipliers.now) }
 {
     places_rise(multipliers)
@@ -108,8 +108,8 @@ fn are_placed(orders: &[Order], fills: &[Frac128], signs: &[i8], multipliers: &[
 }
 
 /// Whether the multiplier is at most the leg's fill, where the leg is short.
-fn is_within(leg: BatchLeg, by: Frac128) -> Result<bool, Wide>
-    ensures { result ≡ is_within limit (exposure_as leg.entry.exposure) (leg_as leg.entry)
+fn is_within(leg: BatchLeg<Frac128>, by: Frac128) -> Result<bool, Wide>
+    ensures { result ≡ is_within limit (exposure_as leg.entry.exposure) (leg_as fraction_of leg.entry)
         (fraction_of by) }
 {
     match leg.exposure {
@@ -124,7 +124,7 @@ fn is_within(leg: BatchLeg, by: Frac128) -> Result<bool, Wide>
 /// The same of the leg at the multiplier's place.
 fn keeps_within(orders: &[Order], fills: &[Frac128], multiplier: &Multiplier) -> Result<bool, Wide>
     requires { length fills.now ≡ length orders.now }
-    ensures { result ≡ keeps_within limit (batch_legs orders.now fills.now)
+    ensures { result ≡ keeps_within limit (batch_legs fraction_of orders.now fills.now)
         (placed_of multiplier.now) }
 {
     let index = (multiplier.place as usize).saturating_sub(1);
@@ -141,7 +141,7 @@ fn all_keep_within(
     multipliers: &[Multiplier],
 ) -> Result<bool, Wide>
     requires { length fills.now ≡ length orders.now }
-    ensures { result ≡ all_of (keeps_within limit (batch_legs orders.now fills.now))
+    ensures { result ≡ all_of (keeps_within limit (batch_legs fraction_of orders.now fills.now))
         (map placed_of multipliers.now) }
 {
     for multiplier in multipliers {
@@ -202,9 +202,9 @@ fn less_times(total: Frac128, a: Frac128, x: i64) -> Result<Frac128, Wide>
 }
 
 /// The total and the product of the leg's fill and x.
-fn plus_filled(total: Frac128, leg: BatchLeg, x: i64) -> Result<Frac128, Wide>
+fn plus_filled(total: Frac128, leg: BatchLeg<Frac128>, x: i64) -> Result<Frac128, Wide>
     ensures { meaning fraction_of result ≡ plus_filled limit (fraction_of total)
-        (leg_fill limit (leg_as leg.entry)) x }
+        (leg_fill limit (leg_as fraction_of leg.entry)) x }
 {
     let fill = leg_fill(leg)?;
     plus_times(total, fill, x)
@@ -212,9 +212,15 @@ fn plus_filled(total: Frac128, leg: BatchLeg, x: i64) -> Result<Frac128, Wide>
 
 /// The total and what the leg adds to it, `x` being its entry: its fill times that, or times the positive part without a
 /// sign, and its multiplier times it with the leg's sign.
-fn add_term(total: Frac128, leg: BatchLeg, sign: i8, by: Frac128, x: i64) -> Result<Frac128, Wide>
+fn add_term(
+    total: Frac128,
+    leg: BatchLeg<Frac128>,
+    sign: i8,
+    by: Frac128,
+    x: i64,
+) -> Result<Frac128, Wide>
     ensures { meaning fraction_of result ≡ add_term limit (fraction_of total)
-        (exposure_as leg.entry.exposure) (sign_of sign) (leg_fill limit (leg_as leg.entry))
+        (exposure_as leg.entry.exposure) (sign_of sign) (leg_fill limit (leg_as fraction_of leg.entry))
         (fraction_of by) x }
 {
     match leg.exposure {
@@ -228,10 +234,16 @@ fn add_term(total: Frac128, leg: BatchLeg, sign: i8, by: Frac128, x: i64) -> Res
 }
 
 /// The total and what the leg adds to the sum of entry `i`.
-fn add_leg(total: Frac128, leg: BatchLeg, sign: i8, by: Frac128, i: usize) -> Result<Frac128, Wide>
+fn add_leg(
+    total: Frac128,
+    leg: BatchLeg<Frac128>,
+    sign: i8,
+    by: Frac128,
+    i: usize,
+) -> Result<Frac128, Wide>
     requires { i < 9 }
     ensures { meaning fraction_of result ≡ add_leg limit i (fraction_of total)
-        (record { leg = leg_as leg.entry; sign = sign_of sign; by = fraction_of by }) }
+        (record { leg = leg_as fraction_of leg.entry; sign = sign_of sign; by = fraction_of by }) }
 {
     add_term(total, leg, sign, by, leg.form.entries[i])
 }
@@ -247,7 +259,7 @@ fn add_legs(
     requires fills { length fills.now ≡ length orders.now }
     requires entry { i < 9 }
     ensures { meaning fraction_of result ≡ fold_steps (add_leg limit i) (whole (pos 0))
-        (signed_legs 1 (batch_legs orders.now fills.now) (map sign_of signs.now)
+        (signed_legs 1 (batch_legs fraction_of orders.now fills.now) (map sign_of signs.now)
         (map placed_of multipliers.now)) }
 {
     let mut total = Frac128::zero();
@@ -280,7 +292,7 @@ fn entry_sum(
 ) -> Result<Frac128, Wide>
     requires fills { length fills.now ≡ length orders.now }
     requires entry { i < 9 }
-    ensures { meaning fraction_of result ≡ entry_sum limit (batch_legs orders.now fills.now)
+    ensures { meaning fraction_of result ≡ entry_sum limit (batch_legs fraction_of orders.now fills.now)
         (fraction_of liability.now) (map sign_of signs.now) (map placed_of multipliers.now) i }
 {
     let total = add_legs(orders, fills, signs, multipliers, i)?;
@@ -302,7 +314,7 @@ fn entries_close(
 ) -> Result<bool, Wide>
     requires fills { length fills.now ≡ length orders.now }
     requires entries { count ≤ 9 }
-    ensures { result ≡ entries_close limit (batch_legs orders.now fills.now)
+    ensures { result ≡ entries_close limit (batch_legs fraction_of orders.now fills.now)
         (fraction_of liability.now) (map sign_of signs.now) (map placed_of multipliers.now) 0
         count }
 {
@@ -327,7 +339,7 @@ pub fn leaf_closes(
 ) -> Result<bool, Wide>
     requires fills { length fills.now ≡ length orders.now }
     requires entries { (1 ≤ count) × (count ≤ 9) }
-    ensures { result ≡ leaf_closes limit (count - 1) (batch_legs orders.now fills.now)
+    ensures { result ≡ leaf_closes limit (count - 1) (batch_legs fraction_of orders.now fills.now)
         (fraction_of liability.now) (map sign_of signs.now) (map placed_of multipliers.now) }
 {
     if !are_placed(orders, fills, signs, multipliers) {

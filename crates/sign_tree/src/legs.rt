@@ -24,18 +24,18 @@ pub enum Exposure {
 
 /// A leg of a batch: its exposure, the fill of its order, the size of its count, and its option.
 #[derive(Clone, Copy)]
-pub struct BatchLeg<'a> {
+pub struct BatchLeg<'a, N> {
     pub exposure: Exposure,
-    pub fill: Frac128,
+    pub fill: N,
     pub size: u16,
     pub form: &'a Form,
 }
 
 /// The legs that are still to come: those of the orders, of the first one from the leg `next` on.
 #[derive(Clone, Copy)]
-pub struct LegsLeft<'a> {
+pub struct LegsLeft<'a, N> {
     pub orders: &'a [Order],
-    pub fills: &'a [Frac128],
+    pub fills: &'a [N],
     pub next: usize,
 }
 
@@ -51,8 +51,9 @@ fn exposure_of(side: Side, count: i16) -> Exposure
 }
 
 /// A leg of the order, which is filled so far.
-fn leg_of<'a>(order: &Order, fill: Frac128, leg: &'a Leg) -> BatchLeg<'a>
-    ensures { leg_as result ≡ fraction_leg order.now.side (fraction_of fill) (leg_of leg.now) }
+fn leg_of<'a, N: Exact>(order: &Order, fill: N, leg: &'a Leg) -> BatchLeg<'a, N>
+    ensures { leg_as N.fraction result
+        ≡ fraction_leg order.now.side (N.fraction fill) (leg_of leg.now) }
 {
     BatchLeg {
         exposure: exposure_of(order.side, leg.count),
@@ -63,8 +64,8 @@ fn leg_of<'a>(order: &Order, fill: Frac128, leg: &'a Leg) -> BatchLeg<'a>
 }
 
 /// The fill of the leg: that of its order times the size of its count.
-pub fn leg_fill(leg: BatchLeg) -> Result<Frac128, Wide>
-    ensures { meaning fraction_of result ≡ leg_fill limit (leg_as leg.entry) }
+pub fn leg_fill(leg: BatchLeg<Frac128>) -> Result<Frac128, Wide>
+    ensures { meaning fraction_of result ≡ leg_fill limit (leg_as fraction_of leg.entry) }
 {
     if leg.size == 1 {
         return Ok(leg.fill);
@@ -72,11 +73,12 @@ pub fn leg_fill(leg: BatchLeg) -> Result<Frac128, Wide>
     leg.fill.mul(whole(leg.size.into()))
 }
 
-/// The first leg, where there is one, and those after it.
-pub fn first_leg<'a>(left: LegsLeft<'a>) -> Option<(BatchLeg<'a>, LegsLeft<'a>)>
+/// The first leg, where there is one, and those after it. Takes no memory.
+pub fn first_leg<'a, N: Exact>(left: LegsLeft<'a, N>) -> Option<(BatchLeg<'a, N>, LegsLeft<'a, N>)>
     requires { IsAtLeg left }
-    ensures { MatchOption result (legs_left left.entry ≡ [])
-        (λ p. (legs_left left.entry ≡ leg_as p.0 ∷ legs_left p.1) × IsAtLeg p.1) }
+    ensures { MatchOption result (legs_left N.fraction left.entry ≡ [])
+        (λ p. (legs_left N.fraction left.entry
+        ≡ leg_as N.fraction p.0 ∷ legs_left N.fraction p.1) × IsAtLeg p.1) }
 {
     let (order, orders) = left.orders.split_first()?;
     let (fill, fills) = left.fills.split_first()?;
@@ -94,10 +96,15 @@ pub fn first_leg<'a>(left: LegsLeft<'a>) -> Option<(BatchLeg<'a>, LegsLeft<'a>)>
     Some((leg, rest))
 }
 
-/// The leg at the index, where there is one.
-pub fn leg_at<'a>(orders: &'a [Order], fills: &[Frac128], index: usize) -> Option<BatchLeg<'a>>
+/// The leg at the index, where there is one. Takes no memory.
+pub fn leg_at<'a, N: Exact>(
+    orders: &'a [Order],
+    fills: &[N],
+    index: usize,
+) -> Option<BatchLeg<'a, N>>
     requires { length fills.now ≡ length orders.now }
-    ensures { option_map leg_as result ≡ slice_get (batch_legs orders.now fills.now) index }
+    ensures { option_map (leg_as N.fraction) result
+        ≡ slice_get (batch_legs N.fraction orders.now fills.now) index }
 {
     let mut i = index;
     for k in 0..orders.len() {

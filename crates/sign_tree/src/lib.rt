@@ -8,5 +8,5 @@ mod legs;
 pub mod trees;
 
 pub use closing::{MAX_SIGNS, closes};
-pub use legs::leg_count;
+pub use legs::{BatchLeg, Exposure, LegsLeft, first_leg, leg_at, leg_count};
 pub use trees::{Multiplier, Multipliers, Node, Nodes, SignTree, TreeVerdict};

@@ -2,8 +2,9 @@ use Rattle.std.proofs.Common.{rules, get_or, length, map, ◌∙◌, ap, arith, 
 use Rattle.std.proofs.lemmas.List.{get_or-map, length-map}
 use Rattle.command_text.specs.declared.lines.RawLine.{RawLine}
 use Rattle.command_text.specs.Lines.{line_at}
-use Rattle.exchange_cli.specs.Output.{line_output}
-use Rattle.exchange_cli.proofs.Written.{line_written, line_cut, front_written, on_err}
+use Rattle.exchange_lines.specs.Output.{line_output}
+use Rattle.exchange_cli.proofs.Written.{line_written, line_cut}
+use Rattle.exchange_sessions.proofs.Written.{front_written, on_err}
 use Rattle.exchange_cli.proofs.run.answer_all.Goals as goal
 
 -- what stands for a line past the last
@@ -19,9 +20,9 @@ loop-line-preserved g c =
     let lt : i < length c.args.lines.now = omega arith in
     let low : i < length lines = omega (arith, length-map c.args.lines.now (line_at c.args.input.now)) in
     let at = get_or-map (line_at c.args.input.now) c.args.lines.now i no_line (line_at c.args.input.now raw) lt in
-    let is = ap (λ t. (t, c.answer.new.exchange)) c.as_bytes.ensures.value ∙ c.in_ok-text.ensures ∙ ap (line_output raw.number state) c.text.ensures.bytes in
+    let is = ap (λ t. (t, c.answer.new.exchange)) c.as_slice.ensures.value ∙ c.in_ok-text.ensures ∙ ap (line_output raw.number state) c.text.ensures.bytes in
     record {
-      rest = line_written i state c.answer.new.exchange lines (line_at c.args.input.now raw) c.as_bytes.result.now low at is _ _ _ _ c.loop-line.invariant.rest c.in_ok-write_all.ensures.ok;
+      rest = line_written i state c.answer.new.exchange lines (line_at c.args.input.now raw) c.as_slice.result.now low at is _ _ _ _ c.loop-line.invariant.rest c.in_ok-write_all.ensures.ok;
       calm = search rules;
     }
 
@@ -37,5 +38,5 @@ returns-in_err-write_all-clause-front g c =
     let lt : i < length c.args.lines.now = omega arith in
     let low : i < length lines = omega (arith, length-map c.args.lines.now (line_at c.args.input.now)) in
     let at = get_or-map (line_at c.args.input.now) c.args.lines.now i no_line (line_at c.args.input.now raw) lt in
-    let is = ap (λ t. (t, c.answer.new.exchange)) c.as_bytes.ensures.value ∙ c.in_ok-text.ensures ∙ ap (line_output raw.number state) c.text.ensures.bytes in
-    on_err c.from_residual-in_err-write_all.result _ (line_cut i state c.answer.new.exchange lines (line_at c.args.input.now raw) c.as_bytes.result.now low at is _ _ _ _ c.loop-line.invariant.rest c.in_err-write_all.ensures.front)
+    let is = ap (λ t. (t, c.answer.new.exchange)) c.as_slice.ensures.value ∙ c.in_ok-text.ensures ∙ ap (line_output raw.number state) c.text.ensures.bytes in
+    on_err c.from_residual-in_err-write_all.result _ (line_cut i state c.answer.new.exchange lines (line_at c.args.input.now raw) c.as_slice.result.now low at is _ _ _ _ c.loop-line.invariant.rest c.in_err-write_all.ensures.front)

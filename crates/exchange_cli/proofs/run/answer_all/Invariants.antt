@@ -1,8 +1,8 @@
 use Rattle.std.proofs.Common.{◌≡◌, map, drop}
 use Rattle.command_text.specs.Lines.{line_at}
 use Rattle.exchange_core.specs.ExchangeState.{empty_exchange}
-use Rattle.exchange_cli.specs.Output.{output_from}
-use Rattle.exchange_cli.specs.Progress.{HasWritten}
+use Rattle.exchange_lines.specs.Output.{output_from}
+use Rattle.exchange_sessions.specs.Progress.{HasWritten}
 use Rattle.exchange_cli.proofs.run.answer_all.Given as goal
 
 abbrev pub invariant-loop-line : goal.invariant-loop-line

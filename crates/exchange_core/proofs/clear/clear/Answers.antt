@@ -8,13 +8,9 @@ use Rattle.settlement.specs.declared.position.Position.{Position}
 use Rattle.exchange_core.proofs.NewPositions.{fills_held, with_batch_kept}
 use Rattle.exchange_core.proofs.PositionsKept.{positions-at, positions-same}
 use Rattle.exchange_core.specs.Reserves.{reserve_of}
-use Rattle.exchange_core.proofs.Batches.{batch_found, batch_on_one, batch_payable, fills_paid}
+use Rattle.exchange_core.proofs.Batches.{batch_found, batch_payable, fills_paid}
 use Rattle.exchange_core.proofs.Joined.{joined-batch, reserve_live}
 use Rattle.exchange_core.proofs.clear.clear.Goals as goal
-
-pub clear-requires-clause-underlyings : goal.clear-requires-clause-underlyings
-clear-requires-clause-underlyings c =
-    batch_on_one c.args.book.now c.args.market c.in_ok-batch.batch c.requires.joined.kept.single c.in_ok-batch.ensures.batch
 
 pub pay_all-requires-clause-payable : goal.pay_all-requires-clause-payable
 pay_all-requires-clause-payable c =

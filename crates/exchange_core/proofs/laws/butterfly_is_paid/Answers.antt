@@ -8,10 +8,10 @@ use Rattle.line_cover.specs.Breakpoints.{insert, in_rising_price}
 use Rattle.master_program.specs.Master.{master_steps}
 use Rattle.master_program.specs.Reading.{reading_steps}
 use Rattle.master_program.specs.Solve.{solve_steps}
-use Rattle.rounds.specs.Run.{joint_run}
+use Rattle.rounds.specs.Run.{joint_run, line_run}
 use Rattle.clearing.specs.Outcome.{optimal_outcome, outcome_of}
 use Rattle.exchange_core.proofs.laws.butterfly_is_paid.Goals as goal
 
 pub returns : goal.returns
-unfolding outcome_of optimal_outcome joint_run insert in_rising_price solve_steps master_steps reading_steps table_run operations form_of bundle_one value_of
+unfolding outcome_of optimal_outcome joint_run line_run insert in_rising_price solve_steps master_steps reading_steps table_run operations form_of bundle_one value_of
 returns c = refl

@@ -1,4 +1,4 @@
-use Rattle.rounds.proofs.Cleared.{cleared_is_greatest}
+use Rattle.rounds.proofs.JointRuns.{cleared_is_greatest}
 use Rattle.rounds.proofs.laws.cleared_is_greatest.Goals as goal
 
 pub returns : goal.returns

@@ -6,8 +6,8 @@ use Rattle.master_program.specs.Reading.{liability_of}
 use Rattle.rounds.proofs.ReadOff.{read_is}
 use Rattle.rounds.proofs.reading.read_off.Goals as goal
 
-pub returns-clause-built : goal.returns-clause-built
-returns-clause-built g c =
+pub returns : goal.returns
+returns g c =
     let value = g.N.Exact.fraction in
     let o = c.args.optimum in
     let k = length c.args.orders.now in

@@ -15,7 +15,7 @@ returns c =
     let tree = c.args.tree.now in
     let n = batch.underlyings + 1 - 1 in
     let walked = c.subtree.result in
-    let ends = ends_so limit n (batch_legs c.as_slice-3.result.now fills) (fraction_of L) walked in
+    let ends = ends_so limit n (batch_legs fraction_of c.as_slice-3.result.now fills) (fraction_of L) walked in
     let closes = closes_is limit n batch.underlyings c.as_slice-3.result.now batch.orders fills (fraction_of L) c.as_slice.result.now tree.nodes c.as_slice-2.result.now tree.multipliers c.unsign.new.signs
     (goes_on (λ nodes ms. Ok (is_nothing nodes ms)) walked) (omega arith) c.as_slice-3.ensures c.as_slice.ensures c.as_slice-2.ensures c.requires.fills (omega arith) c.unsign.ensures (c.subtree.ensures.walks [] ∙ ends) in
     let is = c.verdict_of.ensures ∙ ap tree_verdict (sym closes) in

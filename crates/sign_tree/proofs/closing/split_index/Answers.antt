@@ -29,7 +29,7 @@ returns-then-is_unsigned c =
     let s : ℤ = to_z w8 (of_z w8 (get_or c.args.signs.now (c.args.place - 1) (pos 0))) in
     let fits : FitsSigned w8 (get_or c.args.signs.now (c.args.place - 1) (pos 0)) = search rules in
     let same : s ≡ get_or c.args.signs.now (c.args.place - 1) (pos 0) = to_z-of_z w8 _ fits in
-    let there = passes_there is_unsigned legs c.args.signs.now c.args.place (leg_as c.in_ok-leg.leg) s (omega (arith, c.if-place-eq0.false)) c.if-place-signs.false (sym c.in_ok-leg.ensures) same in
+    let there = passes_there is_unsigned legs c.args.signs.now c.args.place (leg_as fraction_of c.in_ok-leg.leg) s (omega (arith, c.if-place-eq0.false)) c.if-place-signs.false (sym c.in_ok-leg.ensures) same in
     record {
       splits = there ∙ sym c.is_unsigned.ensures ∙ c.if-is_unsigned.true;
       index = refl;
@@ -42,5 +42,5 @@ returns-else-is_unsigned c =
     let legs = fraction_legs c.args.orders.now (map fraction_of c.args.fills.now) in
     let s : ℤ = to_z w8 (of_z w8 (get_or c.args.signs.now (c.args.place - 1) (pos 0))) in
     let fits : FitsSigned w8 (get_or c.args.signs.now (c.args.place - 1) (pos 0)) = search rules in
-    passes_there is_unsigned legs c.args.signs.now c.args.place (leg_as c.in_ok-leg.leg) s (omega (arith, c.if-place-eq0.false)) c.if-place-signs.false (sym c.in_ok-leg.ensures) (to_z-of_z w8 _ fits)
+    passes_there is_unsigned legs c.args.signs.now c.args.place (leg_as fraction_of c.in_ok-leg.leg) s (omega (arith, c.if-place-eq0.false)) c.if-place-signs.false (sym c.in_ok-leg.ensures) (to_z-of_z w8 _ fits)
     ∙ sym c.is_unsigned.ensures ∙ c.if-is_unsigned.false

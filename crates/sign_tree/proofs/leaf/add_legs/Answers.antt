@@ -15,7 +15,7 @@ returns-in_err-total c =
     let j = c.loop-j.j in
     let s : ℤ = to_z w8 (of_z w8 (get_or c.args.signs.now j (pos 0))) in
     let fits : FitsSigned w8 (get_or c.args.signs.now j (pos 0)) = search rules in
-    let first = signed_first (j + 1) (legs_left c.loop-j.left) c.args.signs.now (map placed_of c.loop-j.rest.now) j (leg_as c.in-Some.leg) (legs_left c.in-Some.after) s c.in-Some.ensures.0 c.loop-j-test.true (to_z-of_z w8 _ fits) in
+    let first = signed_first (j + 1) (legs_left fraction_of c.loop-j.left) c.args.signs.now (map placed_of c.loop-j.rest.now) j (leg_as fraction_of c.in-Some.leg) (legs_left fraction_of c.in-Some.after) s c.in-Some.ensures.0 c.loop-j-test.true (to_z-of_z w8 _ fits) in
     stops fraction_of (add_leg limit c.args.i) c.loop-j.total c.add_leg.result _ _ _ _ _ c.in_err-total.field-0.0 first c.loop-j.invariant.0 (rw (← c.first_at-by.ensures) c.add_leg.ensures) c.in_err-total.was c.from_residual.ensures.1
 
 pub loop-j-preserved : goal.loop-j-preserved
@@ -23,10 +23,10 @@ loop-j-preserved c =
     let j = c.loop-j.j in
     let s : ℤ = to_z w8 (of_z w8 (get_or c.args.signs.now j (pos 0))) in
     let fits : FitsSigned w8 (get_or c.args.signs.now j (pos 0)) = search rules in
-    let first = signed_first (j + 1) (legs_left c.loop-j.left) c.args.signs.now (map placed_of c.loop-j.rest.now) j (leg_as c.in-Some.leg) (legs_left c.in-Some.after) s c.in-Some.ensures.0 c.loop-j-test.true (to_z-of_z w8 _ fits) in
+    let first = signed_first (j + 1) (legs_left fraction_of c.loop-j.left) c.args.signs.now (map placed_of c.loop-j.rest.now) j (leg_as fraction_of c.in-Some.leg) (legs_left fraction_of c.in-Some.after) s c.in-Some.ensures.0 c.loop-j-test.true (to_z-of_z w8 _ fits) in
     let on = goes_on fraction_of (add_leg limit c.args.i) c.loop-j.total c.in_ok-total.total c.add_leg.result _ _ _ _ first c.loop-j.invariant.0 (rw (← c.first_at-by.ensures) c.add_leg.ensures) c.in_ok-total.was in
     (rw (c.left_after-rest.ensures) on, c.in-Some.ensures.1)
 
 pub returns : goal.returns
 returns c =
-    ends fraction_of (add_leg limit c.args.i) c.loop-j.total _ _ (signed_end (c.loop-j.j + 1) (legs_left c.loop-j.left) c.args.signs.now (map placed_of c.loop-j.rest.now) c.loop-j.j c.loop-j-test.false) c.loop-j.invariant.0
+    ends fraction_of (add_leg limit c.args.i) c.loop-j.total _ _ (signed_end (c.loop-j.j + 1) (legs_left fraction_of c.loop-j.left) c.args.signs.now (map placed_of c.loop-j.rest.now) c.loop-j.j c.loop-j-test.false) c.loop-j.invariant.0

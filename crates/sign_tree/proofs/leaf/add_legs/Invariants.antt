@@ -13,5 +13,5 @@ use Rattle.sign_tree.proofs.leaf.add_legs.Given as goal
 abbrev pub invariant-loop-j : goal.invariant-loop-j
 invariant-loop-j l =
     (fold_steps (add_leg limit l.i) (whole (pos 0)) (signed_legs 1 (fraction_legs l.orders (map fraction_of l.fills)) (map sign_of l.signs) (map placed_of l.multipliers))
-    ≡ fold_steps (add_leg limit l.i) (fraction_of l.total) (signed_legs (l.j + 1) (legs_left l.left) (drop l.j (map sign_of l.signs)) (map placed_of l.rest)))
+    ≡ fold_steps (add_leg limit l.i) (fraction_of l.total) (signed_legs (l.j + 1) (legs_left fraction_of l.left) (drop l.j (map sign_of l.signs)) (map placed_of l.rest)))
     × IsAtLeg l.left

@@ -11,7 +11,7 @@ returns-in-Some c =
     let legs = fraction_legs c.args.orders.now (map fraction_of c.args.fills.now) in
     let m = c.args.multiplier.now in
     c.is_within.ensures
-    ∙ sym (within_here limit legs (m.place - 1) (leg_as c.in-Some.leg) (fraction_of m.by) (sym (c.in-Some.ensures ∙ ap (slice_get legs) c.saturating_sub-index.ensures)))
+    ∙ sym (within_here limit legs (m.place - 1) (leg_as fraction_of c.in-Some.leg) (fraction_of m.by) (sym (c.in-Some.ensures ∙ ap (slice_get legs) c.saturating_sub-index.ensures)))
 
 pub returns-in-None : goal.returns-in-None
 returns-in-None c =

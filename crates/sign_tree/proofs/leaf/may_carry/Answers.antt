@@ -26,7 +26,7 @@ returns-in-Some c =
     let s : ℤ = to_z w8 (of_z w8 (get_or c.args.signs.now (place - 1) (pos 0))) in
     let fits : FitsSigned w8 (get_or c.args.signs.now (place - 1) (pos 0)) = search rules in
     ap not c.is_unsigned.ensures
-    ∙ sym (passes_there carries legs c.args.signs.now place (leg_as c.in-Some.leg) s (omega (arith, c.if-place-eq0.false)) c.if-place-signs.false (sym c.in-Some.ensures) (to_z-of_z w8 _ fits))
+    ∙ sym (passes_there carries legs c.args.signs.now place (leg_as fraction_of c.in-Some.leg) s (omega (arith, c.if-place-eq0.false)) c.if-place-signs.false (sym c.in-Some.ensures) (to_z-of_z w8 _ fits))
 
 pub returns-in-None : goal.returns-in-None
 returns-in-None c =

@@ -1,0 +1,3 @@
+-- The modules of definitions.
+pub mod Tally
+pub mod Demo

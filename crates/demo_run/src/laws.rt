@@ -1,0 +1,13 @@
+//! Laws of tallies: each is the contract of a function that does nothing.
+
+ghost use Rattle.demo_run.specs.Tally.{MarksAreCounted, RepliesAreCounted};
+
+/// A tally that counts one reply more is the tally of the list that this reply ends.
+pub fn replies_are_counted()
+    ensures { RepliesAreCounted }
+{}
+
+/// The batches are those with the mark optimal, with the mark wide and with the mark budget, together.
+pub fn marks_are_counted()
+    ensures { MarksAreCounted }
+{}

@@ -1,0 +1,5 @@
+-- The modules of definitions.
+pub mod Draws
+pub mod Orders
+pub mod Text
+pub mod Worked

@@ -1,5 +1,0 @@
-use Rattle.exchange_cli.proofs.Answered.{answers_are_covered}
-use Rattle.exchange_cli.proofs.laws.answers_are_covered.Goals as goal
-
-pub returns : goal.returns
-returns c = answers_are_covered

@@ -1,5 +1,0 @@
-use Rattle.exchange_cli.proofs.Answered.{answers_are_marked}
-use Rattle.exchange_cli.proofs.laws.answers_are_marked.Goals as goal
-
-pub returns : goal.returns
-returns c = answers_are_marked

@@ -1,5 +1,0 @@
-use Rattle.exchange_cli.proofs.Answered.{optimal_is_greatest}
-use Rattle.exchange_cli.proofs.laws.optimal_is_greatest.Goals as goal
-
-pub returns : goal.returns
-returns c = optimal_is_greatest

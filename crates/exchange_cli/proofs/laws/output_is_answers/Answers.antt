@@ -1,5 +1,0 @@
-use Rattle.exchange_cli.proofs.Answered.{output_is_answers}
-use Rattle.exchange_cli.proofs.laws.output_is_answers.Goals as goal
-
-pub returns : goal.returns
-returns c = output_is_answers

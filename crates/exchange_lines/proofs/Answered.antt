@@ -1,0 +1,90 @@
+-- The output of a run is the text of its answers, and each of them keeps what is promised.
+use Rattle.std.proofs.Common.{◌≡◌, ℕ, List, [], ◌∷◌, ◌++◌, All, refl, ap}
+use Rattle.std.proofs.lemmas.List.Elements.{All-nil, All-cons, All-head, All-tail}
+use Rattle.cert_check.specs.declared.outcome.Outcome.{Outcome}
+use Rattle.cert_check.specs.Laws.{IsCovered}
+use Rattle.clearing.proofs.Yes.{outcomes_are_judged_yes}
+use Rattle.command_text.specs.declared.command.Body.{Body}
+use Rattle.command_text.specs.declared.command.Body.TheVariants.{Command, Syntax, Range}
+use Rattle.command_text.specs.declared.command.Line.{Line}
+use Rattle.command_text.specs.Lines.{commands_in}
+use Rattle.command_text.specs.Within.{BodyIsWithin, IsLineWithin}
+use Rattle.command_text.proofs.ReadWithin.{inputs_are_within}
+use Rattle.reply_print.specs.declared.replies.Reply.{Reply}
+use Rattle.exchange_core.specs.Covered.{IfCleared, OfEachCleared, IsProvedGreatest}
+use Rattle.exchange_core.specs.ExchangeState.{ExchangeState, empty_exchange}
+use Rattle.exchange_core.specs.Kept.{IsKept}
+use Rattle.exchange_core.proofs.Covered.{step_has, step_is_covered, step_is_optimal, step_is_marked}
+use Rattle.exchange_core.proofs.Keeping.{empty_is_kept, step_keeps}
+use Rattle.form.specs.declared.orders.Batch.{Batch}
+use Rattle.exchange_lines.specs.Output.{output_from, output}
+use Rattle.line_replies.specs.Replies.{reply_to}
+use Rattle.exchange_lines.specs.Promises.{IsCoveredIn, IsGreatestIn, IsJudgedYes, IsJudgedYesIn, IsMarkedIn, TellAnswers, OutputIsAnswers, OfEachAnswer}
+use Rattle.exchange_lines.specs.Replies.{Answer, IsMarkedAs, answer_to, answers_from, answers_text, answers}
+use Rattle.reply_print.specs.ReplyPieces.{reply_line}
+use Rattle.exchange_lines.proofs.HouseGains.{gains_told}
+
+-- what is kept of an exchange is kept by each line
+answer_keeps : (state : ExchangeState) (said : Body) → IsKept state → BodyIsWithin said → IsKept (reply_to state said).1
+answer_keeps state (Command command) kept within = step_keeps state command kept within
+answer_keeps state Syntax kept within = kept
+answer_keeps state (Range field) kept within = kept
+
+-- what holds of the answer to each line, in each state that an exchange may be in, holds of all
+module _ (Q : Answer → Type 0) (each : (state : ExchangeState) (line : Line) → IsKept state → Q (answer_to state line)) where
+  lines_have : (state : ExchangeState) (lines : List Line) → IsKept state → All IsLineWithin lines → All Q (answers_from state lines)
+  lines_have state [] kept within = All-nil Q
+  lines_have state (line ∷ lines) kept within =
+      let after : ExchangeState = (reply_to state line.body).1 in
+      All-cons Q (answer_to state line) (answers_from after lines) (each state line kept)
+      (lines_have after lines (answer_keeps state line.body kept (All-head IsLineWithin line lines within)) (All-tail IsLineWithin line lines within))
+
+  answers_have : (input : List ℕ) → All Q (answers input)
+  answers_have input = lines_have empty_exchange (commands_in input) empty_is_kept (inputs_are_within input)
+
+-- a refusal clears nothing
+reply_has : (P : Batch → Outcome → Type 0) → OfEachCleared P → (state : ExchangeState) (said : Body) → IsKept state → IfCleared P (reply_to state said).0
+reply_has P each state (Command command) kept = each state command kept
+reply_has P each state Syntax kept = tt
+reply_has P each state (Range field) kept = tt
+
+batch_has : (P : Batch → Outcome → Type 0) → OfEachCleared P → (state : ExchangeState) (line : Line) → IsKept state → IfCleared P (answer_to state line).reply
+batch_has P each state line kept = reply_has P each state line.body kept
+
+reply_marked : (state : ExchangeState) (said : Body) → IsKept state → IsMarkedAs said (reply_to state said).0
+reply_marked state (Command command) kept = step_is_marked state command kept
+reply_marked state Syntax kept = tt
+reply_marked state (Range field) kept = tt
+
+answer_marked : (state : ExchangeState) (line : Line) → IsKept state → IsMarkedIn (answer_to state line)
+answer_marked state line kept = reply_marked state line.body kept
+
+pub answers_are_covered : OfEachAnswer IsCoveredIn
+answers_are_covered = answers_have IsCoveredIn (batch_has IsCovered step_is_covered)
+
+pub optimal_is_greatest : OfEachAnswer IsGreatestIn
+optimal_is_greatest = answers_have IsGreatestIn (batch_has IsProvedGreatest step_is_optimal)
+
+pub answers_are_judged_yes : OfEachAnswer IsJudgedYesIn
+answers_are_judged_yes = answers_have IsJudgedYesIn (batch_has IsJudgedYes (step_has IsJudgedYes outcomes_are_judged_yes))
+
+pub answers_are_marked : OfEachAnswer IsMarkedIn
+answers_are_marked = answers_have IsMarkedIn answer_marked
+
+lines_are_written : (lines : List Line) (state : ExchangeState) → output_from state lines ≡ answers_text (answers_from state lines)
+lines_are_written [] state = refl
+lines_are_written (line ∷ lines) state =
+    let now : Reply × ExchangeState = reply_to state line.body in
+    ap (λ l. (reply_line line.number now.0 ++ 10 ∷ []) ++ l) (lines_are_written lines now.1)
+
+pub output_is_answers : OutputIsAnswers
+output_is_answers input = lines_are_written (commands_in input) empty_exchange
+
+-- what is written for an input keeps what is promised
+pub output_tells : (input : List ℕ) → TellAnswers (output input)
+output_tells input = record {
+  answers = answers input;
+  text = output_is_answers input;
+  promises = λ k d inside. record { covered = answers_are_covered input k d inside; greatest = optimal_is_greatest input k d inside; marked = answers_are_marked input k d inside };
+  gains = gains_told input;
+}

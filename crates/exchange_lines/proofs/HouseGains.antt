@@ -1,0 +1,40 @@
+-- The answers to an input leave the house its gains.
+use Rattle.std.proofs.Common.{◌≡◌, ℕ, List, [], ◌∷◌, refl, sym, ap, subst}
+use Rattle.std.specs.List.{All}
+use Rattle.command_text.specs.declared.command.Body.{Body}
+use Rattle.command_text.specs.declared.command.Body.TheVariants.{Command, Syntax, Range}
+use Rattle.command_text.specs.declared.command.Line.{Line}
+use Rattle.command_text.specs.Lines.{commands_in}
+use Rattle.command_text.specs.Within.{BodyIsWithin, IsLineWithin}
+use Rattle.command_text.proofs.ReadWithin.{inputs_are_within}
+use Rattle.exchange_core.specs.declared.refusal.Refusal.TheVariants as refusal
+use Rattle.exchange_core.specs.ExchangeState.{ExchangeState, all_live, empty_exchange}
+use Rattle.exchange_core.specs.Kept.{IsKept}
+use Rattle.house_gain.specs.Gain.{GainsSurplus, IsGained}
+use Rattle.house_gain.specs.Runs.{HouseGains, replies_by}
+use Rattle.house_gain.proofs.RunGains.{gains_run}
+use Rattle.house_gain.proofs.Replies.{settled_weaker}
+use Rattle.house_gain.proofs.RunStates.{empty_runs}
+use Rattle.house_gain.proofs.Steps.{IsTrader, StepsTo, refusal_steps, command_steps}
+use Rattle.line_replies.specs.Replies.{reply_to}
+use Rattle.exchange_lines.specs.Promises.{AnswersGain, GainsInEach, line_reply, replies_of, state_after}
+use Rattle.exchange_lines.specs.Replies.{answers, answers_from}
+
+body_steps : (state : ExchangeState) (said : Body) → BodyIsWithin said → IsKept state → All IsTrader (all_live state) → StepsTo state (reply_to state said)
+body_steps state (Command command) within kept traders = command_steps state command within kept traders
+body_steps state Syntax within kept traders = refusal_steps state refusal.Syntax kept traders
+body_steps state (Range field) within kept traders = refusal_steps state (refusal.Range field) kept traders
+
+replies_are : (state : ExchangeState) (lines : List Line) → replies_of (answers_from state lines) ≡ replies_by line_reply state lines
+replies_are state [] = refl
+replies_are state (line ∷ lines) = ap (λ l. (line_reply state line).0 ∷ l) (replies_are (line_reply state line).1 lines)
+
+pub answers_gain : AnswersGain
+answers_gain input =
+    subst (HouseGains (state_after input).entries) (sym (replies_are empty_exchange (commands_in input)))
+    (gains_run line_reply IsLineWithin (λ state line. body_steps state line.body) (commands_in input) empty_exchange (inputs_are_within input) empty_runs)
+
+-- as far as the answers tell
+pub gains_told : (input : List ℕ) → GainsInEach (answers input)
+gains_told input =
+    settled_weaker (IsGained (state_after input).entries) GainsSurplus (λ number batch outcome payouts gained. gained.surplus) (replies_of (answers input)) (answers_gain input)

@@ -1,0 +1,5 @@
+use Rattle.exchange_lines.proofs.Answered.{answers_are_covered}
+use Rattle.exchange_lines.proofs.laws.answers_are_covered.Goals as goal
+
+pub returns : goal.returns
+returns c = answers_are_covered

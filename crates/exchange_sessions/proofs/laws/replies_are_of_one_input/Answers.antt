@@ -1,0 +1,5 @@
+use Rattle.exchange_sessions.proofs.ReplyLaws.{replies_are_of_one_input}
+use Rattle.exchange_sessions.proofs.laws.replies_are_of_one_input.Goals as goal
+
+pub returns : goal.returns
+returns c = replies_are_of_one_input

@@ -1,0 +1,87 @@
+-- What is promised of the answers to any input.
+use Rattle.std.specs.Prelude.{◌≡◌, ℕ, Bool, true, false, List, [], ◌∷◌, ◌++◌, map, Option, None, Some, Contains, if◌then◌else◌}
+use Rattle.session_gate.specs.declared.answer.Answer.{Answer}
+use Rattle.session_gate.specs.declared.answer.Answer.TheVariants.{First, Repeat, Old, Ahead, Changed, Sessions}
+use Rattle.session_gate.specs.Gate.{Message}
+use Rattle.session_gate.specs.Laws.{bodies_of, numbers_of, AreFrom}
+use Rattle.session_gate.specs.Runs.{Replies, Served, nothing_served}
+use Rattle.exchange_lines.specs.Output.{output}
+use Rattle.exchange_sessions.specs.Answers.{Told, LineAnswer, told_of, after_said, answers_text, answers, sessions_output}
+use Rattle.exchange_sessions.specs.Lines.{NumberedLine, lines_in}
+use Rattle.exchange_sessions.specs.Messages.{message_in}
+use Rattle.exchange_sessions.specs.Served.{exchange_reply}
+
+abbrev pub is_first : Answer → Bool
+is_first First = true
+is_first Repeat = false
+is_first (Old expected) = false
+is_first (Ahead expected) = false
+is_first (Changed expected) = false
+is_first Sessions = false
+
+abbrev pub first_in : Option Told → List Told
+first_in None = []
+first_in (Some told) = if is_first told.answer then told ∷ [] else []
+
+-- what was told to the messages that were answered First, in order
+abbrev pub accepted : List LineAnswer → List Told
+accepted [] = []
+accepted (answer ∷ more) = first_in answer.told ++ accepted more
+
+abbrev pub accepted_messages : List LineAnswer → List Message
+accepted_messages given = map (λ (told : Told). told.message) (accepted given)
+
+abbrev pub accepted_bodies : List LineAnswer → List (List ℕ)
+accepted_bodies given = bodies_of (accepted_messages given)
+
+-- after the lines of an input
+abbrev pub after_lines : Replies → Served → List NumberedLine → Served
+after_lines reply served [] = served
+after_lines reply served (line ∷ lines) = after_lines reply (after_said reply served (message_in line.text)) lines
+
+-- The exchange took the bodies of the messages that were answered First, in order.
+abbrev pub TakesAccepted : Type 0
+TakesAccepted = (input : List ℕ) → (after_lines exchange_reply nothing_served (lines_in input)).bodies ≡ accepted_bodies (answers input)
+
+-- Those of one session have the numbers 1, 2, 3 and so on, each once.
+abbrev pub AcceptsInOrder : Type 0
+AcceptsInOrder = (input : List ℕ) (session : ℕ) → AreFrom 1 (numbers_of session (accepted_messages (answers input)))
+
+-- bodies as the lines of one input
+abbrev pub as_input : List (List ℕ) → List ℕ
+as_input [] = []
+as_input (body ∷ bodies) = body ++ 10 ∷ as_input bodies
+
+-- the replies that are told, each with a line feed
+abbrev pub replies_text : List Told → List ℕ
+replies_text [] = []
+replies_text (told ∷ more) = told.reply ++ 10 ∷ replies_text more
+
+-- The replies told to the messages answered First are the output of their bodies as one input.
+abbrev pub RepliesAreOfOneInput : Type 0
+RepliesAreOfOneInput = (input : List ℕ) → replies_text (accepted (answers input)) ≡ output (as_input (accepted_bodies (answers input)))
+
+-- a message that is answered Repeat was answered First before, with the same reply
+abbrev pub AreRepeats : List LineAnswer → Type 0
+AreRepeats given = (before later : List LineAnswer) (answer : LineAnswer) (told : Told)
+    → given ≡ before ++ answer ∷ later → answer.told ≡ Some told → told.answer ≡ Repeat
+    → Contains (accepted before) (told_of told.message First told.reply)
+
+-- A Repeat tells the reply that was told to its First.
+abbrev pub RepeatsTellTheSame : Type 0
+RepeatsTellTheSame = (input : List ℕ) → AreRepeats (answers input)
+
+-- ---- of the bytes
+-- they are the text of answers, by which each message takes effect once, in its session's order
+pub record TellOnce (bytes : List ℕ) : Type 0 where
+  pub answers : List LineAnswer
+  pub text : bytes ≡ answers_text answers
+  -- the messages answered First have, session by session, the numbers 1, 2, 3 and so on
+  pub in_order : (session : ℕ) → AreFrom 1 (numbers_of session (accepted_messages answers))
+  -- their replies are the output of their bodies as one input
+  pub replies : replies_text (accepted answers) ≡ output (as_input (accepted_bodies answers))
+  pub repeats : AreRepeats answers
+
+-- What is written for an input tells each message once.
+abbrev pub OutputTellsOnce : Type 0
+OutputTellsOnce = (input : List ℕ) → TellOnce (sessions_output input)

@@ -1,0 +1,16 @@
+//! Messages of many sessions to one exchange: each line of an input is a message or none, and has one answer.
+#![tactic(auto)]
+
+mod answers;
+pub mod laws;
+mod lines;
+mod messages;
+mod server;
+mod stop;
+#[cfg(test)]
+mod tests;
+mod texts;
+
+pub use answers::answer_messages;
+pub use server::ExchangeServer;
+pub use stop::AnswerStop;

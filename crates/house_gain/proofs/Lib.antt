@@ -1,0 +1,11 @@
+pub mod BatchSteps
+pub mod FillGains
+pub mod Filters
+pub mod HouseEntries
+pub mod Listings
+pub mod Payouts
+pub mod Replies
+pub mod RunGains
+pub mod RunStates
+pub mod Steps
+pub mod ZeroPrices

@@ -1,0 +1,4 @@
+pub mod Gain
+pub mod Runs
+pub mod Laws
+pub mod Worked

@@ -1,0 +1,2 @@
+-- The modules of definitions.
+pub mod Replies

@@ -1,0 +1,11 @@
+pub mod Added
+pub mod Answered
+pub mod BothSides
+pub mod ByRole
+pub mod GivenRows
+pub mod GivenSteps
+pub mod MultiplierRows
+pub mod NodeEnds
+pub mod SplitPlaces
+pub mod WholeProgram
+pub mod WrittenRows

@@ -1,0 +1,15 @@
+use Rattle.std.proofs.Common.{◌≡◌, suc, drop, map, unsigned_abs}
+use Rattle.master_program.specs.Master.{map_steps}
+use Rattle.sign_tree.specs.Read.{sign_of}
+use Rattle.node_program.specs.Roles.{values}
+use Rattle.node_program.specs.Steps.{state_cost_steps}
+use Rattle.pricing_oracle.specs.Built.{added}
+use Rattle.pricing_oracle.specs.Nodes.{legs_asked}
+use Rattle.pricing_oracle.proofs.costs.add_state_costs.Given as goal
+
+-- what is left to add, behind what was added, is all
+abbrev pub invariant-loop-i : goal.invariant-loop-i
+invariant-loop-i g l =
+    let f = state_cost_steps (unsigned_abs g.N.Exact.LIMIT) (legs_asked g.N.Exact.fraction l.asked) (g.N.Exact.fraction l.asked.liability.now) (map sign_of l.signs) in
+    let all = values (λ i. i) (suc l.asked.underlyings) in
+    added (map g.N.Exact.fraction l.fn.row.items) (map_steps f all) ≡ added (map g.N.Exact.fraction l.row.items) (map_steps f (drop l.i all))

@@ -1,0 +1,14 @@
+use Rattle.std.proofs.Common.{◌≡◌, drop, map, unsigned_abs}
+use Rattle.node_program.specs.Steps.{negated_of}
+use Rattle.form.specs.Payoff.{option_of}
+use Rattle.master_program.specs.Master.{map_steps}
+use Rattle.node_program.specs.Roles.{entries}
+use Rattle.pricing_oracle.specs.Built.{added}
+use Rattle.pricing_oracle.proofs.rows.add_negated.Given as goal
+
+-- what is left to add, behind what was added, is all
+abbrev pub invariant-loop-i : goal.invariant-loop-i
+invariant-loop-i g l =
+    let f = negated_of (unsigned_abs g.N.Exact.LIMIT) in
+    let all = entries l.n (option_of l.form) in
+    added (map g.N.Exact.fraction l.fn.row.items) (map_steps f all) ≡ added (map g.N.Exact.fraction l.row.items) (map_steps f (drop l.i all))

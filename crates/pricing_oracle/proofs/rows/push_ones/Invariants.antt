@@ -1,0 +1,6 @@
+use Rattle.std.proofs.Common.{◌≡◌, ◌++◌, map, pos, replicate}
+use Rattle.exact_num.specs.Fraction.{whole}
+use Rattle.pricing_oracle.proofs.rows.push_ones.Given as goal
+
+abbrev pub invariant-loop-i : goal.invariant-loop-i
+invariant-loop-i g l = map g.N.Exact.fraction l.row.items ≡ map g.N.Exact.fraction l.fn.row.items ++ replicate l._i (whole (pos 1))

@@ -1,0 +1,8 @@
+use Rattle.std.proofs.Common.{◌≡◌, drop}
+use Rattle.form.specs.Payoff.{option_of}
+use Rattle.node_program.specs.Roles.{entries, has_below}
+use Rattle.pricing_oracle.proofs.splitting.has_below.Given as goal
+
+-- none of the entries before
+abbrev pub invariant-loop-i : goal.invariant-loop-i
+invariant-loop-i l = has_below (entries l.n (option_of l.form)) ≡ has_below (drop l.i (entries l.n (option_of l.form)))

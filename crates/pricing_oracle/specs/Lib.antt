@@ -1,0 +1,7 @@
+pub mod Answers
+pub mod Built
+pub mod Multipliers
+pub mod Nodes
+pub mod Programs
+pub mod Rooms
+pub mod Searches

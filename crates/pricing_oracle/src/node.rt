@@ -1,0 +1,151 @@
+//! One node of the search.
+ghost use Rattle.std.specs.Prelude.{◌≡◌, ◌≤◌, ◌+◌, ◌∷◌, ℕ, List, OnOk, IfOk, Some, length, map, suc, take, unsigned_abs};
+ghost use Rattle.std.specs.List.{All};
+ghost use Rattle.exact_num.specs.Fraction.{Fraction, IsNotBelowZero};
+ghost use Rattle.exact_num.specs.Tests.{is_above_zero};
+ghost use Rattle.clearing_model.specs.Written.{Ends};
+ghost use Rattle.form.specs.Primitive.{IsDirection};
+ghost use Rattle.sign_tree.specs.Read.{sign_of};
+ghost use Rattle.simplex.specs.Spaces.{IsFound, x_of, y_of};
+ghost use Rattle.node_program.specs.Search.{leaf_of, node_end};
+ghost use Rattle.table_run.specs.Ending.{unbounded};
+ghost use Rattle.pricing_oracle.specs.Nodes.{MayBeAsked, legs_asked};
+ghost use Rattle.pricing_oracle.specs.Programs.{HasSameSize};
+ghost use Rattle.pricing_oracle.specs.Searches.{HasRows, HasShown, WrittenParts, asked_within, node_of_asked, parts_of, state_end, with_tree};
+
+use crate::excess::excess;
+use crate::giving::give_program;
+use crate::legs::Asked;
+use crate::reading::{add_multipliers, state_of};
+use crate::rows::cover_count;
+use crate::splitting::split_place;
+use exact_num::Exact;
+use form::State;
+use sign_tree::{Multiplier, Node};
+use simplex::{Budget, Space, Stop};
+use std::alloc::AllocError;
+
+/// What a node shows.
+#[derive(Clone, Copy)]
+pub enum Shown {
+    /// That its side closes.
+    Leaf,
+    /// A state at which the fills owe more than the liability times t.
+    Violated(State),
+    /// The place, counted from 0, of the leg at which it splits.
+    Splits(usize),
+}
+
+/// The nodes and multipliers of a tree so far.
+#[derive(Drop)]
+pub struct TreeParts {
+    pub nodes: Vec<Node>,
+    pub multipliers: Vec<Multiplier>,
+}
+
+// Whether a number is above 0.
+fn is_above_zero<N: Exact>(x: N) -> bool
+    ensures { result ≡ is_above_zero (N.fraction x) }
+{
+    x.sign() > 0
+}
+
+// Adds a leaf, whose multipliers the optimum in the space gives.
+fn add_leaf<N: Exact>(
+    tree: &mut TreeParts,
+    space: &Space<N>,
+    asked: Asked<N>,
+    signs: &[i8],
+) -> Result<(), AllocError>
+    requires asked { MayBeAsked asked }
+    requires signs { length signs.now ≤ 1024 }
+    requires found { IsFound space.now.contents }
+    requires rows { HasRows asked.underlyings
+        (node_of_asked N.fraction asked (map sign_of signs.now)) (y_of space.now.contents) }
+    ensures { OnOk result (parts_of tree.new ≡ with_tree (parts_of tree.old) (Ends (leaf_of
+        (node_of_asked N.fraction asked.entry (map sign_of signs.now))
+        (y_of space.now.contents)))) }
+{
+    let before = tree.multipliers.len();
+    let covers = cover_count(asked, signs);
+    add_multipliers(&mut tree.multipliers, space, asked, signs, covers)?;
+    let count = tree.multipliers.len() - before;
+    tree.nodes.push(Node::Leaf {
+        count: count as u32,
+    })?;
+    Ok(())
+}
+
+// What a node shows whose optimum is above 0.
+fn look_at_state<N: Exact>(
+    space: &Space<N>,
+    row: &mut Vec<N>,
+    asked: Asked<N>,
+    signs: &[i8],
+    unit: u32,
+) -> Result<Shown, Stop>
+    requires asked { MayBeAsked asked }
+    requires signs { length signs.now ≤ 1024 }
+    requires found { IsFound space.now.contents }
+    requires direction { IsDirection (take (suc asked.underlyings) (x_of space.now.contents)) }
+    requires count { suc asked.underlyings ≤ length (x_of space.now.contents) }
+    requires bounded { (d : List Fraction) (spent : ℕ)
+        → state_end N.fraction (unsigned_abs N.LIMIT) asked (map sign_of signs.now)
+        (x_of space.now.contents) unit ≡ unbounded d spent → ⊥ }
+    ensures { (parts : WrittenParts) → HasShown parts parts
+        (state_end N.fraction (unsigned_abs N.LIMIT) asked.entry (map sign_of signs.now)
+        (x_of space.now.contents) unit) result unit }
+{
+    let state = match state_of(row, space, asked.underlyings) {
+        Ok(state) => state,
+        Err(error) => return Err(error.at(unit)),
+    };
+    let excess = match excess(asked, &state) {
+        Ok(excess) => excess,
+        Err(wide) => return Err(Stop::Wide { unit, wide }),
+    };
+    if is_above_zero(excess) {
+        return Ok(Shown::Violated(state));
+    }
+    match split_place(asked, signs) {
+        Some(place) => Ok(Shown::Splits(place)),
+        None => unreachable!(),
+    }
+}
+
+/// Opens the node with these signs, for a unit: runs its program, and says what it shows. A leaf is added to the tree.
+pub fn open_node<N: Exact>(
+    space: &mut Space<N>,
+    row: &mut Vec<N>,
+    asked: Asked<N>,
+    signs: &[i8],
+    budget: &mut Budget,
+    tree: &mut TreeParts,
+) -> Result<Shown, Stop>
+    requires asked { MayBeAsked asked }
+    requires not_below_zero { All IsNotBelowZero (map N.fraction asked.fills.now) }
+    requires signs { length signs.now ≤ 1024 }
+    requires count { length signs.now ≡ length (legs_asked N.fraction asked) }
+    requires rows { 1 + length signs.now ≤ space.old.rows }
+    requires columns { asked.underlyings + 1 + length signs.now ≤ space.old.columns }
+    ensures shown { HasShown (parts_of tree.old) (parts_of tree.new)
+        (node_end (asked_within N.fraction (unsigned_abs N.LIMIT) budget.old.limit asked.entry)
+        (map sign_of signs.now) budget.old.spent) result budget.new.spent }
+    ensures size { HasSameSize space.old space.new }
+    ensures limit { budget.new.limit ≡ budget.old.limit }
+{
+    if !budget.spend() {
+        return Err(Stop::Budget);
+    }
+    if let Err(error) = give_program(space, row, asked, signs) {
+        return Err(error.at(budget.spent));
+    }
+    if !space.run(budget)? {
+        unreachable!()
+    }
+    if is_above_zero(space.value()) {
+        return look_at_state(space, row, asked, signs, budget.spent);
+    }
+    add_leaf(tree, space, asked, signs)?;
+    Ok(Shown::Leaf)
+}

@@ -1,0 +1,152 @@
+//! The search.
+ghost use Rattle.std.specs.Prelude.{◌≡◌, ◌≤◌, IfOk, length, map, unsigned_abs};
+ghost use Rattle.std.specs.List.{All};
+ghost use Rattle.exact_num.specs.Fraction.{IsNotBelowZero};
+ghost use Rattle.form.specs.Limits.{HasItsForms};
+ghost use Rattle.form.specs.Payoff.{IsOnCount};
+ghost use Rattle.form.specs.declared.limits.TheConstants.{MAX_ORDERS};
+ghost use Rattle.sign_tree.specs.Legs.{leg_count};
+ghost use Rattle.node_program.specs.Search.{search as search_of};
+ghost use Rattle.pricing_oracle.specs.Answers.{IsSearchAnswer, IsTrueOf, question};
+
+use crate::found::Found;
+use crate::legs::Asked;
+use crate::node::TreeParts;
+use crate::room::SearchRoom;
+use exact_num::Exact;
+use form::Batch;
+use sign_tree::{Multipliers, Nodes, SignTree, leg_count};
+use simplex::{Budget, Stop};
+use std::alloc::Global;
+
+/// Whether the liability is enough for the fills at every state: the search of the reference run, in given room.
+///
+/// `Wide` comes at the first step of the search that does not fit, `Budget` where it wants one unit more than the budget
+/// has; units that were spent stay spent. `Memory` comes for want of memory alone.
+pub fn search_in<N: Exact>(
+    alloc: Global,
+    batch: &Batch,
+    fills: &[N],
+    liability: &N,
+    budget: &mut Budget,
+    room: &mut SearchRoom<N>,
+) -> Result<Found, Stop>
+    requires forms { HasItsForms batch.now }
+    requires few { length batch.now.orders ≤ MAX_ORDERS }
+    requires fills { length fills.now ≡ length batch.now.orders }
+    requires not_below_zero { All IsNotBelowZero (map N.fraction fills.now) }
+    requires underlyings { batch.now.underlyings ≤ room.old.underlyings }
+    requires legs { leg_count batch.now.orders ≤ room.old.legs }
+    ensures search { IsSearchAnswer (search_of
+        (question (unsigned_abs N.LIMIT) budget.old.limit batch.now (map N.fraction fills.now)
+        (N.fraction liability.now)) budget.old.spent) result budget.new.spent }
+    ensures found { IfOk result (IsTrueOf
+        (question (unsigned_abs N.LIMIT) budget.old.limit batch.now (map N.fraction fills.now)
+        (N.fraction liability.now))) }
+    ensures room { room.new ≡ room.old }
+    ensures limit { budget.new.limit ≡ budget.old.limit }
+{
+    let orders = batch.orders.as_slice();
+    let asked = Asked {
+        underlyings: batch.underlyings as usize,
+        orders,
+        fills,
+        liability,
+    };
+    let mut tree = TreeParts {
+        nodes: Vec::new(alloc),
+        multipliers: Vec::new(alloc),
+    };
+    match room.search(asked, leg_count(orders), budget, &mut tree)? {
+        Some(state) => Ok(Found::Violated(state)),
+        None => Ok(Found::Closed(SignTree {
+            nodes: Nodes::from_vec(tree.nodes),
+            multipliers: Multipliers::from_vec(tree.multipliers),
+        })),
+    }
+}
+
+/// The same, in room of its own.
+pub fn search<N: Exact>(
+    alloc: Global,
+    batch: &Batch,
+    fills: &[N],
+    liability: &N,
+    budget: &mut Budget,
+) -> Result<Found, Stop>
+    requires forms { HasItsForms batch.now }
+    requires few { length batch.now.orders ≤ MAX_ORDERS }
+    requires fills { length fills.now ≡ length batch.now.orders }
+    requires not_below_zero { All IsNotBelowZero (map N.fraction fills.now) }
+    ensures search { IsSearchAnswer (search_of
+        (question (unsigned_abs N.LIMIT) budget.old.limit batch.now (map N.fraction fills.now)
+        (N.fraction liability.now)) budget.old.spent) result budget.new.spent }
+    ensures found { IfOk result (IsTrueOf
+        (question (unsigned_abs N.LIMIT) budget.old.limit batch.now (map N.fraction fills.now)
+        (N.fraction liability.now))) }
+    ensures limit { budget.new.limit ≡ budget.old.limit }
+{
+    let legs = leg_count(batch.orders.as_slice());
+    let mut room = SearchRoom::new(alloc, batch.underlyings as usize, legs)?;
+    search_in(alloc, batch, fills, liability, budget, &mut room)
+}
+
+#[cfg(test)]
+mod tests {
+    use super::*;
+    use form::{Bundle, Form, Order, Orders, Side};
+    use frac::Frac128;
+    use std::test::Fail;
+
+    // The call with strike 10 on the sum of two underlyings.
+    fn option() -> Form
+        ensures { result.count ≡ 3 }
+    {
+        Form {
+            count: 3,
+            entries: [-10, 1, 1, 0, 0, 0, 0, 0, 0],
+        }
+    }
+
+    // An order for it.
+    fn order(side: Side) -> Order
+        ensures { IsOnCount 3 result.bundle }
+    {
+        Order {
+            id: 1,
+            account: 1,
+            side,
+            bundle: Bundle::one(option()),
+            price: 1,
+            quantity: 1,
+        }
+    }
+
+    // A call that is bought and sold is covered by both signs of it, and one that is only bought is not covered.
+    #[test]
+    fn calls_are_covered_where_they_are_sold(rt: HostRuntime) -> Result<(), Fail> {
+        let alloc = rt.alloc();
+        let zero = Frac128::zero();
+        let one = Frac128::one();
+        let orders = [order(Side::Buy), order(Side::Sell)];
+        let batch = Batch {
+            underlyings: 2,
+            orders: Orders::from_vec(Vec::from_slice(alloc, &orders)?),
+        };
+        let both = [one, one];
+        let mut budget = Budget::new(100);
+        let found = search(alloc, &batch, both.as_slice(), &zero, &mut budget);
+        let Ok(Found::Closed(tree)) = found else {
+            panic!(rt; "the fills cover each other");
+        };
+        assert_eq!(rt; tree.nodes.as_slice().len(), 3);
+        let first = [one, zero];
+        let mut budget = Budget::new(100);
+        let found = search(alloc, &batch, first.as_slice(), &one, &mut budget);
+        let Ok(Found::Violated(state)) = found else {
+            panic!(rt; "nothing covers the call");
+        };
+        assert!(rt; state.entries[0] == 0);
+        Ok(())
+    }
+}

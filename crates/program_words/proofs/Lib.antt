@@ -1,0 +1,4 @@
+pub mod Matching
+pub mod Forms
+pub mod Naturals
+pub mod RequestsWithin

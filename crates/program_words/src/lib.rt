@@ -1,0 +1,12 @@
+//! What the program's words ask for.
+#![tactic(auto)]
+
+pub mod laws;
+mod matched;
+mod requests;
+#[cfg(test)]
+mod tests;
+mod words;
+
+pub use requests::{MAX_COUNT, MAX_SEED, Request, WordsFault};
+pub use words::request;

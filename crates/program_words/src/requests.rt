@@ -1,0 +1,43 @@
+// Requests, and why there is none.
+ghost use Rattle.std.specs.Prelude.{◌≡◌};
+ghost use Rattle.program_words.specs.declared.requests.WordsFault.TheVariants.{Memory};
+
+use std::alloc::AllocError;
+use thiserror::Error;
+
+/// The greatest seed of a demo.
+pub const MAX_SEED: u32 = 4_294_967_295;
+
+/// A demo has at most so many orders.
+pub const MAX_COUNT: u32 = 10_000;
+
+/// What the program is asked to do.
+#[derive(Clone, Copy, Debug, PartialEq, Eq)]
+pub enum Request {
+    /// Reads command lines and writes a reply for each.
+    Run,
+    /// Reads reply lines and reports on them.
+    Check,
+    /// Reads messages of many sessions and answers each.
+    Sessions,
+    /// Runs a text of `count` orders that is made from the seed, and writes its summary.
+    Demo { seed: u32, count: u32 },
+}
+
+/// Why no request was read.
+#[derive(Clone, Copy, Debug, PartialEq, Eq, Error)]
+pub enum WordsFault {
+    /// The words have none of the forms.
+    #[error("usage: exchange run, exchange check, or exchange demo SEED COUNT")]
+    Usage,
+    #[error("out of memory")]
+    Memory,
+}
+
+impl From<AllocError> for WordsFault {
+    ghost from_gives = { λ _ e. e ≡ Memory };
+
+    fn from(_: AllocError) -> Self {
+        WordsFault::Memory
+    }
+}

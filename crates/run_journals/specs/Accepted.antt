@@ -1,0 +1,16 @@
+-- What `check` says of what `run` wrote.
+use Rattle.std.specs.Prelude.{◌≡◌, ℕ, List, map}
+use Rattle.std.specs.List.{All}
+use Rattle.journal_check.specs.Findings.{reply_finding}
+use Rattle.journal_check.specs.Reports.{counted, report_of}
+use Rattle.reply_print.specs.Within.{IsWithin}
+use Rattle.exchange_lines.specs.Output.{output}
+use Rattle.exchange_lines.specs.Replies.{Answer, answers}
+
+-- the line and its reply are within their ranges
+abbrev pub IsAnswerWithin : Answer → Type 0
+IsAnswerWithin answer = IsWithin answer.line answer.reply
+
+-- the report on what is written for an input has the counts of its replies, and names no line
+abbrev pub RunsAreAccepted : Type 0
+RunsAreAccepted = (input : List ℕ) → All IsAnswerWithin (answers input) → report_of (output input) ≡ counted (map (λ (answer : Answer). reply_finding answer.reply) (answers input))
