@@ -17,7 +17,8 @@ pub fn is_none_below_zero(numbers: &[Frac128]) -> bool
 
 /// Whether some number is above 0.
 pub fn is_any_above_zero(numbers: &[Frac128]) -> bool
-    ensures { IsTrue result → 0 < sum_by (λ x. positive_part (fraction_of x).numerator) numbers.now }
+    ensures { IsTrue result
+        → 0 < sum_by (λ x. positive_part (fraction_of x).numerator) numbers.now }
 {
     numbers.iter().any(|x| x.sign() > 0)
 }

@@ -11,3 +11,6 @@ pub const MAX_BUDGET: u32 = 20_000;
 
 /// The highest settlement price of an underlying, in ticks.
 pub const MAX_SETTLEMENT: u32 = 1_000_000_000;
+
+// The greatest number of fields of a command: a bundle of four legs on eight underlyings.
+pub(crate) const MAX_FIELDS: usize = 51;

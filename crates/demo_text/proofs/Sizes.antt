@@ -10,7 +10,8 @@ use Rattle.command_text.specs.declared.command.Kind.TheVariants.{Call, Put}
 use Rattle.demo_text.specs.declared.order.Weights.{Weights}
 use Rattle.demo_text.specs.declared.order.Weights.TheVariants.{First, Second, Both}
 use Rattle.demo_text.specs.Draws.{after, drawn}
-use Rattle.demo_text.specs.Orders.{side_text, kind_text, weights_text, strike_step, order_from, option_text, terms_text, order_line}
+use Rattle.demo_text.specs.Orders.{kind_text, weights_text, strike_step, order_from, option_text, terms_text, order_line}
+use Rattle.common_texts.specs.Sides.{side_word}
 use Rattle.demo_text.specs.Text.{each, clear_line, order_lines, settle_line, opening_text, made_text}
 
 each_size : (text : ℕ → List ℕ) (size n : ℕ) → ((k : ℕ) → k < n → length (text k) ≤ size) → length (each text n) ≤ n * size
@@ -20,7 +21,7 @@ each_size text size (suc n) small =
     let one = small n (omega arith) in
     omega (arith, length-append (each text n) (text n))
 
-side_size : (side : Side) → length (side_text side) ≤ 4
+side_size : (side : Side) → length (side_word side) ≤ 4
 side_size Buy = omega arith
 side_size Sell = omega arith
 

@@ -8,6 +8,7 @@ use Rattle.demo_text.specs.declared.order.Weights.{Weights}
 use Rattle.demo_text.specs.declared.order.Weights.TheVariants.{First, Second, Both}
 use Rattle.demo_text.specs.declared.order.DrawnOrder.{DrawnOrder}
 use Rattle.demo_text.specs.Draws.{drawn}
+use Rattle.common_texts.specs.Sides.{side_word}
 
 -- ---- what a draw says
 abbrev pub side_of : ℕ → Side
@@ -38,10 +39,6 @@ order_from x = record {
 }
 
 -- ---- its line
-abbrev pub side_text : Side → List ℕ
-side_text Buy = codes "buy"
-side_text Sell = codes "sell"
-
 abbrev pub kind_text : Kind → List ℕ
 kind_text Call = codes "call"
 kind_text Put = codes "put"
@@ -54,7 +51,7 @@ weights_text Both = codes "1,1"
 -- who trades which option
 abbrev pub option_text : DrawnOrder → List ℕ
 option_text order =
-    side_text order.side ++ (codes "," ++ (decimal order.account ++ (codes ",1," ++ (kind_text order.kind ++ (codes "," ++ decimal order.strike)))))
+    side_word order.side ++ (codes "," ++ (decimal order.account ++ (codes ",1," ++ (kind_text order.kind ++ (codes "," ++ decimal order.strike)))))
 
 -- at which price, how many, and on which underlyings
 abbrev pub terms_text : DrawnOrder → List ℕ

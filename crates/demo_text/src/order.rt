@@ -1,10 +1,11 @@
 // Orders that are drawn, and their lines.
 ghost use Rattle.std.specs.Prelude.{◌≡◌, IfOk, string_bytes};
 ghost use Rattle.demo_text.specs.Draws.{after};
-ghost use Rattle.demo_text.specs.Orders.{side_of, kind_of, weights_of, strike_step, order_from, side_text, kind_text, weights_text, option_text, terms_text, order_line};
+ghost use Rattle.demo_text.specs.Orders.{side_of, kind_of, weights_of, strike_step, order_from, kind_text, weights_text, option_text, terms_text, order_line};
 
 use crate::draws::Draws;
 use command_text::Kind;
+use common_texts::word_of;
 use form::Side;
 use std::alloc::{AllocError, Global};
 
@@ -60,15 +61,6 @@ fn weights_of(draw: u32) -> Weights
     }
 }
 
-fn side_text(side: Side) -> &'static str
-    ensures { result.now ≡ side_text side }
-{
-    match side {
-        Side::Buy => "buy",
-        Side::Sell => "sell",
-    }
-}
-
 fn kind_text(kind: Kind) -> &'static str
     ensures { result.now ≡ kind_text kind }
 {
@@ -115,7 +107,7 @@ impl DrawnOrder {
     fn option_text(&self, alloc: Global) -> Result<String, AllocError>
         ensures { IfOk result (λ text. string_bytes text ≡ option_text self.now) }
     {
-        let side = side_text(self.side);
+        let side = word_of(self.side);
         let account = self.account;
         let kind = kind_text(self.kind);
         let strike = self.strike;

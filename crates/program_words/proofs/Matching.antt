@@ -1,5 +1,5 @@
 -- The command matches each list of positional words, word by word.
-use Rattle.std.proofs.Common.{◌≡◌, ℕ, List, [], ◌∷◌, Bool, true, false, not, slice_get, nat_eq, ◌==◌, codes, None, ◌&&◌, true≢false, refl, sym, arith}
+use Rattle.std.proofs.Common.{◌≡◌, ℕ, List, [], ◌∷◌, true, false, not, slice_get, nat_eq, ◌==◌, codes, None, ◌&&◌, true≢false, refl, sym, arith}
 use Rattle.std.proofs.lemmas.Bool.Decides.{nat_tests}
 use Rattle.clap.specs.Walk.{Rule, Text, first_of}
 use Rattle.clap.specs.Simple.{App, is_simple, matches_of, new_app, new_rule, with_rule}
@@ -7,6 +7,7 @@ use Rattle.clap.specs.Lexer.{strip_byte}
 use Rattle.clap.specs.Takes.{takes}
 use Rattle.clap.proofs.OnLiterals.{clap_on_literals}
 use Rattle.program_words.specs.Positional.{is_plain, are_positional}
+use Rattle.program_words.proofs.Naturals.{both}
 
 abbrev pub word_rule : Rule
 word_rule = record (new_rule (codes "word")) { required = true }
@@ -61,10 +62,6 @@ three (a ∷ at) (b ∷ bt) (c ∷ ct) ae be ce =
     let bn = no_hyphen b be in
     let cn = no_hyphen c ce in
     rw (an, strip a at an, bn, strip b bt bn, cn, strip c ct cn) (refl, refl, refl, refl)
-
-both : (x y : Bool) → (x && y) ≡ true → (x ≡ true) × (y ≡ true)
-both true y e = (refl, e)
-both false y e = absurd (true≢false (sym e))
 
 pub words_match : (words : List Text) → are_positional words ≡ true → IsMatched words
 words_match [] e = absurd (true≢false (sym e))

@@ -8,7 +8,8 @@ use Rattle.std.specs.Char.{is_ascii_digit}
 use Rattle.std.specs.List.{list_all}
 use Rattle.command_text.specs.declared.numbers.NumberRead.{NumberRead}
 use Rattle.command_text.specs.declared.numbers.NumberRead.TheVariants.{NotNumber, Outside, Value}
-use Rattle.command_text.specs.Numbers.{is_empty, is_natural, natural_value, placed_in, number_in}
+use Rattle.command_text.specs.Numbers.{placed_in, number_in}
+use Rattle.common_texts.specs.Naturals.{is_empty, is_natural, natural_value}
 use Rattle.program_words.specs.Requests.{natural_in}
 
 -- what is read, as a number that is not below 0
@@ -22,7 +23,7 @@ grows : (ds : List ℕ) (n : ℕ) → n ≤ fold (λ n d. 10 * n + (d - 48)) n d
 grows [] n = omega arith
 grows (d ∷ ds) n = let more = grows ds (10 * n + (d - 48)) in omega arith
 
-both : (x y : Bool) → (x && y) ≡ true → (x ≡ true) × (y ≡ true)
+pub both : (x y : Bool) → (x && y) ≡ true → (x ≡ true) × (y ≡ true)
 both true y e = (refl, e)
 both false y e = absurd (true≢false (sym e))
 

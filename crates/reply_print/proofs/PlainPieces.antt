@@ -32,7 +32,8 @@ use Rattle.reply_print.specs.BatchPieces.{whole_words, fraction, pieces_of, form
 use Rattle.reply_print.specs.OutcomePieces.{state_entries, point_piece, multiplier_piece, node_piece, node_pieces, cover_piece, certificate_piece, wide_piece, wide_field, count_of}
 use Rattle.reply_print.specs.Piece.{Piece, whole, words, list, object, Pieces, no_pieces, piece, Fields, no_fields, field}
 use Rattle.reply_print.specs.ReplyPieces.{reply_piece, signed_amount, paid_piece, refused_with, cleared_with, cleared_middle, cleared_end}
-use Rattle.reply_print.specs.Words.{reason_word, side_word, mark_word, operator_word}
+use Rattle.reply_print.specs.Words.{reason_word, mark_word, operator_word}
+use Rattle.common_texts.specs.Sides.{side_word}
 use Rattle.reply_print.specs.Written.{is_plain}
 use Rattle.reply_print.proofs.Digits.{either_plain, plain-signed_decimal, plain-fraction_text}
 

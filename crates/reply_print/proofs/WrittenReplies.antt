@@ -39,7 +39,8 @@ use Rattle.reply_print.specs.Numbers.{fraction_text}
 use Rattle.reply_print.specs.OutcomePieces.{state_entries, point_piece, multiplier_piece, node_pieces, cover_piece, certificate_piece, wide_piece, wide_field}
 use Rattle.reply_print.specs.Piece.{Piece, whole}
 use Rattle.reply_print.specs.ReplyPieces.{reply_piece, signed_amount, paid_piece, moved_piece, ordered_piece, refused_with, cleared_with, cleared_middle, cleared_end}
-use Rattle.reply_print.specs.Words.{reason_word, side_word, mark_word, operator_word}
+use Rattle.reply_print.specs.Words.{reason_word, mark_word, operator_word}
+use Rattle.common_texts.specs.Sides.{side_word}
 use Rattle.reply_print.specs.Within.{IsWithin, IsLine, IsBatchNumber, IsMarket, IsPlace, IsBatchWithin, IsOrderWithin, IsMarkWithin, IsCoverWithin, IsNodeWithin, IsPointWithin, IsPair, IsPaidWithin, IsSmall, IsRefusal}
 use Rattle.reply_print.specs.Written.{is_plain, IsWritten, AreWritten, HasWritten, is_short}
 use Rattle.reply_print.proofs.Digits.{plain-signed_decimal, plain-fraction_text}

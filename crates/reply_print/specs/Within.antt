@@ -21,27 +21,25 @@ use Rattle.form.specs.declared.orders.Order.{Order}
 use Rattle.settlement.specs.declared.position.PaidOut.{PaidOut}
 use Rattle.reply_print.specs.declared.replies.Reply.{Reply}
 use Rattle.reply_print.specs.declared.replies.Reply.TheVariants.{Opened, Deposited, Withdrawn, Listed, Placed, Cancelled, Cleared, Settled, Balance, Refused}
-
-abbrev pub IsFrom : ℕ → ℕ → ℕ → Type 0
-IsFrom low high n = (low ≤ n) × (n ≤ high)
+use Rattle.common_texts.specs.Between.{Between}
 
 abbrev pub IsLine : ℕ → Type 0
-IsLine line = IsFrom 1 16777216 line
+IsLine line = Between 1 16777216 line
 
 abbrev pub IsAccount : ℕ → Type 0
-IsAccount account = IsFrom 1 999999999 account
+IsAccount account = Between 1 999999999 account
 
 abbrev pub IsMarket : ℕ → Type 0
-IsMarket market = IsFrom 1 999999999 market
+IsMarket market = Between 1 999999999 market
 
 abbrev pub IsOrderNumber : ℕ → Type 0
-IsOrderNumber order = IsFrom 1 1000000 order
+IsOrderNumber order = Between 1 1000000 order
 
 abbrev pub IsBatchNumber : ℕ → Type 0
-IsBatchNumber number = IsFrom 1 2000000 number
+IsBatchNumber number = Between 1 2000000 number
 
 abbrev pub IsMarketSize : ℕ → Type 0
-IsMarketSize underlyings = IsFrom 1 MAX_UNDERLYINGS underlyings
+IsMarketSize underlyings = Between 1 MAX_UNDERLYINGS underlyings
 
 -- at most 2^127 - 1 in size
 abbrev pub IsSmall : ℤ → Type 0
@@ -55,7 +53,7 @@ IsOrderWithin order = IsOrderNumber order.id × IsAccount order.account × limit
 -- ---- certificates
 
 abbrev pub IsPlace : ℕ → Type 0
-IsPlace place = IsFrom 1 1024 place
+IsPlace place = Between 1 1024 place
 
 abbrev pub IsNodeWithin : Node → Type 0
 IsNodeWithin (Split place) = IsPlace place
@@ -103,7 +101,7 @@ IsPaidWithin paid = IsBatchNumber paid.batch × IsOrderNumber paid.order × IsAc
 
 -- a field from 2 to 51 with number 8, and none else
 abbrev pub IsRefusal : ℕ → ℕ → Bool → Type 0
-IsRefusal number place true = IsFrom 2 51 place
+IsRefusal number place true = Between 2 51 place
 IsRefusal number place false = place ≡ 0
 
 abbrev pub IsReplyWithin : Reply → Type 0
@@ -116,7 +114,7 @@ IsReplyWithin (Cancelled order) = IsOrderNumber order
 IsReplyWithin (Cleared number market batch outcome) = IsBatchNumber number × IsMarket market × IsBatchWithin batch × IsOutcomeWithin outcome
 IsReplyWithin (Settled market lapsed payouts) = IsMarket market × (lapsed ≤ 256) × AllByRecursion IsPaidWithin payouts
 IsReplyWithin (Balance account balance reserved) = (account ≤ 999999999) × IsSmall balance × IsSmall reserved × (pos 0 ≤ℤ reserved)
-IsReplyWithin (Refused number place) = IsFrom 1 13 number × IsRefusal number place (number == 8)
+IsReplyWithin (Refused number place) = Between 1 13 number × IsRefusal number place (number == 8)
 
 -- a line and its reply
 abbrev pub IsWithin : ℕ → Reply → Type 0

@@ -11,7 +11,7 @@ ghost use Rattle.reply_print.specs.PieceData.{piece_data};
 ghost use Rattle.reply_print.specs.ReplyPieces.{paid_piece, signed_amount};
 
 use crate::small_values::whole_text;
-use crate::words::side;
+use common_texts::word_of;
 use exact_num::Exact;
 use form::{Form, Leg, Order, Side};
 use frac::Frac128;
@@ -99,7 +99,7 @@ fn order_value(alloc: Global, order: &Order, single: bool) -> Result<Value, Allo
     requires { single ≡ true → is_single (legs_in order.now.bundle) ≡ true }
     ensures { IfOk result (λ v. view v ≡ piece_data (order_piece single order.now)) }
 {
-    let side = side(order.side);
+    let side = word_of(order.side);
     if single {
         let form = first_form(alloc, order.bundle.as_slice())?;
         json!(in alloc; {

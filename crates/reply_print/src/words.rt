@@ -1,19 +1,9 @@
 //! The words of replies.
 ghost use Rattle.std.specs.Prelude.{◌≡◌};
-ghost use Rattle.reply_print.specs.Words.{side_word, mark_word, operator_word, reason_word};
+ghost use Rattle.reply_print.specs.Words.{mark_word, operator_word, reason_word};
 
 use cert_check::Mark;
 use exact_num::Operator;
-use form::Side;
-
-pub(crate) fn side(side: Side) -> &'static str
-    ensures { result.now ≡ side_word side }
-{
-    match side {
-        Side::Buy => "buy",
-        Side::Sell => "sell",
-    }
-}
 
 pub(crate) fn mark(mark: &Mark) -> &'static str
     ensures { result.now ≡ mark_word mark.now }

@@ -1,23 +1,10 @@
 -- Which texts are numbers, and what their values are: whole texts and fraction texts, of any size.
-use Rattle.std.specs.Prelude.{ℕ, ℤ, pos, neg_ℤ, unsigned_abs, ◌+◌, ◌-◌, ◌*◌, List, [], ◌∷◌, Bool, true, false, not, ◌&&◌, ◌||◌, ◌==◌, nat_le, nat_lt, fold, Option, Some, None, if◌then◌else◌}
-use Rattle.std.specs.Char.{is_ascii_digit}
-use Rattle.std.specs.List.{list_all}
+use Rattle.std.specs.Prelude.{ℕ, ℤ, pos, neg_ℤ, unsigned_abs, ◌-◌, List, [], ◌∷◌, Bool, true, false, not, ◌&&◌, ◌||◌, ◌==◌, nat_le, nat_lt, Option, Some, None, if◌then◌else◌}
 use Rattle.std.specs.Str.{bytes_eq}
 use Rattle.arithmetic.specs.Gcd.{gcd}
 use Rattle.exact_num.specs.Fraction.{Fraction, over}
 use Rattle.frac.specs.Range.{limit}
-
-abbrev pub is_empty : List ℕ → Bool
-is_empty [] = true
-is_empty (d ∷ ds) = false
-
--- digits, the first of which is 0 only where it is alone
-abbrev pub is_natural : List ℕ → Bool
-is_natural [] = false
-is_natural (d ∷ ds) = list_all is_ascii_digit (d ∷ ds) && (not (d == 48) || is_empty ds)
-
-abbrev pub natural_value : List ℕ → ℕ
-natural_value text = fold (λ n d. 10 * n + (d - 48)) 0 text
+use Rattle.common_texts.specs.Naturals.{is_natural, natural_value}
 
 -- a natural number, or `-` before one that is not 0
 abbrev pub is_whole_text : List ℕ → Bool

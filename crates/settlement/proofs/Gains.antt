@@ -12,7 +12,8 @@ use Rattle.form.specs.declared.orders.Side.{Side}
 use Rattle.form.specs.declared.orders.Side.TheVariants.{Buy, Sell}
 use Rattle.form.specs.Payoff.{bundle_legs, count_sizes}
 use Rattle.settlement.specs.declared.limits.TheConstants.{MAX_GAIN, MAX_PAYOFF}
-use Rattle.settlement.specs.Payout.{IsFloor, IsHolding, IsSettledAt, floor_of, gain_of, on_side, worth_at, GainsAreRoundedDown}
+use Rattle.settlement.specs.Payout.{IsFloor, IsHolding, IsSettledAt, floor_of, gain_of, worth_at, GainsAreRoundedDown}
+use Rattle.clearing_model.specs.Clearing.{for_side}
 use Rattle.settlement.proofs.Quotients.{above, above_back, ceil_least, floor_greatest}
 use Rattle.settlement.proofs.Worth.{worth_small}
 
@@ -45,7 +46,7 @@ floor_is (negsuc n) d some = record {
         omega (arith, ints)
 
 pub gains_are_rounded_down : GainsAreRoundedDown
-gains_are_rounded_down side fill legs prices defined = floor_is (fill.numerator *ℤ on_side side (worth_at prices legs)) fill.denominator defined
+gains_are_rounded_down side fill legs prices defined = floor_is (fill.numerator *ℤ for_side side (worth_at prices legs)) fill.denominator defined
 
 -- what is at most so much of the denominator is rounded down to at most so much
 floor_small : (z : ℤ) (d most : ℕ) → 0 < d → unsigned_abs z ≤ most * d → unsigned_abs (floor_of z d) ≤ most
@@ -70,7 +71,7 @@ gain_fits (pos n) d sizes size not_below counted le =
     above n size d MAX_GAIN (omega arith)
 gain_fits (negsuc n) d sizes size not_below counted le = absurd (omega (arith, ints))
 
-side_size : (side : Side) (w : ℤ) → unsigned_abs (on_side side w) ≡ unsigned_abs w
+side_size : (side : Side) (w : ℤ) → unsigned_abs (for_side side w) ≡ unsigned_abs w
 side_size Buy w = refl
 side_size Sell w = omega (arith, ints)
 
@@ -84,9 +85,9 @@ gain_small side fill bundle prices defined held settled =
     w = worth_at prices (bundle_legs bundle)
 
     by : (x : ℤ) → pos 0 ≤ℤ x → AtMost (plain_product (record { numerator = x; denominator = fill.denominator }) (whole (pos (unsigned_abs w)))) (whole (pos MAX_GAIN))
-        → unsigned_abs (floor_of (x *ℤ on_side side w) fill.denominator) ≤ MAX_GAIN
+        → unsigned_abs (floor_of (x *ℤ for_side side w) fill.denominator) ≤ MAX_GAIN
     by (pos n) not_below fits =
-        let size = unsigned_abs-mul (pos n) (on_side side w) ∙ ap (λ k. n * k) (side_size side w) in
+        let size = unsigned_abs-mul (pos n) (for_side side w) ∙ ap (λ k. n * k) (side_size side w) in
         let few = above_back n (unsigned_abs w) fill.denominator MAX_GAIN fits in
-        floor_small (pos n *ℤ on_side side w) fill.denominator MAX_GAIN defined (omega (arith, size, few))
+        floor_small (pos n *ℤ for_side side w) fill.denominator MAX_GAIN defined (omega (arith, size, few))
     by (negsuc n) not_below fits = absurd (omega (arith, ints))

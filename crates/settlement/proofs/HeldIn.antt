@@ -7,12 +7,10 @@ use Rattle.settlement.specs.declared.position.PaidOut.{PaidOut}
 use Rattle.settlement.specs.declared.position.Position.{Position}
 use Rattle.settlement.specs.Payout.{IsSettledAt}
 use Rattle.settlement.specs.Positions.{AreSettledAt, held_in, paid_out, payouts_of}
+use Rattle.std.proofs.lemmas.Bool.{ne_eqb}
 
 own_test : (a b : ℕ) → a ≡ b → nat_eq a b ≡ true
 own_test a b e = grind (arith, nat_tests)
-
-other_test : (a b : ℕ) → (a ≡ b → ⊥) → nat_eq a b ≡ false
-other_test a b e = grind (arith, nat_tests)
 
 module _ (market : ℕ) (prices : List ℕ) (p : Position) (rest xs : List Position) (first : xs ≡ p ∷ rest) where
   abbrev IsSettled : Position → Type 0
@@ -22,7 +20,7 @@ module _ (market : ℕ) (prices : List ℕ) (p : Position) (rest xs : List Posit
   held_first own = ap (held_in market) first ∙ ap (λ b. cond b (p ∷ held_in market rest) (held_in market rest)) (own_test p.market market own)
 
   held_rest : (p.market ≡ market → ⊥) → held_in market xs ≡ held_in market rest
-  held_rest other = ap (held_in market) first ∙ ap (λ b. cond b (p ∷ held_in market rest) (held_in market rest)) (other_test p.market market other)
+  held_rest other = ap (held_in market) first ∙ ap (λ b. cond b (p ∷ held_in market rest) (held_in market rest)) (ne_eqb p.market market other)
 
   -- the first can be settled, where it is of the market
   pub settled_first : p.market ≡ market → AreSettledAt market prices xs → IsSettledAt prices p.bundle

@@ -7,10 +7,10 @@ use Rattle.form.specs.declared.bundles.Bundle.{Bundle}
 use Rattle.form.specs.declared.legs.Leg.{Leg}
 use Rattle.form.specs.declared.limits.TheConstants.{MAX_OPTIONS}
 use Rattle.form.specs.declared.orders.Side.{Side}
-use Rattle.form.specs.declared.orders.Side.TheVariants.{Buy, Sell}
 use Rattle.form.specs.Limits.{IsListed}
 use Rattle.form.specs.Payoff.{BundleLeg, bundle_payoff, count_sizes, IsOnCount, legs_in, option_of}
 use Rattle.settlement.specs.declared.limits.TheConstants.{MAX_SETTLEMENT_PRICE}
+use Rattle.clearing_model.specs.Clearing.{for_side}
 
 -- a fill of a bundle that a position may have: not below 0, and at most 1,000,000 options
 pub record IsHolding (bundle : Bundle) (fill : Fraction) : Type 0 where
@@ -27,11 +27,6 @@ pub record IsSettledAt (prices : List ℕ) (bundle : Bundle) : Type 0 where
 abbrev pub worth_at : List ℕ → List BundleLeg → ℤ
 worth_at prices legs = bundle_payoff legs (1 ∷ prices)
 
--- what a buy gains, and a sell pays
-abbrev pub on_side : Side → ℤ → ℤ
-on_side Buy amount = amount
-on_side Sell amount = neg_ℤ amount
-
 -- n / d, rounded down
 abbrev pub floor_of : ℤ → ℕ → ℤ
 floor_of (pos n) d = pos (n / d)
@@ -39,7 +34,7 @@ floor_of (negsuc n) d = neg_ℤ (pos (div_ceil (suc n) d))
 
 -- the gain of a position: the fill times what the bundle pays for a buy, and the negative for a sell, rounded down
 abbrev pub gain_of : Side → Fraction → List BundleLeg → List ℕ → ℤ
-gain_of side fill legs prices = floor_of (fill.numerator *ℤ on_side side (worth_at prices legs)) fill.denominator
+gain_of side fill legs prices = floor_of (fill.numerator *ℤ for_side side (worth_at prices legs)) fill.denominator
 
 -- m is the greatest whole number that is not above x
 pub record IsFloor (x : Fraction) (m : ℤ) : Type 0 where
@@ -50,4 +45,4 @@ pub record IsFloor (x : Fraction) (m : ℤ) : Type 0 where
 abbrev pub GainsAreRoundedDown : Type 0
 GainsAreRoundedDown =
     (side : Side) (fill : Fraction) (legs : List BundleLeg) (prices : List ℕ) → IsDefined fill
-    → IsFloor (plain_product fill (whole (on_side side (worth_at prices legs)))) (gain_of side fill legs prices)
+    → IsFloor (plain_product fill (whole (for_side side (worth_at prices legs)))) (gain_of side fill legs prices)

@@ -59,7 +59,7 @@ fn worth_at(bundle: &Bundle, prices: &[u32]) -> i128
 }
 
 /// The settlement at whole prices.
-fn settlement_at(prices: &[u32]) -> State
+pub fn settlement_at(prices: &[u32]) -> State
     requires { (1 ≤ length prices.now) × (length prices.now ≤ 8) }
     ensures vector { vector_of result ≡ 1 ∷ prices.now }
     ensures count { result.count ≡ length prices.now + 1 }
