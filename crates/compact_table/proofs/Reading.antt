@@ -21,7 +21,7 @@ at_front value (suc w) (y ∷ xs) zero x low inside at_x = ap value (sym at_x)
 at_front value (suc w) (y ∷ xs) (suc j) x low inside at_x = at_front value w xs j x (omega (arith, low)) (omega (arith, inside)) at_x
 
 -- ---- the place of a variable in a list
-past : (p : ℕ → Bool) (bs : List ℕ) → None ≡ position p bs → length bs ≤ position_or_len p bs
+pub past : (p : ℕ → Bool) (bs : List ℕ) → None ≡ position p bs → length bs ≤ position_or_len p bs
 past p bs h = step (nat_lt (position_or_len p bs) (length bs)) refl (sym h)
   where
     step : (b : Bool) → nat_lt (position_or_len p bs) (length bs) ≡ b → cond b (Some (position_or_len p bs)) None ≡ None → length bs ≤ position_or_len p bs

@@ -1,12 +1,11 @@
 -- A program that is given row by row, and its first table.
-use Rattle.std.proofs.Common.{◌≡◌, ℕ, zero, suc, ◌+◌, ◌*◌, ◌<◌, ◌≤◌, List, [], ◌∷◌, ◌++◌, length, map, take, drop, refl, sym, ◌∙◌, ap, arith, append_assoc}
+use Rattle.std.proofs.Common.{◌≡◌, ℕ, zero, suc, ◌+◌, ◌*◌, ◌≤◌, List, [], ◌∷◌, ◌++◌, length, map, take, drop, refl, sym, ◌∙◌, ap, arith, append_assoc}
 use Rattle.std.proofs.lemmas.List.{length-map, length-append, map-append, take-append-le, take_all, length-take-le, append-nil}
 use Rattle.std.specs.List.{All}
-use Rattle.std.specs.Prelude.{slice_index_or}
 use Rattle.exact_num.specs.Fraction.{Fraction, negated}
 use Rattle.table_run.specs.Places.{at, fraction_zero, numbers}
-use Rattle.table_run.specs.Program.{LinearProgram, row}
-use Rattle.table_run.specs.Table.{Row, row_of}
+use Rattle.table_run.specs.Program.{row}
+use Rattle.table_run.specs.Table.{Row}
 use Rattle.compact_run.specs.Compact.{CompactTable, compact_rows_from}
 use Rattle.compact_table.specs.Candidates.{beside_basics}
 use Rattle.compact_table.specs.Lists.{front, fronts}

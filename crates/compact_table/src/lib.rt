@@ -5,7 +5,7 @@ mod candidate;
 mod columns;
 mod entries;
 mod ratios;
-mod room;
+pub mod room;
 mod row;
 mod rows;
 pub mod table;

@@ -29,6 +29,19 @@ pub fn write_numbers(numbers: &mut Vec<usize>, count: usize)
     }
 }
 
+/// Makes the vector these items.
+pub fn write_all<T: Copy>(items: &mut Vec<T>, from: &[T])
+    requires { length from.now ≤ vec_capacity items.old }
+    ensures items { items.new.items ≡ from.now }
+    ensures len { vec_len items.new ≡ length from.now }
+    ensures capacity { vec_capacity items.old ≤ vec_capacity items.new }
+{
+    items.clear();
+    for item in from {
+        push_within(items, *item);
+    }
+}
+
 /// Makes the vector these items and one more.
 pub fn write_items<T: Copy>(items: &mut Vec<T>, front: &[T], last: T)
     requires { length front.now < vec_capacity items.old }
@@ -36,10 +49,7 @@ pub fn write_items<T: Copy>(items: &mut Vec<T>, front: &[T], last: T)
     ensures len { vec_len items.new ≡ length front.now + 1 }
     ensures capacity { vec_capacity items.old ≤ vec_capacity items.new }
 {
-    items.clear();
-    for item in front {
-        push_within(items, *item);
-    }
+    write_all(items, front);
     push_within(items, last);
 }
 

@@ -4,6 +4,7 @@ use Rattle.std.specs.Prelude.{Option, Some, None, nat_lt, if◌then◌else◌}
 use Rattle.std.proofs.lemmas.Bool.Decides.{nat_tests}
 use Rattle.std.proofs.Math.Nat.{mul-div_cancel}
 use Rattle.table_run.specs.Choose.{choose}
+use Rattle.table_run.proofs.Counting.{choose_both}
 
 -- the number of ways to choose b of a + b
 abbrev pub ways : ℕ → ℕ → ℕ
@@ -30,10 +31,6 @@ choose_of_all (suc b) =
     let all = choose_of_all b in
     rw (none, all) refl
 
-choose_one_more : (n k : ℕ) → choose (suc n) (suc k) ≡ choose n (suc k) + choose n k
-unfolding choose
-choose_one_more n k = refl
-
 pub ways_none : (a : ℕ) → ways a 0 ≡ 1
 ways_none a = choose_of_none (a + 0)
 
@@ -45,7 +42,7 @@ ways_both : (a b : ℕ) → ways (suc a) (suc b) ≡ ways a (suc b) + ways (suc 
 ways_both a b =
     let whole : suc a + suc b ≡ suc (a + suc b) = omega arith in
     let others : a + suc b ≡ suc a + b = omega arith in
-    ap (λ n. choose n (suc b)) whole ∙ choose_one_more (a + suc b) b ∙ ap (λ n. choose (a + suc b) (suc b) + choose n b) others
+    ap (λ n. choose n (suc b)) whole ∙ choose_both (a + suc b) b ∙ ap (λ n. choose (a + suc b) (suc b) + choose n b) others
 
 pub ways_turned : (a b : ℕ) → ways a b ≡ ways b a
 ways_turned zero b = ways_all b ∙ sym (ways_none b)
@@ -93,7 +90,7 @@ one_more_is_more : (a b : ℕ) → ways a b ≤ ways a (b + 1)
 one_more_is_more a b =
     let one : b + 1 ≡ suc b = omega arith in
     let whole : a + suc b ≡ suc (a + b) = omega arith in
-    let both = ap (λ n. choose n (suc b)) whole ∙ choose_one_more (a + b) b in
+    let both = ap (λ n. choose n (suc b)) whole ∙ choose_both (a + b) b in
     rw one (omega (arith, both))
 
 pub more_is_more : (a b d : ℕ) → ways a b ≤ ways a (b + d)

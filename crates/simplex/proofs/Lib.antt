@@ -4,3 +4,4 @@ pub mod RunSteps
 pub mod SpaceSteps
 pub mod SolveSteps
 pub mod Choosing
+pub mod WholeSteps

@@ -1,10 +1,9 @@
 -- From the run in a space to what the call answers.
 use Rattle.std.proofs.Common.{◌≡◌, ℕ, zero, suc, ◌+◌, ◌*◌, ◌<◌, List, [], ◌∷◌, ◌++◌, length, map, take, drop, true, false, refl, sym, ◌∙◌, ap, subst, arith, vec_len, Vec, Global}
-use Rattle.std.specs.Prelude.{Result, Ok, Err, Bool, slice_index_or}
+use Rattle.std.specs.Prelude.{Result, Ok, Err}
 use Rattle.std.specs.List.{All}
 use Rattle.std.proofs.lemmas.Int.{ints}
-use Rattle.std.proofs.lemmas.List.{length-map, take-map, drop-map, take_more, take_all}
-use Rattle.exact_num.specs.declared.misfit.Wide.{Wide}
+use Rattle.std.proofs.lemmas.List.{length-map, take_more, take_all}
 use Rattle.exact_num.specs.Fraction.{Fraction, IsLowest, IsNotBelowZero}
 use Rattle.table_run.specs.Places.{at, fraction_zero}
 use Rattle.table_run.specs.Program.{LinearProgram}

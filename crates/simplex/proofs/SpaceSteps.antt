@@ -1,23 +1,23 @@
 -- A program that is given to a space, and what its run tells.
-use Rattle.std.proofs.Common.{◌≡◌, ℕ, zero, suc, ◌+◌, ◌*◌, ◌<◌, ◌≤◌, List, [], ◌∷◌, ◌++◌, length, map, pos, unsigned_abs, true, false, refl, sym, ◌∙◌, ap, subst, arith}
-use Rattle.std.specs.Prelude.{Result, Ok, Err}
+use Rattle.std.proofs.Common.{◌≡◌, ℕ, zero, suc, ◌+◌, ◌<◌, ◌≤◌, List, [], ◌∷◌, ◌++◌, length, map, pos, refl, sym, ◌∙◌, ap, subst, arith}
+use Rattle.std.specs.Prelude.{Result, Err}
 use Rattle.std.proofs.lemmas.Int.{ints}
 use Rattle.std.proofs.lemmas.List.{length-map, length-append}
 use Rattle.exact_num.specs.declared.misfit.Wide.{Wide}
 use Rattle.exact_num.specs.Fraction.{Fraction, IsLowest, IsNotBelowZero}
 use Rattle.exact_num.specs.Laws.{IsWithin}
 use Rattle.exact_num.proofs.Values.{whole_is_lowest}
-use Rattle.table_run.specs.Places.{at, fraction_zero, listed}
+use Rattle.table_run.specs.Places.{at, fraction_zero}
 use Rattle.table_run.specs.Program.{LinearProgram}
 use Rattle.table_run.specs.Ending.{Ending, done, unbounded, wide_at, no_unit_left}
-use Rattle.table_run.specs.Run.{Optimum, optimum, run}
-use Rattle.table_run.specs.Optimum.{IsProgram, IsAsSaid}
+use Rattle.table_run.specs.Run.{Optimum, run}
+use Rattle.table_run.specs.Optimum.{IsProgram}
 use Rattle.table_run.specs.Choose.{bases_of}
 use Rattle.table_run.specs.Units.{units_of}
 use Rattle.table_run.proofs.Suffice.{units_suffice}
 use Rattle.compact_run.specs.Compact.{CompactTable, compact_first}
 use Rattle.compact_run.specs.Laws.{IsProgramWithin}
-use Rattle.compact_run.specs.Run.{compact_read_off, compact_direction, compact_run, compact_run_from}
+use Rattle.compact_run.specs.Run.{compact_read_off, compact_run, compact_run_from}
 use Rattle.compact_run.proofs.Runs.{same_runs}
 use Rattle.compact_table.specs.Programs.{empty_program, with_row}
 use Rattle.simplex.specs.declared.run.End.{End}
@@ -28,8 +28,11 @@ use Rattle.compact_table.specs.declared.table.Table.{Table}
 use Rattle.compact_table.specs.Lists.{front}
 use Rattle.compact_table.specs.Tables.{as_compact, program_in, SameShape}
 use Rattle.simplex.specs.declared.stage.Stage.{Stage}
-use Rattle.simplex.specs.declared.stage.Stage.TheVariants.{Empty, Given, Optimal, Unbounded, Stopped}
-use Rattle.simplex.specs.Spaces.{Contents, found, rising, stopped, answer_of, contents_after, optimum_in, contents_of, program_given, IsProgramGiven, IsFound, IsAt, IsBeingGiven, direction_of}
+use Rattle.simplex.specs.declared.stage.Stage.TheVariants.{Empty, Given, Optimal, Unbounded, WholeOptimal, WholeUnbounded, Stopped}
+use Rattle.whole_solver.specs.declared.table.WholeTable.{WholeTable}
+use Rattle.whole_solver.specs.declared.columns.Entering.{Entering}
+use Rattle.whole_solver.specs.Tables.{as_whole}
+use Rattle.simplex.specs.Spaces.{Contents, found, stopped, answer_of, contents_after, optimum_in, whole_optimum_in, contents_of, program_given, IsProgramGiven, IsFound, IsAt, IsBeingGiven, direction_of}
 
 -- ---- numbers of the code
 at_value : {A : Type 0} (P : Fraction → Type 0) (value : A → Fraction) → P fraction_zero → ((a : A) → P (value a)) → (xs : List A) (j : ℕ) → P (at (map value xs) j)
@@ -131,64 +134,64 @@ stop_answer n m spent c result RunBudget E is_err h units =
     let e : no_unit_left spent ≡ E = ap (λ r. ending_of n m r spent c) (sym is_err) ∙ h in
     (ap answer_of e, ap contents_after e, ap units_of e)
 
-pub stop_enough : (n m spent left before limit : ℕ) (p : LinearProgram) (c : CompactTable) (result : Result End RunStop) (stop : RunStop) → IsProgram p → result ≡ Err stop → ending_of n m result spent c ≡ run limit p left before → stop ≡ RunBudget → left < bases_of p
-stop_enough n m spent left before limit p c result stop g is_err h out =
-    out_of_units limit left before spent p g (sym h ∙ ap (λ r. ending_of n m r spent c) (is_err ∙ ap Err out))
+pub stop_enough : (limit left before : ℕ) (p : LinearProgram) (E : Ending Optimum) → IsProgram p → run limit p left before ≡ E → Err RunBudget ≡ answer_of E → left < bases_of p
+stop_enough limit left before p (done answer spent) g h e = absurd cc
+stop_enough limit left before p (unbounded d spent) g h e = absurd cc
+stop_enough limit left before p (wide_at spent wide) g h e = absurd cc
+stop_enough limit left before p (no_unit_left spent) g h e = out_of_units limit left before spent p g h
 
 -- ---- lists by place
-pub listed_from : (f : ℕ → Fraction) (i n j : ℕ) → j < n → at (listed f i n) j ≡ f (i + j)
-unfolding listed
-listed_from f i zero j h = absurd (omega (arith, h))
-listed_from f i (suc n) zero h = ap f (omega arith)
-listed_from f i (suc n) (suc j) h = listed_from f (i + 1) n j (omega (arith, h)) ∙ ap f (omega arith)
-
 -- ---- what the contents say of the fields
-pub program_is_given : {A : Type 0} (value : A → Fraction) (limit : ℕ) (stage : Stage) (t : Table A) (c : Contents) → contents_of value stage t ≡ c → IsProgramGiven c → IsAt value limit stage t
+pub program_is_given : {A : Type 0} (value : A → Fraction) (limit : ℕ) (stage : Stage) (t : Table A) (w : WholeTable) (c : Contents) → contents_of value stage t w ≡ c → IsProgramGiven c → IsAt value limit stage t w
     → (stage ≡ Given) × (program_given c ≡ program_in value t) × IsBeingGiven value limit t
-program_is_given value limit Empty t c e h at_stage = absurd (subst IsProgramGiven (sym e) h)
-program_is_given value limit Given t c e h at_stage = (refl, ap program_given (sym e), at_stage)
-program_is_given value limit Optimal t c e h at_stage = absurd (subst IsProgramGiven (sym e) h)
-program_is_given value limit (Unbounded k) t c e h at_stage = absurd (subst IsProgramGiven (sym e) h)
-program_is_given value limit Stopped t c e h at_stage = absurd (subst IsProgramGiven (sym e) h)
+program_is_given value limit Empty t w c e h at_stage = absurd (subst IsProgramGiven (sym e) h)
+program_is_given value limit Given t w c e h at_stage = (refl, ap program_given (sym e), at_stage)
+program_is_given value limit Optimal t w c e h at_stage = absurd (subst IsProgramGiven (sym e) h)
+program_is_given value limit (Unbounded k) t w c e h at_stage = absurd (subst IsProgramGiven (sym e) h)
+program_is_given value limit WholeOptimal t w c e h at_stage = absurd (subst IsProgramGiven (sym e) h)
+program_is_given value limit (WholeUnbounded k) t w c e h at_stage = absurd (subst IsProgramGiven (sym e) h)
+program_is_given value limit Stopped t w c e h at_stage = absurd (subst IsProgramGiven (sym e) h)
 
-pub optimum_is_there : {A : Type 0} (value : A → Fraction) (stage : Stage) (t : Table A) (c : Contents) → contents_of value stage t ≡ c → IsFound c
+-- an optimum of rows of whole numbers
+pub whole_is_there : {A : Type 0} (value : A → Fraction) (stage : Stage) (t : Table A) (w : WholeTable) (c : Contents) → contents_of value stage t w ≡ c → stage ≡ WholeOptimal
+    → c ≡ found (whole_optimum_in (length w.names.items) (length w.rows.rows) (as_whole w))
+whole_is_there value stage t w c e is = sym e ∙ ap (λ (st : Stage). contents_of value st t w) is
+
+-- or else one of fractions
+pub optimum_is_there : {A : Type 0} (value : A → Fraction) (stage : Stage) (t : Table A) (w : WholeTable) (c : Contents) → contents_of value stage t w ≡ c → IsFound c → (stage ≡ WholeOptimal → ⊥)
     → c ≡ found (optimum_in (length t.kept.items) (length t.rows.rows) (as_compact value t))
-optimum_is_there value Empty t c e h = absurd (subst IsFound (sym e) h)
-optimum_is_there value Given t c e h = absurd (subst IsFound (sym e) h)
-optimum_is_there value Optimal t c e h = sym e
-optimum_is_there value (Unbounded k) t c e h = absurd (subst IsFound (sym e) h)
-optimum_is_there value Stopped t c e h = absurd (subst IsFound (sym e) h)
+optimum_is_there value Empty t w c e h other = absurd (subst IsFound (sym e) h)
+optimum_is_there value Given t w c e h other = absurd (subst IsFound (sym e) h)
+optimum_is_there value Optimal t w c e h other = sym e
+optimum_is_there value (Unbounded k) t w c e h other = absurd (subst IsFound (sym e) h)
+optimum_is_there value WholeOptimal t w c e h other = absurd (other refl)
+optimum_is_there value (WholeUnbounded k) t w c e h other = absurd (subst IsFound (sym e) h)
+optimum_is_there value Stopped t w c e h other = absurd (subst IsFound (sym e) h)
 
-pub direction_is_there : {A : Type 0} (value : A → Fraction) (stage : Stage) (t : Table A) (c : Contents) (j : ℕ) → contents_of value stage t ≡ c → j < length (direction_of c) → (h : ℕ) × (stage ≡ Unbounded h)
-direction_is_there value Empty t c j e low = absurd (none (subst (λ d. j < length (direction_of d)) (sym e) low))
-  where
-    none : j < 0 → ⊥
-    none p = omega (arith, p)
-direction_is_there value Given t c j e low = absurd (none (subst (λ d. j < length (direction_of d)) (sym e) low))
-  where
-    none : j < 0 → ⊥
-    none p = omega (arith, p)
-direction_is_there value Optimal t c j e low = absurd (none (subst (λ d. j < length (direction_of d)) (sym e) low))
-  where
-    none : j < 0 → ⊥
-    none p = omega (arith, p)
-direction_is_there value (Unbounded h) t c j e low = (h, refl)
-direction_is_there value Stopped t c j e low = absurd (none (subst (λ d. j < length (direction_of d)) (sym e) low))
-  where
-    none : j < 0 → ⊥
-    none p = omega (arith, p)
+no_direction : (j : ℕ) (c d : Contents) → d ≡ c → length (direction_of d) ≡ 0 → j < length (direction_of c) → ⊥
+no_direction j c d e none low = let q = ap (λ (x : Contents). length (direction_of x)) e in omega (arith, q, none, low)
+
+-- a direction is one of fractions or of rows of whole numbers
+pub direction_is_there : {A : Type 0} (value : A → Fraction) (stage : Stage) (t : Table A) (w : WholeTable) (c : Contents) (j : ℕ) → contents_of value stage t w ≡ c → j < length (direction_of c)
+    → ((h : ℕ) → stage ≡ Unbounded h → ⊥) → ((k : Entering) → stage ≡ WholeUnbounded k → ⊥) → ⊥
+direction_is_there value Empty t w c j e low not_plain not_whole = no_direction j c _ e refl low
+direction_is_there value Given t w c j e low not_plain not_whole = no_direction j c _ e refl low
+direction_is_there value Optimal t w c j e low not_plain not_whole = no_direction j c _ e refl low
+direction_is_there value (Unbounded h) t w c j e low not_plain not_whole = not_plain h refl
+direction_is_there value WholeOptimal t w c j e low not_plain not_whole = no_direction j c _ e refl low
+direction_is_there value (WholeUnbounded k) t w c j e low not_plain not_whole = not_whole k refl
+direction_is_there value Stopped t w c j e low not_plain not_whole = no_direction j c _ e refl low
 
 -- ---- the run in a space
-pub ending_is : {A : Type 0} (value : A → Fraction) (limit left spent after : ℕ) (t t1 t2 : Table A) (c : Contents) (result : Result End RunStop) → 1 ≤ limit → IsBeingGiven value limit t → program_given c ≡ program_in value t
+pub ending_is : {A : Type 0} (value : A → Fraction) (limit left spent after : ℕ) (t t1 t2 : Table A) (result : Result End RunStop) → 1 ≤ limit → IsBeingGiven value limit t
     → as_compact value t1 ≡ compact_first (program_in value t) → SameShape t t1 → SameShape t1 t2
     → ((n m : ℕ) → ending_of n m result after (as_compact value t2) ≡ compact_run_from limit n m left spent (as_compact value t1))
-    → ending_of (length t2.kept.items) (length t2.rows.rows) result after (as_compact value t2) ≡ run limit (program_given c) left spent
-ending_is value limit left spent after t t1 t2 c result one g same first s1 s2 h =
+    → ending_of (length t2.kept.items) (length t2.rows.rows) result after (as_compact value t2) ≡ run limit (program_in value t) left spent
+ending_is value limit left spent after t t1 t2 result one g first s1 s2 h =
     let p = program_in value t in
     let n : length t2.kept.items ≡ p.variables = s2.columns ∙ s1.columns in
     let m : length t2.rows.rows ≡ p.rows = s2.rows ∙ s1.rows ∙ sym (length-map t.rows.rows (front value (length t.kept.items + 1))) in
     run_is limit left spent after (length t2.kept.items) (length t2.rows.rows) p (as_compact value t1) (as_compact value t2) result one g.program g.within n m first (h (length t2.kept.items) (length t2.rows.rows))
-    ∙ ap (λ q. run limit q left spent) (sym same)
 
 pub program_stands : {A : Type 0} (value : A → Fraction) (limit : ℕ) (t : Table A) (c : Contents) → IsBeingGiven value limit t → program_given c ≡ program_in value t → IsProgram (program_given c)
 program_stands value limit t c g same = subst IsProgram (sym same) g.program

@@ -3,3 +3,5 @@ pub mod Programs
 pub mod Ends
 pub mod Spaces
 pub mod Answers
+pub mod WholeEnds
+pub mod Attempts

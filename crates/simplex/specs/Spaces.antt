@@ -16,7 +16,13 @@ use Rattle.compact_table.specs.Tables.{as_compact, program_in, room_of, IsGiven}
 use Rattle.simplex.specs.declared.stop.RunStop.{RunStop}
 use Rattle.simplex.specs.declared.stop.RunStop.TheVariants.{Wide, Budget}
 use Rattle.simplex.specs.declared.stage.Stage.{Stage}
-use Rattle.simplex.specs.declared.stage.Stage.TheVariants.{Empty, Given, Optimal, Unbounded, Stopped}
+use Rattle.simplex.specs.declared.stage.Stage.TheVariants.{Empty, Given, Optimal, Unbounded, WholeOptimal, WholeUnbounded, Stopped}
+use Rattle.whole_rows.specs.Lines.{entry_of}
+use Rattle.whole_rows.specs.Compact.{CompactTable as CompactRows, price_of as price_in, compact_solution as solution_in, compact_direction as direction_in}
+use Rattle.whole_solver.specs.declared.table.WholeTable.{WholeTable}
+use Rattle.whole_solver.specs.Choices.{as_column}
+use Rattle.whole_solver.specs.Tables.{as_whole, IsWithin}
+use Rattle.whole_solver.specs.Within.{widest}
 
 -- the program given since the last begin; or what the last run since then told: its optimum, a
 -- direction, or that it stopped
@@ -120,15 +126,20 @@ abbrev pub optimum_in : ℕ → ℕ → CompactTable → Optimum
 optimum_in n m c =
     optimum (compact_solution n c) (listed (price_of c) n m) (listed (price_of c) 0 n) (right_side (length c.kept) c.objective)
 
-abbrev pub contents_of : {A : Type 0} → (A → Fraction) → Stage → Table A → Contents
-contents_of value Empty t = nothing
-contents_of value Given t = given (program_in value t)
-contents_of value Optimal t = found (optimum_in (length t.kept.items) (length t.rows.rows) (as_compact value t))
-contents_of value (Unbounded h) t = rising (compact_direction (length t.kept.items) h (as_compact value t))
-contents_of value Stopped t = stopped
+abbrev pub whole_optimum_in : ℕ → ℕ → CompactRows → Optimum
+whole_optimum_in n m t = optimum (solution_in n t) (listed (price_in t) n m) (listed (price_in t) 0 n) (entry_of t.objective (length t.names))
 
-abbrev pub workspace_of : {A : Type 0} → (A → Fraction) → ℕ → ℕ → Stage → Table A → Workspace
-workspace_of value rows columns stage t = workspace rows columns (contents_of value stage t)
+abbrev pub contents_of : {A : Type 0} → (A → Fraction) → Stage → Table A → WholeTable → Contents
+contents_of value Empty t w = nothing
+contents_of value Given t w = given (program_in value t)
+contents_of value Optimal t w = found (optimum_in (length t.kept.items) (length t.rows.rows) (as_compact value t))
+contents_of value (Unbounded h) t w = rising (compact_direction (length t.kept.items) h (as_compact value t))
+contents_of value WholeOptimal t w = found (whole_optimum_in (length w.names.items) (length w.rows.rows) (as_whole w))
+contents_of value (WholeUnbounded c) t w = rising (direction_in (length w.names.items) (as_column c) (as_whole w))
+contents_of value Stopped t w = stopped
+
+abbrev pub workspace_of : {A : Type 0} → (A → Fraction) → ℕ → ℕ → Stage → Table A → WholeTable → Workspace
+workspace_of value rows columns stage t w = workspace rows columns (contents_of value stage t w)
 
 -- the program that is being given is one, of numbers within the limit
 pub record IsBeingGiven {A : Type 0} (value : A → Fraction) (limit : ℕ) (t : Table A) : Type 0 where
@@ -136,14 +147,21 @@ pub record IsBeingGiven {A : Type 0} (value : A → Fraction) (limit : ℕ) (t :
   pub program : IsProgram (program_in value t)
   pub within : IsProgramWithin limit (program_in value t)
 
-abbrev pub IsAt : {A : Type 0} → (A → Fraction) → ℕ → Stage → Table A → Type 0
-IsAt value limit Empty t = Unit {0}
-IsAt value limit Given t = IsBeingGiven value limit t
-IsAt value limit Optimal t = Unit {0}
-IsAt value limit (Unbounded h) t = h < length t.kept.items
-IsAt value limit Stopped t = Unit {0}
+-- rows of whole numbers that are read off as numbers within the limit
+pub record IsReadable (limit : ℕ) (w : WholeTable) : Type 0 where
+  pub read : widest ≤ limit
+  pub within : IsWithin widest w
 
-pub record IsSpace {A : Type 0} (value : A → Fraction) (limit rows columns : ℕ) (here : Stage) (t : Table A) : Type 0 where
+abbrev pub IsAt : {A : Type 0} → (A → Fraction) → ℕ → Stage → Table A → WholeTable → Type 0
+IsAt value limit Empty t w = Unit {0}
+IsAt value limit Given t w = IsBeingGiven value limit t
+IsAt value limit Optimal t w = Unit {0}
+IsAt value limit (Unbounded h) t w = h < length t.kept.items
+IsAt value limit WholeOptimal t w = IsReadable limit w
+IsAt value limit (WholeUnbounded c) t w = IsReadable limit w × (c.place < length w.names.items)
+IsAt value limit Stopped t w = Unit {0}
+
+pub record IsSpace {A : Type 0} (value : A → Fraction) (limit rows columns : ℕ) (here : Stage) (t : Table A) (w : WholeTable) : Type 0 where
   pub width : t.rows.width ≡ columns + 1
   pub room : rows ≤ room_of t
-  pub stage : IsAt value limit here t
+  pub stage : IsAt value limit here t w

@@ -20,7 +20,8 @@ pub enum End {
 
 /// Turns until no column enters, nothing limits the column, a step does not fit or no unit is left.
 pub fn run<N: Exact>(table: &mut Table<N>, budget: &mut Budget) -> Result<End, RunStop>
-    ensures run { (n m : ℕ) → ending_of n m result budget.new.spent (as_compact N.fraction table.new)
+    ensures run { (n m : ℕ)
+        → ending_of n m result budget.new.spent (as_compact N.fraction table.new)
         ≡ compact_run_from (unsigned_abs N.LIMIT) n m
         (budget.old.limit - budget.old.spent) budget.old.spent (as_compact N.fraction table.old) }
     ensures unit { (unit : _) (wide : _) → result ≡ Err (RunStop.Wide unit wide)

@@ -8,14 +8,15 @@ ghost use Rattle.table_run.specs.Run.{run as run_of};
 ghost use Rattle.table_run.specs.Units.{units_of};
 ghost use Rattle.compact_table.specs.Programs.{empty_program, with_row};
 
+use crate::attempt::run_given;
 use crate::budget::Budget;
-use crate::run::{End, run};
 use crate::stage::Stage;
 use crate::stop::RunStop;
 use compact_table::Table;
 use exact_num::Exact;
 use std::alloc::{AllocError, Global};
 use std::marker::Model;
+use whole_solver::WholeTable;
 
 /// Room for the runs of programs of so many rows and variables, one after another. Only `new` takes
 /// memory.
@@ -27,6 +28,7 @@ pub struct Space<N: Exact> {
     columns: usize,
     stage: Stage,
     table: Table<N>,
+    whole: WholeTable,
 }
 
 impl<N: Exact> Model for Space<N> {
@@ -35,9 +37,9 @@ impl<N: Exact> Model for Space<N> {
 
     ghost Value = { Workspace };
 
-    ghost view = { λ s. workspace_of N.fraction s.rows s.columns s.stage s.table };
+    ghost view = { λ s. workspace_of N.fraction s.rows s.columns s.stage s.table s.whole };
 
-    ghost invariant = { λ s. IsSpace N.fraction (unsigned_abs N.LIMIT) s.rows s.columns s.stage s.table };
+    ghost invariant = { λ s. IsSpace N.fraction (unsigned_abs N.LIMIT) s.rows s.columns s.stage s.table s.whole };
 }
 
 impl<N: Exact> Space<N> {
@@ -65,11 +67,13 @@ impl<N: Exact> Space<N> {
         ensures contents { IfOk result (λ space. space.contents ≡ nothing) }
     {
         let table = Table::with_room(alloc, rows, columns)?;
+        let whole = WholeTable::with_room(alloc, rows, columns)?;
         Ok(Space {
             rows,
             columns,
             stage: Stage::Empty,
             table,
+            whole,
         })
     }
 
@@ -133,15 +137,10 @@ impl<N: Exact> Space<N> {
         ensures sizes { (self.new.rows ≡ self.old.rows) × (self.new.columns ≡ self.old.columns) }
         ensures limit { budget.new.limit ≡ budget.old.limit }
     {
-        self.table.first();
-        match run(&mut self.table, budget) {
-            Ok(End::Optimal) => {
-                self.stage = Stage::Optimal;
-                Ok(true)
-            }
-            Ok(End::Unbounded { place }) => {
-                self.stage = Stage::Unbounded { place };
-                Ok(false)
+        match run_given(&mut self.table, &mut self.whole, budget) {
+            Ok(stage) => {
+                self.stage = stage;
+                Ok(stage.is_optimum())
             }
             Err(stop) => {
                 self.stage = Stage::Stopped;
@@ -156,7 +155,10 @@ impl<N: Exact> Space<N> {
         requires place { j < length (x_of self.now.contents) }
         ensures { N.fraction result ≡ at (x_of self.now.contents) j }
     {
-        self.table.value_at(j)
+        match self.stage {
+            Stage::WholeOptimal => self.whole.value_at(j),
+            _ => self.table.value_at(j),
+        }
     }
 
     /// The dual value of row i at the optimum that the last run found.
@@ -165,7 +167,10 @@ impl<N: Exact> Space<N> {
         requires place { i < length (y_of self.now.contents) }
         ensures { N.fraction result ≡ at (y_of self.now.contents) i }
     {
-        self.table.price_at(self.table.variables() + i)
+        match self.stage {
+            Stage::WholeOptimal => self.whole.price_at(self.whole.variables() + i),
+            _ => self.table.price_at(self.table.variables() + i),
+        }
     }
 
     /// The reduced cost of variable j at the optimum that the last run found.
@@ -174,7 +179,10 @@ impl<N: Exact> Space<N> {
         requires place { j < length (reduced_of self.now.contents) }
         ensures { N.fraction result ≡ at (reduced_of self.now.contents) j }
     {
-        self.table.price_at(j)
+        match self.stage {
+            Stage::WholeOptimal => self.whole.price_at(j),
+            _ => self.table.price_at(j),
+        }
     }
 
     /// The value of the optimum that the last run found.
@@ -182,7 +190,10 @@ impl<N: Exact> Space<N> {
         requires { IsFound self.now.contents }
         ensures { N.fraction result ≡ value_of self.now.contents }
     {
-        self.table.value()
+        match self.stage {
+            Stage::WholeOptimal => self.whole.value(),
+            _ => self.table.value(),
+        }
     }
 
     /// Entry j of the direction that the last run ended with.
@@ -192,6 +203,7 @@ impl<N: Exact> Space<N> {
     {
         match self.stage {
             Stage::Unbounded { place } => self.table.direction_at(place, j),
+            Stage::WholeUnbounded { column } => self.whole.direction_at(column, j),
             _ => N::zero(),
         }
     }

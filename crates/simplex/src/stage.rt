@@ -1,4 +1,7 @@
 //! What stands in a space.
+ghost use Rattle.std.specs.Prelude.{◌≡◌};
+
+use whole_solver::Entering;
 
 /// What stands in a space.
 #[derive(Clone, Copy)]
@@ -7,10 +10,32 @@ pub enum Stage {
     Empty,
     /// A program that is being given.
     Given,
-    /// The optimum of a run.
+    /// The optimum of a run over fractions.
     Optimal,
-    /// The end of a run where nothing limits the column at this place.
+    /// The end of a run over fractions where nothing limits the column at this place.
     Unbounded { place: usize },
+    /// The optimum of a run over rows of whole numbers.
+    WholeOptimal,
+    /// The end of a run over rows of whole numbers where nothing limits this column.
+    WholeUnbounded { column: Entering },
     /// A run that stopped.
     Stopped,
+}
+
+impl Stage {
+    ghost use Rattle.simplex.specs.Attempts.{is_optimum as is_optimum_of};
+
+    /// Whether an optimum stands there.
+    pub fn is_optimum(self) -> bool
+        ensures { result ≡ is_optimum_of self }
+    {
+        match self {
+            Stage::Optimal | Stage::WholeOptimal => true,
+            Stage::Empty
+            | Stage::Given
+            | Stage::Unbounded { .. }
+            | Stage::WholeUnbounded { .. }
+            | Stage::Stopped => false,
+        }
+    }
 }

@@ -29,7 +29,7 @@ choose_more n zero = omega arith
 choose_more zero (suc m) = omega arith
 choose_more (suc n) (suc m) = omega arith
 
-choose_both : (n m : ℕ) → choose (suc n) (suc m) ≡ choose n (suc m) + choose n m
+pub choose_both : (n m : ℕ) → choose (suc n) (suc m) ≡ choose n (suc m) + choose n m
 unfolding choose
 choose_both n m = refl
 

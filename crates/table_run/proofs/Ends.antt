@@ -49,7 +49,7 @@ unfolding listed
 listed_count f i zero = refl
 listed_count f i (suc n) = ap suc (listed_count f (i + 1) n)
 
-listed_from : (f : ℕ → Fraction) (i n j : ℕ) → j < n → at (listed f i n) j ≡ f (i + j)
+pub listed_from : (f : ℕ → Fraction) (i n j : ℕ) → j < n → at (listed f i n) j ≡ f (i + j)
 unfolding listed
 listed_from f i zero j h = absurd (omega (arith, h))
 listed_from f i (suc n) zero h = let e : i + 0 ≡ i = omega arith in ap f (sym e)

@@ -1,6 +1,6 @@
 -- The first table of a program, as functions.
 use Rattle.std.proofs.Common.{append_assoc, ◌≡◌, ℕ, zero, suc, ◌+◌, ◌-◌, ◌*◌, ◌<◌, ◌≤◌, List, [], ◌∷◌, ◌++◌, length, map, take, drop, replicate, arith, refl, sym, ◌∙◌, ap, subst, pos, inl, inr}
-use Rattle.std.proofs.lemmas.List.{get_or-drop, get_or-append-add, get_or_append_left, get_or-map, length-append, length-replicate, length-take-le, length-drop}
+use Rattle.std.proofs.lemmas.List.{get_or-drop, get_or-append-add, get_or_append_left, get_or-map, length-append, length-replicate, length-take-le, length-drop, length-map}
 use Rattle.std.proofs.lemmas.Bool.{cases_lt}
 use Rattle.std.proofs.Math.Nat.{mul-le-mul_right}
 use Rattle.std.proofs.Math.Decide.{ℕ_discrete}
@@ -76,10 +76,6 @@ unit_entry n i j p = elim (ℕ_discrete i j) [
   | yes e ↦ ap value (at-own n i j p e) ∙ value_one ∙ sym (unit-same i j e)
   | no ne ↦ ap value (at-other n i j ne) ∙ value_zero ∙ sym (unit-other i j ne)
 ]
-
-length-negated : (xs : List Fraction) → length (map negated xs) ≡ length xs
-length-negated [] = refl
-length-negated (x ∷ xs) = ap suc (length-negated xs)
 
 -- ---- lowest terms, part by part
 lowest-append : (xs ys : List Fraction) → ((j : ℕ) → IsLowest (at xs j)) → ((j : ℕ) → IsLowest (at ys j)) → (j : ℕ) → IsLowest (at (xs ++ ys) j)
@@ -157,13 +153,13 @@ entry_right p g i h =
 
 pub price_variable : (p : LinearProgram) → IsProgram p → (j : ℕ) → j < p.variables → value (at (map negated p.costs ++ replicate (p.rows + 1) (whole (pos 0))) j) ≡ neg_Q (value (at p.costs j))
 price_variable p g j h =
-    ap value (get_or_append_left (map negated p.costs) (replicate (p.rows + 1) (whole (pos 0))) (whole (pos 0)) j (omega (arith, h, length-negated p.costs, g.costs.count)))
+    ap value (get_or_append_left (map negated p.costs) (replicate (p.rows + 1) (whole (pos 0))) (whole (pos 0)) j (omega (arith, h, length-map p.costs negated, g.costs.count)))
     ∙ ap value (get_or-map negated p.costs j (whole (pos 0)) (whole (pos 0)) (omega (arith, h, g.costs.count)))
     ∙ value_negated (at p.costs j) (g.costs.lowest j).positive
 
 pub price_other : (p : LinearProgram) → IsProgram p → (k : ℕ) → value (at (map negated p.costs ++ replicate (p.rows + 1) (whole (pos 0))) (p.variables + k)) ≡ 0Q
 price_other p g k =
-    let long : p.variables ≡ length (map negated p.costs) = sym (length-negated p.costs ∙ g.costs.count) in
+    let long : p.variables ≡ length (map negated p.costs) = sym (length-map p.costs negated ∙ g.costs.count) in
     ap (λ w. value (at (map negated p.costs ++ replicate (p.rows + 1) (whole (pos 0))) (w + k))) long
     ∙ ap value (get_or-append-add (map negated p.costs) (replicate (p.rows + 1) (whole (pos 0))) k (whole (pos 0)) ∙ at-zeros (p.rows + 1) k) ∙ value_zero
 
@@ -180,7 +176,7 @@ first_is_table p g =
           ap length (row_from p 0 p.rows i h)
           ∙ (let e : 0 + i ≡ i = omega arith in ap (λ w. length (first_row p w)) e)
           ∙ length-append (row p i) (ends p i) ∙ ap (λ w. length (row p i) + w) (length-append (unit_row p.rows i) (last p i)) ∙ omega (arith, length-row p g i h, length-unit p.rows i);
-      width = length-append (map negated p.costs) (replicate (p.rows + 1) (whole (pos 0))) ∙ omega (arith, length-negated p.costs, g.costs.count, length-replicate (p.rows + 1) (whole (pos 0)));
+      width = length-append (map negated p.costs) (replicate (p.rows + 1) (whole (pos 0))) ∙ omega (arith, length-map p.costs negated, g.costs.count, length-replicate (p.rows + 1) (whole (pos 0)));
       lowest = λ i j. elim (cases_lt i p.rows) [
         | inl h ↦ subst (λ w. IsLowest (at w j)) (sym (row_from p 0 p.rows i h)) (lowest-first p g (0 + i) j)
         | inr h ↦ subst (λ w. IsLowest (at w j)) (sym (no_row (rows_from p 0 p.rows) i (omega (arith, h, count_from p 0 p.rows)))) lowest-zero

@@ -1,6 +1,6 @@
 use Rattle.std.proofs.Common.{◌≡◌, ◌+◌, ◌*◌, ◌<◌, ◌∙◌, sym, ap, subst, arith, length, map, take, drop, List, ℕ}
 use Rattle.std.proofs.lemmas.List.{length-map, take-map, drop-map, drop-drop}
-use Rattle.exact_num.specs.Fraction.{Fraction, IsNotBelowZero}
+use Rattle.exact_num.specs.Fraction.{IsNotBelowZero}
 use Rattle.compact_table.specs.Programs.{empty_program, with_row}
 use Rattle.compact_table.proofs.EntrySteps.{at-map}
 use Rattle.simplex.specs.Programs.{as_program}

@@ -81,3 +81,23 @@ returns-clause-holds g c =
     let after = c.run.new.budget.spent in
     let end = solved_is g.N.Exact.fraction E solved after (c.without_limit.ensures ∙ c.run.ensures.contents) c.run.ensures.units in
     subst (λ (p : LinearProgram). HoldsOf g.N.Exact.fraction p (Ok solved)) same (holds g.N.Exact.fraction (program_given c.in_ok-space.space.contents) E solved after c.run.ensures.holds end)
+
+pub returns-then-branch-clause-run : goal.returns-then-branch-clause-run
+returns-then-branch-clause-run g c =
+    let L = unsigned_abs g.N.Exact.LIMIT in
+    let left = c.args.budget.now.limit - c.args.budget.now.spent in
+    let spent = c.args.budget.now.spent in
+    let E = run L (program_given c.in_ok-space.space.contents) left spent in
+    let same = ap program_given c.in_ok-space.ensures in
+    let end = solved_is g.N.Exact.fraction E c.optimum.result c.run.new.budget.spent (c.optimum.ensures ∙ c.run.ensures.contents) c.run.ensures.units in
+    ap (λ (p : LinearProgram). run L p left spent) (sym same) ∙ end
+
+pub returns-clause-run : goal.returns-clause-run
+returns-clause-run g c =
+    let L = unsigned_abs g.N.Exact.LIMIT in
+    let left = c.args.budget.now.limit - c.args.budget.now.spent in
+    let spent = c.args.budget.now.spent in
+    let E = run L (program_given c.in_ok-space.space.contents) left spent in
+    let same = ap program_given c.in_ok-space.ensures in
+    let end = solved_is g.N.Exact.fraction E c.without_limit.result c.run.new.budget.spent (c.without_limit.ensures ∙ c.run.ensures.contents) c.run.ensures.units in
+    ap (λ (p : LinearProgram). run L p left spent) (sym same) ∙ end

@@ -1,4 +1,4 @@
-use Rattle.std.proofs.Common.{◌≡◌, [], ◌∙◌, sym, ap, arith, length}
+use Rattle.std.proofs.Common.{◌≡◌, ◌∙◌, sym, ap, arith, length}
 use Rattle.table_run.specs.Places.{numbers}
 use Rattle.compact_table.proofs.Filling.{length-numbers}
 use Rattle.compact_table.proofs.Starts.{begun, begun_objective}

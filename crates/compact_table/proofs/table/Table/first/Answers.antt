@@ -1,9 +1,8 @@
-use Rattle.std.proofs.Common.{◌≡◌, ◌+◌, [], ◌∙◌, sym, ap, refl, arith, length, take, map, List, ℕ}
+use Rattle.std.proofs.Common.{◌≡◌, ◌+◌, [], ◌∙◌, sym, ap, arith, length, take, map, List, ℕ}
 use Rattle.std.proofs.lemmas.List.{length-map}
-use Rattle.exact_num.specs.Fraction.{negated, Fraction}
-use Rattle.compact_run.specs.Compact.{CompactTable, compact_first}
+use Rattle.exact_num.specs.Fraction.{negated}
+use Rattle.compact_run.specs.Compact.{compact_first}
 use Rattle.table_run.specs.Places.{numbers}
-use Rattle.table_run.specs.Table.{Row}
 use Rattle.compact_table.specs.Candidates.{beside_basics}
 use Rattle.compact_table.specs.Tables.{lists_of, objective_of}
 use Rattle.compact_table.specs.Lists.{front}

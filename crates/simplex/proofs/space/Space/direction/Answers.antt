@@ -3,6 +3,9 @@ use Rattle.table_run.specs.Places.{at}
 use Rattle.table_run.proofs.Ends.{listed_count, listed_at}
 use Rattle.compact_run.specs.Run.{compact_direction}
 use Rattle.compact_table.specs.Tables.{as_compact, direction_entry}
+use Rattle.whole_rows.specs.Compact.{compact_direction as direction_in}
+use Rattle.whole_solver.specs.Choices.{as_column}
+use Rattle.whole_solver.specs.Tables.{as_whole, direction_entry as whole_entry}
 use Rattle.simplex.specs.declared.stage.Stage.{Stage}
 use Rattle.simplex.specs.Spaces.{Workspace, Contents, contents_of, direction_of, IsAt}
 use Rattle.simplex.proofs.SpaceSteps.{direction_is_there}
@@ -10,7 +13,7 @@ use Rattle.simplex.proofs.space.Space.direction.Goals as goal
 
 pub direction_at-requires : goal.direction_at-requires
 direction_at-requires g c =
-    subst (λ (st : Stage). IsAt g.N.Exact.fraction (unsigned_abs g.N.Exact.LIMIT) st c.self.inside.table) c.in-Unbounded.is c.self.invariant.stage
+    subst (λ (st : Stage). IsAt g.N.Exact.fraction (unsigned_abs g.N.Exact.LIMIT) st c.self.inside.table c.self.inside.whole) c.in-Unbounded.is c.self.invariant.stage
 
 pub returns-in-Unbounded : goal.returns-in-Unbounded
 unfolding compact_direction
@@ -20,12 +23,24 @@ returns-in-Unbounded g c =
     let n = length t.kept.items in
     let j = c.args.j in
     let f = direction_entry c.in-Unbounded.place (as_compact value t) in
-    let there = sym (ap (λ (st : Stage). contents_of value st t) (sym c.in-Unbounded.is) ∙ ap (λ (w : Workspace). w.contents) c.self.view_is) in
+    let there = sym (ap (λ (st : Stage). contents_of value st t c.self.inside.whole) (sym c.in-Unbounded.is) ∙ ap (λ (w : Workspace). w.contents) c.self.view_is) in
     let low = subst (λ (d : Contents). j < length (direction_of d)) there c.requires in
     c.direction_at.ensures ∙ sym (ap (λ (d : Contents). at (direction_of d) j) there ∙ listed_at f n j (omega (arith, low, listed_count f 0 n)))
+
+pub returns-in-WholeUnbounded : goal.returns-in-WholeUnbounded
+unfolding direction_in
+returns-in-WholeUnbounded g c =
+    let value = g.N.Exact.fraction in
+    let w = c.self.inside.whole in
+    let n = length w.names.items in
+    let j = c.args.j in
+    let f = whole_entry (as_column c.in-WholeUnbounded.column) (as_whole w) in
+    let there = sym (ap (λ (st : Stage). contents_of value st c.self.inside.table w) (sym c.in-WholeUnbounded.is) ∙ ap (λ (w : Workspace). w.contents) c.self.view_is) in
+    let low = subst (λ (d : Contents). j < length (direction_of d)) there c.requires in
+    c.direction_at-in-WholeUnbounded.ensures ∙ sym (ap (λ (d : Contents). at (direction_of d) j) there ∙ listed_at f n j (omega (arith, low, listed_count f 0 n)))
 
 pub returns-in_default : goal.returns-in_default
 returns-in_default g c =
     let s = c.self.inside in
-    let there = direction_is_there g.N.Exact.fraction s.stage s.table c.args.self.now.contents c.args.j (ap (λ (w : Workspace). w.contents) c.self.view_is) c.requires in
-    absurd (c.in_default.not-Unbounded there.0 there.1)
+    absurd (direction_is_there g.N.Exact.fraction s.stage s.table s.whole c.args.self.now.contents c.args.j (ap (λ (w : Workspace). w.contents) c.self.view_is) c.requires
+    c.in_default.not-Unbounded c.in_default.not-WholeUnbounded)

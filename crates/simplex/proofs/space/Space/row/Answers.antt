@@ -17,7 +17,7 @@ row-requires g c =
     let s = c.self.inside in
     let t = s.table in
     let n = length t.kept.items in
-    let there = program_is_given g.N.Exact.fraction (unsigned_abs g.N.Exact.LIMIT) s.stage t c.args.self.now.contents (ap (λ (w : Workspace). w.contents) c.self.view_is) c.requires.given c.self.invariant.stage in
+    let there = program_is_given g.N.Exact.fraction (unsigned_abs g.N.Exact.LIMIT) s.stage t s.whole c.args.self.now.contents (ap (λ (w : Workspace). w.contents) c.self.view_is) c.requires.given c.self.invariant.stage in
     let variables = ap (λ (p : LinearProgram). p.variables) there.1 in
     let rows = ap (λ (p : LinearProgram). p.rows) there.1 in
     record {
@@ -33,7 +33,7 @@ invariant_of-self g c =
     let L = unsigned_abs g.N.Exact.LIMIT in
     let s = c.self.inside in
     let t = s.table in
-    let there = program_is_given value L s.stage t c.args.self.now.contents (ap (λ (w : Workspace). w.contents) c.self.view_is) c.requires.given c.self.invariant.stage in
+    let there = program_is_given value L s.stage t s.whole c.args.self.now.contents (ap (λ (w : Workspace). w.contents) c.self.view_is) c.requires.given c.self.invariant.stage in
     let one = limit_at_least_one g.N.Exact.LIMIT laws.limit_positive in
     let program = c.row.ensures.program in
     let width : length c.args.a.now ≡ length t.kept.items = c.requires.width ∙ ap (λ (p : LinearProgram). p.variables) there.1 in
@@ -47,14 +47,14 @@ invariant_of-self g c =
     record {
       width = c.row.ensures.room.width ∙ c.self.invariant.width;
       room = omega (arith, c.row.ensures.room.rows, c.self.invariant.room);
-      stage = subst (λ (st : Stage). IsAt value L st c.row.new.self) (sym there.0) stage;
+      stage = subst (λ (st : Stage). IsAt value L st c.row.new.self s.whole) (sym there.0) stage;
     }
 
 pub returns : goal.returns
 returns g c =
     let value = g.N.Exact.fraction in
     let s = c.self.inside in
-    let there = program_is_given value (unsigned_abs g.N.Exact.LIMIT) s.stage s.table c.args.self.now.contents (ap (λ (w : Workspace). w.contents) c.self.view_is) c.requires.given c.self.invariant.stage in
-    let contents = ap (λ (st : Stage). contents_of value st c.row.new.self) there.0
+    let there = program_is_given value (unsigned_abs g.N.Exact.LIMIT) s.stage s.table s.whole c.args.self.now.contents (ap (λ (w : Workspace). w.contents) c.self.view_is) c.requires.given c.self.invariant.stage in
+    let contents = ap (λ (st : Stage). contents_of value st c.row.new.self s.whole) there.0
     ∙ ap given (c.row.ensures.program ∙ ap (λ (p : LinearProgram). with_row p (map value c.args.a.now) (value c.args.b)) (sym there.1)) in
     λ i. workspace (c.self.view_is i).rows (c.self.view_is i).columns (contents i)

@@ -1,0 +1,46 @@
+//! The run over rows of whole numbers.
+ghost use Rattle.std.specs.Prelude.{◌≡◌, ◌-◌, ◌≤◌, ℕ};
+ghost use Rattle.whole_rows.specs.Compact.{compact_run_from};
+ghost use Rattle.whole_solver.specs.Tables.{as_whole, IsWithin, SameShape};
+ghost use Rattle.whole_solver.specs.Within.{widest};
+ghost use Rattle.simplex.specs.WholeEnds.{IsWholeEnd};
+
+use crate::budget::Budget;
+use whole_solver::{Entering, Turn, WholeTable};
+
+/// How a run over rows of whole numbers ends.
+#[derive(Clone, Copy)]
+pub enum WholeEnd {
+    /// No column enters.
+    Optimal,
+    /// Nothing limits this column, which enters.
+    Unbounded { column: Entering },
+    /// No unit is left.
+    NoUnit,
+    /// A number left the bound: nothing is said of the run.
+    GivenUp,
+}
+
+/// Turns until no column enters, nothing limits the column, no unit is left or a number leaves the
+/// bound.
+pub fn whole_run(table: &mut WholeTable, bound: u64, budget: &mut Budget) -> WholeEnd
+    requires bound { bound ≤ widest }
+    requires within { IsWithin bound table.old }
+    ensures run { (n m : ℕ) → IsWholeEnd bound n m result budget.new.spent table.new
+        (compact_run_from bound n m (budget.old.limit - budget.old.spent) budget.old.spent
+        (as_whole table.old)) }
+    ensures shape { SameShape table.old table.new }
+    ensures limit { budget.new.limit ≡ budget.old.limit }
+{
+    while let Some(column) = table.entering() {
+        if !budget.spend() {
+            return WholeEnd::NoUnit;
+        }
+        match table.turn(column.place, bound) {
+            Turn::Moved => {}
+            Turn::Unlimited => return WholeEnd::Unbounded { column },
+            Turn::GivenUp => return WholeEnd::GivenUp,
+        }
+    }
+    WholeEnd::Optimal
+}

@@ -1,0 +1,168 @@
+-- A turn of the table whose lists are kept apart.
+use Rattle.std.proofs.Common.{◌≡◌, ℕ, zero, suc, ◌+◌, ◌<◌, List, [], ◌∷◌, length, set, get_or, refl, sym, ◌∙◌, ap, subst, arith, true, ℤ, pos, unsigned_abs, length-set}
+use Rattle.std.specs.Prelude.{Some, None, int_lt}
+use Rattle.std.proofs.lemmas.List.{length-map}
+use Rattle.table_run.specs.Choice.{Ratio, least}
+use Rattle.compact_run.proofs.Columns.{same_test, other_test}
+use Rattle.compact_table.specs.Candidates.{best_with}
+use Rattle.whole_rows.specs.Lines.{Line, WholeRow, IsLine, line_of, number_at, line_at, no_line, rows_fit}
+use Rattle.whole_rows.specs.Turning.{whole_ratios}
+use Rattle.whole_rows.specs.Compact.{CompactTable, basic_of, turned_in, compact_cleared, compact_rows_after, compact_pivoted, compact_leave, compact_turn, compact_fits}
+use Rattle.whole_rows.proofs.TurnSteps.{AllOf, IsCandidate, candidates, Leaves, leaves}
+use Rattle.whole_solver.specs.Rows.{line_in, lines_in, row_at, beside_basics, lines_after, AreLinesIn, IsTurned, IsPivot}
+use Rattle.whole_solver.specs.Tables.{table_of}
+use Rattle.whole_solver.proofs.Choosing.{line_place, length-beside}
+use Rattle.whole_solver.proofs.Turned.{line_of_sizes}
+
+-- ---- the rows beside their basic variables
+pub line_beside : (bs : List ℕ) (lines : List Line) (r : ℕ) → length bs ≡ length lines → line_at (beside_basics bs lines) r ≡ get_or lines r no_line
+line_beside [] [] r e = refl
+line_beside [] (l ∷ lines) r e = absurd (omega (arith, e))
+line_beside (b ∷ bs) [] r e = absurd (omega (arith, e))
+line_beside (b ∷ bs) (l ∷ lines) zero e = refl
+line_beside (b ∷ bs) (l ∷ lines) (suc r) e = line_beside bs lines r (omega (arith, e))
+
+pub basic_beside : (bs : List ℕ) (lines : List Line) (r : ℕ) → length bs ≡ length lines → basic_of (beside_basics bs lines) r ≡ get_or bs r 0
+basic_beside [] lines r e = refl
+basic_beside (b ∷ bs) [] r e = absurd (omega (arith, e))
+basic_beside (b ∷ bs) (l ∷ lines) zero e = refl
+basic_beside (b ∷ bs) (l ∷ lines) (suc r) e = basic_beside bs lines r (omega (arith, e))
+
+module _ (c e r a : ℕ) (P : List ℤ) where
+  -- past the pivot row
+  past : (bs : List ℕ) (lines : List Line) (i : ℕ) → length bs ≡ length lines → r < i → compact_rows_after c e r a P i (beside_basics bs lines) ≡ beside_basics bs (lines_after c a r P i lines)
+  unfolding compact_rows_after lines_after
+  past [] [] i s p = refl
+  past [] (l ∷ lines) i s p = absurd (omega (arith, s))
+  past (b ∷ bs) [] i s p = absurd (omega (arith, s))
+  past (b ∷ bs) (l ∷ lines) i s p =
+      let t = other_test i r (λ q. omega (arith, p, q)) in
+      let later = past bs lines (i + 1) (omega (arith, s)) (omega (arith, p)) in
+      rw (t, later) refl
+
+  pub rows_beside : (bs : List ℕ) (lines : List Line) (i j : ℕ) → length bs ≡ length lines → i + j ≡ r
+      → compact_rows_after c e r a P i (beside_basics bs lines) ≡ beside_basics (set bs j e) (lines_after c a r P i (set lines j (line_of a P)))
+  unfolding compact_rows_after lines_after
+  rows_beside [] [] i j s p = refl
+  rows_beside [] (l ∷ lines) i j s p = absurd (omega (arith, s))
+  rows_beside (b ∷ bs) [] i j s p = absurd (omega (arith, s))
+  rows_beside (b ∷ bs) (l ∷ lines) i zero s p =
+      let t = same_test i r (omega (arith, p)) in
+      let later = past bs lines (i + 1) (omega (arith, s)) (omega (arith, p)) in
+      rw (t, later) refl
+  rows_beside (b ∷ bs) (l ∷ lines) i (suc j) s p =
+      let t = other_test i r (λ q. omega (arith, p, q)) in
+      let later = rows_beside bs lines (i + 1) j (omega (arith, s)) (omega (arith, p)) in
+      rw (t, later) refl
+
+-- ---- the table after a pivot
+abbrev pub made : ℕ → List ℕ → List WholeRow → Line → CompactTable
+made columns names rows objective = record { columns = columns; names = names; rows = rows; objective = objective }
+
+pub pivoted_table : (names basics : List ℕ) (rows new : List (List ℤ)) (objective last : List ℤ) (c r : ℕ) → length basics ≡ length rows → r < length rows → length new ≡ length rows → IsTurned (length names + 1) c r rows objective new last
+    → table_of (set names c (get_or basics r 0)) (set basics r (get_or names c 0)) new last ≡ compact_pivoted c r (table_of names basics rows objective)
+unfolding compact_pivoted
+pivoted_table names basics rows new objective last c r same low many t =
+    (λ i. made (columns i) (set names c v) (rows_are i) (last_is i)) ∙ sym (λ i. by (line i) (basic i))
+  where
+    w : ℕ
+    w = length names + 1
+
+    v : ℕ
+    v = get_or basics r 0
+
+    e : ℕ
+    e = get_or names c 0
+
+    l : Line
+    l = line_in (length names + 1) (row_at rows r)
+
+    A : Line → ℕ
+    A x = unsigned_abs (number_at x.numbers c)
+
+    count : length basics ≡ length (lines_in (length names + 1) rows)
+    count = same ∙ sym (length-map rows (line_in (length names + 1)))
+
+    by : Line → ℕ → CompactTable
+    by x u =
+        made (length names + length rows) (set names c u) (compact_rows_after c (get_or names c 0) r (unsigned_abs (number_at x.numbers c)) (turned_in c x) 0 (beside_basics basics (lines_in (length names + 1) rows)))
+        (compact_cleared c (unsigned_abs (number_at x.numbers c)) (turned_in c x) (line_in (length names + 1) objective))
+
+    wide : length (set names c (get_or basics r 0)) ≡ length names
+    wide = length-set names c (get_or basics r 0)
+
+    line : line_at (beside_basics basics (lines_in (length names + 1) rows)) r ≡ line_in (length names + 1) (row_at rows r)
+    line = line_beside basics (lines_in (length names + 1) rows) r count ∙ line_place (length names + 1) rows r no_line low
+
+    basic : basic_of (beside_basics basics (lines_in (length names + 1) rows)) r ≡ get_or basics r 0
+    basic = basic_beside basics (lines_in (length names + 1) rows) r count
+
+    columns : length (set names c (get_or basics r 0)) + length new ≡ length names + length rows
+    columns = omega (arith, wide, many)
+
+    rows_are : beside_basics (set basics r (get_or names c 0)) (lines_in (length (set names c (get_or basics r 0)) + 1) new)
+        ≡ compact_rows_after c (get_or names c 0) r (unsigned_abs (number_at (line_in (length names + 1) (row_at rows r)).numbers c)) (turned_in c (line_in (length names + 1) (row_at rows r))) 0 (beside_basics basics (lines_in (length names + 1) rows))
+    rows_are =
+        ap (λ k. beside_basics (set basics r (get_or names c 0)) (lines_in (k + 1) new)) wide
+        ∙ ap (beside_basics (set basics r (get_or names c 0))) t.rows
+        ∙ sym (rows_beside c (get_or names c 0) r (unsigned_abs (number_at (line_in (length names + 1) (row_at rows r)).numbers c)) (turned_in c (line_in (length names + 1) (row_at rows r))) basics (lines_in (length names + 1) rows) 0 r count (omega arith))
+
+    last_is : line_in (length (set names c (get_or basics r 0)) + 1) last
+        ≡ compact_cleared c (unsigned_abs (number_at (line_in (length names + 1) (row_at rows r)).numbers c)) (turned_in c (line_in (length names + 1) (row_at rows r))) (line_in (length names + 1) objective)
+    last_is = ap (λ k. line_in (k + 1) last) wide ∙ t.objective
+
+-- ---- a turn by its leaving row
+pub turn_none : (c : ℕ) (t : CompactTable) → best_with None (whole_ratios (length t.names) c 0 t.rows) ≡ None → compact_turn c t ≡ None
+unfolding compact_turn
+turn_none c t h = step (whole_ratios (length t.names) c 0 t.rows) h
+  where
+    step : (qs : List Ratio) → best_with None qs ≡ None → compact_leave c t qs ≡ None
+    step [] k = refl
+    step (q ∷ qs) k = absurd cc
+
+pub turn_pivots : (c r : ℕ) (t : CompactTable) → best_with None (whole_ratios (length t.names) c 0 t.rows) ≡ Some r → compact_turn c t ≡ Some (compact_pivoted c r t)
+unfolding compact_turn
+turn_pivots c r t h = step (whole_ratios (length t.names) c 0 t.rows) h
+  where
+    step : (qs : List Ratio) → best_with None qs ≡ Some r → compact_leave c t qs ≡ Some (compact_pivoted c r t)
+    step [] k = absurd cc
+    step (q ∷ qs) k = let place : (least q qs).place ≡ r = cc in rw place refl
+
+pub pivot_there : (c r : ℕ) (names basics : List ℕ) (rows : List (List ℤ)) (objective : List ℤ) → length basics ≡ length rows
+    → best_with None (whole_ratios (length names) c 0 (beside_basics basics (lines_in (length names + 1) rows))) ≡ Some r → IsPivot (length names + 1) c r rows
+pivot_there c r names basics rows objective same h = step (whole_ratios (length names) c 0 all) (candidates (length names) c 0 all) h
+  where
+    all : List WholeRow
+    all = beside_basics basics (lines_in (length names + 1) rows)
+
+    count : length basics ≡ length (lines_in (length names + 1) rows)
+    count = same ∙ sym (length-map rows (line_in (length names + 1)))
+
+    many : length (beside_basics basics (lines_in (length names + 1) rows)) ≡ length rows
+    many = length-beside basics (lines_in (length names + 1) rows) count ∙ length-map rows (line_in (length names + 1))
+
+    step : (qs : List Ratio) → AllOf (IsCandidate c 0 (beside_basics basics (lines_in (length names + 1) rows))) qs → best_with None qs ≡ Some r → IsPivot (length names + 1) c r rows
+    step [] g k = absurd cc
+    step (q ∷ qs) g k =
+        let place : (least q qs).place ≡ r = cc in
+        let there = subst (λ i. Leaves c i (beside_basics basics (lines_in (length names + 1) rows))) place (leaves c (beside_basics basics (lines_in (length names + 1) rows)) q qs g) in
+        let low : r < length rows = (let p = there.inside in omega (arith, p, many)) in
+        let line = line_beside basics (lines_in (length names + 1) rows) r count ∙ line_place (length names + 1) rows r no_line low in
+        record { row = low; above = subst (λ (l : Line). int_lt (pos 0) (number_at l.numbers c) ≡ true) line there.above }
+
+-- ---- within the bound
+rows_fit_in : (b w : ℕ) (bs : List ℕ) (rows : List (List ℤ)) → AreLinesIn b w rows → rows_fit b (beside_basics bs (lines_in w rows)) ≡ true
+unfolding rows_fit
+rows_fit_in b w [] rows g = refl
+rows_fit_in b w (v ∷ bs) [] g = refl
+rows_fit_in b w (v ∷ bs) (x ∷ rows) g =
+    let first = line_of_sizes b w (line_in w x) (g 0 (omega arith)) in
+    let later = rows_fit_in b w bs rows (λ i p. g (suc i) (omega (arith, p))) in
+    rw (first, later) refl
+
+pub fits_in : (b : ℕ) (names basics : List ℕ) (rows : List (List ℤ)) (objective : List ℤ) → AreLinesIn b (length names + 1) rows → IsLine b (length names + 1) (line_in (length names + 1) objective)
+    → compact_fits b (table_of names basics rows objective) ≡ true
+fits_in b names basics rows objective g last =
+    let first = rows_fit_in b (length names + 1) basics rows g in
+    let later = line_of_sizes b (length names + 1) (line_in (length names + 1) objective) last in
+    rw (first, later) refl

@@ -1,0 +1,112 @@
+-- What is read off a table of lists that are kept apart.
+use Rattle.std.proofs.Common.{◌≡◌, ℕ, zero, suc, ◌+◌, ◌<◌, ◌≤◌, List, [], ◌∷◌, length, get_or, refl, sym, ◌∙◌, ap, arith, Bool, true, false, nat_eq, ℤ, pos, unsigned_abs, neg_ℤ}
+use Rattle.std.specs.Prelude.{Some, None, Result, Ok, Err, IsOk, if◌then◌else◌, cond, not, position, ◌==◌}
+use Rattle.std.specs.List.{position_or_len}
+use Rattle.std.proofs.lemmas.List.Quantifiers.{position-Some}
+use Rattle.std.proofs.lemmas.Bool.Decides.{nat_tests}
+use Rattle.std.proofs.lemmas.Int.{ints}
+use Rattle.exact_num.specs.Fraction.{Fraction, whole, reduced}
+use Rattle.exact_num.specs.declared.misfit.Wide.{Wide}
+use Rattle.exact_num.specs.Fits.{div_of, meaning}
+use Rattle.exact_num.proofs.Values.{whole_is_lowest}
+use Rattle.table_run.specs.Places.{fraction_zero}
+use Rattle.compact_table.proofs.Reading.{past}
+use Rattle.whole_rows.specs.Lines.{Line, WholeRow, whole_row, number_at, entry_of}
+use Rattle.whole_rows.specs.Running.{whole_where_basic}
+use Rattle.whole_rows.specs.Compact.{CompactTable, Column, filled, none_of, labels, price_of}
+use Rattle.whole_rows.proofs.LineSteps.{reduced_zero}
+use Rattle.whole_rows.proofs.StepsFit.{quotients_fit}
+use Rattle.whole_solver.specs.Rows.{beside_basics}
+use Rattle.whole_solver.specs.Tables.{direction_entry}
+
+-- ---- a number as a fraction
+pub quotient_is : (limit c : ℕ) (a : ℤ) → 0 < c → unsigned_abs a ≤ limit → c ≤ limit → div_of limit (whole a) (whole (pos c)) ≡ Ok (reduced a c)
+quotient_is limit c a p s q =
+    quotients_fit limit 1 c (whole a) (whole (pos c)) a (whole_is_lowest a) (whole_is_lowest (pos c)) (omega arith) p refl refl s q
+
+pub quotient_fits : {A : Type 0} (f : A → Fraction) (limit c : ℕ) (a : ℤ) (r : Result A Wide) (x y : Fraction) → meaning f r ≡ div_of limit x y → x ≡ whole a → y ≡ whole (pos c) → 0 < c → unsigned_abs a ≤ limit → c ≤ limit
+    → meaning f r ≡ Ok (reduced a c)
+quotient_fits f limit c a r x y h is_x is_y p s q = h ∙ (λ i. div_of limit (is_x i) (is_y i)) ∙ quotient_is limit c a p s q
+
+pub means_ok : {A : Type 0} (f : A → Fraction) (r : Result A Wide) (x : Fraction) → meaning f r ≡ Ok x → IsOk r
+means_ok f (Ok a) x e = refl
+means_ok f (Err w) x e = cc
+
+pub means_value : {A : Type 0} (f : A → Fraction) (r : Result A Wide) (x : Fraction) (t : A) → meaning f r ≡ Ok x → r ≡ Ok t → f t ≡ x
+means_value f r x t m is =
+    let e : meaning f (Ok t) ≡ Ok x = sym (ap (meaning f) is) ∙ m in
+    cc
+
+pub above_zero : (x : Fraction) (c : ℕ) → x ≡ whole (pos c) → 0 < c → x.numerator ≡ pos 0 → ⊥
+above_zero x c e p h = let q : pos c ≡ pos 0 = ap (λ (y : Fraction). y.numerator) (sym e) ∙ h in omega (arith, ints, p, q)
+
+-- ---- the row where a variable is basic
+basic_here : (f : WholeRow → Fraction) (j : ℕ) (bs : List ℕ) (lines : List Line) (i : ℕ) (d : Line) → i < length bs → length bs ≡ length lines → (get_or bs i 0 == j) ≡ true → ((k : ℕ) → k < i → (get_or bs k 0 == j) ≡ false)
+    → whole_where_basic f j (beside_basics bs lines) ≡ f (whole_row (get_or bs i 0) (get_or lines i d))
+unfolding whole_where_basic
+basic_here f j [] lines i d low same here before = absurd (omega (arith, low))
+basic_here f j (b ∷ bs) [] i d low same here before = absurd (omega (arith, same))
+basic_here f j (b ∷ bs) (l ∷ lines) zero d low same here before = rw here refl
+basic_here f j (b ∷ bs) (l ∷ lines) (suc i) d low same here before =
+    let first : (b == j) ≡ false = before 0 (omega arith) in
+    rw first (basic_here f j bs lines i d (omega (arith, low)) (omega (arith, same)) here (λ k p. before (suc k) (omega (arith, p))))
+
+pub basic_found : (f : WholeRow → Fraction) (j : ℕ) (bs : List ℕ) (lines : List Line) (i : ℕ) (d : Line) → length bs ≡ length lines → Some i ≡ position (λ b. b == j) bs
+    → whole_where_basic f j (beside_basics bs lines) ≡ f (whole_row (get_or bs i 0) (get_or lines i d))
+basic_found f j bs lines i d same h =
+    let w = position-Some (λ b. b == j) bs i 0 (sym h) in
+    basic_here f j bs lines i d w.0 same w.1 w.2
+
+basic_nowhere : (f : WholeRow → Fraction) (j : ℕ) (bs : List ℕ) (lines : List Line) → length bs ≤ position_or_len (λ b. b == j) bs → whole_where_basic f j (beside_basics bs lines) ≡ fraction_zero
+unfolding whole_where_basic
+basic_nowhere f j [] lines h = refl
+basic_nowhere f j (b ∷ bs) [] h = refl
+basic_nowhere f j (b ∷ bs) (l ∷ lines) h = step (b == j) h (basic_nowhere f j bs lines)
+  where
+    step : (t : Bool) → suc (length bs) ≤ cond (not t) (1 + position_or_len (λ b. b == j) bs) 0 → (length bs ≤ position_or_len (λ b. b == j) bs → whole_where_basic f j (beside_basics bs lines) ≡ fraction_zero)
+        → (if t then f (whole_row b l) else whole_where_basic f j (beside_basics bs lines)) ≡ fraction_zero
+    step true k later = absurd (omega (arith, k))
+    step false k later = later (omega (arith, k))
+
+pub basic_missing : (f : WholeRow → Fraction) (j : ℕ) (bs : List ℕ) (lines : List Line) → None ≡ position (λ b. b == j) bs → whole_where_basic f j (beside_basics bs lines) ≡ fraction_zero
+basic_missing f j bs lines h = basic_nowhere f j bs lines (past (λ b. b == j) bs h)
+
+-- ---- the number of a variable that has a column
+filled_here : (j N : ℕ) (vs : List ℕ) (zs : List ℤ) (k : ℕ) → k < length vs → length vs ≤ length zs → (get_or vs k 0 == j) ≡ true → ((i : ℕ) → i < k → (get_or vs i 0 == j) ≡ false) → filled none_of (labels N vs) zs j ≡ number_at zs k
+unfolding filled
+filled_here j N [] zs k low long here before = absurd (omega (arith, low))
+filled_here j N (v ∷ vs) [] k low long here before = absurd (omega (arith, long))
+filled_here j N (v ∷ vs) (z ∷ zs) zero low long here before = rw here refl
+filled_here j N (v ∷ vs) (z ∷ zs) (suc k) low long here before =
+    let first : (v == j) ≡ false = before 0 (omega arith) in
+    rw first (filled_here j N vs zs k (omega (arith, low)) (omega (arith, long)) here (λ i p. before (suc i) (omega (arith, p))))
+
+pub filled_found : (j N : ℕ) (vs : List ℕ) (zs : List ℤ) (k : ℕ) → length vs ≤ length zs → Some k ≡ position (λ v. v == j) vs → filled none_of (labels N vs) zs j ≡ number_at zs k
+filled_found j N vs zs k long e =
+    let w = position-Some (λ v. v == j) vs k 0 (sym e) in
+    filled_here j N vs zs k w.0 long w.1 w.2
+
+filled_nowhere : (j N : ℕ) (vs : List ℕ) (zs : List ℤ) → j < N → length vs ≤ position_or_len (λ v. v == j) vs → filled none_of (labels N vs) zs j ≡ pos 0
+unfolding filled
+filled_nowhere j N [] [] low h = refl
+filled_nowhere j N [] (z ∷ zs) low h = let other : nat_eq N j ≡ false = grind (arith, nat_tests) in rw other refl
+filled_nowhere j N (v ∷ vs) [] low h = refl
+filled_nowhere j N (v ∷ vs) (z ∷ zs) low h = step (v == j) h (filled_nowhere j N vs zs low)
+  where
+    step : (t : Bool) → suc (length vs) ≤ cond (not t) (1 + position_or_len (λ v. v == j) vs) 0 → (length vs ≤ position_or_len (λ v. v == j) vs → filled none_of (labels N vs) zs j ≡ pos 0)
+        → (if t then z else filled none_of (labels N vs) zs j) ≡ pos 0
+    step true k later = absurd (omega (arith, k))
+    step false k later = later (omega (arith, k))
+
+pub filled_missing : (j N : ℕ) (vs : List ℕ) (zs : List ℤ) → j < N → None ≡ position (λ v. v == j) vs → filled none_of (labels N vs) zs j ≡ pos 0
+filled_missing j N vs zs low e = filled_nowhere j N vs zs low (past (λ v. v == j) vs e)
+
+pub price_missing : (t : CompactTable) (j : ℕ) → 0 < t.objective.denominator → j < t.columns → None ≡ position (λ v. v == j) t.names → price_of t j ≡ fraction_zero
+price_missing t j p low e = ap (λ z. reduced z t.objective.denominator) (filled_missing j t.columns t.names t.objective.numbers low e) ∙ reduced_zero t.objective.denominator p
+
+pub price_found : (t : CompactTable) (j k : ℕ) → length t.names ≤ length t.objective.numbers → Some k ≡ position (λ v. v == j) t.names → price_of t j ≡ entry_of t.objective k
+price_found t j k long e = ap (λ z. reduced z t.objective.denominator) (filled_found j t.columns t.names t.objective.numbers k long e)
+
+-- ---- one entry of a direction
+pub entry_other : (c : Column) (j : ℕ) (t : CompactTable) → (j ≡ c.name → ⊥) → direction_entry c t j ≡ whole_where_basic (λ row. reduced (neg_ℤ (number_at row.line.numbers c.place)) row.line.denominator) j t.rows
+entry_other c j t e = let other : nat_eq j c.name ≡ false = grind (arith, nat_tests) in rw other refl

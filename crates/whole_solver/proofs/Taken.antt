@@ -1,0 +1,92 @@
+-- The first table, taken in row by row.
+use Rattle.std.proofs.Common.{◌≡◌, ℕ, zero, suc, ◌+◌, ◌<◌, ◌≤◌, List, [], ◌∷◌, ◌++◌, length, map, take, drop, get_or, refl, sym, ◌∙◌, ap, arith, ℤ}
+use Rattle.std.specs.Prelude.{slice_index_or}
+use Rattle.std.proofs.lemmas.List.{drop_all, length-map, map-append, take_more, get_or-map}
+use Rattle.exact_num.specs.Fraction.{Fraction}
+use Rattle.table_run.specs.Places.{numbers, at}
+use Rattle.table_run.specs.Program.{LinearProgram, row}
+use Rattle.compact_run.specs.Compact.{compact_first, compact_rows_from as fraction_rows_from}
+use Rattle.compact_table.specs.Candidates.{beside_basics as beside_lists}
+use Rattle.compact_table.proofs.Filling.{length-numbers}
+use Rattle.whole_rows.specs.Lines.{Line, WholeRow, whole_row, IsLine, taken_in, row_taken_in, multiple, least_multiple}
+use Rattle.whole_solver.specs.Within.{HasMultiple}
+use Rattle.whole_rows.specs.Compact.{compact_rows_from, first_compact_table}
+use Rattle.whole_solver.specs.Rows.{line_in, lines_in, row_at, beside_basics, AreLinesIn}
+use Rattle.whole_solver.specs.Tables.{table_of, taken_from}
+use Rattle.whole_solver.proofs.Pivoting.{made}
+
+-- ---- the common denominator, from the last entry to the first
+pub multiple_more : {A : Type 0} (f : A → Fraction) (xs : List A) (k : ℕ) (x : A) → k < length xs → x ≡ slice_index_or xs k x → least_multiple (map f (drop k xs)) ≡ multiple (f x).denominator (least_multiple (map f (drop (k + 1) xs)))
+unfolding least_multiple
+multiple_more f [] k x h e = absurd (omega (arith, h))
+multiple_more {A} f (y ∷ xs) zero x h e = ap (λ (z : A). multiple (f z).denominator (least_multiple (map f xs))) (sym e)
+multiple_more f (y ∷ xs) (suc k) x h e =
+    let same : suc (k + 1) ≡ suc k + 1 = omega arith in
+    multiple_more f xs k x (omega (arith, h)) e ∙ ap (λ n. multiple (f x).denominator (least_multiple (map f (drop n (y ∷ xs))))) same
+
+pub no_multiple : {A : Type 0} (b : ℕ) (f : A → Fraction) (xs : List A) (k : ℕ) → 1 ≤ b → length xs ≤ k → HasMultiple b (least_multiple (map f (drop k xs))) 1
+unfolding least_multiple
+no_multiple b f xs k one h =
+    let none : drop k xs ≡ [] = drop_all k xs h in
+    rw none (record { is = refl; positive = omega arith; below = one })
+
+pub has_more : {A : Type 0} (b : ℕ) (f : A → Fraction) (xs : List A) (k found next : ℕ) (x : A) → k < length xs → x ≡ slice_index_or xs k x → HasMultiple b (least_multiple (map f (drop (k + 1) xs))) found
+    → next ≡ multiple (f x).denominator found → 0 < next → next ≤ b → HasMultiple b (least_multiple (map f (drop k xs))) next
+has_more b f xs k found next x low at_x h is p q =
+    record { is = is ∙ ap (multiple (f x).denominator) h.is ∙ sym (multiple_more f xs k x low at_x); positive = p; below = q }
+
+-- ---- one row more
+more_at : (b w : ℕ) (rows : List (List ℤ)) (new : List ℤ) (i : ℕ) → AreLinesIn b w rows → IsLine b w (line_in w new) → i < length (rows ++ new ∷ []) → IsLine b w (line_in w (row_at (rows ++ new ∷ []) i))
+more_at b w [] new zero g l p = l
+more_at b w [] new (suc i) g l p = absurd (omega (arith, p))
+more_at b w (x ∷ rows) new zero g l p = g 0 (omega arith)
+more_at b w (x ∷ rows) new (suc i) g l p = more_at b w rows new i (λ j q. g (suc j) (omega (arith, q))) l (omega (arith, p))
+
+pub lines_more : (b w : ℕ) (rows : List (List ℤ)) (new : List ℤ) → AreLinesIn b w rows → IsLine b w (line_in w new) → AreLinesIn b w (rows ++ new ∷ [])
+lines_more b w rows new g l = λ i p. more_at b w rows new i g l p
+
+pub taken_more : (w : ℕ) (lists : List (List Fraction)) (rows : List (List ℤ)) (new : List ℤ) (i : ℕ) → i < length lists → lines_in w rows ≡ take i (map taken_in lists) → line_in w new ≡ taken_in (get_or lists i [])
+    → lines_in w (rows ++ new ∷ []) ≡ take (i + 1) (map taken_in lists)
+taken_more w lists rows new i low h is_new =
+    map-append (line_in w) rows (new ∷ [])
+    ∙ ap (λ (ls : List Line). ls ++ line_in w new ∷ []) h
+    ∙ ap (λ (l : Line). take i (map taken_in lists) ++ l ∷ []) (is_new ∙ sym (get_or-map taken_in lists i [] (taken_in []) low))
+    ∙ sym (take_more (map taken_in lists) i (taken_in []) (omega (arith, low, length-map lists taken_in)))
+
+-- ---- the table
+rows_taken : (bs : List ℕ) (lists : List (List Fraction)) → map row_taken_in (beside_lists bs lists) ≡ beside_basics bs (map taken_in lists)
+rows_taken [] lists = refl
+rows_taken (b ∷ bs) [] = refl
+rows_taken (b ∷ bs) (xs ∷ lists) = ap (λ (rows : List WholeRow). row_taken_in (record { basic = b; entries = xs }) ∷ rows) (rows_taken bs lists)
+
+length-lists : (bs : List ℕ) (lists : List (List Fraction)) → length bs ≡ length lists → length (beside_lists bs lists) ≡ length lists
+length-lists [] [] e = refl
+length-lists [] (x ∷ lists) e = e
+length-lists (b ∷ bs) [] e = refl
+length-lists (b ∷ bs) (x ∷ lists) e = ap suc (length-lists bs lists (omega (arith, e)))
+
+pub table_taken : (kept basics : List ℕ) (lists : List (List Fraction)) (objective : List Fraction) (rows : List (List ℤ)) (last : List ℤ) → length basics ≡ length lists → length rows ≡ length lists
+    → lines_in (length kept + 1) rows ≡ map taken_in lists → line_in (length kept + 1) last ≡ taken_in objective
+    → table_of kept basics rows last ≡ taken_from (record { kept = kept; rows = beside_lists basics lists; objective = objective })
+table_taken kept basics lists objective rows last same many rows_are last_is =
+    let columns : length kept + length rows ≡ length kept + length (beside_lists basics lists) = ap (λ k. length kept + k) (many ∙ sym (length-lists basics lists same)) in
+    let all = ap (beside_basics basics) rows_are ∙ sym (rows_taken basics lists) in
+    λ i. made (columns i) kept (all i) (last_is i)
+
+-- ---- the first table of a program
+rows_from_taken : (p : LinearProgram) (i k : ℕ) → compact_rows_from p i k ≡ map row_taken_in (fraction_rows_from p i k)
+unfolding compact_rows_from fraction_rows_from
+rows_from_taken p i zero = refl
+rows_from_taken p i (suc k) = ap (λ (rows : List WholeRow). whole_row (p.variables + i) (taken_in (row p i ++ (at p.right_sides i ∷ []))) ∷ rows) (rows_from_taken p (i + 1) k)
+
+length-rows_from : (p : LinearProgram) (i k : ℕ) → length (fraction_rows_from p i k) ≡ k
+unfolding fraction_rows_from
+length-rows_from p i zero = refl
+length-rows_from p i (suc k) = ap suc (length-rows_from p (i + 1) k)
+
+pub first_taken : (p : LinearProgram) → first_compact_table p ≡ taken_from (compact_first p)
+unfolding first_compact_table compact_first
+first_taken p =
+    let columns : p.variables + p.rows ≡ length (numbers 0 p.variables) + length (fraction_rows_from p 0 p.rows) = λ i. sym (length-numbers 0 p.variables) i + sym (length-rows_from p 0 p.rows) i in
+    let rows = rows_from_taken p 0 p.rows in
+    λ i. made (columns i) (numbers 0 p.variables) (rows i) (first_compact_table p).objective

@@ -1,0 +1,8 @@
+use Rattle.std.proofs.Common.{drop, map}
+use Rattle.whole_rows.specs.Lines.{least_multiple}
+use Rattle.whole_solver.specs.Within.{HasMultiple}
+use Rattle.whole_solver.proofs.fraction.least_multiple.Given as goal
+
+-- that of the entries from this one on
+abbrev pub invariant-loop-j : goal.invariant-loop-j
+invariant-loop-j g l = HasMultiple l.bound (least_multiple (map g.N.Exact.fraction (drop l.j l.entries))) l.found

@@ -1,0 +1,13 @@
+use Rattle.std.proofs.Common.{◌≡◌, ◌<◌, ◌≤◌, ℕ, length, map, take, unsigned_abs}
+use Rattle.exact_num.specs.CommonDenominator.{signed_amounts_over}
+use Rattle.whole_rows.specs.Lines.{number_at}
+use Rattle.whole_solver.proofs.fraction.write_amounts.Given as goal
+
+-- the numbers before j are written, and within the bound
+abbrev pub invariant-loop-j : goal.invariant-loop-j
+invariant-loop-j g l =
+    record {
+      width : length l.numbers ≡ length l.entries;
+      written : take l.j l.numbers ≡ take l.j (signed_amounts_over l.denominator (map g.N.Exact.fraction l.entries));
+      sizes : (k : ℕ) → k < l.j → unsigned_abs (number_at l.numbers k) ≤ l.bound;
+    }

@@ -1,0 +1,64 @@
+-- The rows of an arena as lines: the denominator first, then the numbers, the right side last.
+use Rattle.std.specs.Prelude.{◌≡◌, ℕ, ◌+◌, ◌<◌, List, [], ◌∷◌, take, drop, map, length, ℤ, pos, unsigned_abs, slice_index_or, slice_set, if◌then◌else◌, nat_eq, int_lt, Option, Some, true}
+use Rattle.exact_num.specs.Fraction.{over}
+use Rattle.table_run.specs.Choice.{Ratio, ratio_of}
+use Rattle.compact_table.specs.Candidates.{better_of}
+use Rattle.whole_rows.specs.Lines.{Line, WholeRow, IsLine, line_of, whole_row, number_at}
+use Rattle.whole_rows.specs.Compact.{Column, smaller, compact_cleared, turned_in}
+
+-- the line of w numbers at the front of a row
+abbrev pub line_in : ℕ → List ℤ → Line
+line_in w row = line_of (unsigned_abs (number_at row 0)) (take w (drop 1 row))
+
+abbrev pub lines_in : ℕ → List (List ℤ) → List Line
+lines_in w rows = map (line_in w) rows
+
+abbrev pub row_at : List (List ℤ) → ℕ → List ℤ
+row_at rows i = slice_index_or rows i []
+
+-- the lines with their basic variables
+abbrev pub beside_basics : List ℕ → List Line → List WholeRow
+beside_basics [] lines = []
+beside_basics (b ∷ bs) [] = []
+beside_basics (b ∷ bs) (l ∷ lines) = whole_row b l ∷ beside_basics bs lines
+
+-- each row holds a line within the bound
+abbrev pub AreLinesIn : ℕ → ℕ → List (List ℤ) → Type 0
+AreLinesIn bound w rows = (i : ℕ) → i < length rows → IsLine bound w (line_in w (row_at rows i))
+
+-- ---- the lines of a turn, the pivot row r being there already
+abbrev pub line_after : ℕ → ℕ → ℕ → List ℤ → ℕ → Line → Line
+line_after c a r pivot i l = let other = compact_cleared c a pivot l in if nat_eq i r then l else other
+
+unfoldable pub lines_after : ℕ → ℕ → ℕ → List ℤ → ℕ → List Line → List Line
+lines_after c a r pivot i [] = []
+lines_after c a r pivot i (l ∷ lines) = line_after c a r pivot i l ∷ lines_after c a r pivot (i + 1) lines
+
+-- ---- the choices, one more row or column
+-- the best so far, and the row at this place, where it limits the column
+abbrev pub with_row : Option Ratio → ℕ → ℕ → ℤ → ℤ → Option Ratio
+with_row best place basic right_side entry =
+    let next = Some (better_of best (ratio_of place basic (over right_side (unsigned_abs entry)))) in
+    if int_lt (pos 0) entry then next else best
+
+-- this column, where its number is below 0, or the best of later ones
+abbrev pub with_column : ℤ → Column → Option Column → Option Column
+with_column number column later = let here = Some (smaller column later) in if int_lt number (pos 0) then here else later
+
+-- the rows and the objective row of a turn where column c enters in row r
+abbrev pub pivot_line : ℕ → ℕ → Line → Line
+pivot_line c a l = line_of a (turned_in c l)
+
+pub record IsTurned (w c r : ℕ) (from : List (List ℤ)) (before : List ℤ) (new : List (List ℤ)) (last : List ℤ) : Type 0 where
+  pub rows :
+      let l = line_in w (row_at from r) in
+      let a = unsigned_abs (number_at l.numbers c) in
+      lines_in w new ≡ lines_after c a r (turned_in c l) 0 (slice_set (lines_in w from) r (pivot_line c a l))
+  pub objective :
+      let l = line_in w (row_at from r) in
+      line_in w last ≡ compact_cleared c (unsigned_abs (number_at l.numbers c)) (turned_in c l) (line_in w before)
+
+-- row r is there, and its number in column c is above 0
+pub record IsPivot (w c r : ℕ) (rows : List (List ℤ)) : Type 0 where
+  pub row : r < length rows
+  pub above : int_lt (pos 0) (number_at (line_in w (row_at rows r)).numbers c) ≡ true

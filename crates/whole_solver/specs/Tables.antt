@@ -1,0 +1,75 @@
+-- What the table of the code stands for.
+use Rattle.std.specs.Prelude.{◌≡◌, ℕ, ◌+◌, List, [], ◌∷◌, ◌++◌, ℤ, pos, neg_ℤ, length, map, if◌then◌else◌, nat_eq, Some, None}
+use Rattle.exact_num.specs.Fraction.{Fraction, whole, reduced}
+use Rattle.compact_run.specs.Compact.{CompactTable as FractionTable}
+use Rattle.whole_rows.specs.Lines.{IsLine, number_at, taken_in, row_taken_in}
+use Rattle.whole_rows.specs.Running.{whole_where_basic}
+use Rattle.whole_rows.specs.Compact.{CompactTable, Column, compact_turn}
+use Rattle.whole_solver.specs.declared.table.WholeTable.{WholeTable}
+use Rattle.whole_solver.specs.declared.turn.Turn.{Turn}
+use Rattle.whole_solver.specs.declared.turn.Turn.TheVariants.{Moved, Unlimited, GivenUp}
+use Rattle.whole_solver.specs.Rows.{line_in, lines_in, beside_basics, AreLinesIn}
+
+-- as many numbers a line as there are columns, and the right side
+abbrev pub width_of : WholeTable → ℕ
+width_of t = length t.names.items + 1
+
+abbrev pub table_of : List ℕ → List ℕ → List (List ℤ) → List ℤ → CompactTable
+table_of names basics rows objective =
+    record {
+      columns = length names + length rows;
+      names = names;
+      rows = beside_basics basics (lines_in (length names + 1) rows);
+      objective = line_in (length names + 1) objective;
+    }
+
+abbrev pub as_whole : WholeTable → CompactTable
+as_whole t = table_of t.names.items t.basics.items t.rows.rows t.objective.items
+
+-- each line is within the bound
+pub record IsWithin (bound : ℕ) (t : WholeTable) : Type 0 where
+  pub rows : AreLinesIn bound (width_of t) t.rows.rows
+  pub objective : IsLine bound (width_of t) (line_in (width_of t) t.objective.items)
+
+-- ---- room
+abbrev pub room_of : WholeTable → ℕ
+room_of t = length t.rows.rows + t.rows.spare
+
+pub record SameRoom (old new : WholeTable) : Type 0 where
+  pub rows : room_of new ≡ room_of old
+  pub width : new.rows.width ≡ old.rows.width
+
+pub record SameShape (old new : WholeTable) : Type 0 where
+  pub columns : length new.names.items ≡ length old.names.items
+  pub rows : length new.rows.rows ≡ length old.rows.rows
+  pub room : SameRoom old new
+
+-- ---- a turn: the table after it, where it is not given up
+abbrev pub IsTurn : ℕ → ℕ → Turn → WholeTable → WholeTable → Type 0
+IsTurn bound c Moved old new = (compact_turn c (as_whole old) ≡ Some (as_whole new)) × IsWithin bound new
+IsTurn bound c Unlimited old new = (compact_turn c (as_whole old) ≡ None) × (new ≡ old)
+IsTurn bound c GivenUp old new = Unit {0}
+
+-- ---- the first table: that of a table of fractions whose rows are over common denominators
+abbrev pub taken_from : FractionTable → CompactTable
+taken_from c =
+    record {
+      columns = length c.kept + length c.rows;
+      names = c.kept;
+      rows = map row_taken_in c.rows;
+      objective = taken_in c.objective;
+    }
+
+-- the table with one row more
+pub record HasRow (bound : ℕ) (entries : List Fraction) (basic : ℕ) (old new : WholeTable) : Type 0 where
+  pub basics : new.basics.items ≡ old.basics.items ++ basic ∷ []
+  pub row : List ℤ
+  pub rows : new.rows.rows ≡ old.rows.rows ++ row ∷ []
+  pub line : line_in (width_of old) row ≡ taken_in entries
+  pub within : IsLine bound (width_of old) (line_in (width_of old) row)
+
+-- what a step of 1 in the column changes in variable j
+abbrev pub direction_entry : Column → CompactTable → ℕ → Fraction
+direction_entry c t j =
+    if nat_eq j c.name then whole (pos 1)
+    else whole_where_basic (λ row. reduced (neg_ℤ (number_at row.line.numbers c.place)) row.line.denominator) j t.rows

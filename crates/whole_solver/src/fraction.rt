@@ -1,0 +1,123 @@
+//! Numbers over a denominator as fractions, and fractions over a common denominator.
+ghost use Rattle.std.specs.Prelude.{◌≡◌, ◌<◌, ◌≤◌, IfSome, length, map, pos, true, unsigned_abs};
+ghost use Rattle.exact_num.specs.CommonDenominator.{amount_over, signed_amounts_over};
+ghost use Rattle.exact_num.specs.Fraction.{reduced, whole as whole_of};
+ghost use Rattle.whole_rows.specs.Lines.{AreSizes, IsLine, least_multiple as least_multiple_of, multiple as multiple_of, taken_in};
+ghost use Rattle.whole_solver.specs.Rows.{line_in};
+ghost use Rattle.whole_solver.specs.Within.{widest, HasMultiple};
+
+use exact_num::{Exact, gcd};
+
+/// The whole number.
+fn whole<N: Exact>(v: i128) -> N
+    requires { unsigned_abs v ≤ unsigned_abs N.LIMIT }
+    ensures { N.fraction result ≡ whole_of v }
+{
+    N::from_whole(v).unwrap()
+}
+
+/// The number over the denominator, in lowest terms.
+pub fn fraction<N: Exact>(number: i64, denominator: u64) -> N
+    requires limit { widest ≤ unsigned_abs N.LIMIT }
+    requires number { unsigned_abs number ≤ widest }
+    requires denominator { (0 < denominator) × (denominator ≤ widest) }
+    ensures { N.fraction result ≡ reduced number denominator }
+{
+    let above: N = whole(number as i128);
+    let below: N = whole(denominator as i128);
+    above.div(below).unwrap()
+}
+
+/// The least common multiple of both, where it is within the bound.
+fn multiple(one: u128, other: u64, bound: u64) -> Option<u64>
+    requires one { 0 < one }
+    requires other { (0 < other) × (other ≤ bound) }
+    ensures { IfSome result (λ m. (m ≡ multiple_of one other) × (0 < m) × (m ≤ bound)) }
+{
+    if one > bound as u128 {
+        return None;
+    }
+    let shared = gcd(one, other as u128);
+    let product = one * (other as u128 / shared);
+    if product <= bound as u128 {
+        Some(product as u64)
+    } else {
+        None
+    }
+}
+
+/// The least common multiple of the denominator and `found`, where it is within the bound.
+fn with_denominator<N: Exact>(entry: N, found: u64, bound: u64) -> Option<u64>
+    requires { (0 < found) × (found ≤ bound) }
+    ensures { IfSome result (λ m. (m ≡ multiple_of (N.fraction entry).denominator found)
+        × (0 < m) × (m ≤ bound)) }
+{
+    let (_, below) = entry.parts();
+    multiple(below as u128, found, bound)
+}
+
+/// The least common multiple of the denominators, where it is within the bound.
+fn least_multiple<N: Exact>(entries: &[N], bound: u64) -> Option<u64>
+    requires { 1 ≤ bound }
+    ensures { IfSome result (HasMultiple bound (least_multiple_of (map N.fraction entries.now))) }
+{
+    let mut found = 1;
+    for j in (0..entries.len()).rev() {
+        let Some(next) = with_denominator(entries[j], found, bound) else {
+            return None;
+        };
+        found = next;
+    }
+    Some(found)
+}
+
+/// What the fraction is over the denominator, which its own divides, where it is within the bound.
+fn amount<N: Exact>(entry: N, denominator: u64, bound: u64) -> Option<i64>
+    requires { bound ≤ widest }
+    ensures { IfSome result (λ z. (z ≡ amount_over denominator (N.fraction entry))
+        × (unsigned_abs z ≤ bound)) }
+{
+    let (above, below) = entry.parts();
+    let share = denominator as u128 / below as u128;
+    let Some(number) = above.checked_mul(share as i128) else {
+        return None;
+    };
+    if number.unsigned_abs() <= bound as u128 {
+        Some(number as i64)
+    } else {
+        None
+    }
+}
+
+/// Writes what each fraction is over the denominator, and says whether all are within the bound.
+fn write_amounts<N: Exact>(numbers: &mut [i64], entries: &[N], denominator: u64, bound: u64) -> bool
+    requires width { length numbers.old ≡ length entries.now }
+    requires bound { bound ≤ widest }
+    ensures amounts { result ≡ true
+        → numbers.new ≡ signed_amounts_over denominator (map N.fraction entries.now) }
+    ensures sizes { result ≡ true → AreSizes bound numbers.new }
+{
+    for j in 0..numbers.len() {
+        let Some(number) = amount(entries[j], denominator, bound) else {
+            return false;
+        };
+        numbers[j] = number;
+    }
+    true
+}
+
+/// Writes the line of the fractions to the front of a row, and says whether it is within the bound.
+pub fn take_line<N: Exact>(row: &mut [i64], entries: &[N], bound: u64) -> bool
+    requires width { length entries.now < length row.old }
+    requires bound { (1 ≤ bound) × (bound ≤ widest) }
+    ensures line { result ≡ true
+        → line_in (length entries.now) row.new ≡ taken_in (map N.fraction entries.now) }
+    ensures within { result ≡ true
+        → IsLine bound (length entries.now) (line_in (length entries.now) row.new) }
+{
+    let Some(denominator) = least_multiple(entries, bound) else {
+        return false;
+    };
+    row[0] = denominator as i64;
+    write_amounts(&mut row[1..entries.len() + 1], entries, denominator, bound)
+}

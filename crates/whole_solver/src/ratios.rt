@@ -1,0 +1,86 @@
+//! The row that leaves: no division is made, since the denominators fall away.
+ghost use Rattle.std.specs.Prelude.{◌≡◌, ◌+◌, ◌<◌, ◌*ℤ◌, length, pos};
+ghost use Rattle.std.specs.Option.{option_map};
+ghost use Rattle.table_run.specs.Choice.{lesser as lesser_of};
+ghost use Rattle.compact_table.specs.Candidates.{best_with};
+ghost use Rattle.whole_rows.specs.Turning.{whole_ratios};
+ghost use Rattle.whole_solver.specs.Choices.{as_ratio};
+ghost use Rattle.whole_solver.specs.Rows.{beside_basics, lines_in, with_row as with_row_of};
+
+use row_arena::RowArena;
+use std::cmp::Ordering;
+
+/// A row that limits the entering variable: its place, its basic variable, and the two numbers of
+/// its ratio.
+#[derive(Clone, Copy)]
+pub struct Candidate {
+    pub place: usize,
+    pub basic: usize,
+    pub right_side: i64,
+    pub entry: u64,
+}
+
+/// The product, which fits 128 bits.
+fn cross_product(right_side: i64, entry: u64) -> i128
+    ensures { result ≡ right_side *ℤ pos entry }
+{
+    right_side as i128 * entry as i128
+}
+
+/// The one of less ratio, by cross products; of equal ones that of the smaller basic variable.
+fn lesser(one: Candidate, other: Candidate) -> Candidate
+    ensures { as_ratio result ≡ lesser_of (as_ratio one) (as_ratio other) }
+{
+    let left = cross_product(one.right_side, other.entry);
+    let right = cross_product(other.right_side, one.entry);
+    match left.cmp(&right) {
+        Ordering::Less => one,
+        Ordering::Equal => { if one.basic < other.basic { one } else { other } }
+        Ordering::Greater => other,
+    }
+}
+
+/// The best so far, and the row at `place` where it limits the variable.
+fn with_row(
+    best: Option<Candidate>,
+    place: usize,
+    basic: usize,
+    right_side: i64,
+    entry: i64,
+) -> Option<Candidate>
+    ensures { option_map as_ratio result
+        ≡ with_row_of (option_map as_ratio best) place basic right_side entry }
+{
+    if entry <= 0 {
+        return best;
+    }
+    let next = Candidate {
+        place,
+        basic,
+        right_side,
+        entry: entry.unsigned_abs(),
+    };
+    match best {
+        None => Some(next),
+        Some(best) => Some(lesser(best, next)),
+    }
+}
+
+/// The place of the row that leaves where column `c` enters: of the rows of least ratio that with
+/// the smallest basic variable. None where no row limits the variable.
+pub fn leaving(basics: &[usize], rows: &RowArena<i64>, columns: usize, c: usize) -> Option<usize>
+    requires count { length basics.now ≡ length rows.now.rows }
+    requires columns { (c < columns) × (columns + 1 < rows.now.width) }
+    ensures { result ≡ best_with None (whole_ratios columns c 0
+        (beside_basics basics.now (lines_in (columns + 1) rows.now.rows))) }
+{
+    let mut best: Option<Candidate> = None;
+    for i in 0..rows.len() {
+        let row = rows.row(i);
+        best = with_row(best, i, basics[i], row[columns + 1], row[c + 1]);
+    }
+    match best {
+        None => None,
+        Some(least) => Some(least.place),
+    }
+}

@@ -1,0 +1,357 @@
+//! The table of a run. Nothing outside this file knows how it is laid out.
+ghost use Rattle.std.specs.Prelude.{◌≡◌, ◌+◌, ◌<◌, ◌≤◌, IfSome, [], length, map, position, true, unsigned_abs, vec_capacity, vec_len, slice_index_or, slice_set, ◌==◌};
+ghost use Rattle.std.specs.Option.{option_map};
+ghost use Rattle.compact_table.specs.Candidates.{best_with};
+ghost use Rattle.compact_table.specs.Tables.{as_compact};
+ghost use Rattle.whole_rows.specs.Compact.{compact_entering, compact_pivoted, price_of};
+ghost use Rattle.whole_rows.specs.Lines.{IsLine, entry_of, taken_in};
+ghost use Rattle.whole_rows.specs.Running.{whole_where_basic};
+ghost use Rattle.whole_rows.specs.Turning.{whole_ratios};
+ghost use Rattle.whole_solver.specs.Choices.{as_column};
+ghost use Rattle.whole_solver.specs.Rows.{IsPivot, IsTurned, line_in, row_at};
+ghost use Rattle.whole_solver.specs.Within.{widest};
+
+use crate::columns::{Entering, least_column};
+use crate::fraction::{fraction, take_line};
+use crate::ratios::leaving;
+use crate::rows::turn_rows;
+use crate::turn::Turn;
+use compact_table::Table;
+use compact_table::room::{push_within, write_all};
+use exact_num::Exact;
+use row_arena::RowArena;
+use std::alloc::{AllocError, Global};
+
+/// A table of rows of whole numbers. Each row is a denominator and the numbers of the columns that
+/// are not basic, the right side last. All its memory is taken when it is made.
+#[derive(Drop)]
+pub struct WholeTable {
+    // the variables of the columns, and the basic variable of each row
+    names: Vec<usize>,
+    basics: Vec<usize>,
+    // of each row, and of the objective row, the front counts
+    rows: RowArena<i64>,
+    objective: Vec<i64>,
+    // room for the numbers of a line before it is cut, and for a row that comes
+    room: Vec<i128>,
+    line: Vec<i64>,
+    ghost count: { vec_len basics ≡ length rows.rows },
+    ghost columns: { vec_len names + 2 ≤ rows.width },
+    ghost objective_width: { vec_len objective ≡ rows.width },
+    ghost names_room: { rows.width ≤ vec_capacity names + 2 },
+    ghost basics_room: { vec_len basics + rows.spare ≤ vec_capacity basics },
+    ghost room_width: { vec_len room + 1 ≡ rows.width },
+    ghost line_width: { vec_len line ≡ rows.width },
+}
+
+impl WholeTable {
+    ghost use Rattle.whole_solver.specs.Tables.{as_whole, direction_entry, width_of, room_of, taken_from, HasRow, IsTurn, IsWithin, SameRoom, SameShape};
+
+    /// A table with room for as many rows of as many columns. It is that of no program yet.
+    pub fn with_room(alloc: Global, rows: usize, columns: usize) -> Result<WholeTable, AllocError>
+        requires { columns ≤ 100000 }
+    {
+        let width = columns + 2;
+        let mut arena = RowArena::new(alloc, width);
+        arena.reserve(rows)?;
+        let names = Vec::with_capacity(alloc, columns)?;
+        let basics = Vec::with_capacity(alloc, arena.spare())?;
+        let mut objective = Vec::with_capacity(alloc, width)?;
+        objective.resize(width, 0)?;
+        let mut room = Vec::with_capacity(alloc, columns + 1)?;
+        room.resize(columns + 1, 0)?;
+        let mut line = Vec::with_capacity(alloc, width)?;
+        line.resize(width, 0)?;
+        Ok(WholeTable {
+            names,
+            basics,
+            rows: arena,
+            objective,
+            room,
+            line,
+        })
+    }
+
+    /// Whether there is room for so many rows of so many columns.
+    fn has_room(&self, rows: usize, columns: usize) -> bool
+        ensures rows { result ≡ true → rows ≤ room_of self.now }
+        ensures columns { result ≡ true → columns + 2 ≤ self.now.rows.width }
+    {
+        if columns > self.rows.width() - 2 {
+            return false;
+        }
+        rows <= self.basics.len() + self.rows.spare()
+    }
+
+    /// Starts a table of these columns, with no row.
+    fn begin(&mut self, names: &[usize])
+        requires { length names.now + 2 ≤ self.old.rows.width }
+        ensures names { self.new.names.items ≡ names.now }
+        ensures basics { self.new.basics.items ≡ [] }
+        ensures rows { self.new.rows.rows ≡ [] }
+        ensures room { SameRoom self.old self.new }
+    {
+        self.rows.release_from(0);
+        self.basics.clear();
+        write_all(&mut self.names, names);
+    }
+
+    /// Writes the objective row, and says whether it is within the bound.
+    fn take_objective<N: Exact>(&mut self, entries: &[N], bound: u64) -> bool
+        requires width { length entries.now ≡ width_of self.old }
+        requires bound { (1 ≤ bound) × (bound ≤ widest) }
+        ensures line { result ≡ true → line_in (width_of self.old) self.new.objective.items
+            ≡ taken_in (map N.fraction entries.now) }
+        ensures within { result ≡ true
+            → IsLine bound (width_of self.old)
+            (line_in (width_of self.old) self.new.objective.items) }
+        ensures names { self.new.names.items ≡ self.old.names.items }
+        ensures basics { self.new.basics.items ≡ self.old.basics.items }
+        ensures rows { self.new.rows ≡ self.old.rows }
+    {
+        take_line(self.objective.as_mut_slice(), entries, bound)
+    }
+
+    /// Adds a row, where it is within the bound, and says whether it is.
+    fn take_row<N: Exact>(&mut self, entries: &[N], basic: usize, bound: u64) -> bool
+        requires width { length entries.now ≡ width_of self.old }
+        requires bound { (1 ≤ bound) × (bound ≤ widest) }
+        requires room { length self.old.rows.rows < room_of self.old }
+        ensures row { result ≡ true
+            → HasRow bound (map N.fraction entries.now) basic self.old self.new }
+        ensures names { self.new.names.items ≡ self.old.names.items }
+        ensures objective { self.new.objective.items ≡ self.old.objective.items }
+        ensures room { SameRoom self.old self.new }
+    {
+        if !take_line(self.line.as_mut_slice(), entries, bound) {
+            return false;
+        }
+        push_within(&mut self.basics, basic);
+        self.rows.append(self.line.as_slice());
+        true
+    }
+
+    /// Becomes the table of these fractions, each row over the least common denominator, and says
+    /// whether it has room and is within the bound.
+    pub fn take_in<N: Exact>(&mut self, table: &Table<N>, bound: u64) -> bool
+        requires bound { (1 ≤ bound) × (bound ≤ widest) }
+        ensures table { result ≡ true
+            → as_whole self.new ≡ taken_from (as_compact N.fraction table.now) }
+        ensures within { result ≡ true → IsWithin bound self.new }
+    {
+        if !self.has_room(table.rows(), table.variables()) {
+            return false;
+        }
+        self.begin(table.kept());
+        if !self.take_objective(table.objective(), bound) {
+            return false;
+        }
+        for i in 0..table.rows() {
+            if !self.take_row(table.entries(i), table.basic(i), bound) {
+                return false;
+            }
+        }
+        true
+    }
+
+    /// The column that enters: of those whose number in the objective row is below 0 that of the
+    /// smallest variable.
+    #[tactic(auto, unfolding(whole_rows::specs::Compact::compact_entering))]
+    pub fn entering(&self) -> Option<Entering>
+        ensures column { option_map as_column result ≡ compact_entering (as_whole self.now) }
+        ensures inside { IfSome result (λ c. c.place < length self.now.names.items) }
+    {
+        let width = self.names.len() + 1;
+        least_column(self.names.as_slice(), &self.objective[1..width + 1])
+    }
+
+    /// The place of the row that leaves where column `c` enters, or None where nothing limits it.
+    fn leaving(&self, c: usize) -> Option<usize>
+        requires { c < length self.now.names.items }
+        ensures { result ≡ best_with None (whole_ratios (length self.now.names.items) c 0
+            (as_whole self.now).rows) }
+    {
+        leaving(self.basics.as_slice(), &self.rows, self.names.len(), c)
+    }
+
+    /// The rows of a turn and the objective row. Says whether they are within the bound.
+    fn turn_rows(&mut self, c: usize, r: usize, bound: u64) -> bool
+        requires column { c < length self.old.names.items }
+        requires pivot { IsPivot (width_of self.old) c r self.old.rows.rows }
+        requires bound { bound ≤ widest }
+        requires within { IsWithin bound self.old }
+        ensures turned { result ≡ true → IsTurned (width_of self.old) c r
+            self.old.rows.rows self.old.objective.items
+            self.new.rows.rows self.new.objective.items }
+        ensures within { result ≡ true → IsWithin bound self.new }
+        ensures names { self.new.names.items ≡ self.old.names.items }
+        ensures basics { self.new.basics.items ≡ self.old.basics.items }
+        ensures shape { SameShape self.old self.new }
+    {
+        let width = self.names.len() + 1;
+        turn_rows(
+            &mut self.rows,
+            self.objective.as_mut_slice(),
+            self.room.as_mut_slice(),
+            width,
+            r,
+            c,
+            bound,
+        )
+    }
+
+    /// The variable of column `c` becomes basic in row r, whose own gets the column.
+    fn exchange(&mut self, c: usize, r: usize)
+        requires column { c < length self.old.names.items }
+        requires row { r < length self.old.basics.items }
+        ensures names { self.new.names.items
+            ≡ slice_set self.old.names.items c (slice_index_or self.old.basics.items r 0) }
+        ensures basics { self.new.basics.items
+            ≡ slice_set self.old.basics.items r (slice_index_or self.old.names.items c 0) }
+        ensures rows { self.new.rows ≡ self.old.rows }
+        ensures objective { self.new.objective.items ≡ self.old.objective.items }
+    {
+        let leaving = self.basics[r];
+        self.basics[r] = self.names[c];
+        self.names[c] = leaving;
+    }
+
+    /// The variable of column `c` becomes basic in row r, where the table is within the bound then.
+    /// Says whether it is.
+    fn pivot(&mut self, c: usize, r: usize, bound: u64) -> bool
+        requires column { c < length self.old.names.items }
+        requires pivot { IsPivot (width_of self.old) c r self.old.rows.rows }
+        requires bound { bound ≤ widest }
+        requires within { IsWithin bound self.old }
+        ensures table { result ≡ true
+            → as_whole self.new ≡ compact_pivoted c r (as_whole self.old) }
+        ensures within { result ≡ true → IsWithin bound self.new }
+        ensures shape { SameShape self.old self.new }
+    {
+        if !self.turn_rows(c, r, bound) {
+            return false;
+        }
+        self.exchange(c, r);
+        true
+    }
+
+    /// One turn: column `c` enters. It is given up where a number leaves the bound.
+    pub fn turn(&mut self, c: usize, bound: u64) -> Turn
+        requires column { c < length self.old.names.items }
+        requires bound { bound ≤ widest }
+        requires within { IsWithin bound self.old }
+        ensures turn { IsTurn bound c result self.old self.new }
+        ensures shape { SameShape self.old self.new }
+    {
+        match self.leaving(c) {
+            None => Turn::Unlimited,
+            Some(r) => {
+                if self.pivot(c, r, bound) {
+                    Turn::Moved
+                } else {
+                    Turn::GivenUp
+                }
+            }
+        }
+    }
+
+    /// The number of variables.
+    pub fn variables(&self) -> usize
+        ensures { result ≡ length self.now.names.items }
+    {
+        self.names.len()
+    }
+
+    /// The place of the row where variable j is basic.
+    fn place_of(&self, j: usize) -> Option<usize>
+        ensures { result ≡ position (λ basic. basic == j) self.now.basics.items }
+    {
+        self.basics.iter().position(|basic| *basic == j)
+    }
+
+    /// The place of the column of variable j.
+    fn column_of(&self, j: usize) -> Option<usize>
+        ensures { result ≡ position (λ name. name == j) self.now.names.items }
+    {
+        self.names.iter().position(|name| *name == j)
+    }
+
+    /// The number at place k of a row, as a fraction.
+    fn entry<N: Exact>(&self, i: usize, k: usize) -> N
+        requires limit { widest ≤ unsigned_abs N.LIMIT }
+        requires within { IsWithin widest self.now }
+        requires row { i < length self.now.rows.rows }
+        requires place { k < width_of self.now }
+        ensures { N.fraction result
+            ≡ entry_of (line_in (width_of self.now) (row_at self.now.rows.rows i)) k }
+    {
+        let row = self.rows.row(i);
+        fraction(row[k + 1], row[0].unsigned_abs())
+    }
+
+    /// The number at place k of the objective row, as a fraction.
+    fn price<N: Exact>(&self, k: usize) -> N
+        requires limit { widest ≤ unsigned_abs N.LIMIT }
+        requires within { IsWithin widest self.now }
+        requires place { k < width_of self.now }
+        ensures { N.fraction result ≡ entry_of (as_whole self.now).objective k }
+    {
+        fraction(self.objective[k + 1], self.objective[0].unsigned_abs())
+    }
+
+    /// The value of variable j: the right side of the row where it is basic, else 0.
+    pub fn value_at<N: Exact>(&self, j: usize) -> N
+        requires limit { widest ≤ unsigned_abs N.LIMIT }
+        requires within { IsWithin widest self.now }
+        ensures { N.fraction result
+            ≡ whole_where_basic (λ row. entry_of row.line (length self.now.names.items)) j
+            (as_whole self.now).rows }
+    {
+        match self.place_of(j) {
+            None => N::zero(),
+            Some(i) => self.entry(i, self.names.len()),
+        }
+    }
+
+    /// The objective entry of variable j: 0 where it is basic.
+    pub fn price_at<N: Exact>(&self, j: usize) -> N
+        requires limit { widest ≤ unsigned_abs N.LIMIT }
+        requires within { IsWithin widest self.now }
+        requires variable { j < (as_whole self.now).columns }
+        ensures { N.fraction result ≡ price_of (as_whole self.now) j }
+    {
+        match self.column_of(j) {
+            None => N::zero(),
+            Some(k) => self.price(k),
+        }
+    }
+
+    /// What a step of 1 in the column changes in variable j.
+    pub fn direction_at<N: Exact>(&self, column: Entering, j: usize) -> N
+        requires limit { widest ≤ unsigned_abs N.LIMIT }
+        requires within { IsWithin widest self.now }
+        requires column { column.place < length self.now.names.items }
+        ensures { N.fraction result ≡ direction_entry (as_column column) (as_whole self.now) j }
+    {
+        if j == column.name {
+            return N::one();
+        }
+        match self.place_of(j) {
+            None => N::zero(),
+            Some(i) => {
+                let step: N = self.entry(i, column.place);
+                step.neg()
+            }
+        }
+    }
+
+    /// The objective's value.
+    pub fn value<N: Exact>(&self) -> N
+        requires limit { widest ≤ unsigned_abs N.LIMIT }
+        requires within { IsWithin widest self.now }
+        ensures { N.fraction result
+            ≡ entry_of (as_whole self.now).objective (length self.now.names.items) }
+    {
+        self.price(self.names.len())
+    }
+}
