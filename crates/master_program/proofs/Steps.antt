@@ -58,7 +58,7 @@ all_give f g (x ∷ xs) h =
     (gives_after (map_steps f xs) (λ ys. Ok (g x ∷ ys)) (map g xs) goal (all_give f g xs h) (gives_ok goal goal refl))
 
 -- ---- payoffs
-zero_dot : (v : List ℤ) (n : ℕ) → dot v (replicate n 0) ≡ pos 0
+pub zero_dot : (v : List ℤ) (n : ℕ) → dot v (replicate n 0) ≡ pos 0
 zero_dot [] n = refl
 zero_dot (a ∷ v) zero = refl
 zero_dot (a ∷ v) (suc n) = omega (arith, ints, zero_dot v n)

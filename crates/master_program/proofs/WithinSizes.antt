@@ -37,7 +37,7 @@ signed_within : (l : ℕ) (side : Side) (x : Fraction) → IsWithin l x → IsWi
 signed_within l Buy x within = within
 signed_within l Sell x within = negated_within l x within
 
-all_within : {A : Type 0} (l : ℕ) (f : A → Result Fraction Wide) → ((x : A) (y : Fraction) → f x ≡ Ok y → IsWithin l y) → (xs : List A) (ys : List Fraction) → map_steps f xs ≡ Ok ys → AreWithin l ys
+pub all_within : {A : Type 0} (l : ℕ) (f : A → Result Fraction Wide) → ((x : A) (y : Fraction) → f x ≡ Ok y → IsWithin l y) → (xs : List A) (ys : List Fraction) → map_steps f xs ≡ Ok ys → AreWithin l ys
 unfolding map_steps
 all_within l f h [] ys k = let e : [] ≡ ys = cc in subst (AreWithin l) e (All-nil (IsWithin l))
 all_within l f h (x ∷ xs) ys k =
@@ -89,10 +89,10 @@ rows_within payoff_limit l orders (z ∷ states) s one k =
     subst (AreWithin l) same (All-append (IsWithin l) row.value rows.value (row_within payoff_limit l orders z row.value one row.first) (rows_within payoff_limit l orders states rows.value one rows.first))
 
 -- 0 and 1 are within the limit
-abbrev IsUnit : ℤ → Type 0
+abbrev pub IsUnit : ℤ → Type 0
 IsUnit v = unsigned_abs v ≤ 1
 
-quantities_within : (k : ℕ) → All (All IsUnit) (quantity_rows k)
+pub quantities_within : (k : ℕ) → All (All IsUnit) (quantity_rows k)
 quantities_within zero = All-nil (All IsUnit)
 quantities_within (suc k) =
     let Front : List ℤ → List ℤ = λ r. pos 0 ∷ r in

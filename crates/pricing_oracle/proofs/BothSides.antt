@@ -8,8 +8,8 @@ use Rattle.clearing_model.specs.Tree.{Sign, Unsigned, Plus, Minus, IsUnsignedLon
 use Rattle.clearing_model.specs.Written.{WrittenTree, WrittenNode, SplitNode, PlacedMultiplier, Ends, Parts, nodes_of, multipliers_of}
 use Rattle.sign_tree.specs.Read.{sign_of}
 use Rattle.sign_tree.proofs.Sides.{minus_signs}
-use Rattle.simplex.specs.declared.stop.Stop.{Stop}
-use Rattle.simplex.specs.declared.stop.Stop.TheVariants.{Wide, Budget, Memory}
+use Rattle.simplex.specs.declared.stop.RunStop.{RunStop}
+use Rattle.simplex.specs.declared.stop.RunStop.TheVariants.{Wide, Budget}
 use Rattle.table_run.specs.Ending.{Ending, done, on_answer}
 use Rattle.node_program.specs.Search.{Question, splits, node_end, Found, on_node, on_side, search, search_from, legs_in}
 use Rattle.node_program.specs.Steps.{legs_over}
@@ -20,6 +20,7 @@ use Rattle.table_run.proofs.Endings.{EndsWith}
 use Rattle.node_program.proofs.Wider.{joined, minus_side}
 use Rattle.pricing_oracle.specs.declared.node.Shown.TheVariants.{Leaf, Violated, Splits}
 use Rattle.pricing_oracle.specs.Searches.{WrittenParts, after_split, with_tree, HasShown, HasSearched, one_if_unsigned, unsigned_in}
+use Rattle.search_laws.proofs.Searching.{unsigned_at_first}
 
 -- ---- a node
 pub search_is : (q : Question) (depth : ℕ) (signs : List Sign) (spent : ℕ) → search_from q depth signs spent ≡ on_answer (node_end q signs spent) (on_node (after_split q depth signs))
@@ -36,14 +37,13 @@ pub state_found : (q : Question) (depth : ℕ) (signs : List Sign) (before spent
     → HasSearched old new (search_from q depth signs before) (Ok (Some z)) spent
 state_found q depth signs before spent old new z ends = search_is q depth signs before ∙ ap (λ e. on_answer e (on_node (after_split q depth signs))) ends
 
-pub node_stops : (q : Question) (depth : ℕ) (signs : List Sign) (before spent : ℕ) (old new : WrittenParts) (stop : Stop) → HasShown old new (node_end q signs before) (Err stop) spent
+pub node_stops : (q : Question) (depth : ℕ) (signs : List Sign) (before spent : ℕ) (old new : WrittenParts) (stop : RunStop) → HasShown old new (node_end q signs before) (Err stop) spent
     → HasSearched old new (search_from q depth signs before) (Err stop) spent
 node_stops q depth signs before spent old new (Wide unit wide) (ends, units) = (search_is q depth signs before ∙ ap (λ e. on_answer e (on_node (after_split q depth signs))) ends, units)
 node_stops q depth signs before spent old new Budget ends = search_is q depth signs before ∙ ap (λ e. on_answer e (on_node (after_split q depth signs))) ends
-node_stops q depth signs before spent old new Memory ends = tt
 
 -- a node that splits, and what follows
-pub split_on : (q q' : Question) (depth : ℕ) (signs : List Sign) (before mid spent : ℕ) (old start new : WrittenParts) (place : ℕ) (result : Result (Option State) Stop)
+pub split_on : (q q' : Question) (depth : ℕ) (signs : List Sign) (before mid spent : ℕ) (old start new : WrittenParts) (place : ℕ) (result : Result (Option State) RunStop)
     → HasShown old start (node_end q signs before) (Ok (Splits place)) mid → q' ≡ q → HasSearched start new (after_split q' depth signs place mid) result spent
     → HasSearched old new (search_from q depth signs before) result spent
 split_on q q' depth signs before mid spent old start new place result (parts, ends) same h =
@@ -53,17 +53,16 @@ split_on q q' depth signs before mid spent old start new place result (parts, en
 
 -- ---- the sides
 -- a side that ends the branch: with a state, or at a stop
-abbrev pub IsEnd : Result (Option State) Stop → Type 0
+abbrev pub IsEnd : Result (Option State) RunStop → Type 0
 IsEnd (Ok None) = ⊥
 IsEnd (Ok (Some z)) = Unit {0}
 IsEnd (Err stop) = Unit {0}
 
-side_ends : (next : WrittenTree → ℕ → Ending Found) (e : Ending Found) (old mid start new : WrittenParts) (result : Result (Option State) Stop) (spent : ℕ) → IsEnd result → HasSearched start mid e result spent → HasSearched old new (on_answer e (on_side next)) result spent
+side_ends : (next : WrittenTree → ℕ → Ending Found) (e : Ending Found) (old mid start new : WrittenParts) (result : Result (Option State) RunStop) (spent : ℕ) → IsEnd result → HasSearched start mid e result spent → HasSearched old new (on_answer e (on_side next)) result spent
 side_ends next e old mid start new (Ok None) spent end h = absurd end
 side_ends next e old mid start new (Ok (Some z)) spent end h = ap (λ x. on_answer x (on_side next)) h
 side_ends next e old mid start new (Err (Wide unit wide)) spent end (h, units) = (ap (λ x. on_answer x (on_side next)) h, units)
 side_ends next e old mid start new (Err Budget) spent end h = ap (λ x. on_answer x (on_side next)) h
-side_ends next e old mid start new (Err Memory) spent end h = tt
 
 -- the split and its two sides as one tree
 split_written : (old start mid new : WrittenParts) (place : ℕ) (plus minus : WrittenTree)
@@ -107,32 +106,28 @@ splits_unsigned q ss spent units place asked count h =
     let there = subst (EndsWith (NodeShows q (map sign_of ss))) h (node_says q (map sign_of ss) spent asked count) in
     unsigned_at (legs_over (own q) (legs_in q)) ss place (split_is_long q (map sign_of ss) place (own q) asked count (own_over q asked) there)
 
-pub all_unsigned : (k : ℕ) → unsigned_in (replicate k Unsigned) ≡ k
-all_unsigned zero = refl
-all_unsigned (suc k) = omega (arith, all_unsigned k)
-
 -- ---- a split, where the leg at the place has no sign
 -- a branch under these signs, however many legs more it may sign
-abbrev pub BranchSays : Question → List ℤ → ℕ → WrittenParts → WrittenParts → Result (Option State) Stop → ℕ → Type 0
+abbrev pub BranchSays : Question → List ℤ → ℕ → WrittenParts → WrittenParts → Result (Option State) RunStop → ℕ → Type 0
 BranchSays q ss before old new result spent = (depth : ℕ) → unsigned_in (map sign_of ss) ≤ depth → HasSearched old new (search_from q depth (map sign_of ss) before) result spent
 
-pub says_as : (q : Question) (ss : List ℤ) (before : ℕ) (old new : WrittenParts) (result answer : Result (Option State) Stop) (spent : ℕ) → result ≡ answer → BranchSays q ss before old new result spent → BranchSays q ss before old new answer spent
+pub says_as : (q : Question) (ss : List ℤ) (before : ℕ) (old new : WrittenParts) (result answer : Result (Option State) RunStop) (spent : ℕ) → result ≡ answer → BranchSays q ss before old new result spent → BranchSays q ss before old new answer spent
 says_as q ss before old new result answer spent e h = subst (λ r. BranchSays q ss before old new r spent) e h
 
-under : (q : Question) (depth : ℕ) (ss : List ℤ) (place : ℕ) (x : ℤ) (sign : Sign) (before spent : ℕ) (old new : WrittenParts) (result : Result (Option State) Stop) → sign_of x ≡ sign → one_if_unsigned (sign_of x) ≡ 0 → place < length ss → get_or ss place (pos 0) ≡ pos 0
+under : (q : Question) (depth : ℕ) (ss : List ℤ) (place : ℕ) (x : ℤ) (sign : Sign) (before spent : ℕ) (old new : WrittenParts) (result : Result (Option State) RunStop) → sign_of x ≡ sign → one_if_unsigned (sign_of x) ≡ 0 → place < length ss → get_or ss place (pos 0) ≡ pos 0
     → unsigned_in (map sign_of ss) ≤ suc depth → BranchSays q (set ss place x) before old new result spent → HasSearched old new (search_from q depth (slice_set (map sign_of ss) place sign) before) result spent
 under q depth ss place x sign before spent old new result is signed inside none few h =
     let same : map sign_of (set ss place x) ≡ slice_set (map sign_of ss) place sign = map-set sign_of ss place x ∙ ap (slice_set (map sign_of ss) place) is in
     subst (λ signs. HasSearched old new (search_from q depth signs before) result spent) same (h depth (omega (arith, few, signed_less ss place x signed inside none)))
 
-pub plus_ends : (q : Question) (depth : ℕ) (ss : List ℤ) (place before spent : ℕ) (old start mid new : WrittenParts) (result : Result (Option State) Stop) → IsEnd result → place < length ss → get_or ss place (pos 0) ≡ pos 0 → unsigned_in (map sign_of ss) ≤ depth
+pub plus_ends : (q : Question) (depth : ℕ) (ss : List ℤ) (place before spent : ℕ) (old start mid new : WrittenParts) (result : Result (Option State) RunStop) → IsEnd result → place < length ss → get_or ss place (pos 0) ≡ pos 0 → unsigned_in (map sign_of ss) ≤ depth
     → BranchSays q (set ss place (pos 1)) before start mid result spent → HasSearched old new (after_split q depth (map sign_of ss) place before) result spent
 plus_ends q zero ss place before spent old start mid new result end inside none few h = absurd (omega (arith, few, signed_less ss place (pos 1) refl inside none))
 plus_ends q (suc depth) ss place before spent old start mid new result end inside none few h =
     side_ends (minus_side q depth (map sign_of ss) place) (search_from q depth (slice_set (map sign_of ss) place Plus) before) old mid start new result spent end
     (under q depth ss place (pos 1) Plus before spent start mid result refl refl inside none few h)
 
-pub minus_ends : (q q' : Question) (depth : ℕ) (ss now : List ℤ) (place before between spent : ℕ) (old start mid last new : WrittenParts) (result : Result (Option State) Stop) → IsEnd result → place < length ss → get_or ss place (pos 0) ≡ pos 0 → unsigned_in (map sign_of ss) ≤ depth
+pub minus_ends : (q q' : Question) (depth : ℕ) (ss now : List ℤ) (place before between spent : ℕ) (old start mid last new : WrittenParts) (result : Result (Option State) RunStop) → IsEnd result → place < length ss → get_or ss place (pos 0) ≡ pos 0 → unsigned_in (map sign_of ss) ≤ depth
     → BranchSays q (set ss place (pos 1)) before start mid (Ok None) between → q' ≡ q → now ≡ set ss place (pos 1) → BranchSays q' (set now place (negsuc 0)) between mid last result spent
     → HasSearched old new (after_split q depth (map sign_of ss) place before) result spent
 minus_ends q q' zero ss now place before between spent old start mid last new result end inside none few plus same is minus = absurd (omega (arith, few, signed_less ss place (pos 1) refl inside none))
@@ -158,9 +153,9 @@ both_close q q' (suc depth) ss now place before between spent old start mid new 
     )
 
 -- ---- the whole search
-pub whole_search : (q : Question) (ss : List ℤ) (before spent : ℕ) (old new : WrittenParts) (result : Result (Option State) Stop) → map sign_of ss ≡ replicate (length (legs_in q)) Unsigned → BranchSays q ss before old new result spent
+pub whole_search : (q : Question) (ss : List ℤ) (before spent : ℕ) (old new : WrittenParts) (result : Result (Option State) RunStop) → map sign_of ss ≡ replicate (length (legs_in q)) Unsigned → BranchSays q ss before old new result spent
     → HasSearched old new (search q before) result spent
 unfolding search
 whole_search q ss before spent old new result is h =
     let k = length (legs_in q) in
-    subst (λ signs. HasSearched old new (search_from q k signs before) result spent) is (h k (omega (arith, ap unsigned_in is, all_unsigned k)))
+    subst (λ signs. HasSearched old new (search_from q k signs before) result spent) is (h k (omega (arith, ap unsigned_in is, unsigned_at_first k)))

@@ -64,11 +64,6 @@ not_covering all l legs is h = ap covering_of is ∙ go l.role h
     go Above h = refl
     go Below h = refl
 
--- the numbers from 0 on
-pub length-values : {A : Type 0} (f : ℕ → A) (m : ℕ) → length (values f m) ≡ m
-length-values f zero = refl
-length-values f (suc m) = ap suc (length-values (λ i. f (suc i)) m)
-
 pub value_at : {A : Type 0} (f : ℕ → A) (m i : ℕ) (d : A) → i < m → get_or (values f m) i d ≡ f i
 value_at f zero i d lt = absurd (omega arith)
 value_at f (suc m) zero d lt = refl

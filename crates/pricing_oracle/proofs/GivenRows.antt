@@ -19,7 +19,7 @@ use Rattle.pricing_oracle.specs.Nodes.{RoleLeg, covering_of, in_roles, is_signed
 use Rattle.pricing_oracle.specs.Programs.{given_with, signed_entries, unit_at, units_from, with_rows}
 
 -- one row more, and then so many
-one_more : (p : LinearProgram) (k : ℕ) (row rows : List Fraction) → with_rows p (suc k) (row ++ rows) ≡ with_rows (with_row p row fraction_zero) k rows
+pub one_more : (p : LinearProgram) (k : ℕ) (row rows : List Fraction) → with_rows p (suc k) (row ++ rows) ≡ with_rows (with_row p row fraction_zero) k rows
 one_more p k row rows =
     let count : p.rows + suc k ≡ p.rows + 1 + k = omega arith in
     λ i. record p {

@@ -15,12 +15,12 @@ use Rattle.simplex.specs.Spaces.{Contents, Workspace, IsProgramGiven, nothing, g
 use Rattle.node_program.specs.Roles.{Role, Idle, Covering, Free, Above, Below, entries}
 use Rattle.node_program.specs.Node.{covers_of, minus_units, signed_of}
 use Rattle.node_program.specs.Steps.{counted_node, cover_rows_steps, signed_rows_steps, negated_of, with_row as row_before}
-use Rattle.pricing_oracle.specs.declared.building.BuildError.{BuildError}
-use Rattle.pricing_oracle.specs.declared.building.BuildError.TheVariants.{Wide, Memory}
-use Rattle.pricing_oracle.specs.Built.{IsBuilt, HasAdded, added}
+use Rattle.pricing_oracle.specs.Built.{added}
+use Rattle.pricing_oracle.specs.Filled.{HasMade, HasFilled}
 use Rattle.pricing_oracle.specs.Nodes.{RoleLeg, covering_of, in_roles, is_signed}
 use Rattle.pricing_oracle.specs.Programs.{IsOpen, given_with, signed_entries, unit_at}
-use Rattle.pricing_oracle.proofs.ByRole.{cover_count_is, covers_in, node_is, length-values}
+use Rattle.pricing_oracle.proofs.ByRole.{cover_count_is, covers_in, node_is}
+use Rattle.node_program.proofs.Shape.{length-values}
 use Rattle.pricing_oracle.proofs.GivenRows.{row_given, row_stops, rows_end, cover_rows_from, cover_row_first, signed_count, signed_rows_from, signed_row_first, signed_first_count, units_at_first}
 
 -- ---- what stands in a space
@@ -40,11 +40,10 @@ pub all_given : (c : Contents) → IsProgramGiven c → given_with (program_give
 all_given c h = rows_end (program_given c) ∙ ap (λ (c : Contents). Ok c) (given_again c h)
 
 -- a row that could not be written
-pub row_fails : (p : LinearProgram) (k : ℕ) (steps : Result (List Fraction) Misfit) (tail row : List Fraction) (later : Result (List Fraction) Misfit) (result : Result (Unit {0}) BuildError) (stop : BuildError) (all : Result Contents Misfit) (new : Contents)
-    → all ≡ given_with p k (row_before steps tail later) → result ≡ Err stop → HasAdded [] (after steps (λ xs. Ok (xs ++ tail))) result row → IsBuilt (λ (done : Unit {0}). new) all (Err stop)
-row_fails p k steps tail row later result Memory all new is err h = tt
-row_fails p k steps tail row later result (Wide w) all new is err h =
-    is ∙ row_stops steps tail p k later w (subst (λ r. HasAdded [] (after steps (λ xs. Ok (xs ++ tail))) r row) err h)
+pub row_fails : (p : LinearProgram) (k : ℕ) (steps : Result (List Fraction) Misfit) (tail row : List Fraction) (later : Result (List Fraction) Misfit) (result : Result (Unit {0}) Misfit) (w : Misfit) (all : Result Contents Misfit) (new : Contents)
+    → all ≡ given_with p k (row_before steps tail later) → result ≡ Err w → HasFilled [] (after steps (λ xs. Ok (xs ++ tail))) result row → HasMade (λ (done : Unit {0}). new) all (Err w)
+row_fails p k steps tail row later result w all new is err h =
+    is ∙ row_stops steps tail p k later w (subst (λ r. HasFilled [] (after steps (λ xs. Ok (xs ++ tail))) r row) err h)
 
 -- ---- how long a row is
 pub length-steps : {A B : Type 0} (f : A → Result B Misfit) (xs : List A) (ys : List B) → map_steps f xs ≡ Ok ys → length ys ≡ length xs
@@ -112,14 +111,14 @@ cover_row_on limit n place behind left l rest p row is b h =
     ∙ row_given steps (map whole (unit_at place (length rest))) row p (length rest) (cover_rows_from limit n (place + 1) rest)
     (subst (λ (k : ℕ). added [] (after steps (λ xs. Ok (xs ++ map whole (unit_at place k)))) ≡ Ok row) b h)
 
-pub cover_row_fails : (limit n place behind : ℕ) (left : List FractionLeg) (l : FractionLeg) (rest : List FractionLeg) (p : LinearProgram) (row : List Fraction) (result : Result (Unit {0}) BuildError) (stop : BuildError) (all : Result Contents Misfit) (new : Contents)
-    → left ≡ l ∷ rest → behind ≡ length rest → all ≡ given_with p (length left) (cover_rows_from limit n place left) → result ≡ Err stop
-    → HasAdded [] (after (map_steps (whole_of limit) (entries n l.option)) (λ xs. Ok (xs ++ map whole (unit_at place behind)))) result row → IsBuilt (λ (done : Unit {0}). new) all (Err stop)
-cover_row_fails limit n place behind left l rest p row result stop all new is b all_is err h =
+pub cover_row_fails : (limit n place behind : ℕ) (left : List FractionLeg) (l : FractionLeg) (rest : List FractionLeg) (p : LinearProgram) (row : List Fraction) (result : Result (Unit {0}) Misfit) (w : Misfit) (all : Result Contents Misfit) (new : Contents)
+    → left ≡ l ∷ rest → behind ≡ length rest → all ≡ given_with p (length left) (cover_rows_from limit n place left) → result ≡ Err w
+    → HasFilled [] (after (map_steps (whole_of limit) (entries n l.option)) (λ xs. Ok (xs ++ map whole (unit_at place behind)))) result row → HasMade (λ (done : Unit {0}). new) all (Err w)
+cover_row_fails limit n place behind left l rest p row result w all new is b all_is err h =
     let steps = map_steps (whole_of limit) (entries n l.option) in
-    row_fails p (length left) steps (map whole (unit_at place (length rest))) row (cover_rows_from limit n (place + 1) rest) result stop all new
+    row_fails p (length left) steps (map whole (unit_at place (length rest))) row (cover_rows_from limit n (place + 1) rest) result w all new
     (all_is ∙ ap (given_with p (length left)) (cover_row_first limit n place left l rest is)) err
-    (subst (λ (k : ℕ). HasAdded [] (after steps (λ xs. Ok (xs ++ map whole (unit_at place k)))) result row) b h)
+    (subst (λ (k : ℕ). HasFilled [] (after steps (λ xs. Ok (xs ++ map whole (unit_at place k)))) result row) b h)
 
 -- ---- the signed legs
 pub signed_rows_are : (limit n : ℕ) (tail : List Fraction) (p : LinearProgram) (legs : List FractionLeg) (signs : List Sign)
@@ -134,9 +133,9 @@ signed_row_on limit n tail left l rest p row is signed h =
     (λ i. given_with p (signed_first_count n left l rest is signed i) (signed_row_first limit n tail left l rest is signed i))
     ∙ row_given (signed_entries limit l.role (entries n l.leg.option)) tail row p (signed_count n rest) (signed_rows_from limit n tail rest) h
 
-pub signed_row_fails : (limit n : ℕ) (tail : List Fraction) (left : List RoleLeg) (l : RoleLeg) (rest : List RoleLeg) (p : LinearProgram) (row : List Fraction) (result : Result (Unit {0}) BuildError) (stop : BuildError) (all : Result Contents Misfit) (new : Contents)
-    → left ≡ l ∷ rest → is_signed l.role ≡ true → all ≡ given_with p (signed_count n left) (signed_rows_from limit n tail left) → result ≡ Err stop
-    → HasAdded [] (after (signed_entries limit l.role (entries n l.leg.option)) (λ xs. Ok (xs ++ tail))) result row → IsBuilt (λ (done : Unit {0}). new) all (Err stop)
-signed_row_fails limit n tail left l rest p row result stop all new is signed all_is err h =
-    row_fails p (signed_count n left) (signed_entries limit l.role (entries n l.leg.option)) tail row (signed_rows_from limit n tail rest) result stop all new
+pub signed_row_fails : (limit n : ℕ) (tail : List Fraction) (left : List RoleLeg) (l : RoleLeg) (rest : List RoleLeg) (p : LinearProgram) (row : List Fraction) (result : Result (Unit {0}) Misfit) (w : Misfit) (all : Result Contents Misfit) (new : Contents)
+    → left ≡ l ∷ rest → is_signed l.role ≡ true → all ≡ given_with p (signed_count n left) (signed_rows_from limit n tail left) → result ≡ Err w
+    → HasFilled [] (after (signed_entries limit l.role (entries n l.leg.option)) (λ xs. Ok (xs ++ tail))) result row → HasMade (λ (done : Unit {0}). new) all (Err w)
+signed_row_fails limit n tail left l rest p row result w all new is signed all_is err h =
+    row_fails p (signed_count n left) (signed_entries limit l.role (entries n l.leg.option)) tail row (signed_rows_from limit n tail rest) result w all new
     (all_is ∙ ap (given_with p (signed_count n left)) (signed_row_first limit n tail left l rest is signed)) err h

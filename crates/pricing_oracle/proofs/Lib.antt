@@ -7,5 +7,6 @@ pub mod GivenSteps
 pub mod MultiplierRows
 pub mod NodeEnds
 pub mod SplitPlaces
+pub mod TreeSizes
 pub mod WholeProgram
 pub mod WrittenRows

@@ -1,6 +1,7 @@
 -- The multipliers of a leaf, one leg after another.
 use Rattle.std.proofs.Common.{◌≡◌, ℕ, zero, suc, ◌+◌, ◌<◌, ◌≤◌, List, [], ◌∷◌, ◌++◌, length, map, drop, Bool, true, false, arith, refl, ap, sym, subst, ◌∙◌, append_assoc}
 use Rattle.std.specs.Prelude.{if◌then◌else◌}
+use Rattle.std.proofs.lemmas.List.{length-append}
 use Rattle.exact_num.specs.Fraction.{Fraction}
 use Rattle.exact_num.specs.Tests.{is_above_zero}
 use Rattle.table_run.specs.Places.{at, fraction_zero}
@@ -58,6 +59,16 @@ adds_multiplier all now new place legs l rest rows y by is h by_is all_is new_is
     ∙ ap (λ ms. now ++ ms) (placed_first place by later)
     ∙ sym (append_assoc now (placed_from place (by ∷ [])) (placed_from (place + 1) later))
     ∙ ap (λ (ms : List PlacedMultiplier). ms ++ placed_from (place + 1) later) (sym new_is)
+
+-- as many are left, of whom the leg's are the first
+pub multipliers_left : (place : ℕ) (legs : List RoleLeg) (l : RoleLeg) (rest : List RoleLeg) (rows : NextRows) (y : List Fraction) (by : Fraction)
+    → legs ≡ l ∷ rest → HasRow l.role rows (length y) → by ≡ multiplier_in l.role rows y
+    → length (placed_from place (multipliers_from legs rows y)) ≡ length (placed_from place (by ∷ [])) + length (placed_from (place + 1) (multipliers_from rest (rows_after l.role rows) y))
+multipliers_left place legs l rest rows y by is h by_is =
+    let later = multipliers_from rest (rows_after l.role rows) y in
+    ap (λ ms. length (placed_from place ms)) (multipliers_first legs l rest rows y is h ∙ ap (λ m. m ∷ later) (sym by_is))
+    ∙ ap length (placed_first place by later)
+    ∙ length-append (placed_from place (by ∷ [])) (placed_from (place + 1) later)
 
 -- ---- the rows that are left are enough
 pub record AreRowsLeft (n : ℕ) (legs : List RoleLeg) (rows : NextRows) (count : ℕ) : Type 0 where

@@ -1,15 +1,10 @@
 -- How a node of the code ends.
-use Rattle.std.proofs.Common.{◌≡◌, ℕ, zero, suc, ◌+◌, ◌-◌, ◌/◌, ◌≤◌, inl, inr, List, [], ◌∷◌, ◌++◌, length, map, replicate, take, drop, true, false, ℤ, pos, negsuc, ◌≤ℤ◌, All, None, arith, refl, ap, sym, subst, ◌∙◌}
+use Rattle.std.proofs.Common.{◌≡◌, ℕ, suc, ◌+◌, ◌-◌, ◌≤◌, inl, inr, List, [], ◌∷◌, ◌++◌, length, map, replicate, take, drop, true, false, ℤ, pos, None, arith, refl, ap, sym, subst, ◌∙◌}
 use Rattle.std.specs.Prelude.{Result, Ok, Err, nat_lt}
 use Rattle.std.specs.List.{sum}
-use Rattle.std.proofs.lemmas.Int.{ints}
 use Rattle.std.proofs.lemmas.Bool.{cases_lt}
 use Rattle.std.proofs.lemmas.List.{length-append, length-map, take-append-drop, length-take-le, map-append}
-use Rattle.std.proofs.lemmas.List.Elements.{All-nil, All-cons}
-use Rattle.std.proofs.lemmas.List.Sums.{sum_by-cons}
 use Rattle.arithmetic.specs.Sums.{positive_part}
-use Rattle.arithmetic.proofs.Integers.{*ℤ_mono}
-use Rattle.arithmetic.proofs.Parts.{part_below}
 use Rattle.arithmetic.proofs.Tests.{int_lt-yes}
 use Rattle.exact_num.specs.declared.misfit.Wide.{Wide as Misfit}
 use Rattle.exact_num.specs.Fraction.{Fraction, IsLowest, IsNotBelowZero, whole}
@@ -19,7 +14,7 @@ use Rattle.exact_num.specs.Tests.{is_above_zero}
 use Rattle.exact_num.specs.CommonDenominator.{common_denominator, amount_over, amounts_over, AreParts}
 use Rattle.exact_num.proofs.Fractions.{divides, common_positive}
 use Rattle.exact_num.proofs.Tested.{lowest_are_defined}
-use Rattle.table_run.specs.Places.{at, fraction_zero}
+use Rattle.table_run.specs.Places.{fraction_zero}
 use Rattle.table_run.specs.Program.{LinearProgram}
 use Rattle.table_run.specs.Ending.{Ending, done, unbounded, wide_at, no_unit_left, on_answer, on_steps}
 use Rattle.table_run.specs.Run.{Optimum, run, optimum}
@@ -29,7 +24,6 @@ use Rattle.form.specs.Primitive.{IsDirection}
 use Rattle.clearing_model.specs.Tree.{Sign}
 use Rattle.simplex.specs.declared.stop.RunStop.{RunStop}
 use Rattle.simplex.specs.declared.stop.RunStop.TheVariants.{Wide as RunWide, Budget as RunBudget}
-use Rattle.simplex.specs.Stops.{stop_of}
 use Rattle.simplex.specs.Spaces.{Contents, IsFound, given, program_given, answer_of, contents_after, x_of, y_of, reduced_of, value_of}
 use Rattle.sign_tree.specs.Legs.{FractionLeg}
 use Rattle.node_program.specs.Node.{covers_of, minus_units, node_program, signed_of, size_row}
@@ -46,10 +40,9 @@ use Rattle.table_run.proofs.Endings.{EndsWith}
 use Rattle.clearing_model.specs.Written.{PlacedMultiplier}
 use Rattle.sign_tree.specs.declared.trees.Multiplier.{Multiplier}
 use Rattle.sign_tree.specs.Read.{placed_of}
-use Rattle.pricing_oracle.specs.declared.building.BuildError.{BuildError}
-use Rattle.pricing_oracle.specs.declared.building.BuildError.TheVariants.{Wide, Memory}
-use Rattle.pricing_oracle.specs.Built.{IsBuilt, stop_at}
+use Rattle.pricing_oracle.specs.Filled.{HasMade}
 use Rattle.pricing_oracle.specs.Searches.{WrittenParts, HasShown}
+use Rattle.search_laws.proofs.Nodes.{no_amounts, first_all}
 
 -- ---- the program and its run
 pub program_of : (r : Result LinearProgram Misfit) (c : Contents) → after r (λ p. Ok (given p)) ≡ Ok c → (p : LinearProgram) × (r ≡ Ok p) × (c ≡ given p)
@@ -72,7 +65,7 @@ unfolding node_end
 no_unit q signs spent none = rw none refl
 
 pub run_stops : (e : Ending Optimum) (next : Optimum → ℕ → Ending NodeFound) (stop : RunStop) (units : ℕ) (old new : WrittenParts) (ending : Ending NodeFound)
-    → ending ≡ on_answer e next → answer_of e ≡ Err stop → units ≡ units_of e → HasShown old new ending (Err (stop_of stop)) units
+    → ending ≡ on_answer e next → answer_of e ≡ Err stop → units ≡ units_of e → HasShown old new ending (Err stop) units
 run_stops (done o s) next stop units old new ending is err spent = cc
 run_stops (unbounded d s) next stop units old new ending is err spent = cc
 run_stops (wide_at s w) next (RunWide u v) units old new ending is err spent =
@@ -152,24 +145,6 @@ steps_have_shape limit n legs L signs p h =
     go (Err w) ys cs ss h = cc
 
 -- ---- the direction of an optimum above 0
-no_amounts : (W : ℕ) (fs : List Fraction) → sum (map (λ (f : Fraction). positive_part f.numerator) fs) ≡ 0 → sum (amounts_over W fs) ≡ 0
-no_amounts W [] h = refl
-no_amounts W (f ∷ fs) h =
-    let parts : List ℕ = map (λ (f : Fraction). positive_part f.numerator) fs in
-    let s = sum_by-cons (λ (k : ℕ). k) (positive_part f.numerator) parts in
-    let own : positive_part f.numerator ≡ 0 = omega (arith, h, s) in
-    let here : positive_part (amount_over W f) ≡ 0 = part_below (amount_over W f) (omega (arith, ints, *ℤ_mono (W / f.denominator) f.numerator (pos 0) (low f.numerator own))) in
-    omega (arith, here, no_amounts W fs (omega (arith, h, s)), sum_by-cons (λ (k : ℕ). k) (positive_part (amount_over W f)) (amounts_over W fs))
-  where
-    low : (v : ℤ) → positive_part v ≡ 0 → v ≤ℤ pos 0
-    low (pos n) h = omega (arith, ints, h)
-    low (negsuc n) h = omega (arith, ints)
-
-first_all : (P : Fraction → Type 0) (k : ℕ) (fs : List Fraction) → ((j : ℕ) → P (at fs j)) → All P (take k fs)
-first_all P zero fs h = All-nil P
-first_all P (suc k) [] h = All-nil P
-first_all P (suc k) (f ∷ fs) h = All-cons P f (take k fs) (h 0) (first_all P k fs (λ j. h (suc j)))
-
 pub first_are_direction : (q : Question) (signs : List Sign) (p : LinearProgram) (x y reduced : List Fraction) (value : Fraction) → IsAsked q → program_at q signs ≡ Ok p → IsOptimum p x y reduced value → is_above_zero value ≡ true
     → IsDirection (take (suc q.underlyings) x)
 first_are_direction q signs p x y reduced value asked built optimal above =
@@ -201,10 +176,9 @@ first_are_direction q signs p x y reduced value asked built optimal above =
     }
 
 -- ---- the parts of a node
-pub program_stops : (q : Question) (signs : List Sign) (spent units : ℕ) (old new : WrittenParts) (error : BuildError) (c : Contents) → nat_lt spent q.budget ≡ true → units ≡ spent + 1
-    → IsBuilt (λ (done : Unit {0}). c) (after (program_at q signs) (λ p. Ok (given p))) (Err error) → HasShown old new (node_end q signs spent) (Err (stop_at units error)) units
-program_stops q signs spent units old new Memory c left count h = tt
-program_stops q signs spent units old new (Wide w) c left count h =
+pub program_stops : (q : Question) (signs : List Sign) (spent units : ℕ) (old new : WrittenParts) (w : Misfit) (c : Contents) → nat_lt spent q.budget ≡ true → units ≡ spent + 1
+    → HasMade (λ (done : Unit {0}). c) (after (program_at q signs) (λ p. Ok (given p))) (Err w) → HasShown old new (node_end q signs spent) (Err (RunWide units w)) units
+program_stops q signs spent units old new w c left count h =
     (node_misfits q signs spent w left (misfit (program_at q signs) h) ∙ ap (λ (u : ℕ). wide_at u w) (sym count), refl)
   where
     misfit : (r : Result LinearProgram Misfit) → after r (λ p. Ok (given p)) ≡ Err w → r ≡ Err w

@@ -15,11 +15,11 @@ use Rattle.simplex.specs.Spaces.{Contents, Workspace, IsProgramGiven, given, pro
 use Rattle.node_program.specs.Roles.{NodeLeg, values}
 use Rattle.node_program.specs.Node.{covers_of, minus_units, signed_of, size_row}
 use Rattle.node_program.specs.Steps.{counted_node, cover_cost_steps, cover_rows_steps, covering_legs, node_steps, signed_rows_steps, state_cost_steps}
-use Rattle.pricing_oracle.specs.declared.building.BuildError.{BuildError}
-use Rattle.pricing_oracle.specs.declared.building.BuildError.TheVariants.{Wide, Memory}
-use Rattle.pricing_oracle.specs.Built.{IsBuilt, HasAdded, added}
+use Rattle.pricing_oracle.specs.Built.{added}
+use Rattle.pricing_oracle.specs.Filled.{HasMade, HasFilled}
 use Rattle.pricing_oracle.specs.Programs.{IsOpen, costs_steps, given_with, with_rows}
-use Rattle.pricing_oracle.proofs.ByRole.{cover_count_is, covering_is, length-values}
+use Rattle.pricing_oracle.proofs.ByRole.{cover_count_is, covering_is}
+use Rattle.node_program.proofs.Shape.{length-values}
 use Rattle.pricing_oracle.proofs.GivenSteps.{length-steps}
 
 -- the costs and the row of the state's size
@@ -107,10 +107,9 @@ pub is_written : (steps : Result (List Fraction) Misfit) (row : List Fraction) �
 is_written (Ok xs) row h = h
 is_written (Err w) row h = cc
 
-pub not_written : (steps : Result (List Fraction) Misfit) (next : List Fraction → Result Contents Misfit) (result : Result (Unit {0}) BuildError) (stop : BuildError) (row : List Fraction) (all : Result Contents Misfit) (new : Contents)
-    → all ≡ after steps next → result ≡ Err stop → HasAdded [] steps result row → IsBuilt (λ (done : Unit {0}). new) all (Err stop)
-not_written steps next result Memory row all new is err h = tt
-not_written steps next result (Wide w) row all new is err h = is ∙ go steps (subst (λ r. HasAdded [] steps r row) err h)
+pub not_written : (steps : Result (List Fraction) Misfit) (next : List Fraction → Result Contents Misfit) (result : Result (Unit {0}) Misfit) (w : Misfit) (row : List Fraction) (all : Result Contents Misfit) (new : Contents)
+    → all ≡ after steps next → result ≡ Err w → HasFilled [] steps result row → HasMade (λ (done : Unit {0}). new) all (Err w)
+not_written steps next result w row all new is err h = is ∙ go steps (subst (λ r. HasFilled [] steps r row) err h)
   where
     go : (steps : Result (List Fraction) Misfit) → added [] steps ≡ Err w → after steps next ≡ Err w
     go (Ok xs) h = cc
@@ -131,14 +130,13 @@ written_width limit n legs L signs row h =
     go (Err w) ys a b h = cc
 
 -- ---- the rows behind the costs
-pub part_fails : (steps : Result Contents Misfit) (next : Contents → Result Contents Misfit) (result : Result (Unit {0}) BuildError) (stop : BuildError) (all : Result Contents Misfit) (mid new : Contents)
-    → all ≡ after steps next → result ≡ Err stop → IsBuilt (λ (done : Unit {0}). mid) steps result → IsBuilt (λ (done : Unit {0}). new) all (Err stop)
-part_fails steps next result Memory all mid new is err h = tt
-part_fails steps next result (Wide w) all mid new is err h =
-    is ∙ ap (λ s. after s next) (subst (λ r. IsBuilt (λ (done : Unit {0}). mid) steps r) err h)
+pub part_fails : (steps : Result Contents Misfit) (next : Contents → Result Contents Misfit) (result : Result (Unit {0}) Misfit) (w : Misfit) (all : Result Contents Misfit) (mid new : Contents)
+    → all ≡ after steps next → result ≡ Err w → HasMade (λ (done : Unit {0}). mid) steps result → HasMade (λ (done : Unit {0}). new) all (Err w)
+part_fails steps next result w all mid new is err h =
+    is ∙ ap (λ s. after s next) (subst (λ r. HasMade (λ (done : Unit {0}). mid) steps r) err h)
 
-pub built_as : (new : Contents) (a b : Result Contents Misfit) (result : Result (Unit {0}) BuildError) → a ≡ b → IsBuilt (λ (done : Unit {0}). new) b result → IsBuilt (λ (done : Unit {0}). new) a result
-built_as new a b result e h = subst (λ s. IsBuilt (λ (done : Unit {0}). new) s result) (sym e) h
+pub built_as : (new : Contents) (a b : Result Contents Misfit) (result : Result (Unit {0}) Misfit) → a ≡ b → HasMade (λ (done : Unit {0}). new) b result → HasMade (λ (done : Unit {0}). new) a result
+built_as new a b result e h = subst (λ s. HasMade (λ (done : Unit {0}). new) s result) (sym e) h
 
 abbrev pub signed_rows_of : ℕ → ℕ → ℕ → List NodeLeg → Contents → Result Contents Misfit
 signed_rows_of limit n covers node c = given_with (program_given c) (length (signed_of n node)) (signed_rows_steps limit n (replicate covers fraction_zero) node)

@@ -16,15 +16,15 @@ replicate-last (suc k) x =
     let e : suc k + 1 ≡ suc (k + 1) = omega arith in
     rw e (ap (λ (l : List Fraction). x ∷ l) (replicate-last k x))
 
--- one 1 more
-pub one_more : {A : Type 0} (value : A → Fraction) (start old new : List A) (one : A) (k : ℕ)
-    → map value old ≡ map value start ++ replicate k (whole (pos 1)) → new ≡ old ++ (one ∷ []) → value one ≡ whole (pos 1)
-    → map value new ≡ map value start ++ replicate (k + 1) (whole (pos 1))
-one_more value start old new one k is pushed one_is =
+-- one number more, of which so many are there
+pub one_more : {A : Type 0} (value : A → Fraction) (f : Fraction) (start old new : List A) (one : A) (k : ℕ)
+    → map value old ≡ map value start ++ replicate k f → new ≡ old ++ (one ∷ []) → value one ≡ f
+    → map value new ≡ map value start ++ replicate (k + 1) f
+one_more value f start old new one k is pushed one_is =
     ap (map value) pushed ∙ map-append value old (one ∷ [])
     ∙ (λ i. is i ++ (one_is i ∷ []))
-    ∙ append_assoc (map value start) (replicate k (whole (pos 1))) (whole (pos 1) ∷ [])
-    ∙ ap (λ (l : List Fraction). map value start ++ l) (replicate-last k (whole (pos 1)))
+    ∙ append_assoc (map value start) (replicate k f) (f ∷ [])
+    ∙ ap (λ (l : List Fraction). map value start ++ l) (replicate-last k f)
 
 pub size_row_is : (n k : ℕ) (a b : List Fraction) → a ≡ replicate (n + 1) (whole (pos 1)) → b ≡ a ++ replicate k fraction_zero → b ≡ map whole (size_row n k)
 size_row_is n k a b a_is b_is =

@@ -1,13 +1,16 @@
 -- What the answers of the code say of the search.
-use Rattle.std.specs.Prelude.{ℕ, ◌≡◌, List, map, Result, Ok, Err}
+use Rattle.std.specs.Prelude.{ℕ, ◌≡◌, List, map, Option, Some, None, Result, Ok, Err}
 use Rattle.exact_num.specs.Fraction.{Fraction}
 use Rattle.frac.specs.Range.{limit as largest}
 use Rattle.form.specs.declared.orders.Batch.{Batch}
+use Rattle.form.specs.declared.states.State.{State}
 use Rattle.form.specs.States.{vector_of}
 use Rattle.clearing_model.specs.Certificate.{ClosesAsWritten}
 use Rattle.clearing_model.specs.Written.{WrittenTree, IsWritten}
 use Rattle.sign_tree.specs.declared.trees.SignTree.{SignTree}
 use Rattle.sign_tree.specs.Read.{node_of, placed_of}
+use Rattle.simplex.specs.Stops.{stop_of}
+use Rattle.simplex.specs.declared.stop.RunStop.{RunStop}
 use Rattle.simplex.specs.declared.stop.Stop.{Stop}
 use Rattle.simplex.specs.declared.stop.Stop.TheVariants.{Wide, Budget, Memory}
 use Rattle.table_run.specs.Ending.{Ending, done, wide_at, no_unit_left}
@@ -36,6 +39,12 @@ IsSearchAnswer ending (Ok answer) spent = EndsWith ending answer spent
 IsSearchAnswer ending (Err (Wide unit wide)) spent = (ending ≡ wide_at unit wide) × (spent ≡ unit)
 IsSearchAnswer ending (Err Budget) spent = ending ≡ no_unit_left spent
 IsSearchAnswer ending (Err Memory) spent = Unit {0}
+
+-- what a search in given room found: its tree stands in the room where it closed
+abbrev pub found_in : SignTree → Result (Option State) RunStop → Result Answer Stop
+found_in tree (Ok None) = Ok (Closed tree)
+found_in tree (Ok (Some state)) = Ok (Violated state)
+found_in tree (Err stop) = Err (stop_of stop)
 
 -- the tree is well formed and closes; the state is primitive, and at it the fills owe more than the liability
 abbrev pub IsTrueOf : Question → Answer → Type 0

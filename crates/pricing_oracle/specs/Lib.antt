@@ -1,5 +1,6 @@
 pub mod Answers
 pub mod Built
+pub mod Filled
 pub mod Multipliers
 pub mod Nodes
 pub mod Programs

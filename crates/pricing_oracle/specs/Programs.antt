@@ -7,8 +7,7 @@ use Rattle.master_program.specs.Master.{map_steps}
 use Rattle.table_run.specs.Places.{fraction_zero}
 use Rattle.table_run.specs.Program.{LinearProgram}
 use Rattle.simplex.specs.Spaces.{Contents, Workspace, IsProgramGiven, given, program_given}
-use Rattle.pricing_oracle.specs.declared.building.BuildError.{BuildError}
-use Rattle.pricing_oracle.specs.Built.{IsBuilt}
+use Rattle.pricing_oracle.specs.Filled.{HasMade}
 use Rattle.node_program.specs.Node.{minus_units}
 use Rattle.node_program.specs.Roles.{Role, Idle, Covering, Free, Above, Below, values}
 use Rattle.node_program.specs.Steps.{cover_cost_steps, covering_legs, negated_of, state_cost_steps}
@@ -41,8 +40,8 @@ abbrev pub given_with : LinearProgram → ℕ → Result (List Fraction) Wide �
 given_with p k rows = after rows (λ more. Ok (given (with_rows p k more)))
 
 -- the call has given so many rows to a space, or met the first misfit
-abbrev pub HasGiven : Workspace → ℕ → Result (List Fraction) Wide → Result (Unit {0}) BuildError → Workspace → Type 0
-HasGiven old k rows result new = IsBuilt (λ (done : Unit {0}). new.contents) (given_with (program_given old.contents) k rows) result
+abbrev pub HasGiven : Workspace → ℕ → Result (List Fraction) Wide → Result (Unit {0}) Wide → Workspace → Type 0
+HasGiven old k rows result new = HasMade (λ (done : Unit {0}). new.contents) (given_with (program_given old.contents) k rows) result
 
 -- a space in which a program of so many variables stands, with room for so many rows more
 pub record IsOpen (space : Workspace) (variables more : ℕ) : Type 0 where

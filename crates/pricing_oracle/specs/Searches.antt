@@ -7,8 +7,9 @@ use Rattle.form.specs.States.{vector_of}
 use Rattle.clearing_model.specs.Tree.{Sign, Unsigned, Plus, Minus}
 use Rattle.clearing_model.specs.Written.{WrittenNode, PlacedMultiplier, WrittenTree, Ends, Parts, nodes_of, multipliers_of}
 use Rattle.sign_tree.specs.Read.{node_of, placed_of}
-use Rattle.simplex.specs.declared.stop.Stop.{Stop}
-use Rattle.simplex.specs.declared.stop.Stop.TheVariants.{Wide, Budget, Memory}
+use Rattle.sign_tree.specs.declared.trees.SignTree.{SignTree}
+use Rattle.simplex.specs.declared.stop.RunStop.{RunStop}
+use Rattle.simplex.specs.declared.stop.RunStop.TheVariants.{Wide, Budget}
 use Rattle.table_run.specs.Ending.{Ending, done, wide_at, no_unit_left, on_answer, on_steps}
 use Rattle.node_program.specs.Roles.{NodeLeg}
 use Rattle.node_program.specs.Node.{covers_of, signed_of}
@@ -33,27 +34,32 @@ pub record WrittenParts : Type 0 where
 abbrev pub parts_of : TreeParts → WrittenParts
 parts_of tree = record { nodes = map node_of tree.nodes.items; multipliers = map placed_of tree.multipliers.items }
 
+-- the tree of the code as it is written, and none
+abbrev pub parts_in : SignTree → WrittenParts
+parts_in tree = record { nodes = map node_of tree.nodes; multipliers = map placed_of tree.multipliers }
+
+abbrev pub no_parts : WrittenParts
+no_parts = record { nodes = []; multipliers = [] }
+
 -- a tree behind what is written
 abbrev pub with_tree : WrittenParts → WrittenTree → WrittenParts
 with_tree parts tree = record { nodes = parts.nodes ++ nodes_of tree; multipliers = parts.multipliers ++ multipliers_of tree }
 
--- ---- ends, where want of memory says nothing
+-- ---- ends
 -- a node that is a leaf is written behind the tree
-abbrev pub HasShown : WrittenParts → WrittenParts → Ending NodeFound → Result Shown Stop → ℕ → Type 0
+abbrev pub HasShown : WrittenParts → WrittenParts → Ending NodeFound → Result Shown RunStop → ℕ → Type 0
 HasShown old new ending (Ok Leaf) spent = (ms : List PlacedMultiplier) × (new ≡ with_tree old (Ends ms)) × (ending ≡ done (leaf ms) spent)
 HasShown old new ending (Ok (Violated z)) spent = ending ≡ done (violated (vector_of z)) spent
 HasShown old new ending (Ok (Splits place)) spent = (new ≡ old) × (ending ≡ done (splits place) spent)
 HasShown old new ending (Err (Wide unit wide)) spent = (ending ≡ wide_at unit wide) × (spent ≡ unit)
 HasShown old new ending (Err Budget) spent = ending ≡ no_unit_left spent
-HasShown old new ending (Err Memory) spent = Unit {0}
 
 -- and so is a branch that closes
-abbrev pub HasSearched : WrittenParts → WrittenParts → Ending Found → Result (Option State) Stop → ℕ → Type 0
+abbrev pub HasSearched : WrittenParts → WrittenParts → Ending Found → Result (Option State) RunStop → ℕ → Type 0
 HasSearched old new ending (Ok None) spent = (tree : WrittenTree) × (new ≡ with_tree old tree) × (ending ≡ done (closed tree) spent)
 HasSearched old new ending (Ok (Some z)) spent = ending ≡ done (found (vector_of z)) spent
 HasSearched old new ending (Err (Wide unit wide)) spent = (ending ≡ wide_at unit wide) × (spent ≡ unit)
 HasSearched old new ending (Err Budget) spent = ending ≡ no_unit_left spent
-HasSearched old new ending (Err Memory) spent = Unit {0}
 
 -- ---- the legs that have no sign
 abbrev pub one_if_unsigned : Sign → ℕ

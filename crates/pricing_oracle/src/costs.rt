@@ -1,5 +1,5 @@
 //! The costs of the program of a node.
-ghost use Rattle.std.specs.Prelude.{◌≡◌, ◌≤◌, ◌<◌, ◌+◌, suc, map, unsigned_abs, pos, []};
+ghost use Rattle.std.specs.Prelude.{◌≡◌, ◌≤◌, ◌<◌, ◌+◌, suc, length, map, unsigned_abs, pos, [], OnOk, vec_capacity, vec_len};
 ghost use Rattle.exact_num.specs.Fits.{meaning};
 ghost use Rattle.form.specs.Vector.{positive_part};
 ghost use Rattle.master_program.specs.Master.{map_steps};
@@ -8,12 +8,12 @@ ghost use Rattle.sign_tree.specs.Read.{sign_of};
 ghost use Rattle.node_program.specs.Roles.{values};
 ghost use Rattle.node_program.specs.Steps.{add_all_earned, add_earned, cover_cost_steps, covering_legs, leg_fill, state_cost_steps};
 ghost use Rattle.table_run.specs.Places.{fraction_zero};
-ghost use Rattle.pricing_oracle.specs.Built.{HasAdded};
+ghost use Rattle.pricing_oracle.specs.Filled.{HasFilled};
 ghost use Rattle.pricing_oracle.specs.Programs.{costs_steps};
 ghost use Rattle.pricing_oracle.specs.Nodes.{MayBeAsked, add_earned_by, legs_asked, role_leg_as};
 
-use crate::building::{BuildError, push};
 use crate::legs::{Asked, NodeLeg, Role, entry, first_of, legs_of};
+use compact_table::room::push_within;
 use exact_num::{Exact, Wide, plus_product};
 use sign_tree::BatchLeg;
 
@@ -94,20 +94,20 @@ fn state_cost<N: Exact>(asked: Asked<N>, signs: &[i8], i: usize) -> Result<N, Wi
 }
 
 // Adds the costs of the state's entries.
-fn add_state_costs<N: Exact>(
-    row: &mut Vec<N>,
-    asked: Asked<N>,
-    signs: &[i8],
-) -> Result<(), BuildError>
+fn add_state_costs<N: Exact>(row: &mut Vec<N>, asked: Asked<N>, signs: &[i8]) -> Result<(), Wide>
     requires asked { MayBeAsked asked }
-    ensures { HasAdded (map N.fraction row.old.items)
+    requires room { vec_len row.old + (asked.underlyings + 1) ≤ vec_capacity row.old }
+    ensures added { HasFilled (map N.fraction row.old.items)
         (map_steps (state_cost_steps (unsigned_abs N.LIMIT) (legs_asked N.fraction asked.entry)
         (N.fraction asked.entry.liability.now) (map sign_of signs.now))
         (values (λ i. i) (suc asked.entry.underlyings)))
         result (map N.fraction row.new.items) }
+    ensures len { OnOk result
+        (vec_len row.new ≡ vec_len row.old + (asked.entry.underlyings + 1)) }
+    ensures capacity { vec_capacity row.old ≤ vec_capacity row.new }
 {
     for i in 0..asked.underlyings + 1 {
-        push(row, state_cost(asked, signs, i)?)?;
+        push_within(row, state_cost(asked, signs, i)?);
     }
     Ok(())
 }
@@ -123,21 +123,19 @@ fn cover_cost<N: Exact>(leg: BatchLeg<N>) -> Result<N, Wide>
 }
 
 // Adds the costs of the covering legs' variables.
-fn add_cover_costs<N: Exact>(
-    row: &mut Vec<N>,
-    asked: Asked<N>,
-    signs: &[i8],
-) -> Result<(), BuildError>
+fn add_cover_costs<N: Exact>(row: &mut Vec<N>, asked: Asked<N>, signs: &[i8]) -> Result<(), Wide>
     requires asked { MayBeAsked asked }
-    ensures { HasAdded (map N.fraction row.old.items)
+    requires room { vec_len row.old + length signs.now ≤ vec_capacity row.old }
+    ensures added { HasFilled (map N.fraction row.old.items)
         (map_steps (cover_cost_steps (unsigned_abs N.LIMIT))
         (covering_legs (legs_asked N.fraction asked.entry) (map sign_of signs.now)))
         result (map N.fraction row.new.items) }
+    ensures capacity { vec_capacity row.old ≤ vec_capacity row.new }
 {
     let mut left = legs_of(asked, signs);
     while let Some((leg, after)) = first_of(left) {
         if leg.role.is_covering() {
-            push(row, cover_cost(leg.leg)?)?;
+            push_within(row, cover_cost(leg.leg)?);
         }
         left = after;
     }
@@ -145,17 +143,15 @@ fn add_cover_costs<N: Exact>(
 }
 
 /// Writes the costs of the program of a node: those of the state's entries, and of the covering legs' variables.
-pub fn write_costs<N: Exact>(
-    row: &mut Vec<N>,
-    asked: Asked<N>,
-    signs: &[i8],
-) -> Result<(), BuildError>
+pub fn write_costs<N: Exact>(row: &mut Vec<N>, asked: Asked<N>, signs: &[i8]) -> Result<(), Wide>
     requires asked { MayBeAsked asked }
-    ensures { HasAdded []
+    requires room { asked.underlyings + 1 + length signs.now ≤ vec_capacity row.old }
+    ensures written { HasFilled []
         (costs_steps (unsigned_abs N.LIMIT) asked.entry.underlyings
         (legs_asked N.fraction asked.entry) (N.fraction asked.entry.liability.now)
         (map sign_of signs.now))
         result (map N.fraction row.new.items) }
+    ensures capacity { vec_capacity row.old ≤ vec_capacity row.new }
 {
     row.clear();
     add_state_costs(row, asked, signs)?;

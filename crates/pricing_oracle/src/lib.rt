@@ -3,9 +3,9 @@
 #![tactic(auto)]
 
 mod branches;
-pub mod building;
 mod costs;
 mod excess;
+pub mod filling;
 pub mod found;
 mod giving;
 mod legs;

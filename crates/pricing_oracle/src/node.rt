@@ -1,5 +1,5 @@
 //! One node of the search.
-ghost use Rattle.std.specs.Prelude.{◌≡◌, ◌≤◌, ◌+◌, ◌∷◌, ℕ, List, OnOk, IfOk, Some, length, map, suc, take, unsigned_abs};
+ghost use Rattle.std.specs.Prelude.{◌≡◌, ◌≤◌, ◌<◌, ◌+◌, ◌∷◌, ℕ, List, IfOk, Some, length, map, suc, take, unsigned_abs, vec_capacity, vec_len};
 ghost use Rattle.std.specs.List.{All};
 ghost use Rattle.exact_num.specs.Fraction.{Fraction, IsNotBelowZero};
 ghost use Rattle.exact_num.specs.Tests.{is_above_zero};
@@ -11,6 +11,7 @@ ghost use Rattle.node_program.specs.Search.{leaf_of, node_end};
 ghost use Rattle.table_run.specs.Ending.{unbounded};
 ghost use Rattle.pricing_oracle.specs.Nodes.{MayBeAsked, legs_asked};
 ghost use Rattle.pricing_oracle.specs.Programs.{HasSameSize};
+ghost use Rattle.pricing_oracle.specs.Rooms.{HasRoom, KeepsRoom};
 ghost use Rattle.pricing_oracle.specs.Searches.{HasRows, HasShown, WrittenParts, asked_within, node_of_asked, parts_of, state_end, with_tree};
 
 use crate::excess::excess;
@@ -19,11 +20,11 @@ use crate::legs::Asked;
 use crate::reading::{add_multipliers, state_of};
 use crate::rows::cover_count;
 use crate::splitting::split_place;
+use compact_table::room::push_within;
 use exact_num::Exact;
 use form::State;
 use sign_tree::{Multiplier, Node};
-use simplex::{Budget, Space, Stop};
-use std::alloc::AllocError;
+use simplex::{Budget, RunStop, Space};
 
 /// What a node shows.
 #[derive(Clone, Copy)]
@@ -51,29 +52,29 @@ fn is_above_zero<N: Exact>(x: N) -> bool
 }
 
 // Adds a leaf, whose multipliers the optimum in the space gives.
-fn add_leaf<N: Exact>(
-    tree: &mut TreeParts,
-    space: &Space<N>,
-    asked: Asked<N>,
-    signs: &[i8],
-) -> Result<(), AllocError>
+fn add_leaf<N: Exact>(tree: &mut TreeParts, space: &Space<N>, asked: Asked<N>, signs: &[i8])
     requires asked { MayBeAsked asked }
     requires signs { length signs.now ≤ 1024 }
     requires found { IsFound space.now.contents }
     requires rows { HasRows asked.underlyings
         (node_of_asked N.fraction asked (map sign_of signs.now)) (y_of space.now.contents) }
-    ensures { OnOk result (parts_of tree.new ≡ with_tree (parts_of tree.old) (Ends (leaf_of
+    requires node { vec_len tree.old.nodes < vec_capacity tree.old.nodes }
+    requires multipliers { vec_len tree.old.multipliers + length (leaf_of
+        (node_of_asked N.fraction asked (map sign_of signs.now)) (y_of space.now.contents))
+        ≤ vec_capacity tree.old.multipliers }
+    ensures leaf { parts_of tree.new ≡ with_tree (parts_of tree.old) (Ends (leaf_of
         (node_of_asked N.fraction asked.entry (map sign_of signs.now))
-        (y_of space.now.contents)))) }
+        (y_of space.now.contents))) }
+    ensures room { KeepsRoom tree.old tree.new }
 {
     let before = tree.multipliers.len();
     let covers = cover_count(asked, signs);
-    add_multipliers(&mut tree.multipliers, space, asked, signs, covers)?;
+    add_multipliers(&mut tree.multipliers, space, asked, signs, covers);
     let count = tree.multipliers.len() - before;
-    tree.nodes.push(Node::Leaf {
+    let leaf = Node::Leaf {
         count: count as u32,
-    })?;
-    Ok(())
+    };
+    push_within(&mut tree.nodes, leaf);
 }
 
 // What a node shows whose optimum is above 0.
@@ -83,26 +84,28 @@ fn look_at_state<N: Exact>(
     asked: Asked<N>,
     signs: &[i8],
     unit: u32,
-) -> Result<Shown, Stop>
+) -> Result<Shown, RunStop>
     requires asked { MayBeAsked asked }
     requires signs { length signs.now ≤ 1024 }
+    requires row { asked.underlyings + 1 ≤ vec_capacity row.old }
     requires found { IsFound space.now.contents }
     requires direction { IsDirection (take (suc asked.underlyings) (x_of space.now.contents)) }
     requires count { suc asked.underlyings ≤ length (x_of space.now.contents) }
     requires bounded { (d : List Fraction) (spent : ℕ)
         → state_end N.fraction (unsigned_abs N.LIMIT) asked (map sign_of signs.now)
         (x_of space.now.contents) unit ≡ unbounded d spent → ⊥ }
-    ensures { (parts : WrittenParts) → HasShown parts parts
+    ensures shown { (parts : WrittenParts) → HasShown parts parts
         (state_end N.fraction (unsigned_abs N.LIMIT) asked.entry (map sign_of signs.now)
         (x_of space.now.contents) unit) result unit }
+    ensures capacity { vec_capacity row.old ≤ vec_capacity row.new }
 {
     let state = match state_of(row, space, asked.underlyings) {
         Ok(state) => state,
-        Err(error) => return Err(error.at(unit)),
+        Err(wide) => return Err(RunStop::Wide { unit, wide }),
     };
     let excess = match excess(asked, &state) {
         Ok(excess) => excess,
-        Err(wide) => return Err(Stop::Wide { unit, wide }),
+        Err(wide) => return Err(RunStop::Wide { unit, wide }),
     };
     if is_above_zero(excess) {
         return Ok(Shown::Violated(state));
@@ -121,24 +124,31 @@ pub fn open_node<N: Exact>(
     signs: &[i8],
     budget: &mut Budget,
     tree: &mut TreeParts,
-) -> Result<Shown, Stop>
+) -> Result<Shown, RunStop>
     requires asked { MayBeAsked asked }
     requires not_below_zero { All IsNotBelowZero (map N.fraction asked.fills.now) }
     requires signs { length signs.now ≤ 1024 }
     requires count { length signs.now ≡ length (legs_asked N.fraction asked) }
     requires rows { 1 + length signs.now ≤ space.old.rows }
     requires columns { asked.underlyings + 1 + length signs.now ≤ space.old.columns }
+    requires row { asked.underlyings + 1 + length signs.now ≤ vec_capacity row.old }
+    requires tree { HasRoom tree.old budget.old.spent budget.old.limit }
     ensures shown { HasShown (parts_of tree.old) (parts_of tree.new)
         (node_end (asked_within N.fraction (unsigned_abs N.LIMIT) budget.old.limit asked.entry)
         (map sign_of signs.now) budget.old.spent) result budget.new.spent }
     ensures size { HasSameSize space.old space.new }
+    ensures capacity { vec_capacity row.old ≤ vec_capacity row.new }
+    ensures room { KeepsRoom tree.old tree.new }
     ensures limit { budget.new.limit ≡ budget.old.limit }
 {
     if !budget.spend() {
-        return Err(Stop::Budget);
+        return Err(RunStop::Budget);
     }
-    if let Err(error) = give_program(space, row, asked, signs) {
-        return Err(error.at(budget.spent));
+    if let Err(wide) = give_program(space, row, asked, signs) {
+        return Err(RunStop::Wide {
+            unit: budget.spent,
+            wide,
+        });
     }
     if !space.run(budget)? {
         unreachable!()
@@ -146,6 +156,6 @@ pub fn open_node<N: Exact>(
     if is_above_zero(space.value()) {
         return look_at_state(space, row, asked, signs, budget.spent);
     }
-    add_leaf(tree, space, asked, signs)?;
+    add_leaf(tree, space, asked, signs);
     Ok(Shown::Leaf)
 }

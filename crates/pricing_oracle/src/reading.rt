@@ -1,5 +1,5 @@
 //! What is read off an optimum of the program of a node.
-ghost use Rattle.std.specs.Prelude.{◌≡◌, ◌≤◌, ◌<◌, ◌+◌, ◌++◌, ◌∷◌, [], IfOk, OnOk, length, map, suc, take, unsigned_abs, vec_len};
+ghost use Rattle.std.specs.Prelude.{◌≡◌, ◌≤◌, ◌<◌, ◌+◌, ◌++◌, ◌∷◌, [], IfOk, length, map, suc, take, unsigned_abs, vec_capacity, vec_len};
 ghost use Rattle.form.specs.Primitive.{IsDirection, primitive_of};
 ghost use Rattle.form.specs.States.{vector_of};
 ghost use Rattle.sign_tree.specs.Read.{placed_of, sign_of};
@@ -8,44 +8,33 @@ ghost use Rattle.node_program.specs.Node.{covers_of, signed_of};
 ghost use Rattle.node_program.specs.Roles.{placed_from};
 ghost use Rattle.node_program.specs.Search.{leaf_of};
 ghost use Rattle.node_program.specs.Steps.{counted_node};
-ghost use Rattle.pricing_oracle.specs.Built.{IsBuilt};
+ghost use Rattle.pricing_oracle.specs.Filled.{HasMade};
 ghost use Rattle.pricing_oracle.specs.Nodes.{MayBeAsked, legs_asked, role_as};
 ghost use Rattle.pricing_oracle.specs.Multipliers.{HasRow, multiplier_in, rows_after};
 
-use crate::building::BuildError;
+use crate::filling::write_values;
 use crate::legs::{Asked, Role, first_of, legs_of};
-use exact_num::Exact;
+use compact_table::room::push_within;
+use exact_num::{Exact, Wide};
 use form::{State, primitive};
 use frac::Frac128;
 use sign_tree::Multiplier;
 use simplex::Space;
-use std::alloc::AllocError;
-
-// Writes the values of the first variables.
-fn write_first<N: Exact>(row: &mut Vec<N>, space: &Space<N>, count: usize) -> Result<(), AllocError>
-    requires found { IsFound space.now.contents }
-    requires count { count ≤ length (x_of space.now.contents) }
-    ensures { OnOk result (map N.fraction row.new.items ≡ take count (x_of space.now.contents)) }
-{
-    row.clear();
-    for j in 0..count {
-        row.push(space.x(j))?;
-    }
-    Ok(())
-}
 
 /// The primitive state in whose direction the optimum stands.
-pub fn state_of<N: Exact>(row: &mut Vec<N>, space: &Space<N>, n: usize) -> Result<State, BuildError>
+pub fn state_of<N: Exact>(row: &mut Vec<N>, space: &Space<N>, n: usize) -> Result<State, Wide>
     requires found { IsFound space.now.contents }
     requires few { n ≤ 8 }
     requires direction { IsDirection (take (suc n) (x_of space.now.contents)) }
     requires count { suc n ≤ length (x_of space.now.contents) }
-    ensures state { IsBuilt vector_of
+    requires room { n + 1 ≤ vec_capacity row.old }
+    ensures state { HasMade vector_of
         (primitive_of (unsigned_abs N.LIMIT) (take (suc n) (x_of space.now.contents))) result }
     ensures count { IfOk result (λ state. state.count ≡ n + 1) }
+    ensures capacity { vec_capacity row.old ≤ vec_capacity row.new }
 {
-    write_first(row, space, n + 1)?;
-    Ok(primitive(row.as_slice())?)
+    write_values(row, space, n + 1);
+    primitive(row.as_slice())
 }
 
 /// The rows of the next covering leg and of the next signed one.
@@ -87,23 +76,22 @@ fn multiplier<N: Exact>(space: &Space<N>, rows: NextRows, role: Role) -> N
 }
 
 // Adds a multiplier, where it is above 0.
-fn add_multiplier<N: Exact>(
-    multipliers: &mut Vec<Multiplier>,
-    place: usize,
-    by: N,
-) -> Result<(), AllocError>
-    requires { place ≤ 2048 }
-    ensures added { OnOk result (map placed_of multipliers.new.items
-        ≡ map placed_of multipliers.old.items ++ placed_from place (N.fraction by ∷ [])) }
-    ensures one { OnOk result (vec_len multipliers.new ≤ vec_len multipliers.old + 1) }
+fn add_multiplier<N: Exact>(multipliers: &mut Vec<Multiplier>, place: usize, by: N)
+    requires place { place ≤ 2048 }
+    requires room { vec_len multipliers.old + length (placed_from place (N.fraction by ∷ []))
+        ≤ vec_capacity multipliers.old }
+    ensures added { map placed_of multipliers.new.items
+        ≡ map placed_of multipliers.old.items ++ placed_from place (N.fraction by ∷ []) }
+    ensures one { vec_len multipliers.new ≤ vec_len multipliers.old + 1 }
+    ensures capacity { vec_capacity multipliers.old ≤ vec_capacity multipliers.new }
 {
     if by.sign() > 0 {
-        multipliers.push(Multiplier {
+        let multiplier = Multiplier {
             place: place as u32,
             by: Frac128::of(by),
-        })?;
+        };
+        push_within(multipliers, multiplier);
     }
-    Ok(())
 }
 
 /// Adds the multipliers of a leaf: of the dual values of the rows after the first those above 0, by rising place.
@@ -113,7 +101,7 @@ pub fn add_multipliers<N: Exact>(
     asked: Asked<N>,
     signs: &[i8],
     covers: usize,
-) -> Result<(), AllocError>
+)
     requires asked { MayBeAsked asked }
     requires signs { length signs.now ≤ 1024 }
     requires found { IsFound space.now.contents }
@@ -123,12 +111,15 @@ pub fn add_multipliers<N: Exact>(
     requires rows { length (y_of space.now.contents)
         ≡ suc (covers + length (signed_of asked.underlyings
         (counted_node (legs_asked N.fraction asked) (map sign_of signs.now)))) }
-    ensures added { OnOk result (map placed_of multipliers.new.items
+    requires room { vec_len multipliers.old + length (leaf_of
+        (counted_node (legs_asked N.fraction asked) (map sign_of signs.now))
+        (y_of space.now.contents)) ≤ vec_capacity multipliers.old }
+    ensures added { map placed_of multipliers.new.items
         ≡ map placed_of multipliers.old.items ++ leaf_of
         (counted_node (legs_asked N.fraction asked.entry) (map sign_of signs.now))
-        (y_of space.now.contents)) }
-    ensures few { OnOk result
-        (vec_len multipliers.new ≤ vec_len multipliers.old + length signs.now) }
+        (y_of space.now.contents) }
+    ensures few { vec_len multipliers.new ≤ vec_len multipliers.old + length signs.now }
+    ensures capacity { vec_capacity multipliers.old ≤ vec_capacity multipliers.new }
 {
     let mut place = 1;
     let mut rows = NextRows {
@@ -137,10 +128,9 @@ pub fn add_multipliers<N: Exact>(
     };
     let mut left = legs_of(asked, signs);
     while let Some((leg, after)) = first_of(left) {
-        add_multiplier(multipliers, place, multiplier(space, rows, leg.role))?;
+        add_multiplier(multipliers, place, multiplier(space, rows, leg.role));
         rows = after_leg(rows, leg.role);
         place += 1;
         left = after;
     }
-    Ok(())
 }

@@ -1,107 +1,137 @@
 //! Room for searches, one after another.
-ghost use Rattle.std.specs.Prelude.{◌≡◌, ◌≤◌, IfOk, OnOk, length, map, replicate, unsigned_abs};
+ghost use Rattle.std.specs.Prelude.{◌≡◌, ◌≤◌, IfOk, length, map, replicate, unsigned_abs, vec_capacity};
 ghost use Rattle.std.specs.List.{All};
 ghost use Rattle.exact_num.specs.Fraction.{IsNotBelowZero};
 ghost use Rattle.clearing_model.specs.Tree.{Unsigned};
 ghost use Rattle.sign_tree.specs.Read.{sign_of};
 ghost use Rattle.node_program.specs.Search.{search};
 ghost use Rattle.pricing_oracle.specs.Nodes.{MayBeAsked, legs_asked};
-ghost use Rattle.pricing_oracle.specs.Searches.{HasSearched, asked_within, parts_of};
+ghost use Rattle.pricing_oracle.specs.Rooms.{HasSameRoom};
+ghost use Rattle.pricing_oracle.specs.Searches.{HasSearched, asked_within, no_parts, parts_in};
 
 use crate::branches::branch;
 use crate::legs::Asked;
 use crate::node::TreeParts;
+use compact_table::room::push_within;
 use exact_num::Exact;
 use form::State;
-use simplex::{Budget, Space, Stop};
+use sign_tree::{Multipliers, Nodes, SignTree};
+use simplex::{Budget, RunStop, Space};
 use std::alloc::{AllocError, Global};
 use std::marker::Model;
 
-/// What searches over batches with at most so many underlyings and legs work in, one after another. Contracts see it as
-/// these two sizes.
+/// What searches over batches with at most so many underlyings and legs work in, one after another, with at most so many
+/// units each. Only `new` takes memory. Contracts see it as these sizes and the tree of the last search.
 #[derive(Drop)]
 pub struct SearchRoom<N: Exact> {
     underlyings: usize,
     legs: usize,
+    units: u32,
     // the programs of nodes, one after another
     space: Space<N>,
     // a sign for each leg: 0 for none
     signs: Vec<i8>,
     // the row that is given next, or the state that is read off
     row: Vec<N>,
+    // the nodes and multipliers so far: no more than units are spent
+    tree: TreeParts,
 }
 
 impl<N: Exact> Model for SearchRoom<N> {
-    ghost use Rattle.pricing_oracle.specs.Rooms.{IsRoom, RoomSizes, sizes};
+    ghost use Rattle.std.specs.Prelude.{vec_capacity};
+    ghost use Rattle.pricing_oracle.specs.Rooms.{IsRoom, SearchSpace, search_space};
 
-    ghost Value = { RoomSizes };
+    ghost Value = { SearchSpace };
 
-    ghost view = { λ s. sizes s.underlyings s.legs };
+    ghost view = { λ s. search_space s.underlyings s.legs s.units s.tree };
 
-    ghost invariant = { λ s. IsRoom s.underlyings s.legs s.space };
+    ghost invariant = { λ s. IsRoom s.underlyings s.legs s.units s.space (vec_capacity s.signs) (vec_capacity s.row) s.tree };
 }
 
 // Writes that so many legs have no sign.
-fn write_unsigned(signs: &mut Vec<i8>, count: usize) -> Result<(), AllocError>
-    ensures { OnOk result (map sign_of signs.new.items ≡ replicate count Unsigned) }
+fn write_unsigned(signs: &mut Vec<i8>, count: usize)
+    requires { count ≤ vec_capacity signs.old }
+    ensures signs { map sign_of signs.new.items ≡ replicate count Unsigned }
+    ensures capacity { vec_capacity signs.old ≤ vec_capacity signs.new }
 {
     signs.clear();
     for _i in 0..count {
-        signs.push(0)?;
+        push_within(signs, 0);
     }
-    Ok(())
 }
 
 impl<N: Exact> SearchRoom<N> {
-    /// Room for searches over batches with at most so many underlyings and legs. The error is want of memory.
-    pub fn new(alloc: Global, underlyings: usize, legs: usize) -> Result<SearchRoom<N>, AllocError>
+    /// Room for searches over batches with at most so many underlyings and legs, with at most so many units. The error is
+    /// want of memory.
+    pub fn new(
+        alloc: Global,
+        underlyings: usize,
+        legs: usize,
+        units: u32,
+    ) -> Result<SearchRoom<N>, AllocError>
         requires underlyings { underlyings ≤ 8 }
         requires legs { legs ≤ 1024 }
-        ensures sizes { IfOk result
-            (λ room. (room.underlyings ≡ underlyings) × (room.legs ≡ legs)) }
+        ensures sizes { IfOk result (λ room. (room.underlyings ≡ underlyings)
+            × (room.legs ≡ legs) × (room.units ≡ units)) }
     {
         let columns = underlyings + 1 + legs;
         let space = Space::new(alloc, 1 + legs, columns)?;
         let signs = Vec::with_capacity(alloc, legs)?;
         let row = Vec::with_capacity(alloc, columns)?;
+        let nodes = Vec::with_capacity(alloc, units as usize)?;
+        let multipliers = Vec::with_capacity(alloc, units as usize)?;
         Ok(SearchRoom {
             underlyings,
             legs,
+            units,
             space,
             signs,
             row,
+            tree: TreeParts { nodes, multipliers },
         })
     }
 
-    /// Searches from the root, at which no leg has a sign: adds the tree where it closes, and else answers the state that it
-    /// finds.
+    /// Searches from the root, at which no leg has a sign: the tree stands here where it closes, and else the answer is the
+    /// state that it finds.
     pub(crate) fn search(
         &mut self,
         asked: Asked<N>,
         legs: usize,
         budget: &mut Budget,
-        tree: &mut TreeParts,
-    ) -> Result<Option<State>, Stop>
+    ) -> Result<Option<State>, RunStop>
         requires asked { MayBeAsked asked }
         requires not_below_zero { All IsNotBelowZero (map N.fraction asked.fills.now) }
         requires few { legs ≤ 1024 }
         requires count { legs ≡ length (legs_asked N.fraction asked) }
         requires underlyings { asked.underlyings ≤ self.old.underlyings }
         requires legs { legs ≤ self.old.legs }
-        ensures search { HasSearched (parts_of tree.old) (parts_of tree.new)
+        requires units { budget.old.limit ≤ self.old.units }
+        ensures search { HasSearched no_parts (parts_in self.new.tree)
             (search (asked_within N.fraction (unsigned_abs N.LIMIT) budget.old.limit asked.entry)
             budget.old.spent) result budget.new.spent }
-        ensures room { self.new ≡ self.old }
+        ensures room { HasSameRoom self.old self.new }
         ensures limit { budget.new.limit ≡ budget.old.limit }
     {
-        write_unsigned(&mut self.signs, legs)?;
+        self.tree.nodes.clear();
+        self.tree.multipliers.clear();
+        write_unsigned(&mut self.signs, legs);
         branch(
             &mut self.space,
             &mut self.row,
             asked,
             self.signs.as_mut_slice(),
             budget,
-            tree,
+            &mut self.tree,
         )
+    }
+
+    /// The tree of the last search, which closed.
+    pub fn into_tree(self) -> SignTree
+        ensures { result ≡ self.tree }
+    {
+        SignTree {
+            nodes: Nodes::from_vec(self.tree.nodes),
+            multipliers: Multipliers::from_vec(self.tree.multipliers),
+        }
     }
 }

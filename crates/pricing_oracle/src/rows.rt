@@ -1,5 +1,5 @@
 //! The rows of the program of a node.
-ghost use Rattle.std.specs.Prelude.{◌≡◌, ◌≤◌, ◌<◌, ◌+◌, ◌-◌, ◌++◌, ◌∷◌, [], Ok, OnOk, get_or, length, map, negsuc, pos, replicate, unsigned_abs};
+ghost use Rattle.std.specs.Prelude.{◌≡◌, ◌≤◌, ◌<◌, ◌+◌, ◌-◌, ◌++◌, ◌∷◌, [], Ok, OnOk, get_or, length, map, negsuc, pos, replicate, unsigned_abs, vec_capacity, vec_len};
 ghost use Rattle.exact_num.specs.Fits.{after, meaning, whole_of};
 ghost use Rattle.exact_num.specs.Fraction.{whole};
 ghost use Rattle.form.specs.Payoff.{option_of};
@@ -9,16 +9,14 @@ ghost use Rattle.node_program.specs.Node.{covers_of, size_row};
 ghost use Rattle.node_program.specs.Roles.{entries};
 ghost use Rattle.node_program.specs.Steps.{counted_node, negated_of};
 ghost use Rattle.table_run.specs.Places.{fraction_zero};
-ghost use Rattle.pricing_oracle.specs.Built.{HasAdded};
+ghost use Rattle.pricing_oracle.specs.Filled.{HasFilled};
 ghost use Rattle.pricing_oracle.specs.Nodes.{MayBeAsked, legs_asked, role_as};
 ghost use Rattle.pricing_oracle.specs.Programs.{signed_entries, unit_at};
 
-use crate::building::{BuildError, push};
 use crate::legs::{Asked, NodeLeg, Role, entry, first_of, legs_of};
+use compact_table::room::push_within;
 use exact_num::{Exact, Wide};
 use form::Form;
-use simplex::fill::push_zeros;
-use std::alloc::AllocError;
 
 // What an option has at entry i.
 fn entry_of<N: Exact>(form: &Form, i: usize) -> Result<N, Wide>
@@ -41,51 +39,73 @@ fn negated_of<N: Exact>(form: &Form, i: usize) -> Result<N, Wide>
 }
 
 // Adds the entries 0 to n of an option.
-fn add_entries<N: Exact>(row: &mut Vec<N>, form: &Form, n: usize) -> Result<(), BuildError>
-    requires { n ≤ 8 }
-    ensures { HasAdded (map N.fraction row.old.items)
+fn add_entries<N: Exact>(row: &mut Vec<N>, form: &Form, n: usize) -> Result<(), Wide>
+    requires n { n ≤ 8 }
+    requires room { vec_len row.old + (n + 1) ≤ vec_capacity row.old }
+    ensures added { HasFilled (map N.fraction row.old.items)
         (map_steps (whole_of (unsigned_abs N.LIMIT)) (entries n (option_of form.now)))
         result (map N.fraction row.new.items) }
+    ensures len { OnOk result (vec_len row.new ≡ vec_len row.old + (n + 1)) }
+    ensures capacity { vec_capacity row.old ≤ vec_capacity row.new }
 {
     for i in 0..n + 1 {
-        push(row, entry_of(form, i)?)?;
+        push_within(row, entry_of(form, i)?);
     }
     Ok(())
 }
 
 // The same with a minus.
-fn add_negated<N: Exact>(row: &mut Vec<N>, form: &Form, n: usize) -> Result<(), BuildError>
-    requires { n ≤ 8 }
-    ensures { HasAdded (map N.fraction row.old.items)
+fn add_negated<N: Exact>(row: &mut Vec<N>, form: &Form, n: usize) -> Result<(), Wide>
+    requires n { n ≤ 8 }
+    requires room { vec_len row.old + (n + 1) ≤ vec_capacity row.old }
+    ensures added { HasFilled (map N.fraction row.old.items)
         (map_steps (negated_of (unsigned_abs N.LIMIT)) (entries n (option_of form.now)))
         result (map N.fraction row.new.items) }
+    ensures len { OnOk result (vec_len row.new ≡ vec_len row.old + (n + 1)) }
+    ensures capacity { vec_capacity row.old ≤ vec_capacity row.new }
 {
     for i in 0..n + 1 {
-        push(row, negated_of(form, i)?)?;
+        push_within(row, negated_of(form, i)?);
     }
     Ok(())
 }
 
 // Adds `count` times 1.
-fn push_ones<N: Exact>(row: &mut Vec<N>, count: usize) -> Result<(), AllocError>
-    ensures { OnOk result (map N.fraction row.new.items
-        ≡ map N.fraction row.old.items ++ replicate count (whole (pos 1))) }
+fn push_ones<N: Exact>(row: &mut Vec<N>, count: usize)
+    requires { vec_len row.old + count ≤ vec_capacity row.old }
+    ensures added { map N.fraction row.new.items
+        ≡ map N.fraction row.old.items ++ replicate count (whole (pos 1)) }
+    ensures len { vec_len row.new ≡ vec_len row.old + count }
+    ensures capacity { vec_capacity row.old ≤ vec_capacity row.new }
 {
     for _i in 0..count {
-        row.push(N::one())?;
+        push_within(row, N::one());
     }
-    Ok(())
+}
+
+// Adds `count` zeros.
+fn push_zeros<N: Exact>(row: &mut Vec<N>, count: usize)
+    requires { vec_len row.old + count ≤ vec_capacity row.old }
+    ensures added { map N.fraction row.new.items
+        ≡ map N.fraction row.old.items ++ replicate count fraction_zero }
+    ensures len { vec_len row.new ≡ vec_len row.old + count }
+    ensures capacity { vec_capacity row.old ≤ vec_capacity row.new }
+{
+    for _i in 0..count {
+        push_within(row, N::zero());
+    }
 }
 
 /// Writes the row of a state's size: 1 for each of its entries, and 0 for the variables of the covering legs.
-pub fn write_size_row<N: Exact>(row: &mut Vec<N>, n: usize, covers: usize) -> Result<(), AllocError>
+pub fn write_size_row<N: Exact>(row: &mut Vec<N>, n: usize, covers: usize)
     requires n { n ≤ 8 }
-    ensures { OnOk result (map N.fraction row.new.items ≡ map whole (size_row n covers)) }
+    requires room { n + 1 + covers ≤ vec_capacity row.old }
+    ensures written { map N.fraction row.new.items ≡ map whole (size_row n covers) }
+    ensures capacity { vec_capacity row.old ≤ vec_capacity row.new }
 {
     row.clear();
-    push_ones(row, n + 1)?;
-    push_zeros(row, covers)?;
-    Ok(())
+    push_ones(row, n + 1);
+    push_zeros(row, covers);
 }
 
 /// Writes the row of a covering leg: its option, and -1 at its own place among the covering legs.
@@ -95,19 +115,21 @@ pub fn write_cover_row<N: Exact>(
     n: usize,
     place: usize,
     covers: usize,
-) -> Result<(), BuildError>
+) -> Result<(), Wide>
     requires n { n ≤ 8 }
     requires place { place < covers }
-    ensures { HasAdded [] (after
+    requires room { n + 1 + covers ≤ vec_capacity row.old }
+    ensures written { HasFilled [] (after
         (map_steps (whole_of (unsigned_abs N.LIMIT)) (entries n (option_of form.now)))
         (λ xs. Ok (xs ++ map whole (unit_at place (covers - place - 1)))))
         result (map N.fraction row.new.items) }
+    ensures capacity { vec_capacity row.old ≤ vec_capacity row.new }
 {
     row.clear();
     add_entries(row, form, n)?;
-    push_zeros(row, place)?;
-    push(row, N::one().neg())?;
-    push_zeros(row, covers - place - 1)?;
+    push_zeros(row, place);
+    push_within(row, N::one().neg());
+    push_zeros(row, covers - place - 1);
     Ok(())
 }
 
@@ -118,19 +140,21 @@ pub fn write_signed_row<N: Exact>(
     form: &Form,
     n: usize,
     covers: usize,
-) -> Result<(), BuildError>
+) -> Result<(), Wide>
     requires n { n ≤ 8 }
-    ensures { HasAdded [] (after
+    requires room { n + 1 + covers ≤ vec_capacity row.old }
+    ensures written { HasFilled [] (after
         (signed_entries (unsigned_abs N.LIMIT) (role_as role) (entries n (option_of form.now)))
         (λ xs. Ok (xs ++ replicate covers fraction_zero)))
         result (map N.fraction row.new.items) }
+    ensures capacity { vec_capacity row.old ≤ vec_capacity row.new }
 {
     row.clear();
     match role {
         Role::Above => add_negated(row, form, n)?,
         _ => add_entries(row, form, n)?,
     }
-    push_zeros(row, covers)?;
+    push_zeros(row, covers);
     Ok(())
 }
 

@@ -7,43 +7,46 @@ ghost use Rattle.form.specs.Payoff.{IsOnCount};
 ghost use Rattle.form.specs.declared.limits.TheConstants.{MAX_ORDERS};
 ghost use Rattle.sign_tree.specs.Legs.{leg_count};
 ghost use Rattle.node_program.specs.Search.{search as search_of};
-ghost use Rattle.pricing_oracle.specs.Answers.{IsSearchAnswer, IsTrueOf, question};
+ghost use Rattle.pricing_oracle.specs.Answers.{IsSearchAnswer, IsTrueOf, found_in, question};
+ghost use Rattle.pricing_oracle.specs.Rooms.{HasSameRoom};
 
 use crate::found::Found;
 use crate::legs::Asked;
-use crate::node::TreeParts;
 use crate::room::SearchRoom;
 use exact_num::Exact;
-use form::Batch;
-use sign_tree::{Multipliers, Nodes, SignTree, leg_count};
-use simplex::{Budget, Stop};
+use form::{Batch, State};
+use sign_tree::leg_count;
+use simplex::{Budget, RunStop, Stop};
 use std::alloc::Global;
 
-/// Whether the liability is enough for the fills at every state: the search of the reference run, in given room.
+/// Whether the liability is enough for the fills at every state: the search of the reference run, in given room. Where it
+/// is, there is no answer and the room has the tree that closes; else the answer is a state at which it is not. It takes no
+/// memory.
 ///
 /// `Wide` comes at the first step of the search that does not fit, `Budget` where it wants one unit more than the budget
-/// has; units that were spent stay spent. `Memory` comes for want of memory alone.
+/// has; units that were spent stay spent.
 pub fn search_in<N: Exact>(
-    alloc: Global,
     batch: &Batch,
     fills: &[N],
     liability: &N,
     budget: &mut Budget,
     room: &mut SearchRoom<N>,
-) -> Result<Found, Stop>
+) -> Result<Option<State>, RunStop>
     requires forms { HasItsForms batch.now }
     requires few { length batch.now.orders ≤ MAX_ORDERS }
     requires fills { length fills.now ≡ length batch.now.orders }
     requires not_below_zero { All IsNotBelowZero (map N.fraction fills.now) }
     requires underlyings { batch.now.underlyings ≤ room.old.underlyings }
     requires legs { leg_count batch.now.orders ≤ room.old.legs }
+    requires units { budget.old.limit ≤ room.old.units }
     ensures search { IsSearchAnswer (search_of
         (question (unsigned_abs N.LIMIT) budget.old.limit batch.now (map N.fraction fills.now)
-        (N.fraction liability.now)) budget.old.spent) result budget.new.spent }
-    ensures found { IfOk result (IsTrueOf
+        (N.fraction liability.now)) budget.old.spent)
+        (found_in room.new.tree result) budget.new.spent }
+    ensures found { IfOk (found_in room.new.tree result) (IsTrueOf
         (question (unsigned_abs N.LIMIT) budget.old.limit batch.now (map N.fraction fills.now)
         (N.fraction liability.now))) }
-    ensures room { room.new ≡ room.old }
+    ensures room { HasSameRoom room.old room.new }
     ensures limit { budget.new.limit ≡ budget.old.limit }
 {
     let orders = batch.orders.as_slice();
@@ -53,20 +56,10 @@ pub fn search_in<N: Exact>(
         fills,
         liability,
     };
-    let mut tree = TreeParts {
-        nodes: Vec::new(alloc),
-        multipliers: Vec::new(alloc),
-    };
-    match room.search(asked, leg_count(orders), budget, &mut tree)? {
-        Some(state) => Ok(Found::Violated(state)),
-        None => Ok(Found::Closed(SignTree {
-            nodes: Nodes::from_vec(tree.nodes),
-            multipliers: Multipliers::from_vec(tree.multipliers),
-        })),
-    }
+    room.search(asked, leg_count(orders), budget)
 }
 
-/// The same, in room of its own.
+/// The same in room of its own, for want of which `Memory` comes.
 pub fn search<N: Exact>(
     alloc: Global,
     batch: &Batch,
@@ -87,8 +80,11 @@ pub fn search<N: Exact>(
     ensures limit { budget.new.limit ≡ budget.old.limit }
 {
     let legs = leg_count(batch.orders.as_slice());
-    let mut room = SearchRoom::new(alloc, batch.underlyings as usize, legs)?;
-    search_in(alloc, batch, fills, liability, budget, &mut room)
+    let mut room = SearchRoom::new(alloc, batch.underlyings as usize, legs, budget.limit)?;
+    match search_in(batch, fills, liability, budget, &mut room)? {
+        Some(state) => Ok(Found::Violated(state)),
+        None => Ok(Found::Closed(room.into_tree())),
+    }
 }
 
 #[cfg(test)]

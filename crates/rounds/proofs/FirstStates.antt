@@ -8,6 +8,7 @@ use Rattle.form.specs.declared.states.State.{State}
 use Rattle.form.specs.States.{vector_of}
 use Rattle.form.specs.Vector.{positive_part}
 use Rattle.node_program.specs.Rounds.{axes, axis_rays}
+use Rattle.search_laws.proofs.FewStates.{length-axes}
 
 map_zeros : (n : ℕ) → map positive_part (replicate n (pos 0)) ≡ replicate n 0
 map_zeros zero = refl
@@ -79,10 +80,6 @@ ray_first n i lt =
     let more : n + 1 ≡ suc n = omega arith in
     let next : i + 1 ≡ suc i = omega arith in
     rw (more, next) (drop-map behind_zero i (axes n) ∙ ap (map behind_zero) (axis_first n i lt) ∙ ap (λ (rays : List (List ℕ)). (0 ∷ set (replicate n 0) i 1) ∷ rays) (sym (drop-map behind_zero (suc i) (axes n))))
-
-length-axes : (n : ℕ) → length (axes n) ≡ n
-length-axes zero = refl
-length-axes (suc n) = ap suc (length-map (axes n) behind_zero ∙ length-axes n)
 
 -- one more ray behind those that are there
 pub ray_added : (n i : ℕ) (rays new : List State) (ray : State) → i < n → new ≡ rays ++ (ray ∷ []) → vector_of ray ≡ set (replicate (n + 1) 0) (i + 1) 1

@@ -1,11 +1,13 @@
-pub mod Added
 pub mod Certified
 pub mod Cleared
 pub mod FirstStates
-pub mod Joined
+pub mod GivenMaster
 pub mod JointRuns
 pub mod ReadOff
+pub mod Rooms
 pub mod Rounds
 pub mod Solve
 pub mod Stops
 pub mod WorkedRuns
+pub mod Wider
+pub mod EnoughUnits

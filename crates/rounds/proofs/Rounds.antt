@@ -12,8 +12,9 @@ use Rattle.node_program.specs.Search.{Found, closed, found, search}
 use Rattle.node_program.specs.Rounds.{Limits, Cleared, question_of, on_search, rounds_from, rounds, axis_rays}
 use Rattle.node_program.proofs.Wider.{next_round}
 use Rattle.search_laws.proofs.Rounds.{all_rounds_end}
-use Rattle.simplex.specs.declared.stop.Stop.{Stop}
-use Rattle.rounds.specs.Round.{IsStopOf, one_round}
+use Rattle.simplex.specs.declared.stop.RunStop.{RunStop}
+use Rattle.rounds.specs.Stops.{IsStopOf}
+use Rattle.search_laws.specs.Sizes.{one_round}
 use Rattle.rounds.proofs.Stops.{stops_after, stops_as}
 
 -- ---- what follows a round
@@ -77,7 +78,7 @@ rounds_add limits n i orders spent states new state units later r le left is pus
     ∙ ap (λ (zs : List (List ℕ)). rounds_from limits n orders rest zs later) (sym (ap (map vector_of) pushed ∙ map-append vector_of states (state ∷ [])))
 
 -- where one stops, they stop
-pub rounds_stop : (limits : Limits) (n i : ℕ) (orders : List Order) (spent : ℕ) (states : List (List ℕ)) (units later : ℕ) (stop : Stop)
+pub rounds_stop : (limits : Limits) (n i : ℕ) (orders : List Order) (spent : ℕ) (states : List (List ℕ)) (units later : ℕ) (stop : RunStop)
     → i ≤ limits.budget → AreLeft limits n orders spent i states units → IsStopOf (one_round limits n orders states units) stop later
     → IsStopOf (rounds limits n orders spent) stop later
 rounds_stop limits n i orders spent states units later stop le left is =

@@ -1,12 +1,14 @@
 -- From the master program that was built to its solution.
-use Rattle.std.proofs.Common.{◌≡◌, ℕ, zero, suc, ◌*◌, ◌+◌, ◌≤◌, List, [], ◌∷◌, length, map, zip, drop, get_or, All, ap, sym, ◌∙◌, subst, arith, vec_len, Vec, Global, Ok}
+use Rattle.std.proofs.Common.{◌≡◌, ℕ, ◌*◌, ◌+◌, ◌≤◌, List, [], ◌∷◌, length, map, drop, get_or, All, ap, sym, ◌∙◌, arith, vec_len, Vec, Global}
+use Rattle.std.specs.Prelude.{Result, Ok, Err}
 use Rattle.std.proofs.lemmas.List.{length-map, length-append}
-use Rattle.std.proofs.lemmas.List.Elements.{All-nil, All-cons}
-use Rattle.arithmetic.proofs.Sums.{All-head, All-tail, All-of_map, All-to_map}
-use Rattle.exact_num.specs.Fraction.{Fraction, IsNotBelowZero}
-use Rattle.table_run.specs.Places.{at}
-use Rattle.table_run.specs.Optimum.{IsProgram}
-use Rattle.table_run.specs.Ending.{on_answer}
+use Rattle.arithmetic.proofs.Sums.{All-of_map, All-to_map}
+use Rattle.exact_num.specs.Fraction.{Fraction}
+use Rattle.exact_num.specs.Fits.{after}
+use Rattle.exact_num.specs.declared.misfit.Wide.{Wide as Misfit}
+use Rattle.table_run.specs.Ending.{on_answer, on_steps, wide_at}
+use Rattle.table_run.specs.Program.{LinearProgram}
+use Rattle.table_run.specs.Run.{run}
 use Rattle.form.specs.declared.orders.Order.{Order}
 use Rattle.form.specs.declared.states.State.{State}
 use Rattle.form.specs.Vector.{IsState}
@@ -15,38 +17,43 @@ use Rattle.form.specs.States.{vector_of}
 use Rattle.form.proofs.BundleLegs.{bundle_of-legs}
 use Rattle.form.proofs.DotSteps.{length-vector_of}
 use Rattle.form.proofs.SameBundle.{length-bundle_legs}
-use Rattle.clearing_model.specs.Certificate.{IsFill, IsFractionMeasure, Point}
+use Rattle.clearing_model.specs.Certificate.{IsFractionMeasure, Point}
 use Rattle.measure.specs.declared.measures.Weighted.{Weighted}
 use Rattle.measure.specs.Points.{point_of}
-use Rattle.simplex.specs.declared.program.Program.{Program}
-use Rattle.simplex.specs.Programs.{as_program}
+use Rattle.simplex.specs.Spaces.{Contents, given, program_given}
 use Rattle.line_cover.specs.Line.{legs_of_orders}
 use Rattle.master_program.specs.Master.{zero_prices, plain_master, master}
 use Rattle.master_program.specs.Solve.{on_optimum, master_run, master_solve}
 use Rattle.master_program.proofs.Steps.{steps_give_master}
-use Rattle.master_program.proofs.Bounded.{master_is_program}
+use Rattle.pricing_oracle.proofs.NodeEnds.{built_there}
 
 -- ---- a solve is a run that is read off
-pub solve_is : (payoff_limit limit left spent n : ℕ) (orders given : List Order) (states : List (List ℕ)) → given ≡ orders
-    → master_solve payoff_limit limit left spent n orders states ≡ on_answer (master_run payoff_limit limit left spent given states) (on_optimum limit (zero_prices n) given states)
+pub solve_is : (payoff_limit limit left spent n : ℕ) (orders those : List Order) (states : List (List ℕ)) → those ≡ orders
+    → master_solve payoff_limit limit left spent n orders states ≡ on_answer (master_run payoff_limit limit left spent those states) (on_optimum limit (zero_prices n) those states)
 unfolding master_solve
-solve_is payoff_limit limit left spent n orders given states is =
+solve_is payoff_limit limit left spent n orders those states is =
     ap (λ (os : List Order). on_answer (master_run payoff_limit limit left spent os states) (on_optimum limit (zero_prices n) os states)) (sym is)
 
--- ---- the program that was built is the master program
-pub is_master : {A : Type 0} (value : A → Fraction) (p : Program A) (payoff_limit limit : ℕ) (orders : List Order) (states : List (List ℕ)) → master payoff_limit limit orders states ≡ Ok (as_program value p) → as_program value p ≡ plain_master (zero_prices 1) orders states
-is_master value p payoff_limit limit orders states h = steps_give_master payoff_limit limit 1 orders states (as_program value p) h
+-- ---- the program that was given is the master program, and its run that of the solve
+pub run_there : (payoff_limit limit left spent : ℕ) (orders : List Order) (states : List (List ℕ)) (c : Contents) → after (master payoff_limit limit orders states) (λ p. Ok (given p)) ≡ Ok c
+    → master_run payoff_limit limit left spent orders states ≡ run limit (program_given c) left spent
+run_there payoff_limit limit left spent orders states c h = ap (λ r. on_steps spent r (λ program. run limit program left spent)) (built_there (master payoff_limit limit orders states) c h)
 
-pub is_program : {A : Type 0} (value : A → Fraction) (p : Program A) (orders : List Order) (states : List (List ℕ)) → as_program value p ≡ plain_master (zero_prices 1) orders states → IsProgram (as_program value p)
-is_program value p orders states e = subst IsProgram (sym e) (master_is_program (zero_prices 1) orders states)
+pub run_misfits : (payoff_limit limit left spent : ℕ) (orders : List Order) (states : List (List ℕ)) (w : Misfit) → after (master payoff_limit limit orders states) (λ p. Ok (given p)) ≡ Err w
+    → master_run payoff_limit limit left spent orders states ≡ wide_at spent w
+run_misfits payoff_limit limit left spent orders states w h = ap (λ r. on_steps spent r (λ program. run limit program left spent)) (misfit (master payoff_limit limit orders states) h)
+  where
+    misfit : (r : Result LinearProgram Misfit) → after r (λ p. Ok (given p)) ≡ Err w → r ≡ Err w
+    misfit (Ok p) h = cc
+    misfit (Err v) h =
+        let same : v ≡ w = cc in
+        ap (λ (w : Misfit). Err w) same
+
+pub is_master : (payoff_limit limit : ℕ) (orders : List Order) (states : List (List ℕ)) (c : Contents) → after (master payoff_limit limit orders states) (λ p. Ok (given p)) ≡ Ok c → program_given c ≡ plain_master (zero_prices 1) orders states
+is_master payoff_limit limit orders states c h = steps_give_master payoff_limit limit 1 orders states (program_given c) (built_there (master payoff_limit limit orders states) c h)
 
 pub counted : {A : Type 0} (value : A → Fraction) (xs : Vec A Global) (n : ℕ) → length (map value xs.items) ≡ n → vec_len xs ≡ n
 counted value xs n h = omega (arith, h, length-map xs.items value, xs.ok)
-
-pub all_signs : {A : Type 0} (value : A → Fraction) (xs : List A) → ((j : ℕ) → IsNotBelowZero (at (map value xs) j)) → All (λ b. IsNotBelowZero (value b)) xs
-all_signs value [] h k d low = absurd (omega (arith, low))
-all_signs value (x ∷ xs) h zero d low = h zero
-all_signs value (x ∷ xs) h (suc k) d low = all_signs value xs (λ j. h (suc j)) k d (omega (arith, low))
 
 -- ---- a bundle has at most four legs
 pub legs_few : (orders : List Order) → length (legs_of_orders orders) ≤ length orders * 4
@@ -71,12 +78,5 @@ pub are_states : (n : ℕ) (states : List State) → All (λ (s : State). s.coun
 are_states n states counts = All-to_map (IsState n) vector_of states (λ k d low. (length-vector_of (get_or states k d) ∙ counts k d low, (get_or states k d).not_all_zero))
 
 -- ---- what is read off may be asked about and judged
-pub fills_not_below : (orders : List Order) (fills : List Fraction) → All IsFill (zip orders fills) → length fills ≡ length orders → All IsNotBelowZero fills
-fills_not_below [] [] h len = All-nil IsNotBelowZero
-fills_not_below [] (f ∷ fs) h len = absurd (omega (arith, len))
-fills_not_below (o ∷ os) [] h len = absurd (omega (arith, len))
-fills_not_below (o ∷ os) (f ∷ fs) h len =
-    All-cons IsNotBelowZero f fs (All-head IsFill (o, f) (zip os fs) h).1 (fills_not_below os fs (All-tail IsFill (o, f) (zip os fs) h) (omega (arith, len)))
-
 pub on_states : (n : ℕ) (points : List Weighted) → IsFractionMeasure n (map point_of points) → All (λ (p : Weighted). p.state.count ≡ n + 1) points
 on_states n points m k d low = sym (length-vector_of (get_or points k d).state) ∙ (All-of_map (λ (point : Point). IsState n point.0) point_of points m.states k d low).0

@@ -1,26 +1,36 @@
 -- What the answers of the code say of the run.
-use Rattle.std.specs.Prelude.{ℕ, ◌≡◌, List, map, Result, Ok, Err}
+use Rattle.std.specs.Prelude.{ℕ, ◌≡◌, List, length, map, vec_len, Result, Ok, Err}
 use Rattle.exact_num.specs.Fraction.{Fraction}
+use Rattle.simplex.specs.Stops.{stop_of}
+use Rattle.simplex.specs.declared.stop.RunStop.{RunStop}
 use Rattle.simplex.specs.declared.stop.Stop.{Stop}
 use Rattle.simplex.specs.declared.stop.Stop.TheVariants.{Wide, Budget, Memory}
 use Rattle.frac.specs.Range.{limit as largest}
+use Rattle.form.specs.declared.orders.Batch.{Batch}
 use Rattle.cert_check.specs.declared.outcome.Cover.{Cover}
 use Rattle.cert_check.specs.declared.outcome.Cover.TheVariants.{Line, Tree}
 use Rattle.node_program.specs.Rounds.{Limits}
 use Rattle.pricing_oracle.specs.Answers.{IsTreeAs}
-use Rattle.rounds.specs.Run.{WrittenCover, by_line, by_tree, Solution}
-use Rattle.measure.specs.Points.{point_of}
+use Rattle.rounds.specs.Run.{WrittenCover, by_line, by_tree, Solution, sums_of}
+use Rattle.cert_check.specs.Conditions.{IsCoverOn}
+use Rattle.measure.specs.Points.{point_of, IsOnStates}
 use Rattle.frac.specs.Value.{fraction_of}
 use Rattle.measure.specs.declared.measures.Measure.{Measure}
 use Rattle.cert_check.specs.declared.outcome.Claim.{Claim}
 use Rattle.master_program.specs.Reading.{Reading, reading_with}
 use Rattle.rounds.specs.declared.joint.Joint.{Joint}
-use Rattle.table_run.specs.Ending.{Ending, done, wide_at, no_unit_left}
+use Rattle.table_run.specs.Ending.{Ending, done, wide_at, no_unit_left, where_fits}
 
 -- what a joint solve has found, as fractions
 abbrev pub reading_in : {A : Type 0} → (A → Fraction) → Joint A → Reading
 reading_in value joint =
     reading_with (map value joint.fills.items) (value joint.surplus) (map point_of joint.measure.points) (value joint.liability)
+
+-- it is of the batch: each order has a fill, and the cover and the states of the measure are on the batch's underlyings
+pub record IsJointOf {A : Type 0} (batch : Batch) (joint : Joint A) : Type 0 where
+  pub fills : vec_len joint.fills ≡ length batch.orders
+  pub cover : IsCoverOn batch.underlyings joint.cover
+  pub states : IsOnStates batch.underlyings joint.measure
 
 -- how a run ends with it
 abbrev pub joint_ending : {A : Type 0} → (A → Fraction) → Joint A → ℕ → Ending Reading
@@ -43,6 +53,18 @@ IsJointAnswer value ending (Ok joint) spent = OfSolution value (λ s. ending ≡
 IsJointAnswer value ending (Err (Wide unit wide)) spent = (ending ≡ wide_at unit wide) × (spent ≡ unit)
 IsJointAnswer value ending (Err Budget) spent = ending ≡ no_unit_left spent
 IsJointAnswer value ending (Err Memory) spent = Unit {0}
+
+-- the same where a run in given room answers
+abbrev pub as_stopped : {X : Type 0} → Result X RunStop → Result X Stop
+as_stopped (Ok x) = Ok x
+as_stopped (Err stop) = Err (stop_of stop)
+
+-- the answer is the end of the sums on a solution, whose numbers are of one type before and of another after, when so many units
+-- are spent
+abbrev pub IsJudgedAnswer : {A B : Type 0} → (A → Fraction) → (B → Fraction) → Batch → Joint A → Result (Joint B) Stop → ℕ → Type 0
+IsJudgedAnswer before after batch joint result spent =
+    (cover : WrittenCover) → IsCoverAs cover joint.cover
+    → IsJointAnswer after (where_fits (sums_of largest batch.underlyings batch.orders) (reading_in before joint, cover) spent) result spent
 
 -- the limits of a run in numbers of the code: payoffs and the sums of the verdict have 128 bits
 abbrev pub limits_of : (limit budget : ℕ) → Limits

@@ -1,10 +1,13 @@
 pub mod Run
 pub mod Entry
-pub mod Built
 pub mod Parts
 pub mod Answers
+pub mod Covered
 pub mod Laws
 pub mod Worked
 pub mod Optima
+pub mod Passed
 pub mod Readings
+pub mod Rooms
 pub mod Round
+pub mod Stops

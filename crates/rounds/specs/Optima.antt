@@ -1,18 +1,20 @@
--- An optimum of the code as fractions.
-use Rattle.std.specs.Prelude.{ℕ, ◌+◌, ◌≡◌, map, vec_len}
-use Rattle.exact_num.specs.Fraction.{Fraction}
+-- An optimum that stands in a space.
+use Rattle.std.specs.Prelude.{ℕ, ◌+◌, ◌≡◌, length, Result, Ok, Err}
 use Rattle.table_run.specs.Ending.{Ending, done}
-use Rattle.table_run.specs.Run.{Optimum as TheOptimum, optimum}
-use Rattle.rounds.specs.declared.reading.Optimum.{Optimum}
+use Rattle.table_run.specs.Run.{Optimum, optimum}
+use Rattle.simplex.specs.Spaces.{Contents, IsFound, x_of, y_of, reduced_of, value_of}
+use Rattle.simplex.specs.declared.stop.RunStop.{RunStop}
+use Rattle.rounds.specs.Stops.{IsStopOf}
 
-abbrev pub optimum_in : {A : Type 0} → (A → Fraction) → Optimum A → TheOptimum
-optimum_in value o = optimum (map value o.x.items) (map value o.y.items) (map value o.reduced.items) (value o.value)
+abbrev pub optimum_of : Contents → Optimum
+optimum_of c = optimum (x_of c) (y_of c) (reduced_of c) (value_of c)
 
--- how a run ends with it
-abbrev pub optimum_ending : {A : Type 0} → (A → Fraction) → Optimum A → ℕ → Ending TheOptimum
-optimum_ending value o spent = done (optimum_in value o) spent
+-- the run ends with it, or stops
+abbrev pub IsRunAnswer : Ending Optimum → Contents → Result (Unit {0}) RunStop → ℕ → Type 0
+IsRunAnswer ending c (Ok run) spent = IsFound c × (ending ≡ done (optimum_of c) spent)
+IsRunAnswer ending c (Err stop) spent = IsStopOf ending stop spent
 
 -- the numbers for so many orders and states after the first: for each order and the slack, and for each row
-abbrev pub HasLengths : {A : Type 0} → (orders states : ℕ) → Optimum A → Type 0
-HasLengths orders states o =
-    (vec_len o.x ≡ orders + 1) × (vec_len o.y ≡ orders + states) × (vec_len o.reduced ≡ orders + 1)
+abbrev pub HasLengths : (orders states : ℕ) → Contents → Type 0
+HasLengths orders states c =
+    (length (x_of c) ≡ orders + 1) × (length (y_of c) ≡ orders + states) × (length (reduced_of c) ≡ orders + 1)

@@ -11,8 +11,8 @@ use Rattle.master_program.specs.Reading.{Reading}
 use Rattle.master_program.specs.Solve.{master_solve}
 use Rattle.master_program.specs.Verdict.{sums_with}
 use Rattle.clearing_model.specs.Written.{WrittenTree}
-use Rattle.node_program.specs.Rounds.{Limits, Cleared}
-use Rattle.search_laws.specs.Run.{tree_run}
+use Rattle.node_program.specs.Rounds.{Limits, Cleared, rounds}
+use Rattle.search_laws.specs.Run.{sums_hold as tree_sums_hold}
 
 -- the sums of the verdict on what was read off, in order: surplus, line, measure and bound
 abbrev pub sums_hold : ℕ → List Order → Reading → Result Bool Wide
@@ -40,8 +40,18 @@ on_line r spent = done (r, by_line) spent
 abbrev pub on_tree : Cleared → ℕ → Ending Solution
 on_tree (r, tree) spent = done (r, by_tree tree) spent
 
--- the run of a batch on n underlyings with so many units spent before
+-- the run of a batch on n underlyings before the sums, with so many units spent before: the master program over the states of
+-- the line, or the rounds
+abbrev pub unjudged_run : Limits → ℕ → List Order → ℕ → Ending Solution
+unjudged_run limits n orders spent =
+    if n == 1 then on_answer (master_solve limits.payoff_limit limits.limit (limits.budget - spent) spent 1 orders (later_states orders)) on_line
+    else on_answer (rounds limits n orders spent) on_tree
+
+-- the sums of the verdict on a solution with its cover
+abbrev pub sums_of : ℕ → ℕ → List Order → Solution → Result Bool Wide
+sums_of limit n orders (r, by_line) = sums_hold limit orders r
+sums_of limit n orders (r, by_tree tree) = tree_sums_hold limit n orders (r, tree)
+
+-- the run of a batch on n underlyings with so many units spent before: last come the sums, in the limit of payoffs
 unfoldable pub joint_run : Limits → ℕ → List Order → ℕ → Ending Solution
-joint_run limits n orders spent =
-    if n == 1 then on_answer (line_run limits.payoff_limit limits.limit (limits.budget - spent) spent orders) on_line
-    else on_answer (tree_run limits n orders spent) on_tree
+joint_run limits n orders spent = on_answer (unjudged_run limits n orders spent) (where_fits (sums_of limits.payoff_limit n orders))

@@ -1,12 +1,12 @@
 //! The states that a run begins with.
-ghost use Rattle.std.specs.Prelude.{◌≡◌, ◌+◌, ◌≤◌, ◌<◌, IfOk, map, replicate, set};
+ghost use Rattle.std.specs.Prelude.{◌≡◌, ◌+◌, ◌≤◌, ◌<◌, map, replicate, set, vec_capacity, vec_len};
 ghost use Rattle.std.specs.List.{All};
 ghost use Rattle.form.specs.States.{vector_of};
 ghost use Rattle.master_program.specs.Master.{zero_prices};
 ghost use Rattle.node_program.specs.Rounds.{axis_rays};
 
+use compact_table::room::push_within;
 use form::State;
-use std::alloc::{AllocError, Global};
 
 /// The state of so many entries whose entry at a place is 1, and the others 0.
 fn unit_state(count: u8, place: usize) -> State
@@ -29,16 +29,16 @@ pub(crate) fn zero_prices(underlyings: u8) -> State
     unit_state(underlyings + 1, 0)
 }
 
-/// The rays along which the price of one underlying grows, and the others are 0.
-pub(crate) fn axis_rays(alloc: Global, underlyings: u8) -> Result<Vec<State>, AllocError>
-    requires { (1 ≤ underlyings) × (underlyings ≤ 8) }
-    ensures rays { IfOk result (λ rays. map vector_of rays.items ≡ axis_rays underlyings) }
-    ensures counts { IfOk result (λ rays.
-        All (λ ray. ray.count ≡ underlyings + 1) rays.items) }
+/// Writes the rays along which the price of one underlying grows, and the others are 0.
+pub(crate) fn write_axis_rays(rays: &mut Vec<State>, underlyings: u8)
+    requires some { (1 ≤ underlyings) × (underlyings ≤ 8) }
+    requires room { underlyings ≤ vec_capacity rays.old }
+    ensures rays { map vector_of rays.new.items ≡ axis_rays underlyings }
+    ensures counts { All (λ ray. ray.count ≡ underlyings + 1) rays.new.items }
+    ensures capacity { vec_capacity rays.old ≤ vec_capacity rays.new }
 {
-    let mut rays = Vec::new(alloc);
+    rays.clear();
     for i in 0..underlyings {
-        rays.push(unit_state(underlyings + 1, usize::from(i) + 1))?;
+        push_within(rays, unit_state(underlyings + 1, usize::from(i) + 1));
     }
-    Ok(rays)
 }

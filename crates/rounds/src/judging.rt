@@ -1,39 +1,59 @@
 //! The sums of the verdict, which come last in a run.
-ghost use Rattle.std.specs.Prelude.{◌≡◌, ◌≤◌, IfOk, map, length, vec_len};
-ghost use Rattle.form.specs.Limits.{HasItsForms};
+ghost use Rattle.std.specs.Prelude.{◌≡◌, ◌≤◌, IfOk, map, length, vec_capacity, vec_len};
+ghost use Rattle.form.specs.Limits.{HasItsForms, IsWithinLimits};
 ghost use Rattle.form.specs.declared.limits.TheConstants.{MAX_ORDERS};
 ghost use Rattle.frac.specs.Value.{fraction_of};
 ghost use Rattle.measure.specs.Points.{IsOnStates};
 ghost use Rattle.cert_check.specs.Conditions.{IsCoverOn};
 ghost use Rattle.cert_check.specs.Tests.{HasSigns};
 ghost use Rattle.master_program.specs.Verdict.{sums_on};
-ghost use Rattle.rounds.specs.Answers.{claimed_in, joint_ending};
-ghost use Rattle.rounds.specs.Built.{IsBuilt};
-ghost use Rattle.rounds.specs.Readings.{reading_as};
-ghost use Rattle.simplex.specs.Answers.{IsAnswerBy};
-ghost use Rattle.table_run.specs.Ending.{where_fits};
+ghost use Rattle.rounds.specs.Answers.{IsJointOf, IsJudgedAnswer, as_stopped, claimed_in, reading_in};
+ghost use Rattle.rounds.specs.Passed.{ArePassed};
+ghost use Rattle.rounds.specs.Rooms.{IsSumsRoom};
 
-use crate::building::BuildError;
 use crate::joint::Joint;
-use crate::reading::Reading;
 use cert_check::{Claim, Cover, bound_holds, cover_holds, measure_holds, surplus_holds};
+use compact_table::room::push_within;
 use exact_num::{Exact, Wide};
 use form::Batch;
 use frac::Frac128;
 use measure::Measure;
 use sign_tree::leg_count;
-use simplex::Stop;
+use simplex::{RunStop, Stop};
 use std::alloc::{AllocError, Global};
 
-/// The numbers in 128 bits.
-fn widened<N: Exact>(alloc: Global, numbers: &[N]) -> Result<Vec<Frac128>, AllocError>
-    ensures { IfOk result (λ wide. map fraction_of wide.items ≡ map N.fraction numbers.now) }
-{
-    let mut wide = Vec::with_capacity(alloc, numbers.len())?;
-    for number in numbers {
-        wide.push(Frac128::of(*number))?;
+/// What the sums of the verdict on a batch work in. Only `new` takes memory.
+#[derive(Drop)]
+pub struct SumsRoom {
+    // the fills in 128 bits
+    fills: Vec<Frac128>,
+    // a sign for each leg
+    signs: Vec<i8>,
+}
+
+impl SumsRoom {
+    /// Room for the sums of the verdict on what a run of the batch found. The error is want of memory.
+    pub fn new(alloc: Global, batch: &Batch) -> Result<SumsRoom, AllocError>
+        requires few { length batch.now.orders ≤ MAX_ORDERS }
+        ensures { IfOk result (IsSumsRoom batch.now) }
+    {
+        let orders = batch.orders.as_slice();
+        Ok(SumsRoom {
+            fills: Vec::with_capacity(alloc, orders.len())?,
+            signs: vec![in alloc; 0_i8; leg_count(orders)]?,
+        })
     }
-    Ok(wide)
+}
+
+/// Writes the numbers in 128 bits.
+fn write_widened<N: Exact>(wide: &mut Vec<Frac128>, numbers: &[N])
+    requires { length numbers.now ≤ vec_capacity wide.old }
+    ensures { map fraction_of wide.new.items ≡ map N.fraction numbers.now }
+{
+    wide.clear();
+    for number in numbers {
+        push_within(wide, Frac128::of(*number));
+    }
 }
 
 /// The tests of the verdict one after another: surplus, cover, measure and bound.
@@ -65,61 +85,107 @@ fn tests_hold(
     bound_holds(batch, measure, &claim.surplus)
 }
 
-/// Whether what was read off passes the tests with the cover.
-fn sums_hold<N: Exact>(
-    alloc: Global,
-    batch: &Batch,
-    reading: &Reading<N>,
-    cover: &Cover,
-) -> Result<bool, BuildError>
-    requires forms { HasItsForms batch.now }
-    requires few { length batch.now.orders ≤ MAX_ORDERS }
-    requires fills { vec_len reading.now.fills ≡ length batch.now.orders }
-    requires cover { IsCoverOn batch.now.underlyings cover.now }
-    requires states { IsOnStates batch.now.underlyings reading.now.measure }
-    ensures { IsBuilt (λ holds. holds)
-        (sums_on batch.now (reading_as N.fraction reading.now) cover.now) result }
-{
-    let fills = widened(alloc, &reading.fills)?;
-    let mut signs = vec![in alloc; 0_i8; leg_count(batch.orders.as_slice())]?;
-    let claim = Claim {
-        liability: Frac128::of(reading.liability),
-        surplus: Frac128::of(reading.surplus),
-    };
-    Ok(tests_hold(batch, &fills, &claim, cover, &reading.measure, &mut signs)?)
+/// What a solution claims, in 128 bits.
+#[derive(Drop)]
+struct Claimed {
+    fills: Vec<Frac128>,
+    claim: Claim,
 }
 
-/// What was read off with its cover, where each step of the tests on them fits; `unit` units are spent.
+/// The numbers of a solution in 128 bits, in a list that has room for the fills.
+fn claimed_by<N: Exact>(joint: &Joint<N>, mut fills: Vec<Frac128>) -> Claimed
+    requires { vec_len joint.now.fills ≤ vec_capacity fills }
+    ensures reading { claimed_in (map fraction_of result.fills.items) result.claim
+        joint.now.measure ≡ reading_in N.fraction joint.now }
+    ensures fills { vec_len result.fills ≡ vec_len joint.now.fills }
+{
+    write_widened(&mut fills, &joint.fills);
+    Claimed {
+        fills,
+        claim: Claim {
+            liability: Frac128::of(joint.liability),
+            surplus: Frac128::of(joint.surplus),
+        },
+    }
+}
+
+/// The numbers of a solution in 128 bits, where each step of the tests on them fits.
+fn judged<N: Exact>(batch: &Batch, joint: &Joint<N>, room: SumsRoom) -> Result<Claimed, Wide>
+    requires forms { HasItsForms batch.now }
+    requires joint { IsJointOf batch.now joint.now }
+    requires room { IsSumsRoom batch.now room }
+    ensures reading { IfOk result (λ wide. claimed_in (map fraction_of wide.fills.items) wide.claim
+        joint.now.measure ≡ reading_in N.fraction joint.now) }
+    ensures sums { ArePassed (sums_on batch.now (reading_in N.fraction joint.now)
+        joint.now.cover) result }
+{
+    let SumsRoom { fills, mut signs } = room;
+    let wide = claimed_by(joint, fills);
+    tests_hold(
+        batch,
+        &wide.fills,
+        &wide.claim,
+        &joint.cover,
+        &joint.measure,
+        &mut signs,
+    )?;
+    Ok(wide)
+}
+
+// A solution, where each step of the tests on it fits; `unit` units are spent.
 pub(crate) fn certify<N: Exact>(
+    batch: &Batch,
+    joint: Joint<N>,
+    unit: u32,
+    room: SumsRoom,
+) -> Result<Joint<N>, RunStop>
+    requires forms { HasItsForms batch.now }
+    requires joint { IsJointOf batch.now joint }
+    requires room { IsSumsRoom batch.now room }
+    ensures { IsJudgedAnswer N.fraction N.fraction batch.now joint (as_stopped result) unit }
+{
+    match judged(batch, &joint, room) {
+        Ok(_) => Ok(joint),
+        Err(wide) => Err(RunStop::Wide { unit, wide }),
+    }
+}
+
+/// The sums of the verdict on what a run found, in 128 bits and in given room: the solution in numbers of 128 bits, where each
+/// step fits; `unit` units are spent. `Wide` comes at the first step that does not fit. It takes no memory.
+pub fn judge_in<N: Exact>(
+    batch: &Batch,
+    joint: Joint<N>,
+    unit: u32,
+    room: SumsRoom,
+) -> Result<Joint<Frac128>, RunStop>
+    requires limits { IsWithinLimits batch.now }
+    requires joint { IsJointOf batch.now joint }
+    requires room { IsSumsRoom batch.now room }
+    ensures { IsJudgedAnswer N.fraction fraction_of batch.now joint (as_stopped result) unit }
+{
+    match judged(batch, &joint, room) {
+        Ok(wide) => Ok(Joint {
+            fills: wide.fills,
+            liability: wide.claim.liability,
+            surplus: wide.claim.surplus,
+            cover: joint.cover,
+            measure: joint.measure,
+        }),
+        Err(wide) => Err(RunStop::Wide { unit, wide }),
+    }
+}
+
+/// The same in room of its own, for want of which `Memory` comes.
+pub fn judge<N: Exact>(
     alloc: Global,
     batch: &Batch,
-    reading: Reading<N>,
-    cover: Cover,
+    joint: Joint<N>,
     unit: u32,
-) -> Result<Joint<N>, Stop>
-    requires forms { HasItsForms batch.now }
-    requires few { length batch.now.orders ≤ MAX_ORDERS }
-    requires fills { vec_len reading.fills ≡ length batch.now.orders }
-    requires cover { IsCoverOn batch.now.underlyings cover }
-    requires states { IsOnStates batch.now.underlyings reading.measure }
-    ensures cover { IfOk result (λ joint. joint.cover ≡ cover) }
-    ensures answer { IsAnswerBy (joint_ending N.fraction) (where_fits
-        (λ r. sums_on batch.now r cover) (reading_as N.fraction reading) unit) result unit }
+) -> Result<Joint<Frac128>, Stop>
+    requires limits { IsWithinLimits batch.now }
+    requires joint { IsJointOf batch.now joint }
+    ensures { IsJudgedAnswer N.fraction fraction_of batch.now joint result unit }
 {
-    if let Err(error) = sums_hold(alloc, batch, &reading, &cover) {
-        return Err(error.at(unit));
-    }
-    let Reading {
-        fills,
-        liability,
-        surplus,
-        measure,
-    } = reading;
-    Ok(Joint {
-        fills,
-        liability,
-        surplus,
-        cover,
-        measure,
-    })
+    let room = SumsRoom::new(alloc, batch)?;
+    Ok(judge_in(batch, joint, unit, room)?)
 }

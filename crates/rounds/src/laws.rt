@@ -1,5 +1,5 @@
 //! What the reference run implies: the contracts of functions that do nothing.
-ghost use Rattle.rounds.specs.Laws.{ClearedIsGreatest, ClearedPassesTheVerdict, NoRunIsWithoutEnd};
+ghost use Rattle.rounds.specs.Laws.{ClearedIsGreatest, ClearedPassesTheVerdict, JointRunsAreTheSame, NoRunIsWithoutEnd, UnitsSufficeOnLine, UnjudgedRunsAreTheSame};
 ghost use Rattle.rounds.specs.Worked.{ButterflyCleared, DearCoverIsLeft, EqualPricesAreLeft, LargeBatchIsTooWide, LowerStrikeCleared, NoOrderCleared, OneOptionCleared, OneUnitIsTooFew, SpreadCleared};
 
 /// What a run clears is covered at every settlement, by the line of one underlying or by a tree; its measure proves its
@@ -16,6 +16,18 @@ pub fn no_run_is_without_end()
 /// The verdict on what a run clears is yes.
 pub fn cleared_passes_the_verdict()
     ensures { ClearedPassesTheVerdict }
+{}
+
+/// A run that meets no misfit is the same with each greater limit of the solver's numbers: with what it clears, or where it ends
+/// for want of a unit, and as many units spent.
+pub fn runs_are_the_same()
+    ensures unjudged { UnjudgedRunsAreTheSame }
+    ensures joint { JointRunsAreTheSame }
+{}
+
+/// On one underlying as many units suffice as there are ways to choose the basic variables of the master program.
+pub fn units_suffice_on_line()
+    ensures { UnitsSufficeOnLine }
 {}
 
 /// The definition computes the ends of the runs of worked batches.

@@ -2,9 +2,10 @@
 //! master program and a search for a state at which its liability is not enough. Last come the sums of the verdict.
 #![tactic(auto)]
 
-mod building;
 mod first_states;
+mod giving;
 mod joint;
+pub mod joint_room;
 mod judging;
 pub mod laws;
 mod line_solve;
@@ -13,7 +14,10 @@ mod master_solve;
 mod reading;
 mod round;
 mod rounds_solve;
+mod solve_room;
 mod solving;
 
 pub use joint::Joint;
-pub use solving::solve_joint;
+pub use joint_room::JointRoom;
+pub use judging::{SumsRoom, judge, judge_in};
+pub use solving::{solve_joint, solve_joint_in, solve_unjudged, solve_unjudged_in};

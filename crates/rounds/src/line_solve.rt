@@ -1,35 +1,35 @@
 //! The joint solve on one underlying.
-ghost use Rattle.std.specs.Prelude.{◌≡◌, unsigned_abs};
+ghost use Rattle.std.specs.Prelude.{◌≡◌, IfOk, unsigned_abs};
 ghost use Rattle.form.specs.Limits.{IsWithinLimits};
-ghost use Rattle.rounds.specs.Answers.{IsJointAnswer, limits_of};
-ghost use Rattle.rounds.specs.Run.{joint_run};
+ghost use Rattle.rounds.specs.Answers.{IsJointAnswer, IsJointOf, as_stopped, limits_of};
+ghost use Rattle.rounds.specs.Rooms.{IsLineRoom};
+ghost use Rattle.rounds.specs.Run.{unjudged_run};
 
-use crate::joint::Joint;
-use crate::judging::certify;
+use crate::joint::{Joint, covered};
 use crate::master_solve::solve_over;
+use crate::solve_room::{SolveRoom, reading_in};
 use cert_check::Cover;
 use exact_num::Exact;
-use form::Batch;
-use line_cover::breakpoints;
-use simplex::{Budget, Stop};
-use std::alloc::Global;
+use form::{Batch, State};
+use simplex::{Budget, RunStop};
 
-// The joint solve on one underlying: one master program over the states of the line is solved, its optimum is read off,
-// and last come the sums of the verdict in 128 bits. (The matching program of Wang et al., EC 2021.)
+// The joint solve on one underlying, before the sums of the verdict: one master program over the states of the line is solved,
+// and its optimum is read off. (The matching program of Wang et al., EC 2021.)
 pub(crate) fn solve_line<N: Exact>(
-    alloc: Global,
     batch: &Batch,
     budget: &mut Budget,
-) -> Result<Joint<N>, Stop>
+    states: &[State],
+    mut solve: SolveRoom<N>,
+) -> Result<Joint<N>, RunStop>
     requires limits { IsWithinLimits batch.now }
-    requires one { batch.now.underlyings ≡ 1 }
-    ensures run { IsJointAnswer N.fraction (joint_run
+    requires room { IsLineRoom batch.now states.now solve }
+    ensures run { IsJointAnswer N.fraction (unjudged_run
         (limits_of (unsigned_abs N.LIMIT) budget.old.limit) batch.now.underlyings
-        batch.now.orders budget.old.spent) result budget.new.spent }
+        batch.now.orders budget.old.spent) (as_stopped result) budget.new.spent }
+    ensures joint { IfOk result (IsJointOf batch.now) }
     ensures limit { budget.new.limit ≡ budget.old.limit }
 {
-    let states = breakpoints(alloc, batch)?;
-    let (_first, later) = states.as_slice().split_at(1);
-    let reading = solve_over(alloc, batch, later, budget)?;
-    certify(alloc, batch, reading, Cover::Line, budget.spent)
+    let (_first, later) = states.split_at(1);
+    let read = solve_over(batch, later, budget, &mut solve)?;
+    Ok(covered(reading_in(solve, read), Cover::Line))
 }

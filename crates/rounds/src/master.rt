@@ -1,28 +1,22 @@
-//! The master program of a batch over the states of its market.
-ghost use Rattle.std.specs.Prelude.{◌≡◌, ◌≤◌, ◌+◌, ◌^◌, ◌-◌, ◌++◌, ◌*ℤ◌, pos, map, unsigned_abs, OnOk, length};
+//! The rows of the master program of a batch over the states of its market.
+ghost use Rattle.std.specs.Prelude.{◌≡◌, ◌≤◌, ◌+◌, ◌^◌, ◌-◌, ◌*ℤ◌, [], IfOk, OnOk, pos, length, map, unsigned_abs, vec_capacity, vec_len};
 ghost use Rattle.std.specs.List.{All};
 ghost use Rattle.exact_num.specs.Fits.{meaning, whole_of};
-ghost use Rattle.exact_num.specs.Fraction.{whole};
+ghost use Rattle.exact_num.specs.Fraction.{IsNotBelowZero, whole};
 ghost use Rattle.form.specs.Payoff.{IsOnCount, option_of};
-ghost use Rattle.form.specs.declared.limits.TheConstants.{MAX_ORDERS};
-ghost use Rattle.rounds.specs.declared.master.TheConstants.{MAX_STATES};
 ghost use Rattle.form.specs.States.{vector_of};
 ghost use Rattle.form.specs.Vector.{scale_of};
-ghost use Rattle.simplex.specs.Programs.{as_program};
-ghost use Rattle.master_program.specs.Laws.{unit_rows};
-ghost use Rattle.master_program.specs.Master.{map_steps, cost_steps, entry_steps, master, order_payoff, payoff_at_zero, quantity_steps, row_steps, rows_steps, signed_for, strike_payoff};
-ghost use Rattle.rounds.specs.Built.{HasAdded, IsBuilt};
+ghost use Rattle.table_run.specs.Table.{unit_row};
+ghost use Rattle.master_program.specs.Master.{map_steps, cost_steps, entry_steps, order_payoff, payoff_at_zero, quantity_steps, row_steps, signed_for, strike_payoff};
+ghost use Rattle.pricing_oracle.specs.Filled.{HasFilled, HasMade};
 ghost use Rattle.rounds.specs.Entry.{put_aside, whole_less};
-ghost use Rattle.rounds.specs.Parts.{coefficients_steps, costs_steps, right_sides_steps, slack_steps};
+ghost use Rattle.rounds.specs.Parts.{costs_steps};
 
-use crate::building::{BuildError, push};
+use compact_table::room::push_within;
 use exact_num::{Exact, Wide};
 use form::{Form, Leg, Order, Side, State, bundle_payoff};
-use simplex::Program;
-use simplex::fill::{push_slacks, push_zeros};
-use std::alloc::{AllocError, Global};
 
-/// The most states of a master program besides the one where all prices are 0.
+/// The most states of a master program, the one where all prices are 0 among them.
 pub const MAX_STATES: usize = 99_744;
 
 /// The number for a buy, and its opposite for a sell.
@@ -129,173 +123,85 @@ fn entry<N: Exact>(order: &Order, state: &State) -> Result<N, Wide>
 }
 
 /// Adds the costs of the orders.
-fn add_costs<N: Exact>(costs: &mut Vec<N>, orders: &[Order]) -> Result<(), BuildError>
-    ensures { HasAdded (map N.fraction costs.old.items)
+fn add_costs<N: Exact>(row: &mut Vec<N>, orders: &[Order]) -> Result<(), Wide>
+    requires { vec_len row.old + length orders.now ≤ vec_capacity row.old }
+    ensures added { HasFilled (map N.fraction row.old.items)
         (map_steps (cost_steps (unsigned_abs N.LIMIT)) orders.now) result
-        (map N.fraction costs.new.items) }
+        (map N.fraction row.new.items) }
+    ensures len { OnOk result (vec_len row.new ≡ vec_len row.old + length orders.now) }
+    ensures capacity { vec_capacity row.old ≤ vec_capacity row.new }
 {
     for order in orders {
-        push(costs, cost(order)?)?;
+        push_within(row, cost(order)?);
     }
     Ok(())
 }
 
-/// The costs of the orders, and 1 lost for each unit of the slack.
-fn costs<N: Exact>(alloc: Global, orders: &[Order]) -> Result<Vec<N>, BuildError>
-    ensures { IsBuilt (λ costs. map N.fraction costs.items)
+/// Writes the costs of the orders, and 1 lost for each unit of the slack.
+pub(crate) fn write_costs<N: Exact>(row: &mut Vec<N>, orders: &[Order]) -> Result<(), Wide>
+    requires { length orders.now + 1 ≤ vec_capacity row.old }
+    ensures written { HasMade (λ _. map N.fraction row.new.items)
         (costs_steps (unsigned_abs N.LIMIT) orders.now) result }
+    ensures capacity { vec_capacity row.old ≤ vec_capacity row.new }
 {
-    let mut costs = Vec::new(alloc);
-    add_costs(&mut costs, orders)?;
-    push(&mut costs, N::one().neg())?;
-    Ok(costs)
+    row.clear();
+    add_costs(row, orders)?;
+    push_within(row, N::one().neg());
+    Ok(())
 }
 
 /// The quantity of an order.
-fn quantity<N: Exact>(order: &Order) -> Result<N, Wide>
-    ensures { meaning N.fraction result ≡ quantity_steps (unsigned_abs N.LIMIT) order.now }
+pub(crate) fn quantity<N: Exact>(order: &Order) -> Result<N, Wide>
+    ensures quantity { meaning N.fraction result ≡ quantity_steps (unsigned_abs N.LIMIT) order.now }
+    ensures sign { IfOk result (λ number. IsNotBelowZero (N.fraction number)) }
 {
     N::from_whole(i128::from(order.quantity))
 }
 
-/// Adds the quantities of the orders.
-fn add_quantities<N: Exact>(right_sides: &mut Vec<N>, orders: &[Order]) -> Result<(), BuildError>
-    ensures { HasAdded (map N.fraction right_sides.old.items)
-        (map_steps (quantity_steps (unsigned_abs N.LIMIT)) orders.now) result
-        (map N.fraction right_sides.new.items) }
+/// Writes the row of a quantity: of its `count` entries its own is 1, the others 0.
+pub(crate) fn write_unit_row<N: Exact>(row: &mut Vec<N>, count: usize, own: usize)
+    requires { count ≤ vec_capacity row.old }
+    ensures row { map N.fraction row.new.items ≡ unit_row count own }
+    ensures capacity { vec_capacity row.old ≤ vec_capacity row.new }
 {
-    for order in orders {
-        push(right_sides, quantity(order)?)?;
+    row.clear();
+    for k in 0..count {
+        let entry = if k == own { N::one() } else { N::zero() };
+        push_within(row, entry);
     }
-    Ok(())
-}
-
-/// The quantities of the orders, and 0 for each state.
-fn right_sides<N: Exact>(
-    alloc: Global,
-    orders: &[Order],
-    states: usize,
-) -> Result<Vec<N>, BuildError>
-    ensures { IsBuilt (λ right_sides. map N.fraction right_sides.items)
-        (right_sides_steps (unsigned_abs N.LIMIT) orders.now states) result }
-{
-    let mut right_sides = Vec::new(alloc);
-    add_quantities(&mut right_sides, orders)?;
-    push_zeros(&mut right_sides, states)?;
-    Ok(right_sides)
-}
-
-/// Adds a row for the quantity of each of `count` orders: of its `count + 1` entries the row's own is 1, the others 0.
-fn add_unit_rows<N: Exact>(coefficients: &mut Vec<N>, count: usize) -> Result<(), AllocError>
-    requires { count ≤ 256 }
-    ensures { OnOk result (map N.fraction coefficients.new.items
-        ≡ map N.fraction coefficients.old.items ++ unit_rows (count + 1) 0 count) }
-{
-    for i in 0..count {
-        push_slacks(coefficients, count + 1, i)?;
-    }
-    Ok(())
 }
 
 /// Adds the entries of the orders in the row of a state.
-fn add_entries<N: Exact>(
-    coefficients: &mut Vec<N>,
-    orders: &[Order],
-    state: &State,
-) -> Result<(), BuildError>
-    requires { All (λ o. IsOnCount state.now.count o.bundle) orders.now }
-    ensures { HasAdded (map N.fraction coefficients.old.items)
+fn add_entries<N: Exact>(row: &mut Vec<N>, orders: &[Order], state: &State) -> Result<(), Wide>
+    requires forms { All (λ o. IsOnCount state.now.count o.bundle) orders.now }
+    requires room { vec_len row.old + length orders.now ≤ vec_capacity row.old }
+    ensures added { HasFilled (map N.fraction row.old.items)
         (map_steps (entry_steps (2 ^ 127 - 1) (unsigned_abs N.LIMIT) (vector_of state.now))
-        orders.now) result (map N.fraction coefficients.new.items) }
+        orders.now) result (map N.fraction row.new.items) }
+    ensures len { OnOk result (vec_len row.new ≡ vec_len row.old + length orders.now) }
+    ensures capacity { vec_capacity row.old ≤ vec_capacity row.new }
 {
     for order in orders {
-        push(coefficients, entry(order, state)?)?;
+        push_within(row, entry(order, state)?);
     }
     Ok(())
 }
 
-/// Adds the entry of the slack in the row of a state.
-fn add_slack<N: Exact>(coefficients: &mut Vec<N>, state: &State) -> Result<(), BuildError>
-    ensures { HasAdded (map N.fraction coefficients.old.items)
-        (slack_steps (unsigned_abs N.LIMIT) (vector_of state.now)) result
-        (map N.fraction coefficients.new.items) }
-{
-    let t: N = scale(state)?;
-    push(coefficients, t.neg())
-}
-
-/// Adds the row of a state.
-fn add_row<N: Exact>(
-    coefficients: &mut Vec<N>,
+/// Writes the row of a state: the entries of the orders, and that of the slack.
+pub(crate) fn write_state_row<N: Exact>(
+    row: &mut Vec<N>,
     orders: &[Order],
     state: &State,
-) -> Result<(), BuildError>
-    requires { All (λ o. IsOnCount state.now.count o.bundle) orders.now }
-    ensures { HasAdded (map N.fraction coefficients.old.items)
-        (row_steps (2 ^ 127 - 1) (unsigned_abs N.LIMIT) orders.now (vector_of state.now)) result
-        (map N.fraction coefficients.new.items) }
+) -> Result<(), Wide>
+    requires forms { All (λ o. IsOnCount state.now.count o.bundle) orders.now }
+    requires room { length orders.now + 1 ≤ vec_capacity row.old }
+    ensures written { HasMade (λ _. map N.fraction row.new.items) (row_steps (2 ^ 127 - 1)
+        (unsigned_abs N.LIMIT) orders.now (vector_of state.now)) result }
+    ensures capacity { vec_capacity row.old ≤ vec_capacity row.new }
 {
-    add_entries(coefficients, orders, state)?;
-    add_slack(coefficients, state)
-}
-
-/// Adds the rows of the states.
-fn add_rows<N: Exact>(
-    coefficients: &mut Vec<N>,
-    orders: &[Order],
-    states: &[State],
-) -> Result<(), BuildError>
-    requires { All (λ state. All (λ o. IsOnCount state.count o.bundle) orders.now) states.now }
-    ensures { HasAdded (map N.fraction coefficients.old.items)
-        (rows_steps (2 ^ 127 - 1) (unsigned_abs N.LIMIT) orders.now (map vector_of states.now))
-        result (map N.fraction coefficients.new.items) }
-{
-    for state in states {
-        add_row(coefficients, orders, state)?;
-    }
+    row.clear();
+    add_entries(row, orders, state)?;
+    let t: N = scale(state)?;
+    push_within(row, t.neg());
     Ok(())
-}
-
-/// The rows of the quantities, and those of the states.
-fn coefficients<N: Exact>(
-    alloc: Global,
-    orders: &[Order],
-    states: &[State],
-) -> Result<Vec<N>, BuildError>
-    requires few { length orders.now ≤ 256 }
-    requires forms { All (λ state.
-        All (λ o. IsOnCount state.count o.bundle) orders.now) states.now }
-    ensures { IsBuilt (λ coefficients. map N.fraction coefficients.items)
-        (coefficients_steps (2 ^ 127 - 1) (unsigned_abs N.LIMIT) orders.now
-        (map vector_of states.now)) result }
-{
-    let mut coefficients = Vec::new(alloc);
-    add_unit_rows(&mut coefficients, orders.len())?;
-    add_rows(&mut coefficients, orders, states)?;
-    Ok(coefficients)
-}
-
-/// The master program of the orders over the state where all prices are 0 and these states: costs first, then row by row.
-pub(crate) fn master<N: Exact>(
-    alloc: Global,
-    orders: &[Order],
-    states: &[State],
-) -> Result<Program<N>, BuildError>
-    requires few { length orders.now ≤ MAX_ORDERS }
-    requires few_states { length states.now ≤ MAX_STATES }
-    requires forms { All (λ state.
-        All (λ o. IsOnCount state.count o.bundle) orders.now) states.now }
-    ensures { IsBuilt (as_program N.fraction) (master (2 ^ 127 - 1)
-        (unsigned_abs N.LIMIT) orders.now (map vector_of states.now)) result }
-{
-    let costs = costs(alloc, orders)?;
-    let right_sides = right_sides(alloc, orders, states.len())?;
-    let coefficients = coefficients(alloc, orders, states)?;
-    Ok(Program {
-        n: orders.len() + 1,
-        m: orders.len() + states.len(),
-        a: coefficients,
-        b: right_sides,
-        c: costs,
-    })
 }

@@ -1,23 +1,27 @@
 //! What is read off an optimum of the master program.
-ghost use Rattle.std.specs.Prelude.{◌≡◌, ◌≤◌, ◌+◌, ◌++◌, ◌∷◌, [], IfOk, OnOk, length, map, take, unsigned_abs, vec_len};
+ghost use Rattle.std.specs.Prelude.{◌≡◌, ◌≤◌, ◌+◌, ◌++◌, ◌∷◌, ◌<◌, [], drop, length, map, unsigned_abs, vec_capacity, vec_len};
 ghost use Rattle.std.specs.List.{zip};
 ghost use Rattle.exact_num.specs.Fits.{meaning};
 ghost use Rattle.form.specs.States.{vector_of};
+ghost use Rattle.form.specs.declared.limits.TheConstants.{MAX_ORDERS};
+ghost use Rattle.simplex.specs.Spaces.{IsFound, x_of, y_of, reduced_of};
 ghost use Rattle.measure.specs.Points.{point_of};
 ghost use Rattle.master_program.specs.Reading.{add_owed, liability_of, owed_of, points_with_weight};
 ghost use Rattle.master_program.specs.Solve.{reading_at};
-ghost use Rattle.rounds.specs.Built.{IsBuilt};
-ghost use Rattle.rounds.specs.Optima.{optimum_in};
-ghost use Rattle.rounds.specs.Readings.{reading_as};
+ghost use Rattle.pricing_oracle.specs.Filled.{HasMade};
+ghost use Rattle.rounds.specs.declared.master.TheConstants.{MAX_STATES};
+ghost use Rattle.rounds.specs.Optima.{optimum_of};
+ghost use Rattle.rounds.specs.Readings.{reading_in_lists};
 
-use crate::building::BuildError;
 use crate::master::{exact_at_zero, for_side};
+use compact_table::room::push_within;
 use exact_num::sums::plus_product;
 use exact_num::{Exact, Wide};
 use form::{Order, State};
 use frac::Frac128;
-use measure::{Measure, Points, Weighted};
-use std::alloc::{AllocError, Global};
+use measure::{Measure, Weighted};
+use pricing_oracle::filling::write_values;
+use simplex::Space;
 
 /// The total and what the fill of an order owes where all prices are 0.
 #[tactic(auto, unfolding(master_program::specs::Reading::add_owed))]
@@ -55,71 +59,50 @@ fn liability<N: Exact>(orders: &[Order], fills: &[N], slack: N) -> Result<N, Wid
 }
 
 /// Adds a state with its weight, where that is above 0.
-fn add_point<N: Exact>(
-    points: &mut Vec<Weighted>,
-    state: &State,
-    weight: N,
-) -> Result<(), AllocError>
-    ensures { OnOk result (map point_of points.new.items
+fn add_point<N: Exact>(points: &mut Vec<Weighted>, state: &State, weight: N)
+    requires { vec_len points.old < vec_capacity points.old }
+    ensures points { map point_of points.new.items
         ≡ map point_of points.old.items
-        ++ points_with_weight ((vector_of state.now, N.fraction weight) ∷ [])) }
+        ++ points_with_weight ((vector_of state.now, N.fraction weight) ∷ []) }
+    ensures len { vec_len points.new ≤ vec_len points.old + 1 }
+    ensures capacity { vec_capacity points.old ≤ vec_capacity points.new }
 {
     if weight.sign() > 0 {
-        points.push(Weighted {
+        let point = Weighted {
             state: *state,
             weight: Frac128::of(weight),
-        })?;
+        };
+        push_within(points, point);
     }
-    Ok(())
 }
 
-/// Adds the states with their weights, where these are above 0.
+/// Adds the states with their weights, where these are above 0: the dual values behind those of the orders.
 fn add_points<N: Exact>(
     points: &mut Vec<Weighted>,
     states: &[State],
-    weights: &[N],
-) -> Result<(), AllocError>
-    requires { length weights.now ≡ length states.now }
-    ensures { OnOk result (map point_of points.new.items
-        ≡ map point_of points.old.items
-        ++ points_with_weight (zip (map vector_of states.now) (map N.fraction weights.now))) }
+    space: &Space<N>,
+    orders: usize,
+)
+    requires found { IsFound space.now.contents }
+    requires few { (orders ≤ MAX_ORDERS) × (length states.now ≤ MAX_STATES) }
+    requires count { length (y_of space.now.contents) ≡ orders + length states.now }
+    requires room { vec_len points.old + length states.now ≤ vec_capacity points.old }
+    ensures points { map point_of points.new.items
+        ≡ map point_of points.old.items ++ points_with_weight
+        (zip (map vector_of states.now) (drop orders (y_of space.now.contents))) }
+    ensures capacity { vec_capacity points.old ≤ vec_capacity points.new }
 {
     for i in 0..states.len() {
         let state = &states[i];
-        add_point(points, state, weights[i])?;
+        add_point(points, state, space.y(orders + i));
     }
-    Ok(())
 }
 
-/// The states whose weights are above 0.
-fn measure<N: Exact>(
-    alloc: Global,
-    first: &State,
-    first_weight: N,
-    later: &[State],
-    weights: &[N],
-) -> Result<Measure, AllocError>
-    requires { length weights.now ≡ length later.now }
-    ensures { IfOk result (λ m. map point_of m.points
-        ≡ points_with_weight ((vector_of first.now, N.fraction first_weight)
-        ∷ zip (map vector_of later.now) (map N.fraction weights.now))) }
-{
-    let mut points = Vec::new(alloc);
-    add_point(&mut points, first, first_weight)?;
-    add_points(&mut points, later, weights)?;
-    Ok(Measure {
-        points: Points::from_vec(points),
-    })
-}
-
-/// An optimum of the master program: the fills and the slack, the dual with a number for each row, the reduced cost of
-/// each variable, and the value.
-#[derive(Drop)]
-pub(crate) struct Optimum<N> {
-    pub(crate) x: Vec<N>,
-    pub(crate) y: Vec<N>,
-    pub(crate) reduced: Vec<N>,
-    pub(crate) value: N,
+/// What is read off but for its lists: the most that the house owes on the fills, and what is left to it.
+#[derive(Clone, Copy)]
+pub(crate) struct Read<N> {
+    pub(crate) liability: N,
+    pub(crate) surplus: N,
 }
 
 /// What is read off: the fills, the most that the house owes on them, what is left to it, and the states that show it.
@@ -131,37 +114,37 @@ pub(crate) struct Reading<N> {
     pub(crate) measure: Measure,
 }
 
-/// What the optimum over a first state and later ones earns, and what shows it.
+/// Reads off what the optimum in the space, over a first state and later ones, earns and what shows it: the fills and the
+/// states with their weights into these lists.
 pub(crate) fn read_off<N: Exact>(
-    alloc: Global,
+    space: &Space<N>,
     orders: &[Order],
     first: &State,
     later: &[State],
-    optimum: Optimum<N>,
-) -> Result<Reading<N>, BuildError>
-    requires x { vec_len optimum.x ≡ length orders.now + 1 }
-    requires y { vec_len optimum.y ≡ length orders.now + length later.now }
-    requires reduced { vec_len optimum.reduced ≡ length orders.now + 1 }
-    ensures { IsBuilt (reading_as N.fraction) (reading_at (unsigned_abs N.LIMIT)
-        (vector_of first.now) orders.now (map vector_of later.now)
-        (optimum_in N.fraction optimum)) result }
+    fills: &mut Vec<N>,
+    points: &mut Vec<Weighted>,
+) -> Result<Read<N>, Wide>
+    requires found { IsFound space.now.contents }
+    requires few { (length orders.now ≤ MAX_ORDERS) × (length later.now ≤ MAX_STATES) }
+    requires x { length (x_of space.now.contents) ≡ length orders.now + 1 }
+    requires y { length (y_of space.now.contents) ≡ length orders.now + length later.now }
+    requires reduced { length (reduced_of space.now.contents) ≡ length orders.now + 1 }
+    requires fills { length orders.now ≤ vec_capacity fills.old }
+    requires points { length later.now + 1 ≤ vec_capacity points.old }
+    ensures read { HasMade (reading_in_lists N.fraction fills.new.items points.new.items) (reading_at
+        (unsigned_abs N.LIMIT) (vector_of first.now) orders.now (map vector_of later.now)
+        (optimum_of space.now.contents)) result }
+    ensures fills { vec_capacity fills.old ≤ vec_capacity fills.new }
+    ensures points { vec_capacity points.old ≤ vec_capacity points.new }
 {
-    let Optimum {
-        mut x,
-        y,
-        reduced,
-        value,
-    } = optimum;
     let k = orders.len();
-    let slack = x[k];
-    x.truncate(k);
-    let liability = liability(orders, &x, slack)?;
-    let (_quantities, weights) = y.as_slice().split_at(k);
-    let measure = measure(alloc, first, reduced[k], later, weights)?;
-    Ok(Reading {
-        fills: x,
+    write_values(fills, space, k);
+    let liability = liability(orders, fills.as_slice(), space.x(k))?;
+    points.clear();
+    add_point(points, first, space.reduced(k));
+    add_points(points, later, space, k);
+    Ok(Read {
         liability,
-        surplus: value,
-        measure,
+        surplus: space.value(),
     })
 }

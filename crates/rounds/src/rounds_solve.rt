@@ -1,72 +1,71 @@
 //! The joint solve on several underlyings.
-ghost use Rattle.std.specs.Prelude.{◌≡◌, ◌<◌, ◌++◌, ◌∷◌, [], OnOk, unsigned_abs};
+ghost use Rattle.std.specs.Prelude.{◌≡◌, ◌≤◌, ◌<◌, ◌+◌, IfOk, length, map, unsigned_abs, vec_capacity};
+ghost use Rattle.std.specs.List.{All};
 ghost use Rattle.form.specs.Limits.{IsWithinLimits};
-ghost use Rattle.node_program.specs.Rounds.{rounds};
-ghost use Rattle.rounds.specs.Answers.{IsJointAnswer, limits_of};
+ghost use Rattle.form.specs.States.{vector_of};
+ghost use Rattle.sign_tree.specs.Legs.{leg_count};
+ghost use Rattle.node_program.specs.Rounds.{axis_rays, rounds};
+ghost use Rattle.rounds.specs.Answers.{IsJointAnswer, IsJointOf, as_stopped, limits_of};
+ghost use Rattle.rounds.specs.Rooms.{IsRoundsRoom, IsSolveRoom, states_within};
 ghost use Rattle.rounds.specs.Round.{IsClearedAnswer};
-ghost use Rattle.rounds.specs.Run.{joint_run};
+ghost use Rattle.rounds.specs.Run.{unjudged_run};
 
-use crate::first_states::axis_rays;
-use crate::joint::Joint;
-use crate::judging::certify;
-use crate::master::MAX_STATES;
-use crate::round::{Cleared, RoundEnd, round};
+use crate::joint::{Joint, covered};
+use crate::reading::Read;
+use crate::round::{RoundEnd, round};
+use crate::solve_room::{SolveRoom, reading_in};
 use cert_check::Cover;
+use compact_table::room::push_within;
 use exact_num::Exact;
 use form::{Batch, State};
 use pricing_oracle::SearchRoom;
-use sign_tree::leg_count;
-use simplex::{Budget, Stop};
-use std::alloc::{AllocError, Global};
+use simplex::{Budget, RunStop};
 
-/// Adds a state at the end.
-fn add_state(states: &mut Vec<State>, state: State) -> Result<(), AllocError>
-    ensures { OnOk result (states.new.items ≡ states.old.items ++ state ∷ []) }
-{
-    states.push(state)?;
-    Ok(())
-}
-
-/// Rounds over the axis rays and each state that a round finds, until a tree closes. `Memory` also comes where the states
-/// are more than a master program takes.
-fn close<N: Exact>(alloc: Global, batch: &Batch, budget: &mut Budget) -> Result<Cleared<N>, Stop>
-    requires limits { IsWithinLimits batch.now }
-    ensures run { IsClearedAnswer N.fraction (rounds
-        (limits_of (unsigned_abs N.LIMIT) budget.old.limit) batch.now.underlyings
-        batch.now.orders budget.old.spent) result budget.new.spent }
-    ensures limit { budget.new.limit ≡ budget.old.limit }
-{
-    let legs = leg_count(batch.orders.as_slice());
-    let mut room = SearchRoom::new(alloc, usize::from(batch.underlyings), legs)?;
-    let mut states = axis_rays(alloc, batch.underlyings)?;
-    // Each round spends a unit, so that the last one here wants more than the budget has.
-    for _round in 0..u64::from(budget.limit) + 1 {
-        if states.len() > MAX_STATES {
-            return Err(Stop::Memory);
-        }
-        match round(alloc, batch, states.as_slice(), budget, &mut room)? {
-            RoundEnd::Closed(cleared) => return Ok(cleared),
-            RoundEnd::Violated(state) => add_state(&mut states, state)?,
-        }
-    }
-    Err(Stop::Budget)
-}
-
-// The joint solve on several underlyings: a master program over some states and a search for one at which its liability is
-// not enough take turns, and last come the sums of the verdict in 128 bits. (Wang et al., EC 2021, where an integer program
-// finds the states.)
-pub(crate) fn solve_rounds<N: Exact>(
-    alloc: Global,
+/// Rounds over these states and each state that a round finds, until a tree closes.
+fn close<N: Exact>(
     batch: &Batch,
     budget: &mut Budget,
-) -> Result<Joint<N>, Stop>
+    states: &mut Vec<State>,
+    room: &mut SolveRoom<N>,
+    search: &mut SearchRoom<N>,
+) -> Result<Read<N>, RunStop>
     requires limits { IsWithinLimits batch.now }
-    requires several { 1 < batch.now.underlyings }
-    ensures run { IsJointAnswer N.fraction (joint_run
+    requires room { IsRoundsRoom batch.now budget.old.limit states.old.items
+        (vec_capacity states.old) room.old search.old }
+    ensures run { IsClearedAnswer N.fraction (rounds
         (limits_of (unsigned_abs N.LIMIT) budget.old.limit) batch.now.underlyings
-        batch.now.orders budget.old.spent) result budget.new.spent }
+        batch.now.orders budget.old.spent) room.new search.new.tree result budget.new.spent }
     ensures limit { budget.new.limit ≡ budget.old.limit }
 {
-    let Cleared { reading, tree } = close(alloc, batch, budget)?;
-    certify(alloc, batch, reading, Cover::Tree(tree), budget.spent)
+    // Each round spends a unit, so that the last one here wants more than the budget has.
+    for _round in 0..u64::from(budget.limit) + 1 {
+        match round(batch, states.as_slice(), budget, room, search)? {
+            RoundEnd::Closed(read) => return Ok(read),
+            RoundEnd::Violated(state) => push_within(states, state),
+        }
+    }
+    Err(RunStop::Budget)
+}
+
+// The joint solve on several underlyings, before the sums of the verdict: a master program over some states and a search for
+// one at which its liability is not enough take turns. (Wang et al., EC 2021, where an integer program finds the states.)
+pub(crate) fn solve_rounds<N: Exact>(
+    batch: &Batch,
+    budget: &mut Budget,
+    mut states: Vec<State>,
+    mut solve: SolveRoom<N>,
+    mut search: SearchRoom<N>,
+) -> Result<Joint<N>, RunStop>
+    requires limits { IsWithinLimits batch.now }
+    requires room { IsRoundsRoom batch.now budget.old.limit states.items
+        (vec_capacity states) solve search }
+    ensures run { IsJointAnswer N.fraction (unjudged_run
+        (limits_of (unsigned_abs N.LIMIT) budget.old.limit) batch.now.underlyings
+        batch.now.orders budget.old.spent) (as_stopped result) budget.new.spent }
+    ensures joint { IfOk result (IsJointOf batch.now) }
+    ensures limit { budget.new.limit ≡ budget.old.limit }
+{
+    let read = close(batch, budget, &mut states, &mut solve, &mut search)?;
+    let reading = reading_in(solve, read);
+    Ok(covered(reading, Cover::Tree(search.into_tree())))
 }

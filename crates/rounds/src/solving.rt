@@ -1,30 +1,102 @@
 //! The joint solve.
 ghost use Rattle.std.specs.Prelude.{◌≡◌, IfOk, unsigned_abs};
 ghost use Rattle.form.specs.Limits.{IsWithinLimits};
-ghost use Rattle.rounds.specs.Answers.{IsJointAnswer, OfSolution, limits_of, reading_in};
+ghost use Rattle.rounds.specs.Answers.{IsJointAnswer, IsJointOf, OfSolution, as_stopped, limits_of, reading_in};
+ghost use Rattle.rounds.specs.Rooms.{IsJointRoom, IsSumsRoom};
 ghost use Rattle.rounds.specs.Laws.{IsGreatestBy, IsYesWith};
-ghost use Rattle.rounds.specs.Run.{joint_run};
+ghost use Rattle.rounds.specs.Run.{joint_run, unjudged_run};
 
 use crate::joint::Joint;
+use crate::joint_room::{JointRoom, MAX_UNITS};
+use crate::judging::{SumsRoom, certify};
 use crate::line_solve::solve_line;
 use crate::rounds_solve::solve_rounds;
 use exact_num::Exact;
 use form::Batch;
-use simplex::{Budget, Stop};
+use simplex::{Budget, RunStop, Stop};
 use std::alloc::Global;
 
-/// The fills of the batch with the greatest surplus, in ticks, and the certificate that shows it: the reference run. On one
-/// underlying one master program over the states of the line is solved; on several a master program over some states and a
-/// search for a state at which its liability is not enough take turns, until a tree closes. Last come the sums of the
-/// verdict in 128 bits.
+/// The run before the sums of the verdict, in given room: on one underlying one master program over the states of the line is
+/// solved; on several a master program over some states and a search for a state at which its liability is not enough take
+/// turns, until a tree closes. What it finds is for `judge`.
+///
+/// `Wide` comes at the first step that does not fit, `Budget` where the run wants one unit more than the budget has; units
+/// that were spent stay spent. It takes no memory. The batch is within the limits.
+/// (The matching program of Wang et al., EC 2021.)
+pub fn solve_unjudged_in<N: Exact>(
+    batch: &Batch,
+    budget: &mut Budget,
+    room: JointRoom<N>,
+) -> Result<Joint<N>, RunStop>
+    requires limits { IsWithinLimits batch.now }
+    requires room { IsJointRoom batch.now budget.old.limit room }
+    ensures run { IsJointAnswer N.fraction (unjudged_run
+        (limits_of (unsigned_abs N.LIMIT) budget.old.limit) batch.now.underlyings
+        batch.now.orders budget.old.spent) (as_stopped result) budget.new.spent }
+    ensures joint { IfOk result (IsJointOf batch.now) }
+    ensures limit { budget.new.limit ≡ budget.old.limit }
+{
+    let JointRoom {
+        states,
+        solve,
+        search,
+    } = room;
+    match search {
+        None => solve_line(batch, budget, states.as_slice(), solve),
+        Some(search) => solve_rounds(batch, budget, states, solve, search),
+    }
+}
+
+/// The same in room of its own, for want of which `Memory` comes before the first unit, and where the budget has more than
+/// 199,000 units.
+pub fn solve_unjudged<N: Exact>(
+    alloc: Global,
+    batch: &Batch,
+    budget: &mut Budget,
+) -> Result<Joint<N>, Stop>
+    requires limits { IsWithinLimits batch.now }
+    ensures run { IsJointAnswer N.fraction (unjudged_run
+        (limits_of (unsigned_abs N.LIMIT) budget.old.limit) batch.now.underlyings
+        batch.now.orders budget.old.spent) result budget.new.spent }
+    ensures joint { IfOk result (IsJointOf batch.now) }
+    ensures limit { budget.new.limit ≡ budget.old.limit }
+{
+    if budget.limit > MAX_UNITS {
+        return Err(Stop::Memory);
+    }
+    let room = JointRoom::new(alloc, batch, budget.limit)?;
+    Ok(solve_unjudged_in(batch, budget, room)?)
+}
+
+/// The fills of the batch with the greatest surplus, in ticks, and the certificate that shows it: the reference run, in given
+/// room. It is the run of `solve_unjudged_in`, and last come the sums of the verdict in 128 bits.
 ///
 /// The fills are from 0 to their quantities and cover the surplus at every settlement, and no fractional fills cover
-/// more; the verdict on them, with the cover and the measure, is yes.
-///
-/// `Wide` comes at the first step of the run that does not fit, `Budget` where the run wants one unit more than the
-/// budget has; units that were spent stay spent. `Memory` comes for want of memory, and where a master program would have
-/// more than 99,744 states, for which at least 99,000 units are spent before. The batch is within the limits.
-/// (The matching program of Wang et al., EC 2021.)
+/// more; the verdict on them, with the cover and the measure, is yes. `Wide` and `Budget` come as there, and `Wide` at the
+/// first step of the sums that does not fit. It takes no memory.
+pub fn solve_joint_in<N: Exact>(
+    batch: &Batch,
+    budget: &mut Budget,
+    room: JointRoom<N>,
+    sums: SumsRoom,
+) -> Result<Joint<N>, RunStop>
+    requires limits { IsWithinLimits batch.now }
+    requires room { IsJointRoom batch.now budget.old.limit room }
+    requires sums { IsSumsRoom batch.now sums }
+    ensures run { IsJointAnswer N.fraction (joint_run
+        (limits_of (unsigned_abs N.LIMIT) budget.old.limit) batch.now.underlyings
+        batch.now.orders budget.old.spent) (as_stopped result) budget.new.spent }
+    ensures greatest { IfOk result (OfSolution N.fraction
+        (IsGreatestBy batch.now.underlyings batch.now.orders)) }
+    ensures yes { IfOk result (λ joint.
+        IsYesWith batch.now (reading_in N.fraction joint) joint.cover) }
+    ensures limit { budget.new.limit ≡ budget.old.limit }
+{
+    let joint = solve_unjudged_in(batch, budget, room)?;
+    certify(batch, joint, budget.spent, sums)
+}
+
+/// The same in room of its own, for want of which `Memory` comes as at `solve_unjudged`.
 pub fn solve_joint<N: Exact>(
     alloc: Global,
     batch: &Batch,
@@ -40,9 +112,10 @@ pub fn solve_joint<N: Exact>(
         IsYesWith batch.now (reading_in N.fraction joint) joint.cover) }
     ensures limit { budget.new.limit ≡ budget.old.limit }
 {
-    if batch.underlyings == 1 {
-        solve_line(alloc, batch, budget)
-    } else {
-        solve_rounds(alloc, batch, budget)
+    if budget.limit > MAX_UNITS {
+        return Err(Stop::Memory);
     }
+    let room = JointRoom::new(alloc, batch, budget.limit)?;
+    let sums = SumsRoom::new(alloc, batch)?;
+    Ok(solve_joint_in(batch, budget, room, sums)?)
 }

@@ -1,12 +1,14 @@
-use Rattle.std.proofs.Common.{◌≡◌, ◌<◌, ◌+◌, ◌*◌, ◌∙◌, Ok, Err, Some, None, arith, ap, refl, subst, length, map, set, pos, negsuc, unsigned_abs}
+use Rattle.std.proofs.Common.{◌≡◌, ◌<◌, ◌+◌, ◌*◌, ◌∙◌, Ok, Err, Some, None, arith, ap, refl, sym, subst, length, map, set, pos, negsuc, unsigned_abs}
 use Rattle.std.proofs.lemmas.Result.{err_from_is_err_and}
 use Rattle.std.proofs.lemmas.List.{length-map, length-set}
-use Rattle.sign_tree.specs.Read.{sign_of}
+use Rattle.sign_tree.specs.Read.{placed_of, sign_of}
 use Rattle.sign_tree.proofs.Sides.{minus_signs, signs_again}
 use Rattle.node_program.specs.Search.{node_end}
 use Rattle.pricing_oracle.specs.Searches.{HasShown, asked_within, parts_of, unsigned_in}
 use Rattle.pricing_oracle.proofs.Answered.{is_asked}
 use Rattle.pricing_oracle.proofs.BothSides.{both_close, leaf_closes, minus_ends, node_stops, plus_ends, says_as, signed_less, split_on, splits_unsigned, state_found}
+use Rattle.pricing_oracle.specs.Rooms.{HasRoom}
+use Rattle.pricing_oracle.proofs.TreeSizes.{room_after, room_at_split, split_added}
 use Rattle.pricing_oracle.proofs.branches.+branching.Goals as goal
 
 pub branch-returns-in_err-open_node-clause-search : goal.branch-returns-in_err-open_node-clause-search
@@ -27,7 +29,9 @@ branch-sides-requires g t c κs within =
     let shown = subst (λ r. HasShown old start (node_end q (map sign_of ss) c.args.budget.now.spent) r c.open_node.new.budget.spent) (c.in_ok-open_node.was ∙ ap Ok c.in-Splits.is) c.open_node.ensures.shown in
     let there = splits_unsigned q ss c.args.budget.now.spent c.open_node.new.budget.spent c.in-Splits.place asked (length-map ss sign_of ∙ c.requires.count) shown.1 in
     let less : 2 * unsigned_in (map sign_of ss) < t = omega (arith, c.decreases) in
-    (less, (within, (c.requires.asked, (c.requires.not_below_zero, (c.requires.few, (c.requires.count, (omega (arith, c.open_node.ensures.size.0, c.requires.rows), (omega (arith, c.open_node.ensures.size.1, c.requires.columns), (there.0, there.1)))))))))
+    let room = room_at_split q (map sign_of ss) c.args.budget.now.spent c.open_node.new.budget.spent c.args.budget.now.limit c.in-Splits.place c.args.tree.now c.open_node.new.tree asked c.requires.tree c.open_node.ensures.room shown in
+    let tree = subst (HasRoom c.open_node.new.tree c.open_node.new.budget.spent) (sym c.open_node.ensures.limit) room.0 in
+    (less, (within, (c.requires.asked, (c.requires.not_below_zero, (c.requires.few, (c.requires.count, (omega (arith, c.open_node.ensures.size.0, c.requires.rows), (omega (arith, c.open_node.ensures.size.1, c.requires.columns), (omega (arith, c.requires.row, c.open_node.ensures.capacity), (tree, (room.1, (there.0, there.1))))))))))))
 
 pub branch-returns-in-Leaf-clause-search : goal.branch-returns-in-Leaf-clause-search
 branch-returns-in-Leaf-clause-search g t c depth few =
@@ -65,11 +69,12 @@ sides-branch-space-requires g t c κs within =
     let place = c.args.place in
     let long : length (set ss place (pos 1)) ≡ length ss = length-set ss place (pos 1) in
     let less : 2 * unsigned_in (map sign_of (set ss place (pos 1))) + 1 < t = omega (arith, c.decreases, signed_less ss place (pos 1) refl c.requires.inside c.requires.unsigned) in
-    (less, (within, (c.requires.asked, (c.requires.not_below_zero, (omega (arith, long, c.requires.few), (long ∙ c.requires.count, (omega (arith, long, c.requires.rows), omega (arith, long, c.requires.columns))))))))
+    let tree = split_added c.args.tree.now c.add_split.new.tree c.args.budget.now.spent c.args.budget.now.limit c.requires.tree c.requires.node c.add_split.ensures.one c.add_split.ensures.multipliers c.add_split.ensures.room in
+    (less, (within, (c.requires.asked, (c.requires.not_below_zero, (omega (arith, long, c.requires.few), (long ∙ c.requires.count, (omega (arith, long, c.requires.rows), (omega (arith, long, c.requires.columns), (omega (arith, long, c.requires.row), tree)))))))))
 
 pub sides-returns-in_err-plus-clause-search : goal.sides-returns-in_err-plus-clause-search
 sides-returns-in_err-plus-clause-search g t c depth few =
-    let p = err_from_is_err_and c.from_residual-in_err-plus.result c.from_residual-in_err-plus.ensures.1 in
+    let p = err_from_is_err_and c.from_residual.result c.from_residual.ensures.1 in
     let value = g.N.Exact.fraction in
     let limit = unsigned_abs g.N.Exact.LIMIT in
     let q = asked_within value limit c.args.budget.now.limit c.args.asked in
@@ -107,7 +112,17 @@ sides-branch-space-requires-2 g t c κs within =
     let long : length (set now place (negsuc 0)) ≡ length ss = length-set now place (negsuc 0) ∙ ap length is ∙ length-set ss place (pos 1) in
     let minus = ap (λ ss. unsigned_in (map sign_of ss)) (minus_signs ss now place is) in
     let less : 2 * unsigned_in (map sign_of (set now place (negsuc 0))) + 1 < t = omega (arith, c.decreases, minus, signed_less ss place (negsuc 0) refl c.requires.inside c.requires.unsigned) in
-    (less, (within, (c.requires.asked, (c.requires.not_below_zero, (omega (arith, long, c.requires.few), (long ∙ c.requires.count, (omega (arith, long, c.branch-space.ensures.size.0, c.requires.rows), omega (arith, long, c.branch-space.ensures.size.1, c.requires.columns))))))))
+    let value = g.N.Exact.fraction in
+    let limit = unsigned_abs g.N.Exact.LIMIT in
+    let budget = c.args.budget.now in
+    let q = asked_within value limit budget.limit c.args.asked in
+    let asked = is_asked value limit budget.limit c.args.asked g.met.N.Exact.lowest c.requires.asked c.requires.not_below_zero in
+    let start = split_added c.args.tree.now c.add_split.new.tree budget.spent budget.limit c.requires.tree c.requires.node c.add_split.ensures.one c.add_split.ensures.multipliers c.add_split.ensures.room in
+    let signed = map sign_of (set ss place (pos 1)) in
+    let plus = says_as q (set ss place (pos 1)) budget.spent (parts_of c.add_split.new.tree) (parts_of c.branch-space.new.tree) c.branch-space.result (Ok None) c.branch-space.new.budget.spent (c.in_ok-plus.was ∙ ap Ok c.in_default.is) c.branch-space.ensures.search in
+    let room = room_after q (unsigned_in signed) signed budget.spent c.branch-space.new.budget.spent budget.limit c.add_split.new.tree c.branch-space.new.tree asked start c.branch-space.ensures.room (plus (unsigned_in signed) (omega arith)) in
+    let tree = subst (HasRoom c.branch-space.new.tree c.branch-space.new.budget.spent) (sym c.branch-space.ensures.limit) room in
+    (less, (within, (c.requires.asked, (c.requires.not_below_zero, (omega (arith, long, c.requires.few), (long ∙ c.requires.count, (omega (arith, long, c.branch-space.ensures.size.0, c.requires.rows), (omega (arith, long, c.branch-space.ensures.size.1, c.requires.columns), (omega (arith, long, c.requires.row, c.branch-space.ensures.capacity), tree)))))))))
 
 pub sides-returns-in_err-minus-clause-search : goal.sides-returns-in_err-minus-clause-search
 sides-returns-in_err-minus-clause-search g t c depth few =
@@ -177,7 +192,7 @@ sides-returns-clause-search g t c depth few =
     let same : later ≡ q = ap (λ b. asked_within value limit b c.args.asked) c.branch-space.ensures.limit in
     let new = parts_of c.branch-space-2.new.tree in
     let spent = c.branch-space-2.new.budget.spent in
-    both_close q later depth ss now place before between spent old start mid new c.requires.inside c.requires.unsigned few c.in_ok-add_split.ensures.nodes c.in_ok-add_split.ensures.multipliers plus same is
+    both_close q later depth ss now place before between spent old start mid new c.requires.inside c.requires.unsigned few c.add_split.ensures.nodes (ap (λ (ms : _). map placed_of ms.items) c.add_split.ensures.multipliers) plus same is
     (says_as later (set now place (negsuc 0)) between mid new c.branch-space-2.result (Ok None) spent (c.in_ok-minus.was ∙ ap Ok c.in_default-2.is) c.branch-space-2.ensures.search)
 
 pub sides-returns-clause-signs : goal.sides-returns-clause-signs

@@ -1,4 +1,5 @@
-use Rattle.std.proofs.Common.{◌≡◌, length, map, unsigned_abs}
+use Rattle.std.specs.Prelude.{vec_capacity, vec_len}
+use Rattle.std.proofs.Common.{◌≡◌, ◌+◌, ◌≤◌, length, map, unsigned_abs}
 use Rattle.master_program.specs.Master.{map_steps}
 use Rattle.sign_tree.specs.Left.{IsAtLeg}
 use Rattle.sign_tree.specs.Read.{sign_of}
@@ -12,9 +13,13 @@ abbrev pub invariant-loop-leg : goal.invariant-loop-leg
 invariant-loop-leg g l =
     let value = g.N.Exact.fraction in
     let f = cover_cost_steps (unsigned_abs g.N.Exact.LIMIT) in
-    (added (map value l.fn.row.items) (map_steps f (covering_of (in_roles (legs_asked value l.asked) (map sign_of l.signs))))
-    ≡ added (map value l.row.items) (map_steps f (covering_of (roles_left value l.left))))
-    × IsAtLeg l.left.legs
+    record {
+      added : added (map value l.fn.row.items) (map_steps f (covering_of (in_roles (legs_asked value l.asked) (map sign_of l.signs))))
+          ≡ added (map value l.row.items) (map_steps f (covering_of (roles_left value l.left)));
+      at : IsAtLeg l.left.legs;
+      left : vec_len l.row + length (roles_left value l.left) ≤ vec_capacity l.row;
+      room : vec_capacity l.fn.row ≤ vec_capacity l.row;
+    }
 
 abbrev pub decreases-loop-leg : goal.decreases-loop-leg
 decreases-loop-leg g l = length (roles_left g.N.Exact.fraction l.left)

@@ -1,4 +1,5 @@
-use Rattle.std.proofs.Common.{◌≡◌, suc, drop, map, unsigned_abs}
+use Rattle.std.specs.Prelude.{vec_capacity, vec_len}
+use Rattle.std.proofs.Common.{◌≡◌, ◌+◌, ◌≤◌, suc, drop, map, unsigned_abs}
 use Rattle.master_program.specs.Master.{map_steps}
 use Rattle.sign_tree.specs.Read.{sign_of}
 use Rattle.node_program.specs.Roles.{values}
@@ -12,4 +13,8 @@ abbrev pub invariant-loop-i : goal.invariant-loop-i
 invariant-loop-i g l =
     let f = state_cost_steps (unsigned_abs g.N.Exact.LIMIT) (legs_asked g.N.Exact.fraction l.asked) (g.N.Exact.fraction l.asked.liability.now) (map sign_of l.signs) in
     let all = values (λ i. i) (suc l.asked.underlyings) in
-    added (map g.N.Exact.fraction l.fn.row.items) (map_steps f all) ≡ added (map g.N.Exact.fraction l.row.items) (map_steps f (drop l.i all))
+    record {
+      added : added (map g.N.Exact.fraction l.fn.row.items) (map_steps f all) ≡ added (map g.N.Exact.fraction l.row.items) (map_steps f (drop l.i all));
+      len : vec_len l.row ≡ vec_len l.fn.row + l.i;
+      room : vec_capacity l.fn.row ≤ vec_capacity l.row;
+    }

@@ -28,6 +28,8 @@ loop-leg-init g c =
       count = omega (arith, count);
       stands = subst (IsOpen c.args.space.now (n + 1 + c.args.covers)) count c.requires.program;
       size = (refl, refl);
+      row = c.requires.row;
+      kept = omega arith;
       at = c.legs_of-left.ensures.at_leg;
     }
 
@@ -46,7 +48,7 @@ returns-in_err-write_cover_row-clause-given g c =
     rw (q.1, q.2)
     (cover_row_fails limit n l.place (c.args.covers - l.place - 1) (covering_of (roles_left value l.left)) (leg_as value c.in-Some.leg.leg) rest (program_given l.space.contents) (map value c.write_cover_row.new.row.items)
     c.write_cover_row.result c.in_err-write_cover_row.field-0.0 _ l.space.contents first behind
-    (cover_rows_are limit n c.args.covers (program_given c.args.space.now.contents) legs signs c.requires.covers ∙ l.invariant.rows) c.in_err-write_cover_row.was c.write_cover_row.ensures)
+    (cover_rows_are limit n c.args.covers (program_given c.args.space.now.contents) legs signs c.requires.covers ∙ l.invariant.rows) c.in_err-write_cover_row.was c.write_cover_row.ensures.written)
 
 pub row-requires-clause-width : goal.row-requires-clause-width
 row-requires-clause-width g c =
@@ -55,7 +57,7 @@ row-requires-clause-width g c =
     let first = covering_first (roles_left value l.left) (role_leg_as value c.in-Some.leg) (roles_left value c.in-Some.after) c.in-Some.ensures.0 (sym c.is_covering.ensures ∙ c.if-is_covering.true) in
     let low : l.place < c.args.covers = omega (arith, l.invariant.count, ap length first) in
     let items = c.write_cover_row.new.row.items in
-    let width = cover_row_width (unsigned_abs g.N.Exact.LIMIT) c.args.asked.underlyings (option_of c.in-Some.leg.leg.form.now) l.place c.args.covers (map value items) low c.in_ok-write_cover_row.ensures in
+    let width = cover_row_width (unsigned_abs g.N.Exact.LIMIT) c.args.asked.underlyings (option_of c.in-Some.leg.leg.form.now) l.place c.args.covers (map value items) low c.in_ok-write_cover_row.ensures.written in
     omega (arith, ap length c.as_slice.ensures.value, length-map items value, width, l.invariant.stands.width)
 
 pub loop-leg-preserved-in_ok-write_cover_row : goal.loop-leg-preserved-in_ok-write_cover_row
@@ -74,10 +76,12 @@ loop-leg-preserved-in_ok-write_cover_row g c =
     record {
       rows =
           l.invariant.rows
-          ∙ cover_row_on limit n l.place (c.args.covers - l.place - 1) (covering_of (roles_left value l.left)) (leg_as value c.in-Some.leg.leg) rest p row first behind c.in_ok-write_cover_row.ensures
+          ∙ cover_row_on limit n l.place (c.args.covers - l.place - 1) (covering_of (roles_left value l.left)) (leg_as value c.in-Some.leg.leg) rest p row first behind c.in_ok-write_cover_row.ensures.written
           ∙ ap (λ (w : Workspace). given_with (program_given w.contents) (length rest) (cover_rows_from limit n (l.place + 1) rest)) (sym now);
       count = omega (arith, l.invariant.count, ap length first);
       stands = one_row_on l.space c.row.new.self (n + 1 + c.args.covers) (length rest) row fraction_zero now (subst (IsOpen l.space (n + 1 + c.args.covers)) (ap length first) l.invariant.stands);
+      row = omega (arith, l.invariant.row, c.write_cover_row.ensures.capacity);
+      kept = omega (arith, l.invariant.kept, c.write_cover_row.ensures.capacity);
       size = (ap (λ (w : Workspace). w.rows) now ∙ l.invariant.size.0, ap (λ (w : Workspace). w.columns) now ∙ l.invariant.size.1);
       at = c.in-Some.ensures.1;
     }

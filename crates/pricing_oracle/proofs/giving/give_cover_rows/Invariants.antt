@@ -1,4 +1,5 @@
-use Rattle.std.proofs.Common.{◌≡◌, ◌+◌, length, map, unsigned_abs}
+use Rattle.std.specs.Prelude.{vec_capacity}
+use Rattle.std.proofs.Common.{◌≡◌, ◌≤◌, ◌+◌, length, map, unsigned_abs}
 use Rattle.sign_tree.specs.Left.{IsAtLeg}
 use Rattle.sign_tree.specs.Read.{sign_of}
 use Rattle.simplex.specs.Spaces.{program_given}
@@ -20,6 +21,8 @@ invariant-loop-leg g l =
       count : l.place + length left ≡ l.covers;
       stands : IsOpen l.space (n + 1 + l.covers) (length left);
       size : HasSameSize l.fn.space l.space;
+      row : l.asked.underlyings + 1 + l.covers ≤ vec_capacity l.row;
+      kept : vec_capacity l.fn.row ≤ vec_capacity l.row;
       at : IsAtLeg l.left.legs;
     }
 

@@ -27,7 +27,7 @@ returns-in_err-write_costs-clause-given g c =
     let signs = map sign_of c.args.signs.now in
     rw (q.1, q.2)
     (not_written (costs_steps limit n legs L signs) (after_costs limit n (counted_node legs signs)) c.write_costs.result c.in_err-write_costs.field-0.0 (map value c.write_costs.new.row.items) _ c.args.space.now.contents
-    (program_is limit n legs L signs) c.in_err-write_costs.was c.write_costs.ensures)
+    (program_is limit n legs L signs) c.in_err-write_costs.was c.write_costs.ensures.written)
 
 pub begin-requires : goal.begin-requires
 begin-requires g c =
@@ -38,7 +38,7 @@ begin-requires g c =
     let signs = map sign_of c.args.signs.now in
     let limit = unsigned_abs g.N.Exact.LIMIT in
     let items = c.write_costs.new.row.items in
-    let width = written_width limit n legs L signs (map value items) (is_written (costs_steps limit n legs L signs) (map value items) c.in_ok-write_costs.ensures) in
+    let width = written_width limit n legs L signs (map value items) (is_written (costs_steps limit n legs L signs) (map value items) c.in_ok-write_costs.ensures.written) in
     let long : length c.as_slice.result.now ≡ length items = ap length c.as_slice.ensures.value in
     (omega (arith, width, long, length-map items value), omega (arith, width, long, length-map items value, c.cover_count-covers.ensures.count, c.cover_count-covers.ensures.few, c.requires.columns))
 
@@ -51,7 +51,7 @@ give_size_row-requires-clause-program g c =
     let signs = map sign_of c.args.signs.now in
     let limit = unsigned_abs g.N.Exact.LIMIT in
     let items = c.write_costs.new.row.items in
-    let width = written_width limit n legs L signs (map value items) (is_written (costs_steps limit n legs L signs) (map value items) c.in_ok-write_costs.ensures) in
+    let width = written_width limit n legs L signs (map value items) (is_written (costs_steps limit n legs L signs) (map value items) c.in_ok-write_costs.ensures.written) in
     let long : length c.as_slice.result.now ≡ length items = ap length c.as_slice.ensures.value in
     subst (λ (w : Workspace). IsOpen w (n + 1 + c.cover_count-covers.result) 1) (sym c.begin.ensures)
     (record { given = tt; width = omega (arith, width, long, length-map c.as_slice.result.now value, length-map items value, c.cover_count-covers.ensures.count); room = omega (arith, c.requires.rows) })
@@ -68,11 +68,11 @@ give_cover_rows-requires-clause-program g c =
     let covers = c.cover_count-covers.result in
     let items = c.write_costs.new.row.items in
     let costs = map value items in
-    let written : costs_steps limit n legs L signs ≡ Ok costs = is_written (costs_steps limit n legs L signs) costs c.in_ok-write_costs.ensures in
+    let written : costs_steps limit n legs L signs ≡ Ok costs = is_written (costs_steps limit n legs L signs) costs c.in_ok-write_costs.ensures.written in
     let begin : c.begin.new.self ≡ record c.args.space.now { contents = given (empty_program costs) } =
     c.begin.ensures ∙ (λ i. record c.args.space.now { contents = given (empty_program (map value (c.as_slice.ensures.value i))) }) in
     let size_given : c.give_size_row.new.space.contents ≡ given (sized n covers costs) =
-    c.in_ok-give_size_row.ensures.given ∙ ap (λ (w : Workspace). given (with_row (program_given w.contents) (map whole (size_row n covers)) (whole (pos 1)))) begin in
+    c.give_size_row.ensures.given ∙ ap (λ (w : Workspace). given (with_row (program_given w.contents) (map whole (size_row n covers)) (whole (pos 1)))) begin in
     let rows : c.give_size_row.new.space.rows ≡ c.args.space.now.rows = c.give_size_row.ensures.size.0 ∙ ap (λ (w : Workspace). w.rows) begin in
     let width = written_width limit n legs L signs costs written in
     record {
@@ -94,11 +94,11 @@ returns-in_err-give_cover_rows-clause-given g c =
     let covers = c.cover_count-covers.result in
     let items = c.write_costs.new.row.items in
     let costs = map value items in
-    let written : costs_steps limit n legs L signs ≡ Ok costs = is_written (costs_steps limit n legs L signs) costs c.in_ok-write_costs.ensures in
+    let written : costs_steps limit n legs L signs ≡ Ok costs = is_written (costs_steps limit n legs L signs) costs c.in_ok-write_costs.ensures.written in
     let begin : c.begin.new.self ≡ record c.args.space.now { contents = given (empty_program costs) } =
     c.begin.ensures ∙ (λ i. record c.args.space.now { contents = given (empty_program (map value (c.as_slice.ensures.value i))) }) in
     let size_given : c.give_size_row.new.space.contents ≡ given (sized n covers costs) =
-    c.in_ok-give_size_row.ensures.given ∙ ap (λ (w : Workspace). given (with_row (program_given w.contents) (map whole (size_row n covers)) (whole (pos 1)))) begin in
+    c.give_size_row.ensures.given ∙ ap (λ (w : Workspace). given (with_row (program_given w.contents) (map whole (size_row n covers)) (whole (pos 1)))) begin in
     let rows : c.give_size_row.new.space.rows ≡ c.args.space.now.rows = c.give_size_row.ensures.size.0 ∙ ap (λ (w : Workspace). w.rows) begin in
     let width = written_width limit n legs L signs costs written in
     rw (q.1, q.2)
@@ -117,11 +117,11 @@ give_signed_rows-requires-clause-program g c =
     let covers = c.cover_count-covers.result in
     let items = c.write_costs.new.row.items in
     let costs = map value items in
-    let written : costs_steps limit n legs L signs ≡ Ok costs = is_written (costs_steps limit n legs L signs) costs c.in_ok-write_costs.ensures in
+    let written : costs_steps limit n legs L signs ≡ Ok costs = is_written (costs_steps limit n legs L signs) costs c.in_ok-write_costs.ensures.written in
     let begin : c.begin.new.self ≡ record c.args.space.now { contents = given (empty_program costs) } =
     c.begin.ensures ∙ (λ i. record c.args.space.now { contents = given (empty_program (map value (c.as_slice.ensures.value i))) }) in
     let size_given : c.give_size_row.new.space.contents ≡ given (sized n covers costs) =
-    c.in_ok-give_size_row.ensures.given ∙ ap (λ (w : Workspace). given (with_row (program_given w.contents) (map whole (size_row n covers)) (whole (pos 1)))) begin in
+    c.give_size_row.ensures.given ∙ ap (λ (w : Workspace). given (with_row (program_given w.contents) (map whole (size_row n covers)) (whole (pos 1)))) begin in
     let rows : c.give_size_row.new.space.rows ≡ c.args.space.now.rows = c.give_size_row.ensures.size.0 ∙ ap (λ (w : Workspace). w.rows) begin in
     let width = written_width limit n legs L signs costs written in
     let p = program_given c.give_size_row.new.space.contents in
@@ -143,11 +143,11 @@ returns-clause-given g c =
     let covers = c.cover_count-covers.result in
     let items = c.write_costs.new.row.items in
     let costs = map value items in
-    let written : costs_steps limit n legs L signs ≡ Ok costs = is_written (costs_steps limit n legs L signs) costs c.in_ok-write_costs.ensures in
+    let written : costs_steps limit n legs L signs ≡ Ok costs = is_written (costs_steps limit n legs L signs) costs c.in_ok-write_costs.ensures.written in
     let begin : c.begin.new.self ≡ record c.args.space.now { contents = given (empty_program costs) } =
     c.begin.ensures ∙ (λ i. record c.args.space.now { contents = given (empty_program (map value (c.as_slice.ensures.value i))) }) in
     let size_given : c.give_size_row.new.space.contents ≡ given (sized n covers costs) =
-    c.in_ok-give_size_row.ensures.given ∙ ap (λ (w : Workspace). given (with_row (program_given w.contents) (map whole (size_row n covers)) (whole (pos 1)))) begin in
+    c.give_size_row.ensures.given ∙ ap (λ (w : Workspace). given (with_row (program_given w.contents) (map whole (size_row n covers)) (whole (pos 1)))) begin in
     let rows : c.give_size_row.new.space.rows ≡ c.args.space.now.rows = c.give_size_row.ensures.size.0 ∙ ap (λ (w : Workspace). w.rows) begin in
     let width = written_width limit n legs L signs costs written in
     built_as c.give_signed_rows.new.space.contents _ (signed_rows_of limit n covers node c.give_cover_rows.new.space.contents) c.give_signed_rows.result

@@ -27,6 +27,8 @@ loop-leg-init g c =
       rows = ap (λ ls. given_with p (signed_count n ls) (signed_rows_from limit n tail ls)) (sym legs);
       stands = subst (IsOpen c.args.space.now (n + 1 + c.args.covers)) count c.requires.program;
       size = (refl, refl);
+      row = c.requires.row;
+      kept = omega arith;
       at = c.legs_of-left.ensures.at_leg;
     }
 
@@ -41,13 +43,13 @@ returns-in_err-write_signed_row-clause-given g c =
     rw (q.1, q.2)
     (signed_row_fails limit n tail (roles_left value l.left) (role_leg_as value c.in-Some.leg) (roles_left value c.in-Some.after) (program_given l.space.contents) (map value c.write_signed_row.new.row.items)
     c.write_signed_row.result c.in_err-write_signed_row.field-0.0 _ l.space.contents c.in-Some.ensures.0 (sym c.is_signed.ensures ∙ c.if-is_signed.true)
-    (signed_rows_are limit n tail (program_given c.args.space.now.contents) (legs_asked value c.args.asked) (map sign_of c.args.signs.now) ∙ l.invariant.rows) c.in_err-write_signed_row.was c.write_signed_row.ensures)
+    (signed_rows_are limit n tail (program_given c.args.space.now.contents) (legs_asked value c.args.asked) (map sign_of c.args.signs.now) ∙ l.invariant.rows) c.in_err-write_signed_row.was c.write_signed_row.ensures.written)
 
 pub row-requires-clause-width : goal.row-requires-clause-width
 row-requires-clause-width g c =
     let value = g.N.Exact.fraction in
     let items = c.write_signed_row.new.row.items in
-    let width = signed_row_width (unsigned_abs g.N.Exact.LIMIT) c.args.asked.underlyings (role_as c.in-Some.leg.role) (option_of c.in-Some.leg.leg.form.now) c.args.covers (map value items) c.in_ok-write_signed_row.ensures in
+    let width = signed_row_width (unsigned_abs g.N.Exact.LIMIT) c.args.asked.underlyings (role_as c.in-Some.leg.role) (option_of c.in-Some.leg.leg.form.now) c.args.covers (map value items) c.in_ok-write_signed_row.ensures.written in
     omega (arith, ap length c.as_slice.ensures.value, length-map items value, width, c.loop-leg.invariant.stands.width)
 
 pub loop-leg-preserved-in_ok-write_signed_row : goal.loop-leg-preserved-in_ok-write_signed_row
@@ -68,9 +70,11 @@ loop-leg-preserved-in_ok-write_signed_row g c =
     record {
       rows =
           l.invariant.rows
-          ∙ signed_row_on limit n tail left (role_leg_as value c.in-Some.leg) rest p row c.in-Some.ensures.0 signed c.in_ok-write_signed_row.ensures
+          ∙ signed_row_on limit n tail left (role_leg_as value c.in-Some.leg) rest p row c.in-Some.ensures.0 signed c.in_ok-write_signed_row.ensures.written
           ∙ ap (λ (w : Workspace). given_with (program_given w.contents) (signed_count n rest) (signed_rows_from limit n tail rest)) (sym now);
       stands = one_row_on l.space c.row.new.self (n + 1 + c.args.covers) (signed_count n rest) row fraction_zero now (subst (IsOpen l.space (n + 1 + c.args.covers)) count l.invariant.stands);
+      row = omega (arith, l.invariant.row, c.write_signed_row.ensures.capacity);
+      kept = omega (arith, l.invariant.kept, c.write_signed_row.ensures.capacity);
       size = (ap (λ (w : Workspace). w.rows) now ∙ l.invariant.size.0, ap (λ (w : Workspace). w.columns) now ∙ l.invariant.size.1);
       at = c.in-Some.ensures.1;
     }
@@ -87,6 +91,8 @@ loop-leg-preserved g c =
       rows = l.invariant.rows ∙ (λ i. given_with (program_given l.space.contents) (same.1 i) (same.0 i));
       stands = subst (IsOpen l.space (n + 1 + c.args.covers)) same.1 l.invariant.stands;
       size = l.invariant.size;
+      row = l.invariant.row;
+      kept = l.invariant.kept;
       at = c.in-Some.ensures.1;
     }
 

@@ -1,4 +1,5 @@
-use Rattle.std.proofs.Common.{◌≡◌, ◌+◌, length, map, replicate, unsigned_abs}
+use Rattle.std.specs.Prelude.{vec_capacity}
+use Rattle.std.proofs.Common.{◌≡◌, ◌≤◌, ◌+◌, length, map, replicate, unsigned_abs}
 use Rattle.sign_tree.specs.Left.{IsAtLeg}
 use Rattle.sign_tree.specs.Read.{sign_of}
 use Rattle.simplex.specs.Spaces.{program_given}
@@ -21,6 +22,8 @@ invariant-loop-leg g l =
       rows : given_with (program_given l.fn.space.contents) (signed_count n all) (signed_rows_from limit n tail all) ≡ given_with (program_given l.space.contents) (signed_count n left) (signed_rows_from limit n tail left);
       stands : IsOpen l.space (n + 1 + l.covers) (signed_count n left);
       size : HasSameSize l.fn.space l.space;
+      row : l.asked.underlyings + 1 + l.covers ≤ vec_capacity l.row;
+      kept : vec_capacity l.fn.row ≤ vec_capacity l.row;
       at : IsAtLeg l.left.legs;
     }
 

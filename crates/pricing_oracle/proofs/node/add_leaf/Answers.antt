@@ -8,12 +8,12 @@ use Rattle.pricing_oracle.specs.Searches.{node_of_asked}
 use Rattle.pricing_oracle.proofs.NodeEnds.{added_count}
 use Rattle.pricing_oracle.proofs.node.add_leaf.Goals as goal
 
-pub returns : goal.returns
-returns g c =
+pub returns-clause-leaf : goal.returns-clause-leaf
+returns-clause-leaf g c =
     let tree = c.args.tree.now in
     let ms = leaf_of (node_of_asked g.N.Exact.fraction c.args.asked (map sign_of c.args.signs.now)) (y_of c.args.space.now.contents) in
     let count : c.len.result - c.len-before.result ≡ length ms =
-    omega (arith, added_count tree.multipliers.items c.add_multipliers.new.multipliers.items ms c.in_ok-add_multipliers.ensures.added, c.len.ensures, c.len-before.ensures, tree.multipliers.ok, c.add_multipliers.new.multipliers.ok) in
-    let nodes : map node_of c.push.new.self.items ≡ map node_of tree.nodes.items ++ (LeafNode (length ms) ∷ []) =
-    ap (map node_of) c.in_ok-push.ensures.items ∙ map-append node_of tree.nodes.items _ ∙ ap (λ (k : ℕ). map node_of tree.nodes.items ++ (LeafNode k ∷ [])) count in
-    λ i. record { nodes = nodes i; multipliers = c.in_ok-add_multipliers.ensures.added i }
+    omega (arith, added_count tree.multipliers.items c.add_multipliers.new.multipliers.items ms c.add_multipliers.ensures.added, c.len.ensures, c.len-before.ensures, tree.multipliers.ok, c.add_multipliers.new.multipliers.ok) in
+    let nodes : map node_of c.push_within.new.items.items ≡ map node_of tree.nodes.items ++ (LeafNode (length ms) ∷ []) =
+    ap (map node_of) c.push_within.ensures.items ∙ map-append node_of tree.nodes.items _ ∙ ap (λ (k : ℕ). map node_of tree.nodes.items ++ (LeafNode k ∷ [])) count in
+    λ i. record { nodes = nodes i; multipliers = c.add_multipliers.ensures.added i }

@@ -1,5 +1,6 @@
 use Rattle.std.specs.Prelude.{nat_lt}
 use Rattle.std.proofs.Common.{Ok, ◌≡◌, ◌+◌, ◌-◌, ◌∙◌, true, false, arith, refl, ap, sym, subst, length, map, unsigned_abs}
+use Rattle.std.proofs.lemmas.Bool.{ltb-true}
 use Rattle.std.proofs.lemmas.Result.{err_from_is_err_and}
 use Rattle.std.proofs.lemmas.List.{length-map}
 use Rattle.exact_num.specs.Tests.{is_above_zero}
@@ -12,6 +13,7 @@ use Rattle.table_run.specs.Run.{run}
 use Rattle.pricing_oracle.specs.Searches.{HasShown, asked_within, parts_of}
 use Rattle.pricing_oracle.proofs.Answered.{is_asked}
 use Rattle.pricing_oracle.proofs.NodeEnds.{above_zero, at_zero, built_there, first_are_direction, never_ends_so, never_rises, no_unit, optimum_there, program_stops, run_here, run_stops, steps_have_shape}
+use Rattle.pricing_oracle.proofs.TreeSizes.{leaf_sized}
 use Rattle.pricing_oracle.proofs.node.open_node.Goals as goal
 
 pub returns-then-not-spend-clause-shown : goal.returns-then-not-spend-clause-shown
@@ -34,7 +36,7 @@ returns-in-Err-clause-shown g c =
     let left : nat_lt before c.args.budget.now.limit ≡ true = sym c.spend.ensures.answer ∙ c.if-not-spend.false in
     let units : c.spend.new.self.spent ≡ before + 1 = c.spend.ensures.spent ∙ rw c.if-not-spend.false refl in
     let parts = parts_of c.args.tree.now in
-    rw c.at.ensures (program_stops q signs before c.spend.new.self.spent parts parts c.in-Err.error c.give_program.new.space.contents left units c.in-Err.ensures.given)
+    program_stops q signs before c.spend.new.self.spent parts parts c.in-Err.wide c.give_program.new.space.contents left units c.in-Err.ensures.given
 
 pub returns-in_err-run-clause-shown : goal.returns-in_err-run-clause-shown
 returns-in_err-run-clause-shown g c =
@@ -139,7 +141,7 @@ returns-then-is_above_zero-clause-shown g c =
     let above : is_above_zero (value_of now) ≡ true = ap is_above_zero (sym c.value.ensures) ∙ sym c.is_above_zero.ensures ∙ c.if-is_above_zero.true in
     let ends = above_zero q signs before c.run.new.budget.spent e (x_of now) (y_of now) (reduced_of now) (value_of now) is there.0 above in
     let parts = parts_of c.args.tree.now in
-    subst (λ ending. HasShown parts parts ending c.look_at_state.result c.run.new.budget.spent) (sym ends) (c.look_at_state.ensures parts)
+    subst (λ ending. HasShown parts parts ending c.look_at_state.result c.run.new.budget.spent) (sym ends) (c.look_at_state.ensures.shown parts)
 
 pub add_leaf-requires-clause-rows : goal.add_leaf-requires-clause-rows
 add_leaf-requires-clause-rows g c =
@@ -172,4 +174,29 @@ returns-clause-shown g c =
     let now = c.run.new.self.contents in
     let there = optimum_there e now c.run.new.budget.spent (sym c.run.ensures.answer ∙ c.in_ok-run.was ∙ ap Ok c.if-not-branch.false) c.run.ensures.contents c.run.ensures.units in
     let low : is_above_zero (value_of now) ≡ false = ap is_above_zero (sym c.value.ensures) ∙ sym c.is_above_zero.ensures ∙ c.if-is_above_zero.false in
-    (leaf_of (node_at q signs) (y_of now), c.in_ok-add_leaf.ensures, at_zero q signs before c.run.new.budget.spent e (x_of now) (y_of now) (reduced_of now) (value_of now) is there.0 low)
+    (leaf_of (node_at q signs) (y_of now), c.add_leaf.ensures.leaf, at_zero q signs before c.run.new.budget.spent e (x_of now) (y_of now) (reduced_of now) (value_of now) is there.0 low)
+
+pub add_leaf-requires-clause-node : goal.add_leaf-requires-clause-node
+add_leaf-requires-clause-node g c =
+    let left = ltb-true c.args.budget.now.spent c.args.budget.now.limit (sym c.spend.ensures.answer ∙ c.if-not-spend.false) in
+    omega (arith, c.requires.tree.nodes, c.requires.tree.room.nodes, left)
+
+pub add_leaf-requires-clause-multipliers : goal.add_leaf-requires-clause-multipliers
+add_leaf-requires-clause-multipliers g c =
+    let value = g.N.Exact.fraction in
+    let limit = unsigned_abs g.N.Exact.LIMIT in
+    let q = asked_within value limit c.args.budget.now.limit c.args.asked in
+    let signs = map sign_of c.args.signs.now in
+    let before = c.args.budget.now.spent in
+    let left : nat_lt before c.args.budget.now.limit ≡ true = sym c.spend.ensures.answer ∙ c.if-not-spend.false in
+    let units : c.spend.new.self.spent ≡ before + 1 = c.spend.ensures.spent ∙ rw c.if-not-spend.false refl in
+    let contents = c.give_program.new.space.contents in
+    let e = run limit (program_given contents) (c.spend.new.self.limit - c.spend.new.self.spent) c.spend.new.self.spent in
+    let is = run_here q signs before contents c.spend.new.self.limit c.spend.new.self.spent left c.in_default.ensures.given c.spend.ensures.limit units in
+    let asked = is_asked value limit c.args.budget.now.limit c.args.asked g.met.N.Exact.lowest c.requires.asked c.requires.not_below_zero in
+    let now = c.run.new.self.contents in
+    let there = optimum_there e now c.run.new.budget.spent (sym c.run.ensures.answer ∙ c.in_ok-run.was ∙ ap Ok c.if-not-branch.false) c.run.ensures.contents c.run.ensures.units in
+    let low : is_above_zero (value_of now) ≡ false = ap is_above_zero (sym c.value.ensures) ∙ sym c.is_above_zero.ensures ∙ c.if-is_above_zero.false in
+    let ends = at_zero q signs before c.run.new.budget.spent e (x_of now) (y_of now) (reduced_of now) (value_of now) is there.0 low in
+    let sized = leaf_sized q signs before c.run.new.budget.spent (leaf_of (node_at q signs) (y_of now)) asked ends in
+    omega (arith, sized, c.run.new.budget.within, c.run.ensures.limit, c.spend.ensures.limit, c.requires.tree.multipliers, c.requires.tree.room.multipliers)

@@ -1,5 +1,5 @@
 use Rattle.std.proofs.Common.{◌≡◌, ◌+◌, ◌≤◌, ◌++◌, length, map}
-use Rattle.std.specs.Prelude.{vec_len}
+use Rattle.std.specs.Prelude.{vec_capacity, vec_len}
 use Rattle.sign_tree.specs.Left.{IsAtLeg}
 use Rattle.sign_tree.specs.Read.{placed_of, sign_of}
 use Rattle.simplex.specs.Spaces.{y_of}
@@ -20,6 +20,8 @@ invariant-loop-leg g l =
       added : map placed_of l.fn.multipliers.items ++ leaf_of (counted_node (legs_asked value l.asked) (map sign_of l.signs)) y
           ≡ map placed_of l.multipliers.items ++ placed_from l.place (multipliers_from left l.rows y);
       rows : AreRowsLeft l.asked.underlyings left l.rows (length y);
+      room : vec_len l.multipliers + length (placed_from l.place (multipliers_from left l.rows y)) ≤ vec_capacity l.multipliers;
+      kept : vec_capacity l.fn.multipliers ≤ vec_capacity l.multipliers;
       few : vec_len l.multipliers + length left ≤ vec_len l.fn.multipliers + length l.signs;
       places : l.place + length left ≤ length l.signs + 1;
       small : length y ≤ length l.signs + 1;

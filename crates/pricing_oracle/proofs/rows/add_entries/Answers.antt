@@ -4,11 +4,12 @@ use Rattle.exact_num.specs.Fits.{whole_of}
 use Rattle.form.specs.Payoff.{option_of}
 use Rattle.node_program.specs.Roles.{entries}
 use Rattle.pricing_oracle.proofs.Added.{goes_on, stops, ends}
-use Rattle.pricing_oracle.proofs.ByRole.{length-values, value_at}
+use Rattle.pricing_oracle.proofs.ByRole.{value_at}
+use Rattle.node_program.proofs.Shape.{length-values}
 use Rattle.pricing_oracle.proofs.rows.add_entries.Goals as goal
 
-pub returns-in_err-entry_of : goal.returns-in_err-entry_of
-returns-in_err-entry_of g c =
+pub returns-in_err-entry_of-clause-added : goal.returns-in_err-entry_of-clause-added
+returns-in_err-entry_of-clause-added g c =
     let q = err_from_is_err_and c.from_residual.result c.from_residual.ensures.1 in
     let value = g.N.Exact.fraction in
     let l = c.loop-i in
@@ -16,7 +17,7 @@ returns-in_err-entry_of g c =
     let all = entries c.args.n (option_of c.args.form.now) in
     let low : l.i < length all = omega (arith, length-values entry_at (suc c.args.n), c.loop-i-test.true) in
     let is : entry_at l.i ≡ get_or all l.i (entry_at l.i) = sym (value_at entry_at (suc c.args.n) l.i (entry_at l.i) (omega (arith, c.loop-i-test.true))) in
-    rw (q.1, q.2) (l.invariant ∙ stops value (whole_of (unsigned_abs g.N.Exact.LIMIT)) l.row.items all l.i (entry_at l.i) c.entry_of.result c.in_err-entry_of.field-0.0 low is c.entry_of.ensures c.in_err-entry_of.was)
+    rw (q.1, q.2) (l.invariant.added ∙ stops value (whole_of (unsigned_abs g.N.Exact.LIMIT)) l.row.items all l.i (entry_at l.i) c.entry_of.result c.in_err-entry_of.field-0.0 low is c.entry_of.ensures c.in_err-entry_of.was)
 
 pub loop-i-preserved : goal.loop-i-preserved
 loop-i-preserved g c =
@@ -26,13 +27,17 @@ loop-i-preserved g c =
     let all = entries c.args.n (option_of c.args.form.now) in
     let low : l.i < length all = omega (arith, length-values entry_at (suc c.args.n), c.loop-i-test.true) in
     let is : entry_at l.i ≡ get_or all l.i (entry_at l.i) = sym (value_at entry_at (suc c.args.n) l.i (entry_at l.i) (omega (arith, c.loop-i-test.true))) in
-    l.invariant ∙ goes_on value (whole_of (unsigned_abs g.N.Exact.LIMIT)) l.row.items c.push.new.numbers.items all l.i (entry_at l.i) c.entry_of.result c.in_ok-entry_of.field-0 low is c.entry_of.ensures c.in_ok-entry_of.was c.in_ok-push.ensures.ok
+    record {
+      added = l.invariant.added ∙ goes_on value (whole_of (unsigned_abs g.N.Exact.LIMIT)) l.row.items c.push_within.new.items.items all l.i (entry_at l.i) c.entry_of.result c.in_ok-entry_of.field-0 low is c.entry_of.ensures c.in_ok-entry_of.was c.push_within.ensures.items;
+      len = omega (arith, l.invariant.len, c.push_within.ensures.len);
+      room = omega (arith, l.invariant.room, c.push_within.ensures.capacity);
+    }
 
-pub returns : goal.returns
-returns g c =
+pub returns-clause-added : goal.returns-clause-added
+returns-clause-added g c =
     let value = g.N.Exact.fraction in
     let l = c.loop-i in
     let entry_at : ℕ → ℤ = λ i. get_or (option_of c.args.form.now) i (pos 0) in
     let all = entries c.args.n (option_of c.args.form.now) in
     let high : length all ≤ l.i = omega (arith, length-values entry_at (suc c.args.n), c.loop-i-test.false) in
-    l.invariant ∙ ends (whole_of (unsigned_abs g.N.Exact.LIMIT)) (map value l.row.items) all l.i high
+    l.invariant.added ∙ ends (whole_of (unsigned_abs g.N.Exact.LIMIT)) (map value l.row.items) all l.i high

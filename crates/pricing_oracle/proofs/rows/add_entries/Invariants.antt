@@ -1,4 +1,5 @@
-use Rattle.std.proofs.Common.{◌≡◌, drop, map, unsigned_abs}
+use Rattle.std.specs.Prelude.{vec_capacity, vec_len}
+use Rattle.std.proofs.Common.{◌≡◌, ◌+◌, ◌≤◌, drop, map, unsigned_abs}
 use Rattle.exact_num.specs.Fits.{whole_of}
 use Rattle.form.specs.Payoff.{option_of}
 use Rattle.master_program.specs.Master.{map_steps}
@@ -11,4 +12,8 @@ abbrev pub invariant-loop-i : goal.invariant-loop-i
 invariant-loop-i g l =
     let f = whole_of (unsigned_abs g.N.Exact.LIMIT) in
     let all = entries l.n (option_of l.form) in
-    added (map g.N.Exact.fraction l.fn.row.items) (map_steps f all) ≡ added (map g.N.Exact.fraction l.row.items) (map_steps f (drop l.i all))
+    record {
+      added : added (map g.N.Exact.fraction l.fn.row.items) (map_steps f all) ≡ added (map g.N.Exact.fraction l.row.items) (map_steps f (drop l.i all));
+      len : vec_len l.row ≡ vec_len l.fn.row + l.i;
+      room : vec_capacity l.fn.row ≤ vec_capacity l.row;
+    }

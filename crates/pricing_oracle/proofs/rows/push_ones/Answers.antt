@@ -1,6 +1,13 @@
+use Rattle.std.proofs.Common.{arith, pos}
+use Rattle.exact_num.specs.Fraction.{whole}
 use Rattle.pricing_oracle.proofs.WrittenRows.{one_more}
 use Rattle.pricing_oracle.proofs.rows.push_ones.Goals as goal
 
 pub loop-i-preserved : goal.loop-i-preserved
 loop-i-preserved g c =
-    one_more g.N.Exact.fraction c.args.row.now.items c.loop-i.row.items c.push.new.self.items c.one.result c.loop-i._i c.loop-i.invariant c.in_ok-push.ensures.items c.one.ensures
+    let l = c.loop-i in
+    record {
+      added = one_more g.N.Exact.fraction (whole (pos 1)) c.args.row.now.items l.row.items c.push_within.new.items.items c.one.result l._i l.invariant.added c.push_within.ensures.items c.one.ensures;
+      len = omega (arith, l.invariant.len, c.push_within.ensures.len);
+      room = omega (arith, l.invariant.room, c.push_within.ensures.capacity);
+    }

@@ -1,60 +1,76 @@
-use Rattle.std.proofs.Common.{◌-◌, length, map, drop, refl, ap, arith, unsigned_abs, ◌∙◌}
+use Rattle.std.proofs.Common.{◌≡◌, ◌+◌, ◌-◌, ◌∷◌, length, map, ap, sym, arith, unsigned_abs, ◌∙◌, subst}
 use Rattle.std.proofs.lemmas.Result.{err_from_is_err_and}
-use Rattle.std.proofs.lemmas.List.{length-drop}
+use Rattle.std.proofs.lemmas.List.{length-drop, length-map}
 use Rattle.frac.specs.Range.{limit}
 use Rattle.form.specs.States.{vector_of}
 use Rattle.line_cover.specs.Breakpoints.{first_state, later_states}
-use Rattle.table_run.specs.Ending.{Ending, on_answer, where_fits}
-use Rattle.cert_check.specs.declared.outcome.Cover.TheVariants.{Line}
+use Rattle.table_run.specs.Ending.{done}
+use Rattle.master_program.specs.Certified.{IsCertifiedAt}
+use Rattle.master_program.specs.Master.{zero_prices}
 use Rattle.master_program.specs.Reading.{Reading}
 use Rattle.master_program.specs.Solve.{master_solve}
-use Rattle.rounds.specs.Answers.{limits_of}
-use Rattle.rounds.specs.Readings.{reading_as, reading_ending}
-use Rattle.rounds.specs.Run.{by_line, on_line, sums_hold}
-use Rattle.rounds.proofs.Certified.{certified_answer, joint_answer_as, line_sums, on_one}
-use Rattle.rounds.proofs.Solve.{later_are, legs_few, on_states}
-use Rattle.rounds.proofs.Stops.{ended_with, goes_on, joint_of_stop, stop_of_answer, stops_after, stops_as}
+use Rattle.rounds.specs.Answers.{IsJointOf, OfSolution, limits_of}
+use Rattle.rounds.specs.Readings.{reading_in_lists}
+use Rattle.rounds.specs.Run.{Solution, by_line, on_line, unjudged_run}
+use Rattle.rounds.proofs.Certified.{on_one}
+use Rattle.rounds.proofs.Rooms.{fewer_states}
+use Rattle.rounds.proofs.Solve.{counted, later_are, on_states}
+use Rattle.rounds.proofs.Stops.{goes_on, joint_of_stop, stops_after, stops_as}
 use Rattle.rounds.proofs.line_solve.solve_line.Goals as goal
 
-pub solve_over-requires-clause-few_states : goal.solve_over-requires-clause-few_states
-solve_over-requires-clause-few_states g c =
-    let states = c.in_ok-states.states.items in
-    let later = ap length (c.split_at.ensures.back ∙ ap (drop 1) c.as_slice.ensures.value) ∙ length-drop 1 states in
-    omega (arith, later, c.in_ok-states.ensures.few, legs_few c.args.batch.now.orders, c.requires.limits.orders_fit)
+pub split_at-requires : goal.split_at-requires
+split_at-requires g c = omega (arith, ap length c.requires.room.are, length-map c.args.states.now vector_of)
 
-pub returns-in_err-reading-clause-run : goal.returns-in_err-reading-clause-run
-returns-in_err-reading-clause-run g c =
-    let q = err_from_is_err_and c.from_residual-in_err-reading.result c.from_residual-in_err-reading.ensures.1 in
+pub solve_over-requires-clause-few_states : goal.solve_over-requires-clause-few_states
+solve_over-requires-clause-few_states g c = omega (arith, ap length c.split_at.ensures.back, length-drop 1 c.args.states.now, c.requires.room.few)
+
+pub solve_over-requires-clause-room : goal.solve_over-requires-clause-room
+solve_over-requires-clause-room g c =
+    let some = ap length c.requires.room.are in
+    fewer_states (length c.args.batch.now.orders) (length c.args.states.now) (length c.split_at.result.1.now + 1) c.args.solve
+    (omega (arith, ap length c.split_at.ensures.back, length-drop 1 c.args.states.now, some, length-map c.args.states.now vector_of)) c.requires.room.solve_room
+
+pub returns-in_err-read-clause-run : goal.returns-in_err-read-clause-run
+returns-in_err-read-clause-run g c =
+    let q = err_from_is_err_and c.from_residual.result c.from_residual.ensures.1 in
     let n = c.args.batch.now.underlyings in
     let orders = c.args.batch.now.orders in
     let limits = limits_of (unsigned_abs g.N.Exact.LIMIT) c.args.budget.now.limit in
     let before = c.args.budget.now.spent in
     let spent = c.solve_over.new.budget.spent in
-    let stop = c.in_err-reading.field-0.0 in
+    let stop = c.in_err-read.field-0.0 in
     let states = map vector_of c.split_at.result.1.now in
-    let later = later_are c.in_ok-states.states.items first_state (later_states orders) c.split_at.result.1.now c.in_ok-states.ensures.states (c.split_at.ensures.back ∙ ap (drop 1) c.as_slice.ensures.value) in
+    let later = later_are c.args.states.now first_state (later_states orders) c.split_at.result.1.now c.requires.room.are c.split_at.ensures.back in
     let ending = master_solve limit limits.limit (limits.budget - before) before n orders states in
-    let is = stop_of_answer (reading_ending g.N.Exact.fraction) ending c.solve_over.result stop spent c.in_err-reading.was c.solve_over.ensures.run in
-    let whole = stops_as _ _ stop spent (on_one limits n orders before states c.requires.one later)
-    (stops_after _ on_line stop spent (stops_after ending (where_fits (sums_hold limit orders)) stop spent is)) in
+    let whole = stops_as _ _ stop spent (on_one limits n orders before states c.requires.room.one later) (stops_after ending on_line stop spent c.in_err-read.ensures.run) in
     rw (q.1, q.2) (joint_of_stop g.N.Exact.fraction _ stop spent whole)
-
-pub certify-requires-clause-states : goal.certify-requires-clause-states
-certify-requires-clause-states g c = on_states c.args.batch.now.underlyings c.in_ok-reading.reading.measure.points c.in_ok-reading.ensures.certified.measure
 
 pub returns-clause-run : goal.returns-clause-run
 returns-clause-run g c =
+    let value = g.N.Exact.fraction in
     let n = c.args.batch.now.underlyings in
     let orders = c.args.batch.now.orders in
     let limits = limits_of (unsigned_abs g.N.Exact.LIMIT) c.args.budget.now.limit in
     let before = c.args.budget.now.spent in
     let spent = c.solve_over.new.budget.spent in
     let states = map vector_of c.split_at.result.1.now in
-    let later = later_are c.in_ok-states.states.items first_state (later_states orders) c.split_at.result.1.now c.in_ok-states.ensures.states (c.split_at.ensures.back ∙ ap (drop 1) c.as_slice.ensures.value) in
+    let later = later_are c.args.states.now first_state (later_states orders) c.split_at.result.1.now c.requires.room.are c.split_at.ensures.back in
     let ending = master_solve limit limits.limit (limits.budget - before) before n orders states in
-    let reading = reading_as g.N.Exact.fraction c.in_ok-reading.reading in
-    let ends = ended_with (reading_ending g.N.Exact.fraction) ending c.solve_over.result c.in_ok-reading.reading spent c.in_ok-reading.was c.solve_over.ensures.run in
-    let whole = on_one limits n orders before states c.requires.one later
-    ∙ ap (λ (e : Ending Reading). on_answer e on_line) (goes_on _ ending (where_fits (sums_hold limit orders)) reading spent refl ends) in
-    joint_answer_as g.N.Exact.fraction _ _ c.certify.result spent (line_sums limits orders reading spent _ whole)
-    (certified_answer g.N.Exact.fraction reading by_line Line spent (sums_hold limit orders reading) c.certify.result tt c.certify.ensures.cover c.certify.ensures.answer)
+    let r = reading_in_lists value c.solve_over.new.room.fills.items c.solve_over.new.room.points.items c.in_ok-read.read in
+    let run = goes_on _ ending on_line r spent (on_one limits n orders before states c.requires.room.one later) c.in_ok-read.ensures.run
+    ∙ ap (λ (r : Reading). done (r, by_line) spent) (sym c.reading_in.ensures) in
+    subst (OfSolution value (λ (s : Solution). unjudged_run limits n orders before ≡ done s spent)) (sym c.covered.ensures) (by_line, tt, run)
+
+pub returns-clause-joint : goal.returns-clause-joint
+returns-clause-joint g c =
+    let value = g.N.Exact.fraction in
+    let n = c.args.batch.now.underlyings in
+    let orders = c.args.batch.now.orders in
+    let reading = c.reading_in.result in
+    let certified = subst (IsCertifiedAt n orders (zero_prices n ∷ map vector_of c.split_at.result.1.now)) (sym c.reading_in.ensures) c.in_ok-read.ensures.certified in
+    subst (IsJointOf c.args.batch.now) (sym c.covered.ensures)
+    (record {
+      fills = counted value reading.fills (length orders) certified.fills.0;
+      cover = c.requires.room.one;
+      states = on_states n reading.measure.points certified.measure;
+    })

@@ -1,11 +1,15 @@
-use Rattle.std.proofs.Common.{◌≡◌, drop, map, unsigned_abs}
+use Rattle.std.specs.Prelude.{vec_capacity, vec_len}
+use Rattle.std.proofs.Common.{◌≡◌, ◌+◌, ◌≤◌, drop, map, unsigned_abs}
 use Rattle.master_program.specs.Master.{map_steps, cost_steps}
-use Rattle.rounds.specs.Built.{added}
+use Rattle.pricing_oracle.specs.Built.{added}
 use Rattle.rounds.proofs.master.add_costs.Given as goal
 
 -- what is left to add, behind what was added, is all
 abbrev pub invariant-loop-order : goal.invariant-loop-order
 invariant-loop-order g l =
     let f = cost_steps (unsigned_abs g.N.Exact.LIMIT) in
-    added (map g.N.Exact.fraction l.fn.costs.items) (map_steps f l.orders)
-    ≡ added (map g.N.Exact.fraction l.costs.items) (map_steps f (drop l.order-index l.orders))
+    record {
+      added : added (map g.N.Exact.fraction l.fn.row.items) (map_steps f l.orders) ≡ added (map g.N.Exact.fraction l.row.items) (map_steps f (drop l.order-index l.orders));
+      len : vec_len l.row ≡ vec_len l.fn.row + l.order-index;
+      room : vec_capacity l.fn.row ≤ vec_capacity l.row;
+    }

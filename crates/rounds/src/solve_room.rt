@@ -1,0 +1,57 @@
+//! What the solves of master programs work in.
+ghost use Rattle.std.specs.Prelude.{◌≡◌, ◌≤◌, ◌+◌, IfOk};
+ghost use Rattle.form.specs.declared.limits.TheConstants.{MAX_ORDERS};
+ghost use Rattle.rounds.specs.declared.master.TheConstants.{MAX_STATES};
+ghost use Rattle.rounds.specs.Readings.{reading_as, reading_in_lists};
+ghost use Rattle.rounds.specs.Rooms.{IsSolveRoom};
+
+use crate::reading::{Read, Reading};
+use exact_num::Exact;
+use measure::{Measure, Points, Weighted};
+use simplex::Space;
+use std::alloc::{AllocError, Global};
+
+/// What the solves of master programs work in, one after another: the space of the programs and the row that is given next,
+/// and the fills and the weighted states that are read off.
+#[derive(Drop)]
+pub(crate) struct SolveRoom<N: Exact> {
+    pub(crate) space: Space<N>,
+    pub(crate) row: Vec<N>,
+    pub(crate) fills: Vec<N>,
+    pub(crate) points: Vec<Weighted>,
+}
+
+impl<N: Exact> SolveRoom<N> {
+    /// Room for master programs of at most so many orders and states. The error is want of memory.
+    pub(crate) fn new(
+        alloc: Global,
+        orders: usize,
+        states: usize,
+    ) -> Result<SolveRoom<N>, AllocError>
+        requires orders { orders ≤ MAX_ORDERS }
+        requires states { (1 ≤ states) × (states ≤ MAX_STATES) }
+        ensures { IfOk result (IsSolveRoom orders states) }
+    {
+        Ok(SolveRoom {
+            space: Space::new(alloc, orders + states, orders + 1)?,
+            row: Vec::with_capacity(alloc, orders + 1)?,
+            fills: Vec::with_capacity(alloc, orders)?,
+            points: Vec::with_capacity(alloc, states)?,
+        })
+    }
+}
+
+/// What was read off, with its lists.
+pub(crate) fn reading_in<N: Exact>(room: SolveRoom<N>, read: Read<N>) -> Reading<N>
+    ensures { reading_as N.fraction result
+        ≡ reading_in_lists N.fraction room.fills.items room.points.items read }
+{
+    Reading {
+        fills: room.fills,
+        liability: read.liability,
+        surplus: read.surplus,
+        measure: Measure {
+            points: Points::from_vec(room.points),
+        },
+    }
+}
