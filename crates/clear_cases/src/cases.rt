@@ -55,6 +55,24 @@ sell,2,1,call,1000000000,1000000000,1000000,999
 sell,2,1,call,999999999,0,1000000,1
 clear,1,20000
 = 0 0 0 0 0 | 0 0 | 6 | add 398748100250250500749500501/1000000000000 99599999800200000/997999999001
+== cover too dear, with one unit
+market,1,1
+buy,1,1,call,10,6,1,1
+sell,2,1,call,12,4,1,1
+clear,1,1
+= 0 0 | 0 0 | 1 | budget
+== cover too dear, with two units
+market,1,1
+buy,1,1,call,10,6,1,1
+sell,2,1,call,12,4,1,1
+clear,1,2
+= 0 0 | 0 0 | 2 | optimal; 1 1 12; 4 0 1 | line
+== cover too dear, with a unit for each choice of basic variables
+market,1,1
+buy,1,1,call,10,6,1,1
+sell,2,1,call,12,4,1,1
+clear,1,56
+= 0 0 | 0 0 | 2 | optimal; 1 1 12; 4 0 1 | line
 == match after the budget
 market,1,1
 buy,1,1,call,10,7,3,1
@@ -146,4 +164,61 @@ sell,2,1,call,10,1,1,0,0,0,0,0,0,1,0
 sell,2,1,call,10,1,1,0,0,0,0,0,0,0,1
 clear,1,20000
 = 1 1 1 1 1 1 1 1 1 | 0 1 | 29 | optimal; 1 1 0 0 0 0 0 0 0 0; 1 0 1 0 0 0 0 0 0 0; 1 0 0 1 0 0 0 0 0 0; 1 0 0 0 1 0 0 0 0 0; 1 0 0 0 0 1 0 0 0 0; 1 0 0 0 0 0 1 0 0 0; 1 0 0 0 0 0 0 1 0 0; 1 0 0 0 0 0 0 0 1 0; 1 0 0 0 0 0 0 0 0 1 | split 1 leaf 8 leaf 0; 2 1; 3 1; 4 1; 5 1; 6 1; 7 1; 8 1; 9 1
+";
+
+/// Batches that are cleared with numbers of 64 bits first. Their orders are bundles of one option, and before the outcome stands
+/// whether the pass was narrow or broad.
+pub const PASSES: &str = "\
+== one option matched
+market,1,1
+bundle,1,1,buy,7,1,1,1,call,10,1
+bundle,2,1,sell,5,1,1,1,call,10,1
+clear,1,20000
+= narrow | 1 1 | 0 2 | 2 | optimal; 1 1 0; 5 0 1 | line
+== butterfly by two sells
+market,1,1
+bundle,1,1,buy,6,1,1,1,call,10,1
+bundle,2,1,sell,8,1,1,1,call,5,1
+bundle,2,1,sell,4,1,1,1,call,12,1
+clear,1,20000
+= narrow | 1 2/7 5/7 | 0 6/7 | 3 | optimal; 3/7 1 0; 4/7 1 12; 4 0 1 | line
+== surplus too wide
+market,1,1
+bundle,1,1,buy,400000000,999999,1,1,call,500001,1
+bundle,1,1,buy,200000,1,1,1,call,899999999,1
+bundle,2,1,sell,1501501501,1000000,1,1,call,0,1000
+bundle,2,1,sell,1000000000,1000000,1,1,call,1000000000,999
+bundle,2,1,sell,0,1000000,1,1,call,999999999,1
+clear,1,20000
+= broad | 0 0 0 0 0 | 0 0 | 6 | add 398748100250250500749500501/1000000000000 99599999800200000/997999999001
+== a surplus of more than 64 bits
+market,1,1
+bundle,1,1,buy,1000000000000,1000000,1,1,call,10,1
+bundle,1,1,buy,1000000000000,1000000,1,1,call,10,1
+bundle,1,1,buy,1000000000000,1000000,1,1,call,10,1
+bundle,1,1,buy,1000000000000,1000000,1,1,call,10,1
+bundle,1,1,buy,1000000000000,1000000,1,1,call,10,1
+bundle,1,1,buy,1000000000000,1000000,1,1,call,10,1
+bundle,1,1,buy,1000000000000,1000000,1,1,call,10,1
+bundle,1,1,buy,1000000000000,1000000,1,1,call,10,1
+bundle,1,1,buy,1000000000000,1000000,1,1,call,10,1
+bundle,1,1,buy,1000000000000,1000000,1,1,call,10,1
+bundle,2,1,sell,0,1000000,1,1,call,10,1
+bundle,2,1,sell,0,1000000,1,1,call,10,1
+bundle,2,1,sell,0,1000000,1,1,call,10,1
+bundle,2,1,sell,0,1000000,1,1,call,10,1
+bundle,2,1,sell,0,1000000,1,1,call,10,1
+bundle,2,1,sell,0,1000000,1,1,call,10,1
+bundle,2,1,sell,0,1000000,1,1,call,10,1
+bundle,2,1,sell,0,1000000,1,1,call,10,1
+bundle,2,1,sell,0,1000000,1,1,call,10,1
+bundle,2,1,sell,0,1000000,1,1,call,10,1
+clear,1,20000
+= broad | 1000000 1000000 1000000 1000000 1000000 1000000 1000000 1000000 1000000 1000000 1000000 1000000 1000000 1000000 1000000 1000000 1000000 1000000 1000000 1000000 | 0 10000000000000000000 | 20 | optimal; 1 1 0 | line
+== no unit left
+market,1,1
+bundle,1,1,buy,6,1,1,1,call,10,1
+bundle,2,1,sell,4,1,1,1,call,12,1
+clear,1,1
+= narrow | 0 0 | 0 0 | 1 | budget
 ";

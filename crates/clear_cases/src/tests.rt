@@ -1,14 +1,17 @@
 //! Each case, from its command lines to the text of its outcome.
 ghost use Rattle.command_text.specs.Within.{BodyIsWithin};
 
-use crate::cases::CASES;
+use crate::cases::{CASES, PASSES};
 use anyhow::{Context, Result, bail, ensure};
 use case_texts::{print_number, print_wide};
 use cert_check::{Cover, Mark, Outcome};
-use command_text::{Body, commands};
+use clearing::{Pass, clear_first};
+use command_text::{Body, Command, commands};
 use exact_num::Exact;
 use exchange_core::{Exchange, Reply};
+use frac::Frac64;
 use measure::{Measure, Weighted};
+use order_book::{Book, NewOrder};
 use sign_tree::{Node, SignTree};
 use std::alloc::{AllocError, Global};
 
@@ -127,6 +130,73 @@ fn cleared(alloc: Global, text: &str) -> Result<Outcome> {
     last.context("a batch that is cleared")
 }
 
+// Takes a book one line further: it lists a market or takes an order for a bundle.
+fn enter(book: &mut Book, said: &Body) -> Result<()>
+    requires { BodyIsWithin said.now }
+{
+    match said {
+        Body::Command(
+            Command::Market {
+                market,
+                underlyings,
+            },
+        ) => book.market(*market, *underlyings)?,
+        Body::Command(
+            Command::Bundle {
+                side,
+                account,
+                market,
+                price,
+                quantity,
+                bundle,
+            },
+        ) => {
+            book.place(&NewOrder {
+                account: *account,
+                market: *market,
+                side: *side,
+                bundle: *bundle,
+                price: *price,
+                quantity: *quantity,
+            })?;
+        }
+        _ => bail!("a market or a bundle"),
+    }
+    Ok(())
+}
+
+// Takes a book one line further, or clears its batch with numbers of 64 bits first, and answers the text of the outcome.
+fn tried(alloc: Global, book: &mut Book, said: &Body) -> Result<Option<String>>
+    requires { BodyIsWithin said.now }
+{
+    let Body::Command(Command::Clear { market, budget }) = said else {
+        enter(book, said)?;
+        return Ok(None);
+    };
+    let batch = book.batch(*market)?;
+    let (outcome, pass) = clear_first::<Frac64>(alloc, &batch, *budget)?;
+    let name = match pass {
+        Pass::Narrow => "narrow",
+        Pass::Broad => "broad",
+    };
+    let outcome = print(alloc, &outcome)?;
+    Ok(Some(format!(in alloc; "{name} |{outcome}")?))
+}
+
+// Whether the batch of a case is cleared by the pass and with the outcome that the case says.
+fn passes_so(alloc: Global, case: &str) -> Result<bool> {
+    let (input, outcome) = case.split_once('=').context("an outcome")?;
+    let (_, lines) = input.split_once('\n').context("a name")?;
+    ensure!(lines.len() <= 16_777_216, "a text");
+    let mut book = Book::new(alloc);
+    let mut last = None;
+    for line in &commands(alloc, lines.as_bytes())? {
+        last = tried(alloc, &mut book, &line.body)?;
+    }
+    let last = last.context("a batch that is cleared")?;
+    Ok(last.as_str().trim() == outcome.trim())
+}
+
 // Whether the batch of a case clears as the case says.
 fn clears_so(alloc: Global, case: &str) -> Result<bool> {
     let (input, outcome) = case.split_once('=').context("an outcome")?;
@@ -141,6 +211,16 @@ fn each_batch_clears_as_it_says(rt: HostRuntime) -> Result<()> {
     let (_, cases) = CASES.split_once("== ").context("a case")?;
     for case in cases.split("== ") {
         let so = clears_so(rt.alloc(), case)?;
+        assert!(rt; so, "{case}");
+    }
+    Ok(())
+}
+
+#[test]
+fn each_pass_is_as_it_says(rt: HostRuntime) -> Result<()> {
+    let (_, cases) = PASSES.split_once("== ").context("a case")?;
+    for case in cases.split("== ") {
+        let so = passes_so(rt.alloc(), case)?;
         assert!(rt; so, "{case}");
     }
     Ok(())

@@ -9,3 +9,5 @@ pub mod Yes
 pub mod Marks
 pub mod NodeSizes
 pub mod RoundNumbers
+pub mod NarrowRuns
+pub mod Cleared

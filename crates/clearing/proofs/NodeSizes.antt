@@ -1,5 +1,5 @@
 -- The numbers of the program of a node are within the limit of its steps.
-use Rattle.std.proofs.Common.{◌≡◌, ℕ, zero, suc, ◌+◌, ◌≤◌, List, [], ◌∷◌, ◌++◌, length, map, replicate, ℤ, pos, negsuc, unsigned_abs, get_or, subst, arith}
+use Rattle.std.proofs.Common.{◌≡◌, ℕ, zero, suc, ◌+◌, ◌≤◌, List, [], ◌∷◌, ◌++◌, length, map, replicate, ℤ, pos, negsuc, get_or, subst, arith}
 use Rattle.std.specs.Prelude.{Result, Ok}
 use Rattle.std.specs.List.{All}
 use Rattle.std.proofs.lemmas.List.Elements.{All-nil, All-cons, All-head, All-tail, All-append, All-map, All-replicate, All-weaker}
@@ -23,6 +23,7 @@ use Rattle.master_program.specs.Master.{map_steps}
 use Rattle.node_program.specs.Node.{covers_of, signed_of, minus_units, size_row, after_zero}
 use Rattle.node_program.specs.Roles.{Role, Idle, Covering, Free, Above, Below, NodeLeg, values, entries}
 use Rattle.node_program.specs.Steps.{counted_role, counted_node, leg_fill, add_earned, add_by_role, add_all_earned, state_cost_steps, covering_legs, cover_cost_steps, negated_of, with_row, cover_rows_steps, signed_row_steps, signed_rows_steps, node_steps}
+use Rattle.master_program.proofs.WithinSizes.{all_within, IsUnit}
 
 -- ---- steps that fit
 mul_within : (l : ℕ) (x y s : Fraction) → mul_of l x y ≡ Ok s → IsWithin l s
@@ -30,15 +31,6 @@ unfolding mul_of
 mul_within l x y s e =
     let is = answer_is (product_fits l x y) (product_value x y) s (misfit operator.Mul x y) e in
     subst (IsWithin l) is.value (product_within l x y is.passed)
-
-all_within : {A : Type 0} (l : ℕ) (f : A → Result Fraction Wide) → ((x : A) (y : Fraction) → f x ≡ Ok y → IsWithin l y) → (xs : List A) (ys : List Fraction) → map_steps f xs ≡ Ok ys → AreWithin l ys
-unfolding map_steps
-all_within l f h [] ys k = let e : [] ≡ ys = cc in subst (AreWithin l) e (All-nil (IsWithin l))
-all_within l f h (x ∷ xs) ys k =
-    let a = after_value (f x) _ ys k in
-    let b = after_value (map_steps f xs) _ ys a.rest in
-    let e : a.value ∷ b.value ≡ ys = cc in
-    subst (AreWithin l) e (All-cons (IsWithin l) a.value b.value (h x a.value a.first) (all_within l f h xs b.value b.first))
 
 -- ---- costs
 fill_within : (l : ℕ) (leg : FractionLeg) (s : Fraction) → leg_fill l leg ≡ Ok s → IsWithin l s
@@ -106,14 +98,10 @@ row_within l row tail later s of_row of_tail of_later k =
     subst (AreWithin l) e
     (All-append (IsWithin l) (entries.value ++ tail) rows.value (All-append (IsWithin l) entries.value tail (of_row entries.value entries.first) of_tail) (of_later rows.value rows.first))
 
--- 0, 1 and -1 are within the limit
-abbrev IsUnit : ℤ → Type 0
-IsUnit v = unsigned_abs v ≤ 1
-
 units_within : (l : ℕ) (row : List ℤ) → 1 ≤ l → All IsUnit row → AreWithin l (map whole row)
 units_within l row one are = All-map (IsWithin l) whole row (All-weaker IsUnit (λ v. IsWithin l (whole v)) (λ v low. whole_within l v one (omega (arith, low, one))) row are)
 
-minus_units_are : (k : ℕ) → All (All IsUnit) (minus_units k)
+pub minus_units_are : (k : ℕ) → All (All IsUnit) (minus_units k)
 minus_units_are zero = All-nil (All IsUnit)
 minus_units_are (suc k) =
     let first = All-cons IsUnit (negsuc 0) (replicate k (pos 0)) (omega arith) (All-replicate IsUnit k (pos 0) (omega arith)) in

@@ -1,18 +1,17 @@
 -- What a solve found is the outcome of its reading.
 use Rattle.std.proofs.Common.{◌≡◌, ℕ, List, map, pos, true, Err, refl, sym, subst}
-use Rattle.std.specs.List.{zip}
 use Rattle.exact_num.specs.declared.misfit.Wide.{Wide as Misfit}
-use Rattle.exact_num.specs.Fraction.{whole}
-use Rattle.frac.specs.Range.{limit as largest}
+use Rattle.exact_num.specs.Fraction.{Fraction, whole}
 use Rattle.frac.specs.ValueOf.{value_of}
 use Rattle.form.specs.declared.orders.Order.{Order}
 use Rattle.form.specs.declared.orders.Batch.{Batch}
 use Rattle.clearing_model.specs.Clearing.{premium}
 use Rattle.each_match.specs.Match.{match_by_option}
+use Rattle.each_match.specs.Laws.{matched}
 use Rattle.simplex.specs.declared.stop.Stop.{Stop}
 use Rattle.simplex.specs.declared.stop.Stop.TheVariants.{Wide as WideStop, Budget as BudgetStop}
-use Rattle.rounds.specs.Answers.{IsCoverAs, IsJointAnswer, limits_of}
-use Rattle.rounds.specs.Run.{WrittenCover, Solution, joint_run}
+use Rattle.rounds.specs.Answers.{IsCoverAs, IsJointAnswer}
+use Rattle.rounds.specs.Run.{WrittenCover, Solution}
 use Rattle.table_run.specs.Ending.{Ending, done, wide_at, no_unit_left}
 use Rattle.frac.specs.declared.frac128.Frac128.{Frac128}
 use Rattle.frac.specs.Value.{fraction_of}
@@ -49,19 +48,13 @@ optimal_outcome-parts fills L S written cover points units is =
     λ i. outcome_with (values_are fills i) (sym (value-fraction_of L) i) (sym (value-fraction_of S) i) (cover_is written cover is i) (points_are points i) units
 
 -- the match and its premium are the fallback
-pub fallback-parts : (orders : List Order) (mark : Mark) (units : ℕ) (fills : List Frac128) (L S : Frac128) (amounts : List ℕ)
-    → amounts ≡ match_by_option orders → fills ≡ whole_fills amounts → L ≡ value_of (whole (pos 0)) → S ≡ value_of (whole (premium (zip orders amounts)))
+pub fallback-parts : (orders : List Order) (mark : Mark) (units : ℕ) (fills : List Frac128) (L S : Frac128)
+    → fills ≡ whole_fills (match_by_option orders) → L ≡ value_of (whole (pos 0)) → S ≡ value_of (whole (premium (matched orders)))
     → ◌≡◌ {A = Outcome} (record { fills = fills; claim = record { liability = L; surplus = S }; mark = mark; units = units }) (fallback orders mark units)
 unfolding fallback
-fallback-parts orders mark units fills L S amounts is e eL eS = rw (eS, eL, e, is) refl
+fallback-parts orders mark units fills L S e eL eS = rw (eS, eL, e) refl
 
 -- ---- the outcome at each end of the run
-pub run_of-budget : (batch : Batch) (limit spent units : ℕ) (end : Ending Solution) → limit ≡ units → spent ≡ 0
-    → joint_run (limits_of largest limit) batch.underlyings batch.orders spent ≡ end → run_of batch units ≡ end
-run_of-budget batch limit spent units end el es h =
-    subst (λ s. joint_run (limits_of largest units) batch.underlyings batch.orders s ≡ end) es
-    (subst (λ l. joint_run (limits_of largest l) batch.underlyings batch.orders spent ≡ end) el h)
-
 pub outcome_of-done : (batch : Batch) (units spent : ℕ) (s : Solution) → run_of batch units ≡ done s spent → has_values s ≡ true → optimal_outcome s spent ≡ outcome_of batch units
 unfolding outcome_of
 outcome_of-done batch units spent s run test = rw (run, test) refl
@@ -75,12 +68,6 @@ unfolding outcome_of
 outcome_of-no_unit_left batch units spent run = rw run refl
 
 -- and its mark
-pub IsMarked-done : (batch : Batch) (units : ℕ) (fills : List Frac128) (L S : Frac128) (written : WrittenCover) (cover : Cover) (points : List Weighted) (spent : ℕ) → IsCoverAs written cover
-    → run_of batch units ≡ done (reading_of fills L S points, written) spent
-    → IsMarked batch units (optimal_outcome (reading_of fills L S points, written) spent)
-IsMarked-done batch units fills L S written cover points spent is run =
-    subst (IsMarked batch units) (optimal_outcome-parts fills L S written cover points spent is) (written, is, run)
-
 pub IsMarked-wide_at : (batch : Batch) (units spent : ℕ) (w : Misfit) → run_of batch units ≡ wide_at spent w → IsMarked batch units (fallback batch.orders (Wide w) spent)
 unfolding fallback
 IsMarked-wide_at batch units spent w run = run
@@ -93,5 +80,5 @@ IsMarked-no_unit_left batch units spent run = ((spent, run), refl)
 pub IsJointAnswer-wide : (end : Ending Solution) (stop : Stop) (unit : ℕ) (w : Misfit) (spent : ℕ) → stop ≡ WideStop unit w → IsJointAnswer fraction_of end (Err stop) spent → end ≡ wide_at unit w
 IsJointAnswer-wide end stop unit w spent is h = (subst (λ s. IsJointAnswer fraction_of end (Err s) spent) is h).0
 
-pub IsJointAnswer-budget : (end : Ending Solution) (stop : Stop) (spent : ℕ) → stop ≡ BudgetStop → IsJointAnswer fraction_of end (Err stop) spent → end ≡ no_unit_left spent
-IsJointAnswer-budget end stop spent is h = subst (λ s. IsJointAnswer fraction_of end (Err s) spent) is h
+pub IsJointAnswer-budget : {A : Type 0} (value : A → Fraction) (end : Ending Solution) (stop : Stop) (spent : ℕ) → stop ≡ BudgetStop → IsJointAnswer value end (Err stop) spent → end ≡ no_unit_left spent
+IsJointAnswer-budget value end stop spent is h = subst (λ s. IsJointAnswer value end (Err s) spent) is h

@@ -1,11 +1,11 @@
 -- The numbers that rounds clear: each in lowest terms and within the limit.
-use Rattle.std.proofs.Common.{◌≡◌, ℕ, zero, suc, ◌+◌, ◌-◌, ◌≤◌, List, [], ◌∷◌, ◌++◌, length, map, replicate, drop, zip, Bool, true, false, refl, sym, ◌∙◌, subst, arith}
+use Rattle.std.proofs.Common.{◌≡◌, ℕ, zero, suc, ◌+◌, ◌-◌, ◌≤◌, List, [], ◌∷◌, ◌++◌, length, map, replicate, drop, Bool, true, false, refl, sym, ◌∙◌, subst, arith}
 use Rattle.std.specs.Prelude.{if◌then◌else◌, nat_lt, slice_set, Option, Some, None, pos, Result, Ok, Err}
 use Rattle.std.specs.List.{All}
 use Rattle.std.proofs.lemmas.List.{map-append, length-replicate, length-set}
-use Rattle.std.proofs.lemmas.List.Elements.{All-nil, All-cons, All-head, All-tail, All-append, All-drop}
+use Rattle.std.proofs.lemmas.List.Elements.{All-append, All-drop}
 use Rattle.exact_num.specs.declared.misfit.Wide.{Wide}
-use Rattle.exact_num.specs.Fraction.{Fraction, IsLowest, IsNotBelowZero}
+use Rattle.exact_num.specs.Fraction.{Fraction, IsLowest}
 use Rattle.exact_num.specs.Laws.{IsWithin}
 use Rattle.exact_num.specs.Tests.{is_above_zero}
 use Rattle.exact_num.proofs.WithinLimits.{whole_within}
@@ -16,7 +16,7 @@ use Rattle.table_run.specs.Sizes.{AreWithin, IsEndWithin}
 use Rattle.table_run.proofs.Endings.{EndsWith, on_answer-done}
 use Rattle.table_run.proofs.WithinSizes.{runs_are_within}
 use Rattle.form.specs.declared.orders.Order.{Order}
-use Rattle.clearing_model.specs.Certificate.{IsFill, by_of, fractions_of}
+use Rattle.clearing_model.specs.Certificate.{by_of, fractions_of}
 use Rattle.clearing_model.specs.Tree.{Sign, Unsigned, Plus, Minus}
 use Rattle.clearing_model.specs.Written.{WrittenTree, Ends, multipliers_of}
 use Rattle.master_program.specs.Reading.{Reading}
@@ -35,6 +35,7 @@ use Rattle.search_laws.proofs.Nodes.{NodeShows, node_says}
 use Rattle.search_laws.proofs.Placed.{all_multipliers, placed_all}
 use Rattle.search_laws.proofs.Trees.{tree_lowest}
 use Rattle.clearing.proofs.NodeSizes.{node_is_within}
+use Rattle.search_laws.proofs.Rounds.{fills_not_below}
 
 -- a number in lowest terms, within the limit
 pub record IsNumber (limit : ℕ) (x : Fraction) : Type 0 where
@@ -228,13 +229,6 @@ last_round limits n orders (suc left) states spent units c h =
         subst (λ (d : Cleared). IsLastRound limits n orders d.0 d.1) (same_cleared (r, tree) c closed_at units rest) last
     by later r at solve (found z) closed_at search rest = later z closed_at rest
 
-not_below : (orders : List Order) (fills : List Fraction) → All IsFill (zip orders fills) → length fills ≡ length orders → All IsNotBelowZero fills
-not_below [] [] h len = All-nil IsNotBelowZero
-not_below [] (f ∷ fs) h len = absurd (omega (arith, len))
-not_below (o ∷ os) [] h len = absurd (omega (arith, len))
-not_below (o ∷ os) (f ∷ fs) h len =
-    All-cons IsNotBelowZero f fs (All-head IsFill (o, f) (zip os fs) h).1 (not_below os fs (All-tail IsFill (o, f) (zip os fs) h) (omega (arith, len)))
-
 -- each number of what rounds clear
 pub record RoundNumbers (limit : ℕ) (r : Reading) (tree : WrittenTree) : Type 0 where
   pub read : OfEachNumber (IsNumber limit) r
@@ -250,7 +244,7 @@ rounds_have_numbers limits n spent units orders r tree some few one greatest h =
     let small = solves_are_within limits.payoff_limit limits.limit left last.spent n last.solved_at orders last.states r one last.solve in
     let fills = greatest.certified.fills in
     let asked : IsAsked (question_of limits n orders r) =
-    record { some = some; few = few; lowest = low.fills; not_below_zero = not_below orders r.fills fills.1 fills.0; count = fills.0; liability = low.liability } in
+    record { some = some; few = few; lowest = low.fills; not_below_zero = fills_not_below orders r.fills fills.1 fills.0; count = fills.0; liability = low.liability } in
     record {
       read = each_number limits.limit r low small;
       covered = closed_numbers (question_of limits n orders r) last.solved_at last.closed_at tree one asked last.search;

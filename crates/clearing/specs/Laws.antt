@@ -12,6 +12,7 @@ use Rattle.cert_check.specs.Conditions.{IfOptimal, Meets, conditions}
 use Rattle.cert_check.specs.Events.{verdict_of}
 use Rattle.cert_check.specs.Laws.{IsCovered, IsMeasured, IsProved}
 use Rattle.clearing.specs.Outcome.{IsMarked, outcome_of}
+use Rattle.clearing.specs.Passes.{HasEnoughUnits}
 
 -- a fact of the outcome of each batch within the limits of the exchange, with any number of units
 abbrev pub OfEachOutcome : (Batch → Outcome → Type 0) → Type 0
@@ -44,3 +45,7 @@ OutcomesAreJudgedYes = OfEachOutcome (λ batch outcome. verdict_of largest batch
 -- the mark and the units are those of the end of the run: it is missing only where the run stops
 abbrev pub OutcomesAreMarked : Type 0
 OutcomesAreMarked = (batch : Batch) (units : ℕ) → IsWithinLimits batch → IsMarked batch units (outcome_of batch units)
+
+-- on one underlying the mark is not for want of a unit where there are enough
+abbrev pub UnitsSuffice : Type 0
+UnitsSuffice = (batch : Batch) (units : ℕ) → IsWithinLimits batch → HasEnoughUnits batch units (outcome_of batch units)

@@ -1,5 +1,5 @@
 //! The match of each bundle by itself, for a batch whose run stops.
-ghost use Rattle.std.specs.Prelude.{◌≡◌, ◌≤◌, ◌*◌, IfOk, length, unsigned_abs};
+ghost use Rattle.std.specs.Prelude.{◌≡◌, ◌≤◌, ◌*◌, IfOk, List, length, unsigned_abs};
 ghost use Rattle.std.specs.List.{All, zip};
 ghost use Rattle.exact_num.specs.Fraction.{whole};
 ghost use Rattle.frac.specs.Range.{limit as largest};
@@ -9,6 +9,7 @@ ghost use Rattle.form.specs.Limits.{IsWithinLimits};
 ghost use Rattle.form.specs.declared.limits.TheConstants.{MAX_ORDERS, MAX_PRICE, MAX_QUANTITY};
 ghost use Rattle.clearing.specs.Outcome.{fallback, whole_fills};
 ghost use Rattle.clearing.specs.Premiums.{amount_on, paid_total};
+ghost use Rattle.clearing.specs.Rooms.{IsMatchOf};
 
 use cert_check::{Claim, Fills, Mark, Outcome};
 use each_match::match_each;
@@ -79,28 +80,42 @@ fn whole_fills(alloc: Global, amounts: &[u64]) -> Result<Vec<Frac128>, AllocErro
     Ok(fills)
 }
 
-/// The match of each bundle by itself, with the mark of a run that stopped after so many units. Its liability is 0, and its
-/// surplus what buyers pay less what sellers get. The only error is want of memory.
-pub(crate) fn fallback(
-    alloc: Global,
-    batch: &Batch,
-    mark: Mark,
-    units: u32,
-) -> Result<Outcome, AllocError>
-    requires { IsWithinLimits batch.now }
-    ensures { IfOk result (λ outcome. outcome ≡ fallback batch.now.orders mark units) }
+/// The match of each bundle by itself, which is kept for a run that stops: its fills, and what buyers pay less what sellers
+/// get. Only `new` takes memory.
+#[derive(Drop)]
+pub(crate) struct Matched {
+    fills: Vec<Frac128>,
+    surplus: Frac128,
+}
+
+impl Matched {
+    /// The match of a batch. The error is want of memory.
+    pub(crate) fn new(alloc: Global, batch: &Batch) -> Result<Matched, AllocError>
+        requires { IsWithinLimits batch.now }
+        ensures { IfOk result (IsMatchOf batch.now.orders) }
+    {
+        let amounts = match_each(alloc, batch)?;
+        let surplus = premium(batch.orders.as_slice(), amounts.as_slice());
+        Ok(Matched {
+            fills: whole_fills(alloc, amounts.as_slice())?,
+            surplus: value(surplus),
+        })
+    }
+}
+
+/// The match, with the mark of a run that stopped after so many units. Its liability is 0. It takes no memory.
+pub(crate) fn fallback(matched: Matched, mark: Mark, units: u32) -> Outcome
+    ensures { (orders : List Order) → IsMatchOf orders matched
+        → result ≡ fallback orders mark units }
 {
-    let amounts = match_each(alloc, batch)?;
-    let surplus = premium(batch.orders.as_slice(), amounts.as_slice());
-    let fills = Fills::from_vec(whole_fills(alloc, amounts.as_slice())?);
-    let claim = Claim {
-        liability: value(0),
-        surplus: value(surplus),
-    };
-    Ok(Outcome {
-        fills,
-        claim,
+    let Matched { fills, surplus } = matched;
+    Outcome {
+        fills: Fills::from_vec(fills),
+        claim: Claim {
+            liability: value(0),
+            surplus,
+        },
         mark,
         units,
-    })
+    }
 }

@@ -1,5 +1,5 @@
 //! Laws over the definition of the outcome: each is the contract of a function that does nothing.
-ghost use Rattle.clearing.specs.Laws.{OptimalIsGreatest, OutcomesAreCovered, OutcomesAreJudgedYes, OutcomesAreMarked, OutcomesAreMeasured, OutcomesAreWithin, OutcomesMeetAll};
+ghost use Rattle.clearing.specs.Laws.{OptimalIsGreatest, OutcomesAreCovered, OutcomesAreJudgedYes, OutcomesAreMarked, OutcomesAreMeasured, OutcomesAreWithin, OutcomesMeetAll, UnitsSuffice};
 
 /// The outcome of a batch meets each condition of a certificate.
 pub fn outcomes_meet_all()
@@ -35,4 +35,10 @@ pub fn outcomes_are_judged_yes()
 /// wanted beyond the limit.
 pub fn outcomes_are_marked()
     ensures { OutcomesAreMarked }
+{}
+
+/// With as many units as there are ways to choose the basic variables of its master program, the run of a batch on one underlying
+/// does not end for want of one.
+pub fn units_suffice()
+    ensures { UnitsSuffice }
 {}

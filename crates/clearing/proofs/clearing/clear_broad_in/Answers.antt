@@ -1,0 +1,17 @@
+use Rattle.clearing.proofs.Cleared.{cleared}
+use Rattle.clearing.proofs.clearing.clear_broad_in.Goals as goal
+
+pub returns : goal.returns
+returns c =
+    let is = c.broad_outcome.ensures in
+    let all = cleared c.args.batch.now c.args.limit c.broad_outcome.result c.requires.within is in
+    record {
+      outcome = is;
+      marked = all.marked;
+      within = all.within;
+      covers = all.covers;
+      measured = all.measured;
+      greatest = all.greatest;
+      yes = all.yes;
+      choices = all.choices;
+    }
