@@ -1,0 +1,4 @@
+pub mod Rising
+pub mod Raising
+pub mod Middles
+pub mod Answered

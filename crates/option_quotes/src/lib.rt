@@ -1,0 +1,15 @@
+//! Quotes of an option: the price at which one further order would raise the greatest surplus of a batch. A quote is no price
+//! at which one trades: it says what a clear would find, and changes nothing.
+#![tactic(auto)]
+
+mod ends;
+pub mod laws;
+mod probes;
+pub mod quotes;
+mod quoting;
+
+pub use quotes::Quoted;
+pub use quoting::quote;
+
+#[cfg(test)]
+mod tests;

@@ -1,0 +1,137 @@
+//! The quote, probe by probe.
+ghost use Rattle.std.specs.Prelude.{◌≡◌, ◌≤◌, ◌+◌, IfOk, length, true};
+ghost use Rattle.std.specs.List.{All};
+ghost use Rattle.form.specs.Limits.{IsListed, IsWithinLimits};
+ghost use Rattle.form.specs.Options.{option_of};
+ghost use Rattle.option_quotes.specs.Ends.{IsProbed};
+ghost use Rattle.option_quotes.specs.Probes.{best_price, first_unmarked, further, is_raised, probed, probes, probes_from_best, probes_from_worst, with_order};
+ghost use Rattle.option_quotes.specs.Quotes.{AreShown, IfAt, IfNever, IsNever, IsQuote, IsShown, RaisesFrom, unmarked_of};
+
+use crate::ends::{Ends, Probed, between};
+use crate::probes::{best_price, further, is_optimal, is_raised, probe, worst_price};
+use crate::quotes::Quoted;
+use cert_check::Outcome;
+use clearing::clear;
+use form::{Batch, Form, Order, Side};
+use std::alloc::{AllocError, Global};
+
+/// The quote where the best price raises the surplus: from the worst price on.
+fn from_worst(
+    alloc: Global,
+    batch: &Batch,
+    order: Order,
+    limit: u32,
+    base: Outcome,
+    best: Probed,
+) -> Result<Quoted, AllocError>
+    requires within { IsWithinLimits (with_order batch.now order) }
+    requires limit { (1 ≤ limit) × (limit ≤ 20000) }
+    requires base { IsShown batch.now limit base }
+    requires best { IsProbed batch.now order limit best }
+    requires price { best.price ≡ best_price order.side }
+    requires raised { is_raised base best.outcome ≡ true }
+    ensures quote { IfOk result (IsQuote batch.now order limit) }
+    ensures unmarked { IfOk result (λ quoted.
+        unmarked_of quoted
+        ≡ first_unmarked (probes_from_worst (probed batch.now order limit) base order.side)) }
+{
+    let price = worst_price(order.side);
+    let outcome = probe(alloc, batch, order, price, limit)?;
+    if !is_optimal(&outcome) {
+        return Ok(Quoted::Unmarked {
+            probe: Some(price),
+            outcome,
+        });
+    }
+    if is_raised(&base, &outcome) {
+        return Ok(Quoted::At {
+            price,
+            raising: outcome,
+            beside: None,
+            base,
+        });
+    }
+    let ends = Ends {
+        raising: best,
+        other: Probed { price, outcome },
+    };
+    between(alloc, batch, order, limit, base, ends)
+}
+
+/// The quote where the base is marked optimal: from the best price on.
+fn from_best(
+    alloc: Global,
+    batch: &Batch,
+    order: Order,
+    limit: u32,
+    base: Outcome,
+) -> Result<Quoted, AllocError>
+    requires within { IsWithinLimits (with_order batch.now order) }
+    requires limit { (1 ≤ limit) × (limit ≤ 20000) }
+    requires base { IsShown batch.now limit base }
+    ensures quote { IfOk result (IsQuote batch.now order limit) }
+    ensures unmarked { IfOk result (λ quoted.
+        unmarked_of quoted
+        ≡ first_unmarked (probes_from_best (probed batch.now order limit) base order.side)) }
+{
+    let price = best_price(order.side);
+    let outcome = probe(alloc, batch, order, price, limit)?;
+    if !is_optimal(&outcome) {
+        return Ok(Quoted::Unmarked {
+            probe: Some(price),
+            outcome,
+        });
+    }
+    if !is_raised(&base, &outcome) {
+        return Ok(Quoted::Never {
+            extreme: outcome,
+            base,
+        });
+    }
+    from_worst(alloc, batch, order, limit, base, Probed { price, outcome })
+}
+
+/// The whole price at which a further buy or sell of one bundle of the option raises the greatest surplus of the batch: the
+/// least for a buy, the greatest for a sell. At most 43 batches are cleared, each with at most `limit` units of work: the batch
+/// itself, and the batch with one order more at the best price for a match, at the worst, and then at the middle of the gap
+/// between a price that raises the surplus and one that does not. The only error is want of memory.
+pub fn quote(
+    alloc: Global,
+    batch: &Batch,
+    form: &Form,
+    side: Side,
+    limit: u32,
+) -> Result<Quoted, AllocError>
+    requires within { IsWithinLimits batch.now }
+    requires room { length batch.now.orders ≤ 255 }
+    requires ids { All (λ order. order.id ≤ 1000000) batch.now.orders }
+    requires listed { IsListed (option_of form.now) }
+    requires on { form.now.count ≡ batch.now.underlyings + 1 }
+    requires limit { (1 ≤ limit) × (limit ≤ 20000) }
+
+    // A buy at a whole price raises the surplus exactly where its price is at least this one, a sell where it is at most this.
+    ensures raises { IfOk result (λ quoted. IfAt quoted (λ price raising beside base.
+        RaisesFrom batch.now (further form.now side) base price)) }
+
+    // The outcomes at this price and at the next worse one are those of the batch with the order, each judged yes and marked
+    // optimal. None comes exactly where the price is the worst.
+    ensures shown { IfOk result (λ quoted.
+        IfAt quoted (AreShown batch.now (further form.now side) limit)) }
+
+    // No whole price raises it.
+    ensures never { IfOk result (λ quoted.
+        IfNever quoted (IsNever batch.now (further form.now side) limit)) }
+
+    // The first probe that is not marked optimal ends the quote.
+    ensures unmarked { IfOk result (λ quoted.
+        unmarked_of quoted ≡ first_unmarked (probes batch.now (further form.now side) limit)) }
+{
+    let base = clear(alloc, batch, limit)?;
+    if !is_optimal(&base) {
+        return Ok(Quoted::Unmarked {
+            probe: None,
+            outcome: base,
+        });
+    }
+    from_best(alloc, batch, further(form, side), limit, base)
+}
