@@ -1,0 +1,9 @@
+pub mod Owing
+pub mod Exactly
+pub mod Runs
+pub mod LeastMargins
+pub mod Turns
+pub mod Quantities
+pub mod Rounded
+pub mod NeedCovers
+pub mod WorkedMargins
