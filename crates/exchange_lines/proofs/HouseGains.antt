@@ -20,7 +20,7 @@ use Rattle.line_replies.specs.Replies.{reply_to}
 use Rattle.exchange_lines.specs.Promises.{AnswersGain, GainsInEach, line_reply, replies_of, state_after}
 use Rattle.exchange_lines.specs.Replies.{answers, answers_from}
 
-body_steps : (state : ExchangeState) (said : Body) → BodyIsWithin said → IsKept state → All IsTrader (all_live state) → StepsTo state (reply_to state said)
+pub body_steps : (state : ExchangeState) (said : Body) → BodyIsWithin said → IsKept state → All IsTrader (all_live state) → StepsTo state (reply_to state said)
 body_steps state (Command command) within kept traders = command_steps state command within kept traders
 body_steps state Syntax within kept traders = refusal_steps state refusal.Syntax kept traders
 body_steps state (Range field) within kept traders = refusal_steps state (refusal.Range field) kept traders

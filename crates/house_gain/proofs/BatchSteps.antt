@@ -2,7 +2,7 @@
 use Rattle.std.proofs.Common.{◌≡◌, ℕ, ◌+◌, ◌≤◌, length, List, [], ◌++◌, Bool, true, false, not, nat_eq, Some, ◌⊎◌, inl, inr, ℤ, pos, ◌+ℤ◌, ◌-ℤ◌, ◌*ℤ◌, refl, sym, ap, ◌∙◌, subst, arith, true≢false, ⊎_elim}
 use Rattle.std.specs.Prelude.{⊤}
 use Rattle.std.specs.List.{All, zip}
-use Rattle.std.proofs.lemmas.Bool.{cases_eq}
+use Rattle.std.proofs.lemmas.Bool.{cases_eq, ne_eqb}
 use Rattle.std.proofs.lemmas.Int.{ints}
 use Rattle.std.proofs.lemmas.List.{append-nil}
 use Rattle.std.proofs.lemmas.List.Elements.{filter-append}
@@ -20,7 +20,8 @@ use Rattle.order_book.specs.Book.{BookState}
 use Rattle.order_book.specs.Markets.{closed, with_live}
 use Rattle.settlement.specs.declared.position.PaidOut.{PaidOut}
 use Rattle.settlement.specs.declared.position.Position.{Position}
-use Rattle.settlement.specs.Payout.{floor_of, on_side, worth_at}
+use Rattle.settlement.specs.Payout.{floor_of, worth_at}
+use Rattle.clearing_model.specs.Clearing.{for_side}
 use Rattle.settlement.specs.Positions.{gain_at, held_in, is_of, outside, payouts_of}
 use Rattle.reply_print.specs.declared.replies.Reply.{Reply}
 use Rattle.exchange_core.specs.ExchangeState.{ExchangeState}
@@ -35,7 +36,7 @@ use Rattle.house_gain.proofs.Listings.{listed_in, listed-changed, listed-closed,
 use Rattle.house_gain.proofs.ZeroPrices.{with_zero_prices}
 use Rattle.house_gain.proofs.Payouts.{all_made, gains_of_fills, held_for, is_held_for, paid_for}
 use Rattle.house_gain.proofs.Replies.{plain_settles}
-use Rattle.house_gain.proofs.RunStates.{IsRunning, apart, apart_above, cleared_another, none_to_come, same, settled_entries, settled_nothing}
+use Rattle.house_gain.proofs.RunStates.{IsRunning, apart_above, cleared_another, none_to_come, same, settled_entries, settled_nothing}
 use Rattle.house_gain.proofs.Steps.{IsQuiet, IsClear, IsSettle, StepsTo}
 
 -- ---- the positions of a batch among others
@@ -123,7 +124,7 @@ module _ (number market : ℕ) where
           record {
             underlyings = over.underlyings;
             listed = ap (λ (b : BookState). listed_in b.markets market) settle.book
-                ∙ listed-changed market closed settle.market (λ m h. absurd (true≢false (sym h ∙ apart market settle.market (λ e. other (sym e))))) state.book.markets ∙ over.listed;
+                ∙ listed-changed market closed settle.market (λ m h. absurd (true≢false (sym h ∙ ne_eqb market settle.market (λ e. other (sym e))))) state.book.markets ∙ over.listed;
             held = ap (held_for number) settle.positions ∙ held_outside number settle.market state.positions ∙ ap (outside settle.market) over.held;
             used = subst (λ n. number ≤ n) (sym (ap (λ (b : BookState). b.finished) settle.book)) over.used;
             entered = ap (house_total number) settle.entries
@@ -163,7 +164,7 @@ module _ (number market : ℕ) where
           → total (gain_on whole) (zip batch.orders outcome.fills) ≡ total (gain_on prices) (zip batch.orders outcome.fills)
       same_gains whole prices worth =
           total_same (gain_on whole) (gain_on prices)
-          (λ p. ap (λ w. floor_of ((fraction_of p.1).numerator *ℤ on_side p.0.side w) (fraction_of p.1).denominator) (worth (bundle_legs p.0.bundle)))
+          (λ p. ap (λ w. floor_of ((fraction_of p.1).numerator *ℤ for_side p.0.side w) (fraction_of p.1).denominator) (worth (bundle_legs p.0.bundle)))
           (zip batch.orders outcome.fills)
 
       surplus_gained : (q : ℕ) (prices : List ℕ) (positions : List Position) → market ≡ q → length prices ≤ batch.underlyings → held_for number positions ≡ own_positions
@@ -216,7 +217,7 @@ module _ (number market : ℕ) where
         -- another market is settled
         settles_another : (settle : IsSettle state result) → (market ≡ settle.market → ⊥) → WaitsOrIsPaid
         settles_another settle other =
-            let test = apart market settle.market other in
+            let test = ne_eqb market settle.market other in
             let none = paid_own settle.market settle.prices state.positions waiting.held
             ∙ ap (total (gain_at settle.prices)) (made_inside_none market number batch.orders outcome.fills settle.market test) in
             inl (

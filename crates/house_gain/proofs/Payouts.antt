@@ -13,7 +13,8 @@ use Rattle.form.specs.Payoff.{BundleLeg, bundle_legs}
 use Rattle.frac.specs.declared.frac128.Frac128.{Frac128}
 use Rattle.frac.specs.Value.{fraction_of}
 use Rattle.settlement.specs.declared.position.Position.{Position}
-use Rattle.settlement.specs.Payout.{floor_of, gain_of, on_side, worth_at}
+use Rattle.settlement.specs.Payout.{floor_of, gain_of, worth_at}
+use Rattle.clearing_model.specs.Clearing.{for_side}
 use Rattle.settlement.specs.Positions.{gain_at, held_in, is_of, paid_out, paid_side, payouts_of}
 use Rattle.exchange_core.specs.Positions.{position_of, positions_of, positions_in}
 use Rattle.house_gain.specs.Gain.{is_payout_of, paid_to_trader, paid_to_traders}
@@ -71,7 +72,7 @@ all_made P Q market number each (order ∷ orders) (fill ∷ fills) are =
 -- a fill of 0 gains nothing
 no_gain : (side : Side) (n : ℤ) (d : ℕ) (legs : List BundleLeg) (prices : List ℕ) → n ≡ pos 0 → gain_of side (record { numerator = n; denominator = d }) legs prices ≡ pos 0
 no_gain side n d legs prices zero =
-    let none : n *ℤ on_side side (worth_at prices legs) ≡ pos 0 = rw zero (omega (arith, ints)) in
+    let none : n *ℤ for_side side (worth_at prices legs) ≡ pos 0 = rw zero (omega (arith, ints)) in
     ap (λ z. floor_of z d) none ∙ ap pos (zero-div d)
 
 module _ (market number : ℕ) (prices : List ℕ) where

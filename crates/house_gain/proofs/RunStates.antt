@@ -29,9 +29,6 @@ use Rattle.house_gain.proofs.Steps.{IsTrader, IsQuiet, IsClear, IsSettle, StepsT
 pub same : (a b : ℕ) → a ≡ b → nat_eq a b ≡ true
 same a b e = grind (arith, nat_tests)
 
-pub apart : (a b : ℕ) → (a ≡ b → ⊥) → nat_eq a b ≡ false
-apart a b e = grind (arith, nat_tests)
-
 apart_below : (a b : ℕ) → a < b → nat_eq a b ≡ false
 apart_below a b lt = grind (arith, nat_tests)
 

@@ -1,21 +1,16 @@
 -- Prices that are left out are prices of 0.
-use Rattle.std.proofs.Common.{◌≡◌, ℕ, zero, suc, ◌+◌, ◌-◌, ◌≤◌, List, [], ◌∷◌, ◌++◌, length, replicate, ℤ, pos, ◌+ℤ◌, ◌*ℤ◌, refl, ap, ◌∙◌, arith}
-use Rattle.std.proofs.lemmas.Int.{ints}
+use Rattle.std.proofs.Common.{◌≡◌, ℕ, ◌+◌, ◌-◌, ◌≤◌, List, [], ◌∷◌, ◌++◌, length, replicate, ℤ, pos, ◌+ℤ◌, ◌*ℤ◌, refl, ap, ◌∙◌, arith}
 use Rattle.std.proofs.lemmas.List.{length-append, length-replicate}
 use Rattle.form.specs.Payoff.{BundleLeg, dot}
 use Rattle.settlement.specs.Payout.{worth_at}
-
-dot-zeros : (v : List ℤ) (k : ℕ) → dot v (replicate k 0) ≡ pos 0
-dot-zeros [] k = refl
-dot-zeros (a ∷ v) zero = refl
-dot-zeros (a ∷ v) (suc k) = rw (dot-zeros v k) (omega (arith, ints))
+use Rattle.master_program.proofs.Steps.{zero_dot}
 
 dot-with_zero_prices : (v : List ℤ) (z : List ℕ) (k : ℕ) → dot v (z ++ replicate k 0) ≡ dot v z
 dot-with_zero_prices [] z k = refl
-dot-with_zero_prices (a ∷ v) [] k = dot-zeros (a ∷ v) k
+dot-with_zero_prices (a ∷ v) [] k = zero_dot (a ∷ v) k
 dot-with_zero_prices (a ∷ v) (x ∷ z) k = ap (λ s. (a *ℤ pos x) +ℤ s) (dot-with_zero_prices v z k)
 
-worth-with_zero_prices : (prices : List ℕ) (k : ℕ) (legs : List BundleLeg) → worth_at (prices ++ replicate k 0) legs ≡ worth_at prices legs
+pub worth-with_zero_prices : (prices : List ℕ) (k : ℕ) (legs : List BundleLeg) → worth_at (prices ++ replicate k 0) legs ≡ worth_at prices legs
 worth-with_zero_prices prices k [] = refl
 worth-with_zero_prices prices k (leg ∷ legs) = rw (dot-with_zero_prices leg.option (1 ∷ prices) k, worth-with_zero_prices prices k legs) refl
 

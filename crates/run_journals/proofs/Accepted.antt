@@ -10,11 +10,11 @@ use Rattle.journal_check.proofs.Journals.{journals_are_counted}
 use Rattle.reply_print.specs.declared.replies.Reply.{Reply}
 use Rattle.reply_print.specs.declared.replies.Reply.TheVariants.{Opened, Deposited, Withdrawn, Listed, Placed, Cancelled, Cleared, Settled, Balance, Refused}
 use Rattle.reply_print.specs.ReplyPieces.{reply_line}
-use Rattle.exchange_lines.specs.Output.{output}
 use Rattle.exchange_lines.specs.Promises.{IsJudgedYes}
 use Rattle.exchange_lines.specs.Replies.{Answer, answers, answers_text}
 use Rattle.exchange_lines.proofs.Answered.{answers_are_judged_yes, output_is_answers}
-use Rattle.run_journals.specs.Accepted.{IsAnswerWithin, RunsAreAccepted}
+use Rattle.run_journals.specs.Accepted.{IsInput, RunsAreAccepted}
+use Rattle.run_journals.proofs.Within.{answers_are_within}
 
 -- the line of an answer and its reply
 abbrev told : Answer → ℕ × Reply
@@ -39,17 +39,17 @@ no_fault (Settled market lapsed payouts) h = refl
 no_fault (Balance account balance reserved) h = refl
 no_fault (Refused number place) h = refl
 
-sound_answers : (input : List ℕ) → All IsAnswerWithin (answers input) → All (λ answer. IsSoundReply (told answer)) (answers input)
-sound_answers input within k answer inside =
-    record { within = within k answer inside; sound = no_fault (get_or (answers input) k answer).reply (answers_are_judged_yes input k answer inside) }
+sound_answers : (input : List ℕ) → IsInput input → All (λ answer. IsSoundReply (told answer)) (answers input)
+sound_answers input few k answer inside =
+    record { within = answers_are_within input few k answer inside; sound = no_fault (get_or (answers input) k answer).reply (answers_are_judged_yes input k answer inside) }
 
 findings_told : (all : List Answer) → map (λ (pair : ℕ × Reply). reply_finding pair.1) (map told all) ≡ map (λ (answer : Answer). reply_finding answer.reply) all
 findings_told [] = refl
 findings_told (answer ∷ more) = ap (λ l. reply_finding answer.reply ∷ l) (findings_told more)
 
 pub runs_are_accepted : RunsAreAccepted
-runs_are_accepted input within =
+runs_are_accepted input few =
     let all = answers input in
     ap report_of (output_is_answers input ∙ text_is_journal all)
-    ∙ journals_are_counted (map told all) (All-map IsSoundReply told all (sound_answers input within))
+    ∙ journals_are_counted (map told all) (All-map IsSoundReply told all (sound_answers input few))
     ∙ ap counted (findings_told all)

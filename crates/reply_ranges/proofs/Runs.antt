@@ -1,0 +1,210 @@
+-- The numbers of a run of the simplex method, and the step at which it stops.
+use Rattle.std.proofs.Common.{◌≡◌, ◌≢◌, ℕ, zero, suc, ◌+◌, ◌*◌, ◌<ℤ◌, List, [], ◌∷◌, ◌++◌, map, drop, replicate, ℤ, pos, Bool, true, false, nat_eq, refl, subst, arith}
+use Rattle.std.specs.Prelude.{Option, Some, None, Result, Ok, Err, if◌then◌else◌}
+use Rattle.std.specs.List.{All}
+use Rattle.std.proofs.lemmas.Int.{ints}
+use Rattle.std.proofs.lemmas.List.Elements.{All-nil, All-cons, All-head, All-tail, All-append, All-drop, All-get_or, All-map, All-replicate, All-take, All-weaker}
+use Rattle.arithmetic.proofs.Tests.{int_lt-yes}
+use Rattle.exact_num.specs.declared.misfit.Wide.{Wide}
+use Rattle.exact_num.specs.Fraction.{Fraction, IsLowest, negated, whole}
+use Rattle.exact_num.specs.Fits.{after, div_of, mul_of, sub_of}
+use Rattle.exact_num.specs.Tests.{is_above_zero}
+use Rattle.frac.specs.Range.{limit as largest}
+use Rattle.table_run.specs.Choice.{Ratio, entering, least, ratio_in, ratios}
+use Rattle.table_run.specs.Ending.{unbounded, wide_at, no_unit_left}
+use Rattle.table_run.specs.Pivot.{cleared, divided, each, each_pair, less_product, pivoted, row_after, rows_after}
+use Rattle.table_run.specs.Places.{at, fraction_zero, listed}
+use Rattle.table_run.specs.Program.{LinearProgram, row}
+use Rattle.table_run.specs.Run.{Optimum, optimum, Turn, moved, unlimited, stopped, direction, leave, moved_or_stopped, on_entering, on_ratios, on_turn, read_off, run, run_from, turn}
+use Rattle.table_run.specs.Table.{Row, Table, entries_at, first_table, right_side, row_of, rows_from, unit_row, where_basic}
+use Rattle.table_run.proofs.Choices.{least_limits}
+use Rattle.table_run.proofs.Ends.{holds_at}
+use Rattle.reply_ranges.proofs.Masters.{HasValues}
+use Rattle.reply_ranges.proofs.Numbers.{AreOperands, AreValues, Ends, Has, IsValue, Nothing, after_has, div_has, mul_has, negated_value, sub_has, whole_value, zero_value}
+
+-- ---- lists of numbers
+pub at_value : (xs : List Fraction) (i : ℕ) → AreValues xs → IsValue (at xs i)
+at_value xs i are = holds_at IsValue xs zero_value (λ j inside. All-get_or IsValue xs j fraction_zero inside are) i
+
+each_has : (f : Fraction → Result Fraction Wide) → ((x : Fraction) → IsValue x → Has IsValue (f x)) → (xs : List Fraction) → AreValues xs → Has AreValues (each f xs)
+unfolding each
+each_has f h [] are = All-nil IsValue
+each_has f h (x ∷ xs) are =
+    after_has IsValue AreValues (f x) _ (h x (All-head IsValue x xs are))
+    (λ y v. after_has AreValues AreValues (each f xs) _ (each_has f h xs (All-tail IsValue x xs are)) (λ ys vs. All-cons IsValue y ys v vs))
+
+pair_has : (f : Fraction → Fraction → Result Fraction Wide) → ((x p : Fraction) → IsValue x → IsValue p → Has IsValue (f x p)) → (xs ps : List Fraction) → AreValues xs → AreValues ps
+    → Has AreValues (each_pair f xs ps)
+unfolding each_pair
+pair_has f h [] ps are also = All-nil IsValue
+pair_has f h (x ∷ xs) [] are also = All-nil IsValue
+pair_has f h (x ∷ xs) (p ∷ ps) are also =
+    after_has IsValue AreValues (f x p) _ (h x p (All-head IsValue x xs are) (All-head IsValue p ps also))
+    (λ y v. after_has AreValues AreValues (each_pair f xs ps) _ (pair_has f h xs ps (All-tail IsValue x xs are) (All-tail IsValue p ps also)) (λ ys vs. All-cons IsValue y ys v vs))
+
+divided_has : (e : ℕ) (xs : List Fraction) → AreValues xs → (at xs e).numerator ≢ pos 0 → Has AreValues (divided largest e xs)
+unfolding divided
+divided_has e xs are some = each_has (λ x. div_of largest x (at xs e)) (λ x v. div_has x (at xs e) v (at_value xs e are) some) xs are
+
+cleared_has : (e : ℕ) (pivot xs : List Fraction) → AreValues pivot → AreValues xs → Has AreValues (cleared largest e pivot xs)
+unfolding cleared
+cleared_has e pivot xs also are =
+    pair_has (less_product largest (at xs e))
+    (λ x p v w. after_has IsValue IsValue (mul_of largest (at xs e) p) (λ product. sub_of largest x product) (mul_has (at xs e) p (at_value xs e are) w) (λ product h. sub_has x product v h))
+    xs pivot are also
+
+-- ---- tables
+abbrev IsRowOf : Row → Type 0
+IsRowOf row = AreValues row.entries
+
+pub record HasEntries (t : Table) : Type 0 where
+  pub rows : All IsRowOf t.rows
+  pub objective : AreValues t.objective
+
+row_after_has : (e r : ℕ) (pivot : List Fraction) (i : ℕ) (row : Row) → AreValues pivot → IsRowOf row → Has IsRowOf (row_after largest e r pivot i row)
+row_after_has e r pivot i row also are = by (nat_eq i r)
+  where
+    by : (b : Bool) → Has IsRowOf (if b then Ok (row_of e pivot) else after (cleared largest e pivot row.entries) (λ es. Ok (row_of row.basic es)))
+    by true = also
+    by false = after_has AreValues IsRowOf (cleared largest e pivot row.entries) (λ es. Ok (row_of row.basic es)) (cleared_has e pivot row.entries also are) (λ es vs. vs)
+
+rows_after_has : (e r : ℕ) (pivot : List Fraction) (i : ℕ) (rows : List Row) → AreValues pivot → All IsRowOf rows → Has (All IsRowOf) (rows_after largest e r pivot i rows)
+unfolding rows_after
+rows_after_has e r pivot i [] also are = All-nil IsRowOf
+rows_after_has e r pivot i (row ∷ rows) also are =
+    after_has IsRowOf (All IsRowOf) (row_after largest e r pivot i row) _ (row_after_has e r pivot i row also (All-head IsRowOf row rows are))
+    (λ first f. after_has (All IsRowOf) (All IsRowOf) (rows_after largest e r pivot (i + 1) rows) _ (rows_after_has e r pivot (i + 1) rows also (All-tail IsRowOf row rows are))
+    (λ others os. All-cons IsRowOf first others f os))
+
+entries_are : (rows : List Row) (r : ℕ) → All IsRowOf rows → AreValues (entries_at rows r)
+entries_are [] r are = All-nil IsValue
+entries_are (row ∷ rows) zero are = All-head IsRowOf row rows are
+entries_are (row ∷ rows) (suc r) are = entries_are rows r (All-tail IsRowOf row rows are)
+
+pivoted_has : (e r : ℕ) (t : Table) → HasEntries t → (at (entries_at t.rows r) e).numerator ≢ pos 0 → Has HasEntries (pivoted largest e r t)
+unfolding pivoted
+pivoted_has e r t has some =
+    after_has AreValues HasEntries (divided largest e (entries_at t.rows r)) _ (divided_has e (entries_at t.rows r) (entries_are t.rows r has.rows) some)
+    (λ pivot p. after_has (All IsRowOf) HasEntries (rows_after largest e r pivot 0 t.rows) _ (rows_after_has e r pivot 0 t.rows p has.rows)
+    (λ rows rs. after_has AreValues HasEntries (cleared largest e pivot t.objective) _ (cleared_has e pivot t.objective p has.objective)
+    (λ objective o. record { rows = rs; objective = o })))
+
+-- ---- a turn
+above_some : (z : ℤ) → pos 0 <ℤ z → z ≢ pos 0
+above_some z above none = let moved : pos 0 <ℤ pos 0 = subst (λ w. pos 0 <ℤ w) none above in omega (arith, ints, moved)
+
+ratio_has : (columns e : ℕ) (entries : List Fraction) → AreValues entries → Has Nothing (ratio_in largest columns e entries)
+unfolding ratio_in
+ratio_has columns e entries are = by (is_above_zero (at entries e)) refl
+  where
+    by : (b : Bool) → is_above_zero (at entries e) ≡ b → Has Nothing (if b then after (div_of largest (right_side columns entries) (at entries e)) (λ q. Ok (Some q)) else Ok None)
+    by true above =
+        after_has IsValue Nothing (div_of largest (right_side columns entries) (at entries e)) (λ q. Ok (Some q))
+        (div_has (right_side columns entries) (at entries e) (at_value entries columns are) (at_value entries e are) (above_some (at entries e).numerator (int_lt-yes (pos 0) (at entries e).numerator above)))
+        (λ q h. tt)
+    by false below = tt
+
+ratios_has : (columns e i : ℕ) (rows : List Row) → All IsRowOf rows → Has Nothing (ratios largest columns e i rows)
+unfolding ratios
+ratios_has columns e i [] are = tt
+ratios_has columns e i (row ∷ rows) are =
+    after_has Nothing Nothing (ratio_in largest columns e row.entries) _ (ratio_has columns e row.entries (All-head IsRowOf row rows are))
+    (λ q h. after_has Nothing Nothing (ratios largest columns e (i + 1) rows) _ (ratios_has columns e (i + 1) rows (All-tail IsRowOf row rows are)) (λ qs hs. tt))
+
+abbrev Turns : Turn → Type 0
+Turns (moved t) = HasEntries t
+Turns unlimited = Unit {0}
+Turns (stopped w) = AreOperands w
+
+turn_has : (e : ℕ) (t : Table) → HasEntries t → Turns (turn largest e t)
+unfolding turn
+turn_has e t has = by (ratios largest t.columns e 0 t.rows) refl (ratios_has t.columns e 0 t.rows has.rows)
+  where
+    pivots : (r : Result Table Wide) → Has HasEntries r → Turns (moved_or_stopped r)
+    pivots (Ok next) h = h
+    pivots (Err w) h = h
+
+    low : (k j : ℕ) → IsLowest (at (entries_at t.rows k) j)
+    low k j = (at_value (entries_at t.rows k) j (entries_are t.rows k has.rows)).lowest
+
+    by : (r : Result (List Ratio) Wide) → ratios largest t.columns e 0 t.rows ≡ r → Has Nothing r → Turns (on_ratios r (λ qs. leave largest e t qs))
+    by (Ok []) is h = tt
+    by (Ok (q ∷ qs)) is h =
+        let limits = least_limits largest t.columns e t.rows q qs low is in
+        pivots (pivoted largest e (least q qs).place t) (pivoted_has e (least q qs).place t has (above_some _ limits.1))
+    by (Err w) is h = h
+
+-- ---- what is read off
+abbrev pub IsOptimumOf : Optimum → Type 0
+IsOptimumOf (optimum x y reduced value) = AreValues x × AreValues y × AreValues reduced × IsValue value
+
+listed_values : (f : ℕ → Fraction) → ((j : ℕ) → IsValue (f j)) → (i n : ℕ) → AreValues (listed f i n)
+unfolding listed
+listed_values f h i zero = All-nil IsValue
+listed_values f h i (suc n) = All-cons IsValue (f i) (listed f (i + 1) n) (h i) (listed_values f h (i + 1) n)
+
+basic_value : (f : Row → Fraction) (j : ℕ) (rows : List Row) → ((row : Row) → IsRowOf row → IsValue (f row)) → All IsRowOf rows → IsValue (where_basic f j rows)
+unfolding where_basic
+basic_value f j [] h are = zero_value
+basic_value f j (row ∷ rows) h are = by (nat_eq row.basic j) (basic_value f j rows h (All-tail IsRowOf row rows are))
+  where
+    by : (b : Bool) → IsValue (where_basic f j rows) → IsValue (if b then f row else where_basic f j rows)
+    by true later = h row (All-head IsRowOf row rows are)
+    by false later = later
+
+read_has : (n m : ℕ) (t : Table) (spent : ℕ) → HasEntries t → Ends IsOptimumOf (read_off n m t spent)
+unfolding read_off
+read_has n m t spent has =
+    let solved = listed_values _ (λ j. basic_value (λ row. right_side t.columns row.entries) j t.rows (λ row are. at_value row.entries t.columns are) has.rows) 0 n in
+    (solved, All-take IsValue m (drop n t.objective) (All-drop IsValue n t.objective has.objective), All-take IsValue n t.objective has.objective, at_value t.objective t.columns has.objective)
+
+-- ---- the run
+run_from_has : (n m left spent : ℕ) (t : Table) → HasEntries t → Ends IsOptimumOf (run_from largest n m left spent t)
+unfolding run_from
+run_from_has n m zero spent t has = by (entering t)
+  where
+    by : (o : Option ℕ) → Ends IsOptimumOf (on_entering o (read_off n m t spent) (λ e. no_unit_left spent))
+    by None = read_has n m t spent has
+    by (Some e) = tt
+run_from_has n m (suc left) spent t has = by (entering t) (λ u h. run_from_has n m left (spent + 1) u h)
+  where
+    act : (e : ℕ) (w : Turn) → Turns w → ((u : Table) → HasEntries u → Ends IsOptimumOf (run_from largest n m left (spent + 1) u))
+        → Ends IsOptimumOf (on_turn w (λ next. run_from largest n m left (spent + 1) next) (unbounded (direction n e t) (spent + 1)) (λ w. wide_at (spent + 1) w))
+    act e (moved u) h later = later u h
+    act e unlimited h later = tt
+    act e (stopped w) h later = h
+
+    by : (o : Option ℕ) → ((u : Table) → HasEntries u → Ends IsOptimumOf (run_from largest n m left (spent + 1) u))
+        → Ends IsOptimumOf (on_entering o (read_off n m t spent) (λ e. on_turn (turn largest e t) (λ next. run_from largest n m left (spent + 1) next) (unbounded (direction n e t) (spent + 1)) (λ w. wide_at (spent + 1) w)))
+    by None later = read_has n m t spent has
+    by (Some e) later = act e (turn largest e t) (turn_has e t has) later
+
+-- ---- the first table
+unit_values : (n i : ℕ) → AreValues (unit_row n i)
+unfolding unit_row
+unit_values zero i = All-nil IsValue
+unit_values (suc n) zero = All-cons IsValue (whole (pos 1)) (replicate n fraction_zero) (whole_value (pos 1) (omega arith)) (All-replicate IsValue n fraction_zero zero_value)
+unit_values (suc n) (suc i) = All-cons IsValue fraction_zero (unit_row n i) zero_value (unit_values n i)
+
+first_rows : (p : LinearProgram) (i n : ℕ) → HasValues p → All IsRowOf (rows_from p i n)
+unfolding rows_from
+first_rows p i zero has = All-nil IsRowOf
+first_rows p i (suc n) has =
+    let own = All-take IsValue p.variables (drop (i * p.variables) p.coefficients) (All-drop IsValue (i * p.variables) p.coefficients has.coefficients) in
+    let right = All-cons IsValue (at p.right_sides i) [] (at_value p.right_sides i has.right_sides) (All-nil IsValue) in
+    let front = row p i ++ unit_row p.rows i in
+    All-cons IsRowOf (row_of (p.variables + i) (front ++ (at p.right_sides i ∷ []))) (rows_from p (i + 1) n)
+    (All-append IsValue front (at p.right_sides i ∷ []) (All-append IsValue (row p i) (unit_row p.rows i) own (unit_values p.rows i)) right) (first_rows p (i + 1) n has)
+
+first_has : (p : LinearProgram) → HasValues p → HasEntries (first_table p)
+unfolding first_table
+first_has p has =
+    let turned = All-map IsValue negated p.costs (All-weaker IsValue (λ x. IsValue (negated x)) negated_value p.costs has.costs) in
+    record {
+      rows = first_rows p 0 p.rows has;
+      objective = All-append IsValue (map negated p.costs) (replicate (p.rows + 1) fraction_zero) turned (All-replicate IsValue (p.rows + 1) fraction_zero zero_value);
+    }
+
+pub run_has : (p : LinearProgram) (left spent : ℕ) → HasValues p → Ends IsOptimumOf (run largest p left spent)
+unfolding run
+run_has p left spent has = run_from_has p.variables p.rows left spent (first_table p) (first_has p has)

@@ -1,0 +1,239 @@
+-- What a state of a run has beside what is kept stays so at each step.
+use Rattle.std.proofs.Common.{◌≡◌, ℕ, ◌+◌, ◌*◌, ◌-◌, ◌≤◌, ◌||◌, ℤ, ◌*ℤ◌, unsigned_abs, List, [], ◌∷◌, ◌++◌, length, map, replicate, take, Bool, true, false, not, nat_eq, Option, None, Some, refl, ap, ◌∙◌, sym, subst, arith}
+use Rattle.std.specs.List.{All}
+use Rattle.std.specs.Option.{option_map_or}
+use Rattle.std.proofs.lemmas.Int.{ints}
+use Rattle.std.proofs.lemmas.List.{length-append, length-replicate, length-take}
+use Rattle.std.proofs.lemmas.List.Elements.{All-nil, All-cons, All-head, All-tail, All-append, All-filter, All-push, All-replicate, All-take, All-weaker}
+use Rattle.cash_ledger.specs.declared.limits.TheConstants.{MAX_ACCOUNT}
+use Rattle.cash_ledger.specs.declared.entry.Entry.{Entry}
+use Rattle.cash_ledger.specs.Entries.{AreBounded, IsBounded, deposit_of, withdrawal_of}
+use Rattle.cash_ledger.specs.Ledger.{is_open}
+use Rattle.cash_ledger.proofs.Balances.{AreBounded-push}
+use Rattle.clearing.specs.Outcome.{outcome_of}
+use Rattle.clearing.proofs.Outcomes.{outcomes_are_within}
+use Rattle.command_text.specs.declared.command.Command.{Command}
+use Rattle.command_text.specs.declared.command.Command.TheVariants.{Open, Deposit, Withdraw, Market, Trade, Bundle, Cancel, Clear, Settle, Balance}
+use Rattle.command_text.specs.Within.{IsWithin}
+use Rattle.form.specs.declared.orders.Batch.{Batch}
+use Rattle.form.specs.declared.orders.Order.{Order}
+use Rattle.form.specs.Limits.{IsWithinLimits}
+use Rattle.form.specs.Payoff.{bundle_legs}
+use Rattle.frac.specs.declared.frac128.Frac128.{Frac128}
+use Rattle.frac.specs.Value.{fraction_of}
+use Rattle.order_book.specs.Book.{BookState, batch_of, market_of}
+use Rattle.order_book.specs.Kept.{IsLive}
+use Rattle.order_book.specs.Markets.{MarketState}
+use Rattle.order_book.specs.Refusals.{batch_refusals, close_refusals}
+use Rattle.order_book.proofs.Accepting.{closable, finishable}
+use Rattle.order_book.proofs.BookKept.{batch_within, market_kept}
+use Rattle.order_book.proofs.MarketLists.{live_found, same_number}
+use Rattle.refusals.specs.Refusals.{first_of}
+use Rattle.settlement.specs.declared.limits.TheConstants.{MAX_SETTLEMENT_PRICE}
+use Rattle.settlement.specs.declared.position.PaidOut.{PaidOut}
+use Rattle.settlement.specs.declared.position.Position.{Position}
+use Rattle.settlement.specs.Payout.{floor_of}
+use Rattle.clearing_model.specs.Clearing.{for_side}
+use Rattle.settlement.specs.Positions.{held_in, is_of, paid_out, paid_side, payouts_of}
+use Rattle.reply_print.specs.Within as reply
+use Rattle.exchange_core.specs.declared.refusal.Refusal.{Refusal}
+use Rattle.exchange_core.specs.ExchangeState.{ExchangeState, empty_exchange}
+use Rattle.exchange_core.specs.Kept.{IsKept, IsOfOpen, IsPaidOut}
+use Rattle.exchange_core.specs.Payoffs.{payoff_entries}
+use Rattle.exchange_core.specs.Positions.{positions_in}
+use Rattle.exchange_core.specs.Premiums.{premium_entries}
+use Rattle.exchange_core.specs.Refusals.{refusal_of}
+use Rattle.exchange_core.specs.Step.{batch_in, effect, refusal_effect, step, with_entry}
+use Rattle.exchange_core.proofs.FirstRefusal.{batch_none, close_none}
+use Rattle.exchange_core.proofs.LiveAccounts.{All-live_in}
+use Rattle.exchange_core.proofs.Settled.{are_paid_out}
+use Rattle.house_gain.proofs.Payouts.{all_made}
+use Rattle.house_gain.proofs.RunStates.{IsRunning}
+use Rattle.house_gain.proofs.Steps.{IsTrader}
+use Rattle.house_gain.proofs.ZeroPrices.{worth-with_zero_prices}
+use Rattle.reply_ranges.proofs.Entries.{AreBounded-append, IsAmountSmall, batch_counts, payoffs_bounded, premiums_bounded, settled_counts}
+use Rattle.common_texts.specs.Between.{Between}
+
+-- a position of an order that was accepted, in a batch that was finished
+abbrev pub IsNumbered : BookState → Position → Type 0
+IsNumbered book position = Between 1 book.finished position.batch × Between 1 book.accepted position.order
+
+-- a state after at most so many lines
+pub record IsRanged (lines : ℕ) (state : ExchangeState) : Type 0 where
+  pub accounts : All (λ account. account ≤ MAX_ACCOUNT) state.accounts
+  pub positions : All (IsNumbered state.book) state.positions
+  pub bounded : AreBounded state.entries
+  -- an entry for a line, and four for an order of a batch: two as it is cleared, and two as its market is settled
+  pub few : length state.entries + 2 * length state.positions ≤ lines + 1024 * state.book.finished
+
+pub empty_is_ranged : IsRanged 0 empty_exchange
+empty_is_ranged = record {
+  accounts = All-cons (λ account. account ≤ MAX_ACCOUNT) 0 [] (omega arith) (All-nil (λ account. account ≤ MAX_ACCOUNT));
+  positions = All-nil (IsNumbered empty_exchange.book);
+  bounded = tt;
+  few = omega arith;
+}
+
+pub more_lines : (n m : ℕ) (state : ExchangeState) → n ≤ m → IsRanged n state → IsRanged m state
+more_lines n m state le ranged = record { accounts = ranged.accounts; positions = ranged.positions; bounded = ranged.bounded; few = omega (arith, le, ranged.few) }
+
+-- an open account is within the limit
+pub open_small : (accounts : List ℕ) (account : ℕ) → All (λ a. a ≤ MAX_ACCOUNT) accounts → is_open accounts account ≡ true → account ≤ MAX_ACCOUNT
+open_small [] account small h = cc
+open_small (a ∷ accounts) account small h = by (nat_eq account a) refl h (open_small accounts account (All-tail (λ a. a ≤ MAX_ACCOUNT) a accounts small))
+  where
+    by : (b : Bool) → nat_eq account a ≡ b → (b || is_open accounts account) ≡ true → (is_open accounts account ≡ true → account ≤ MAX_ACCOUNT) → account ≤ MAX_ACCOUNT
+    by true is held later = subst (λ n. n ≤ MAX_ACCOUNT) (sym (same_number account a is)) (All-head (λ a. a ≤ MAX_ACCOUNT) a accounts small)
+    by false is held later = later held
+
+-- ---- the batch that a clear takes
+abbrev IsAccepted : ℕ → Order → Type 0
+IsAccepted accepted order = Between 1 accepted order.id
+
+pub record IsBatchOf (accepted : ℕ) (batch : Batch) : Type 0 where
+  pub within : IsWithinLimits batch
+  pub accepted_orders : All (IsAccepted accepted) batch.orders
+  pub orders : All reply.IsOrderWithin batch.orders
+
+module _ (lines : ℕ) (state : ExchangeState) (running : IsRunning state) (ranged : IsRanged lines state) where
+  order_ranged : (underlyings : ℕ) (order : Order) → IsLive underlyings state.book.accepted order → IsTrader order → IsOfOpen state.accounts order → reply.IsOrderWithin order
+  order_ranged underlyings order live trader opened =
+      let most = running.kept.orders.book.accepted in
+      ((live.some, omega (arith, live.number, most)), (trader, open_small state.accounts order.account ranged.accounts opened), live.within)
+
+  market_batch : (market : ℕ) (m : MarketState) → market_of state.book market ≡ Some m → IsBatchOf state.book.accepted (batch_of m)
+  market_batch market m found =
+      let accepted : ℕ = state.book.accepted in
+      let Live : Order → Type 0 = IsLive m.underlyings accepted in
+      let one = market_kept state.book running.kept.orders.book market m found in
+      let same = live_found market state.book.markets m found in
+      let traders : All IsTrader m.live = subst (All IsTrader) same (All-live_in IsTrader market state.book.markets running.traders) in
+      let opened : All (IsOfOpen state.accounts) m.live = subst (All (IsOfOpen state.accounts)) same (All-live_in (IsOfOpen state.accounts) market state.book.markets running.kept.orders.accounts) in
+      let live : All Live m.live = one.live in
+      record {
+        within = batch_within accepted m one;
+        accepted_orders = All-weaker Live (IsAccepted accepted) (λ o l. (l.some, l.number)) m.live live;
+        orders = λ k d inside. order_ranged m.underlyings _ (live k d inside) (traders k d inside) (opened k d inside);
+      }
+
+  pub batch_ranged : (market : ℕ) → first_of (batch_refusals state.book market) ≡ None → IsBatchOf state.book.accepted (batch_in state market)
+  batch_ranged market none =
+      let (m, found, more, unsettled) = finishable state.book market none in
+      let is = ap (λ r. option_map_or batch_of r (record { underlyings = 0; orders = [] })) found in
+      subst (IsBatchOf state.book.accepted) (sym is) (market_batch market m found)
+
+-- ---- the payouts of a settlement
+abbrev paid_by : Position → ℤ → PaidOut
+paid_by p gain = record { batch = p.batch; order = p.order; account = p.account; side = paid_side gain; amount = unsigned_abs gain }
+
+-- prices that are left out are prices of 0
+same_paid : (prices : List ℕ) (k : ℕ) (p : Position) → paid_out (prices ++ replicate k 0) p ≡ paid_out prices p
+same_paid prices k p =
+    ap (λ w. paid_by p (floor_of ((fraction_of p.fill).numerator *ℤ for_side p.side w) (fraction_of p.fill).denominator)) (worth-with_zero_prices prices k (bundle_legs p.bundle))
+
+same_payouts : (prices : List ℕ) (k : ℕ) (positions : List Position) → map (paid_out (prices ++ replicate k 0)) positions ≡ map (paid_out prices) positions
+same_payouts prices k [] = refl
+same_payouts prices k (p ∷ positions) = rw (same_paid prices k p, same_payouts prices k positions) refl
+
+pub payouts_can_be_paid : (state : ExchangeState) → IsKept state → (market count : ℕ) (prices : List ℕ) → All (λ p. p ≤ MAX_SETTLEMENT_PRICE) prices → first_of (close_refusals state.book market count) ≡ None
+    → All (IsPaidOut state.accounts) (payouts_of market (take count prices) state.positions)
+payouts_can_be_paid state kept market count prices within none =
+    let (m, found, unsettled, same) = closable state.book market count none in
+    let some = take count prices in
+    let k : ℕ = m.underlyings - length some in
+    let P : ℕ → Type 0 = λ p. p ≤ MAX_SETTLEMENT_PRICE in
+    let counted = length-append some (replicate k 0) ∙ ap (λ n. length some + n) (length-replicate k 0) in
+    let full : length (some ++ replicate k 0) ≡ m.underlyings = omega (arith, counted, length-take count prices, same) in
+    let all : All P (some ++ replicate k 0) = All-append P some (replicate k 0) (All-take P count prices within) (All-replicate P k 0 (omega arith)) in
+    subst (All (IsPaidOut state.accounts)) (same_payouts some k (held_in market state.positions))
+    (are_paid_out state.accounts state.book market m found unsettled (some ++ replicate k 0) full all state.positions kept.positions)
+
+-- ---- the step
+-- positions stay numbered as more is accepted and finished
+still_numbered : (old new : BookState) → old.finished ≤ new.finished → old.accepted ≤ new.accepted → (positions : List Position) → All (IsNumbered old) positions → All (IsNumbered new) positions
+still_numbered old new finished accepted positions all =
+    All-weaker (IsNumbered old) (IsNumbered new)
+    (λ (p : Position) (h : IsNumbered old p). ((h.0.0, omega (arith, h.0.1, finished)), (h.1.0, omega (arith, h.1.1, accepted)))) positions all
+
+module _ (lines : ℕ) (state : ExchangeState) (running : IsRunning state) (ranged : IsRanged lines state) where
+  abbrev Accounts : ℕ → Type 0
+  Accounts account = account ≤ MAX_ACCOUNT
+
+  cleared_ranged : (market budget : ℕ) → first_of (batch_refusals state.book market) ≡ None → IsRanged (lines + 1) (effect state (Clear market budget)).1
+  cleared_ranged market budget none =
+      let batch : Batch = batch_in state market in
+      let fills : List Frac128 = (outcome_of batch budget).fills in
+      let number : ℕ = state.book.finished + 1 in
+      let after : BookState = (effect state (Clear market budget)).1.book in
+      let is = batch_ranged lines state running ranged market none in
+      let allowed = outcomes_are_within batch budget is.within in
+      let made = positions_in market number batch.orders fills in
+      let entries = premium_entries number batch.orders fills in
+      record {
+        accounts = ranged.accounts;
+        positions = All-append (IsNumbered after) state.positions made
+            (still_numbered state.book after (omega arith) (omega arith) state.positions ranged.positions)
+            (all_made (IsNumbered after) (IsAccepted state.book.accepted) market number (λ order fill h. ((omega arith, omega arith), h)) batch.orders fills is.accepted_orders);
+        bounded = AreBounded-append state.entries entries ranged.bounded (premiums_bounded number batch.orders fills is.within.orders_within allowed.1);
+        few = omega (arith, ranged.few, is.within.orders_fit, batch_counts market number batch.orders fills, length-append state.entries entries, length-append state.positions made);
+      }
+
+  settled_ranged : (market count : ℕ) (prices : List ℕ) → All (λ p. p ≤ MAX_SETTLEMENT_PRICE) prices → first_of (close_refusals state.book market count) ≡ None
+      → IsRanged (lines + 1) (effect state (Settle market count prices)).1
+  settled_ranged market count prices within none =
+      let payouts = payouts_of market (take count prices) state.positions in
+      let paid = payouts_can_be_paid state running.kept market count prices within none in
+      let after : BookState = (effect state (Settle market count prices)).1.book in
+      let small : All IsAmountSmall payouts = All-weaker (IsPaidOut state.accounts) IsAmountSmall (λ p h. h.amount) payouts paid in
+      record {
+        accounts = ranged.accounts;
+        positions = still_numbered state.book after (omega arith) (omega arith) _ (All-filter (λ p. not (is_of market p)) (IsNumbered state.book) state.positions ranged.positions);
+        bounded = AreBounded-append state.entries (payoff_entries payouts) ranged.bounded (payoffs_bounded payouts small);
+        few = omega (arith, ranged.few, settled_counts market (take count prices) state.positions, length-append state.entries (payoff_entries payouts));
+      }
+
+  placed_ranged : (command : Command) → (effect state command).1.accounts ≡ state.accounts → (effect state command).1.entries ≡ state.entries → (effect state command).1.positions ≡ state.positions
+      → state.book.finished ≡ (effect state command).1.book.finished → state.book.accepted ≤ (effect state command).1.book.accepted → IsRanged (lines + 1) (effect state command).1
+  placed_ranged command accounts entries positions finished accepted =
+      let after : ExchangeState = (effect state command).1 in
+      let few = ranged.few in
+      record {
+        accounts = subst (All Accounts) (sym accounts) ranged.accounts;
+        positions = still_numbered state.book after.book (omega (arith, finished)) accepted after.positions (subst (All (IsNumbered state.book)) (sym positions) ranged.positions);
+        bounded = rw entries ranged.bounded;
+        few = omega (arith, few, finished, ap length entries, ap length positions);
+      }
+
+  -- an entry more
+  entered_ranged : (entry : Entry) → IsBounded entry → IsRanged (lines + 1) (with_entry state entry)
+  entered_ranged entry small = record {
+    accounts = ranged.accounts;
+    positions = ranged.positions;
+    bounded = AreBounded-push state.entries entry ranged.bounded small;
+    few = omega (arith, ranged.few, length-append state.entries (entry ∷ []));
+  }
+
+  pub effect_ranged : (command : Command) → IsWithin command → refusal_of state command ≡ None → IsRanged (lines + 1) (effect state command).1
+  effect_ranged (Open account) within none = record {
+    accounts = All-push Accounts state.accounts account ranged.accounts within.1;
+    positions = ranged.positions;
+    bounded = ranged.bounded;
+    few = omega (arith, ranged.few);
+  }
+  effect_ranged (Deposit account amount) within none = entered_ranged (deposit_of account amount) (omega (arith, ints, within.1.1), omega (arith, ints, within.1.1))
+  effect_ranged (Withdraw account amount) within none = entered_ranged (withdrawal_of account amount) (omega (arith, ints, within.1.1), omega (arith, ints, within.1.1))
+  effect_ranged (Market market underlyings) within none = placed_ranged (Market market underlyings) refl refl refl refl (omega arith)
+  effect_ranged (Trade side account market kind strike price quantity count weights) within none =
+      placed_ranged (Trade side account market kind strike price quantity count weights) refl refl refl refl (omega arith)
+  effect_ranged (Bundle side account market price quantity bundle) within none = placed_ranged (Bundle side account market price quantity bundle) refl refl refl refl (omega arith)
+  effect_ranged (Cancel account order) within none = placed_ranged (Cancel account order) refl refl refl refl (omega arith)
+  effect_ranged (Clear market budget) within none = cleared_ranged market budget (batch_none state.book market none)
+  effect_ranged (Settle market count prices) within none = settled_ranged market count prices within.2 (close_none state.book market count none)
+  effect_ranged (Balance account) within none = more_lines lines (lines + 1) state (omega arith) ranged
+
+  pub step_ranged : (command : Command) → IsWithin command → IsRanged (lines + 1) (step state command).1
+  step_ranged command within = by (refusal_of state command) refl
+    where
+      by : (r : Option Refusal) → refusal_of state command ≡ r → IsRanged (lines + 1) (option_map_or (refusal_effect state) r (effect state command)).1
+      by None none = effect_ranged command within none
+      by (Some refusal) told = more_lines lines (lines + 1) state (omega arith) ranged
