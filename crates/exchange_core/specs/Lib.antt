@@ -1,6 +1,7 @@
 pub mod Covered
 pub mod ExchangeState
 pub mod Failures
+pub mod Held
 pub mod Kept
 pub mod Laws
 pub mod Orders

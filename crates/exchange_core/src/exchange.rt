@@ -1,8 +1,13 @@
-ghost use Rattle.std.specs.Prelude.{◌≡◌, ◌≤◌, ◌<◌, ◌^◌, length, IfOk, OnErr};
+ghost use Rattle.std.specs.Prelude.{◌≡◌, ◌≤◌, ◌<◌, ◌^◌, length, pos, IfOk, IfSome, OnErr, OnOk, Some, true};
+ghost use Rattle.std.specs.Option.{option_map};
 ghost use Rattle.cash_ledger.specs.Entries.{AreBounded};
-ghost use Rattle.cash_ledger.specs.Ledger.{balance_in};
+ghost use Rattle.cash_ledger.specs.Ledger.{balance_in, if_open};
 ghost use Rattle.clearing.specs.Outcome.{IsMarked};
+ghost use Rattle.form.specs.Limits.{IsWithinLimits};
+ghost use Rattle.order_book.specs.Book.{batch_of, info_in, is_trading, market_of};
+ghost use Rattle.order_book.specs.Refusals.{batch_refusals, unless_memory as unless_no_memory};
 ghost use Rattle.order_book.specs.Within.{IsNewOrderWithin};
+ghost use Rattle.order_book.specs.declared.limits.TheConstants.{MAX_BATCHES};
 ghost use Rattle.refusals.specs.Refusals.{TellsFirst};
 ghost use Rattle.command_text.specs.declared.command.Command.TheVariants as Command;
 ghost use Rattle.exchange_core.specs.Covered.{IfCleared, IsMarkedFor};
@@ -10,21 +15,27 @@ ghost use Rattle.exchange_core.specs.ExchangeState.{empty_exchange};
 ghost use Rattle.exchange_core.specs.Kept.{IsKept};
 ghost use Rattle.exchange_core.specs.Failures.{unless_memory};
 ghost use Rattle.exchange_core.specs.Refusals.{refusals, place_refusals};
+ghost use Rattle.exchange_core.specs.Held.{markets_of, positions_of};
+ghost use Rattle.exchange_core.specs.Reserves.{reserve_in};
 ghost use Rattle.exchange_core.specs.Step.{step, effect, place_effect, clear_effect, Does};
-ghost use Rattle.command_text.specs.Within.{Between, IsWithin, IsAccount, IsAmount, IsBudget};
-ghost use Rattle.form.specs.declared.limits.TheConstants.{MAX_UNDERLYINGS};
+ghost use Rattle.command_text.specs.Within.{IsWithin, IsAccount, IsAmount, IsBudget};
+ghost use Rattle.common_texts.specs.Between.{Between};
+ghost use Rattle.form.specs.declared.limits.TheConstants.{MAX_ORDERS, MAX_UNDERLYINGS};
 
 use crate::Reply;
 use crate::clear::clear;
 use crate::failure::Failure;
+use crate::held::in_order;
 use crate::place::{cancel, place};
 use crate::settle::settle;
 use crate::trade::one_option;
 use cash_ledger::{Ledger, LedgerRefusal};
 use command_text::Command;
-use order_book::{Book, NewOrder};
-use settlement::Positions;
+use form::Batch;
+use order_book::{Book, BookRefusal, MarketInfo, NewOrder};
+use settlement::{Position, Positions};
 use std::alloc::{AllocError, Global};
+use std::collections::BTreeSet;
 use std::marker::Model;
 
 /// The accounts with their balances and reserves, the markets with their live orders, and the positions.
@@ -71,6 +82,68 @@ impl Exchange {
         ensures kept { IsKept self.now }
     {
         self.ledger.balance(account)
+    }
+
+    /// What is reserved of the balance of an open account for its live buys, in ticks. `None` where the account is not open.
+    /// Takes no memory.
+    pub fn reserved(&self, account: u32) -> Option<i128>
+        ensures { result
+            ≡ if_open self.now.accounts account (pos (reserve_in self.now account)) }
+    {
+        self.ledger.reserved(account)
+    }
+
+    /// What is told of a market that is there. Takes no memory.
+    pub fn info(&self, market: u32) -> Option<MarketInfo>
+        ensures info { result ≡ info_in self.now.book market }
+        ensures underlyings { IfSome result (λ info.
+            (1 ≤ info.underlyings) × (info.underlyings ≤ MAX_UNDERLYINGS)) }
+        ensures live { IfSome result (λ info. info.live ≤ MAX_ORDERS) }
+        ensures kept { IsKept self.now }
+    {
+        self.book.info(market)
+    }
+
+    /// The live orders of a market as a batch, or why there is none.
+    pub fn live(&self, market: u32) -> Result<Batch, BookRefusal>
+        ensures refused { TellsFirst unless_no_memory result
+            (batch_refusals self.now.book market) }
+        ensures batch { IfOk result (λ batch.
+            option_map batch_of (market_of self.now.book market) ≡ Some batch) }
+        ensures within { IfOk result IsWithinLimits }
+        ensures may_finish { OnOk result ((is_trading self.now.book market ≡ true)
+            × (self.now.book.finished < MAX_BATCHES)) }
+    {
+        self.book.batch(market)
+    }
+
+    /// The positions that an account has in a market, in the order in which they were added.
+    pub fn positions_of(&self, account: u32, market: u32) -> Result<Vec<Position>, AllocError>
+        ensures positions { IfOk result (λ positions.
+            positions.items ≡ positions_of account market self.now.positions) }
+        ensures kept { IsKept self.now }
+    {
+        let mut held = Vec::new(self.alloc);
+        for position in self.positions.as_slice() {
+            if position.account == account && position.market == market {
+                held.push(*position)?;
+            }
+        }
+        Ok(held)
+    }
+
+    /// The markets in which an account has positions, in rising number.
+    pub fn held_markets(&self, account: u32) -> Result<Vec<u32>, AllocError>
+        ensures markets { IfOk result (λ markets.
+            markets.items ≡ markets_of account self.now.positions) }
+    {
+        let mut markets = BTreeSet::new(self.alloc);
+        for position in self.positions.as_slice() {
+            if position.account == account {
+                markets.insert(position.market)?;
+            }
+        }
+        in_order(self.alloc, &markets)
     }
 
     fn open(&mut self, account: u32) -> Result<Reply, Failure>

@@ -6,6 +6,7 @@
 mod clear;
 mod exchange;
 mod failure;
+mod held;
 mod hold;
 pub mod laws;
 mod place;

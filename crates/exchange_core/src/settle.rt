@@ -56,7 +56,8 @@ fn pay_out_all(ledger: &mut Ledger, payouts: &[PaidOut])
 // Gives free what the live orders of a market reserve.
 fn release_live(ledger: &mut Ledger, book: &Book, market: u32)
     requires payable { All (IsPayable ledger.old.accounts) (live_of book.now market) }
-    requires reserved { (q : ℕ) → reserve_of q (live_of book.now market) ≤ reserved_of ledger.old q }
+    requires reserved { (q : ℕ)
+        → reserve_of q (live_of book.now market) ≤ reserved_of ledger.old q }
     ensures reserves { FreesReserves ledger.old ledger.new (live_of book.now market) }
     ensures accounts { ledger.new.accounts ≡ ledger.old.accounts }
     ensures entries { ledger.new.entries ≡ ledger.old.entries }
