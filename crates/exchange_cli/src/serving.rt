@@ -23,7 +23,8 @@ use std::alloc::Global;
 
 // The bytes that the request is about: those that were left, or none.
 fn input_of<S: Source>(alloc: Global, request: Request, source: &mut S) -> Result<Vec<u8>, ReadStop>
-    ensures all { IfOk result (λ bytes. OfInput request (S.left source.old) (λ input. bytes.items ≡ input)) }
+    ensures all { IfOk result (λ bytes.
+        OfInput request (S.left source.old) (λ input. bytes.items ≡ input)) }
     ensures whole { OnOk result (IsReadWhole request (S.left source.old) (S.left source.new)) }
     ensures within { IfOk result (λ bytes. length bytes.items ≤ input_limit request) }
     ensures calm { OnOk result (S.faults source.new ≡ S.faults source.old) }

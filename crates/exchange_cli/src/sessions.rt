@@ -2,7 +2,8 @@
 //
 // In order: nothing at all; lines that are no command, empty ones, numbers at and past their limits; the reserve;
 // refusals in their order; two markets, whose orders and batches are counted together; a batch with fractional fills and one
-// whose surplus is too wide; bundles, refused in their order, cleared and settled; a batch that is settled for good.
+// whose surplus is too wide; bundles, refused in their order, cleared and settled; a batch that is settled for good; and
+// settlements on eight underlyings at price 0 and at the highest price.
 pub(crate) static SESSIONS: &str = r#"==
 fly,1
 = {"line":1,"number":1,"reason":"Syntax","reply":"refused"}
@@ -367,4 +368,45 @@ clear,1,1
 = {"line":16,"number":6,"reason":"Settled","reply":"refused"}
 buy,1,1,call,10,7,1,1
 = {"line":17,"number":6,"reason":"Settled","reply":"refused"}
+==
+open,1
+= {"account":1,"line":1,"reply":"opened"}
+open,2
+= {"account":2,"line":2,"reply":"opened"}
+deposit,1,100
+= {"account":1,"balance":"100","line":3,"reply":"deposited"}
+market,1,8
+= {"line":4,"market":1,"reply":"listed","underlyings":8}
+market,2,8
+= {"line":5,"market":2,"reply":"listed","underlyings":8}
+buy,1,1,call,80,9,1,1000,1000,1000,1000,1000,1000,1000,1000
+= {"line":6,"order":1,"reply":"placed"}
+buy,1,1,put,80,9,1,1,1,1,1,1,1,1,1
+= {"line":7,"order":2,"reply":"placed"}
+sell,2,1,call,80,8,1,1000,1000,1000,1000,1000,1000,1000,1000
+= {"line":8,"order":3,"reply":"placed"}
+sell,2,1,put,80,8,1,1,1,1,1,1,1,1,1
+= {"line":9,"order":4,"reply":"placed"}
+clear,1,1
+= {"batch":1,"fills":["1","1","1","1"],"liability":"0","line":10,"mark":"budget","market":1,"orders":[{"account":1,"form":[-80,1000,1000,1000,1000,1000,1000,1000,1000],"order":1,"price":9,"quantity":1,"side":"buy"},{"account":1,"form":[80,-1,-1,-1,-1,-1,-1,-1,-1],"order":2,"price":9,"quantity":1,"side":"buy"},{"account":2,"form":[-80,1000,1000,1000,1000,1000,1000,1000,1000],"order":3,"price":8,"quantity":1,"side":"sell"},{"account":2,"form":[80,-1,-1,-1,-1,-1,-1,-1,-1],"order":4,"price":8,"quantity":1,"side":"sell"}],"reply":"cleared","surplus":"2","underlyings":8,"units":1,"version":1}
+settle,1,0,0,0,0,0,0,0,0
+= {"lapsed":0,"line":11,"market":1,"payouts":[{"account":1,"amount":"0","batch":1,"order":1},{"account":1,"amount":"80","batch":1,"order":2},{"account":2,"amount":"0","batch":1,"order":3},{"account":2,"amount":"-80","batch":1,"order":4}],"reply":"settled"}
+buy,1,2,call,80,9,1,1000,1000,1000,1000,1000,1000,1000,1000
+= {"line":12,"order":5,"reply":"placed"}
+buy,1,2,put,80,9,1,1,1,1,1,1,1,1,1
+= {"line":13,"order":6,"reply":"placed"}
+sell,2,2,call,80,8,1,1000,1000,1000,1000,1000,1000,1000,1000
+= {"line":14,"order":7,"reply":"placed"}
+sell,2,2,put,80,8,1,1,1,1,1,1,1,1,1
+= {"line":15,"order":8,"reply":"placed"}
+clear,2,1
+= {"batch":2,"fills":["1","1","1","1"],"liability":"0","line":16,"mark":"budget","market":2,"orders":[{"account":1,"form":[-80,1000,1000,1000,1000,1000,1000,1000,1000],"order":5,"price":9,"quantity":1,"side":"buy"},{"account":1,"form":[80,-1,-1,-1,-1,-1,-1,-1,-1],"order":6,"price":9,"quantity":1,"side":"buy"},{"account":2,"form":[-80,1000,1000,1000,1000,1000,1000,1000,1000],"order":7,"price":8,"quantity":1,"side":"sell"},{"account":2,"form":[80,-1,-1,-1,-1,-1,-1,-1,-1],"order":8,"price":8,"quantity":1,"side":"sell"}],"reply":"cleared","surplus":"2","underlyings":8,"units":1,"version":1}
+settle,2,1000000000,1000000000,1000000000,1000000000,1000000000,1000000000,1000000000,1000000000
+= {"lapsed":0,"line":17,"market":2,"payouts":[{"account":1,"amount":"7999999999920","batch":2,"order":5},{"account":1,"amount":"0","batch":2,"order":6},{"account":2,"amount":"-7999999999920","batch":2,"order":7},{"account":2,"amount":"0","batch":2,"order":8}],"reply":"settled"}
+balance,1
+= {"account":1,"balance":"8000000000064","line":18,"reply":"balance","reserved":"0"}
+balance,2
+= {"account":2,"balance":"-7999999999968","line":19,"reply":"balance","reserved":"0"}
+balance,0
+= {"account":0,"balance":"4","line":20,"reply":"balance","reserved":"0"}
 "#;
