@@ -52,8 +52,8 @@ impl Book {
         }
     }
 
-    /// Looks whether a market may be listed under a number: as `market` refuses, memory aside.
-    pub fn check_market(&self, market: u32) -> Result<(), BookRefusal>
+    // Looks whether a market may be listed under a number: as `market` refuses, memory aside.
+    fn check_market(&self, market: u32) -> Result<(), BookRefusal>
         ensures refused { TellsFirst unless_memory result (market_refusals self.now market) }
         ensures no_memory { result ≢ Err BookRefusal.Memory }
     {
