@@ -225,3 +225,83 @@ fn each_pass_is_as_it_says(rt: HostRuntime) -> Result<()> {
     }
     Ok(())
 }
+
+// A session with clears and settlements on one and on two underlyings.
+static SESSION: &str =
+    "open,1\nopen,2\ndeposit,1,100\ndeposit,2,100\nmarket,1,1\nmarket,2,2\nbuy,1,1,call,10,6,1,1\nsell,2,1,call,5,8,1,1\nsell,2,1,call,12,4,1,1\nclear,1,100\nbuy,1,2,call,10,6,1,1,1\nsell,2,2,call,4,3,1,1,0\nsell,2,2,call,6,2,1,0,1\nclear,2,100\nsettle,1,11\nsettle,2,7,9\n";
+
+fn print_account(text: &mut String, exchange: &Exchange, account: u32) -> Result<()> {
+    for amount in [exchange.balance(account), exchange.reserved(account)] {
+        text.push_str(" |")?;
+        if let Some(amount) = amount {
+            print_number(text, (amount, 1))?;
+        }
+    }
+    Ok(())
+}
+
+fn print_positions(text: &mut String, exchange: &Exchange, market: u32) -> Result<()> {
+    for position in &exchange.positions_of(1, market)? {
+        print_number(text, (i128::from(position.order), 1))?;
+        print_number(text, position.fill.parts())?;
+    }
+    for position in &exchange.positions_of(2, market)? {
+        print_number(text, (i128::from(position.order), 1))?;
+        print_number(text, position.fill.parts())?;
+    }
+    Ok(())
+}
+
+fn print_live(text: &mut String, exchange: &Exchange, market: u32) -> Result<()> {
+    text.push_str(" live")?;
+    if let Ok(batch) = exchange.live(market) {
+        for order in batch.orders.as_slice() {
+            print_number(text, (i128::from(order.id), 1))?;
+        }
+    }
+    Ok(())
+}
+
+// Balances, reserves, positions and live orders.
+fn shown(alloc: Global, exchange: &Exchange) -> Result<String> {
+    let mut text = String::new(alloc);
+    print_account(&mut text, exchange, 0)?;
+    print_account(&mut text, exchange, 1)?;
+    print_account(&mut text, exchange, 2)?;
+    print_positions(&mut text, exchange, 1)?;
+    print_positions(&mut text, exchange, 2)?;
+    print_live(&mut text, exchange, 1)?;
+    print_live(&mut text, exchange, 2)?;
+    Ok(text)
+}
+
+// Takes the exchange one line further. Where that finds no memory, nothing has changed, and it is done again.
+fn advance(alloc: Global, exchange: &mut Exchange, said: &Body) -> Result<()>
+    requires { BodyIsWithin said.now }
+{
+    let Body::Command(command) = said else {
+        bail!("a command");
+    };
+    let before = shown(alloc, exchange)?;
+    if exchange.step(command).is_ok() {
+        return Ok(());
+    }
+    let after = shown(alloc, exchange)?;
+    ensure!(before.as_str() == after.as_str(), "unchanged");
+    match exchange.step(command)? {
+        Reply::Refused { number, .. } => bail!("refused as {number}"),
+        _ => Ok(()),
+    }
+}
+
+// With one growth refused by the system (`tools/hostile growth`) each step that finds no memory changes nothing.
+#[test]
+fn a_refused_growth_changes_nothing(rt: HostRuntime) -> Result<()> {
+    let alloc = rt.alloc();
+    let mut exchange = Exchange::new(alloc);
+    for line in &commands(alloc, SESSION.as_bytes())? {
+        advance(alloc, &mut exchange, &line.body)?;
+    }
+    assert!(rt; exchange.balance(0) == Some(4));
+    Ok(())
+}
