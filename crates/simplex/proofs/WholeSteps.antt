@@ -10,14 +10,15 @@ use Rattle.whole_rows.proofs.CompactFirst.{compact_runs_end_the_same}
 use Rattle.whole_solver.specs.declared.table.WholeTable.{WholeTable}
 use Rattle.whole_solver.specs.declared.columns.Entering.{Entering}
 use Rattle.whole_solver.specs.Choices.{as_column}
-use Rattle.whole_solver.specs.Within.{widest, IsUsable}
+use Rattle.whole_solver.specs.Within.{IsUsable}
+use Rattle.whole_rows.specs.Lines.{widest}
 use Rattle.whole_solver.specs.Tables.{as_whole, taken_from, IsWithin, SameShape}
 use Rattle.whole_solver.proofs.Pivoting.{fits_in}
 use Rattle.whole_solver.proofs.Taken.{first_taken}
 use Rattle.compact_run.specs.Compact.{compact_first}
 use Rattle.compact_table.specs.declared.table.Table.{Table}
 use Rattle.compact_table.specs.Tables.{as_compact, program_in}
-use Rattle.compact_table.proofs.Filling.{length-numbers}
+use Rattle.table_run.proofs.Listed.{listed_count}
 use Rattle.exact_num.specs.Fraction.{Fraction}
 use Rattle.table_run.specs.Units.{units_of}
 use Rattle.whole_solver.proofs.Turned.{line_wider}
@@ -85,7 +86,7 @@ started_at value limit b t t1 w g u first taken within = record { given = g; usa
 
 first_names : (q : LinearProgram) → length (first_compact_table q).names ≡ q.variables
 unfolding first_compact_table
-first_names q = length-numbers 0 q.variables
+first_names q = listed_count (λ i. i) 0 q.variables
 
 first_columns : (q : LinearProgram) → (first_compact_table q).columns ≡ q.variables + q.rows
 unfolding first_compact_table

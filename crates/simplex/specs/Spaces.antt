@@ -1,7 +1,7 @@
 -- What a space is to its callers.
 use Rattle.std.specs.Prelude.{◌≡◌, ℕ, ◌+◌, ◌<◌, ◌≤◌, List, [], length, Bool, true, false, Result, Ok, Err}
 use Rattle.exact_num.specs.Fraction.{Fraction}
-use Rattle.table_run.specs.Places.{fraction_zero, listed}
+use Rattle.table_run.specs.Places.{fraction_zero, values_at}
 use Rattle.table_run.specs.Program.{LinearProgram}
 use Rattle.table_run.specs.Table.{right_side}
 use Rattle.table_run.specs.Ending.{Ending, done, unbounded, wide_at, no_unit_left}
@@ -17,12 +17,11 @@ use Rattle.simplex.specs.declared.stop.RunStop.{RunStop}
 use Rattle.simplex.specs.declared.stop.RunStop.TheVariants.{Wide, Budget}
 use Rattle.simplex.specs.declared.stage.Stage.{Stage}
 use Rattle.simplex.specs.declared.stage.Stage.TheVariants.{Empty, Given, Optimal, Unbounded, WholeOptimal, WholeUnbounded, Stopped}
-use Rattle.whole_rows.specs.Lines.{entry_of}
+use Rattle.whole_rows.specs.Lines.{entry_of, widest}
 use Rattle.whole_rows.specs.Compact.{CompactTable as CompactRows, price_of as price_in, compact_solution as solution_in, compact_direction as direction_in}
 use Rattle.whole_solver.specs.declared.table.WholeTable.{WholeTable}
 use Rattle.whole_solver.specs.Choices.{as_column}
 use Rattle.whole_solver.specs.Tables.{as_whole, IsWithin}
-use Rattle.whole_solver.specs.Within.{widest}
 
 -- the program given since the last begin; or what the last run since then told: its optimum, a
 -- direction, or that it stopped
@@ -124,10 +123,10 @@ contents_after (no_unit_left spent) = stopped
 -- ---- what the fields of a space stand for
 abbrev pub optimum_in : ℕ → ℕ → CompactTable → Optimum
 optimum_in n m c =
-    optimum (compact_solution n c) (listed (price_of c) n m) (listed (price_of c) 0 n) (right_side (length c.kept) c.objective)
+    optimum (compact_solution n c) (values_at (price_of c) n m) (values_at (price_of c) 0 n) (right_side (length c.kept) c.objective)
 
 abbrev pub whole_optimum_in : ℕ → ℕ → CompactRows → Optimum
-whole_optimum_in n m t = optimum (solution_in n t) (listed (price_in t) n m) (listed (price_in t) 0 n) (entry_of t.objective (length t.names))
+whole_optimum_in n m t = optimum (solution_in n t) (values_at (price_in t) n m) (values_at (price_in t) 0 n) (entry_of t.objective (length t.names))
 
 abbrev pub contents_of : {A : Type 0} → (A → Fraction) → Stage → Table A → WholeTable → Contents
 contents_of value Empty t w = nothing

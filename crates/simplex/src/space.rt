@@ -39,7 +39,8 @@ impl<N: Exact> Model for Space<N> {
 
     ghost view = { λ s. workspace_of N.fraction s.rows s.columns s.stage s.table s.whole };
 
-    ghost invariant = { λ s. IsSpace N.fraction (unsigned_abs N.LIMIT) s.rows s.columns s.stage s.table s.whole };
+    ghost invariant = { λ s. IsSpace N.fraction (unsigned_abs N.LIMIT)
+        s.rows s.columns s.stage s.table s.whole };
 }
 
 impl<N: Exact> Space<N> {

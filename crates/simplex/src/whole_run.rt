@@ -2,7 +2,7 @@
 ghost use Rattle.std.specs.Prelude.{◌≡◌, ◌-◌, ◌≤◌, ℕ};
 ghost use Rattle.whole_rows.specs.Compact.{compact_run_from};
 ghost use Rattle.whole_solver.specs.Tables.{as_whole, IsWithin, SameShape};
-ghost use Rattle.whole_solver.specs.Within.{widest};
+ghost use Rattle.whole_rows.specs.Lines.{widest};
 ghost use Rattle.simplex.specs.WholeEnds.{IsWholeEnd};
 
 use crate::budget::Budget;

@@ -6,7 +6,7 @@ use Rattle.table_run.specs.Choice.{Ratio, least}
 use Rattle.compact_run.proofs.Columns.{same_test, other_test}
 use Rattle.compact_table.specs.Candidates.{best_with}
 use Rattle.whole_rows.specs.Lines.{Line, WholeRow, IsLine, line_of, number_at, line_at, no_line, rows_fit}
-use Rattle.whole_rows.specs.Turning.{whole_ratios}
+use Rattle.whole_rows.specs.Turning.{cut, whole_ratios}
 use Rattle.whole_rows.specs.Compact.{CompactTable, basic_of, turned_in, compact_cleared, compact_rows_after, compact_pivoted, compact_leave, compact_turn, compact_fits}
 use Rattle.whole_rows.proofs.TurnSteps.{AllOf, IsCandidate, candidates, Leaves, leaves}
 use Rattle.whole_solver.specs.Rows.{line_in, lines_in, row_at, beside_basics, lines_after, AreLinesIn, IsTurned, IsPivot}
@@ -63,7 +63,7 @@ pub pivoted_table : (names basics : List ℕ) (rows new : List (List ℤ)) (obje
     → table_of (set names c (get_or basics r 0)) (set basics r (get_or names c 0)) new last ≡ compact_pivoted c r (table_of names basics rows objective)
 unfolding compact_pivoted
 pivoted_table names basics rows new objective last c r same low many t =
-    (λ i. made (columns i) (set names c v) (rows_are i) (last_is i)) ∙ sym (λ i. by (line i) (basic i))
+    (λ i. made (columns i) (set names c v) (rows_are i) (last_is i)) ∙ sym (λ i. by (cut (line i)) (basic i))
   where
     w : ℕ
     w = length names + 1
@@ -75,7 +75,7 @@ pivoted_table names basics rows new objective last c r same low many t =
     e = get_or names c 0
 
     l : Line
-    l = line_in (length names + 1) (row_at rows r)
+    l = cut (line_in (length names + 1) (row_at rows r))
 
     A : Line → ℕ
     A x = unsigned_abs (number_at x.numbers c)
@@ -101,14 +101,14 @@ pivoted_table names basics rows new objective last c r same low many t =
     columns = omega (arith, wide, many)
 
     rows_are : beside_basics (set basics r (get_or names c 0)) (lines_in (length (set names c (get_or basics r 0)) + 1) new)
-        ≡ compact_rows_after c (get_or names c 0) r (unsigned_abs (number_at (line_in (length names + 1) (row_at rows r)).numbers c)) (turned_in c (line_in (length names + 1) (row_at rows r))) 0 (beside_basics basics (lines_in (length names + 1) rows))
+        ≡ compact_rows_after c (get_or names c 0) r (unsigned_abs (number_at (cut (line_in (length names + 1) (row_at rows r))).numbers c)) (turned_in c (cut (line_in (length names + 1) (row_at rows r)))) 0 (beside_basics basics (lines_in (length names + 1) rows))
     rows_are =
         ap (λ k. beside_basics (set basics r (get_or names c 0)) (lines_in (k + 1) new)) wide
         ∙ ap (beside_basics (set basics r (get_or names c 0))) t.rows
-        ∙ sym (rows_beside c (get_or names c 0) r (unsigned_abs (number_at (line_in (length names + 1) (row_at rows r)).numbers c)) (turned_in c (line_in (length names + 1) (row_at rows r))) basics (lines_in (length names + 1) rows) 0 r count (omega arith))
+        ∙ sym (rows_beside c (get_or names c 0) r (unsigned_abs (number_at (cut (line_in (length names + 1) (row_at rows r))).numbers c)) (turned_in c (cut (line_in (length names + 1) (row_at rows r)))) basics (lines_in (length names + 1) rows) 0 r count (omega arith))
 
     last_is : line_in (length (set names c (get_or basics r 0)) + 1) last
-        ≡ compact_cleared c (unsigned_abs (number_at (line_in (length names + 1) (row_at rows r)).numbers c)) (turned_in c (line_in (length names + 1) (row_at rows r))) (line_in (length names + 1) objective)
+        ≡ compact_cleared c (unsigned_abs (number_at (cut (line_in (length names + 1) (row_at rows r))).numbers c)) (turned_in c (cut (line_in (length names + 1) (row_at rows r)))) (line_in (length names + 1) objective)
     last_is = ap (λ k. line_in (k + 1) last) wide ∙ t.objective
 
 -- ---- a turn by its leaving row

@@ -3,14 +3,14 @@ use Rattle.std.proofs.Common.{◌≡◌, ℕ, zero, suc, ◌+◌, ◌<◌, ◌�
 use Rattle.std.specs.Prelude.{slice_index_or}
 use Rattle.std.proofs.lemmas.List.{drop_all, length-map, map-append, take_more, get_or-map}
 use Rattle.exact_num.specs.Fraction.{Fraction}
-use Rattle.table_run.specs.Places.{numbers, at}
+use Rattle.table_run.specs.Places.{numbers}
 use Rattle.table_run.specs.Program.{LinearProgram, row}
-use Rattle.compact_run.specs.Compact.{compact_first, compact_rows_from as fraction_rows_from}
+use Rattle.compact_run.specs.Compact.{compact_first, compact_row, compact_rows_from}
 use Rattle.compact_table.specs.Candidates.{beside_basics as beside_lists}
-use Rattle.compact_table.proofs.Filling.{length-numbers}
-use Rattle.whole_rows.specs.Lines.{Line, WholeRow, whole_row, IsLine, taken_in, row_taken_in, multiple, least_multiple}
+use Rattle.table_run.proofs.Listed.{listed_count, map_listed}
+use Rattle.whole_rows.specs.Lines.{Line, WholeRow, IsLine, taken_in, row_taken_in, multiple, least_multiple}
 use Rattle.whole_solver.specs.Within.{HasMultiple}
-use Rattle.whole_rows.specs.Compact.{compact_rows_from, first_compact_table}
+use Rattle.whole_rows.specs.Compact.{first_compact_table}
 use Rattle.whole_solver.specs.Rows.{line_in, lines_in, row_at, beside_basics, AreLinesIn}
 use Rattle.whole_solver.specs.Tables.{table_of, taken_from}
 use Rattle.whole_solver.proofs.Pivoting.{made}
@@ -74,19 +74,9 @@ table_taken kept basics lists objective rows last same many rows_are last_is =
     λ i. made (columns i) kept (all i) (last_is i)
 
 -- ---- the first table of a program
-rows_from_taken : (p : LinearProgram) (i k : ℕ) → compact_rows_from p i k ≡ map row_taken_in (fraction_rows_from p i k)
-unfolding compact_rows_from fraction_rows_from
-rows_from_taken p i zero = refl
-rows_from_taken p i (suc k) = ap (λ (rows : List WholeRow). whole_row (p.variables + i) (taken_in (row p i ++ (at p.right_sides i ∷ []))) ∷ rows) (rows_from_taken p (i + 1) k)
-
-length-rows_from : (p : LinearProgram) (i k : ℕ) → length (fraction_rows_from p i k) ≡ k
-unfolding fraction_rows_from
-length-rows_from p i zero = refl
-length-rows_from p i (suc k) = ap suc (length-rows_from p (i + 1) k)
-
 pub first_taken : (p : LinearProgram) → first_compact_table p ≡ taken_from (compact_first p)
 unfolding first_compact_table compact_first
 first_taken p =
-    let columns : p.variables + p.rows ≡ length (numbers 0 p.variables) + length (fraction_rows_from p 0 p.rows) = λ i. sym (length-numbers 0 p.variables) i + sym (length-rows_from p 0 p.rows) i in
-    let rows = rows_from_taken p 0 p.rows in
+    let columns : p.variables + p.rows ≡ length (numbers 0 p.variables) + length (compact_rows_from p 0 p.rows) = λ i. sym (listed_count (λ i. i) 0 p.variables) i + sym (listed_count (compact_row p) 0 p.rows) i in
+    let rows = sym (map_listed row_taken_in (compact_row p) 0 p.rows) in
     λ i. made (columns i) (numbers 0 p.variables) (rows i) (first_compact_table p).objective

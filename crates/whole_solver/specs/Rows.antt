@@ -4,6 +4,7 @@ use Rattle.exact_num.specs.Fraction.{over}
 use Rattle.table_run.specs.Choice.{Ratio, ratio_of}
 use Rattle.compact_table.specs.Candidates.{better_of}
 use Rattle.whole_rows.specs.Lines.{Line, WholeRow, IsLine, line_of, whole_row, number_at}
+use Rattle.whole_rows.specs.Turning.{cut}
 use Rattle.whole_rows.specs.Compact.{Column, smaller, compact_cleared, turned_in}
 
 -- the line of w numbers at the front of a row
@@ -51,11 +52,11 @@ pivot_line c a l = line_of a (turned_in c l)
 
 pub record IsTurned (w c r : ℕ) (from : List (List ℤ)) (before : List ℤ) (new : List (List ℤ)) (last : List ℤ) : Type 0 where
   pub rows :
-      let l = line_in w (row_at from r) in
+      let l = cut (line_in w (row_at from r)) in
       let a = unsigned_abs (number_at l.numbers c) in
       lines_in w new ≡ lines_after c a r (turned_in c l) 0 (slice_set (lines_in w from) r (pivot_line c a l))
   pub objective :
-      let l = line_in w (row_at from r) in
+      let l = cut (line_in w (row_at from r)) in
       line_in w last ≡ compact_cleared c (unsigned_abs (number_at l.numbers c)) (turned_in c l) (line_in w before)
 
 -- row r is there, and its number in column c is above 0

@@ -1,17 +1,33 @@
 //! The rows of a turn in an arena. A row is its denominator and then its numbers, the right side
 //! last.
 ghost use Rattle.std.specs.Prelude.{◌≡◌, ◌+◌, ◌<◌, ◌≤◌, length, pos, true, unsigned_abs, slice_set};
-ghost use Rattle.whole_rows.specs.Lines.{AreSizes, IsLine, number_at};
+ghost use Rattle.whole_rows.specs.Lines.{AreSizes, IsLine, number_at, widest};
 ghost use Rattle.whole_rows.specs.Compact.{compact_cleared};
-ghost use Rattle.whole_solver.specs.Rows.{AreLinesIn, IsPivot, IsTurned, line_in, lines_after, lines_in, row_at};
-ghost use Rattle.whole_solver.specs.Within.{widest};
+ghost use Rattle.whole_rows.specs.Turning.{cut};
+ghost use Rattle.whole_solver.specs.Rows.{AreLinesIn, IsPivot, IsTurned, line_in, lines_after, lines_in, pivot_line, row_at};
 
-use crate::line::clear_line;
+use crate::line::{clear_line, cut_line, write_wide};
 use row_arena::RowArena;
 
-/// The row that leaves becomes the pivot row: its numbers stand over the one in column `c`, in
-/// whose place the old denominator comes.
-fn take_pivot(row: &mut [i64], c: usize)
+/// Brings the line at the front of the row to lowest terms. `room` has as many places as it has
+/// numbers.
+fn cut_front(row: &mut [i64], room: &mut [i128], bound: u64)
+    requires width { length room.old < length row.old }
+    requires bound { bound ≤ widest }
+    requires line { IsLine bound (length room.old) (line_in (length room.old) row.old) }
+    ensures { line_in (length room.old) row.new ≡ cut (line_in (length room.old) row.old) }
+{
+    let width = room.len();
+    let denominator = row[0].unsigned_abs();
+    let numbers = &mut row[1..width + 1];
+    write_wide(room, numbers);
+    if let Some(below) = cut_line(denominator as u128, numbers, room, bound) {
+        row[0] = below as i64;
+    }
+}
+
+/// Exchanges the denominator and the number in column `c`.
+fn exchange_denominator(row: &mut [i64], c: usize)
     requires column { c + 1 < length row.old }
     requires below { unsigned_abs (number_at row.old 0) ≤ widest }
     ensures { row.new ≡ slice_set (slice_set row.old 0 (number_at row.old (c + 1))) (c + 1)
@@ -22,17 +38,34 @@ fn take_pivot(row: &mut [i64], c: usize)
     row[c + 1] = below;
 }
 
+/// The row that leaves becomes the pivot row: in lowest terms its numbers stand over the one in
+/// column `c`, in whose place the old denominator comes.
+fn take_pivot(row: &mut [i64], room: &mut [i128], c: usize, bound: u64)
+    requires column { c < length room.old }
+    requires width { length room.old < length row.old }
+    requires bound { bound ≤ widest }
+    requires line { IsLine bound (length room.old) (line_in (length room.old) row.old) }
+    ensures { line_in (length room.old) row.new ≡ pivot_line c
+        (unsigned_abs (number_at (cut (line_in (length room.old) row.old)).numbers c))
+        (cut (line_in (length room.old) row.old)) }
+{
+    cut_front(row, room, bound);
+    exchange_denominator(row, c);
+}
+
 /// Clears column `c` of the line at the front of the row, and says whether it is within the bound.
-/// `room` has as many places as the line has numbers.
+/// `short` and `room` have as many places as the line has numbers.
 fn clear_front(
     row: &mut [i64],
     pivot: &[i64],
+    short: &mut [i64],
     room: &mut [i128],
     c: usize,
     a: u64,
     bound: u64,
 ) -> bool
     requires column { c < length room.old }
+    requires short { length short.old ≡ length room.old }
     requires widths { (length room.old < length row.old) × (length room.old < length pivot.now) }
     requires bound { bound ≤ widest }
     requires pivot { AreSizes bound (line_in (length room.old) pivot.now).numbers }
@@ -51,6 +84,7 @@ fn clear_front(
         denominator,
         numbers,
         &pivot[1..width + 1],
+        short,
         room,
         c,
         a,
@@ -66,6 +100,7 @@ fn clear_front(
 /// whether all are.
 fn clear_rows(
     rows: &mut RowArena<i64>,
+    short: &mut [i64],
     room: &mut [i128],
     r: usize,
     c: usize,
@@ -74,6 +109,7 @@ fn clear_rows(
 ) -> bool
     requires row { r < length rows.old.rows }
     requires column { c < length room.old }
+    requires short { length short.old ≡ length room.old }
     requires width { length room.old < rows.old.width }
     requires bound { bound ≤ widest }
     requires above { (0 < a) × (a ≤ bound) }
@@ -89,7 +125,7 @@ fn clear_rows(
     for i in 0..rows.len() {
         if i != r {
             let (pivot, row) = rows.pair(r, i);
-            if !clear_front(row, pivot, room, c, a, bound) {
+            if !clear_front(row, pivot, short, room, c, a, bound) {
                 return false;
             }
         }
@@ -97,16 +133,18 @@ fn clear_rows(
     true
 }
 
-/// The same, where `room` has as many places as a line has numbers.
+/// The same, where `short` and `room` have as many places as a line has numbers.
 fn turn_lines(
     rows: &mut RowArena<i64>,
     objective: &mut [i64],
+    short: &mut [i64],
     room: &mut [i128],
     r: usize,
     c: usize,
     bound: u64,
 ) -> bool
     requires column { c < length room.old }
+    requires short { length short.old ≡ length room.old }
     requires widths { (length room.old < rows.old.width)
         × (length room.old < length objective.old) }
     requires bound { bound ≤ widest }
@@ -122,12 +160,12 @@ fn turn_lines(
     ensures spare { rows.new.spare ≡ rows.old.spare }
     ensures count { length rows.new.rows ≡ length rows.old.rows }
 {
-    take_pivot(rows.row_mut(r), c);
+    take_pivot(rows.row_mut(r), room, c, bound);
     let a = rows.row(r)[0].unsigned_abs();
-    if !clear_front(objective, rows.row(r), room, c, a, bound) {
+    if !clear_front(objective, rows.row(r), short, room, c, a, bound) {
         return false;
     }
-    clear_rows(rows, room, r, c, a, bound)
+    clear_rows(rows, short, room, r, c, a, bound)
 }
 
 /// The rows of a turn and the objective row, where column `c` enters in row r. Says whether all are
@@ -135,6 +173,7 @@ fn turn_lines(
 pub fn turn_rows(
     rows: &mut RowArena<i64>,
     objective: &mut [i64],
+    short: &mut [i64],
     room: &mut [i128],
     width: usize,
     r: usize,
@@ -142,20 +181,29 @@ pub fn turn_rows(
     bound: u64,
 ) -> bool
     requires column { c < width }
+    requires short { width ≤ length short.old }
     requires room { width ≤ length room.old }
     requires widths { (width < rows.old.width) × (width < length objective.old) }
     requires bound { bound ≤ widest }
-    requires pivot { IsPivot (width) c r rows.old.rows }
-    requires lines { AreLinesIn bound (width) rows.old.rows }
-    requires objective { IsLine bound (width) (line_in (width) objective.old) }
-    ensures turned { result ≡ true → IsTurned (width) c r
+    requires pivot { IsPivot width c r rows.old.rows }
+    requires lines { AreLinesIn bound width rows.old.rows }
+    requires objective { IsLine bound width (line_in width objective.old) }
+    ensures turned { result ≡ true → IsTurned width c r
         rows.old.rows objective.old rows.new.rows objective.new }
-    ensures lines { result ≡ true → AreLinesIn bound (width) rows.new.rows }
+    ensures lines { result ≡ true → AreLinesIn bound width rows.new.rows }
     ensures objective { result ≡ true
-        → IsLine bound (width) (line_in (width) objective.new) }
+        → IsLine bound width (line_in width objective.new) }
     ensures width { rows.new.width ≡ rows.old.width }
     ensures spare { rows.new.spare ≡ rows.old.spare }
     ensures count { length rows.new.rows ≡ length rows.old.rows }
 {
-    turn_lines(rows, objective, &mut room[..width], r, c, bound)
+    turn_lines(
+        rows,
+        objective,
+        &mut short[..width],
+        &mut room[..width],
+        r,
+        c,
+        bound,
+    )
 }

@@ -4,12 +4,11 @@ ghost use Rattle.std.specs.Option.{option_map};
 ghost use Rattle.compact_table.specs.Candidates.{best_with};
 ghost use Rattle.compact_table.specs.Tables.{as_compact};
 ghost use Rattle.whole_rows.specs.Compact.{compact_entering, compact_pivoted, price_of};
-ghost use Rattle.whole_rows.specs.Lines.{IsLine, entry_of, taken_in};
+ghost use Rattle.whole_rows.specs.Lines.{IsLine, entry_of, taken_in, widest};
 ghost use Rattle.whole_rows.specs.Running.{whole_where_basic};
 ghost use Rattle.whole_rows.specs.Turning.{whole_ratios};
 ghost use Rattle.whole_solver.specs.Choices.{as_column};
 ghost use Rattle.whole_solver.specs.Rows.{IsPivot, IsTurned, line_in, row_at};
-ghost use Rattle.whole_solver.specs.Within.{widest};
 
 use crate::columns::{Entering, least_column};
 use crate::fraction::{fraction, take_line};
@@ -32,7 +31,8 @@ pub struct WholeTable {
     // of each row, and of the objective row, the front counts
     rows: RowArena<i64>,
     objective: Vec<i64>,
-    // room for the numbers of a line before it is cut, and for a row that comes
+    // room for the numbers of a line before it is cut, in 128 bits, and in 64 for those of a line
+    // or a row that comes
     room: Vec<i128>,
     line: Vec<i64>,
     ghost count: { vec_len basics ≡ length rows.rows },
@@ -192,6 +192,7 @@ impl WholeTable {
         turn_rows(
             &mut self.rows,
             self.objective.as_mut_slice(),
+            self.line.as_mut_slice(),
             self.room.as_mut_slice(),
             width,
             r,

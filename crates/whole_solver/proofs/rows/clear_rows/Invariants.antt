@@ -10,6 +10,7 @@ invariant-loop-i l =
       width : l.rows.width ≡ l.fn.rows.width;
       spare : l.rows.spare ≡ l.fn.rows.spare;
       places : length l.room ≡ length l.fn.room;
+      shorts : length l.short ≡ length l.fn.short;
       pivot : row_at l.rows.rows l.r ≡ row_at l.fn.rows.rows l.r;
       left : (j : ℕ) → l.i ≤ j → row_at l.rows.rows j ≡ row_at l.fn.rows.rows j;
       lines : AreLinesIn l.bound (length l.room) l.rows.rows;

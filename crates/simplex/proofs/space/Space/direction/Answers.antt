@@ -1,6 +1,6 @@
 use Rattle.std.proofs.Common.{◌<◌, ◌∙◌, sym, ap, subst, arith, length, unsigned_abs}
 use Rattle.table_run.specs.Places.{at}
-use Rattle.table_run.proofs.Ends.{listed_count, listed_at}
+use Rattle.table_run.proofs.Listed.{listed_count, listed_at}
 use Rattle.compact_run.specs.Run.{compact_direction}
 use Rattle.compact_table.specs.Tables.{as_compact, direction_entry}
 use Rattle.whole_rows.specs.Compact.{compact_direction as direction_in}

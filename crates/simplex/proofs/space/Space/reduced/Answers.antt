@@ -1,6 +1,6 @@
 use Rattle.std.proofs.Common.{◌<◌, ◌∙◌, sym, ap, subst, arith, length, unsigned_abs}
 use Rattle.table_run.specs.Places.{at}
-use Rattle.table_run.proofs.Ends.{listed_count, listed_at}
+use Rattle.table_run.proofs.Listed.{listed_count, listed_at}
 use Rattle.compact_table.specs.Tables.{as_compact}
 use Rattle.whole_solver.specs.Tables.{as_whole}
 use Rattle.simplex.specs.declared.stage.Stage.{Stage}
