@@ -1,7 +1,9 @@
 -- The item that a loop over a list has come to, and lists in pairs.
-use Rattle.std.proofs.Common.{◌≡◌, ℕ, zero, suc, ◌+◌, ◌<◌, ◌≤◌, List, [], ◌∷◌, length, get_or, map, zip, drop, All, add-one, arith, refl, ap, sym, ◌∙◌}
-use Rattle.std.proofs.Math.Seq.{drop-cons}
-use Rattle.std.proofs.lemmas.List.{drop_all, length-map}
+use Rattle.std.proofs.Common.{◌≡◌, ℕ, zero, suc, ◌+◌, ◌<◌, ◌≤◌, List, [], ◌∷◌, ◌++◌, length, length-append, get_or, map, zip, drop, All, add-one, arith, refl, ap, sym, ◌∙◌, ⊎_elim}
+use Rattle.std.specs.List.Sorted.{IsStrictlyIncreasing}
+use Rattle.std.proofs.Math.Seq.{drop-cons, get_or-append_seam}
+use Rattle.std.proofs.lemmas.Bool.{cases_lt}
+use Rattle.std.proofs.lemmas.List.{drop_all, length-map, get_or_append_left}
 use Rattle.std.proofs.lemmas.List.Elements.{All-nil, All-cons}
 use Rattle.arithmetic.proofs.Sums.{All-head, All-tail}
 
@@ -70,3 +72,15 @@ All-of_zip_left {A} {B} P [] ys len h = All-nil P
 All-of_zip_left {A} {B} P (x ∷ xs) [] len h = absurd (omega arith)
 All-of_zip_left {A} {B} P (x ∷ xs) (y ∷ ys) len h =
     All-cons P x xs (All-head (λ (p : A × B). P p.0) (x, y) (zip xs ys) h) (All-of_zip_left P xs ys (omega arith) (All-tail (λ (p : A × B). P p.0) (x, y) (zip xs ys) h))
+
+-- a rising list rises still with a greater number behind it
+pub rise_push : (xs : List ℕ) (y : ℕ) → IsStrictlyIncreasing xs → All (λ x. x < y) xs → IsStrictlyIncreasing (xs ++ y ∷ [])
+rise_push xs y rise below = λ k h.
+    let long = length-append xs (y ∷ []) in
+    ⊎_elim
+    (λ (inside : k + 1 < length xs).
+    rw (get_or_append_left xs (y ∷ []) 0 k (omega arith), get_or_append_left xs (y ∷ []) 0 (k + 1) inside) (rise k inside))
+    (λ (past : length xs ≤ k + 1).
+    let last : k + 1 ≡ length xs = omega arith in
+    rw (last, get_or_append_left xs (y ∷ []) 0 k (omega arith), get_or-append_seam xs y [] 0) (below k 0 (omega arith)))
+    (cases_lt (k + 1) (length xs))

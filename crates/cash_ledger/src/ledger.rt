@@ -259,7 +259,8 @@ impl Ledger {
     pub fn release(&mut self, account: u32, amount: u64)
         requires open { is_open self.old.accounts account ≡ true }
         requires reserved { amount ≤ reserved_of self.old account }
-        ensures reserves { SetsReserve self.old self.new account (reserved_of self.old account - amount) }
+        ensures reserves { SetsReserve self.old self.new account
+            (reserved_of self.old account - amount) }
         ensures accounts { self.new.accounts ≡ self.old.accounts }
         ensures entries { self.new.entries ≡ self.old.entries }
         ensures spare { self.new.spare ≡ self.old.spare }

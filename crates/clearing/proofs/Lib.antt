@@ -7,7 +7,5 @@ pub mod Judged
 pub mod Fitting
 pub mod Yes
 pub mod Marks
-pub mod NodeSizes
-pub mod RoundNumbers
 pub mod NarrowRuns
 pub mod Cleared

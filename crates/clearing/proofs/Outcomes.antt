@@ -19,7 +19,7 @@ use Rattle.form.specs.Limits.{IsOrderWithin, IsWithinLimits}
 use Rattle.form.specs.Payoff.{IsState}
 use Rattle.form.proofs.BundleLegs.{is_bundle_of}
 use Rattle.form.specs.States.{vector_of}
-use Rattle.form.specs.StateOf.{state_of, is_state, made_or_first, nine_vector}
+use Rattle.form.specs.StateOf.{state_of, is_state, state_or_first, nine_vector}
 use Rattle.measure.specs.declared.measures.Measure.{Measure}
 use Rattle.measure.specs.Points.{point_of}
 use Rattle.cert_check.specs.declared.outcome.Cover.{Cover}
@@ -30,7 +30,7 @@ use Rattle.cert_check.specs.declared.outcome.No.TheVariants as no
 use Rattle.cert_check.specs.declared.outcome.Outcome.{Outcome}
 use Rattle.cert_check.specs.Conditions.{IfOptimal, OwesNothing, IsEnough, Meets, conditions}
 use Rattle.cert_check.proofs.Certified.{conditions_cover, conditions_measure, conditions_prove}
-use Rattle.each_match.specs.Match.{match_by_option}
+use Rattle.each_match.specs.Match.{match_by_bundle}
 use Rattle.each_match.specs.Laws.{matched}
 use Rattle.each_match.proofs.MatchLaws.{match_is_within, match_is_balanced, match_earns, fills_small}
 use Rattle.master_program.specs.Reading.{Reading}
@@ -56,19 +56,19 @@ are_on batch within k d lt = is_bundle_of batch.underlyings (get_or batch.orders
 -- ---- the fallback
 -- its numbers as fractions
 pub record IsFallback (orders : List Order) (outcome : Outcome) : Type 0 where
-  pub fills : map fraction_of outcome.fills ≡ wholes (match_by_option orders)
+  pub fills : map fraction_of outcome.fills ≡ wholes (match_by_bundle orders)
   pub liability : fraction_of outcome.claim.liability ≡ whole (pos 0)
   pub surplus : fraction_of outcome.claim.surplus ≡ whole (premium (matched orders))
 
-pub amounts_small : (orders : List Order) → All IsOrderWithin orders → All (λ amount. amount ≤ MAX_QUANTITY) (match_by_option orders)
+pub amounts_small : (orders : List Order) → All IsOrderWithin orders → All (λ amount. amount ≤ MAX_QUANTITY) (match_by_bundle orders)
 amounts_small orders within =
-    fills_small MAX_QUANTITY orders (match_by_option orders) (match_is_within orders) (All-weaker IsOrderWithin (λ (order : Order). order.quantity ≤ MAX_QUANTITY) (λ order each. each.quantity) orders within)
+    fills_small MAX_QUANTITY orders (match_by_bundle orders) (match_is_within orders) (All-weaker IsOrderWithin (λ (order : Order). order.quantity ≤ MAX_QUANTITY) (λ order each. each.quantity) orders within)
 
 pub is_fallback : (batch : Batch) (mark : Mark) (units : ℕ) → IsWithinLimits batch → IsFallback batch.orders (fallback batch.orders mark units)
 unfolding fallback
 is_fallback batch mark units within =
     let orders = batch.orders in
-    let amounts = match_by_option orders in
+    let amounts = match_by_bundle orders in
     let small = amounts_small orders within.orders_within in
     let prices = All-weaker IsOrderWithin (λ (order : Order). order.price ≤ MAX_PRICE) (λ order each. each.price) orders within.orders_within in
     let most = premium_small orders amounts within.orders_fit prices small in
@@ -82,17 +82,17 @@ fallback_meets : (batch : Batch) (outcome : Outcome) → IsWithinLimits batch �
     → (OwesNothing batch.orders (map fraction_of outcome.fills) (fraction_of outcome.claim.liability) → IsEnough batch.underlyings batch.orders (map fraction_of outcome.fills) (fraction_of outcome.claim.liability) outcome.mark)
     → (condition : No) → Meets batch outcome condition
 fallback_meets batch outcome within f unmarked enough no.BatchShape =
-    let are = fills_are batch.orders (match_by_option batch.orders) (match_is_within batch.orders) in
+    let are = fills_are batch.orders (match_by_bundle batch.orders) (match_is_within batch.orders) in
     record {
       orders = are_on batch within;
       fills = sym (length-map outcome.fills fraction_of) ∙ ap length f.fills ∙ are.0;
       mark = unmarked _;
     }
 fallback_meets batch outcome within f unmarked enough no.Fill =
-    subst (AreFractionFills batch.orders) (sym f.fills) (fills_are batch.orders (match_by_option batch.orders) (match_is_within batch.orders))
+    subst (AreFractionFills batch.orders) (sym f.fills) (fills_are batch.orders (match_by_bundle batch.orders) (match_is_within batch.orders))
 fallback_meets batch outcome within f unmarked enough no.Cover =
     let orders = batch.orders in
-    let amounts = match_by_option orders in
+    let amounts = match_by_bundle orders in
     let L = fraction_of outcome.claim.liability in
     let zero = whole (pos 0) in
     let left = subst (λ fills. IsPremiumLessLiability orders fills L (fraction_of outcome.claim.surplus)) (sym f.fills)
@@ -115,7 +115,7 @@ budget_meets batch units within = fallback_meets batch (fallback batch.orders Bu
 
 -- ---- what a run clears
 -- a state of the model is that of the code
-made_vector : (z : List ℕ) (b : Bool) (e : is_state z ≡ b) → b ≡ true → vector_of (made_or_first z b e) ≡ z
+made_vector : (z : List ℕ) (b : Bool) (e : is_state z ≡ b) → b ≡ true → vector_of (state_or_first z b e) ≡ z
 made_vector z true e t = nine_vector z
 made_vector z false e t = cc
 

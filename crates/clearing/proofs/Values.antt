@@ -4,7 +4,7 @@ use Rattle.std.proofs.lemmas.Bool.{and_parts, lt-ltb}
 use Rattle.exact_num.specs.Fraction.{Fraction}
 use Rattle.frac.specs.declared.frac128.Frac128.{Frac128}
 use Rattle.frac.specs.Value.{fraction_of}
-use Rattle.frac.specs.ValueOf.{value_of, made_or_zero}
+use Rattle.frac.specs.ValueOf.{value_of, value_or_zero}
 use Rattle.frac.proofs.ValueOf.{value-fraction_of}
 use Rattle.form.proofs.StateOf.{state-vector_of}
 use Rattle.clearing_model.specs.Written.{WrittenNode, SplitNode, LeafNode, PlacedMultiplier, WrittenTree, nodes_of, multipliers_of}
@@ -96,7 +96,7 @@ joint_has_values fills L S points written cover is =
     rw (read, covered) refl
 
 -- so a fraction that is a value's is that of the value
-made_is : (x : Fraction) (b : Bool) (e : is_value x ≡ b) → b ≡ true → fraction_of (made_or_zero x b e) ≡ x
+made_is : (x : Fraction) (b : Bool) (e : is_value x ≡ b) → b ≡ true → fraction_of (value_or_zero x b e) ≡ x
 made_is x true e t = refl
 made_is x false e t = cc
 

@@ -20,7 +20,7 @@ use Rattle.cert_check.specs.Cover.{mark_covers, fallback_holds}
 use Rattle.cert_check.specs.Tests.{surplus_holds}
 use Rattle.cert_check.specs.Events.{cover_condition_holds, verdict_of}
 use Rattle.cert_check.proofs.Yes.{said}
-use Rattle.each_match.specs.Match.{match_by_option}
+use Rattle.each_match.specs.Match.{match_by_bundle}
 use Rattle.rounds.proofs.JointRuns.{cleared_passes_the_verdict}
 use Rattle.rounds.specs.Answers.{limits_of}
 use Rattle.rounds.specs.Run.{Solution}
@@ -53,7 +53,7 @@ cover_fits : (batch : Batch) (outcome : Outcome) (w : Misfit) → IsWithinLimits
     → cover_condition_holds largest batch outcome ≡ Err w → ⊥
 cover_fits batch outcome w within f covers =
     let orders = batch.orders in
-    let amounts = match_by_option orders in
+    let amounts = match_by_bundle orders in
     let S = fraction_of outcome.claim.surplus in
     let small = amounts_small orders within.orders_within in
     let prices = All-weaker IsOrderWithin (λ (order : Order). order.price ≤ MAX_PRICE) (λ order each. each.price) orders within.orders_within in

@@ -23,7 +23,7 @@ use Rattle.cert_check.specs.declared.outcome.Cover.TheVariants.{Line, Tree}
 use Rattle.cert_check.specs.declared.outcome.Mark.{Mark}
 use Rattle.cert_check.specs.declared.outcome.Mark.TheVariants.{Optimal, Wide, Budget}
 use Rattle.cert_check.specs.declared.outcome.Outcome.{Outcome}
-use Rattle.each_match.specs.Match.{match_by_option}
+use Rattle.each_match.specs.Match.{match_by_bundle}
 use Rattle.each_match.specs.Laws.{matched}
 use Rattle.master_program.specs.Reading.{Reading}
 use Rattle.rounds.specs.declared.joint.Joint.{Joint}
@@ -76,7 +76,7 @@ whole_fills amounts = map (λ (amount : ℕ). value_of (whole (pos amount))) amo
 unfoldable pub fallback : List Order → Mark → ℕ → Outcome
 fallback orders mark units =
     record {
-      fills = whole_fills (match_by_option orders);
+      fills = whole_fills (match_by_bundle orders);
       claim = record { liability = value_of (whole (pos 0)); surplus = value_of (whole (premium (matched orders))) };
       mark = mark;
       units = units;

@@ -5,7 +5,7 @@ use Rattle.frac.specs.ValueOf.{value_of}
 use Rattle.form.specs.declared.orders.Order.{Order}
 use Rattle.form.specs.declared.orders.Batch.{Batch}
 use Rattle.clearing_model.specs.Clearing.{premium}
-use Rattle.each_match.specs.Match.{match_by_option}
+use Rattle.each_match.specs.Match.{match_by_bundle}
 use Rattle.each_match.specs.Laws.{matched}
 use Rattle.rounds.specs.Rooms.{IsJointRoom, IsSumsRoom}
 use Rattle.clearing.specs.declared.fallback.Matched.{Matched}
@@ -15,7 +15,7 @@ use Rattle.clearing.specs.Outcome.{whole_fills}
 
 -- the match of these orders, as fractions
 pub record IsMatchOf (orders : List Order) (kept : Matched) : Type 0 where
-  pub fills : kept.fills.items ≡ whole_fills (match_by_option orders)
+  pub fills : kept.fills.items ≡ whole_fills (match_by_bundle orders)
   pub surplus : kept.surplus ≡ value_of (whole (premium (matched orders)))
 
 -- room for the batch with at most so many units, by a run in 128 bits alone

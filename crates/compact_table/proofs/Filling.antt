@@ -1,37 +1,32 @@
 -- Vectors that are written item by item.
-use Rattle.std.proofs.Common.{◌≡◌, ℕ, zero, suc, ◌+◌, ◌-◌, ◌<◌, ◌≤◌, List, [], ◌∷◌, ◌++◌, length, map, take, drop, set, refl, sym, ◌∙◌, ap, arith, append_assoc}
+use Rattle.std.proofs.Common.{◌≡◌, ℕ, zero, suc, ◌+◌, ◌-◌, ◌<◌, ◌≤◌, List, [], ◌∷◌, ◌++◌, length, map, take, drop, set, sym, ◌∙◌, ap, arith, append_assoc}
 use Rattle.std.proofs.lemmas.List.{drop_all, take_all, length-map, append-nil}
 use Rattle.std.specs.Prelude.{slice_index_or}
 use Rattle.exact_num.specs.Fraction.{Fraction, negated}
-use Rattle.table_run.specs.Places.{numbers}
+use Rattle.table_run.specs.Places.{numbers, values_at}
 use Rattle.compact_table.proofs.EntrySteps.{front_of, done_more, left_less}
 
 -- ---- the numbers from i on, of which `left` are left
 pub numbers_more : (done all : List ℕ) (i count : ℕ) → i < count → done ++ numbers i (count - i) ≡ all → (done ++ i ∷ []) ++ numbers (i + 1) (count - (i + 1)) ≡ all
-unfolding numbers
+unfolding values_at
 numbers_more done all i count low h =
     let more : count - i ≡ suc (count - (i + 1)) = omega arith in
     append_assoc done (i ∷ []) (numbers (i + 1) (count - (i + 1))) ∙ (rw more at h)
 
 pub numbers_end : (done all : List ℕ) (i count : ℕ) → count ≤ i → done ++ numbers i (count - i) ≡ all → done ≡ all
-unfolding numbers
+unfolding values_at
 numbers_end done all i count high h =
     let none : count - i ≡ 0 = omega arith in
     sym (append-nil done) ∙ (rw none at h)
 
 -- one number more at the end
 pub numbers_last : (i count : ℕ) → numbers i (count + 1) ≡ numbers i count ++ (i + count) ∷ []
-unfolding numbers
+unfolding values_at
 numbers_last i zero = ap (λ k. k ∷ []) (omega arith)
 numbers_last i (suc count) =
     let more : suc count + 1 ≡ suc (count + 1) = omega arith in
     let same : i + 1 + count ≡ i + suc count = omega arith in
     rw more (ap (λ (ks : List ℕ). i ∷ ks) (numbers_last (i + 1) count ∙ ap (λ k. numbers (i + 1) count ++ k ∷ []) same))
-
-pub length-numbers : (i count : ℕ) → length (numbers i count) ≡ count
-unfolding numbers
-length-numbers i zero = refl
-length-numbers i (suc count) = ap suc (length-numbers (i + 1) count)
 
 -- ---- signs turned one after another
 abbrev pub Turned : {A : Type 0} → (A → Fraction) → List A → ℕ → List A → Type 0

@@ -9,7 +9,7 @@ use Rattle.exact_num.specs.Fits.{after}
 use Rattle.exact_num.specs.Tests.{is_above_zero}
 use Rattle.table_run.specs.Places.{at}
 use Rattle.table_run.specs.Table.{Row, entries_at, right_side}
-use Rattle.table_run.specs.Choice.{Ratio, ratio_of, joined, by_order, lesser, least}
+use Rattle.table_run.specs.Choice.{Ratio, ratio_of, join_ratio, by_order, lesser, least}
 use Rattle.compact_run.specs.Steps.{short_quotient, short_ratio_in}
 use Rattle.compact_run.specs.Turn.{short_ratios}
 use Rattle.compact_table.specs.Candidates.{best_with, beside_basics, short_leaving_of, IsPivot}
@@ -47,7 +47,7 @@ each_limits limit columns h i [] qs e = let none : [] ≡ qs = cc in subst (Each
 each_limits limit columns h i (row ∷ rows) qs e = step (short_ratio_in limit columns h row.entries) (short_ratios limit columns h (i + 1) rows) refl (λ rs. each_limits limit columns h (i + 1) rows rs) e
   where
     step : (s : Result (Option Fraction) Wide) (t : Result (List Ratio) Wide) → short_ratio_in limit columns h row.entries ≡ s → ((rs : List Ratio) → t ≡ Ok rs → EachRatio (Limits h (i + 1) rows) rs)
-        → after s (λ q. after t (λ rs. Ok (joined i row.basic q rs))) ≡ Ok qs → EachRatio (Limits h i (row ∷ rows)) qs
+        → after s (λ q. after t (λ rs. Ok (join_ratio i row.basic q rs))) ≡ Ok qs → EachRatio (Limits h i (row ∷ rows)) qs
     step (Err w) t a b k = cc
     step (Ok q) (Err w) a b k = cc
     step (Ok None) (Ok rs) a b k =

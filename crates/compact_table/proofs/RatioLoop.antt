@@ -7,7 +7,7 @@ use Rattle.exact_num.specs.Fraction.{Fraction}
 use Rattle.exact_num.specs.Fits.{after, meaning}
 use Rattle.table_run.specs.Places.{at}
 use Rattle.table_run.specs.Table.{Row, row_of}
-use Rattle.table_run.specs.Choice.{Ratio, joined, least}
+use Rattle.table_run.specs.Choice.{Ratio, join_ratio, least}
 use Rattle.exact_num.specs.Tests.{is_above_zero}
 use Rattle.compact_run.specs.Steps.{short_quotient, short_ratio_in}
 use Rattle.compact_run.specs.Turn.{short_ratios}
@@ -48,7 +48,7 @@ abbrev pub Chooses : ℕ → ℕ → ℕ → List Row → ℕ → Option Ratio �
 Chooses limit columns h rows i best =
     after (short_ratios limit columns h i (drop i rows)) (λ qs. Ok (best_with best qs)) ≡ short_leaving_of limit columns h rows
 
-best_joined : (best : Option Ratio) (i basic : ℕ) (q : Option Fraction) (r : Result (List Ratio) Wide) → after (after r (λ qs. Ok (joined i basic q qs))) (λ qs. Ok (best_with best qs)) ≡ after r (λ qs. Ok (best_with (with_ratio best i basic q) qs))
+best_joined : (best : Option Ratio) (i basic : ℕ) (q : Option Fraction) (r : Result (List Ratio) Wide) → after (after r (λ qs. Ok (join_ratio i basic q qs))) (λ qs. Ok (best_with best qs)) ≡ after r (λ qs. Ok (best_with (with_ratio best i basic q) qs))
 unfolding least
 best_joined best i basic None (Ok qs) = refl
 best_joined best i basic None (Err w) = refl

@@ -3,14 +3,14 @@ use Rattle.std.proofs.Common.{◌≡◌, ℕ, zero, suc, ◌+◌, ◌*◌, ◌�
 use Rattle.std.proofs.lemmas.List.{length-map, length-append, map-append, take-append-le, take_all, length-take-le, append-nil}
 use Rattle.std.specs.List.{All}
 use Rattle.exact_num.specs.Fraction.{Fraction, negated}
-use Rattle.table_run.specs.Places.{at, fraction_zero, numbers}
+use Rattle.table_run.specs.Places.{at, fraction_zero, numbers, values_at}
 use Rattle.table_run.specs.Program.{row}
 use Rattle.table_run.specs.Table.{Row}
 use Rattle.compact_run.specs.Compact.{CompactTable, compact_rows_from}
 use Rattle.compact_table.specs.Candidates.{beside_basics}
 use Rattle.compact_table.specs.Lists.{front, fronts}
 use Rattle.compact_table.specs.Programs.{empty_program, with_row, coefficients_in, program_of}
-use Rattle.compact_table.proofs.Filling.{length-numbers}
+use Rattle.table_run.proofs.Listed.{listed_count}
 
 take_front : {A : Type 0} (xs : List A) (n : ℕ) (y : A) → length xs ≡ n → take n (xs ++ y ∷ []) ≡ xs
 take_front [] zero y e = refl
@@ -29,7 +29,7 @@ pub begun : {A : Type 0} (value : A → Fraction) (kept : List ℕ) (rows : List
     → program_of (length kept) (fronts value (length kept + 1) rows) (take (length kept) (map value objective)) ≡ empty_program (map value costs)
 unfolding coefficients_in
 begun value kept rows objective costs z k r o =
-    let count : length kept ≡ length costs = ap length k ∙ length-numbers 0 (length costs) in
+    let count : length kept ≡ length costs = ap length k ∙ listed_count (λ i. i) 0 (length costs) in
     let as_many : length (map value costs) ≡ length costs = length-map costs value in
     let split : map value (costs ++ z ∷ []) ≡ map value costs ++ value z ∷ [] = map-append value costs (z ∷ []) in
     let taken = take_front (map value costs) (length costs) (value z) as_many in
@@ -123,7 +123,7 @@ row_at n done xs lists costs h long =
 
 pub rows_given : (n : ℕ) (costs : List Fraction) (done lists : List (List Fraction)) → AreLong n done → AreLong n lists
     → compact_rows_from (program_of n (done ++ lists) costs) (length done) (length lists) ≡ beside_basics (numbers (n + length done) (length lists)) lists
-unfolding compact_rows_from numbers
+unfolding values_at
 rows_given n costs done [] h k = refl
 rows_given n costs done (xs ∷ lists) h k =
     let long = first_long n xs lists k in

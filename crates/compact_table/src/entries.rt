@@ -72,8 +72,8 @@ fn difference<N: Exact>(entry: N, product: N) -> Result<N, Wide>
 /// The entry less `factor` times the entry `pivot` of the pivot row, which is not 0.
 fn cleared<N: Exact>(entry: N, factor: N, pivot: N) -> Result<N, Wide>
     requires { is_zero_of (N.fraction pivot) ≡ false }
-    ensures { meaning N.fraction result
-        ≡ short_less (unsigned_abs N.LIMIT) (N.fraction factor) (N.fraction entry) (N.fraction pivot) }
+    ensures { meaning N.fraction result ≡ short_less (unsigned_abs N.LIMIT)
+        (N.fraction factor) (N.fraction entry) (N.fraction pivot) }
 {
     let product = factor.mul(pivot)?;
     difference(entry, product)

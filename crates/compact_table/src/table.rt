@@ -171,7 +171,8 @@ impl<N: Exact> Table<N> {
         requires { h < length self.now.kept.items }
         ensures place { result ≡ short_leaving_of (unsigned_abs N.LIMIT)
             (length self.now.kept.items) h (as_compact N.fraction self.now).rows }
-        ensures pivot { (r : _) → result ≡ Ok (Some r) → IsPivot h r (lists_of N.fraction self.now) }
+        ensures pivot { (r : _) → result ≡ Ok (Some r)
+            → IsPivot h r (lists_of N.fraction self.now) }
     {
         leaving(self.basics.as_slice(), &self.rows, self.kept.len(), h)
     }

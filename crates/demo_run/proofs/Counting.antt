@@ -7,7 +7,8 @@ use Rattle.cert_check.specs.declared.outcome.Mark.TheVariants.{Optimal, Wide, Bu
 use Rattle.reply_print.specs.declared.replies.Reply.{Reply}
 use Rattle.reply_print.specs.declared.replies.Reply.TheVariants.{Opened, Deposited, Withdrawn, Listed, Placed, Cancelled, Cleared, Settled, Balance, Refused}
 use Rattle.demo_run.specs.declared.tally.Tally.{Tally}
-use Rattle.demo_run.specs.Tally.{tally_of, is_cleared, is_optimal, is_wide, is_budget, is_refused, IsBelow, RepliesAreCounted, MarksAreCounted}
+use Rattle.cert_check.specs.Conditions.{is_optimal_mark}
+use Rattle.demo_run.specs.Tally.{tally_of, is_cleared, is_wide, is_budget, is_refused, IsBelow, RepliesAreCounted, MarksAreCounted}
 
 one_more : (test : Reply → Bool) (replies : List Reply) (reply : Reply) → count_by test (replies ++ reply ∷ []) ≡ count_by test replies + cond (test reply) 1 0
 one_more test replies reply = let e = sum_by-append (λ (r : Reply). cond (test r) 1 0) replies (reply ∷ []) in omega arith
@@ -18,7 +19,7 @@ replies_are_counted replies reply =
     λ i. record {
       lines = longer i;
       batches = one_more (is_cleared (λ mark. true)) replies reply i;
-      optimal = one_more (is_cleared is_optimal) replies reply i;
+      optimal = one_more (is_cleared is_optimal_mark) replies reply i;
       wide = one_more (is_cleared is_wide) replies reply i;
       budget = one_more (is_cleared is_budget) replies reply i;
       refused = one_more is_refused replies reply i;
@@ -32,19 +33,19 @@ pub tally_below : (limit : ℕ) (replies : List Reply) (tally : Tally) → tally
 tally_below limit replies tally e few = rw e (record {
   lines = few;
   batches = counted_below (is_cleared (λ mark. true)) limit replies few;
-  optimal = counted_below (is_cleared is_optimal) limit replies few;
+  optimal = counted_below (is_cleared is_optimal_mark) limit replies few;
   wide = counted_below (is_cleared is_wide) limit replies few;
   budget = counted_below (is_cleared is_budget) limit replies few;
   refused = counted_below is_refused limit replies few;
 })
 
-of_mark : (mark : Mark) → 1 ≡ cond (is_optimal mark) 1 0 + cond (is_wide mark) 1 0 + cond (is_budget mark) 1 0
+of_mark : (mark : Mark) → 1 ≡ cond (is_optimal_mark mark) 1 0 + cond (is_wide mark) 1 0 + cond (is_budget mark) 1 0
 of_mark (Optimal cover measure) = refl
 of_mark (Wide w) = refl
 of_mark Budget = refl
 
 -- a reply counts for a batch as for one mark
-of_reply : (reply : Reply) → cond (is_cleared (λ mark. true) reply) 1 0 ≡ cond (is_cleared is_optimal reply) 1 0 + cond (is_cleared is_wide reply) 1 0 + cond (is_cleared is_budget reply) 1 0
+of_reply : (reply : Reply) → cond (is_cleared (λ mark. true) reply) 1 0 ≡ cond (is_cleared is_optimal_mark reply) 1 0 + cond (is_cleared is_wide reply) 1 0 + cond (is_cleared is_budget reply) 1 0
 of_reply (Opened account) = refl
 of_reply (Deposited account balance) = refl
 of_reply (Withdrawn account balance) = refl
@@ -64,4 +65,4 @@ sum_of_parts whole a b c each (reply ∷ replies) =
 
 pub marks_are_counted : MarksAreCounted
 marks_are_counted replies =
-    sum_of_parts (λ reply. cond (is_cleared (λ mark. true) reply) 1 0) (λ reply. cond (is_cleared is_optimal reply) 1 0) (λ reply. cond (is_cleared is_wide reply) 1 0) (λ reply. cond (is_cleared is_budget reply) 1 0) of_reply replies
+    sum_of_parts (λ reply. cond (is_cleared (λ mark. true) reply) 1 0) (λ reply. cond (is_cleared is_optimal_mark reply) 1 0) (λ reply. cond (is_cleared is_wide reply) 1 0) (λ reply. cond (is_cleared is_budget reply) 1 0) of_reply replies

@@ -3,14 +3,10 @@ use Rattle.std.specs.Prelude.{◌≡◌, ℕ, ◌<◌, ◌+◌, cond, Bool, true
 use Rattle.std.specs.List.{count_by}
 use Rattle.cert_check.specs.declared.outcome.Mark.{Mark}
 use Rattle.cert_check.specs.declared.outcome.Mark.TheVariants.{Optimal, Wide, Budget}
+use Rattle.cert_check.specs.Conditions.{is_optimal_mark}
 use Rattle.reply_print.specs.declared.replies.Reply.{Reply}
 use Rattle.reply_print.specs.declared.replies.Reply.TheVariants.{Opened, Deposited, Withdrawn, Listed, Placed, Cancelled, Cleared, Settled, Balance, Refused}
 use Rattle.demo_run.specs.declared.tally.Tally.{Tally}
-
-abbrev pub is_optimal : Mark → Bool
-is_optimal (Optimal cover measure) = true
-is_optimal (Wide w) = false
-is_optimal Budget = false
 
 abbrev pub is_wide : Mark → Bool
 is_wide (Optimal cover measure) = false
@@ -51,7 +47,7 @@ abbrev pub tally_of : List Reply → Tally
 tally_of replies = record {
   lines = length replies;
   batches = count_by (is_cleared (λ mark. true)) replies;
-  optimal = count_by (is_cleared is_optimal) replies;
+  optimal = count_by (is_cleared is_optimal_mark) replies;
   wide = count_by (is_cleared is_wide) replies;
   budget = count_by (is_cleared is_budget) replies;
   refused = count_by is_refused replies;
@@ -70,7 +66,7 @@ pub record IsBelow (limit : ℕ) (tally : Tally) : Type 0 where
 abbrev pub with_mark : Mark → Tally → Tally
 with_mark mark tally = record tally {
   batches = tally.batches + 1;
-  optimal = tally.optimal + cond (is_optimal mark) 1 0;
+  optimal = tally.optimal + cond (is_optimal_mark mark) 1 0;
   wide = tally.wide + cond (is_wide mark) 1 0;
   budget = tally.budget + cond (is_budget mark) 1 0;
 }
@@ -79,7 +75,7 @@ abbrev pub with_reply : Reply → Tally → Tally
 with_reply reply tally = record {
   lines = tally.lines + 1;
   batches = tally.batches + cond (is_cleared (λ mark. true) reply) 1 0;
-  optimal = tally.optimal + cond (is_cleared is_optimal reply) 1 0;
+  optimal = tally.optimal + cond (is_cleared is_optimal_mark reply) 1 0;
   wide = tally.wide + cond (is_cleared is_wide reply) 1 0;
   budget = tally.budget + cond (is_cleared is_budget reply) 1 0;
   refused = tally.refused + cond (is_refused reply) 1 0;

@@ -16,7 +16,7 @@ use Rattle.each_match.specs.declared.queues.Offer.{Offer}
 use Rattle.each_match.specs.declared.auction.Trade.{Trade}
 use Rattle.each_match.specs.Auction.{filled}
 use Rattle.each_match.specs.Laws.{IsBetter, IsFilledAt, MatchIsTheAuction}
-use Rattle.each_match.specs.Match.{trades_of, fill_of, fills_from, match_by_option}
+use Rattle.each_match.specs.Match.{trades_of, fill_of, fills_from, match_by_bundle}
 use Rattle.each_match.specs.Queue.{is_on, belongs, offers_from, queue_of}
 use Rattle.each_match.specs.Trades.{AreTradesOf}
 use Rattle.each_match.proofs.InLine.{IsInLine, IsInLine-in_line}
@@ -110,7 +110,7 @@ All-fills_from P batch place (o ∷ orders) h =
     All-cons P (o, fill_of batch place o) (zip orders (fills_from batch (place + 1) orders)) (h zero place o (omega arith) refl)
     (All-fills_from P batch (place + 1) orders (λ i k p is at. h (suc i) k p (omega (arith, is)) at))
 
-pub All-matched : (P : Filled → Type 0) (orders : List Order) → ((k : ℕ) (o : Order) → slice_get orders k ≡ Some o → P (o, fill_of orders k o)) → All P (zip orders (match_by_option orders))
+pub All-matched : (P : Filled → Type 0) (orders : List Order) → ((k : ℕ) (o : Order) → slice_get orders k ≡ Some o → P (o, fill_of orders k o)) → All P (zip orders (match_by_bundle orders))
 All-matched P orders h = All-fills_from P orders 0 orders (λ i k o is at. h k o (ap (slice_get orders) (let e : k ≡ i = omega (arith, is) in e) ∙ at))
 
 fills_at : (batch : List Order) (place i k : ℕ) (orders : List Order) (o : Order) → k ≡ place + i → slice_get orders i ≡ Some o → slice_get (fills_from batch place orders) i ≡ Some (fill_of batch k o)

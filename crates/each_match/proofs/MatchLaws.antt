@@ -10,7 +10,7 @@ use Rattle.clearing_model.specs.Clearing.{Filled, AreFills, premium}
 use Rattle.form.specs.Payoff.{bundle_of}
 use Rattle.market_laws.proofs.Balance.{balanced_owes_nothing}
 use Rattle.each_match.specs.Laws.{matched, IsFilledAt, MatchIsWithin, MatchOwesNothing, MatchEarns, MatchCovers, MatchHasPrices, MatchIsTheBest}
-use Rattle.each_match.specs.Match.{match_by_option}
+use Rattle.each_match.specs.Match.{match_by_bundle}
 pub use Rattle.each_match.proofs.Balances.{match_is_balanced}
 use Rattle.each_match.proofs.Fills.{price_of, order_is_filled, length-fills_from, All-matched}
 use Rattle.each_match.proofs.Gains.{total, above_price, sum_is_most, sum_is_gain, earned}
@@ -31,7 +31,7 @@ match_has_prices orders = (price_of orders, All-matched (λ (fill : Filled). IsF
 pub match_earns : MatchEarns
 match_earns orders =
     let parted = match_has_prices orders in
-    let fills = match_by_option orders in
+    let fills = match_by_bundle orders in
     subst (λ w. pos 0 ≤ℤ w) (earned parted.0 orders fills (match_is_balanced orders)) (sum_is_gain parted.0 orders fills (match_is_within orders).1 parted.1)
 
 pub match_covers : MatchCovers
@@ -43,7 +43,7 @@ match_covers n orders t s some size =
 pub match_is_the_best : MatchIsTheBest
 match_is_the_best orders g F fills balanced =
     let parted = match_has_prices orders in
-    let m = match_by_option orders in
+    let m = match_by_bundle orders in
     let most = sum_is_most parted.0 orders m g F (match_is_within orders).1 parted.1 fills.1 fills.2 in
     subst (λ w. premium (zip orders g) ≤ℤ (w *ℤ pos F)) (earned parted.0 orders m (match_is_balanced orders))
     (subst (λ w. w ≤ℤ (total (above_price parted.0) orders m *ℤ pos F)) (earned parted.0 orders g balanced) most)

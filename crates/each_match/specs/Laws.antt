@@ -11,11 +11,11 @@ use Rattle.clearing_model.specs.Clearing.{Filled, AreFills, net, premium, Covers
 use Rattle.form.specs.Payoff.{BundleLeg, bundle_of}
 use Rattle.each_match.specs.declared.queues.Offer.{Offer}
 use Rattle.each_match.specs.Auction.{next_trade, trade_then, auction}
-use Rattle.each_match.specs.Match.{fill_of, match_by_option}
+use Rattle.each_match.specs.Match.{fill_of, match_by_bundle}
 
 -- the orders with their matched fills
 abbrev pub matched : List Order → List Filled
-matched orders = zip orders (match_by_option orders)
+matched orders = zip orders (match_by_bundle orders)
 
 -- an auction makes its next trade and goes on with what that leaves of the queues, and ends where there is none
 abbrev pub AuctionGoesOn : Type 0
@@ -30,11 +30,11 @@ AreFilledByAuction orders fills =
     → slice_get orders place ≡ Some order → slice_get fills place ≡ Some (fill_of orders place order)
 
 abbrev pub MatchIsTheAuction : Type 0
-MatchIsTheAuction = (orders : List Order) → AreFilledByAuction orders (match_by_option orders)
+MatchIsTheAuction = (orders : List Order) → AreFilledByAuction orders (match_by_bundle orders)
 
 -- no order is filled past its quantity
 abbrev pub MatchIsWithin : Type 0
-MatchIsWithin = (orders : List Order) → AreFills orders (match_by_option orders) 1
+MatchIsWithin = (orders : List Order) → AreFills orders (match_by_bundle orders) 1
 
 -- of each bundle as much is bought as sold
 abbrev pub MatchIsBalanced : Type 0
@@ -82,4 +82,4 @@ IsBestBalanced orders m =
 
 -- so the match is the best of the fills that balance each bundle
 abbrev pub MatchIsTheBest : Type 0
-MatchIsTheBest = (orders : List Order) → IsBestBalanced orders (match_by_option orders)
+MatchIsTheBest = (orders : List Order) → IsBestBalanced orders (match_by_bundle orders)

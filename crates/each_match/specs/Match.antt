@@ -22,5 +22,5 @@ fills_from batch place (order ∷ orders) =
     fill_of batch place order ∷ fills_from batch (place + 1) orders
 
 -- the fills of the orders in whole numbers
-abbrev pub match_by_option : List Order → List ℕ
-match_by_option orders = fills_from orders 0 orders
+abbrev pub match_by_bundle : List Order → List ℕ
+match_by_bundle orders = fills_from orders 0 orders

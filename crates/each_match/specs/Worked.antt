@@ -10,7 +10,7 @@ use Rattle.form.specs.FormOf.{form_of}
 use Rattle.form.specs.BundleOf.{bundle_one, bundle_made}
 use Rattle.clearing_model.specs.Clearing.{premium}
 use Rattle.each_match.specs.Laws.{matched}
-use Rattle.each_match.specs.Match.{match_by_option}
+use Rattle.each_match.specs.Match.{match_by_bundle}
 
 -- an order of this number
 abbrev order_on : Bundle → ℕ → Side → ℕ → ℕ → Order
@@ -71,18 +71,18 @@ spreads sold = order_on spread 1 Buy 3 1 ∷ order_on sold 2 Sell 2 1 ∷ []
 
 pub record BatchesByHand : Type 0 where
   -- the buy at 7 takes 2 of the sell at 5 and 1 of the sell at 6; the buy at 6 is not above the sell that is left
-  pub one_option_matched : match_by_option one_option ≡ 3 ∷ 0 ∷ 2 ∷ 1 ∷ []
+  pub one_option_matched : match_by_bundle one_option ≡ 3 ∷ 0 ∷ 2 ∷ 1 ∷ []
   -- 3 * 7 less 2 * 5 and 6
   pub one_option_earns : premium (matched one_option) ≡ pos 5
   -- the sell at 1 is of another option; the buys at 7 come before the one at 6, and the sell at 5 before the other
-  pub two_options_matched : match_by_option two_options ≡ 0 ∷ 0 ∷ 1 ∷ 1 ∷ 0 ∷ 2 ∷ []
+  pub two_options_matched : match_by_bundle two_options ≡ 0 ∷ 0 ∷ 1 ∷ 1 ∷ 0 ∷ 2 ∷ []
   -- equal prices stay
-  pub equal_prices_stay : match_by_option equal_prices ≡ 0 ∷ 0 ∷ []
+  pub equal_prices_stay : match_by_bundle equal_prices ≡ 0 ∷ 0 ∷ []
   -- at one price the smaller number comes first
-  pub number_decides : match_by_option (buys_at 7 7) ≡ 0 ∷ 1 ∷ 1 ∷ []
+  pub number_decides : match_by_bundle (buys_at 7 7) ≡ 0 ∷ 1 ∷ 1 ∷ []
   -- a spread meets its own
-  pub spreads_meet : match_by_option (spreads spread) ≡ 1 ∷ 1 ∷ []
+  pub spreads_meet : match_by_bundle (spreads spread) ≡ 1 ∷ 1 ∷ []
   -- legs in another order are another bundle
-  pub order_of_legs_decides : match_by_option (spreads spread_turned) ≡ 0 ∷ 0 ∷ []
+  pub order_of_legs_decides : match_by_bundle (spreads spread_turned) ≡ 0 ∷ 0 ∷ []
   -- past the greatest price the higher price still does
-  pub price_decides : match_by_option (buys_at (MAX_PRICE + 2) (MAX_PRICE + 1)) ≡ 1 ∷ 0 ∷ 1 ∷ []
+  pub price_decides : match_by_bundle (buys_at (MAX_PRICE + 2) (MAX_PRICE + 1)) ≡ 1 ∷ 0 ∷ 1 ∷ []

@@ -5,7 +5,7 @@ ghost use Rattle.clearing_model.specs.Balance.{AreBalanced};
 ghost use Rattle.clearing_model.specs.Clearing.{AreFills, premium};
 ghost use Rattle.form.specs.Payoff.{bundle_of};
 ghost use Rattle.each_match.specs.Laws.{AreFilledByAuction, IsBestBalanced, OwesNothing};
-ghost use Rattle.each_match.specs.Match.{match_by_option};
+ghost use Rattle.each_match.specs.Match.{match_by_bundle};
 ghost use Rattle.each_match.specs.Trades.{is_seen, AreTradesOf};
 
 use crate::auction::{Trade, auction, filled};
@@ -41,7 +41,7 @@ fn trades(alloc: Global, orders: &[Order]) -> Result<Vec<Trade>, AllocError>
 // What the trades fill of each order.
 fn fills(alloc: Global, orders: &[Order], trades: &[Trade]) -> Result<Vec<u64>, AllocError>
     requires { AreTradesOf orders.now trades.now }
-    ensures { IfOk result (λ fills. fills.items ≡ match_by_option orders.now) }
+    ensures { IfOk result (λ fills. fills.items ≡ match_by_bundle orders.now) }
 {
     let mut fills = Vec::new(alloc);
     for (place, order) in orders.iter().enumerate() {
@@ -62,7 +62,7 @@ fn fills(alloc: Global, orders: &[Order], trades: &[Trade]) -> Result<Vec<u64>, 
 /// fractions included, have a greater premium (in ticks, what buyers pay less what sellers get).
 /// The only error is want of memory.
 pub fn match_each(alloc: Global, batch: &Batch) -> Result<Vec<u64>, AllocError>
-    ensures fills { IfOk result (λ fills. fills.items ≡ match_by_option batch.now.orders) }
+    ensures fills { IfOk result (λ fills. fills.items ≡ match_by_bundle batch.now.orders) }
     ensures auction { IfOk result (λ fills. AreFilledByAuction batch.now.orders fills.items) }
     ensures within { IfOk result (λ fills. AreFills batch.now.orders fills.items 1) }
     ensures balanced { IfOk result (λ fills. AreBalanced (zip batch.now.orders fills.items)) }

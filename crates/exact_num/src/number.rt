@@ -70,7 +70,8 @@ pub trait Exact: Copy + Ord {
 
     ghost lowest: { (x : Self) → IsLowest (fraction x) };
 
-    ghost numerator_fits: { (x : Self) → unsigned_abs (fraction x).numerator ≤ unsigned_abs LIMIT };
+    ghost numerator_fits: { (x : Self) →
+        unsigned_abs (fraction x).numerator ≤ unsigned_abs LIMIT };
 
     ghost denominator_fits: { (x : Self) → (fraction x).denominator ≤ unsigned_abs LIMIT };
 

@@ -9,7 +9,8 @@ use crate::number::Exact;
 
 /// The total and the product of `a` and `b`: the product first, then the sum. Takes no memory.
 pub fn plus_product<N: Exact>(total: N, a: N, b: N) -> Result<N, Wide>
-    ensures { meaning N.fraction result ≡ plus_product (unsigned_abs N.LIMIT) (N.fraction total) (N.fraction a) (N.fraction b) }
+    ensures { meaning N.fraction result
+        ≡ plus_product (unsigned_abs N.LIMIT) (N.fraction total) (N.fraction a) (N.fraction b) }
 {
     let product = a.mul(b)?;
     total.add(product)
@@ -17,7 +18,8 @@ pub fn plus_product<N: Exact>(total: N, a: N, b: N) -> Result<N, Wide>
 
 /// The total less the product of `a` and `b`. Takes no memory.
 pub fn less_product<N: Exact>(total: N, a: N, b: N) -> Result<N, Wide>
-    ensures { meaning N.fraction result ≡ less_product (unsigned_abs N.LIMIT) (N.fraction total) (N.fraction a) (N.fraction b) }
+    ensures { meaning N.fraction result
+        ≡ less_product (unsigned_abs N.LIMIT) (N.fraction total) (N.fraction a) (N.fraction b) }
 {
     let product = a.mul(b)?;
     total.sub(product)

@@ -4,10 +4,10 @@ use Rattle.std.proofs.lemmas.Bool.{lt-ltb}
 use Rattle.exact_num.specs.Fraction.{Fraction}
 use Rattle.frac.specs.declared.frac128.Frac128.{Frac128}
 use Rattle.frac.specs.Value.{fraction_of, same_value}
-use Rattle.frac.specs.ValueOf.{value_of, made_or_zero, has_128_bits}
+use Rattle.frac.specs.ValueOf.{value_of, value_or_zero, has_128_bits}
 use Rattle.exact_num.specs.Tests.{is_lowest}
 
-made_is : (x : Fraction) (b : Bool) (e : (is_lowest x && has_128_bits x) ≡ b) → b ≡ true → fraction_of (made_or_zero x b e) ≡ x
+made_is : (x : Fraction) (b : Bool) (e : (is_lowest x && has_128_bits x) ≡ b) → b ≡ true → fraction_of (value_or_zero x b e) ≡ x
 made_is x true e t = refl
 made_is x false e t = cc
 

@@ -13,8 +13,8 @@ abbrev pub has_128_bits : Fraction → Bool
 has_128_bits x = nat_lt (unsigned_abs x.numerator) (2 ^ 127) && nat_lt x.denominator (2 ^ 127)
 
 -- the value, where it is one
-abbrev pub made : (x : Fraction) → (is_lowest x && has_128_bits x) ≡ true → Frac128
-made x e =
+abbrev pub proper_value : (x : Fraction) → (is_lowest x && has_128_bits x) ≡ true → Frac128
+proper_value x e =
     let parts = and_parts (is_lowest x) (has_128_bits x) e in
     let lowest = and_parts (nat_lt 0 x.denominator) (nat_eq (gcd (unsigned_abs x.numerator) x.denominator) 1) parts.0 in
     let fits = and_parts (nat_lt (unsigned_abs x.numerator) (2 ^ 127)) (nat_lt x.denominator (2 ^ 127)) parts.1 in
@@ -35,13 +35,13 @@ zero_128 = record {
   below_fits = lit≤ tt;
 }
 
-abbrev pub made_or_zero : (x : Fraction) (b : Bool) → (is_lowest x && has_128_bits x) ≡ b → Frac128
-made_or_zero x true e = made x e
-made_or_zero x false e = zero_128
+abbrev pub value_or_zero : (x : Fraction) (b : Bool) → (is_lowest x && has_128_bits x) ≡ b → Frac128
+value_or_zero x true e = proper_value x e
+value_or_zero x false e = zero_128
 
 -- the value of a fraction in lowest terms whose parts are of 128 bits, and 0 for any other
 unfoldable pub value_of : Fraction → Frac128
-value_of x = made_or_zero x (is_lowest x && has_128_bits x) refl
+value_of x = value_or_zero x (is_lowest x && has_128_bits x) refl
 
 -- the value, where the fraction is in lowest terms and its parts are of 128 bits
 abbrev pub value_from : Fraction → Option Frac128

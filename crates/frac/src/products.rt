@@ -15,7 +15,8 @@ use crate::sizes::{
 /// Whether both parts are of 64 bits.
 #[inline(always)]
 fn is_short(x: Frac128) -> bool
-    ensures { result ≡ nat_lt (unsigned_abs x.numerator) (2 ^ 64) && nat_lt x.denominator (2 ^ 64) }
+    ensures { result
+        ≡ nat_lt (unsigned_abs x.numerator) (2 ^ 64) && nat_lt x.denominator (2 ^ 64) }
 {
     x.numerator.unsigned_abs() <= SHORT && x.denominator <= SHORT
 }
@@ -81,7 +82,8 @@ fn product_of_wholes(x: Frac128, y: Frac128, limit: u128) -> Option<Frac128>
     requires right { y.denominator ≡ 1 }
     requires positive_limit { 0 < limit }
     requires signed_limit { limit < 2 ^ 127 }
-    ensures { option_map fraction_of result ≡ product_within limit (fraction_of x) (fraction_of y) }
+    ensures { option_map fraction_of result
+        ≡ product_within limit (fraction_of x) (fraction_of y) }
 {
     let above = whole_product(x.numerator, y.numerator, limit)?;
     Some(Frac128 {
@@ -95,7 +97,8 @@ fn product_of_wholes(x: Frac128, y: Frac128, limit: u128) -> Option<Frac128>
 pub fn product(x: Frac128, y: Frac128, limit: u128) -> Option<Frac128>
     requires positive_limit { 0 < limit }
     requires signed_limit { limit < 2 ^ 127 }
-    ensures { option_map fraction_of result ≡ product_within limit (fraction_of x) (fraction_of y) }
+    ensures { option_map fraction_of result
+        ≡ product_within limit (fraction_of x) (fraction_of y) }
 {
     if x.denominator == 1 && y.denominator == 1 {
         return product_of_wholes(x, y, limit);

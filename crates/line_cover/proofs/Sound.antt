@@ -30,7 +30,7 @@ use Rattle.line_cover.proofs.Fills.{side_stands, fills_stand}
 use Rattle.line_cover.proofs.LineStates.{breaks_are, orders_of_fills}
 
 -- the step for a fill adds what its bundle pays
-payoff_adds : (limit D : ℕ) (z : List ℕ) (o : Order) (a : Fraction) (y : ℤ) → Stands a y D → (start s : Fraction) (x : ℤ) → Stands start x D → add_payoff limit z start (o, a) ≡ Ok s
+pub payoff_adds : (limit D : ℕ) (z : List ℕ) (o : Order) (a : Fraction) (y : ℤ) → Stands a y D → (start s : Fraction) (x : ℤ) → Stands start x D → add_payoff limit z start (o, a) ≡ Ok s
     → Stands s (x +ℤ for_side o.side (bundle_payoff (bundle_of o) z *ℤ y)) D
 payoff_adds limit D z o a y sa start s x st h =
     let pays = after_value (bundle_payoff_of limit (bundle_of o) z) (λ p. add_for_side limit start o.side a p) s h in

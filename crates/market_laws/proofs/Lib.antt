@@ -10,4 +10,5 @@ pub mod Line
 pub mod Written
 pub mod Certificate
 pub mod Single
+pub mod Limits
 pub mod Examples

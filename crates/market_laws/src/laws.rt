@@ -1,6 +1,7 @@
 //! Laws over the definitions: each is the contract of a function that does nothing.
 
 ghost use Rattle.market_laws.specs.Laws.{CallsAndPutsPay, SignedSumsAgree, BalancedOwesNothing, BalancedFillsCover, NothingOwedAtRays, WeakDuality, ProvedIsGreatest, LiabilityGivesCover, CoverIsOfFractions, LineCoversHold, HoldsAtMultiples, ClosedTreesHold, TreesReadOneWay, TreeCertificateCovers, WrittenTreeCovers, LineCertificateCovers, CoverAndMeasureAreOptimal};
+ghost use Rattle.market_laws.specs.Limits.{BetterLimitsCover, GreatestDoesNotFall};
 ghost use Rattle.market_laws.specs.Single.{OneLegPaysItsOption, GainsAreDifferences, LegsAreOrders, NetIsOfOptions};
 
 /// A call pays what the basket is worth above the strike, and a put what it is worth below.
@@ -106,4 +107,14 @@ pub fn legs_are_orders()
 /// And the net is of their options' payoffs.
 pub fn net_is_of_options()
     ensures { NetIsOfOptions }
+{}
+
+/// What fills cover, they cover where a bid is higher or an ask lower.
+pub fn better_limits_cover()
+    ensures { BetterLimitsCover }
+{}
+
+/// So the greatest surplus does not fall when a bid rises or an ask falls.
+pub fn greatest_does_not_fall()
+    ensures { GreatestDoesNotFall }
 {}

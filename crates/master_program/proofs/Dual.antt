@@ -14,7 +14,7 @@ use Rattle.exact_num.specs.CommonDenominator.{common_denominator, amount_over, s
 use Rattle.exact_num.proofs.Fractions.{divides, common_positive}
 use Rattle.exact_num.proofs.Ratios.{dot_part, sum_part, neg_part, whole_part, same_part, one_part, sign_part, more_parts, append_parts}
 use Rattle.exact_num.proofs.Tested.{lowest_are_defined}
-use Rattle.table_run.specs.Places.{at, listed}
+use Rattle.table_run.specs.Places.{at, values_at}
 use Rattle.table_run.specs.Program.{column}
 use Rattle.form.specs.declared.orders.Side.{Side}
 use Rattle.form.specs.declared.orders.Side.TheVariants.{Buy, Sell}
@@ -58,7 +58,7 @@ column_part first orders states F j y Y Z h len parts =
     let tails : List ℤ = map (entry j) (map (state_row first orders) states) in
     let total : ℤ = dot_ℤ heads Y +ℤ dot_ℤ tails Z in
     let c : column (plain_master first orders states) j ≡ map whole (map (entry j) rows) =
-    ap (λ m. listed (λ i. at (flat rows) (i * (k + 1) + j)) 0 m) (sym (rows_count first orders states)) ∙ column_is (k + 1) j rows (rows_long first orders states) h in
+    ap (λ m. values_at (λ i. at (flat rows) (i * (k + 1) + j)) 0 m) (sym (rows_count first orders states)) ∙ column_is (k + 1) j rows (rows_long first orders states) h in
     let split : dot_ℤ (map (entry j) rows) (Y ++ Z) ≡ total =
     ap (λ v. dot_ℤ v (Y ++ Z)) (map-append (entry j) (quantity_rows k) (map (state_row first orders) states))
     ∙ dot-append heads tails Y Z (length-map (quantity_rows k) (entry j) ∙ quantity_rows_count k ∙ sym len) in

@@ -15,5 +15,5 @@ pub mod Read
 pub mod Lines
 pub mod Verdict
 pub mod Solves
-pub mod WithinSizes
+pub mod Lowest
 pub mod VerdictSums

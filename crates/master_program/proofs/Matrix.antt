@@ -7,7 +7,8 @@ use Rattle.arithmetic.specs.Sums.{dot_ℤ}
 use Rattle.exact_num.specs.Fraction.{Fraction, whole, plain_dot, AtMost}
 use Rattle.exact_num.specs.CommonDenominator.{AreParts}
 use Rattle.exact_num.proofs.Ratios.{dot_part, whole_part, at_most_part}
-use Rattle.table_run.specs.Places.{at, listed, fraction_zero}
+use Rattle.table_run.specs.Places.{at, values_at, fraction_zero}
+use Rattle.table_run.proofs.Listed.{listed_same}
 
 -- the coefficients of rows of whole numbers
 abbrev pub flat : List (List ℤ) → List Fraction
@@ -73,30 +74,17 @@ first_entry n j r rest h low = get_or_append_left (map whole r) rest fraction_ze
 later_entry : (n j : ℕ) (r : List ℤ) (rest : List Fraction) → length r ≡ n → at (map whole r ++ rest) (n + j) ≡ at rest j
 later_entry n j r rest h = ap (λ (m : ℕ). at (map whole r ++ rest) (m + j)) (sym (whole_count n r h)) ∙ get_or-append-add (map whole r) rest j fraction_zero
 
-listed_same : (f g : ℕ → Fraction) (k l m : ℕ) → ((i : ℕ) → f (k + i) ≡ g (l + i)) → listed f k m ≡ listed g l m
-unfolding listed
-listed_same f g k l zero h = refl
-listed_same f g k l (suc m) h =
-    let a : k + 0 ≡ k = omega arith in
-    let b : l + 0 ≡ l = omega arith in
-    let here : f k ≡ g l = sym (ap f a) ∙ h 0 ∙ ap g b in
-    let later : (i : ℕ) → f (k + 1 + i) ≡ g (l + 1 + i) = λ i.
-    let c : k + 1 + i ≡ k + suc i = omega arith in
-    let d : l + 1 + i ≡ l + suc i = omega arith in
-    ap f c ∙ h (suc i) ∙ sym (ap g d) in
-    ap (λ w. w ∷ listed f (k + 1) m) here ∙ ap (λ w. g l ∷ w) (listed_same f g (k + 1) (l + 1) m later)
-
-pub column_is : (n j : ℕ) (rows : List (List ℤ)) → AreLong n rows → j < n → listed (λ i. at (flat rows) (i * n + j)) 0 (length rows) ≡ map whole (map (entry j) rows)
-unfolding listed
+pub column_is : (n j : ℕ) (rows : List (List ℤ)) → AreLong n rows → j < n → values_at (λ i. at (flat rows) (i * n + j)) 0 (length rows) ≡ map whole (map (entry j) rows)
+unfolding values_at
 column_is n j [] long h = refl
 column_is n j (r ∷ rows) long h =
     let all : List Fraction = map whole r ++ flat rows in
     let z : 0 * n + j ≡ j = omega arith in
     let here : at all (0 * n + j) ≡ whole (entry j r) = ap (at all) z ∙ first_entry n j r (flat rows) long.0 h in
-    let later : (i : ℕ) → at all ((0 + 1 + i) * n + j) ≡ at (flat rows) ((0 + i) * n + j) = λ i.
+    let later : (i : ℕ) → i < length rows → at all ((0 + 1 + i) * n + j) ≡ at (flat rows) ((0 + i) * n + j) = λ i low.
     let e : (0 + 1 + i) * n + j ≡ n + ((0 + i) * n + j) = omega arith in
     ap (at all) e ∙ later_entry n ((0 + i) * n + j) r (flat rows) long.0 in
-    ap (λ w. w ∷ listed (λ i. at all (i * n + j)) (0 + 1) (length rows)) here
+    ap (λ w. w ∷ values_at (λ i. at all (i * n + j)) (0 + 1) (length rows)) here
     ∙ ap (λ w. whole (entry j r) ∷ w) (listed_same (λ i. at all (i * n + j)) (λ i. at (flat rows) (i * n + j)) (0 + 1) 0 (length rows) later ∙ column_is n j rows long.1 h)
 
 -- ---- counts

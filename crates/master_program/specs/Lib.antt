@@ -6,4 +6,4 @@ pub mod Worked
 pub mod Certified
 pub mod OptimumLaws
 pub mod Verdict
-pub mod Sizes
+pub mod Lowest

@@ -1,6 +1,6 @@
 //! What the definition of the master program implies.
 ghost use Rattle.master_program.specs.Laws.{MasterIsBounded, MasterIsProgram, QuantityRowsAreUnitRows, SameWithGreaterLimit, StepsGiveMaster};
-ghost use Rattle.master_program.specs.Sizes.{MasterIsWithin, SolvesAreLowest, SolvesAreWithin};
+ghost use Rattle.master_program.specs.Lowest.{SolvesAreLowest};
 ghost use Rattle.master_program.specs.Solve.{SolvesAreTheSame};
 ghost use Rattle.master_program.specs.Worked.{ButterflyByTwoSells, CoverTooDear, EmptyBatch, EqualPricesStay, LowerStrikeCovers, OneOptionMatched, PutAboveItsStrike, SecondRound, SpreadIsCovered, SurplusTooWide, WholeSolves};
 
@@ -35,17 +35,7 @@ pub fn solves_are_the_same()
     ensures { SolvesAreTheSame }
 {}
 
-/// Where its steps fit, each number of the master program is within the limit,
-pub fn master_is_within()
-    ensures { MasterIsWithin }
-{}
-
-/// and each number that a solve reads off is within it too,
-pub fn solves_are_within()
-    ensures { SolvesAreWithin }
-{}
-
-/// and in lowest terms.
+/// Each number that a solve reads off is in lowest terms, whatever the limit.
 pub fn solves_are_lowest()
     ensures { SolvesAreLowest }
 {}

@@ -138,8 +138,8 @@ part_fails steps next result w all mid new is err h =
 pub built_as : (new : Contents) (a b : Result Contents Misfit) (result : Result (Unit {0}) Misfit) → a ≡ b → HasMade (λ (done : Unit {0}). new) b result → HasMade (λ (done : Unit {0}). new) a result
 built_as new a b result e h = subst (λ s. HasMade (λ (done : Unit {0}). new) s result) (sym e) h
 
-abbrev pub signed_rows_of : ℕ → ℕ → ℕ → List NodeLeg → Contents → Result Contents Misfit
-signed_rows_of limit n covers node c = given_with (program_given c) (length (signed_of n node)) (signed_rows_steps limit n (replicate covers fraction_zero) node)
+abbrev pub signed_rows_of : ℕ → ℕ → List Fraction → List NodeLeg → Contents → Result Contents Misfit
+signed_rows_of limit n tail node c = given_with (program_given c) (length (signed_of n node)) (signed_rows_steps limit n tail node)
 
 abbrev pub cover_rows_of : ℕ → ℕ → ℕ → List NodeLeg → Contents → Result Contents Misfit
 cover_rows_of limit n covers node c = given_with (program_given c) covers (cover_rows_steps limit n (covers_of node) (minus_units covers))
@@ -147,13 +147,13 @@ cover_rows_of limit n covers node c = given_with (program_given c) covers (cover
 -- with the costs that were written and the size's row in place, what is left are the rows of the covering and the signed legs
 pub program_from : (limit n covers : ℕ) (legs : List FractionLeg) (L : Fraction) (signs : List Sign) (costs : List Fraction) (c : Contents)
     → covers ≡ length (covers_of (counted_node legs signs)) → costs_steps limit n legs L signs ≡ Ok costs → c ≡ given (sized n covers costs)
-    → after (node_steps limit n legs L signs) (λ p. Ok (given p)) ≡ after (cover_rows_of limit n covers (counted_node legs signs) c) (signed_rows_of limit n covers (counted_node legs signs))
+    → after (node_steps limit n legs L signs) (λ p. Ok (given p)) ≡ after (cover_rows_of limit n covers (counted_node legs signs) c) (signed_rows_of limit n (replicate covers fraction_zero) (counted_node legs signs))
 program_from limit n covers legs L signs costs c k_is written is =
     let node = counted_node legs signs in
     program_is limit n legs L signs
     ∙ ap (λ s. after s (after_costs limit n node)) written
-    ∙ ap (λ (k : ℕ). after (given_with (sized n k costs) k (cover_rows_steps limit n (covers_of node) (minus_units k))) (signed_rows_of limit n k node)) (sym k_is)
-    ∙ ap (λ c. after (cover_rows_of limit n covers node c) (signed_rows_of limit n covers node)) (sym is)
+    ∙ ap (λ (k : ℕ). after (given_with (sized n k costs) k (cover_rows_steps limit n (covers_of node) (minus_units k))) (signed_rows_of limit n (replicate k fraction_zero) node)) (sym k_is)
+    ∙ ap (λ c. after (cover_rows_of limit n covers node c) (signed_rows_of limit n (replicate covers fraction_zero) node)) (sym is)
 
 -- a space to which rows were given
 pub rows_on : (p : LinearProgram) (k v more : ℕ) (steps : Result (List Fraction) Misfit) (space : Workspace) → given_with p k steps ≡ Ok space.contents → p.variables ≡ v → p.rows + k + more ≤ space.rows → IsOpen space v more

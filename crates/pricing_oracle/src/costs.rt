@@ -6,7 +6,7 @@ ghost use Rattle.master_program.specs.Master.{map_steps};
 ghost use Rattle.sign_tree.specs.Left.{leg_as};
 ghost use Rattle.sign_tree.specs.Read.{sign_of};
 ghost use Rattle.node_program.specs.Roles.{values};
-ghost use Rattle.node_program.specs.Steps.{add_all_earned, add_earned, cover_cost_steps, covering_legs, leg_fill, state_cost_steps};
+ghost use Rattle.node_program.specs.Steps.{add_all_earned, add_earned, cover_cost_steps, covering_legs, leg_fill_steps, state_cost_steps};
 ghost use Rattle.table_run.specs.Places.{fraction_zero};
 ghost use Rattle.pricing_oracle.specs.Filled.{HasFilled};
 ghost use Rattle.pricing_oracle.specs.Programs.{costs_steps};
@@ -18,10 +18,10 @@ use exact_num::{Exact, Wide, plus_product};
 use sign_tree::BatchLeg;
 
 // The fill of a leg: that of its order times the size of its count.
-#[tactic(auto, unfolding(node_program::specs::Steps::leg_fill))]
+#[tactic(auto, unfolding(node_program::specs::Steps::leg_fill_steps))]
 fn leg_fill<N: Exact>(leg: BatchLeg<N>) -> Result<N, Wide>
     ensures { meaning N.fraction result
-        ≡ leg_fill (unsigned_abs N.LIMIT) (leg_as N.fraction leg.entry) }
+        ≡ leg_fill_steps (unsigned_abs N.LIMIT) (leg_as N.fraction leg.entry) }
 {
     if leg.size == 1 {
         return Ok(leg.fill);

@@ -45,7 +45,8 @@ impl<N: Exact> Model for SearchRoom<N> {
 
     ghost view = { λ s. search_space s.underlyings s.legs s.units s.tree };
 
-    ghost invariant = { λ s. IsRoom s.underlyings s.legs s.units s.space (vec_capacity s.signs) (vec_capacity s.row) s.tree };
+    ghost invariant = { λ s. IsRoom s.underlyings s.legs s.units s.space
+        (vec_capacity s.signs) (vec_capacity s.row) s.tree };
 }
 
 // Writes that so many legs have no sign.

@@ -3,15 +3,6 @@ pub mod Fields
 pub mod Refusals
 pub mod States
 pub mod StepReplies
-pub mod Numbers
-pub mod Payoffs
-pub mod Masters
-pub mod Runs
-pub mod Readings
-pub mod LineRuns
-pub mod Nodes
-pub mod Searches
-pub mod TreeSums
 pub mod Units
 pub mod Outcomes
 pub mod CommandRuns

@@ -1,55 +1,31 @@
 -- Each outcome is within the ranges of its line.
-use Rattle.std.proofs.Common.{◌≡◌, ℕ, ◌+◌, ◌-◌, ◌≤◌, ◌==◌, List, [], ◌∷◌, ◌++◌, length, map, take, replicate, Bool, true, false, pos, refl, ap, sym, ◌∙◌, subst, arith}
+use Rattle.std.proofs.Common.{◌≡◌, ℕ, ◌+◌, ◌-◌, ◌≤◌, List, [], ◌∷◌, ◌++◌, length, map, take, replicate, Bool, true, false, ℤ, pos, refl, ap, sym, ◌∙◌, subst, arith}
 use Rattle.std.specs.Prelude.{if◌then◌else◌}
 use Rattle.std.specs.List.{All}
+use Rattle.std.proofs.lemmas.Int.{ints}
 use Rattle.std.proofs.lemmas.List.{length-append, length-map, map-append, take-map, take_at}
 use Rattle.std.proofs.lemmas.List.Elements.{All-append, All-map, All-nil, All-cons, All-weaker, recursion_from_All}
+use Rattle.exact_num.specs.Fraction.{Fraction}
 use Rattle.frac.specs.Range.{limit as largest}
 use Rattle.form.specs.declared.orders.Batch.{Batch}
 use Rattle.form.specs.declared.orders.Order.{Order}
 use Rattle.form.specs.Limits.{IsWithinLimits}
-use Rattle.form.specs.StateOf.{is_state, made_or_first, state_of, to_nine}
+use Rattle.form.specs.StateOf.{is_state, state_or_first, state_of, to_nine}
 use Rattle.cert_check.specs.declared.outcome.Mark.TheVariants as mark
 use Rattle.clearing.specs.Outcome.{cover_of, fallback, has_values, optimal_outcome, outcome_at, outcome_of, placed_value, run_of, weighted_of, written_node}
 use Rattle.clearing_model.specs.Certificate.{Point}
 use Rattle.clearing_model.specs.Written.{SplitNode, LeafNode, WrittenTree, Ends as EndsTree, Parts, multipliers_of, nodes_of}
-use Rattle.rounds.specs.Answers.{limits_of}
-use Rattle.rounds.specs.Run.{Solution, WrittenCover, by_line, by_tree, on_line, on_tree}
-use Rattle.rounds.proofs.JointRuns.{by_count, joint_run-is, the_line}
-use Rattle.search_laws.specs.Run.{tree_run}
+use Rattle.rounds.specs.Run.{Solution, WrittenCover, by_line, by_tree}
 use Rattle.sign_tree.specs.declared.trees.Multiplier.{Multiplier}
 use Rattle.sign_tree.specs.declared.trees.Node.{Node}
 use Rattle.table_run.specs.Ending.{Ending, done, unbounded, wide_at, no_unit_left}
 use Rattle.reply_print.specs.OutcomePieces.{state_entries}
-use Rattle.reply_print.specs.Within.{IsCoverWithin, IsMarkWithin, IsNodeWithin, IsPlace, IsPointWithin, IsSmall, leaves_of}
+use Rattle.reply_print.specs.Within.{IsCoverWithin, IsMarkWithin, IsNodeWithin, IsPair, IsPlace, IsPointWithin, IsSmall, leaves_of}
 use Rattle.reply_ranges.specs.Laws.{OutcomesAreRanged}
-use Rattle.reply_ranges.proofs.LineRuns.{line_run_has}
-use Rattle.reply_ranges.proofs.Nodes.{IsPlacedOf}
-use Rattle.reply_ranges.proofs.Numbers.{Ends, answer_ends}
-use Rattle.reply_ranges.proofs.Payoffs.{IsSmallState}
-use Rattle.reply_ranges.proofs.Readings.{IsPointOf, IsReadingOf}
-use Rattle.reply_ranges.proofs.Searches.{IsClearedOf, IsTreeOf}
-use Rattle.reply_ranges.proofs.TreeSums.{tree_run_ends}
+use Rattle.run_values.specs.Values.{Ends, IsCoverOf, IsPlacedOf, IsPointOf, IsSmallState, IsSolutionOf, IsTreeOf, IsValue}
+use Rattle.run_values.proofs.Solutions.{runs_have_values}
+use Rattle.run_values.proofs.TreeSums.{placed}
 use Rattle.reply_ranges.proofs.Units.{units_within}
-
--- ---- the run
-abbrev IsCoverOf : WrittenCover → Type 0
-IsCoverOf by_line = Unit {0}
-IsCoverOf (by_tree tree) = IsTreeOf 1024 tree
-
-abbrev IsSolutionOf : Solution → Type 0
-IsSolutionOf s = IsReadingOf s.0 × IsCoverOf s.1
-
-run_ends : (batch : Batch) (budget : ℕ) → IsWithinLimits batch → Ends IsSolutionOf (run_of batch budget)
-run_ends batch budget within = subst (Ends IsSolutionOf) (sym (joint_run-is (limits_of largest budget) batch.underlyings batch.orders 0)) (by (batch.underlyings == 1))
-  where
-    by : (one : Bool) → Ends IsSolutionOf (by_count one (limits_of largest budget) batch.underlyings batch.orders 0)
-    by true =
-        answer_ends IsReadingOf IsSolutionOf (the_line (limits_of largest budget) batch.orders 0) on_line (line_run_has (budget - 0) 0 batch.orders within.orders_within)
-        (λ r units of. (of, tt))
-    by false =
-        answer_ends IsClearedOf IsSolutionOf (tree_run (limits_of largest budget) batch.underlyings batch.orders 0) on_tree (tree_run_ends budget batch.underlyings 0 batch.orders within.orders_fit within.orders_within)
-        (λ c units of. of)
 
 -- ---- points
 small_entries : (z : List ℕ) → IsSmallState z → All IsSmall (map pos z)
@@ -58,7 +34,7 @@ small_entries z small = All-map IsSmall pos z (All-weaker (λ x. x ≤ largest) 
 own_entries : (z : List ℕ) → take (length z) (to_nine z) ≡ map pos z
 own_entries z = let zeros = replicate (9 - length z) 0 in take-map pos (length z) (z ++ zeros) ∙ ap (map pos) (take_at z zeros (length z) refl)
 
-made_small : (z : List ℕ) (b : Bool) (e : is_state z ≡ b) → IsSmallState z → All IsSmall (state_entries (made_or_first z b e))
+made_small : (z : List ℕ) (b : Bool) (e : is_state z ≡ b) → IsSmallState z → All IsSmall (state_entries (state_or_first z b e))
 made_small z true e small = subst (All IsSmall) (sym (own_entries z)) (small_entries z small)
 made_small z false e small = All-cons IsSmall (pos 1) (pos 0 ∷ []) (omega arith) (All-cons IsSmall (pos 0) [] (omega arith) (All-nil IsSmall))
 
@@ -79,16 +55,12 @@ nodes_within (Parts place plus minus) of =
     (subst (All IsNodeWithin) (sym (map-append written_node (nodes_of plus) (nodes_of minus)))
     (All-append IsNodeWithin (map written_node (nodes_of plus)) (map written_node (nodes_of minus)) (nodes_within plus of.1) (nodes_within minus of.2)))
 
-placed : (tree : WrittenTree) → IsTreeOf 1024 tree → All (IsPlacedOf 1024) (multipliers_of tree)
-placed (EndsTree ms) of = of
-placed (Parts place plus minus) of = All-append (IsPlacedOf 1024) (multipliers_of plus) (multipliers_of minus) (placed plus of.1) (placed minus of.2)
-
 abbrev HasPlace : Multiplier → Type 0
 HasPlace m = IsPlace m.place
 
 multipliers_within : (tree : WrittenTree) → IsTreeOf 1024 tree → All HasPlace (map placed_value (multipliers_of tree))
 multipliers_within tree of =
-    All-map HasPlace placed_value (multipliers_of tree) (All-weaker (IsPlacedOf 1024) (λ m. HasPlace (placed_value m)) (λ m one. one.place) (multipliers_of tree) (placed tree of))
+    All-map HasPlace placed_value (multipliers_of tree) (All-weaker (IsPlacedOf 1024) (λ m. HasPlace (placed_value m)) (λ m one. one.place) (multipliers_of tree) (placed 1024 tree of))
 
 leaves-append : (xs ys : List Node) → leaves_of (xs ++ ys) ≡ leaves_of xs + leaves_of ys
 leaves-append [] ys = omega arith
@@ -114,6 +86,14 @@ cover_within (by_tree tree) of = (
   leaves_count tree ∙ sym (length-map (multipliers_of tree) placed_value),
 )
 
+-- ---- the operands of a step that does not fit
+operand : (pair : ℤ × ℤ) (x : Fraction) → pair ≡ (x.numerator, pos x.denominator) → IsValue x → IsPair pair
+operand pair x same is =
+    let some = is.lowest.positive in
+    let above = is.small.above in
+    let below = is.small.below in
+    subst IsPair (sym same) (is.lowest, omega (arith, ints, some), omega (arith, above), omega (arith, ints, below))
+
 -- ---- the outcome
 solved_within : (s : Solution) (units : ℕ) → IsSolutionOf s → IsMarkWithin (optimal_outcome s units).mark
 unfolding optimal_outcome
@@ -125,13 +105,13 @@ at_end orders budget (done s units) of = elim (has_values s) as (λ b. IsMarkWit
   | true ↦ solved_within s units of
   | false ↦ tt
 ]
-at_end orders budget (wide_at units w) of = (of.left, of.right)
+at_end orders budget (wide_at units w) of = (operand w.left of.left of.left_is of.left_value, operand w.right of.right of.right_is of.right_value)
 at_end orders budget (no_unit_left units) of = tt
 at_end orders budget (unbounded d units) of = tt
 
 mark_within : (batch : Batch) (budget : ℕ) → IsWithinLimits batch → IsMarkWithin (outcome_of batch budget).mark
 unfolding outcome_of
-mark_within batch budget within = at_end batch.orders budget (run_of batch budget) (run_ends batch budget within)
+mark_within batch budget within = at_end batch.orders budget (run_of batch budget) (runs_have_values batch budget within)
 
 pub outcomes_are_ranged : OutcomesAreRanged
 outcomes_are_ranged batch units within low = (omega (arith, units_within batch units within, low), mark_within batch units within)

@@ -18,27 +18,21 @@ use Rattle.rounds.proofs.JointRuns.{by_count, joint_run-is, the_line}
 use Rattle.search_laws.specs.Rounds.{AreCounted}
 use Rattle.search_laws.specs.Run.{sums_hold as tree_sums, tree_run}
 use Rattle.search_laws.proofs.Rounds.{rounds_are_counted}
-use Rattle.table_run.specs.Ending.{Ending, done, unbounded, wide_at, no_unit_left, on_answer, on_steps, where_fits}
+use Rattle.table_run.specs.Ending.{Ending, done, unbounded, wide_at, no_unit_left, on_answer, on_steps, where_fits, EndsBy}
 use Rattle.table_run.specs.Run.{Optimum, run}
 use Rattle.table_run.specs.Units.{IsCounted}
 use Rattle.table_run.proofs.Counted.{units_are_counted}
+use Rattle.table_run.proofs.Endings.{on_answer-by, on_steps-by}
 
 -- the units of an answer and of a step that does not fit
 abbrev Spends : {A : Type 0} → ℕ → Ending A → Type 0
-Spends budget (done a units) = units ≤ budget
-Spends budget (unbounded d units) = Unit {0}
-Spends budget (wide_at units w) = units ≤ budget
-Spends budget (no_unit_left units) = Unit {0}
+Spends budget e = EndsBy (λ a units. units ≤ budget) (Unit {0}) (λ w units. units ≤ budget) e
 
 answer_spends : {A B : Type 0} (budget : ℕ) (e : Ending A) (next : A → ℕ → Ending B) → Spends budget e → ((a : A) (units : ℕ) → units ≤ budget → Spends budget (next a units)) → Spends budget (on_answer e next)
-answer_spends budget (done a units) next h f = f a units h
-answer_spends budget (unbounded d units) next h f = tt
-answer_spends budget (wide_at units w) next h f = h
-answer_spends budget (no_unit_left units) next h f = tt
+answer_spends budget e next h f = on_answer-by (λ a units. units ≤ budget) (λ b units. units ≤ budget) (Unit {0}) (λ w units. units ≤ budget) e next h f
 
 steps_spend : {A B : Type 0} (budget units : ℕ) (r : Result A Wide) (next : A → Ending B) → units ≤ budget → ((a : A) → Spends budget (next a)) → Spends budget (on_steps units r next)
-steps_spend budget units (Ok a) next low f = f a
-steps_spend budget units (Err w) next low f = low
+steps_spend budget units r next low f = on_steps-by (λ b units. units ≤ budget) (Unit {0}) (λ w units. units ≤ budget) units r next (λ w is. low) (λ a is. f a)
 
 counted_spends : (left : ℕ) (e : Ending Optimum) → IsCounted left 0 e → Spends left e
 counted_spends left (done o units) h = omega (arith, h.1)

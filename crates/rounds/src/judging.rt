@@ -19,7 +19,7 @@ use form::Batch;
 use frac::Frac128;
 use measure::Measure;
 use sign_tree::leg_count;
-use simplex::{RunStop, Stop};
+use simplex::RunStop;
 use std::alloc::{AllocError, Global};
 
 /// What the sums of the verdict on a batch work in. Only `new` takes memory.
@@ -173,19 +173,4 @@ pub fn judge_in<N: Exact>(
         }),
         Err(wide) => Err(RunStop::Wide { unit, wide }),
     }
-}
-
-/// The same in room of its own, for want of which `Memory` comes.
-pub fn judge<N: Exact>(
-    alloc: Global,
-    batch: &Batch,
-    joint: Joint<N>,
-    unit: u32,
-) -> Result<Joint<Frac128>, Stop>
-    requires limits { IsWithinLimits batch.now }
-    requires joint { IsJointOf batch.now joint }
-    ensures { IsJudgedAnswer N.fraction fraction_of batch.now joint result unit }
-{
-    let room = SumsRoom::new(alloc, batch)?;
-    Ok(judge_in(batch, joint, unit, room)?)
 }

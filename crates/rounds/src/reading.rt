@@ -131,9 +131,9 @@ pub(crate) fn read_off<N: Exact>(
     requires reduced { length (reduced_of space.now.contents) ≡ length orders.now + 1 }
     requires fills { length orders.now ≤ vec_capacity fills.old }
     requires points { length later.now + 1 ≤ vec_capacity points.old }
-    ensures read { HasMade (reading_in_lists N.fraction fills.new.items points.new.items) (reading_at
-        (unsigned_abs N.LIMIT) (vector_of first.now) orders.now (map vector_of later.now)
-        (optimum_of space.now.contents)) result }
+    ensures read { HasMade (reading_in_lists N.fraction fills.new.items points.new.items)
+        (reading_at (unsigned_abs N.LIMIT) (vector_of first.now) orders.now
+        (map vector_of later.now) (optimum_of space.now.contents)) result }
     ensures fills { vec_capacity fills.old ≤ vec_capacity fills.new }
     ensures points { vec_capacity points.old ≤ vec_capacity points.new }
 {

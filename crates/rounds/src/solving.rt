@@ -18,7 +18,7 @@ use std::alloc::Global;
 
 /// The run before the sums of the verdict, in given room: on one underlying one master program over the states of the line is
 /// solved; on several a master program over some states and a search for a state at which its liability is not enough take
-/// turns, until a tree closes. What it finds is for `judge`.
+/// turns, until a tree closes. What it finds is for `judge_in`.
 ///
 /// `Wide` comes at the first step that does not fit, `Budget` where the run wants one unit more than the budget has; units
 /// that were spent stay spent. It takes no memory. The batch is within the limits.
@@ -45,27 +45,6 @@ pub fn solve_unjudged_in<N: Exact>(
         None => solve_line(batch, budget, states.as_slice(), solve),
         Some(search) => solve_rounds(batch, budget, states, solve, search),
     }
-}
-
-/// The same in room of its own, for want of which `Memory` comes before the first unit, and where the budget has more than
-/// 199,000 units.
-pub fn solve_unjudged<N: Exact>(
-    alloc: Global,
-    batch: &Batch,
-    budget: &mut Budget,
-) -> Result<Joint<N>, Stop>
-    requires limits { IsWithinLimits batch.now }
-    ensures run { IsJointAnswer N.fraction (unjudged_run
-        (limits_of (unsigned_abs N.LIMIT) budget.old.limit) batch.now.underlyings
-        batch.now.orders budget.old.spent) result budget.new.spent }
-    ensures joint { IfOk result (IsJointOf batch.now) }
-    ensures limit { budget.new.limit ≡ budget.old.limit }
-{
-    if budget.limit > MAX_UNITS {
-        return Err(Stop::Memory);
-    }
-    let room = JointRoom::new(alloc, batch, budget.limit)?;
-    Ok(solve_unjudged_in(batch, budget, room)?)
 }
 
 /// The fills of the batch with the greatest surplus, in ticks, and the certificate that shows it: the reference run, in given
@@ -96,7 +75,8 @@ pub fn solve_joint_in<N: Exact>(
     certify(batch, joint, budget.spent, sums)
 }
 
-/// The same in room of its own, for want of which `Memory` comes as at `solve_unjudged`.
+/// The same in room of its own, for want of which `Memory` comes before the first unit, and where the budget has more than
+/// 199,000 units.
 pub fn solve_joint<N: Exact>(
     alloc: Global,
     batch: &Batch,

@@ -10,7 +10,7 @@ use Rattle.form.specs.Vector.{IsState}
 use Rattle.master_program.specs.Master.{zero_prices}
 use Rattle.master_program.specs.Reading.{Reading}
 use Rattle.master_program.proofs.Solves.{solves_are_certified}
-use Rattle.master_program.proofs.WithinSizes.{solves_are_lowest}
+use Rattle.master_program.proofs.Lowest.{solves_are_lowest}
 use Rattle.node_program.specs.Search.{Found, closed, found, search}
 use Rattle.node_program.specs.Rounds.{axes, axis_rays, Limits, Cleared, question_of, on_search, rounds_from, rounds}
 use Rattle.node_program.proofs.Wider.{next_round, next_search, solve_at}

@@ -26,18 +26,18 @@ pub fn payout(side: &Side, fill: &Frac128, bundle: &Bundle, prices: &[u32]) -> i
 {
     let worth = worth_at(bundle, prices);
     match side {
-        Side::Buy => share(fill, worth),
-        Side::Sell => share(fill, -worth),
+        Side::Buy => floor_of_product(fill, worth),
+        Side::Sell => floor_of_product(fill, -worth),
     }
 }
 
 /// The fill times the ticks, rounded down.
-fn share(fill: &Frac128, ticks: i128) -> i64
+fn floor_of_product(fill: &Frac128, ticks: i128) -> i64
     requires not_below_zero { pos 0 ≤ℤ (fraction_of fill.now).numerator }
     requires small { unsigned_abs ticks ≤ limit }
     requires few { AtMost (plain_product (fraction_of fill.now) (whole (pos (unsigned_abs ticks))))
         (whole (pos MAX_GAIN)) }
-    ensures share { result ≡ floor_of ((fraction_of fill.now).numerator *ℤ ticks)
+    ensures product { result ≡ floor_of ((fraction_of fill.now).numerator *ℤ ticks)
         (fraction_of fill.now).denominator }
     ensures fits { unsigned_abs result ≤ MAX_GAIN }
 {

@@ -22,7 +22,7 @@ use Rattle.sign_tree.specs.declared.trees.TreeVerdict.TheVariants.{Closed, Open}
 use Rattle.sign_tree.specs.Read.{node_of, placed_of}
 use Rattle.sign_tree.specs.Walk.{fraction_legs, closes_of}
 use Rattle.sign_tree.specs.Verdict.{tree_verdict}
-use Rattle.sign_tree.specs.Laws.{IsClosedOver, IsEnough}
+use Rattle.sign_tree.specs.Laws.{IsClosedOver, IsEnoughByTree}
 use Rattle.sign_tree.proofs.Sound.{walks_close_trees}
 use Rattle.sign_tree.proofs.Refuted.{open_walks_close_no_tree}
 
@@ -50,7 +50,7 @@ closed_over batch fills L tree v len is least closed =
     walks_close_trees limit batch.underlyings batch.orders (map fraction_of fills) (fraction_of L) (map node_of tree.nodes) (map placed_of tree.multipliers)
     (length-map fills fraction_of ∙ len) (lowest_of fills) least L.lowest (multipliers_lowest tree.multipliers) (closed_is (walk_of batch fills L tree) (sym is ∙ closed))
 
-pub enough_over : (batch : Batch) (fills : List Frac128) (L : Frac128) (tree : SignTree) → IsClosedOver batch fills L tree → IsEnough batch fills L tree
+pub enough_over : (batch : Batch) (fills : List Frac128) (L : Frac128) (tree : SignTree) → IsClosedOver batch fills L tree → IsEnoughByTree batch fills L tree
 enough_over batch fills L tree c =
     let fs = map fraction_of fills in
     let Q : List PlacedMultiplier → Type 0 =

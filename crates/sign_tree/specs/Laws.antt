@@ -20,8 +20,8 @@ IsClosedOver batch fills L tree =
     ClosesAsWritten batch.underlyings batch.orders (map fraction_of fills) (fraction_of L) (map node_of tree.nodes) (map placed_of tree.multipliers)
 
 -- over one denominator of all these fractions: the net of the fills is at most the liability at each settlement and each ray
-abbrev pub IsEnough : Batch → List Frac128 → Frac128 → SignTree → Type 0
-IsEnough batch fills L tree =
+abbrev pub IsEnoughByTree : Batch → List Frac128 → Frac128 → SignTree → Type 0
+IsEnoughByTree batch fills L tree =
     let fs = map fraction_of fills in
     let D = common_denominator (fraction_of L ∷ (fs ++ map by_of (map placed_of tree.multipliers))) in
     HoldsAtEachState batch.underlyings (filled_over D batch.orders fs) (amount_over D (fraction_of L))

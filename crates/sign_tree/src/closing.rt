@@ -8,7 +8,7 @@ ghost use Rattle.form.specs.Limits.{HasItsForms};
 ghost use Rattle.clearing_model.specs.Written.{LeafNode, SplitNode};
 ghost use Rattle.sign_tree.specs.declared.closing.TheConstants.{MAX_SIGNS};
 ghost use Rattle.sign_tree.specs.declared.trees.TreeVerdict.TheVariants.{Closed, Open};
-ghost use Rattle.sign_tree.specs.Laws.{IsClosedOver, IsEnough};
+ghost use Rattle.sign_tree.specs.Laws.{IsClosedOver, IsEnoughByTree};
 ghost use Rattle.exact_num.specs.Fraction.{IsNotBelowZero};
 ghost use Rattle.sign_tree.specs.Legs.{leg_count};
 ghost use Rattle.sign_tree.specs.Left.{batch_legs};
@@ -64,7 +64,7 @@ pub fn closes(
     ensures closed { All IsNotBelowZero (map fraction_of fills.now) → result ≡ Closed
         → IsClosedOver batch.now fills.now liability.now tree.now }
     ensures enough { All IsNotBelowZero (map fraction_of fills.now) → result ≡ Closed
-        → IsEnough batch.now fills.now liability.now tree.now }
+        → IsEnoughByTree batch.now fills.now liability.now tree.now }
     ensures refuted { All IsNotBelowZero (map fraction_of fills.now) → result ≡ Open
         → IsClosedOver batch.now fills.now liability.now tree.now → ⊥ }
 {
@@ -212,7 +212,8 @@ fn leaf<'a>(
 fn split_index(orders: &[Order], fills: &[Frac128], signs: &[i8], place: u32) -> Option<usize>
     requires { length fills.now ≡ length orders.now }
     ensures { MatchOption result
-        (may_split (batch_legs fraction_of orders.now fills.now) (map sign_of signs.now) place ≡ false)
+        (may_split (batch_legs fraction_of orders.now fills.now) (map sign_of signs.now) place
+        ≡ false)
         (IsSplit (batch_legs fraction_of orders.now fills.now) signs.now place) }
 {
     let place = place as usize;

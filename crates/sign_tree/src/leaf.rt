@@ -44,8 +44,8 @@ fn places_rise(multipliers: &[Multiplier]) -> bool
 /// Whether a leg that is short or has a sign stands at the multiplier's place.
 fn may_carry(orders: &[Order], fills: &[Frac128], signs: &[i8], multiplier: &Multiplier) -> bool
     requires { length fills.now ≡ length orders.now }
-    ensures { result ≡ may_carry (batch_legs fraction_of orders.now fills.now) (map sign_of signs.now)
-        (placed_of multiplier.now) }
+    ensures { result ≡ may_carry (batch_legs fraction_of orders.now fills.now)
+        (map sign_of signs.now) (placed_of multiplier.now) }
 {
     let place = multiplier.place as usize;
     if place == 0 || place > signs.len() {
@@ -99,8 +99,8 @@ fn have_no_minus(multipliers: &[Multiplier]) -> bool
 /// Whether the places of the multipliers rise, each may stand there, and none is below 0.
 fn are_placed(orders: &[Order], fills: &[Frac128], signs: &[i8], multipliers: &[Multiplier]) -> bool
     requires { length fills.now ≡ length orders.now }
-    ensures { result ≡ are_placed (batch_legs fraction_of orders.now fills.now) (map sign_of signs.now)
-        (map placed_of multipliers.now) }
+    ensures { result ≡ are_placed (batch_legs fraction_of orders.now fills.now)
+        (map sign_of signs.now) (map placed_of multipliers.now) }
 {
     places_rise(multipliers)
         && may_all_carry(orders, fills, signs, multipliers)
@@ -109,8 +109,8 @@ fn are_placed(orders: &[Order], fills: &[Frac128], signs: &[i8], multipliers: &[
 
 /// Whether the multiplier is at most the leg's fill, where the leg is short.
 fn is_within(leg: BatchLeg<Frac128>, by: Frac128) -> Result<bool, Wide>
-    ensures { result ≡ is_within limit (exposure_as leg.entry.exposure) (leg_as fraction_of leg.entry)
-        (fraction_of by) }
+    ensures { result ≡ is_within limit (exposure_as leg.entry.exposure)
+        (leg_as fraction_of leg.entry) (fraction_of by) }
 {
     match leg.exposure {
         Exposure::Long => Ok(true),
@@ -220,8 +220,8 @@ fn add_term(
     x: i64,
 ) -> Result<Frac128, Wide>
     ensures { meaning fraction_of result ≡ add_term limit (fraction_of total)
-        (exposure_as leg.entry.exposure) (sign_of sign) (leg_fill limit (leg_as fraction_of leg.entry))
-        (fraction_of by) x }
+        (exposure_as leg.entry.exposure) (sign_of sign)
+        (leg_fill limit (leg_as fraction_of leg.entry)) (fraction_of by) x }
 {
     match leg.exposure {
         Exposure::Long if sign == 0 => plus_filled(total, leg, x.max(0)),
@@ -292,7 +292,8 @@ fn entry_sum(
 ) -> Result<Frac128, Wide>
     requires fills { length fills.now ≡ length orders.now }
     requires entry { i < 9 }
-    ensures { meaning fraction_of result ≡ entry_sum limit (batch_legs fraction_of orders.now fills.now)
+    ensures { meaning fraction_of result ≡ entry_sum limit
+        (batch_legs fraction_of orders.now fills.now)
         (fraction_of liability.now) (map sign_of signs.now) (map placed_of multipliers.now) i }
 {
     let total = add_legs(orders, fills, signs, multipliers, i)?;

@@ -3,7 +3,7 @@ use Rattle.std.proofs.Common.{◌≡◌, ℕ, zero, suc, ◌<◌, ◌≤◌, ari
 use Rattle.std.proofs.Math.Decide.{ℕ_discrete}
 use Rattle.std.proofs.lemmas.Bool.{cases_lt}
 use Rattle.std.proofs.lemmas.Int.{ints, by_lt_z}
-use Rattle.table_run.specs.Tableau.{ratio, IsBlandTurn, Tableau, IsFeasible, IsPivot, IsAfterPivot, HaveSameSolutions, row_at}
+use Rattle.table_run.specs.Tableau.{ratio, IsBlandTurn, Tableau, IsFeasible, HaveSameSolutions, row_at}
 use Rattle.exact_num.proofs.Rationals.{zero_add_Q, mul_0, zero_mul_Q, mul_1, one_mul_Q, add_comm, neg_add, neg_0, neg_neg, mul_neg, neg_mul, mul_assoc_Q, mul_comm_Q, mul_inv, add_cancel, add_not_below, mul_not_below, inv_not_below, neg_not_below, above_is_not_zero, zero_has, zero_not_below, at_most_of_sum, at_most_refl, at_most_trans, at_most_antisymm, not_below_out, neg_Q_is, itself_is}
 use Rattle.exact_num.specs.Rationals.{Q, ◌+Q◌, ◌*Q◌, neg_Q, inv_Q, 0Q, 1Q, IsNotBelow0, IsAbove0, IsAtMost, total, unit, spread}
 use Rattle.exact_num.proofs.Totals.{total-ext, total-zero, total-neg, total-unit, unit-same, unit-other, spread-other}

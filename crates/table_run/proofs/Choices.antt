@@ -14,9 +14,9 @@ use Rattle.exact_num.proofs.Rationals.{quotient_step, at_most_refl, at_most_tran
 use Rattle.exact_num.specs.Rationals.{Q, ◌*Q◌, inv_Q, value, IsAtMost, IsAbove0, IsBelow0}
 use Rattle.table_run.specs.Places.{at}
 use Rattle.table_run.specs.Table.{Row, Table, entries_at, right_side, basic_at}
-use Rattle.table_run.specs.Choice.{Ratio, first_below, entering, ratio_in, ratios, joined, lesser, least, by_order}
+use Rattle.table_run.specs.Choice.{Ratio, first_below, entering, ratio_in, ratios, join_ratio, lesser, least, by_order}
 use Rattle.exact_num.specs.Tests.{is_below_zero, is_above_zero}
-use Rattle.table_run.specs.Pivot.{pivoted}
+use Rattle.table_run.specs.Pivot.{after_pivot}
 use Rattle.table_run.specs.Run.{turn, moved, unlimited, moved_or_stopped, on_ratios, leave}
 use Rattle.table_run.specs.Tableau.{IsPivot, tableau_of}
 use Rattle.table_run.proofs.Entries.{IsTable, by_first}
@@ -109,7 +109,7 @@ ratios_out limit columns e i [] qs low h =
 ratios_out limit columns e i (row ∷ rows) qs low h =
     let a = after_value (ratio_in limit columns e row.entries) _ qs h in
     let b = after_value (ratios limit columns e (i + 1) rows) _ qs a.rest in
-    let is_qs : joined i row.basic a.value b.value ≡ qs = cc in
+    let is_qs : join_ratio i row.basic a.value b.value ≡ qs = cc in
     let later = ratios_out limit columns e (i + 1) rows b.value (λ k j. low (suc k) j) b.first in
     subst (λ w. AreRatios columns e i (row ∷ rows) w) is_qs (join a.value b.value later (ratio_out limit columns e row.entries a.value (low 0) a.first))
   where
@@ -118,16 +118,16 @@ ratios_out limit columns e i (row ∷ rows) qs low h =
 
     join : (o : Option Fraction) (rs : List Ratio) → AreRatios columns e (i + 1) rows rs
         → (((pos 0 <ℤ (at row.entries e).numerator) → ⊥) × (o ≡ None)) ⊎ ((q : Fraction) × (o ≡ Some q) × (pos 0 <ℤ (at row.entries e).numerator) × IsLowest q × (value q ≡ value (at row.entries columns) *Q inv_Q (value (at row.entries e))))
-        → AreRatios columns e i (row ∷ rows) (joined i row.basic o rs)
+        → AreRatios columns e i (row ∷ rows) (join_ratio i row.basic o rs)
     join o rs later (inl w) =
-        subst (λ o. AreRatios columns e i (row ∷ rows) (joined i row.basic o rs)) (sym w.1)
+        subst (λ o. AreRatios columns e i (row ∷ rows) (join_ratio i row.basic o rs)) (sym w.1)
         (record {
           each_is = λ q h. shift q (later.each_is q h);
           each_has = by_first _ (λ p above. absurd (w.0 above)) (λ k p above. let r = later.each_has k (omega (arith, p)) above in (r.0, r.1, r.2 ∙ omega arith, r.3, r.4, r.5));
         })
     join o rs later (inr w) =
         let first : Ratio = record { place = i; basic = row.basic; value = w.0 } in
-        subst (λ o. AreRatios columns e i (row ∷ rows) (joined i row.basic o rs)) (sym w.1)
+        subst (λ o. AreRatios columns e i (row ∷ rows) (join_ratio i row.basic o rs)) (sym w.1)
         (record {
           each_is = λ q h. elim h [
             | inl is_first ↦ subst (λ q. IsRatio columns e i (row ∷ rows) q) (sym is_first) (record { row = 0; place = omega arith; inside = omega arith; basic = refl; above = w.2; lowest = w.3; is_value = w.4 })
@@ -230,7 +230,7 @@ least_limits limit columns e rows q qs low h =
     (omega (arith, is_row, best.inside), subst (λ r. pos 0 <ℤ (at (entries_at rows r) e).numerator) (sym is_row) best.above)
 
 -- ---- what a turn says
-pub moved_out : (limit e : ℕ) (t u : Table) → turn limit e t ≡ moved u → (q : Ratio) × (qs : List Ratio) × (ratios limit t.columns e 0 t.rows ≡ Ok (q ∷ qs)) × (pivoted limit e (least q qs).place t ≡ Ok u)
+pub moved_out : (limit e : ℕ) (t u : Table) → turn limit e t ≡ moved u → (q : Ratio) × (qs : List Ratio) × (ratios limit t.columns e 0 t.rows ≡ Ok (q ∷ qs)) × (after_pivot limit e (least q qs).place t ≡ Ok u)
 unfolding turn
 moved_out limit e t u h = step (ratios limit t.columns e 0 t.rows) refl h
   where
@@ -238,7 +238,7 @@ moved_out limit e t u h = step (ratios limit t.columns e 0 t.rows) refl h
     moved_ok (Ok next) k = cc
     moved_ok (Err w) k = cc
 
-    step : (r : Result (List Ratio) Wide) → ratios limit t.columns e 0 t.rows ≡ r → on_ratios r (λ qs. leave limit e t qs) ≡ moved u → (q : Ratio) × (qs : List Ratio) × (ratios limit t.columns e 0 t.rows ≡ Ok (q ∷ qs)) × (pivoted limit e (least q qs).place t ≡ Ok u)
+    step : (r : Result (List Ratio) Wide) → ratios limit t.columns e 0 t.rows ≡ r → on_ratios r (λ qs. leave limit e t qs) ≡ moved u → (q : Ratio) × (qs : List Ratio) × (ratios limit t.columns e 0 t.rows ≡ Ok (q ∷ qs)) × (after_pivot limit e (least q qs).place t ≡ Ok u)
     step (Ok []) f k = cc
     step (Ok (q ∷ qs)) f k = (q, qs, f, moved_ok _ k)
     step (Err w) f k = cc

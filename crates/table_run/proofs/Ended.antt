@@ -8,9 +8,9 @@ use Rattle.exact_num.specs.Fits.{size_fits, sum_fits, sum_value, add_of, sub_of,
 use Rattle.table_run.specs.Places.{at}
 use Rattle.table_run.specs.Program.{LinearProgram}
 use Rattle.table_run.specs.Table.{Row, Table, entries_at, first_table, right_side, row_of}
-use Rattle.table_run.specs.Choice.{entering, ratio_in, ratios, least, joined}
+use Rattle.table_run.specs.Choice.{entering, ratio_in, ratios, least, join_ratio}
 use Rattle.exact_num.specs.Tests.{is_above_zero}
-use Rattle.table_run.specs.Pivot.{each, each_pair, divided, less_product, cleared, row_after, rows_after, pivoted}
+use Rattle.table_run.specs.Pivot.{each, each_pair, over_pivot, less_product, less_pivot_row, row_after, rows_after, after_pivot}
 use Rattle.table_run.specs.Ending.{Ending, done, unbounded, wide_at, no_unit_left, HasNoMisfit}
 use Rattle.table_run.specs.Run.{Optimum, optimum, Turn, moved, unlimited, stopped, turn, run, run_from, on_entering, on_turn, read_off, direction}
 use Rattle.table_run.specs.Optimum.{IsProgram}
@@ -88,16 +88,16 @@ pair_fits f (x ∷ xs) (p ∷ ps) =
     (after_fits (λ l. mul_of l f p) (λ l product. sub_of l x product) (mul_fits f p) (λ product. add_fits x (negated product)))
     (λ y. after_fits (λ l. each_pair (less_product l f) xs ps) (λ l ys. Ok (y ∷ ys)) (pair_fits f xs ps) (λ ys. ok_fits (y ∷ ys)))
 
-cleared_fits : (e : ℕ) (pivot xs : List Fraction) → Fits (λ l. cleared l e pivot xs)
-unfolding cleared
+cleared_fits : (e : ℕ) (pivot xs : List Fraction) → Fits (λ l. less_pivot_row l e pivot xs)
+unfolding less_pivot_row
 cleared_fits e pivot xs = pair_fits (at xs e) xs pivot
 
 row_fits : (e r : ℕ) (pivot : List Fraction) (i : ℕ) (row : Row) → Fits (λ l. row_after l e r pivot i row)
 row_fits e r pivot i row = step (nat_eq i r)
   where
-    step : (b : Bool) → Fits (λ l. if b then Ok (row_of e pivot) else after (cleared l e pivot row.entries) (λ es. Ok (row_of row.basic es)))
+    step : (b : Bool) → Fits (λ l. if b then Ok (row_of e pivot) else after (less_pivot_row l e pivot row.entries) (λ es. Ok (row_of row.basic es)))
     step true = ok_fits (row_of e pivot)
-    step false = after_fits (λ l. cleared l e pivot row.entries) (λ l es. Ok (row_of row.basic es)) (cleared_fits e pivot row.entries) (λ es. ok_fits (row_of row.basic es))
+    step false = after_fits (λ l. less_pivot_row l e pivot row.entries) (λ l es. Ok (row_of row.basic es)) (cleared_fits e pivot row.entries) (λ es. ok_fits (row_of row.basic es))
 
 rows_after_fits : (e r : ℕ) (pivot : List Fraction) (i : ℕ) (rows : List Row) → Fits (λ l. rows_after l e r pivot i rows)
 unfolding rows_after
@@ -106,16 +106,16 @@ rows_after_fits e r pivot i (row ∷ rows) =
     after_fits (λ l. row_after l e r pivot i row) (λ l first. after (rows_after l e r pivot (i + 1) rows) (λ others. Ok (first ∷ others))) (row_fits e r pivot i row)
     (λ first. after_fits (λ l. rows_after l e r pivot (i + 1) rows) (λ l others. Ok (first ∷ others)) (rows_after_fits e r pivot (i + 1) rows) (λ others. ok_fits (first ∷ others)))
 
-divided_fits : (e : ℕ) (entries : List Fraction) → Fits (λ l. divided l e entries)
-unfolding divided
+divided_fits : (e : ℕ) (entries : List Fraction) → Fits (λ l. over_pivot l e entries)
+unfolding over_pivot
 divided_fits e entries = each_fits (at entries e) entries
 
-pivoted_fits : (e r : ℕ) (t : Table) → Fits (λ l. pivoted l e r t)
-unfolding pivoted
+pivoted_fits : (e r : ℕ) (t : Table) → Fits (λ l. after_pivot l e r t)
+unfolding after_pivot
 pivoted_fits e r t =
-    after_fits (λ l. divided l e (entries_at t.rows r)) (λ l pivot. after (rows_after l e r pivot 0 t.rows) (λ rows. after (cleared l e pivot t.objective) (λ objective. Ok (record { columns = t.columns; rows = rows; objective = objective })))) (divided_fits e (entries_at t.rows r))
-    (λ pivot. after_fits (λ l. rows_after l e r pivot 0 t.rows) (λ l rows. after (cleared l e pivot t.objective) (λ objective. Ok (record { columns = t.columns; rows = rows; objective = objective }))) (rows_after_fits e r pivot 0 t.rows)
-    (λ rows. after_fits (λ l. cleared l e pivot t.objective) (λ l objective. Ok (record { columns = t.columns; rows = rows; objective = objective })) (cleared_fits e pivot t.objective) (λ objective. ok_fits (record { columns = t.columns; rows = rows; objective = objective }))))
+    after_fits (λ l. over_pivot l e (entries_at t.rows r)) (λ l pivot. after (rows_after l e r pivot 0 t.rows) (λ rows. after (less_pivot_row l e pivot t.objective) (λ objective. Ok (record { columns = t.columns; rows = rows; objective = objective })))) (divided_fits e (entries_at t.rows r))
+    (λ pivot. after_fits (λ l. rows_after l e r pivot 0 t.rows) (λ l rows. after (less_pivot_row l e pivot t.objective) (λ objective. Ok (record { columns = t.columns; rows = rows; objective = objective }))) (rows_after_fits e r pivot 0 t.rows)
+    (λ rows. after_fits (λ l. less_pivot_row l e pivot t.objective) (λ l objective. Ok (record { columns = t.columns; rows = rows; objective = objective })) (cleared_fits e pivot t.objective) (λ objective. ok_fits (record { columns = t.columns; rows = rows; objective = objective }))))
 
 ratio_fits : (columns e : ℕ) (entries : List Fraction) → Fits (λ l. ratio_in l columns e entries)
 unfolding ratio_in
@@ -129,8 +129,8 @@ ratios_fits : (columns e i : ℕ) (rows : List Row) → Fits (λ l. ratios l col
 unfolding ratios
 ratios_fits columns e i [] = ok_fits []
 ratios_fits columns e i (row ∷ rows) =
-    after_fits (λ l. ratio_in l columns e row.entries) (λ l q. after (ratios l columns e (i + 1) rows) (λ qs. Ok (joined i row.basic q qs))) (ratio_fits columns e row.entries)
-    (λ q. after_fits (λ l. ratios l columns e (i + 1) rows) (λ l qs. Ok (joined i row.basic q qs)) (ratios_fits columns e (i + 1) rows) (λ qs. ok_fits (joined i row.basic q qs)))
+    after_fits (λ l. ratio_in l columns e row.entries) (λ l q. after (ratios l columns e (i + 1) rows) (λ qs. Ok (join_ratio i row.basic q qs))) (ratio_fits columns e row.entries)
+    (λ q. after_fits (λ l. ratios l columns e (i + 1) rows) (λ l qs. Ok (join_ratio i row.basic q qs)) (ratios_fits columns e (i + 1) rows) (λ qs. ok_fits (join_ratio i row.basic q qs)))
 
 abbrev Goes : Turn → Type 0
 Goes (moved u) = Unit {0}

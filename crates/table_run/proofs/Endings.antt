@@ -3,7 +3,7 @@ use Rattle.std.proofs.Common.{◌≡◌, ℕ, List, refl, ap, sym, ◌∙◌}
 use Rattle.std.specs.Prelude.{Result, Ok, Err}
 use Rattle.exact_num.specs.declared.misfit.Wide.{Wide}
 use Rattle.exact_num.specs.Fraction.{Fraction}
-use Rattle.table_run.specs.Ending.{Ending, done, unbounded, wide_at, no_unit_left, on_answer, on_steps, where_fits, HasNoMisfit}
+use Rattle.table_run.specs.Ending.{Ending, done, unbounded, wide_at, no_unit_left, on_answer, on_steps, where_fits, HasNoMisfit, EndsBy}
 
 -- ---- a whole that is done
 pub record DoneAfter (A B : Type 0) (e : Ending A) (next : A → ℕ → Ending B) (b : B) (units : ℕ) : Type 0 where
@@ -45,13 +45,25 @@ where_fits-done {A} e steps a units h =
     let ended : A → Ending A = λ b. done b whole.spent in
     record { spent = whole.spent; first = whole.first ∙ ap ended same; value = tested.value; fits = ap steps (sym same) ∙ tested.first }
 
--- ---- what each answer is
+-- ---- what each end is
+pub on_answer-by : {A B : Type 0} (P : A → ℕ → Type 0) (Q : B → ℕ → Type 0) (U : Type 0) (M : Wide → ℕ → Type 0) (e : Ending A) (next : A → ℕ → Ending B)
+    → EndsBy P U M e → ((a : A) (s : ℕ) → P a s → EndsBy Q U M (next a s)) → EndsBy Q U M (on_answer e next)
+on_answer-by P Q U M (done a s) next h f = f a s h
+on_answer-by P Q U M (unbounded d s) next h f = h
+on_answer-by P Q U M (wide_at s w) next h f = h
+on_answer-by P Q U M (no_unit_left s) next h f = tt
+
+pub on_steps-by : {A B : Type 0} (Q : B → ℕ → Type 0) (U : Type 0) (M : Wide → ℕ → Type 0) (spent : ℕ) (r : Result A Wide) (next : A → Ending B)
+    → ((w : Wide) → r ≡ Err w → M w spent) → ((a : A) → r ≡ Ok a → EndsBy Q U M (next a)) → EndsBy Q U M (on_steps spent r next)
+on_steps-by Q U M spent (Ok a) next misfits f = f a refl
+on_steps-by Q U M spent (Err w) next misfits f = misfits w refl
+
 -- it ends with an answer of which P holds, or with none: but never unbounded
+abbrev Anything : Wide → ℕ → Type 0
+Anything w s = Unit {0}
+
 abbrev pub EndsWith : {A : Type 0} → (A → ℕ → Type 0) → Ending A → Type 0
-EndsWith P (done a s) = P a s
-EndsWith P (unbounded d s) = ⊥
-EndsWith P (wide_at s w) = Unit {0}
-EndsWith P (no_unit_left s) = Unit {0}
+EndsWith P e = EndsBy P ⊥ Anything e
 
 pub ends_with : {A : Type 0} (P : A → ℕ → Type 0) (e : Ending A) → ((a : A) (s : ℕ) → e ≡ done a s → P a s) → ((d : List Fraction) (s : ℕ) → e ≡ unbounded d s → ⊥) → EndsWith P e
 ends_with P (done a s) h never = h a s refl
@@ -60,14 +72,10 @@ ends_with P (wide_at s w) h never = tt
 ends_with P (no_unit_left s) h never = tt
 
 pub on_answer-ends : {A B : Type 0} (P : A → ℕ → Type 0) (Q : B → ℕ → Type 0) (e : Ending A) (next : A → ℕ → Ending B) → EndsWith P e → ((a : A) (s : ℕ) → P a s → EndsWith Q (next a s)) → EndsWith Q (on_answer e next)
-on_answer-ends P Q (done a s) next h f = f a s h
-on_answer-ends P Q (unbounded d s) next h f = absurd h
-on_answer-ends P Q (wide_at s w) next h f = tt
-on_answer-ends P Q (no_unit_left s) next h f = tt
+on_answer-ends P Q e next h f = on_answer-by P Q ⊥ Anything e next h f
 
 pub on_steps-ends : {A B : Type 0} (Q : B → ℕ → Type 0) (spent : ℕ) (r : Result A Wide) (next : A → Ending B) → ((a : A) → r ≡ Ok a → EndsWith Q (next a)) → EndsWith Q (on_steps spent r next)
-on_steps-ends Q spent (Ok a) next f = f a refl
-on_steps-ends Q spent (Err w) next f = tt
+on_steps-ends Q spent r next f = on_steps-by Q ⊥ Anything spent r next (λ w is. tt) f
 
 pub where_fits-ends : {A B : Type 0} (P : A → ℕ → Type 0) (e : Ending A) (steps : A → Result B Wide) → EndsWith P e → EndsWith P (on_answer e (where_fits steps))
 where_fits-ends P e steps h = on_answer-ends P P e (where_fits steps) h (λ a s here. on_steps-ends P s (steps a) (λ b. done a s) (λ b fits. here))

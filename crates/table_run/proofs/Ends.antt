@@ -11,7 +11,7 @@ use Rattle.exact_num.proofs.Values.{whole_is_lowest}
 use Rattle.exact_num.proofs.Rationals.{value_zero, add_0, zero_add_Q, zero_mul_Q, one_mul_Q, one_not_zero}
 use Rattle.exact_num.specs.Rationals.{Q, ◌+Q◌, ◌*Q◌, value, total, unit}
 use Rattle.exact_num.proofs.Totals.{total-zero, total-front, unit-same, unit-other}
-use Rattle.table_run.specs.Places.{at, listed}
+use Rattle.table_run.specs.Places.{at}
 use Rattle.table_run.specs.Table.{Row, Table, entries_at, where_basic, basic_at}
 use Rattle.table_run.specs.Choice.{entering}
 use Rattle.table_run.specs.Ending.{Ending, unbounded, wide_at, no_unit_left}
@@ -42,21 +42,6 @@ run_keeps P E limit n m kept ends rays stops outs (suc left) spent t p = step (e
     step : (o : Option ℕ) → entering t ≡ o → ((u : Table) → P u → E (run_from limit n m left (spent + 1) u)) → E (on_entering o (read_off n m t spent) (λ e. on_turn (turn limit e t) (λ next. run_from limit n m left (spent + 1) next) (unbounded (direction n e t) (spent + 1)) (λ w. wide_at (spent + 1) w)))
     step None h later = ends t spent p h
     step (Some e) h later = act e h later (turn limit e t) refl
-
--- ---- lists of values
-pub listed_count : (f : ℕ → Fraction) (i n : ℕ) → length (listed f i n) ≡ n
-unfolding listed
-listed_count f i zero = refl
-listed_count f i (suc n) = ap suc (listed_count f (i + 1) n)
-
-pub listed_from : (f : ℕ → Fraction) (i n j : ℕ) → j < n → at (listed f i n) j ≡ f (i + j)
-unfolding listed
-listed_from f i zero j h = absurd (omega (arith, h))
-listed_from f i (suc n) zero h = let e : i + 0 ≡ i = omega arith in ap f (sym e)
-listed_from f i (suc n) (suc j) h = let e : i + 1 + j ≡ i + suc j = omega arith in listed_from f (i + 1) n j (omega (arith, h)) ∙ ap f e
-
-pub listed_at : (f : ℕ → Fraction) (n j : ℕ) → j < n → at (listed f 0 n) j ≡ f j
-listed_at f n j h = let e : 0 + j ≡ j = omega arith in listed_from f 0 n j h ∙ ap f e
 
 -- what holds of the items of a list and of 0
 pub holds_at : (P : Fraction → Type 0) (xs : List Fraction) → P (whole (pos 0)) → ((j : ℕ) → j < length xs → P (at xs j)) → (j : ℕ) → P (at xs j)

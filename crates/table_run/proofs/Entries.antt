@@ -1,11 +1,11 @@
 -- The lists of a table as functions, and a turn of them that fits.
 use Rattle.std.proofs.Common.{◌≡◌, ◌≢◌, ℕ, zero, suc, ◌+◌, ◌<◌, ◌≤◌, List, [], ◌∷◌, length, inl, inr, arith, refl, sym, ◌∙◌, ap, subst, pos, Bool, true, false, nat_eq}
-use Rattle.std.specs.Prelude.{Result, Ok, Err, if◌then◌else◌}
+use Rattle.std.specs.Prelude.{Result, Ok, if◌then◌else◌}
 use Rattle.std.proofs.lemmas.List.{get_or_past}
 use Rattle.std.proofs.Math.Decide.{ℕ_discrete}
 use Rattle.std.proofs.lemmas.Bool.{cases_lt}
 use Rattle.std.proofs.lemmas.Bool.Decides.{nat_tests}
-use Rattle.table_run.specs.Tableau.{tableau_of, Tableau, IsAfterPivot}
+use Rattle.table_run.specs.Tableau.{tableau_of, IsAfterPivot}
 use Rattle.exact_num.specs.declared.misfit.Wide.{Wide}
 use Rattle.exact_num.specs.Fraction.{Fraction, IsLowest, whole}
 use Rattle.exact_num.specs.Fits.{mul_of, sub_of, div_of, after}
@@ -15,7 +15,7 @@ use Rattle.exact_num.proofs.Rationals.{difference_step, product_step, quotient_s
 use Rattle.exact_num.specs.Rationals.{◌+Q◌, ◌*Q◌, neg_Q, inv_Q, value}
 use Rattle.table_run.specs.Places.{at}
 use Rattle.table_run.specs.Table.{Row, Table, basic_at, entries_at, row_of}
-use Rattle.table_run.specs.Pivot.{each, each_pair, less_product, divided, cleared, row_after, rows_after, pivoted}
+use Rattle.table_run.specs.Pivot.{each, each_pair, less_product, over_pivot, less_pivot_row, row_after, rows_after, after_pivot}
 
 -- m rows and the objective row, of n + 1 fractions in lowest terms
 pub record IsTable (m n : ℕ) (t : Table) : Type 0 where
@@ -72,13 +72,13 @@ turned_out limit e r pivot i (row ∷ rows) us h =
     )
 
 -- a row after a turn
-row_after_out : (limit e r : ℕ) (pivot : List Fraction) (i : ℕ) (row u : Row) → row_after limit e r pivot i row ≡ Ok u → (i ≡ r → u ≡ row_of e pivot) × ((i ≡ r → ⊥) → (u.basic ≡ row.basic) × (cleared limit e pivot row.entries ≡ Ok u.entries))
+row_after_out : (limit e r : ℕ) (pivot : List Fraction) (i : ℕ) (row u : Row) → row_after limit e r pivot i row ≡ Ok u → (i ≡ r → u ≡ row_of e pivot) × ((i ≡ r → ⊥) → (u.basic ≡ row.basic) × (less_pivot_row limit e pivot row.entries ≡ Ok u.entries))
 row_after_out limit e r pivot i row u h = step (nat_eq i r) refl h
   where
-    step : (b : Bool) → nat_eq i r ≡ b → (if b then Ok (row_of e pivot) else after (cleared limit e pivot row.entries) (λ es. Ok (row_of row.basic es))) ≡ Ok u → (i ≡ r → u ≡ row_of e pivot) × ((i ≡ r → ⊥) → (u.basic ≡ row.basic) × (cleared limit e pivot row.entries ≡ Ok u.entries))
+    step : (b : Bool) → nat_eq i r ≡ b → (if b then Ok (row_of e pivot) else after (less_pivot_row limit e pivot row.entries) (λ es. Ok (row_of row.basic es))) ≡ Ok u → (i ≡ r → u ≡ row_of e pivot) × ((i ≡ r → ⊥) → (u.basic ≡ row.basic) × (less_pivot_row limit e pivot row.entries ≡ Ok u.entries))
     step true t k = (λ same. cc, λ ne. absurd (ne (grind (arith, nat_tests))))
     step false t k =
-        let a = after_value (cleared limit e pivot row.entries) _ u k in
+        let a = after_value (less_pivot_row limit e pivot row.entries) _ u k in
         let q : row_of row.basic a.value ≡ u = cc in
         (λ same. absurd (grind (arith, nat_tests)), λ ne. (sym (ap (λ (w : Row). w.basic) q), a.first ∙ ap Ok (ap (λ (w : Row). w.entries) q)))
 
@@ -103,31 +103,31 @@ less_step limit f x p y lf lx lp h =
     (s.0, s.1 ∙ ap (λ w. value x +Q neg_Q w) m.1)
 
 -- a row or the objective that is cleared
-pub cleared_out : (limit e n : ℕ) (pivot xs ys : List Fraction) → length xs ≡ suc n → length pivot ≡ suc n → ((j : ℕ) → IsLowest (at xs j)) → ((j : ℕ) → IsLowest (at pivot j)) → cleared limit e pivot xs ≡ Ok ys
+pub cleared_out : (limit e n : ℕ) (pivot xs ys : List Fraction) → length xs ≡ suc n → length pivot ≡ suc n → ((j : ℕ) → IsLowest (at xs j)) → ((j : ℕ) → IsLowest (at pivot j)) → less_pivot_row limit e pivot xs ≡ Ok ys
     → (length ys ≡ suc n) × ((j : ℕ) → IsLowest (at ys j)) × ((j : ℕ) → j ≤ n → value (at ys j) ≡ value (at xs j) +Q neg_Q (value (at xs e) *Q value (at pivot j)))
-unfolding cleared
+unfolding less_pivot_row
 cleared_out limit e n pivot xs ys wx wp lx lp h =
     let out = pair_out (less_product limit (at xs e)) xs pivot ys (wx ∙ sym wp) h in
     let step : (j : ℕ) → j < length xs → IsLowest (at ys j) × (value (at ys j) ≡ value (at xs j) +Q neg_Q (value (at xs e) *Q value (at pivot j))) = λ j p. less_step limit (at xs e) (at xs j) (at pivot j) (at ys j) (lx e) (lx j) (lp j) (out.1 j p) in
     (out.0 ∙ wx, lowest_all ys (λ j p. (step j (omega (arith, p, out.0))).0), λ j p. (step j (omega (arith, p, wx))).1)
 
 -- the pivot row
-pub divided_out : (limit e n : ℕ) (xs ys : List Fraction) → length xs ≡ suc n → ((j : ℕ) → IsLowest (at xs j)) → (at xs e).numerator ≢ pos 0 → divided limit e xs ≡ Ok ys
+pub divided_out : (limit e n : ℕ) (xs ys : List Fraction) → length xs ≡ suc n → ((j : ℕ) → IsLowest (at xs j)) → (at xs e).numerator ≢ pos 0 → over_pivot limit e xs ≡ Ok ys
     → (length ys ≡ suc n) × ((j : ℕ) → IsLowest (at ys j)) × ((j : ℕ) → j ≤ n → value (at ys j) ≡ value (at xs j) *Q inv_Q (value (at xs e)))
-unfolding divided
+unfolding over_pivot
 divided_out limit e n xs ys wx lx ne h =
     let out = each_out (λ x. div_of limit x (at xs e)) xs ys h in
     let step : (j : ℕ) → j < length xs → IsLowest (at ys j) × (value (at ys j) ≡ value (at xs j) *Q inv_Q (value (at xs e))) = λ j p. quotient_step limit (at xs j) (at xs e) (at ys j) (lx j) (lx e) ne (out.1 j p) in
     (out.0 ∙ wx, lowest_all ys (λ j p. (step j (omega (arith, p, out.0))).0), λ j p. (step j (omega (arith, p, wx))).1)
 
 -- the rows after a turn
-rows_out : (limit e r : ℕ) (pivot : List Fraction) (rows us : List Row) → rows_after limit e r pivot 0 rows ≡ Ok us → (length us ≡ length rows) × ((k : ℕ) → k < length rows → (k ≡ r → row_of (basic_at us k) (entries_at us k) ≡ row_of e pivot) × ((k ≡ r → ⊥) → (basic_at us k ≡ basic_at rows k) × (cleared limit e pivot (entries_at rows k) ≡ Ok (entries_at us k))))
+rows_out : (limit e r : ℕ) (pivot : List Fraction) (rows us : List Row) → rows_after limit e r pivot 0 rows ≡ Ok us → (length us ≡ length rows) × ((k : ℕ) → k < length rows → (k ≡ r → row_of (basic_at us k) (entries_at us k) ≡ row_of e pivot) × ((k ≡ r → ⊥) → (basic_at us k ≡ basic_at rows k) × (less_pivot_row limit e pivot (entries_at rows k) ≡ Ok (entries_at us k))))
 rows_out limit e r pivot rows us h =
     let q = turned_out limit e r pivot 0 rows us h in
     (q.0, λ k l. let zero : 0 + k ≡ k = omega arith in row_after_out limit e r pivot k (row_of (basic_at rows k) (entries_at rows k)) (row_of (basic_at us k) (entries_at us k)) (subst (λ w. row_after limit e r pivot w (row_of (basic_at rows k) (entries_at rows k)) ≡ Ok (row_of (basic_at us k) (entries_at us k))) zero (q.1 k l)))
 
 -- ---- a turn that fits
-turn_parts : (limit m n e r : ℕ) (t : Table) (pivot : List Fraction) (rows : List Row) (objective : List Fraction) → IsTable m n t → r < m → (at (entries_at t.rows r) e).numerator ≢ pos 0 → divided limit e (entries_at t.rows r) ≡ Ok pivot → rows_after limit e r pivot 0 t.rows ≡ Ok rows → cleared limit e pivot t.objective ≡ Ok objective
+turn_parts : (limit m n e r : ℕ) (t : Table) (pivot : List Fraction) (rows : List Row) (objective : List Fraction) → IsTable m n t → r < m → (at (entries_at t.rows r) e).numerator ≢ pos 0 → over_pivot limit e (entries_at t.rows r) ≡ Ok pivot → rows_after limit e r pivot 0 t.rows ≡ Ok rows → less_pivot_row limit e pivot t.objective ≡ Ok objective
     → IsTable m n (record { columns = t.columns; rows = rows; objective = objective }) × IsAfterPivot m n e r (tableau_of t) (tableau_of (record { columns = t.columns; rows = rows; objective = objective }))
 turn_parts limit m n e r t pivot rows objective g low ne is_pivot_row are_rows is_objective =
     let p = divided_out limit e n (entries_at t.rows r) pivot (g.widths r low) (g.lowest r) ne is_pivot_row in
@@ -162,11 +162,11 @@ turn_parts limit m n e r t pivot rows objective g low ne is_pivot_row are_rows i
       },
     )
 
-pub turn_out : (limit m n e r : ℕ) (t u : Table) → IsTable m n t → r < m → (at (entries_at t.rows r) e).numerator ≢ pos 0 → pivoted limit e r t ≡ Ok u → IsTable m n u × IsAfterPivot m n e r (tableau_of t) (tableau_of u)
-unfolding pivoted
+pub turn_out : (limit m n e r : ℕ) (t u : Table) → IsTable m n t → r < m → (at (entries_at t.rows r) e).numerator ≢ pos 0 → after_pivot limit e r t ≡ Ok u → IsTable m n u × IsAfterPivot m n e r (tableau_of t) (tableau_of u)
+unfolding after_pivot
 turn_out limit m n e r t u g low ne h =
-    let a = after_value (divided limit e (entries_at t.rows r)) _ u h in
+    let a = after_value (over_pivot limit e (entries_at t.rows r)) _ u h in
     let b = after_value (rows_after limit e r a.value 0 t.rows) _ u a.rest in
-    let c = after_value (cleared limit e a.value t.objective) _ u b.rest in
+    let c = after_value (less_pivot_row limit e a.value t.objective) _ u b.rest in
     let is_u : record { columns = t.columns; rows = b.value; objective = c.value } ≡ u = cc in
     subst (λ (w : Table). IsTable m n w × IsAfterPivot m n e r (tableau_of t) (tableau_of w)) is_u (turn_parts limit m n e r t a.value b.value c.value g low ne a.first b.first c.first)

@@ -11,9 +11,10 @@ use Rattle.exact_num.specs.Rationals.{neg_Q, 0Q, value, IsNotBelow0, unit}
 use Rattle.exact_num.proofs.Totals.{unit-same, unit-other}
 use Rattle.table_run.specs.Places.{at}
 use Rattle.table_run.specs.Program.{LinearProgram, row}
-use Rattle.table_run.specs.Table.{entries_at, unit_row, rows_from, first_table, basic_at}
+use Rattle.table_run.specs.Table.{entries_at, unit_row, first_row, rows_from, first_table, basic_at}
 use Rattle.table_run.specs.Optimum.{IsProgram}
 use Rattle.table_run.proofs.Entries.{IsTable, no_row}
+use Rattle.table_run.proofs.Listed.{listed_count, listed_entries, listed_basic}
 use Rattle.table_run.specs.Tableau.{tableau_of, IsFeasible}
 
 -- ---- rows in three parts
@@ -23,25 +24,11 @@ last p i = at p.right_sides i ∷ []
 abbrev ends : LinearProgram → ℕ → List Fraction
 ends p i = unit_row p.rows i ++ last p i
 
-abbrev pub first_row : LinearProgram → ℕ → List Fraction
-first_row p i = row p i ++ ends p i
+abbrev parts_of : LinearProgram → ℕ → List Fraction
+parts_of p i = row p i ++ ends p i
 
-row_from : (p : LinearProgram) (i left k : ℕ) → k < left → entries_at (rows_from p i left) k ≡ first_row p (i + k)
-unfolding rows_from
-row_from p i zero k h = absurd (omega (arith, h))
-row_from p i (suc left) zero h = let e : i + 0 ≡ i = omega arith in append_assoc (row p i) (unit_row p.rows i) (last p i) ∙ ap (first_row p) (sym e)
-row_from p i (suc left) (suc k) h = let e : i + 1 + k ≡ i + suc k = omega arith in row_from p (i + 1) left k (omega (arith, h)) ∙ ap (first_row p) e
-
-basic_from : (p : LinearProgram) (i left k : ℕ) → k < left → basic_at (rows_from p i left) k ≡ p.variables + (i + k)
-unfolding rows_from
-basic_from p i zero k h = absurd (omega (arith, h))
-basic_from p i (suc left) zero h = omega arith
-basic_from p i (suc left) (suc k) h = basic_from p (i + 1) left k (omega (arith, h)) ∙ omega arith
-
-count_from : (p : LinearProgram) (i left : ℕ) → length (rows_from p i left) ≡ left
-unfolding rows_from
-count_from p i zero = refl
-count_from p i (suc left) = ap suc (count_from p (i + 1) left)
+row_from : (p : LinearProgram) (i left k : ℕ) → k < left → entries_at (rows_from p i left) k ≡ parts_of p (i + k)
+row_from p i left k h = listed_entries (first_row p) i left k h ∙ append_assoc (row p (i + k)) (unit_row p.rows (i + k)) (last p (i + k))
 
 -- ---- rows of zeros, and rows of zeros with one 1
 pub length-unit : (n i : ℕ) → length (unit_row n i) ≡ n
@@ -118,7 +105,7 @@ lowest-negated (x ∷ xs) h (suc j) = lowest-negated xs (λ i. h (suc i)) j
 pub lowest-row : (p : LinearProgram) → IsProgram p → (i j : ℕ) → IsLowest (at (row p i) j)
 lowest-row p g i = lowest-take p.variables _ (lowest-drop (i * p.variables) p.coefficients g.coefficients.lowest)
 
-lowest-first : (p : LinearProgram) → IsProgram p → (i j : ℕ) → IsLowest (at (first_row p i) j)
+lowest-first : (p : LinearProgram) → IsProgram p → (i j : ℕ) → IsLowest (at (parts_of p i) j)
 lowest-first p g i = lowest-append (row p i) (ends p i) (lowest-row p g i) (lowest-append (unit_row p.rows i) (last p i) (lowest-unit p.rows i) (lowest-one (at p.right_sides i) (g.right_sides.lowest i)))
 
 pub length-row : (p : LinearProgram) → IsProgram p → (i : ℕ) → i < p.rows → length (row p i) ≡ p.variables
@@ -132,14 +119,14 @@ length-row p g i h =
 pub entry_variable : (p : LinearProgram) → IsProgram p → (i j : ℕ) → i < p.rows → j < p.variables → value (at (entries_at (rows_from p 0 p.rows) i) j) ≡ value (at (row p i) j)
 entry_variable p g i j h k =
     let e : 0 + i ≡ i = omega arith in
-    ap (λ w. value (at w j)) (row_from p 0 p.rows i h ∙ ap (first_row p) e)
+    ap (λ w. value (at w j)) (row_from p 0 p.rows i h ∙ ap (parts_of p) e)
     ∙ ap value (get_or_append_left (row p i) (ends p i) (whole (pos 0)) j (omega (arith, k, length-row p g i h)))
 
 pub entry_slack : (p : LinearProgram) → IsProgram p → (i k : ℕ) → i < p.rows → k < p.rows → value (at (entries_at (rows_from p 0 p.rows) i) (p.variables + k)) ≡ unit i k
 entry_slack p g i k h l =
     let e : 0 + i ≡ i = omega arith in
-    ap (λ w. value (at w (p.variables + k))) (row_from p 0 p.rows i h ∙ ap (first_row p) e)
-    ∙ ap (λ w. value (at (first_row p i) (w + k))) (sym (length-row p g i h))
+    ap (λ w. value (at w (p.variables + k))) (row_from p 0 p.rows i h ∙ ap (parts_of p) e)
+    ∙ ap (λ w. value (at (parts_of p i) (w + k))) (sym (length-row p g i h))
     ∙ ap value (get_or-append-add (row p i) (ends p i) k (whole (pos 0)) ∙ get_or_append_left (unit_row p.rows i) (last p i) (whole (pos 0)) k (omega (arith, l, length-unit p.rows i)))
     ∙ unit_entry p.rows i k h
 
@@ -147,8 +134,8 @@ pub entry_right : (p : LinearProgram) → IsProgram p → (i : ℕ) → i < p.ro
 entry_right p g i h =
     let e : 0 + i ≡ i = omega arith in
     let place : p.variables + p.rows ≡ length (row p i) + (length (unit_row p.rows i) + 0) = omega (arith, length-row p g i h, length-unit p.rows i) in
-    ap (λ w. value (at w (p.variables + p.rows))) (row_from p 0 p.rows i h ∙ ap (first_row p) e)
-    ∙ ap (λ w. value (at (first_row p i) w)) place
+    ap (λ w. value (at w (p.variables + p.rows))) (row_from p 0 p.rows i h ∙ ap (parts_of p) e)
+    ∙ ap (λ w. value (at (parts_of p i) w)) place
     ∙ ap value (get_or-append-add (row p i) (ends p i) (length (unit_row p.rows i) + 0) (whole (pos 0)) ∙ get_or-append-add (unit_row p.rows i) (last p i) 0 (whole (pos 0)))
 
 pub price_variable : (p : LinearProgram) → IsProgram p → (j : ℕ) → j < p.variables → value (at (map negated p.costs ++ replicate (p.rows + 1) (whole (pos 0))) j) ≡ neg_Q (value (at p.costs j))
@@ -164,22 +151,22 @@ price_other p g k =
     ∙ ap value (get_or-append-add (map negated p.costs) (replicate (p.rows + 1) (whole (pos 0))) k (whole (pos 0)) ∙ at-zeros (p.rows + 1) k) ∙ value_zero
 
 pub basic_first : (p : LinearProgram) (i : ℕ) → i < p.rows → basic_at (rows_from p 0 p.rows) i ≡ p.variables + i
-basic_first p i h = basic_from p 0 p.rows i h ∙ omega arith
+basic_first p i h = listed_basic (first_row p) 0 p.rows i h ∙ omega arith
 
 pub first_is_table : (p : LinearProgram) → IsProgram p → IsTable p.rows (p.variables + p.rows) (first_table p)
 unfolding first_table
 first_is_table p g =
     record {
       columns = refl;
-      count = count_from p 0 p.rows;
+      count = listed_count (first_row p) 0 p.rows;
       widths = λ i h.
           ap length (row_from p 0 p.rows i h)
-          ∙ (let e : 0 + i ≡ i = omega arith in ap (λ w. length (first_row p w)) e)
+          ∙ (let e : 0 + i ≡ i = omega arith in ap (λ w. length (parts_of p w)) e)
           ∙ length-append (row p i) (ends p i) ∙ ap (λ w. length (row p i) + w) (length-append (unit_row p.rows i) (last p i)) ∙ omega (arith, length-row p g i h, length-unit p.rows i);
       width = length-append (map negated p.costs) (replicate (p.rows + 1) (whole (pos 0))) ∙ omega (arith, length-map p.costs negated, g.costs.count, length-replicate (p.rows + 1) (whole (pos 0)));
       lowest = λ i j. elim (cases_lt i p.rows) [
         | inl h ↦ subst (λ w. IsLowest (at w j)) (sym (row_from p 0 p.rows i h)) (lowest-first p g (0 + i) j)
-        | inr h ↦ subst (λ w. IsLowest (at w j)) (sym (no_row (rows_from p 0 p.rows) i (omega (arith, h, count_from p 0 p.rows)))) lowest-zero
+        | inr h ↦ subst (λ w. IsLowest (at w j)) (sym (no_row (rows_from p 0 p.rows) i (omega (arith, h, listed_count (first_row p) 0 p.rows)))) lowest-zero
       ];
       lowest_price = lowest-append (map negated p.costs) (replicate (p.rows + 1) (whole (pos 0))) (lowest-negated p.costs g.costs.lowest) (lowest-zeros (p.rows + 1));
     }

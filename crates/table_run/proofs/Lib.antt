@@ -1,6 +1,7 @@
 pub mod Pivot
 pub mod Entries
 pub mod Choices
+pub mod Listed
 pub mod FirstTable
 pub mod Ends
 pub mod Optima
@@ -13,4 +14,3 @@ pub mod Ended
 pub mod Counted
 pub mod WorkedPrograms
 pub mod Endings
-pub mod WithinSizes

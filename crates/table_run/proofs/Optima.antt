@@ -10,7 +10,7 @@ use Rattle.exact_num.proofs.Values.{whole_is_lowest, negated_is_lowest}
 use Rattle.exact_num.proofs.Rationals.{value_zero, value_one, value_negated, value_sum, value_same, value_at_most, value_not_below, not_below_value, dot_positive, at_most_of_sum, add_not_below, mul_not_below, one_not_below, neg_not_below, zero_has, add_0, zero_add_Q, mul_0, zero_mul_Q, mul_1, one_mul_Q, mul_neg, neg_neg, neg_mul, add_neg, add_comm, add_assoc, mul_comm_Q}
 use Rattle.exact_num.specs.Rationals.{Q, ◌+Q◌, ◌*Q◌, neg_Q, 0Q, 1Q, value, IsNotBelow0, IsBelow0, IsAtMost, total, unit, spread}
 use Rattle.exact_num.proofs.Totals.{total-ext, total-zero, total-split, total-unit, total-neg, value_dot, unit-same, unit-other, unit-not-below, spread-other, spread-not-below}
-use Rattle.table_run.specs.Places.{at, listed}
+use Rattle.table_run.specs.Places.{at, values_at}
 use Rattle.table_run.specs.Program.{LinearProgram, row, column}
 use Rattle.table_run.specs.Table.{Row, Table, entries_at, first_table, right_side, rows_from, where_basic, basic_at}
 use Rattle.table_run.specs.Choice.{entering, least}
@@ -21,7 +21,8 @@ use Rattle.table_run.specs.Tableau.{tableau_of, Tableau, IsFeasible, IsPivot, Ha
 use Rattle.table_run.proofs.Pivot.{point, row_at-point, point_solves, point_earns, tied_refl, tied_trans, tied_after, good_after}
 use Rattle.table_run.proofs.Choices.{moved_out, unlimited_out, unlimited_is, choice_out, entering_out, entering_none, value_above, below_value}
 use Rattle.table_run.proofs.FirstTable.{first_is_table, first_is_good, lowest-row, length-row, lowest-take, lowest-drop, entry_variable, entry_slack, entry_right, price_variable, price_other, basic_first}
-use Rattle.table_run.proofs.Ends.{run_keeps, listed_count, listed_at, holds_at, where_basic_lowest, where_basic_is, apart_of_good}
+use Rattle.table_run.proofs.Listed.{listed_count, listed_at}
+use Rattle.table_run.proofs.Ends.{run_keeps, holds_at, where_basic_lowest, where_basic_is, apart_of_good}
 
 -- ---- what each turn keeps
 pub record Keeps (p : LinearProgram) (t : Table) : Type 0 where
@@ -202,14 +203,14 @@ first_right p g i q = entry_right p g i q
 twice_neg : (x : Q) → neg_Q (x *Q neg_Q 1Q) ≡ x
 twice_neg x = ap neg_Q (mul_neg x 1Q ∙ ap neg_Q (mul_1 x)) ∙ neg_neg x
 
-optimum_is : (p : LinearProgram) (t : Table) → IsProgram p → Keeps p t → entering t ≡ None → IsOptimum p (listed (λ j. where_basic (λ row. right_side t.columns row.entries) j t.rows) 0 p.variables) (take p.rows (drop p.variables t.objective)) (take p.variables t.objective) (right_side t.columns t.objective)
+optimum_is : (p : LinearProgram) (t : Table) → IsProgram p → Keeps p t → entering t ≡ None → IsOptimum p (values_at (λ j. where_basic (λ row. right_side t.columns row.entries) j t.rows) 0 p.variables) (take p.rows (drop p.variables t.objective)) (take p.variables t.objective) (right_side t.columns t.objective)
 optimum_is p t g k h =
     let n = p.variables in
     let m = p.rows in
     let N = n + m in
     let T : Tableau = tableau_of t in
     let f : Row → Fraction = λ row. right_side t.columns row.entries in
-    let x : List Fraction = listed (λ j. where_basic f j t.rows) 0 n in
+    let x : List Fraction = values_at (λ j. where_basic f j t.rows) 0 n in
     let y : List Fraction = take m (drop n t.objective) in
     let z : ℕ → Q = point m T N (neg_Q 1Q) in
     let none : (j : ℕ) → j < N → pos 0 ≤ℤ (at t.objective j).numerator = entering_none m N t k.table h in
@@ -306,7 +307,7 @@ unlimited_holds limit p t e g k enters h =
     let T : Tableau = tableau_of t in
     let f : Row → Fraction = λ row. negated (at row.entries e) in
     let entry : ℕ → Fraction = λ j. if nat_eq j e then whole (pos 1) else where_basic f j t.rows in
-    let d : List Fraction = listed entry 0 n in
+    let d : List Fraction = values_at entry 0 n in
     let z : ℕ → Q = point m T e 1Q in
     let column = entering_out m N e t k.table enters in
     let below : IsBelow0 (T.price e) = below_value (at t.objective e) (k.table.lowest_price e) column.1 in

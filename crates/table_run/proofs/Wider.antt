@@ -1,16 +1,15 @@
 -- What fits a limit fits a greater one, with the same value: so a run's tables do not depend on the limit.
-use Rattle.std.proofs.Common.{◌≡◌, ℕ, zero, suc, ◌+◌, ◌≤◌, List, [], ◌∷◌, arith, refl, ℤ, unsigned_abs, Bool, true, false, ◌&&◌, nat_eq}
-use Rattle.std.specs.Prelude.{Result, Ok, Err, Option, Some, None, if◌then◌else◌, nat_le}
-use Rattle.std.proofs.lemmas.Bool.Decides.{nat_tests}
+use Rattle.std.proofs.Common.{◌≡◌, ℕ, zero, suc, ◌+◌, ◌≤◌, List, [], ◌∷◌, arith, refl, Bool, true, false, nat_eq}
+use Rattle.std.specs.Prelude.{Result, Ok, Option, Some, None, if◌then◌else◌}
 use Rattle.exact_num.specs.declared.misfit.Wide.{Wide}
 use Rattle.exact_num.specs.Fraction.{Fraction, negated}
-use Rattle.exact_num.specs.Fits.{size_fits, sum_fits, sum_value, add_of, sub_of, sum_left, sum_right, sum_total, sum_below, product_fits, product_value, product_above, product_below, mul_of, div_of, inverse, after}
+use Rattle.exact_num.specs.Fits.{sub_of, mul_of, div_of, after}
 use Rattle.table_run.specs.Places.{at}
 use Rattle.table_run.specs.Program.{LinearProgram}
 use Rattle.table_run.specs.Table.{Row, Table, entries_at, first_table, right_side, row_of}
-use Rattle.table_run.specs.Choice.{Ratio, entering, ratio_in, ratios, least, joined}
+use Rattle.table_run.specs.Choice.{Ratio, entering, ratio_in, ratios, least, join_ratio}
 use Rattle.exact_num.specs.Tests.{is_above_zero}
-use Rattle.table_run.specs.Pivot.{each, each_pair, divided, less_product, cleared, row_after, rows_after, pivoted}
+use Rattle.table_run.specs.Pivot.{each, each_pair, over_pivot, less_product, less_pivot_row, row_after, rows_after, after_pivot}
 use Rattle.table_run.specs.Ending.{Ending, unbounded, wide_at, HasNoMisfit}
 use Rattle.table_run.specs.Run.{Optimum, Turn, moved, unlimited, stopped, turn, on_entering, on_turn, read_off, direction, run_from, run}
 use Rattle.table_run.specs.Limits.{SameWithGreaterLimit}
@@ -36,12 +35,12 @@ pair_more f f' h (x ∷ xs) (p ∷ ps) ys k =
     after_more (f x p) (f' x p) (λ y. after (each_pair f xs ps) (λ ys. Ok (y ∷ ys))) (λ y. after (each_pair f' xs ps) (λ ys. Ok (y ∷ ys))) ys (h x p)
     (λ y zs. after_more (each_pair f xs ps) (each_pair f' xs ps) (λ ys. Ok (y ∷ ys)) (λ ys. Ok (y ∷ ys)) zs (pair_more f f' h xs ps) (λ vs b e. e)) k
 
-divided_more : (l l' e : ℕ) (xs ys : List Fraction) → l ≤ l' → divided l e xs ≡ Ok ys → divided l' e xs ≡ Ok ys
-unfolding divided
+divided_more : (l l' e : ℕ) (xs ys : List Fraction) → l ≤ l' → over_pivot l e xs ≡ Ok ys → over_pivot l' e xs ≡ Ok ys
+unfolding over_pivot
 divided_more l l' e xs ys h = each_more (λ x. div_of l x (at xs e)) (λ x. div_of l' x (at xs e)) (λ x y. div_more l l' x (at xs e) y h) xs ys
 
-cleared_more : (l l' e : ℕ) (pivot xs ys : List Fraction) → l ≤ l' → cleared l e pivot xs ≡ Ok ys → cleared l' e pivot xs ≡ Ok ys
-unfolding cleared
+cleared_more : (l l' e : ℕ) (pivot xs ys : List Fraction) → l ≤ l' → less_pivot_row l e pivot xs ≡ Ok ys → less_pivot_row l' e pivot xs ≡ Ok ys
+unfolding less_pivot_row
 cleared_more l l' e pivot xs ys h k =
     pair_more (less_product l (at xs e)) (less_product l' (at xs e))
     (λ x p y. after_more (mul_of l (at xs e) p) (mul_of l' (at xs e) p) (λ product. sub_of l x product) (λ product. sub_of l' x product) y (λ a. mul_more l l' (at xs e) p a h) (λ a b. add_more l l' x (negated a) b h))
@@ -50,9 +49,9 @@ cleared_more l l' e pivot xs ys h k =
 row_more : (l l' e r : ℕ) (pivot : List Fraction) (i : ℕ) (row u : Row) → l ≤ l' → row_after l e r pivot i row ≡ Ok u → row_after l' e r pivot i row ≡ Ok u
 row_more l l' e r pivot i row u h k = step (nat_eq i r) k
   where
-    step : (b : Bool) → (if b then Ok (row_of e pivot) else after (cleared l e pivot row.entries) (λ es. Ok (row_of row.basic es))) ≡ Ok u → (if b then Ok (row_of e pivot) else after (cleared l' e pivot row.entries) (λ es. Ok (row_of row.basic es))) ≡ Ok u
+    step : (b : Bool) → (if b then Ok (row_of e pivot) else after (less_pivot_row l e pivot row.entries) (λ es. Ok (row_of row.basic es))) ≡ Ok u → (if b then Ok (row_of e pivot) else after (less_pivot_row l' e pivot row.entries) (λ es. Ok (row_of row.basic es))) ≡ Ok u
     step true k = k
-    step false k = after_more (cleared l e pivot row.entries) (cleared l' e pivot row.entries) (λ es. Ok (row_of row.basic es)) (λ es. Ok (row_of row.basic es)) u (λ a. cleared_more l l' e pivot row.entries a h) (λ a b e. e) k
+    step false k = after_more (less_pivot_row l e pivot row.entries) (less_pivot_row l' e pivot row.entries) (λ es. Ok (row_of row.basic es)) (λ es. Ok (row_of row.basic es)) u (λ a. cleared_more l l' e pivot row.entries a h) (λ a b e. e) k
 
 rows_after_more : (l l' e r : ℕ) (pivot : List Fraction) (i : ℕ) (rows us : List Row) → l ≤ l' → rows_after l e r pivot i rows ≡ Ok us → rows_after l' e r pivot i rows ≡ Ok us
 unfolding rows_after
@@ -61,12 +60,12 @@ rows_after_more l l' e r pivot i (row ∷ rows) us h k =
     after_more (row_after l e r pivot i row) (row_after l' e r pivot i row) (λ first. after (rows_after l e r pivot (i + 1) rows) (λ others. Ok (first ∷ others))) (λ first. after (rows_after l' e r pivot (i + 1) rows) (λ others. Ok (first ∷ others))) us (λ a. row_more l l' e r pivot i row a h)
     (λ a zs. after_more (rows_after l e r pivot (i + 1) rows) (rows_after l' e r pivot (i + 1) rows) (λ others. Ok (a ∷ others)) (λ others. Ok (a ∷ others)) zs (λ b. rows_after_more l l' e r pivot (i + 1) rows b h) (λ c b e. e)) k
 
-pivoted_more : (l l' e r : ℕ) (t u : Table) → l ≤ l' → pivoted l e r t ≡ Ok u → pivoted l' e r t ≡ Ok u
-unfolding pivoted
+pivoted_more : (l l' e r : ℕ) (t u : Table) → l ≤ l' → after_pivot l e r t ≡ Ok u → after_pivot l' e r t ≡ Ok u
+unfolding after_pivot
 pivoted_more l l' e r t u h k =
-    let a = after_value (divided l e (entries_at t.rows r)) _ u k in
+    let a = after_value (over_pivot l e (entries_at t.rows r)) _ u k in
     let b = after_value (rows_after l e r a.value 0 t.rows) _ u a.rest in
-    let c = after_value (cleared l e a.value t.objective) _ u b.rest in
+    let c = after_value (less_pivot_row l e a.value t.objective) _ u b.rest in
     let a' = divided_more l l' e (entries_at t.rows r) a.value h a.first in
     let b' = rows_after_more l l' e r a.value 0 t.rows b.value h b.first in
     let c' = cleared_more l l' e a.value t.objective c.value h c.first in
@@ -84,8 +83,8 @@ ratios_more : (l l' columns e i : ℕ) (rows : List Row) (qs : List Ratio) → l
 unfolding ratios
 ratios_more l l' columns e i [] qs h k = k
 ratios_more l l' columns e i (row ∷ rows) qs h k =
-    after_more (ratio_in l columns e row.entries) (ratio_in l' columns e row.entries) (λ q. after (ratios l columns e (i + 1) rows) (λ qs. Ok (joined i row.basic q qs))) (λ q. after (ratios l' columns e (i + 1) rows) (λ qs. Ok (joined i row.basic q qs))) qs (λ a. ratio_more l l' columns e row.entries a h)
-    (λ a zs. after_more (ratios l columns e (i + 1) rows) (ratios l' columns e (i + 1) rows) (λ qs. Ok (joined i row.basic a qs)) (λ qs. Ok (joined i row.basic a qs)) zs (λ b. ratios_more l l' columns e (i + 1) rows b h) (λ c b e. e)) k
+    after_more (ratio_in l columns e row.entries) (ratio_in l' columns e row.entries) (λ q. after (ratios l columns e (i + 1) rows) (λ qs. Ok (join_ratio i row.basic q qs))) (λ q. after (ratios l' columns e (i + 1) rows) (λ qs. Ok (join_ratio i row.basic q qs))) qs (λ a. ratio_more l l' columns e row.entries a h)
+    (λ a zs. after_more (ratios l columns e (i + 1) rows) (ratios l' columns e (i + 1) rows) (λ qs. Ok (join_ratio i row.basic a qs)) (λ qs. Ok (join_ratio i row.basic a qs)) zs (λ b. ratios_more l l' columns e (i + 1) rows b h) (λ c b e. e)) k
 
 turn_more : (l l' e : ℕ) (t u : Table) → l ≤ l' → turn l e t ≡ moved u → turn l' e t ≡ moved u
 unfolding turn

@@ -1,5 +1,5 @@
 -- The choices of a turn by Bland's rule: the entering column, the ratio test, the leaving row.
-use Rattle.std.specs.Prelude.{ℕ, ◌+◌, List, [], ◌∷◌, take, Bool, if◌then◌else◌, nat_lt, Option, Some, None, Result, Ok}
+use Rattle.std.specs.Prelude.{ℕ, ◌+◌, List, [], ◌∷◌, take, if◌then◌else◌, nat_lt, Option, Some, None, Result, Ok}
 use Rattle.std.specs.declared.cmp.Ordering.{Ordering}
 use Rattle.std.specs.declared.cmp.Ordering.TheVariants.{Less, Equal, Greater}
 use Rattle.exact_num.specs.declared.misfit.Wide.{Wide}
@@ -36,16 +36,16 @@ ratio_in limit columns e entries =
     else Ok None
 
 -- the ratio of row i, where it has one, before those of later rows
-abbrev pub joined : ℕ → ℕ → Option Fraction → List Ratio → List Ratio
-joined i basic None qs = qs
-joined i basic (Some q) qs = ratio_of i basic q ∷ qs
+abbrev pub join_ratio : ℕ → ℕ → Option Fraction → List Ratio → List Ratio
+join_ratio i basic None qs = qs
+join_ratio i basic (Some q) qs = ratio_of i basic q ∷ qs
 
 -- the ratios of the rows that limit column e, in rising order, the first row being row i
 unfoldable pub ratios : ℕ → ℕ → ℕ → ℕ → List Row → Result (List Ratio) Wide
 ratios limit columns e i [] = Ok []
 ratios limit columns e i (row ∷ rows) =
     after (ratio_in limit columns e row.entries)
-    (λ q. after (ratios limit columns e (i + 1) rows) (λ qs. Ok (joined i row.basic q qs)))
+    (λ q. after (ratios limit columns e (i + 1) rows) (λ qs. Ok (join_ratio i row.basic q qs)))
 
 -- the first, the second or the third, by an order
 abbrev pub by_order : {A : Type 0} → Ordering → A → A → A → A

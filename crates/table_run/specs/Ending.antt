@@ -33,3 +33,10 @@ HasNoMisfit (done answer spent) = Unit {0}
 HasNoMisfit (unbounded direction spent) = Unit {0}
 HasNoMisfit (wide_at spent wide) = ⊥
 HasNoMisfit (no_unit_left spent) = Unit {0}
+
+-- P of an answer and M of a number that does not fit, each with the units by then; U where the objective rises without an end
+abbrev pub EndsBy : {A : Type 0} → (A → ℕ → Type 0) → Type 0 → (Wide → ℕ → Type 0) → Ending A → Type 0
+EndsBy P U M (done a s) = P a s
+EndsBy P U M (unbounded d s) = U
+EndsBy P U M (wide_at s w) = M w s
+EndsBy P U M (no_unit_left s) = Unit {0}

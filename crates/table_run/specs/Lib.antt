@@ -12,4 +12,3 @@ pub mod Tableau
 pub mod Choose
 pub mod Limits
 pub mod Worked
-pub mod Sizes

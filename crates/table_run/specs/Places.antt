@@ -1,4 +1,4 @@
--- Lists of fractions by place, counted from 0.
+-- Lists by place, counted from 0.
 use Rattle.std.specs.Prelude.{ℕ, zero, suc, ◌+◌, List, [], ◌∷◌, pos, slice_index_or}
 use Rattle.exact_num.specs.Fraction.{Fraction, whole}
 
@@ -10,11 +10,10 @@ abbrev pub at : List Fraction → ℕ → Fraction
 at xs i = slice_index_or xs i fraction_zero
 
 -- f at j, j + 1 and so on, n of them
-unfoldable pub listed : (ℕ → Fraction) → ℕ → ℕ → List Fraction
-listed f j zero = []
-listed f j (suc n) = f j ∷ listed f (j + 1) n
+unfoldable pub values_at : {A : Type 0} → (ℕ → A) → ℕ → ℕ → List A
+values_at f j zero = []
+values_at f j (suc n) = f j ∷ values_at f (j + 1) n
 
 -- j, j + 1 and so on, n of them
-unfoldable pub numbers : ℕ → ℕ → List ℕ
-numbers j zero = []
-numbers j (suc n) = j ∷ numbers (j + 1) n
+abbrev pub numbers : ℕ → ℕ → List ℕ
+numbers j n = values_at (λ i. i) j n

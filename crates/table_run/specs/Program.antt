@@ -1,7 +1,7 @@
 -- A linear program: maximise costs · x under A x <= right sides and x >= 0.
 use Rattle.std.specs.Prelude.{ℕ, ◌+◌, ◌*◌, List, take, drop}
 use Rattle.exact_num.specs.Fraction.{Fraction}
-use Rattle.table_run.specs.Places.{at, listed}
+use Rattle.table_run.specs.Places.{at, values_at}
 
 -- the coefficients of A stand row by row
 pub record LinearProgram : Type 0 where
@@ -16,4 +16,4 @@ abbrev pub row : LinearProgram → ℕ → List Fraction
 row p i = take p.variables (drop (i * p.variables) p.coefficients)
 
 abbrev pub column : LinearProgram → ℕ → List Fraction
-column p j = listed (λ i. at p.coefficients (i * p.variables + j)) 0 p.rows
+column p j = values_at (λ i. at p.coefficients (i * p.variables + j)) 0 p.rows

@@ -3,11 +3,11 @@ use Rattle.std.specs.Prelude.{ℕ, zero, suc, ◌+◌, List, [], ◌∷◌, take
 use Rattle.exact_num.specs.declared.misfit.Wide.{Wide}
 use Rattle.exact_num.specs.Fraction.{Fraction, whole, negated}
 use Rattle.table_run.specs.Ending.{Ending, done, unbounded, wide_at, no_unit_left}
-use Rattle.table_run.specs.Places.{at, listed}
+use Rattle.table_run.specs.Places.{at, values_at}
 use Rattle.table_run.specs.Program.{LinearProgram}
-use Rattle.table_run.specs.Table.{Table, right_side, where_basic, first_table, unit_row, rows_from}
+use Rattle.table_run.specs.Table.{Table, right_side, where_basic, first_table, unit_row}
 use Rattle.table_run.specs.Choice.{Ratio, entering, ratios, least, first_below, ratio_in}
-use Rattle.table_run.specs.Pivot.{pivoted, each, each_pair, divided, cleared, rows_after}
+use Rattle.table_run.specs.Pivot.{after_pivot, each, each_pair, over_pivot, less_pivot_row, rows_after}
 
 -- what an optimum tells: the solution, the dual values, the reduced costs and the value
 pub data Optimum : Type 0 where
@@ -16,7 +16,7 @@ pub data Optimum : Type 0 where
 -- ---- what is read off at the end, of n variables and m rows
 -- the right side of the row where a variable is basic, and 0 for the others
 abbrev pub solution : ℕ → Table → List Fraction
-solution n t = listed (λ j. where_basic (λ row. right_side t.columns row.entries) j t.rows) 0 n
+solution n t = values_at (λ j. where_basic (λ row. right_side t.columns row.entries) j t.rows) 0 n
 
 -- the objective entries of the slacks and of the variables, and the objective's right side
 abbrev pub dual : ℕ → ℕ → Table → List Fraction
@@ -34,7 +34,7 @@ read_off n m t spent = done (optimum (solution n t) (dual n m t) (reduced_costs 
 -- 1 at the entering column, and what its row then asks of each basic variable
 unfoldable pub direction : ℕ → ℕ → Table → List Fraction
 direction n e t =
-    listed (λ j. if nat_eq j e then whole (pos 1) else where_basic (λ row. negated (at row.entries e)) j t.rows) 0 n
+    values_at (λ j. if nat_eq j e then whole (pos 1) else where_basic (λ row. negated (at row.entries e)) j t.rows) 0 n
 
 -- ---- one turn
 -- what one turn with the entering column e does, the unit being spent
@@ -50,7 +50,7 @@ moved_or_stopped (Err w) = stopped w
 -- the row of the least ratio leaves; with no ratio nothing limits the entering variable
 abbrev pub leave : ℕ → ℕ → Table → List Ratio → Turn
 leave limit e t [] = unlimited
-leave limit e t (q ∷ qs) = moved_or_stopped (pivoted limit e (least q qs).place t)
+leave limit e t (q ∷ qs) = moved_or_stopped (after_pivot limit e (least q qs).place t)
 
 abbrev pub on_ratios : Result (List Ratio) Wide → (List Ratio → Turn) → Turn
 on_ratios (Ok qs) next = next qs
@@ -87,5 +87,5 @@ run limit p left spent = run_from limit p.variables p.rows left spent (first_tab
 
 -- opens the definitions of the run, for a proof that computes with numerals
 unfoldable pub table_run : Unit {0}
-unfolding listed where_basic unit_row rows_from first_table first_below entering ratio_in ratios least each each_pair divided cleared rows_after pivoted read_off direction turn run_from run
+unfolding values_at where_basic unit_row first_table first_below entering ratio_in ratios least each each_pair over_pivot less_pivot_row rows_after after_pivot read_off direction turn run_from run
 table_run = tt

@@ -1,7 +1,7 @@
 -- A table: the dictionary of a linear program with the columns of its basic variables written out.
 use Rattle.std.specs.Prelude.{ℕ, zero, suc, ◌+◌, List, [], ◌∷◌, ◌++◌, map, replicate, pos, if◌then◌else◌, nat_eq}
 use Rattle.exact_num.specs.Fraction.{Fraction, whole, negated}
-use Rattle.table_run.specs.Places.{fraction_zero, at}
+use Rattle.table_run.specs.Places.{fraction_zero, at, values_at}
 use Rattle.table_run.specs.Program.{LinearProgram, row}
 
 -- a row: the variable that is basic in it, and its entries, the right side last
@@ -45,11 +45,11 @@ unit_row (suc n) zero = whole (pos 1) ∷ replicate n fraction_zero
 unit_row (suc n) (suc i) = fraction_zero ∷ unit_row n i
 
 -- the rows from row i on, of which `left` are left: each has its own slack as the basic variable
-unfoldable pub rows_from : LinearProgram → ℕ → ℕ → List Row
-rows_from p i zero = []
-rows_from p i (suc left) =
-    row_of (p.variables + i) (row p i ++ unit_row p.rows i ++ (at p.right_sides i ∷ []))
-    ∷ rows_from p (i + 1) left
+abbrev pub first_row : LinearProgram → ℕ → Row
+first_row p i = row_of (p.variables + i) (row p i ++ unit_row p.rows i ++ (at p.right_sides i ∷ []))
+
+abbrev pub rows_from : LinearProgram → ℕ → ℕ → List Row
+rows_from p i left = values_at (first_row p) i left
 
 unfoldable pub first_table : LinearProgram → Table
 first_table p =

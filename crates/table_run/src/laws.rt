@@ -2,7 +2,6 @@
 ghost use Rattle.table_run.specs.Choose.{UnitsSuffice};
 ghost use Rattle.table_run.specs.Limits.{RunsEnd, SameWithGreaterLimit};
 ghost use Rattle.table_run.specs.Optimum.{EndsAreAsSaid};
-ghost use Rattle.table_run.specs.Sizes.{RunsAreWithin};
 ghost use Rattle.table_run.specs.Tableau.{TablesAreFeasible, TurnsAreByBlandsRule};
 ghost use Rattle.table_run.specs.Turns.{BasicsDiffer};
 ghost use Rattle.table_run.specs.Units.{UnitsAreCounted};
@@ -47,11 +46,6 @@ pub fn units_suffice()
 /// Without a limit each run ends with an optimum or a direction: some limit is enough.
 pub fn runs_end()
     ensures { RunsEnd }
-{}
-
-/// Of a program whose numbers are within the limit each number that a run finds is within it.
-pub fn runs_are_within()
-    ensures { RunsAreWithin }
 {}
 
 /// A run without a misfit is the same with each greater limit.

@@ -1,6 +1,6 @@
 use Rattle.std.specs.Prelude.{Ok}
 use Rattle.exact_num.specs.Fits.{after}
-use Rattle.std.proofs.Common.{◌≡◌, ◌+◌, ◌≤◌, ◌∙◌, arith, ap, sym, subst, length, map, pos, unsigned_abs}
+use Rattle.std.proofs.Common.{◌≡◌, ◌+◌, ◌≤◌, ◌∙◌, arith, ap, sym, subst, length, map, replicate, pos, unsigned_abs}
 use Rattle.std.proofs.lemmas.Result.{err_from_is_err_and}
 use Rattle.std.proofs.lemmas.List.{length-map}
 use Rattle.exact_num.specs.Fraction.{whole}
@@ -9,6 +9,7 @@ use Rattle.sign_tree.specs.Read.{sign_of}
 use Rattle.simplex.specs.Spaces.{Contents, Workspace, IsProgramGiven, given, program_given}
 use Rattle.node_program.specs.Node.{covers_of, minus_units, signed_of, size_row}
 use Rattle.node_program.specs.Steps.{counted_node, cover_rows_steps}
+use Rattle.table_run.specs.Places.{fraction_zero}
 use Rattle.pricing_oracle.specs.Nodes.{legs_asked}
 use Rattle.pricing_oracle.specs.Programs.{IsOpen, costs_steps}
 use Rattle.pricing_oracle.proofs.ByRole.{cover_count_is, node_is}
@@ -102,7 +103,7 @@ returns-in_err-give_cover_rows-clause-given g c =
     let rows : c.give_size_row.new.space.rows ≡ c.args.space.now.rows = c.give_size_row.ensures.size.0 ∙ ap (λ (w : Workspace). w.rows) begin in
     let width = written_width limit n legs L signs costs written in
     rw (q.1, q.2)
-    (part_fails (cover_rows_of limit n covers node c.give_size_row.new.space.contents) (signed_rows_of limit n covers node) c.give_cover_rows.result c.in_err-give_cover_rows.field-0.0 _ c.give_cover_rows.new.space.contents c.give_cover_rows.new.space.contents
+    (part_fails (cover_rows_of limit n covers node c.give_size_row.new.space.contents) (signed_rows_of limit n (replicate covers fraction_zero) node) c.give_cover_rows.result c.in_err-give_cover_rows.field-0.0 _ c.give_cover_rows.new.space.contents c.give_cover_rows.new.space.contents
     (program_from limit n covers legs L signs costs c.give_size_row.new.space.contents c.cover_count-covers.ensures.count written size_given) c.in_err-give_cover_rows.was c.give_cover_rows.ensures.given)
 
 pub give_signed_rows-requires-clause-program : goal.give_signed_rows-requires-clause-program
@@ -150,6 +151,6 @@ returns-clause-given g c =
     c.give_size_row.ensures.given ∙ ap (λ (w : Workspace). given (with_row (program_given w.contents) (map whole (size_row n covers)) (whole (pos 1)))) begin in
     let rows : c.give_size_row.new.space.rows ≡ c.args.space.now.rows = c.give_size_row.ensures.size.0 ∙ ap (λ (w : Workspace). w.rows) begin in
     let width = written_width limit n legs L signs costs written in
-    built_as c.give_signed_rows.new.space.contents _ (signed_rows_of limit n covers node c.give_cover_rows.new.space.contents) c.give_signed_rows.result
-    (program_from limit n covers legs L signs costs c.give_size_row.new.space.contents c.cover_count-covers.ensures.count written size_given ∙ ap (λ r. after r (signed_rows_of limit n covers node)) c.in_ok-give_cover_rows.ensures.given)
+    built_as c.give_signed_rows.new.space.contents _ (signed_rows_of limit n (replicate covers fraction_zero) node c.give_cover_rows.new.space.contents) c.give_signed_rows.result
+    (program_from limit n covers legs L signs costs c.give_size_row.new.space.contents c.cover_count-covers.ensures.count written size_given ∙ ap (λ r. after r (signed_rows_of limit n (replicate covers fraction_zero) node)) c.in_ok-give_cover_rows.ensures.given)
     c.give_signed_rows.ensures.given

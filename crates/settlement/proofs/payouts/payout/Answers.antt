@@ -14,16 +14,16 @@ small_fits (negsuc n) le = record { sfits = omega arith }
 opposite_size : (w : ℤ) → unsigned_abs (pos 0 -ℤ w) ≡ unsigned_abs w
 opposite_size w = omega (arith, ints)
 
-pub share-requires-clause-few : goal.share-requires-clause-few
-share-requires-clause-few c =
+pub floor_of_product-requires-clause-few : goal.floor_of_product-requires-clause-few
+floor_of_product-requires-clause-few c =
     let fill = fraction_of c.args.fill.now in
     let worth = c.worth_at-worth.result in
     let same : to_z w128 (of_z w128 worth) ≡ worth = to_z-of_z w128 worth (small_fits worth c.worth_at-worth.ensures.fits) in
     let few = subst (λ (w : ℤ). unsigned_abs w ≤ count_sizes c.args.bundle.now * MAX_PAYOFF) (sym same) c.worth_at-worth.ensures.few in
     gain_fits fill.numerator fill.denominator (count_sizes c.args.bundle.now) _ c.requires.held.not_below_zero c.requires.held.counted few
 
-pub share-requires-in-Sell-clause-few : goal.share-requires-in-Sell-clause-few
-share-requires-in-Sell-clause-few c =
+pub floor_of_product-requires-in-Sell-clause-few : goal.floor_of_product-requires-in-Sell-clause-few
+floor_of_product-requires-in-Sell-clause-few c =
     let fill = fraction_of c.args.fill.now in
     let worth = c.worth_at-worth.result in
     let bits = to_z w128 (of_z w128 worth) in

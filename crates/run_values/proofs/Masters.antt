@@ -1,5 +1,5 @@
 -- The numbers of the master program.
-use Rattle.std.proofs.Common.{ℕ, List, [], ◌∷◌, length, map, replicate, ℤ, pos, negsuc, arith}
+use Rattle.std.proofs.Common.{ℕ, zero, suc, ◌≤◌, ◌+◌, List, [], ◌∷◌, length, map, replicate, ℤ, pos, negsuc, unsigned_abs, arith}
 use Rattle.std.specs.List.{All, flat_map}
 use Rattle.std.proofs.lemmas.Int.{ints}
 use Rattle.std.proofs.lemmas.List.Elements.{All-nil, All-cons, All-head, All-tail, All-append, All-map, All-replicate, All-weaker}
@@ -12,9 +12,9 @@ use Rattle.form.specs.Vector.{scale_of}
 use Rattle.master_program.specs.Master.{cost_steps, entry_steps, map_steps, master, order_payoff, payoff_at_zero, quantity_rows, quantity_steps, row_steps, rows_steps}
 use Rattle.table_run.specs.Places.{fraction_zero}
 use Rattle.table_run.specs.Program.{LinearProgram}
-use Rattle.reply_ranges.proofs.Numbers.{AreValues, Has, IsValue, after_has, map_has, mul_has, negated_value, signed_value, sub_has, whole_has, whole_value, zero_value}
-use Rattle.reply_ranges.proofs.Payoffs.{IsSmallState, at_zero_small, order_has, scale_small}
-use Rattle.master_program.proofs.WithinSizes.{IsUnit, quantities_within}
+use Rattle.run_values.specs.Values.{AreValues, IsSmallState, IsValue}
+use Rattle.run_values.proofs.Numbers.{Has, after_has, map_has, mul_has, negated_value, signed_value, sub_has, whole_has, whole_value, zero_value}
+use Rattle.run_values.proofs.Payoffs.{at_zero_small, order_has, scale_small}
 
 pub record HasValues (p : LinearProgram) : Type 0 where
   pub coefficients : AreValues p.coefficients
@@ -55,6 +55,18 @@ rows_has orders (z ∷ states) within small =
     (λ rows rs. All-append IsValue row rows r rs))
 
 -- ---- rows of 0 and 1
+-- 0, 1 and -1
+abbrev pub IsUnit : ℤ → Type 0
+IsUnit v = unsigned_abs v ≤ 1
+
+quantities_are : (k : ℕ) → All (All IsUnit) (quantity_rows k)
+quantities_are zero = All-nil (All IsUnit)
+quantities_are (suc k) =
+    let Front : List ℤ → List ℤ = λ r. pos 0 ∷ r in
+    let first = All-cons IsUnit (pos 1) (replicate (k + 1) (pos 0)) (omega arith) (All-replicate IsUnit (k + 1) (pos 0) (omega arith)) in
+    let others = All-map (All IsUnit) Front (quantity_rows k) (All-weaker (All IsUnit) (λ r. All IsUnit (Front r)) (λ r within. All-cons IsUnit (pos 0) r (omega arith) within) (quantity_rows k) (quantities_are k)) in
+    All-cons (All IsUnit) (pos 1 ∷ replicate (k + 1) (pos 0)) (map Front (quantity_rows k)) first others
+
 pub units_are : (row : List ℤ) → All IsUnit row → AreValues (map whole row)
 units_are row units = All-map IsValue whole row (All-weaker IsUnit (λ v. IsValue (whole v)) (λ v low. whole_value v (omega (arith, low))) row units)
 
@@ -72,7 +84,7 @@ master_has orders states within small =
     (map_has IsOrderWithin IsValue (quantity_steps largest) (λ order one. let low = one.quantity in whole_has (pos order.quantity) (omega (arith, ints, low))) orders within)
     (λ quantities qs. after_has AreValues HasValues (rows_steps largest largest orders states) _ (rows_has orders states within small)
     (λ rows rs. record {
-      coefficients = All-append IsValue (flat_map (map whole) (quantity_rows (length orders))) rows (rows_are (quantity_rows (length orders)) (quantities_within (length orders))) rs;
+      coefficients = All-append IsValue (flat_map (map whole) (quantity_rows (length orders))) rows (rows_are (quantity_rows (length orders)) (quantities_are (length orders))) rs;
       right_sides = All-append IsValue quantities (replicate (length states) fraction_zero) qs (All-replicate IsValue (length states) fraction_zero zero_value);
       costs = All-append IsValue costs (whole (negsuc 0) ∷ []) cs (All-cons IsValue (whole (negsuc 0)) [] (whole_value (negsuc 0) (omega arith)) (All-nil IsValue));
     })))

@@ -3,7 +3,6 @@ use Rattle.std.proofs.Common.{◌≡◌, ◌≢◌, ℕ, ◌≤◌, List, [], �
 use Rattle.std.specs.Prelude.{Result, Ok, Err, if◌then◌else◌}
 use Rattle.std.specs.List.{All}
 use Rattle.std.proofs.lemmas.Bool.{le-leb}
-use Rattle.std.proofs.lemmas.Int.{ints}
 use Rattle.std.proofs.lemmas.List.Elements.{All-nil, All-cons, All-head, All-tail}
 use Rattle.exact_num.specs.declared.misfit.Operator.{Operator}
 use Rattle.exact_num.specs.declared.misfit.Operator.TheVariants as operator
@@ -20,32 +19,14 @@ use Rattle.form.specs.declared.orders.Side.{Side}
 use Rattle.form.specs.declared.orders.Side.TheVariants.{Buy, Sell}
 use Rattle.form.specs.Steps.{add_for_side}
 use Rattle.master_program.specs.Master.{map_steps, signed_for}
-use Rattle.table_run.specs.Ending.{Ending, done, unbounded, wide_at, no_unit_left, on_answer, on_steps}
-use Rattle.clearing.proofs.RoundNumbers.{IsNumber}
-use Rattle.reply_print.specs.Within.{IsPair}
-
--- in lowest terms, with both parts at most 2^127 - 1
-abbrev pub IsValue : Fraction → Type 0
-IsValue x = IsNumber largest x
-
-abbrev pub AreValues : List Fraction → Type 0
-AreValues xs = All IsValue xs
-
--- the operands of a step that does not fit
-pub record AreOperands (w : Wide) : Type 0 where
-  pub left : IsPair w.left
-  pub right : IsPair w.right
+use Rattle.table_run.specs.Ending.{Ending, on_answer, on_steps}
+use Rattle.table_run.proofs.Endings.{on_answer-by}
+use Rattle.run_values.specs.Values.{IsValue, AreOperands, Ends}
 
 -- a fact of what steps give; and where one does not fit, its operands are numbers of the code
 abbrev pub Has : {A : Type 0} → (A → Type 0) → Result A Wide → Type 0
 Has P (Ok a) = P a
 Has P (Err w) = AreOperands w
-
-abbrev pub Ends : {A : Type 0} → (A → Type 0) → Ending A → Type 0
-Ends P (done a spent) = P a
-Ends P (unbounded d spent) = Unit {0}
-Ends P (wide_at spent w) = AreOperands w
-Ends P (no_unit_left spent) = Unit {0}
 
 -- nothing is said of an answer
 abbrev pub Nothing : {A : Type 0} → A → Type 0
@@ -61,10 +42,7 @@ weaker_has P Q (Ok a) f h = f a h
 weaker_has P Q (Err w) f h = h
 
 pub answer_ends : {A B : Type 0} (P : A → Type 0) (Q : B → Type 0) (e : Ending A) (next : A → ℕ → Ending B) → Ends P e → ((a : A) (spent : ℕ) → P a → Ends Q (next a spent)) → Ends Q (on_answer e next)
-answer_ends P Q (done a spent) next h f = f a spent h
-answer_ends P Q (unbounded d spent) next h f = tt
-answer_ends P Q (wide_at spent w) next h f = h
-answer_ends P Q (no_unit_left spent) next h f = tt
+answer_ends P Q e next h f = on_answer-by (λ a spent. P a) (λ b spent. Q b) (Unit {0}) (λ w spent. AreOperands w) e next h f
 
 pub steps_end : {A B : Type 0} (P : A → Type 0) (Q : B → Type 0) (spent : ℕ) (r : Result A Wide) (next : A → Ending B) → Has P r → ((a : A) → P a → Ends Q (next a)) → Ends Q (on_steps spent r next)
 steps_end P Q spent (Ok a) next h f = f a h
@@ -106,15 +84,8 @@ pub signed_value : (side : Side) (x : Fraction) → IsValue x → IsValue (signe
 signed_value Buy x is = is
 signed_value Sell x is = negated_value x is
 
-operand : (x : Fraction) → IsValue x → IsPair (x.numerator, pos x.denominator)
-operand x is =
-    let some = is.lowest.positive in
-    let above = is.small.above in
-    let below = is.small.below in
-    (is.lowest, omega (arith, ints, some), omega (arith, above), omega (arith, ints, below))
-
 pub misfit_has : (operator : Operator) (x y : Fraction) → IsValue x → IsValue y → AreOperands (misfit operator x y)
-misfit_has operator x y is are = record { left = operand x is; right = operand y are }
+misfit_has operator x y is are = record { left = x; right = y; left_is = refl; right_is = refl; left_value = is; right_value = are }
 
 pub add_has : (x y : Fraction) → IsValue x → IsValue y → Has IsValue (add_of largest x y)
 unfolding add_of

@@ -20,23 +20,20 @@ use Rattle.form.specs.Primitive.{common_divisor, common_multiple_of, multiple_wi
 use Rattle.form.specs.Vector.{positive_part, scale_of}
 use Rattle.form.proofs.SameBundle.{length-bundle_legs}
 use Rattle.clearing_model.specs.Tree.{Sign}
-use Rattle.clearing_model.specs.Written.{PlacedMultiplier}
 use Rattle.sign_tree.specs.Legs.{FractionLeg, fraction_leg, fraction_legs, legs_filled, legs_of_order}
 use Rattle.sign_tree.specs.Walk.{less_liability}
 use Rattle.master_program.specs.Master.{map_steps, order_payoff}
-use Rattle.node_program.specs.Node.{if_covering, covers_of, minus_units, signed_of, size_row}
+use Rattle.node_program.specs.Node.{after_zero, if_covering, covers_of, minus_units, signed_of, size_row}
 use Rattle.node_program.specs.Roles.{Role, Idle, Covering, Free, Above, Below, NodeLeg, can_split, entries, leg_multipliers, placed_from, split_from, values, with_multiplier}
 use Rattle.node_program.specs.Search.{NodeFound, leaf, violated, splits, add_filled, add_owed, excess_of, leaf_of, on_place}
-use Rattle.node_program.specs.Steps.{add_all_earned, add_by_role, add_earned, counted_node, counted_role, cover_cost_steps, cover_rows_steps, covering_legs, leg_fill, negated_of, node_steps, signed_row_steps, signed_rows_steps, state_cost_steps, with_row}
+use Rattle.node_program.specs.Steps.{add_all_earned, add_by_role, add_earned, counted_node, counted_role, cover_cost_steps, cover_rows_steps, covering_legs, leg_fill_steps, negated_of, node_steps, signed_row_steps, signed_rows_steps, state_cost_steps, with_row}
 use Rattle.search_laws.proofs.Placed.{all_multipliers}
 use Rattle.table_run.specs.Places.{fraction_zero}
-use Rattle.common_texts.specs.Between.{Between}
-use Rattle.reply_ranges.proofs.Masters.{HasValues, units_are}
-use Rattle.master_program.proofs.WithinSizes.{IsUnit}
-use Rattle.reply_ranges.proofs.Numbers.{AreValues, Ends, Has, IsValue, Nothing, after_has, fold_has, for_side_has, less_product_has, map_has, mul_has, negated_value, plus_product_has, sub_has, whole_has, whole_value, zero_value}
-use Rattle.reply_ranges.proofs.Payoffs.{IsEntry, IsLegSmall, IsSmall, IsSmallState, legs_small, order_has, scale_small, part_small, quotient_small}
-use Rattle.reply_ranges.proofs.Readings.{IsFillOf, fills_are}
-use Rattle.clearing.proofs.NodeSizes.{minus_units_are}
+use Rattle.run_values.specs.Values.{AreValues, Ends, IsPlacedOf, IsSmall, IsSmallState, IsValue}
+use Rattle.run_values.proofs.Masters.{HasValues, IsUnit, units_are}
+use Rattle.run_values.proofs.Numbers.{Has, Nothing, after_has, fold_has, for_side_has, less_product_has, map_has, mul_has, negated_value, plus_product_has, sub_has, whole_has, whole_value, zero_value}
+use Rattle.run_values.proofs.Payoffs.{IsEntry, IsLegSmall, legs_small, order_has, scale_small, part_small, quotient_small}
+use Rattle.run_values.proofs.Readings.{IsFillOf, fills_are}
 
 -- ---- legs
 pub record IsLegOf (leg : FractionLeg) : Type 0 where
@@ -87,9 +84,17 @@ entry_low x low = omega (arith, low)
 entry_has : (x : ℤ) → IsEntry x → Has IsValue (whole_of largest x)
 entry_has x low = whole_has x (entry_low x low)
 
+-- ---- rows of 0 and -1
+minus_units_are : (k : ℕ) → All (All IsUnit) (minus_units k)
+minus_units_are zero = All-nil (All IsUnit)
+minus_units_are (suc k) =
+    let first = All-cons IsUnit (negsuc 0) (replicate k (pos 0)) (omega arith) (All-replicate IsUnit k (pos 0) (omega arith)) in
+    let others = All-map (All IsUnit) after_zero (minus_units k) (All-weaker (All IsUnit) (λ r. All IsUnit (after_zero r)) (λ r are. All-cons IsUnit (pos 0) r (omega arith) are) (minus_units k) (minus_units_are k)) in
+    All-cons (All IsUnit) (negsuc 0 ∷ replicate k (pos 0)) (map after_zero (minus_units k)) first others
+
 -- ---- costs
-fill_has : (leg : FractionLeg) → IsLegOf leg → Has IsValue (leg_fill largest leg)
-unfolding leg_fill
+fill_has : (leg : FractionLeg) → IsLegOf leg → Has IsValue (leg_fill_steps largest leg)
+unfolding leg_fill_steps
 fill_has leg of =
     let few = of.size in
     after_has IsValue IsValue (whole_of largest (pos leg.size)) _ (whole_has (pos leg.size) (omega (arith, ints, few))) (λ size s. mul_has leg.fill size of.fill s)
@@ -97,7 +102,7 @@ fill_has leg of =
 earned_has : (total : Fraction) (leg : FractionLeg) (x : ℤ) → IsValue total → IsLegOf leg → IsEntry x → Has IsValue (add_earned largest total leg x)
 unfolding add_earned
 earned_has total leg x is of low =
-    after_has IsValue IsValue (leg_fill largest leg) _ (fill_has leg of)
+    after_has IsValue IsValue (leg_fill_steps largest leg) _ (fill_has leg of)
     (λ fill f. after_has IsValue IsValue (whole_of largest x) _ (entry_has x low) (λ entry e. plus_product_has total fill entry is f e))
 
 role_has : (total : Fraction) (role : Role) (leg : FractionLeg) (x : ℤ) → IsValue total → IsLegOf leg → IsEntry x → Has IsValue (add_by_role largest total role leg x)
@@ -129,7 +134,7 @@ cost_has legs L signs i of l =
 
 cover_cost_has : (leg : FractionLeg) → IsLegOf leg → Has IsValue (cover_cost_steps largest leg)
 unfolding cover_cost_steps
-cover_cost_has leg of = after_has IsValue IsValue (leg_fill largest leg) _ (fill_has leg of) (λ fill f. negated_value fill f)
+cover_cost_has leg of = after_has IsValue IsValue (leg_fill_steps largest leg) _ (fill_has leg of) (λ fill f. negated_value fill f)
 
 covering_are : (legs : List FractionLeg) (signs : List Sign) → All IsLegOf legs → All IsLegOf (covering_legs legs signs)
 covering_are [] signs of = All-nil IsLegOf
@@ -277,10 +282,6 @@ excess_has fills L z of l small =
     (λ net n. after_has IsValue IsValue (whole_of largest (pos (scale_of z))) _ (whole_has (pos (scale_of z)) (scale_small z small)) (λ t s. less_product_has net L t n l s))
 
 -- ---- a node
-pub record IsPlacedOf (k : ℕ) (m : PlacedMultiplier) : Type 0 where
-  pub place : Between 1 k m.place
-  pub by : IsValue m.by
-
 abbrev pub IsShown : ℕ → NodeFound → Type 0
 IsShown k (leaf ms) = All (IsPlacedOf k) ms
 IsShown k (violated z) = IsSmallState z

@@ -20,18 +20,12 @@ use Rattle.node_program.proofs.Wider.{both_sides, joined, minus_side}
 use Rattle.rounds.specs.Answers.{limits_of}
 use Rattle.table_run.specs.Ending.{Ending, done, no_unit_left, on_steps}
 use Rattle.table_run.specs.Run.{Optimum, optimum, run}
-use Rattle.common_texts.specs.Between.{Between}
-use Rattle.reply_ranges.proofs.Masters.{HasValues}
-use Rattle.reply_ranges.proofs.Nodes.{IsPlacedOf, IsShown, excess_has, leaf_has, legs_are, legs_few, node_count, node_has, place_ends, primitive_has, split_low}
-use Rattle.reply_ranges.proofs.Numbers.{Ends, IsValue, answer_ends, steps_end}
-use Rattle.reply_ranges.proofs.Payoffs.{IsSmall, IsSmallState}
-use Rattle.reply_ranges.proofs.Readings.{IsReadingOf, fills_are, solve_has}
-use Rattle.reply_ranges.proofs.Runs.{IsOptimumOf, run_has}
-
--- a tree over so many legs
-abbrev pub IsTreeOf : ℕ → WrittenTree → Type 0
-IsTreeOf k (EndsTree ms) = All (IsPlacedOf k) ms
-IsTreeOf k (Parts place plus minus) = Between 1 k place × IsTreeOf k plus × IsTreeOf k minus
+use Rattle.run_values.specs.Values.{Ends, IsPlacedOf, IsReadingOf, IsSmall, IsSmallState, IsTreeOf, IsValue}
+use Rattle.run_values.proofs.Masters.{HasValues}
+use Rattle.run_values.proofs.Nodes.{IsShown, excess_has, leaf_has, legs_are, legs_few, node_count, node_has, place_ends, primitive_has, split_low}
+use Rattle.run_values.proofs.Numbers.{answer_ends, steps_end}
+use Rattle.run_values.proofs.Readings.{fills_are, solve_has}
+use Rattle.run_values.proofs.Runs.{IsOptimumOf, run_has}
 
 abbrev IsFound : ℕ → Found → Type 0
 IsFound k (closed tree) = IsTreeOf k tree

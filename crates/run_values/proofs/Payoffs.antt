@@ -18,15 +18,10 @@ use Rattle.form.specs.Steps.{add_entry, add_leg, bundle_payoff_of, or_zero, payo
 use Rattle.form.specs.Vector.{over_legs, positive_part, scale_of}
 use Rattle.form.proofs.SameBundle.{length-bundle_legs}
 use Rattle.master_program.specs.Master.{order_payoff, payoff_at_zero, strike_payoff}
-use Rattle.reply_ranges.proofs.Numbers.{IsValue, Has, after_has, fold_has, plus_product_has, whole_value, zero_value}
+use Rattle.run_values.specs.Values.{IsSmall, IsSmallState, IsValue}
+use Rattle.run_values.proofs.Numbers.{Has, after_has, fold_has, plus_product_has, whole_value, zero_value}
 
 -- ---- small numbers
-abbrev pub IsSmall : ℕ → Type 0
-IsSmall x = x ≤ largest
-
-abbrev pub IsSmallState : List ℕ → Type 0
-IsSmallState z = All IsSmall z
-
 abbrev pub IsEntry : ℤ → Type 0
 IsEntry a = unsigned_abs a ≤ 1000000000
 

@@ -20,9 +20,10 @@ use Rattle.line_cover.specs.Net.{add_payoff, excess, net_of}
 use Rattle.rounds.specs.Run.{line_run, sums_hold}
 use Rattle.master_program.specs.Solve.{master_solve}
 use Rattle.table_run.specs.Ending.{done, where_fits}
-use Rattle.reply_ranges.proofs.Numbers.{Ends, Has, IsValue, Nothing, after_has, all_has, answer_ends, fold_has, for_side_has, less_product_has, steps_end, then_has, whole_value, zero_value}
-use Rattle.reply_ranges.proofs.Payoffs.{IsEntry, IsLegSmall, IsSmall, IsSmallState, bundle_has, legs_small, scale_small, quotient_small}
-use Rattle.reply_ranges.proofs.Readings.{IsFillOf, IsReadingOf, fills_are, solve_has, sums_have}
+use Rattle.run_values.specs.Values.{Ends, IsReadingOf, IsSmall, IsSmallState, IsValue}
+use Rattle.run_values.proofs.Numbers.{Has, Nothing, after_has, all_has, answer_ends, fold_has, for_side_has, less_product_has, steps_end, then_has, whole_value, zero_value}
+use Rattle.run_values.proofs.Payoffs.{IsEntry, IsLegSmall, bundle_has, legs_small, scale_small, quotient_small}
+use Rattle.run_values.proofs.Readings.{IsFillOf, fills_are, solve_has, sums_have}
 
 two_small : (t s : ℕ) → t ≤ largest → s ≤ largest → IsSmallState (t ∷ s ∷ [])
 two_small t s first second = All-cons IsSmall t (s ∷ []) first (All-cons IsSmall s [] second (All-nil IsSmall))

@@ -12,15 +12,17 @@ use Rattle.exact_num.specs.Tests.{is_above_zero}
 use Rattle.frac.specs.Range.{limit as largest}
 use Rattle.table_run.specs.Choice.{Ratio, entering, least, ratio_in, ratios}
 use Rattle.table_run.specs.Ending.{unbounded, wide_at, no_unit_left}
-use Rattle.table_run.specs.Pivot.{cleared, divided, each, each_pair, less_product, pivoted, row_after, rows_after}
-use Rattle.table_run.specs.Places.{at, fraction_zero, listed}
+use Rattle.table_run.specs.Pivot.{less_pivot_row, over_pivot, each, each_pair, less_product, after_pivot, row_after, rows_after}
+use Rattle.table_run.specs.Places.{at, fraction_zero}
 use Rattle.table_run.specs.Program.{LinearProgram, row}
 use Rattle.table_run.specs.Run.{Optimum, optimum, Turn, moved, unlimited, stopped, direction, leave, moved_or_stopped, on_entering, on_ratios, on_turn, read_off, run, run_from, turn}
-use Rattle.table_run.specs.Table.{Row, Table, entries_at, first_table, right_side, row_of, rows_from, unit_row, where_basic}
+use Rattle.table_run.specs.Table.{Row, Table, entries_at, first_row, first_table, right_side, row_of, unit_row, where_basic}
 use Rattle.table_run.proofs.Choices.{least_limits}
 use Rattle.table_run.proofs.Ends.{holds_at}
-use Rattle.reply_ranges.proofs.Masters.{HasValues}
-use Rattle.reply_ranges.proofs.Numbers.{AreOperands, AreValues, Ends, Has, IsValue, Nothing, after_has, div_has, mul_has, negated_value, sub_has, whole_value, zero_value}
+use Rattle.table_run.proofs.Listed.{listed_all}
+use Rattle.run_values.specs.Values.{AreOperands, AreValues, Ends, IsValue}
+use Rattle.run_values.proofs.Masters.{HasValues}
+use Rattle.run_values.proofs.Numbers.{Has, Nothing, after_has, div_has, mul_has, negated_value, sub_has, whole_value, zero_value}
 
 -- ---- lists of numbers
 pub at_value : (xs : List Fraction) (i : ℕ) → AreValues xs → IsValue (at xs i)
@@ -42,12 +44,12 @@ pair_has f h (x ∷ xs) (p ∷ ps) are also =
     after_has IsValue AreValues (f x p) _ (h x p (All-head IsValue x xs are) (All-head IsValue p ps also))
     (λ y v. after_has AreValues AreValues (each_pair f xs ps) _ (pair_has f h xs ps (All-tail IsValue x xs are) (All-tail IsValue p ps also)) (λ ys vs. All-cons IsValue y ys v vs))
 
-divided_has : (e : ℕ) (xs : List Fraction) → AreValues xs → (at xs e).numerator ≢ pos 0 → Has AreValues (divided largest e xs)
-unfolding divided
+divided_has : (e : ℕ) (xs : List Fraction) → AreValues xs → (at xs e).numerator ≢ pos 0 → Has AreValues (over_pivot largest e xs)
+unfolding over_pivot
 divided_has e xs are some = each_has (λ x. div_of largest x (at xs e)) (λ x v. div_has x (at xs e) v (at_value xs e are) some) xs are
 
-cleared_has : (e : ℕ) (pivot xs : List Fraction) → AreValues pivot → AreValues xs → Has AreValues (cleared largest e pivot xs)
-unfolding cleared
+cleared_has : (e : ℕ) (pivot xs : List Fraction) → AreValues pivot → AreValues xs → Has AreValues (less_pivot_row largest e pivot xs)
+unfolding less_pivot_row
 cleared_has e pivot xs also are =
     pair_has (less_product largest (at xs e))
     (λ x p v w. after_has IsValue IsValue (mul_of largest (at xs e) p) (λ product. sub_of largest x product) (mul_has (at xs e) p (at_value xs e are) w) (λ product h. sub_has x product v h))
@@ -64,9 +66,9 @@ pub record HasEntries (t : Table) : Type 0 where
 row_after_has : (e r : ℕ) (pivot : List Fraction) (i : ℕ) (row : Row) → AreValues pivot → IsRowOf row → Has IsRowOf (row_after largest e r pivot i row)
 row_after_has e r pivot i row also are = by (nat_eq i r)
   where
-    by : (b : Bool) → Has IsRowOf (if b then Ok (row_of e pivot) else after (cleared largest e pivot row.entries) (λ es. Ok (row_of row.basic es)))
+    by : (b : Bool) → Has IsRowOf (if b then Ok (row_of e pivot) else after (less_pivot_row largest e pivot row.entries) (λ es. Ok (row_of row.basic es)))
     by true = also
-    by false = after_has AreValues IsRowOf (cleared largest e pivot row.entries) (λ es. Ok (row_of row.basic es)) (cleared_has e pivot row.entries also are) (λ es vs. vs)
+    by false = after_has AreValues IsRowOf (less_pivot_row largest e pivot row.entries) (λ es. Ok (row_of row.basic es)) (cleared_has e pivot row.entries also are) (λ es vs. vs)
 
 rows_after_has : (e r : ℕ) (pivot : List Fraction) (i : ℕ) (rows : List Row) → AreValues pivot → All IsRowOf rows → Has (All IsRowOf) (rows_after largest e r pivot i rows)
 unfolding rows_after
@@ -81,12 +83,12 @@ entries_are [] r are = All-nil IsValue
 entries_are (row ∷ rows) zero are = All-head IsRowOf row rows are
 entries_are (row ∷ rows) (suc r) are = entries_are rows r (All-tail IsRowOf row rows are)
 
-pivoted_has : (e r : ℕ) (t : Table) → HasEntries t → (at (entries_at t.rows r) e).numerator ≢ pos 0 → Has HasEntries (pivoted largest e r t)
-unfolding pivoted
+pivoted_has : (e r : ℕ) (t : Table) → HasEntries t → (at (entries_at t.rows r) e).numerator ≢ pos 0 → Has HasEntries (after_pivot largest e r t)
+unfolding after_pivot
 pivoted_has e r t has some =
-    after_has AreValues HasEntries (divided largest e (entries_at t.rows r)) _ (divided_has e (entries_at t.rows r) (entries_are t.rows r has.rows) some)
+    after_has AreValues HasEntries (over_pivot largest e (entries_at t.rows r)) _ (divided_has e (entries_at t.rows r) (entries_are t.rows r has.rows) some)
     (λ pivot p. after_has (All IsRowOf) HasEntries (rows_after largest e r pivot 0 t.rows) _ (rows_after_has e r pivot 0 t.rows p has.rows)
-    (λ rows rs. after_has AreValues HasEntries (cleared largest e pivot t.objective) _ (cleared_has e pivot t.objective p has.objective)
+    (λ rows rs. after_has AreValues HasEntries (less_pivot_row largest e pivot t.objective) _ (cleared_has e pivot t.objective p has.objective)
     (λ objective o. record { rows = rs; objective = o })))
 
 -- ---- a turn
@@ -131,17 +133,12 @@ turn_has e t has = by (ratios largest t.columns e 0 t.rows) refl (ratios_has t.c
     by (Ok []) is h = tt
     by (Ok (q ∷ qs)) is h =
         let limits = least_limits largest t.columns e t.rows q qs low is in
-        pivots (pivoted largest e (least q qs).place t) (pivoted_has e (least q qs).place t has (above_some _ limits.1))
+        pivots (after_pivot largest e (least q qs).place t) (pivoted_has e (least q qs).place t has (above_some _ limits.1))
     by (Err w) is h = h
 
 -- ---- what is read off
 abbrev pub IsOptimumOf : Optimum → Type 0
 IsOptimumOf (optimum x y reduced value) = AreValues x × AreValues y × AreValues reduced × IsValue value
-
-listed_values : (f : ℕ → Fraction) → ((j : ℕ) → IsValue (f j)) → (i n : ℕ) → AreValues (listed f i n)
-unfolding listed
-listed_values f h i zero = All-nil IsValue
-listed_values f h i (suc n) = All-cons IsValue (f i) (listed f (i + 1) n) (h i) (listed_values f h (i + 1) n)
 
 basic_value : (f : Row → Fraction) (j : ℕ) (rows : List Row) → ((row : Row) → IsRowOf row → IsValue (f row)) → All IsRowOf rows → IsValue (where_basic f j rows)
 unfolding where_basic
@@ -155,7 +152,7 @@ basic_value f j (row ∷ rows) h are = by (nat_eq row.basic j) (basic_value f j 
 read_has : (n m : ℕ) (t : Table) (spent : ℕ) → HasEntries t → Ends IsOptimumOf (read_off n m t spent)
 unfolding read_off
 read_has n m t spent has =
-    let solved = listed_values _ (λ j. basic_value (λ row. right_side t.columns row.entries) j t.rows (λ row are. at_value row.entries t.columns are) has.rows) 0 n in
+    let solved = listed_all IsValue _ (λ j. basic_value (λ row. right_side t.columns row.entries) j t.rows (λ row are. at_value row.entries t.columns are) has.rows) 0 n in
     (solved, All-take IsValue m (drop n t.objective) (All-drop IsValue n t.objective has.objective), All-take IsValue n t.objective has.objective, at_value t.objective t.columns has.objective)
 
 -- ---- the run
@@ -186,22 +183,19 @@ unit_values zero i = All-nil IsValue
 unit_values (suc n) zero = All-cons IsValue (whole (pos 1)) (replicate n fraction_zero) (whole_value (pos 1) (omega arith)) (All-replicate IsValue n fraction_zero zero_value)
 unit_values (suc n) (suc i) = All-cons IsValue fraction_zero (unit_row n i) zero_value (unit_values n i)
 
-first_rows : (p : LinearProgram) (i n : ℕ) → HasValues p → All IsRowOf (rows_from p i n)
-unfolding rows_from
-first_rows p i zero has = All-nil IsRowOf
-first_rows p i (suc n) has =
+first_row_of : (p : LinearProgram) (i : ℕ) → HasValues p → IsRowOf (first_row p i)
+first_row_of p i has =
     let own = All-take IsValue p.variables (drop (i * p.variables) p.coefficients) (All-drop IsValue (i * p.variables) p.coefficients has.coefficients) in
     let right = All-cons IsValue (at p.right_sides i) [] (at_value p.right_sides i has.right_sides) (All-nil IsValue) in
     let front = row p i ++ unit_row p.rows i in
-    All-cons IsRowOf (row_of (p.variables + i) (front ++ (at p.right_sides i ∷ []))) (rows_from p (i + 1) n)
-    (All-append IsValue front (at p.right_sides i ∷ []) (All-append IsValue (row p i) (unit_row p.rows i) own (unit_values p.rows i)) right) (first_rows p (i + 1) n has)
+    All-append IsValue front (at p.right_sides i ∷ []) (All-append IsValue (row p i) (unit_row p.rows i) own (unit_values p.rows i)) right
 
 first_has : (p : LinearProgram) → HasValues p → HasEntries (first_table p)
 unfolding first_table
 first_has p has =
     let turned = All-map IsValue negated p.costs (All-weaker IsValue (λ x. IsValue (negated x)) negated_value p.costs has.costs) in
     record {
-      rows = first_rows p 0 p.rows has;
+      rows = listed_all IsRowOf (first_row p) (λ i. first_row_of p i has) 0 p.rows;
       objective = All-append IsValue (map negated p.costs) (replicate (p.rows + 1) fraction_zero) turned (All-replicate IsValue (p.rows + 1) fraction_zero zero_value);
     }
 

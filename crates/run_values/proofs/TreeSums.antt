@@ -22,11 +22,12 @@ use Rattle.node_program.specs.Rounds.{Cleared, rounds}
 use Rattle.rounds.specs.Answers.{limits_of}
 use Rattle.search_laws.specs.Run.{sums_hold, tree_run}
 use Rattle.table_run.specs.Ending.{done, where_fits}
-use Rattle.reply_ranges.proofs.Nodes.{IsLegOf, entry_low, legs_are, less_has, read_entry}
-use Rattle.reply_ranges.proofs.Numbers.{Ends, Has, IsValue, Nothing, after_has, all_has, answer_ends, fold_has, less_product_has, mul_has, plus_product_has, steps_end, then_has, whole_value, zero_value}
-use Rattle.reply_ranges.proofs.Payoffs.{IsEntry, part_small}
-use Rattle.reply_ranges.proofs.Readings.{sums_have}
-use Rattle.reply_ranges.proofs.Searches.{IsClearedOf, IsTreeOf, rounds_end}
+use Rattle.run_values.specs.Values.{Ends, IsPlacedOf, IsTreeOf, IsValue}
+use Rattle.run_values.proofs.Nodes.{IsLegOf, entry_low, legs_are, less_has, read_entry}
+use Rattle.run_values.proofs.Numbers.{Has, Nothing, after_has, all_has, answer_ends, fold_has, less_product_has, mul_has, plus_product_has, steps_end, then_has, whole_value, zero_value}
+use Rattle.run_values.proofs.Payoffs.{IsEntry, part_small}
+use Rattle.run_values.proofs.Readings.{sums_have}
+use Rattle.run_values.proofs.Searches.{IsClearedOf, rounds_end}
 
 abbrev IsBy : PlacedMultiplier → Type 0
 IsBy m = IsValue m.by
@@ -129,9 +130,12 @@ walk_has n legs L (LeafNode count ∷ nodes) (signs ∷ pending) ms of l are =
       | false ↦ tt
     ]
 
-by_values : (k : ℕ) (tree : WrittenTree) → IsTreeOf k tree → All IsBy (multipliers_of tree)
-by_values k (EndsTree ms) of = λ i d inside. (of i d inside).by
-by_values k (Parts place plus minus) of = All-append IsBy (multipliers_of plus) (multipliers_of minus) (by_values k plus of.1) (by_values k minus of.2)
+pub placed : (k : ℕ) (tree : WrittenTree) → IsTreeOf k tree → All (IsPlacedOf k) (multipliers_of tree)
+placed k (EndsTree ms) of = of
+placed k (Parts place plus minus) of = All-append (IsPlacedOf k) (multipliers_of plus) (multipliers_of minus) (placed k plus of.1) (placed k minus of.2)
+
+pub by_values : (k : ℕ) (tree : WrittenTree) → IsTreeOf k tree → All IsBy (multipliers_of tree)
+by_values k tree of = λ i d inside. (placed k tree of i d inside).by
 
 -- ---- the run
 sums_are : (n : ℕ) (orders : List Order) (c : Cleared) → All IsOrderWithin orders → IsClearedOf c → Has Nothing (sums_hold largest n orders c)

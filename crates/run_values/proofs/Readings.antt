@@ -26,21 +26,13 @@ use Rattle.master_program.specs.Verdict.{sums_with}
 use Rattle.table_run.specs.Ending.{done}
 use Rattle.table_run.specs.Places.{at, fraction_zero}
 use Rattle.table_run.specs.Run.{Optimum, optimum, run}
-use Rattle.reply_ranges.proofs.Masters.{HasValues, master_has}
-use Rattle.reply_ranges.proofs.Numbers.{AreValues, Ends, Has, IsValue, Nothing, add_has, after_has, answer_ends, fold_has, for_side_has, plus_product_has, signed_value, steps_end, sub_has, then_has, whole_has, whole_value, zero_value}
-use Rattle.reply_ranges.proofs.Payoffs.{IsSmall, IsSmallState, at_zero_small, bundle_has, legs_small, scale_small}
-use Rattle.reply_ranges.proofs.Runs.{IsOptimumOf, at_value, run_has}
+use Rattle.run_values.specs.Values.{AreValues, Ends, IsPointOf, IsReadingOf, IsSmall, IsSmallState, IsValue}
+use Rattle.run_values.proofs.Masters.{HasValues, master_has}
+use Rattle.run_values.proofs.Numbers.{Has, Nothing, add_has, after_has, answer_ends, fold_has, for_side_has, plus_product_has, signed_value, steps_end, sub_has, then_has, whole_has, whole_value, zero_value}
+use Rattle.run_values.proofs.Payoffs.{at_zero_small, bundle_has, legs_small, scale_small}
+use Rattle.run_values.proofs.Runs.{IsOptimumOf, at_value, run_has}
 
 -- ---- what is read off
-abbrev pub IsPointOf : Point → Type 0
-IsPointOf point = IsSmallState point.0 × IsValue point.1
-
-pub record IsReadingOf (r : Reading) : Type 0 where
-  pub fills : AreValues r.fills
-  pub liability : IsValue r.liability
-  pub surplus : IsValue r.surplus
-  pub points : All IsPointOf r.measure
-
 -- an order with its fill
 abbrev pub IsFillOf : Order × Fraction → Type 0
 IsFillOf fill = IsOrderWithin fill.0 × IsValue fill.1

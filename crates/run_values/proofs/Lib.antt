@@ -1,0 +1,10 @@
+pub mod Numbers
+pub mod Payoffs
+pub mod Masters
+pub mod Runs
+pub mod Readings
+pub mod LineRuns
+pub mod Nodes
+pub mod Searches
+pub mod TreeSums
+pub mod Solutions
