@@ -13,12 +13,12 @@ use Rattle.frac.specs.declared.frac128.Frac128.{Frac128}
 use Rattle.frac.specs.Value.{fraction_of}
 use Rattle.form.specs.declared.orders.Order.{Order}
 use Rattle.form.specs.declared.orders.Batch.{Batch}
-use Rattle.form.specs.Payoff.{IsState, BundleLeg, IsBundle, bundle_of, form_count, legs_in, IsOnCount, leg_of}
+use Rattle.form.specs.Payoff.{IsState, BundleLeg, IsBundle, bundle_of, legs_in, IsOnCount, is_on_count, leg_of}
 use Rattle.clearing_model.specs.Clearing.{AreOn}
 use Rattle.clearing_model.specs.Certificate.{Point, IsFill, AreFractionFills}
 use Rattle.form.proofs.DotSteps.{length-vector_of}
 use Rattle.form.proofs.Vectors.{length-option_of}
-use Rattle.form.proofs.BundleLegs.{is_bundle_of, on_count-from, on_count-is}
+use Rattle.form.proofs.BundleLegs.{is_bundle_of, on_count-from, on_count-true}
 use Rattle.measure.specs.declared.measures.Weighted.{Weighted}
 use Rattle.measure.specs.declared.measures.Measure.{Measure}
 use Rattle.measure.specs.Points.{point_of}
@@ -43,19 +43,19 @@ true_is_less : (a b : ℕ) → nat_lt a b ≡ true → a < b
 true_is_less a b h = grind (arith, nat_tests)
 
 -- the forms of a bundle on n underlyings have n + 1 entries
-count_of_order : (n : ℕ) (o : Order) → IsBundle n (bundle_of o) → form_count o.bundle ≡ n + 1
+count_of_order : (n : ℕ) (o : Order) → IsBundle n (bundle_of o) → IsOnCount (n + 1) o.bundle
 unfolding bundle_of
 count_of_order n o is =
     let P : BundleLeg → Type 0 = λ leg. (leg.count ≡ pos 0 → ⊥) × (length leg.option ≡ n + 1) in
     let each = All-of_map P leg_of (legs_in o.bundle) is.2 in
-    on_count-is (n + 1) o.bundle (λ k d lt. sym (length-option_of (get_or (legs_in o.bundle) k d).form) ∙ (each k d lt).1)
+    λ k d lt. sym (length-option_of (get_or (legs_in o.bundle) k d).form) ∙ (each k d lt).1
 
 forms_all : (n : ℕ) (os : List Order) → forms_have n os ≡ true → All (λ (order : Order). IsOnCount n order.bundle) os
-forms_all n os h = λ k d lt. on_count-from n (get_or os k d).bundle (eqb-true _ n (AllPass-from_list_all (λ (order : Order). form_count order.bundle == n) os h k d lt))
+forms_all n os h = λ k d lt. on_count-from n (get_or os k d).bundle (AllPass-from_list_all (λ (order : Order). is_on_count n order.bundle) os h k d lt)
 
 forms_pass : (n : ℕ) (os : List Order) → AreOn n os → forms_have (n + 1) os ≡ true
 forms_pass n os on =
-    list_all-from_AllPass (λ (order : Order). form_count order.bundle == n + 1) os (λ k d lt. equal_is_true _ (n + 1) (count_of_order n _ (on k d lt)))
+    list_all-from_AllPass (λ (order : Order). is_on_count (n + 1) order.bundle) os (λ k d lt. on_count-true (n + 1) (get_or os k d).bundle (count_of_order n _ (on k d lt)))
 
 -- each state has so many entries
 abbrev HasEntries : ℕ → Weighted → Type 0

@@ -1,5 +1,5 @@
 -- The conditions of a certificate, in the words of the model.
-use Rattle.std.specs.Prelude.{ℕ, ◌≡◌, ◌<◌, List, [], ◌∷◌, length, map, zip, pos, ◌≤ℤ◌}
+use Rattle.std.specs.Prelude.{ℕ, Bool, true, false, ◌≡◌, ◌<◌, List, [], ◌∷◌, length, map, zip, pos, ◌≤ℤ◌}
 use Rattle.std.specs.List.{All}
 use Rattle.exact_num.specs.Fraction.{Fraction, whole}
 use Rattle.exact_num.specs.CommonDenominator.{amounts_of}
@@ -34,7 +34,13 @@ IfNo Yes P = Unit {0}
 IfNo (Refused condition) P = P condition
 IfNo (TooWide w) P = Unit {0}
 
--- and of the cover and the measure, where the mark is optimal
+-- whether the mark is optimal
+abbrev pub is_optimal_mark : Mark → Bool
+is_optimal_mark (Optimal cover measure) = true
+is_optimal_mark (Wide w) = false
+is_optimal_mark Budget = false
+
+-- a fact of the cover and the measure, where the mark is optimal
 abbrev pub IfOptimal : Mark → (Cover → Measure → Type 0) → Type 0
 IfOptimal (Optimal cover measure) P = P cover measure
 IfOptimal (Wide w) P = Unit {0}

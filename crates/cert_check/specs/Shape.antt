@@ -7,7 +7,7 @@ use Rattle.frac.specs.Value.{fraction_of}
 use Rattle.frac.specs.declared.frac128.Frac128.{Frac128}
 use Rattle.form.specs.declared.orders.Order.{Order}
 use Rattle.form.specs.declared.orders.Batch.{Batch}
-use Rattle.form.specs.Payoff.{form_count}
+use Rattle.form.specs.Payoff.{is_on_count}
 use Rattle.measure.specs.declared.measures.Weighted.{Weighted}
 use Rattle.measure.specs.Points.{IsOnStates}
 use Rattle.cert_check.specs.declared.outcome.Cover.{Cover}
@@ -17,9 +17,9 @@ use Rattle.cert_check.specs.declared.outcome.Mark.TheVariants.{Optimal, Wide, Bu
 use Rattle.cert_check.specs.declared.outcome.Outcome.{Outcome}
 use Rattle.cert_check.specs.Conditions.{IfOptimal, IsCoverOn}
 
--- whether each leg's form, or each state, has so many entries; the forms of a bundle have as many
+-- whether each leg's form, or each state, has so many entries
 abbrev pub forms_have : ℕ → List Order → Bool
-forms_have entries orders = list_all (λ (order : Order). form_count order.bundle == entries) orders
+forms_have entries orders = list_all (λ (order : Order). is_on_count entries order.bundle) orders
 
 abbrev pub states_have : ℕ → List Weighted → Bool
 states_have entries points = list_all (λ (point : Weighted). point.state.count == entries) points

@@ -44,7 +44,8 @@ fn balances_all(orders: &[Order], fills: &[Frac128]) -> Result<bool, Wide>
 // Whether as much is bought as sold of the bundle.
 fn balances_at(orders: &[Order], fills: &[Frac128], bundle: &Bundle) -> Result<bool, Wide>
     requires { length fills.now ≡ length orders.now }
-    ensures { result ≡ balances_at limit (order_fills orders.now fills.now) (bundle_legs bundle.now) }
+    ensures { result ≡ balances_at limit (order_fills orders.now fills.now)
+        (bundle_legs bundle.now) }
 {
     let sum = balance(orders, fills, bundle)?;
     Ok(sum == Frac128::zero())
@@ -67,8 +68,8 @@ fn balance(orders: &[Order], fills: &[Frac128], bundle: &Bundle) -> Result<Frac1
 // The total and the fill, where it is of the bundle.
 #[tactic(auto, unfolding(form::specs::Payoff::bundle_of))]
 fn add_same(total: Frac128, bundle: &Bundle, order: &Order, fill: Frac128) -> Result<Frac128, Wide>
-    ensures { meaning fraction_of result
-        ≡ add_same limit (bundle_legs bundle.now) (fraction_of total) (order.now, fraction_of fill) }
+    ensures { meaning fraction_of result ≡ add_same limit (bundle_legs bundle.now)
+        (fraction_of total) (order.now, fraction_of fill) }
 {
     if is_same_bundle(&order.bundle, bundle) {
         add_fill(total, order.side, fill)

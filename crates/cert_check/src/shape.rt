@@ -14,19 +14,16 @@ use measure::Weighted;
 pub(crate) fn has_shape(batch: &Batch, outcome: &Outcome) -> bool
     ensures { result ≡ has_shape batch.now outcome.now }
 {
-    let entries = u16::from(batch.underlyings) + 1;
     outcome.fills.as_slice().len() == batch.orders.as_slice().len()
-        && forms_have(entries, batch.orders.as_slice())
+        && are_on(batch.underlyings, batch.orders.as_slice())
         && mark_fits(batch.underlyings, &outcome.mark)
 }
 
-// Whether the form of each leg has so many entries.
-fn forms_have(entries: u16, orders: &[Order]) -> bool
-    ensures { result ≡ forms_have entries orders.now }
+// Whether each leg of each order is on so many underlyings.
+fn are_on(underlyings: u8, orders: &[Order]) -> bool
+    ensures { result ≡ forms_have (underlyings + 1) orders.now }
 {
-    orders
-        .iter()
-        .all(|order| u16::from(order.bundle.form_count()) == entries)
+    orders.iter().all(|order| order.bundle.is_on(underlyings))
 }
 
 // Whether each state has so many entries.

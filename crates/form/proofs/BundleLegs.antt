@@ -1,31 +1,31 @@
 -- What the legs of a bundle are.
-use Rattle.std.proofs.Common.{◌≡◌, ℕ, zero, suc, ◌+◌, ◌<◌, ◌≤◌, List, [], ◌∷◌, length, map, take, get_or, pos, refl, ap, ◌∙◌, arith}
+use Rattle.std.proofs.Common.{◌≡◌, ℕ, zero, suc, ◌+◌, ◌≤◌, true, List, [], ◌∷◌, nat_eq, length, map, take, get_or, pos, refl, ap, ◌∙◌, arith}
+use Rattle.std.proofs.lemmas.Bool.Decides.{nat_tests}
 use Rattle.std.proofs.lemmas.List.Elements.{All-map}
+use Rattle.std.proofs.lemmas.List.Sums.{AllPass-from_list_all, list_all-from_AllPass}
 use Rattle.form.specs.declared.forms.Form.{Form}
 use Rattle.form.specs.declared.legs.Leg.{Leg}
 use Rattle.form.specs.declared.bundles.Bundle.{Bundle}
 use Rattle.form.specs.declared.orders.Order.{Order}
 use Rattle.form.specs.Vector.{BundleLeg, IsBundle, one}
-use Rattle.form.specs.Bundles.{leg_of, legs_in, bundle_legs, count_of_forms, form_count, IsOnCount, IsOneOption, option_first, first_option}
+use Rattle.form.specs.Bundles.{leg_of, legs_in, bundle_legs, IsOnCount, is_on_count, IsOneOption, option_first, first_option}
 use Rattle.form.specs.Payoff.{option_of, bundle_of}
 use Rattle.form.proofs.Vectors.{length-option_of}
-use Rattle.form.proofs.SameBundle.{length-legs_in, length-bundle_legs}
+use Rattle.form.proofs.SameBundle.{length-bundle_legs}
 
 -- the bundle of an order is that of its legs
 pub bundle_of-legs : (o : Order) → bundle_of o ≡ bundle_legs o.bundle
 unfolding bundle_of
 bundle_of-legs o = refl
 
--- forms of a bundle have its count of entries, and no other
-pub on_count-is : (n : ℕ) (b : Bundle) → IsOnCount n b → form_count b ≡ n
-on_count-is n b h = first (legs_in b) (omega (arith, length-legs_in b, b.size_in_range.0)) h
-  where
-    first : (legs : List Leg) → 1 ≤ length legs → ((k : ℕ) (d : Leg) → k < length legs → (get_or legs k d).form.count ≡ n) → count_of_forms legs ≡ n
-    first [] some h = absurd (omega arith)
-    first (leg ∷ legs) some h = h 0 leg (omega arith)
+-- the test of the forms of a bundle decides whether each has so many entries
+pub on_count-true : (n : ℕ) (b : Bundle) → IsOnCount n b → is_on_count n b ≡ true
+on_count-true n b on = list_all-from_AllPass (λ (leg : Leg). nat_eq leg.form.count n) (legs_in b) (λ k d lt. let same = on k d lt in grind (arith, nat_tests, same))
 
-pub on_count-from : (n : ℕ) (b : Bundle) → form_count b ≡ n → IsOnCount n b
-on_count-from n b e k d lt = b.alike k d lt ∙ e
+pub on_count-from : (n : ℕ) (b : Bundle) → is_on_count n b ≡ true → IsOnCount n b
+on_count-from n b e k d lt =
+    let same = AllPass-from_list_all (λ (leg : Leg). nat_eq leg.form.count n) (legs_in b) e k d lt in
+    grind (arith, nat_tests, same)
 
 -- its legs are a bundle on as many underlyings
 pub is_bundle : (n : ℕ) (b : Bundle) → IsOnCount (n + 1) b → IsBundle n (bundle_legs b)

@@ -1,8 +1,8 @@
 -- The bundle that is made of legs.
-use Rattle.std.proofs.Common.{◌≡◌, Bool, true, false, not, List, length, map, get_or, pos, unsigned_abs, refl, sym, ap, ◌∙◌, arith}
+use Rattle.std.proofs.Common.{◌≡◌, Bool, true, false, not, List, length, map, get_or, pos, unsigned_abs, refl, sym, ap, ◌∙◌}
 use Rattle.std.specs.Ordering.{int_eq}
 use Rattle.std.proofs.lemmas.Bool.{le-leb}
-use Rattle.std.proofs.lemmas.Bool.Decides.{Decides-int_eq, nat_tests}
+use Rattle.std.proofs.lemmas.Bool.Decides.{Decides-int_eq}
 use Rattle.std.proofs.lemmas.List.Sums.{list_all-from_AllPass}
 use Rattle.arithmetic.proofs.Tests.{and_true}
 use Rattle.form.specs.declared.forms.Form.{Form}
@@ -10,7 +10,7 @@ use Rattle.form.specs.declared.legs.Leg.{Leg}
 use Rattle.form.specs.declared.bundles.Bundle.{Bundle}
 use Rattle.form.specs.declared.limits.TheConstants.{MAX_COUNT, MAX_LEGS}
 use Rattle.form.specs.Bundles.{leg_of, legs_in, IsCounted, AreLegs}
-use Rattle.form.specs.BundleOf.{bundle_one, bundle_made, made_or_one, four_front, is_counted, are_alike, are_legs, one_leg}
+use Rattle.form.specs.BundleOf.{bundle_one, bundle_made, made_or_one, four_front, is_counted, are_legs, one_leg}
 use Rattle.form.proofs.SameBundle.{bundle_is_legs}
 
 pub legs_in-bundle_one : (form : Form) → legs_in (bundle_one form) ≡ one_leg form
@@ -32,8 +32,7 @@ pub are_legs-true : (legs : List Leg) → AreLegs legs → are_legs legs ≡ tru
 are_legs-true legs h =
     let sizes = and_true _ _ (le-leb 1 (length legs) h.some) (le-leb (length legs) MAX_LEGS h.few) in
     let counted = list_all-from_AllPass is_counted legs (λ k d lt. is_counted-true (get_or legs k d) (h.counted k d lt)) in
-    let alike : are_alike legs ≡ true = list_all-from_AllPass _ legs (λ k d lt. let same = h.alike k d lt in grind (arith, nat_tests, same)) in
-    and_true _ _ (and_true _ _ sizes counted) alike
+    and_true _ _ sizes counted
 
 made_is : (legs : List Leg) (b : Bool) (e : are_legs legs ≡ b) → b ≡ true → legs_in (made_or_one legs b e) ≡ legs
 made_is legs true e t = four_front legs

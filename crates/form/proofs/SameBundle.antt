@@ -7,7 +7,7 @@ use Rattle.std.proofs.lemmas.List.{length-drop, length-map, length-take-le, take
 use Rattle.arithmetic.proofs.Sums.{All-head, All-tail}
 use Rattle.form.specs.declared.legs.Leg.{Leg}
 use Rattle.form.specs.declared.bundles.Bundle.{Bundle}
-use Rattle.form.specs.Bundles.{leg_of, legs_in, bundle_legs, IsCounted, AreAlike, IsFiller, BundlesAreLegs}
+use Rattle.form.specs.Bundles.{leg_of, legs_in, bundle_legs, IsCounted, IsFiller, BundlesAreLegs}
 use Rattle.form.proofs.SameForm.{form_is_option}
 
 leg_is : (a b : Leg) → leg_of a ≡ leg_of b → a ≡ b
@@ -67,9 +67,6 @@ four_prop legs = hlevel props
 counted_prop : (legs : List Leg) → IsProp (All IsCounted legs)
 counted_prop legs = hlevel props
 
-alike_prop : (legs : List Leg) → IsProp (AreAlike legs)
-alike_prop legs = hlevel props
-
 filled_prop : (legs : List Leg) → IsProp (All IsFiller legs)
 filled_prop legs = hlevel props
 
@@ -84,6 +81,5 @@ bundle_is_legs a b e =
       size_in_range = to_path_p (λ i. (1 ≤ sizes i) × (sizes i ≤ 4)) {a = a.size_in_range} {b = b.size_in_range} (size_prop b.size _ _) i;
       four_legs = to_path_p (λ i. length (legs i) ≡ 4) {a = a.four_legs} {b = b.four_legs} (four_prop b.legs _ _) i;
       counted = to_path_p (λ i. All IsCounted (take (sizes i) (legs i))) {a = a.counted} {b = b.counted} (counted_prop (take b.size b.legs) _ _) i;
-      alike = to_path_p (λ i. AreAlike (take (sizes i) (legs i))) {a = a.alike} {b = b.alike} (alike_prop (take b.size b.legs) _ _) i;
       filled_up = to_path_p (λ i. All IsFiller (drop (sizes i) (legs i))) {a = a.filled_up} {b = b.filled_up} (filled_prop (drop b.size b.legs) _ _) i;
     }

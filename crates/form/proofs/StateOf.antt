@@ -9,7 +9,7 @@ use Rattle.std.proofs.Math.ListN.{get_or-map}
 use Rattle.form.specs.declared.states.State.{State}
 use Rattle.form.specs.Vector.{positive_part}
 use Rattle.form.specs.States.{vector_of}
-use Rattle.form.specs.StateOf.{state_of, made_or_first, is_state, to_nine, nine_length, nine_zeros}
+use Rattle.form.specs.StateOf.{state_of, state_or_first, is_state, to_nine, nine_length, nine_zeros}
 use Rattle.form.proofs.SameForm.{range_prop, nine_prop, past_prop}
 use Rattle.form.proofs.DotSteps.{length-vector_of, get_or-vector_of}
 
@@ -44,7 +44,7 @@ entries_are s =
       | inr past ↦ nine_zeros z i (omega (arith, length-vector_of s)) ∙ sym (s.zero_past_count i past)
     ])
 
-made_is : (s : State) (b : Bool) (e : is_state (vector_of s) ≡ b) → b ≡ true → made_or_first (vector_of s) b e ≡ s
+made_is : (s : State) (b : Bool) (e : is_state (vector_of s) ≡ b) → b ≡ true → state_or_first (vector_of s) b e ≡ s
 made_is s true e t = same_state _ s (length-vector_of s) (entries_are s)
 made_is s false e t = cc
 

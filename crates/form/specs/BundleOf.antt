@@ -1,17 +1,17 @@
 -- The bundle of legs, for definitions that make orders.
-use Rattle.std.proofs.Common.{◌≡◌, ◌-◌, ◌++◌, ◌≤◌, List, [], ◌∷◌, Bool, true, false, ◌&&◌, nat_eq, nat_le, not, length, take, drop, get_or, replicate, pos, unsigned_abs, refl, sym, ap, subst, length-append, arith}
+use Rattle.std.proofs.Common.{◌≡◌, ◌-◌, ◌++◌, ◌≤◌, List, [], ◌∷◌, Bool, true, false, ◌&&◌, nat_le, not, length, take, drop, get_or, replicate, pos, unsigned_abs, refl, sym, ap, subst, length-append, arith}
 use Rattle.std.specs.List.{All, list_all}
 use Rattle.std.specs.Ordering.{int_eq}
 use Rattle.std.proofs.lemmas.List.{drop_at, length-replicate, take_at}
 use Rattle.std.proofs.lemmas.List.Elements.{All-cons, All-nil, All-replicate}
 use Rattle.std.proofs.lemmas.List.Sums.{AllPass-from_list_all}
 use Rattle.std.proofs.lemmas.Bool.{and_parts, leb-true}
-use Rattle.std.proofs.lemmas.Bool.Decides.{Decides-int_eq, nat_tests}
+use Rattle.std.proofs.lemmas.Bool.Decides.{Decides-int_eq}
 use Rattle.form.specs.declared.forms.Form.{Form}
 use Rattle.form.specs.declared.legs.Leg.{Leg}
 use Rattle.form.specs.declared.bundles.Bundle.{Bundle}
 use Rattle.form.specs.FormOf.{form_of}
-use Rattle.form.specs.Bundles.{count_of_forms, IsCounted, AreAlike, AreLegs, IsFiller}
+use Rattle.form.specs.Bundles.{IsCounted, AreLegs, IsFiller}
 use Rattle.form.specs.declared.limits.TheConstants.{MAX_COUNT, MAX_LEGS}
 
 -- what stands past the last leg
@@ -40,7 +40,7 @@ four_rest legs =
     let is : drop (length legs) (four_legs legs) ≡ rest = drop_at legs rest (length legs) refl in
     subst (All IsFiller) (sym is) (All-replicate IsFiller (4 - length legs) no_leg no_leg-fills)
 
--- the bundle of one to four legs on the same underlyings
+-- the bundle of one to four legs
 abbrev pub bundle_with : (legs : List Leg) → AreLegs legs → Bundle
 bundle_with legs are = record {
   size = length legs;
@@ -48,7 +48,6 @@ bundle_with legs are = record {
   size_in_range = (are.some, are.few);
   four_legs = four_length legs are.few;
   counted = subst (All IsCounted) (sym (four_front legs)) are.counted;
-  alike = subst AreAlike (sym (four_front legs)) are.alike;
   filled_up = four_rest legs;
 }
 
@@ -60,7 +59,6 @@ one_leg-are form = record {
   some = omega arith;
   few = omega arith;
   counted = All-cons IsCounted (record { count = pos 1; form = form }) [] (λ e. let size = ap unsigned_abs e in omega (arith, size), omega arith) (All-nil IsCounted);
-  alike = All-cons (λ (leg : Leg). leg.form.count ≡ form.count) (record { count = pos 1; form = form }) [] refl (All-nil (λ (leg : Leg). leg.form.count ≡ form.count));
 }
 
 -- the bundle of one option that counts once
@@ -71,11 +69,8 @@ bundle_one form = bundle_with (one_leg form) (one_leg-are form)
 abbrev pub is_counted : Leg → Bool
 is_counted leg = not (int_eq leg.count (pos 0)) && nat_le (unsigned_abs leg.count) MAX_COUNT
 
-abbrev pub are_alike : List Leg → Bool
-are_alike legs = list_all (λ (leg : Leg). nat_eq leg.form.count (count_of_forms legs)) legs
-
 abbrev pub are_legs : List Leg → Bool
-are_legs legs = (nat_le 1 (length legs) && nat_le (length legs) MAX_LEGS) && list_all is_counted legs && are_alike legs
+are_legs legs = (nat_le 1 (length legs) && nat_le (length legs) MAX_LEGS) && list_all is_counted legs
 
 counted_from : (leg : Leg) → is_counted leg ≡ true → IsCounted leg
 counted_from leg h =
@@ -85,16 +80,13 @@ counted_from leg h =
 pub legs_from : (legs : List Leg) → are_legs legs ≡ true → AreLegs legs
 legs_from legs h =
     let size = nat_le 1 (length legs) && nat_le (length legs) MAX_LEGS in
-    let outer = and_parts (size && list_all is_counted legs) (are_alike legs) h in
-    let inner = and_parts size (list_all is_counted legs) outer.0 in
-    let sizes = and_parts (nat_le 1 (length legs)) (nat_le (length legs) MAX_LEGS) inner.0 in
-    let counted = AllPass-from_list_all is_counted legs inner.1 in
-    let alike = AllPass-from_list_all (λ (leg : Leg). nat_eq leg.form.count (count_of_forms legs)) legs outer.1 in
+    let parts = and_parts size (list_all is_counted legs) h in
+    let sizes = and_parts (nat_le 1 (length legs)) (nat_le (length legs) MAX_LEGS) parts.0 in
+    let counted = AllPass-from_list_all is_counted legs parts.1 in
     record {
       some = leb-true 1 (length legs) sizes.0;
       few = leb-true (length legs) MAX_LEGS sizes.1;
       counted = λ k d lt. counted_from (get_or legs k d) (counted k d lt);
-      alike = λ k d lt. let same = alike k d lt in grind (arith, nat_tests, same);
     }
 
 abbrev pub made_or_one : (legs : List Leg) (b : Bool) → are_legs legs ≡ b → Bundle

@@ -1,6 +1,6 @@
 -- Bundles of the code.
-use Rattle.std.specs.Prelude.{ℕ, ◌≡◌, List, [], ◌∷◌, map, take, ℤ, pos, unsigned_abs}
-use Rattle.std.specs.List.{All, sum}
+use Rattle.std.specs.Prelude.{ℕ, ◌≡◌, List, [], ◌∷◌, Bool, nat_eq, map, take, ℤ, pos, unsigned_abs}
+use Rattle.std.specs.List.{All, list_all, sum}
 use Rattle.form.specs.declared.legs.Leg.{Leg}
 use Rattle.form.specs.declared.bundles.Bundle.{Bundle}
 use Rattle.form.specs.Vector.{BundleLeg}
@@ -18,13 +18,12 @@ bundle_legs bundle = map leg_of (legs_in bundle)
 abbrev pub count_sizes : Bundle → ℕ
 count_sizes bundle = sum (map (λ (leg : Leg). unsigned_abs leg.count) (legs_in bundle))
 
--- how many entries each leg's form has
-abbrev pub form_count : Bundle → ℕ
-form_count bundle = count_of_forms (legs_in bundle)
-
 -- each leg's form has this count of entries
 abbrev pub IsOnCount : ℕ → Bundle → Type 0
 IsOnCount count bundle = All (λ (leg : Leg). leg.form.count ≡ count) (legs_in bundle)
+
+abbrev pub is_on_count : ℕ → Bundle → Bool
+is_on_count count bundle = list_all (λ (leg : Leg). nat_eq leg.form.count count) (legs_in bundle)
 
 -- one leg of count 1
 abbrev pub IsOneOption : Bundle → Type 0

@@ -19,16 +19,15 @@ abbrev pub count_of_forms : List Leg → ℕ
 count_of_forms [] = 0
 count_of_forms (leg ∷ legs) = leg.form.count
 
--- all forms have as many
+-- all forms have as many, so that the legs are on the same underlyings
 abbrev pub AreAlike : List Leg → Type 0
 AreAlike legs = All (λ (leg : Leg). leg.form.count ≡ count_of_forms legs) legs
 
--- one to four legs on the same underlyings
+-- the legs of a bundle: one to four
 pub record AreLegs (legs : List Leg) : Type 0 where
   pub some : 1 ≤ length legs
   pub few : length legs ≤ MAX_LEGS
   pub counted : All IsCounted legs
-  pub alike : AreAlike legs
 
 -- what stands past the last leg: nothing counts, and there is no option
 abbrev pub IsFiller : Leg → Type 0

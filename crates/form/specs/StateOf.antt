@@ -47,8 +47,8 @@ nine_vector z =
     ap (map positive_part) (take-map pos (length z) (z ++ zeros) ∙ ap (map pos) (take_at z zeros (length z) refl)) ∙ parts_of z
 
 -- the state, where it is one
-abbrev pub made : (z : List ℕ) → is_state z ≡ true → State
-made z e =
+abbrev pub proper_state : (z : List ℕ) → is_state z ≡ true → State
+proper_state z e =
     let parts = and_parts (nat_le 2 (length z) && nat_le (length z) 9) (nat_lt 0 (sum z)) e in
     let counts = and_parts (nat_le 2 (length z)) (nat_le (length z) 9) parts.0 in
     let few = leb-true (length z) 9 counts.1 in
@@ -62,13 +62,13 @@ made z e =
       not_all_zero = rw (nine_vector z) (ltb-true 0 (sum z) parts.1);
     }
 
-abbrev pub made_or_first : (z : List ℕ) (b : Bool) → is_state z ≡ b → State
-made_or_first z true e = made z e
-made_or_first z false e = made (1 ∷ 0 ∷ []) refl
+abbrev pub state_or_first : (z : List ℕ) (b : Bool) → is_state z ≡ b → State
+state_or_first z true e = proper_state z e
+state_or_first z false e = proper_state (1 ∷ 0 ∷ []) refl
 
 -- the state of a vector, and the price 0 for a vector that is none
 unfoldable pub state_of : List ℕ → State
-state_of z = made_or_first z (is_state z) refl
+state_of z = state_or_first z (is_state z) refl
 
 -- the state whose vector is v, where v is one: 2 to 9 entries, none below 0 and some above
 abbrev pub state_from : List ℤ → Option State

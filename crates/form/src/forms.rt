@@ -10,5 +10,6 @@ pub struct Form {
     pub entries: [i64; 9],
     ghost count_in_range: { (2 ≤ count) × (count ≤ 9) },
     ghost nine_entries: { length entries ≡ 9 },
-    ghost zero_past_count: { (i : ℕ) → count ≤ i → slice_index_or entries i (pos 0) ≡ pos 0 },
+    ghost zero_past_count: { (i : ℕ) → count ≤ i →
+        slice_index_or entries i (pos 0) ≡ pos 0 },
 }

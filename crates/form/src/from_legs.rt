@@ -1,10 +1,10 @@
 //! Bundles from their legs.
 
-ghost use Rattle.std.specs.Prelude.{◌≡◌, [], ◌∷◌, IsTrue, nat_eq, pos};
+ghost use Rattle.std.specs.Prelude.{◌≡◌, ◌+◌, [], ◌∷◌, IsTrue, pos};
 ghost use Rattle.std.specs.List.{list_all};
-ghost use Rattle.form.specs.BundleOf.{are_alike, are_legs, is_counted};
-ghost use Rattle.form.specs.Legs.{AreLegs, IsFiller};
-ghost use Rattle.form.specs.Bundles.{bundle_legs, form_count, legs_in};
+ghost use Rattle.form.specs.BundleOf.{are_legs, is_counted};
+ghost use Rattle.form.specs.Legs.{AreAlike, AreLegs, IsFiller};
+ghost use Rattle.form.specs.Bundles.{IsOnCount, bundle_legs, is_on_count, legs_in};
 ghost use Rattle.form.specs.Vector.{is_same_bundle};
 
 use crate::bundles::Bundle;
@@ -25,6 +25,15 @@ impl Bundle {
     /// The bundle of these 1 to 4 legs, with counts from -1000 to 1000 but not 0, and forms of equal counts. Takes no
     /// memory.
     pub fn of(legs: &[Leg]) -> Bundle
+        requires legs { AreLegs legs.now }
+        requires alike { AreAlike legs.now }
+        ensures { legs_in result ≡ legs.now }
+    {
+        Bundle::from_legs(legs)
+    }
+
+    /// The same of legs whose forms may have different counts. Takes no memory.
+    pub fn from_legs(legs: &[Leg]) -> Bundle
         requires { AreLegs legs.now }
         ensures { legs_in result ≡ legs.now }
     {
@@ -43,22 +52,25 @@ impl Bundle {
         &self.legs[..self.size as usize]
     }
 
-    /// How many entries each leg's form has. Takes no memory.
-    pub fn form_count(&self) -> u8
-        ensures { result ≡ form_count self.now }
+    /// Whether each leg is on so many underlyings: its form has one entry more. Takes no memory.
+    pub fn is_on(&self, underlyings: u8) -> bool
+        ensures decides { result ≡ is_on_count (underlyings + 1) self.now }
+        ensures forms { IsTrue result → IsOnCount (underlyings + 1) self.now }
     {
-        self.legs[0].form.count
+        let entries = u16::from(underlyings) + 1;
+        self.as_slice()
+            .iter()
+            .all(|leg| u16::from(leg.form.count) == entries)
     }
 }
 
-/// Whether these are the legs of a bundle: 1 to 4, with counts from -1000 to 1000 but not 0, and forms of equal counts.
-/// Takes no memory.
+/// Whether these are the legs of a bundle: 1 to 4, with counts from -1000 to 1000 but not 0. Takes no memory.
 pub fn are_legs(legs: &[Leg]) -> bool
     ensures decides { result ≡ are_legs legs.now }
     ensures legs { IsTrue result → AreLegs legs.now }
 {
     let (some, few) = (!legs.is_empty(), legs.len() <= MAX_LEGS as usize);
-    some && few && are_counted(legs) && are_alike(legs)
+    some && few && are_counted(legs)
 }
 
 /// Whether each count is one that a leg may have.
@@ -66,23 +78,6 @@ fn are_counted(legs: &[Leg]) -> bool
     ensures { result ≡ list_all is_counted legs.now }
 {
     legs.iter().all(|leg| leg.count != 0 && leg.count.unsigned_abs() <= MAX_COUNT)
-}
-
-/// Whether each form has as many entries as the first.
-fn are_alike(legs: &[Leg]) -> bool
-    ensures { result ≡ are_alike legs.now }
-{
-    match legs.first() {
-        Some(first) => are_on(legs, first.form.count),
-        None => true,
-    }
-}
-
-/// Whether each form has this count of entries.
-fn are_on(legs: &[Leg], count: u8) -> bool
-    ensures { result ≡ list_all (λ leg. nat_eq leg.form.count count) legs.now }
-{
-    legs.iter().all(|leg| leg.form.count == count)
 }
 
 /// What stands past the last leg of a bundle.

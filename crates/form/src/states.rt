@@ -12,7 +12,8 @@ pub struct State {
     pub entries: [i128; 9],
     ghost count_in_range: { (2 ≤ count) × (count ≤ 9) },
     ghost nine_entries: { length entries ≡ 9 },
-    ghost zero_past_count: { (i : ℕ) → count ≤ i → slice_index_or entries i (pos 0) ≡ pos 0 },
+    ghost zero_past_count: { (i : ℕ) → count ≤ i →
+        slice_index_or entries i (pos 0) ≡ pos 0 },
     ghost not_below_zero: { (i : ℕ) → pos 0 ≤ℤ slice_index_or entries i (pos 0) },
     ghost not_all_zero: { 0 < sum (map positive_part (take count entries)) },
 }

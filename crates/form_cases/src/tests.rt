@@ -95,7 +95,7 @@ fn bundle(alloc: Global, text: &str) -> Result<Bundle> {
         legs.push(leg(alloc, option)?)?;
     }
     ensure!(are_legs(legs.as_slice()), "the legs");
-    Ok(Bundle::of(legs.as_slice()))
+    Ok(Bundle::from_legs(legs.as_slice()))
 }
 
 // The text of what a bundle pays at a primitive state.
@@ -103,7 +103,7 @@ fn bundle_text(alloc: Global, text: &str) -> Result<String> {
     let (options, entries) = text.split_once('|').context("a state")?;
     let bundle = bundle(alloc, options)?;
     let state = state(alloc, entries)?.ok().context("a state that fits")?;
-    let as_many = bundle.form_count() == state.count;
+    let as_many = bundle.is_on(state.count - 1);
     ensure!(as_many, "as many entries");
     let mut answer = String::new(alloc);
     match bundle_payoff(&bundle, &state) {

@@ -75,7 +75,7 @@ fn forged_lines(rt: HostRuntime) -> Result<(), Fail> {
 #[test]
 fn forged_certificates(rt: HostRuntime) -> Result<(), Fail> {
     let alloc = rt.alloc();
-    assert!(rt; told(alloc, &BATCH_SHAPE, Reason::BatchShape)? == 2);
+    assert!(rt; told(alloc, &BATCH_SHAPE, Reason::BatchShape)? == 3);
     assert!(rt; told(alloc, &FILL, Reason::Fill)? == 1);
     assert!(rt; told(alloc, &COVER, Reason::Cover)? == 5);
     assert!(rt; told(alloc, &MEASURE, Reason::Measure)? == 1);

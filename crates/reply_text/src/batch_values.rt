@@ -125,7 +125,7 @@ fn bundle_by(legs: &[Leg]) -> Option<Bundle>
     ensures { result ≡ bundle_by legs.now }
 {
     if are_legs(legs) {
-        Some(Bundle::of(legs))
+        Some(Bundle::from_legs(legs))
     } else {
         None
     }

@@ -29,6 +29,7 @@ spread covered by two options: 1 | buy 2 1 1: 10 1, -1: 12 1; sell 6 1 10 1; buy
 spread of another count: 1 | buy 2 1 1: 10 1, 1: 12 1; sell 6 1 10 1; buy 5 1 12 1 | 1 1 1 | 0 1 | line | 1/2 1 0; 1/2 1 12; 5 0 1 = Cover
 spread that is bought and sold after the budget: 1 | buy 3 1 1: 10 1, -1: 12 1; sell 2 1 1: 10 1, -1: 12 1 | 1 1 | 0 1 | budget = Yes
 spread with its legs in another order: 1 | buy 3 1 1: 10 1, -1: 12 1; sell 2 1 -1: 12 1, 1: 10 1 | 1 1 | 0 1 | budget = Cover
+spread of legs on one underlying and on two: 1 | buy 2 1 1: 10 1, -1: 12 1 1; sell 6 1 10 1; buy 5 1 12 1 | 1 1 1 | 0 1 | line | 1/2 1 0; 1/2 1 12; 5 0 1 = BatchShape
 spread against its options after the budget: 1 | buy 2 1 1: 10 1, -1: 12 1; sell 6 1 10 1; buy 5 1 12 1 | 1 1 1 | 0 1 | budget = Cover
 fills of 0 and a measure of two settlements: 2 | sell 1 4 -10 -1 -1; buy 0 5 4 3 0 | 0 0 | 0 0 | tree | 1/10 1 0 0; 9/10 1 10 0 | leaf 0 | = Yes
 no trade, a weight on the ray: 1 | sell 19 2 0 -1; sell 17 5 0 -1; buy 34 1 2 1 | 0 0 0 | 0 0 | line | 1 1 0; 34 0 1 = Yes

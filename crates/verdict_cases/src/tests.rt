@@ -51,7 +51,7 @@ fn bundle(alloc: Global, text: &str) -> Result<Bundle> {
         legs.push(leg(alloc, piece)?)?;
     }
     ensure!(are_legs(legs.as_slice()), "the legs");
-    Ok(Bundle::of(legs.as_slice()))
+    Ok(Bundle::from_legs(legs.as_slice()))
 }
 
 fn order(alloc: Global, id: u64, text: &str) -> Result<Order> {

@@ -7,4 +7,4 @@ pub returns-then-are_legs : goal.returns-then-are_legs
 returns-then-are_legs c =
     let legs = c.args.legs.now in
     let are : are_legs legs ≡ true = sym c.are_legs.ensures.decides ∙ c.if-are_legs.true in
-    ap Some (bundle_is_made c.of.result legs (c.are_legs.ensures.legs c.if-are_legs.true) c.of.ensures) ∙ sym (ap (λ b. cond b (Some (bundle_made legs)) None) are)
+    ap Some (bundle_is_made c.from_legs.result legs (c.are_legs.ensures.legs c.if-are_legs.true) c.from_legs.ensures) ∙ sym (ap (λ b. cond b (Some (bundle_made legs)) None) are)
