@@ -158,8 +158,10 @@ module _ (legs size : ℕ) (fields : List (List ℕ)) (between : Between 1 MAX_L
         some = omega (arith, long, between.0);
         few = omega (arith, long, between.1);
         counted = All-weaker (IsLeg (size - 3)) IsCounted (λ leg is. (is.counts, is.count_within)) (legs_of legs size fields) good;
-        alike = alike (size - 3) (legs_of legs size fields) good;
       }
+
+  pub legs_alike : AreAlike (legs_of legs size fields)
+  legs_alike = alike (size - 3) (legs_of legs size fields) good
 
   pub bundle_is_within : (quantity : ℕ) → quantity * legs_size size fields ≤ MAX_OPTIONS → IsBundleOf quantity (bundle_made (legs_of legs size fields))
   bundle_is_within quantity few =

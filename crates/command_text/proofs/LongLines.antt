@@ -5,6 +5,7 @@ use Rattle.std.proofs.lemmas.Nat.{mul-le}
 use Rattle.std.proofs.lemmas.Bool.{cases_Bool, cases_lt, and_parts}
 use Rattle.std.proofs.lemmas.Bool.Decides.{nat_tests}
 use Rattle.std.proofs.lemmas.List.{length-take-le, take_all}
+use Rattle.std.specs.Option.{option_map_or}
 use Rattle.std.specs.Str.{bytes_eq}
 use Rattle.form.specs.declared.orders.Side.{Side}
 use Rattle.command_text.specs.declared.asked.Fault.{Fault}
@@ -134,6 +135,32 @@ same_command fields = elim (cases_lt 51 (length fields)) [
       is_long (first_of_many fields) more ∙ same_long fields many ∙ sym (is_long fields many)
 ]
 
+-- ---- lines of more words, which the crates above read
+pub same_word : (fields : List (List ℕ)) → text_of (first_of_many fields) 1 ≡ text_of fields 1
+same_word [] = refl
+same_word (word ∷ rest) = refl
+
+-- what is Syntax where there are more fields than a command can have
+pub same_read : {A : Type 0} (read : List (List ℕ) → Result A Fault) → ((fields : List (List ℕ)) → 51 < length fields → read fields ≡ Err Syntax)
+    → (fields : List (List ℕ)) → read (first_of_many fields) ≡ read fields
+same_read read long fields = elim (cases_lt 51 (length fields)) [
+  | inr few ↦ ap read (take_all 52 fields (omega (arith, few)))
+  | inl many ↦ long (first_of_many fields) (omega (arith, many, length-take-le 52 fields (omega (arith, many)))) ∙ sym (long fields many)
+]
+
+-- what the first fields of a line say is what it says, and what is said of no fields
+pub read_by_first : {B : Type 0} (read : List (List ℕ) → B) (none : B) → ((fields : List (List ℕ)) → read (first_of_many fields) ≡ read fields)
+    → (said : B) (fields : List (List ℕ)) (line : Option (List (List ℕ))) → said ≡ read fields → Some fields ≡ option_map first_of_many line → said ≡ option_map_or read line none
+read_by_first read none same said fields None is first = absurd (cc)
+read_by_first read none same said fields (Some all) is first =
+    let taken : fields ≡ first_of_many all = cc in
+    is ∙ ap read taken ∙ same all
+
+pub read_by_none : {B : Type 0} (read : List (List ℕ) → B) (none : B) (line : Option (List (List ℕ))) → None ≡ option_map first_of_many line → none ≡ option_map_or read line none
+read_by_none read none None is = refl
+read_by_none read none (Some all) is = absurd (cc)
+
+-- ---- commands
 pub same_body : (fields : Option (List (List ℕ))) → body_of_fields (option_map first_of_many fields) ≡ body_of_fields fields
 same_body None = refl
 same_body (Some fields) = ap body_of_result (same_command fields)

@@ -4,7 +4,7 @@ use Rattle.std.specs.Prelude.{nat_le}
 use Rattle.std.specs.Option.{option_map, option_map_or}
 use Rattle.std.proofs.lemmas.Bool.Decides.{nat_tests}
 use Rattle.form.specs.declared.limits.TheConstants.{MAX_ORDERS}
-use Rattle.form.specs.Bundles.{form_count, IsOnCount}
+use Rattle.form.specs.Bundles.{IsOnCount, is_on_count}
 use Rattle.form.proofs.BundleLegs.{on_count-from}
 use Rattle.order_book.specs.declared.limits.TheConstants.{MAX_MARKETS, MAX_ACCEPTED, MAX_BATCHES}
 use Rattle.order_book.specs.declared.new_order.NewOrder.{NewOrder}
@@ -29,6 +29,10 @@ passes : (test : Bool) (refusal : BookRefusal) (rest : Option BookRefusal) → (
 passes true refusal rest h = cc
 passes false refusal rest h = (refl, h)
 
+holds : (test : Bool) → not test ≡ false → test ≡ true
+holds true h = refl
+holds false h = cc
+
 same_count : (a b : ℕ) → not (nat_eq a b) ≡ false → a ≡ b
 same_count a b h = grind (arith, nat_tests)
 
@@ -47,14 +51,14 @@ accepts book order none = by (market_of book order.market) refl none
     by None e h = cc
     by (Some m) e h =
         let open_market = passes m.settled Settled _ h in
-        let right_form = passes (not (nat_eq (form_count order.bundle) (m.underlyings + 1))) WeightCount _ open_market.1 in
+        let right_form = passes (not (is_on_count (m.underlyings + 1) order.bundle)) WeightCount _ open_market.1 in
         let not_full = passes (nat_le MAX_ORDERS (length m.live)) BookFull _ right_form.1 in
         let not_many = passes (nat_le MAX_ACCEPTED book.accepted) TooMany _ not_full.1 in
         record {
           market = m;
           found = e;
           unsettled = open_market.0;
-          fits = on_count-from (m.underlyings + 1) order.bundle (same_count (form_count order.bundle) (m.underlyings + 1) right_form.0);
+          fits = on_count-from (m.underlyings + 1) order.bundle (holds (is_on_count (m.underlyings + 1) order.bundle) right_form.0);
           room = less MAX_ORDERS (length m.live) not_full.0;
           more = less MAX_ACCEPTED book.accepted not_many.0;
         }

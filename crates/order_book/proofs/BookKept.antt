@@ -1,16 +1,15 @@
 -- A book that is kept stays so at each call.
-use Rattle.std.proofs.Common.{◌≡◌, ℕ, zero, suc, ◌+◌, ◌≤◌, ◌<◌, Bool, true, false, not, List, [], ◌∷◌, ◌++◌, length, map, None, Some, IfSome, IsSome, is_some, if◌then◌else◌, slice_get, nat_eq, refl, ap, sym, subst, ◌∙◌, arith, length-append, ⊎_elim, true≢false}
+use Rattle.std.proofs.Common.{◌≡◌, ℕ, zero, suc, ◌+◌, ◌≤◌, ◌<◌, Bool, true, false, not, List, [], ◌∷◌, ◌++◌, length, map, None, Some, IfSome, IsSome, is_some, if◌then◌else◌, slice_get, nat_eq, refl, ap, sym, subst, ◌∙◌, arith, length-append, true≢false}
 use Rattle.std.specs.Cmp.{nat_eq_equiv}
 use Rattle.std.specs.List.{All, IsDistinct, find}
 use Rattle.std.specs.List.Sorted.{IsStrictlyIncreasing}
 use Rattle.std.specs.Map.{keys_of}
-use Rattle.std.proofs.Math.Seq.{get_or-append_seam}
-use Rattle.std.proofs.lemmas.Bool.{cases_lt}
 use Rattle.std.proofs.lemmas.Bool.Decides.{nat_tests}
-use Rattle.std.proofs.lemmas.List.{length-map, map-append, get_or_append_left}
+use Rattle.std.proofs.lemmas.List.{length-map, map-append}
 use Rattle.std.proofs.lemmas.List.Elements.{All-nil, All-head, All-tail, All-push, All-weaker, All-filter, All-map}
 use Rattle.std.proofs.lemmas.Map.Keys.{IsDistinct-push}
 use Rattle.std.proofs.lemmas.Map.Made.{is_some-lookup}
+use Rattle.arithmetic.proofs.Lists.{rise_push}
 use Rattle.form.specs.declared.limits.TheConstants.{MAX_UNDERLYINGS}
 use Rattle.form.specs.declared.orders.Order.{Order}
 use Rattle.form.specs.Bundles.{IsOnCount}
@@ -29,17 +28,6 @@ use Rattle.order_book.proofs.MarketLists.{live_found, at_found, all_changed, key
 
 abbrev number_of : Order → ℕ
 number_of order = order.id
-
-rise_push : (xs : List ℕ) (y : ℕ) → IsStrictlyIncreasing xs → All (λ x. x < y) xs → IsStrictlyIncreasing (xs ++ y ∷ [])
-rise_push xs y rise below = λ k h.
-    let long = length-append xs (y ∷ []) in
-    ⊎_elim
-    (λ (inside : k + 1 < length xs).
-    rw (get_or_append_left xs (y ∷ []) 0 k (omega arith), get_or_append_left xs (y ∷ []) 0 (k + 1) inside) (rise k inside))
-    (λ (past : length xs ≤ k + 1).
-    let last : k + 1 ≡ length xs = omega arith in
-    rw (last, get_or_append_left xs (y ∷ []) 0 k (omega arith), get_or-append_seam xs y [] 0) (below k 0 (omega arith)))
-    (cases_lt (k + 1) (length xs))
 
 pub weaker : (n m u : ℕ) → n ≤ m → (orders : List Order) → All (IsLive u n) orders → All (IsLive u m) orders
 weaker n m u le orders all = All-weaker (IsLive u n) (IsLive u m) (λ o l. let bound = l.number in record { within = l.within; forms = l.forms; some = l.some; number = omega arith }) orders all

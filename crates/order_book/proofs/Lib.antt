@@ -6,3 +6,5 @@ pub mod Holders
 pub mod Accepting
 pub mod BookKept
 pub mod Cancelling
+pub mod Boxes
+pub mod Placed

@@ -1,11 +1,16 @@
 -- Live orders by their numbers.
-use Rattle.std.specs.Prelude.{ℕ, ◌+◌, ◌≡◌, ◌≤◌, List, [], ◌∷◌, map, nat_eq, if◌then◌else◌}
+use Rattle.std.specs.Prelude.{ℕ, ◌+◌, ◌≡◌, ◌≤◌, List, [], ◌∷◌, map, nat_eq, if◌then◌else◌, Box}
+use Rattle.std.specs.Global.{Global}
 use Rattle.std.specs.List.{IsDistinct}
 use Rattle.std.specs.Map.{keys_of, values_of}
 use Rattle.form.specs.declared.orders.Order.{Order}
 
 abbrev pub numbers_of : List Order → List ℕ
 numbers_of orders = map (λ (order : Order). order.id) orders
+
+-- the entries with the orders that their boxes hold
+abbrev pub unboxed : List (ℕ × Box Order Global) → List (ℕ × Order)
+unboxed entries = map (λ (e : ℕ × Box Order Global). (e.0, e.1.value)) entries
 
 -- each order stands under its number, and no two under the same
 pub record AreByNumber (entries : List (ℕ × Order)) : Type 0 where

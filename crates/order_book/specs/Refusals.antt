@@ -3,7 +3,7 @@ use Rattle.std.specs.Prelude.{ℕ, ◌+◌, List, [], ◌∷◌, ◌++◌, Bool,
 use Rattle.std.specs.Option.{option_map_or}
 use Rattle.form.specs.declared.limits.TheConstants.{MAX_ORDERS}
 use Rattle.form.specs.declared.orders.Order.{Order}
-use Rattle.form.specs.Bundles.{form_count}
+use Rattle.form.specs.Bundles.{is_on_count}
 use Rattle.order_book.specs.declared.limits.TheConstants.{MAX_MARKETS, MAX_ACCEPTED, MAX_BATCHES}
 use Rattle.order_book.specs.declared.market.MarketInfo.{MarketInfo}
 use Rattle.order_book.specs.declared.new_order.NewOrder.{NewOrder}
@@ -24,9 +24,9 @@ is_market book market = is_some (info_in book market)
 abbrev pub is_settled : BookState → ℕ → Bool
 is_settled book market = market_has book market (λ found. found.settled)
 
--- the options of an order have as many weights as a market has underlyings
+-- each option of an order has as many weights as a market has underlyings
 abbrev pub has_form_for : MarketInfo → NewOrder → Bool
-has_form_for market order = nat_eq (form_count order.bundle) (market.underlyings + 1)
+has_form_for market order = is_on_count (market.underlyings + 1) order.bundle
 
 -- a market has as many live orders as it may have
 abbrev pub is_full : MarketInfo → Bool

@@ -16,7 +16,7 @@ use crate::markets::Markets;
 use crate::new_order::NewOrder;
 use crate::refusal::BookRefusal;
 use form::{Batch, MAX_ORDERS, Order, Orders};
-use std::alloc::Global;
+use std::alloc::{AllocError, Global};
 use std::marker::Model;
 
 /// The markets with their live orders, and how many orders were accepted and batches finished.
@@ -24,6 +24,8 @@ use std::marker::Model;
 pub struct Book {
     alloc: Global,
     markets: Markets,
+    // the market in which each accepted order was placed: where a cancel looks first
+    placed: Vec<u32>,
     accepted: u64,
     finished: u32,
 }
@@ -47,6 +49,7 @@ impl Book {
         Book {
             alloc,
             markets: Markets::new(alloc),
+            placed: Vec::new(alloc),
             accepted: 0,
             finished: 0,
         }
@@ -97,7 +100,7 @@ impl Book {
     /// Looks whether an order's market is there, not settled and for the order's bundle.
     ///
     /// The first of these: `NoMarket` where no market has the number; `Settled` where it is settled; `WeightCount` where
-    /// the bundle has another number of underlyings than the market.
+    /// a leg of the bundle has another number of underlyings than the market.
     pub fn check_order(&self, order: &NewOrder) -> Result<(), BookRefusal>
         ensures refused { TellsFirst unless_memory result (order_refusals self.now order.now) }
         ensures no_memory { result ≢ Err BookRefusal.Memory }
@@ -106,7 +109,7 @@ impl Book {
         if market.settled {
             return Err(BookRefusal::Settled);
         }
-        if order.bundle.form_count() != market.underlyings + 1 {
+        if !order.bundle.is_on(market.underlyings) {
             return Err(BookRefusal::WeightCount);
         }
         Ok(())
@@ -150,6 +153,7 @@ impl Book {
         ensures err { OnErr result (self.new ≡ self.old) }
     {
         self.check_place(order)?;
+        note(&mut self.placed, self.accepted, order.market)?;
         let number = self.accepted + 1;
         self.markets.add(order.market, with_number(order, number))?;
         self.accepted = number;
@@ -167,7 +171,8 @@ impl Book {
         ensures err { OnErr result (self.new ≡ self.old) }
         ensures within { IfOk result IsOrderWithin }
     {
-        let Some(market) = self.markets.holder(order) else {
+        let placed = placed_in(&self.placed, order);
+        let Some(market) = self.markets.holder(placed, order) else {
             return Err(BookRefusal::NoOrder);
         };
         let found = self.markets.order(market, order).unwrap();
@@ -250,6 +255,19 @@ impl Book {
     {
         self.markets.get(market)?.order_at(place)
     }
+}
+
+// Notes the market in which the order after so many is placed; one noted before, whose order found no memory, is forgotten.
+fn note(placed: &mut Vec<u32>, accepted: u64, market: u32) -> Result<(), AllocError> {
+    placed.truncate(accepted as usize);
+    placed.push(market)?;
+    Ok(())
+}
+
+// The market in which the order with the number was placed, where that is told.
+fn placed_in(placed: &[u32], number: u64) -> Option<u32> {
+    let place = number.checked_sub(1)?;
+    placed.get(place as usize).copied()
 }
 
 // The order with its number.

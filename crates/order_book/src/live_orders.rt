@@ -1,5 +1,6 @@
-// The live orders of one market in rising number, found by their numbers.
-ghost use Rattle.std.specs.Prelude.{◌≡◌, ◌++◌, [], ◌∷◌, length, slice_get, None, IfOk, OnOk, OnErr};
+// The live orders of one market in rising number, found by their numbers. Each is in a box: an order takes some four hundred
+// bytes, and those behind one that is taken out move by a place.
+ghost use Rattle.std.specs.Prelude.{◌≡◌, ◌++◌, [], ◌∷◌, length, slice_get, None, is_some, IfOk, OnOk, OnErr};
 ghost use Rattle.std.specs.List.{find};
 ghost use Rattle.order_book.specs.Markets.{has_number, without};
 
@@ -10,20 +11,21 @@ use std::marker::Model;
 
 #[derive(Drop)]
 pub(crate) struct LiveOrders {
-    by_number: IndexMap<u64, Order>,
+    alloc: Global,
+    by_number: IndexMap<u64, Box<Order>>,
 }
 
 impl Model for LiveOrders {
     ghost use Rattle.std.specs.Prelude.{List};
     ghost use Rattle.std.specs.Map.{values_of};
     ghost use Rattle.form.specs.declared.orders.Order.{Order};
-    ghost use Rattle.order_book.specs.Numbers.{AreByNumber};
+    ghost use Rattle.order_book.specs.Numbers.{AreByNumber, unboxed};
 
     ghost Value = { List Order };
 
-    ghost view = { λ s. values_of s.by_number.entries };
+    ghost view = { λ s. values_of (unboxed s.by_number.entries) };
 
-    ghost invariant = { λ s. AreByNumber s.by_number.entries };
+    ghost invariant = { λ s. AreByNumber (unboxed s.by_number.entries) };
 }
 
 impl LiveOrders {
@@ -31,6 +33,7 @@ impl LiveOrders {
         ensures { result ≡ [] }
     {
         LiveOrders {
+            alloc,
             by_number: IndexMap::new(alloc),
         }
     }
@@ -45,22 +48,39 @@ impl LiveOrders {
     pub(crate) fn at(&self, place: usize) -> Option<Order>
         ensures { result ≡ slice_get self.now place }
     {
-        let (_, order) = self.by_number.get_index(place)?;
-        Some(*order)
+        match self.by_number.get_index(place) {
+            Some((_, order)) => Some(**order),
+            None => None,
+        }
     }
 
     // The order with the number.
     pub(crate) fn get(&self, number: u64) -> Option<Order>
         ensures { result ≡ find (has_number number) self.now }
     {
-        self.by_number.get(&number).copied()
+        match self.by_number.get(&number) {
+            Some(order) => Some(**order),
+            None => None,
+        }
+    }
+
+    // Whether an order has the number.
+    pub(crate) fn has(&self, number: u64) -> bool
+        ensures { result ≡ is_some (find (has_number number) self.now) }
+    {
+        self.by_number.contains_key(&number)
     }
 
     // The orders in a list.
+    #[tactic(auto, using(crate::proofs::Boxes::values_boxed, crate::proofs::Boxes::one_more))]
     pub(crate) fn to_vec(&self, alloc: Global) -> Result<Vec<Order>, AllocError>
         ensures { IfOk result (λ orders. orders.items ≡ self.now) }
     {
-        self.by_number.values().copied().collect(alloc)
+        let mut orders = Vec::new(alloc);
+        for order in self.by_number.values() {
+            orders.push(**order)?;
+        }
+        Ok(orders)
     }
 
     // Puts an order last, whose number no other has.
@@ -69,7 +89,8 @@ impl LiveOrders {
         ensures ok { OnOk result (self.new ≡ self.old ++ order ∷ []) }
         ensures err { OnErr result (self.new ≡ self.old) }
     {
-        self.by_number.insert(order.id, order)?;
+        let boxed = Box::new(self.alloc, order)?;
+        self.by_number.insert(order.id, boxed)?;
         Ok(())
     }
 

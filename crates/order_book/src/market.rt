@@ -1,5 +1,5 @@
 // One market: its underlyings, whether it is settled, and its live orders in rising number.
-ghost use Rattle.std.specs.Prelude.{◌≡◌, ◌≤◌, ◌++◌, [], ◌∷◌, false, length, slice_get, None, IfOk, OnOk, OnErr};
+ghost use Rattle.std.specs.Prelude.{◌≡◌, ◌≤◌, ◌++◌, [], ◌∷◌, false, length, slice_get, None, is_some, IfOk, OnOk, OnErr};
 ghost use Rattle.std.specs.List.{find};
 ghost use Rattle.form.specs.declared.limits.TheConstants.{MAX_ORDERS};
 ghost use Rattle.order_book.specs.Book.{batch_of, info_of};
@@ -78,6 +78,13 @@ impl Market {
         ensures { result ≡ find (has_number number) self.now.live }
     {
         self.live.get(number)
+    }
+
+    // Whether a live order has the number.
+    pub(crate) fn has(&self, number: u64) -> bool
+        ensures { result ≡ is_some (find (has_number number) self.now.live) }
+    {
+        self.live.has(number)
     }
 
     // Puts an order last, whose number no other has.

@@ -1,9 +1,10 @@
 // The markets in the order in which they were listed, found by their numbers.
-ghost use Rattle.std.specs.Prelude.{◌≡◌, ◌≤◌, ◌++◌, [], ◌∷◌, ℕ, nat_eq, length, false, None, IsSome, OnOk, OnErr};
+ghost use Rattle.std.specs.Prelude.{◌≡◌, ◌≤◌, ◌++◌, [], ◌∷◌, ℕ, nat_eq, length, is_some, false, None, IsSome, OnOk, OnErr};
 ghost use Rattle.std.specs.List.{find};
 ghost use Rattle.std.specs.Map.{lookup};
 ghost use Rattle.std.specs.Option.{option_copied};
-ghost use Rattle.order_book.specs.Markets.{closed, has_number, changed_in, live_in, with_live_in, without, holder_of};
+ghost use Rattle.order_book.specs.Markets.{closed, has_number, changed_in, live_in, live_orders, with_live_in, without, holder_of};
+ghost use Rattle.order_book.specs.Numbers.{number_count};
 
 use crate::market::Market;
 use form::Order;
@@ -74,12 +75,37 @@ impl Markets {
         self.by_number.get_mut(&market).unwrap().add(order)
     }
 
+    // Whether a market has a live order with the number.
+    fn has(&self, market: u32, number: u64) -> bool
+        ensures { result ≡ is_some (find (has_number number) (live_in market self.now)) }
+    {
+        match self.get(market) {
+            Some(found) => found.has(number),
+            None => false,
+        }
+    }
+
+    // The number of the market with a live order of the number, of which there are no two. It is looked for first in the
+    // market in which it was placed, if that is told.
+    #[tactic(auto, using(crate::proofs::Placed::held))]
+    pub(crate) fn holder(&self, placed: Option<u32>, number: u64) -> Option<u32>
+        requires { number_count number (live_orders self.now) ≤ 1 }
+        ensures { result ≡ holder_of number self.now }
+    {
+        if let Some(market) = placed {
+            if self.has(market, number) {
+                return Some(market);
+            }
+        }
+        self.first_holder(number)
+    }
+
     // The number of the first market with a live order of the number.
-    pub(crate) fn holder(&self, number: u64) -> Option<u32>
+    fn first_holder(&self, number: u64) -> Option<u32>
         ensures { result ≡ holder_of number self.now }
     {
         for (market, found) in self.by_number.iter() {
-            if found.order(number).is_some() {
+            if found.has(number) {
                 return Some(*market);
             }
         }

@@ -53,7 +53,7 @@ abbrev mutual
   HasPlainFields no_fields = Unit {0}
   HasPlainFields (field key p fs) = (is_plain key ≡ true) × HasPlainTexts p × HasPlainFields fs
 
-each_plain : {A : Type 0} (f : A → Piece) → ((x : A) → HasPlainTexts (f x)) → (xs : List A) → HavePlainTexts (pieces_of f xs)
+pub each_plain : {A : Type 0} (f : A → Piece) → ((x : A) → HasPlainTexts (f x)) → (xs : List A) → HavePlainTexts (pieces_of f xs)
 each_plain f step [] = tt
 each_plain f step (x ∷ xs) = (step x, each_plain f step xs)
 

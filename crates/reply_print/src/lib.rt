@@ -7,9 +7,12 @@ mod lines;
 mod order_values;
 mod outcome_values;
 pub mod replies;
+mod small_lines;
 mod small_values;
 pub mod words;
 
 pub use lines::print;
+pub use order_values::fraction_string;
+pub use outcome_values::state_value;
 pub use replies::Reply;
 pub use settlement::{PaidOut, Payouts};

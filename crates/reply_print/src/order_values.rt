@@ -58,8 +58,8 @@ fn legs_value(alloc: Global, legs: &[Leg]) -> Result<Value, AllocError>
     Ok(Value::Array(values))
 }
 
-// A whole number, or a numerator over a denominator.
-pub(crate) fn fraction_string(alloc: Global, value: Frac128) -> Result<String, AllocError>
+/// The text of a fraction: a whole number, or a numerator over a denominator. The only error is want of memory.
+pub fn fraction_string(alloc: Global, value: Frac128) -> Result<String, AllocError>
     ensures { IfOk result (λ text. string_bytes text ≡ fraction_text (fraction_of value)) }
 {
     let (numerator, denominator) = value.parts();

@@ -36,7 +36,8 @@ fn entries_text(alloc: Global, entries: &[i128]) -> Result<Value, AllocError>
     Ok(Value::Array(values))
 }
 
-fn state_value(alloc: Global, state: &State) -> Result<Value, AllocError>
+/// The value of a state: a list of the texts of its entries. The only error is want of memory.
+pub fn state_value(alloc: Global, state: &State) -> Result<Value, AllocError>
     ensures { IfOk result (λ v. view v ≡ piece_data (each whole_words (state_entries state.now))) }
 {
     entries_text(alloc, &state.entries[..state.count as usize])

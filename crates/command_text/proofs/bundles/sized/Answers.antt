@@ -1,10 +1,10 @@
-use Rattle.std.proofs.Common.{◌≡◌, ◌-◌, length, map, None, Some, sym, ap, ◌∙◌, arith}
+use Rattle.std.proofs.Common.{◌≡◌, ◌-◌, ◌≤◌, length, map, None, Some, sym, ap, ◌∙◌, arith}
 use Rattle.std.proofs.lemmas.List.{length-map}
 use Rattle.command_text.specs.declared.ranges.TheConstants.{BUNDLE_QUANTITY, HEAD}
 use Rattle.command_text.specs.Asked.{either_fault, fault_in, natural_in}
 use Rattle.command_text.specs.Bundles.{bundle_fault, fields_each, legs_fault, legs_size, legs_weightless, too_many}
 use Rattle.command_text.proofs.Bounds.{none_both}
-use Rattle.command_text.proofs.LegsWithin.{legs_are}
+use Rattle.command_text.proofs.LegsWithin.{legs_alike, legs_are}
 use Rattle.command_text.proofs.bundles.sized.Goals as goal
 
 pub bundle_read-requires-clause-whole : goal.bundle_read-requires-clause-whole
@@ -18,4 +18,7 @@ bundle_read-requires-clause-whole c =
     let fault = (none_both (fault_in 0 HEAD texts) (legs_fault size texts) parts.0).1 in
     let weight = (none_both (legs_weightless size texts) over parts.1).0 in
     let each : fields_each (length texts - 7) c.args.legs ≡ Some size = ap (λ n. fields_each (n - 7) c.args.legs) long ∙ c.requires.each in
-    legs_are c.args.legs size texts c.requires.some (omega (arith, long, c.requires.many)) each fault weight
+    let many : 7 ≤ length texts = omega (arith, long, c.requires.many) in (
+      legs_are c.args.legs size texts c.requires.some many each fault weight,
+      legs_alike c.args.legs size texts c.requires.some many each fault weight,
+    )

@@ -1,8 +1,7 @@
+use Rattle.std.proofs.Common.{sym, ap, ◌∙◌}
 use Rattle.std.proofs.lemmas.Result.{IfOk-weaker}
-use Rattle.serde_json.specs.View.{view}
-use Rattle.reply_print.proofs.LineLaws.{written_line}
+use Rattle.reply_print.specs.ReplyPieces.{reply_line}
 use Rattle.reply_print.proofs.lines.print.Goals as goal
 
-pub returns : goal.returns
-returns c =
-    IfOk-weaker c.to_vec.result _ _ (λ text h. written_line c.args.line c.args.reply.now (view c.in_ok-value.value) text.items c.in_ok-value.ensures h) c.to_vec.ensures.text
+pub returns-in-Cleared : goal.returns-in-Cleared
+returns-in-Cleared c = IfOk-weaker c.cleared_line.result _ _ (λ text is. is ∙ ap (reply_line c.args.line) (sym c.in-Cleared.is)) c.cleared_line.ensures

@@ -52,3 +52,6 @@ returns-clause-ok c =
 pub returns-clause-within : goal.returns-clause-within
 returns-clause-within c =
     order_within (book_of c.self.inside.markets c.self.inside.accepted c.self.inside.finished) c.self.invariant c.args.order c.in-Some.market (sym c.holder.ensures ∙ c.in-Some.is) c.unwrap-found.result (sym c.order.ensures ∙ c.unwrap-found.ensures)
+
+pub holder-requires : goal.holder-requires
+holder-requires c = c.self.invariant.numbers c.args.order

@@ -1,0 +1,9 @@
+use Rattle.std.proofs.Common.{◌∙◌}
+use Rattle.std.proofs.lemmas.Result.{IfOk-weaker}
+use Rattle.reply_print.proofs.SmallLines.{ranged_joined}
+use Rattle.reply_print.proofs.small_lines.ranged_line.Goals as goal
+
+pub returns : goal.returns
+returns c =
+    let joined = rw (c.format.ensures.text, c.format-2.ensures.text, c.format-3.ensures.text) at c.joined.ensures in
+    IfOk-weaker c.joined.result _ _ (λ text is. is ∙ ranged_joined c.args.line c.args.number c.args.field c.args.reason.now) joined
