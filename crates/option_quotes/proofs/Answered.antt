@@ -27,7 +27,7 @@ best_is_better : (side : Side) → IsBetter side (worst_price side) (best_price 
 best_is_better Buy = omega arith
 best_is_better Sell = omega arith
 
-gap_of_all : (side : Side) → gap (best_price side) (worst_price side) ≤ 2 ^ most_halvings
+pub gap_of_all : (side : Side) → gap (best_price side) (worst_price side) ≤ 2 ^ most_halvings
 unfolding most_halvings
 gap_of_all Buy = lit≤ tt
 gap_of_all Sell = lit≤ tt

@@ -1,4 +1,5 @@
-pub mod Rising
 pub mod Raising
 pub mod Middles
 pub mod Answered
+pub mod Defined
+pub mod Few

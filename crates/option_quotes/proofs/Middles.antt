@@ -18,21 +18,21 @@ use Rattle.option_quotes.specs.Ends.{IsBetter, AreEnds}
 not_near : (n m : ℕ) → m < n → nat_le n m ≡ false
 not_near n m h = grind (arith, nat_tests, h)
 
-middles_end : (h : ℕ) (raises : ℕ → Bool) (a b : ℕ) → gap a b ≤ 1 → middles h raises a b ≡ []
+pub middles_end : (h : ℕ) (raises : ℕ → Bool) (a b : ℕ) → gap a b ≤ 1 → middles h raises a b ≡ []
 unfolding middles
 middles_end zero raises a b near = refl
 middles_end (suc h) raises a b near =
     let m = middle a b in
     ap (λ (t : Bool). if t then [] else m ∷ (if raises m then middles h raises m b else middles h raises a m)) (le-leb (gap a b) 1 near)
 
-middles_up : (h : ℕ) (raises : ℕ → Bool) (a b : ℕ) → 1 < gap a b → raises (middle a b) ≡ true → middles (suc h) raises a b ≡ middle a b ∷ middles h raises (middle a b) b
+pub middles_up : (h : ℕ) (raises : ℕ → Bool) (a b : ℕ) → 1 < gap a b → raises (middle a b) ≡ true → middles (suc h) raises a b ≡ middle a b ∷ middles h raises (middle a b) b
 unfolding middles
 middles_up h raises a b far e =
     let m = middle a b in
     ap (λ (t : Bool). if t then [] else m ∷ (if raises m then middles h raises m b else middles h raises a m)) (not_near (gap a b) 1 far)
     ∙ ap (λ (t : Bool). m ∷ (if t then middles h raises m b else middles h raises a m)) e
 
-middles_down : (h : ℕ) (raises : ℕ → Bool) (a b : ℕ) → 1 < gap a b → raises (middle a b) ≡ false → middles (suc h) raises a b ≡ middle a b ∷ middles h raises a (middle a b)
+pub middles_down : (h : ℕ) (raises : ℕ → Bool) (a b : ℕ) → 1 < gap a b → raises (middle a b) ≡ false → middles (suc h) raises a b ≡ middle a b ∷ middles h raises a (middle a b)
 unfolding middles
 middles_down h raises a b far e =
     let m = middle a b in
@@ -53,7 +53,7 @@ middle_is a b =
     let left = mod-lt (a + b) {m = 2} (omega arith) in
     (omega (arith, sum, left), omega (arith, sum, left))
 
-halved : (h a b : ℕ) → gap a b ≤ 2 ^ suc h → (gap (middle a b) b ≤ 2 ^ h) × (gap a (middle a b) ≤ 2 ^ h)
+pub halved : (h a b : ℕ) → gap a b ≤ 2 ^ suc h → (gap (middle a b) b ≤ 2 ^ h) × (gap a (middle a b) ≤ 2 ^ h)
 halved h a b small =
     let is = middle_is a b in
     let power = pow-suc 2 h in

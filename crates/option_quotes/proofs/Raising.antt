@@ -4,9 +4,9 @@ use Rattle.std.specs.List.Sorted.{IsStrictlyIncreasing}
 use Rattle.std.specs.Ordering.{int_cmp, is_lt}
 use Rattle.std.proofs.lemmas.Int.{ints, by_lt_z}
 use Rattle.std.proofs.lemmas.Bool.{cases_lt}
-use Rattle.std.proofs.Math.Seq.{get_or-append_seam}
-use Rattle.std.proofs.lemmas.List.{map-append, get_or_append_left}
+use Rattle.std.proofs.lemmas.List.{map-append}
 use Rattle.std.proofs.lemmas.List.Elements.{All-cons, All-nil, All-tail, All-push, All-weaker, All-map}
+use Rattle.arithmetic.proofs.Lists.{rise_push}
 use Rattle.exact_num.specs.Fraction.{Fraction, IsDefined, AtMost}
 use Rattle.frac.specs.Value.{fraction_of}
 use Rattle.form.specs.declared.orders.Side.{Side}
@@ -24,7 +24,7 @@ use Rattle.cert_check.specs.declared.outcome.Mark.{Mark}
 use Rattle.cert_check.specs.declared.outcome.Mark.TheVariants.{Optimal, Wide, Budget}
 use Rattle.cert_check.specs.declared.outcome.Outcome.{Outcome}
 use Rattle.cert_check.specs.declared.outcome.Judgement.TheVariants.{Yes}
-use Rattle.cert_check.specs.Conditions.{IfOptimal}
+use Rattle.cert_check.specs.Conditions.{IfOptimal, is_optimal_mark}
 use Rattle.cert_check.specs.Events.{verdict_of}
 use Rattle.cert_check.specs.Laws.{IsProved}
 use Rattle.frac.specs.Range.{limit as largest}
@@ -38,11 +38,12 @@ use Rattle.arithmetic.proofs.Sums.{All-head}
 use Rattle.option_quotes.specs.declared.quotes.Quoted.TheVariants.{At, Never}
 use Rattle.option_quotes.specs.declared.ends.Ends.{Ends}
 use Rattle.option_quotes.specs.declared.ends.Probed.{Probed}
-use Rattle.option_quotes.specs.Rising.{at_price, IsNoWorse, IsBelow}
-use Rattle.option_quotes.specs.Probes.{further, is_optimal_mark, is_optimal, is_raised, with_order, best_price, worst_price, gap}
+use Rattle.market_laws.specs.Limits.{at_price, IsNoWorse}
+use Rattle.option_quotes.specs.Quotes.{IsBelow}
+use Rattle.option_quotes.specs.Probes.{further, is_optimal, is_raised, with_order, best_price, worst_price, gap}
 use Rattle.option_quotes.specs.Quotes.{Raises, IsShown, IsShownAt, IsNextWorse, IsQuote}
 use Rattle.option_quotes.specs.Ends.{IsProbed, IsBetter, AreEnds}
-use Rattle.option_quotes.proofs.Rising.{better_limits_cover}
+use Rattle.market_laws.proofs.Limits.{better_limits_cover}
 
 -- ---- the batch with the order at another price is within the limits
 last_kept : (P : Order → Type 0) (o q : Order) → (P o → P q) → (front : List Order) → All P (front ++ o ∷ []) → All P (front ++ q ∷ [])
@@ -71,16 +72,6 @@ within_at batch o price fits within =
     }
 
 -- ---- the batch with the further order is within the limits
-rise_push : (xs : List ℕ) (y : ℕ) → IsStrictlyIncreasing xs → All (λ x. x < y) xs → IsStrictlyIncreasing (xs ++ y ∷ [])
-rise_push xs y rise below = λ k h.
-    let long = length-append xs (y ∷ []) in
-    elim (cases_lt (k + 1) (length xs)) [
-      | inl inside ↦ rw (get_or_append_left xs (y ∷ []) 0 k (omega arith), get_or_append_left xs (y ∷ []) 0 (k + 1) inside) (rise k inside)
-      | inr past ↦ (
-          let last : k + 1 ≡ length xs = omega arith in
-          rw (last, get_or_append_left xs (y ∷ []) 0 k (omega arith), get_or-append_seam xs y [] 0) (below k 0 (omega arith)))
-    ]
-
 further_within : (form : Form) (side : Side) → IsListed (option_of form) → IsOrderWithin (further form side)
 further_within form side listed =
     let is = legs_in-bundle_one form in
@@ -151,14 +142,14 @@ probe_within batch o limit p within is = proved (with_order batch (at_price o p.
 pub shown_at : (batch : Batch) (o : Order) (limit : ℕ) (p : Probed) → IsWithinLimits (with_order batch o) → IsProbed batch o limit p → IsShownAt batch o limit p.price p.outcome
 shown_at batch o limit p within is = shown (with_order batch (at_price o p.price)) limit p.outcome (within_at batch o p.price is.within within) is.is is.optimal
 
-raises_where_raised : (batch : Batch) (o : Order) (limit : ℕ) (base : Outcome) (p : Probed) → IsWithinLimits (with_order batch o) → IsProbed batch o limit p → is_raised base p.outcome ≡ true → Raises batch o base p.price
+pub raises_where_raised : (batch : Batch) (o : Order) (limit : ℕ) (base : Outcome) (p : Probed) → IsWithinLimits (with_order batch o) → IsProbed batch o limit p → is_raised base p.outcome ≡ true → Raises batch o base p.price
 raises_where_raised batch o limit base p within is raised =
     let S = fraction_of p.outcome.claim.surplus in
     let s = fraction_of base.claim.surplus in
     let g = (probe_within batch o limit p within is).greatest in
     (g.1.0, g.1.1, S, g.0, less_says (s.numerator *ℤ pos S.denominator) (S.numerator *ℤ pos s.denominator) raised, (g.1.2, g.1.3))
 
-raised_where_raises : (batch : Batch) (o : Order) (limit : ℕ) (base : Outcome) (p : Probed) → IsWithinLimits (with_order batch o) → IsProbed batch o limit p → Raises batch o base p.price → is_raised base p.outcome ≡ true
+pub raised_where_raises : (batch : Batch) (o : Order) (limit : ℕ) (base : Outcome) (p : Probed) → IsWithinLimits (with_order batch o) → IsProbed batch o limit p → Raises batch o base p.price → is_raised base p.outcome ≡ true
 raised_where_raises batch o limit base p within is (g, F, S, defined, below, still) =
     let T = fraction_of p.outcome.claim.surplus in
     let s = fraction_of base.claim.surplus in
@@ -174,11 +165,11 @@ raises_better batch o base p q better (g, F, S, defined, below, were) =
     (g, F, S, defined, below, better_limits_cover batch.underlyings batch.orders [] (at_price o p) q better g F S were)
 
 -- ---- the answers
-from_best : (side : Side) (p : ℕ) → p ≤ MAX_PRICE → IsNoWorse side p (best_price side)
+pub from_best : (side : Side) (p : ℕ) → p ≤ MAX_PRICE → IsNoWorse side p (best_price side)
 from_best Buy p fits = fits
 from_best Sell p fits = omega arith
 
-to_worst : (side : Side) (p : ℕ) → p ≤ MAX_PRICE → IsNoWorse side (worst_price side) p
+pub to_worst : (side : Side) (p : ℕ) → p ≤ MAX_PRICE → IsNoWorse side (worst_price side) p
 to_worst Buy p fits = omega arith
 to_worst Sell p fits = fits
 

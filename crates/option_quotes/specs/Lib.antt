@@ -1,5 +1,5 @@
-pub mod Rising
 pub mod Probes
 pub mod Quotes
 pub mod Ends
+pub mod ByProbes
 pub mod Laws

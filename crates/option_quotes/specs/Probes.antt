@@ -1,5 +1,5 @@
 -- The probes of a quote, in their order.
-use Rattle.std.specs.Prelude.{ℕ, suc, zero, ◌+◌, ◌-◌, ◌/◌, Bool, true, false, nat_le, List, [], ◌∷◌, ◌++◌, map, Option, Some, None, if◌then◌else◌}
+use Rattle.std.specs.Prelude.{ℕ, suc, zero, ◌+◌, ◌-◌, ◌/◌, Bool, nat_le, List, [], ◌∷◌, ◌++◌, map, Option, Some, None, if◌then◌else◌}
 use Rattle.std.specs.Ordering.{is_lt}
 use Rattle.frac.specs.Value.{order_of}
 use Rattle.form.specs.declared.forms.Form.{Form}
@@ -9,11 +9,10 @@ use Rattle.form.specs.declared.orders.Order.{Order}
 use Rattle.form.specs.declared.orders.Batch.{Batch}
 use Rattle.form.specs.declared.limits.TheConstants.{MAX_PRICE}
 use Rattle.form.specs.BundleOf.{bundle_one}
-use Rattle.cert_check.specs.declared.outcome.Mark.{Mark}
-use Rattle.cert_check.specs.declared.outcome.Mark.TheVariants.{Optimal, Wide, Budget}
+use Rattle.cert_check.specs.Conditions.{is_optimal_mark}
 use Rattle.cert_check.specs.declared.outcome.Outcome.{Outcome}
 use Rattle.clearing.specs.Outcome.{outcome_of}
-use Rattle.option_quotes.specs.Rising.{at_price}
+use Rattle.market_laws.specs.Limits.{at_price}
 
 -- the further order that is asked for, at price 0
 abbrev pub further : Form → Side → Order
@@ -42,11 +41,6 @@ best_price Sell = 0
 abbrev pub worst_price : Side → ℕ
 worst_price Buy = 0
 worst_price Sell = MAX_PRICE
-
-abbrev pub is_optimal_mark : Mark → Bool
-is_optimal_mark (Optimal cover measure) = true
-is_optimal_mark (Wide wide) = false
-is_optimal_mark Budget = false
 
 abbrev pub is_optimal : Outcome → Bool
 is_optimal outcome = is_optimal_mark outcome.mark

@@ -1,5 +1,6 @@
 -- What a quote says of a batch and a further order.
-use Rattle.std.specs.Prelude.{ℕ, ◌+◌, ◌≡◌, ◌≤◌, ◌↔◌, true, Option, Some, None}
+use Rattle.std.specs.Prelude.{ℕ, ◌+◌, ◌≡◌, ◌≤◌, ◌↔◌, true, List, Option, Some, None, pos, ◌*ℤ◌, ◌<ℤ◌}
+use Rattle.exact_num.specs.Fraction.{Fraction, IsDefined}
 use Rattle.frac.specs.Range.{limit as largest}
 use Rattle.frac.specs.Value.{fraction_of}
 use Rattle.form.specs.declared.orders.Side.{Side}
@@ -13,8 +14,17 @@ use Rattle.cert_check.specs.Events.{verdict_of}
 use Rattle.clearing.specs.Outcome.{outcome_of}
 use Rattle.option_quotes.specs.declared.quotes.Quoted.{Quoted}
 use Rattle.option_quotes.specs.declared.quotes.Quoted.TheVariants.{At, Never, Unmarked}
-use Rattle.option_quotes.specs.Rising.{at_price, IsNoWorse, CoversAbove}
+use Rattle.market_laws.specs.Limits.{at_price, IsNoWorse, FillsCoverAt}
 use Rattle.option_quotes.specs.Probes.{Probe, best_price, worst_price, is_optimal, with_order}
+
+-- the value of x is below that of y
+abbrev pub IsBelow : Fraction → Fraction → Type 0
+IsBelow x y = (x.numerator *ℤ pos y.denominator) <ℤ (y.numerator *ℤ pos x.denominator)
+
+-- some fills of the orders cover a number above s
+abbrev pub CoversAbove : ℕ → List Order → Fraction → Type 0
+CoversAbove n orders s =
+    (g : List ℕ) × (F : ℕ) × (S : Fraction) × IsDefined S × IsBelow s S × FillsCoverAt n orders g F S
 
 -- some fill of the batch with the order at this price covers a number above the base's surplus
 abbrev pub Raises : Batch → Order → Outcome → ℕ → Type 0

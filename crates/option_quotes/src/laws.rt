@@ -1,12 +1,7 @@
-//! Laws over the definitions: each is the contract of a function that does nothing.
-ghost use Rattle.option_quotes.specs.Laws.{BetterLimitsCover, GreatestDoesNotFall};
+//! A law over the definitions: the contract of a function that does nothing.
+ghost use Rattle.option_quotes.specs.Laws.{ProbesAreFew};
 
-/// What fills cover, they cover where a bid is higher or an ask lower.
-pub fn better_limits_cover()
-    ensures { BetterLimitsCover }
-{}
-
-/// So the greatest surplus does not fall when a bid rises or an ask falls.
-pub fn greatest_does_not_fall()
-    ensures { GreatestDoesNotFall }
+/// A quote has at most 43 probes, the batch itself among them.
+pub fn probes_are_few()
+    ensures { ProbesAreFew }
 {}

@@ -3,6 +3,7 @@ ghost use Rattle.std.specs.Prelude.{◌≡◌, ◌≤◌, ◌+◌, IfOk, length,
 ghost use Rattle.std.specs.List.{All};
 ghost use Rattle.form.specs.Limits.{IsListed, IsWithinLimits};
 ghost use Rattle.form.specs.Options.{option_of};
+ghost use Rattle.option_quotes.specs.ByProbes.{quoted_of};
 ghost use Rattle.option_quotes.specs.Ends.{IsProbed};
 ghost use Rattle.option_quotes.specs.Probes.{best_price, first_unmarked, further, is_raised, probed, probes, probes_from_best, probes_from_worst, with_order};
 ghost use Rattle.option_quotes.specs.Quotes.{AreShown, IfAt, IfNever, IsNever, IsQuote, IsShown, RaisesFrom, unmarked_of};
@@ -108,6 +109,10 @@ pub fn quote(
     requires listed { IsListed (option_of form.now) }
     requires on { form.now.count ≡ batch.now.underlyings + 1 }
     requires limit { (1 ≤ limit) × (limit ≤ 20000) }
+
+    // The quote is the one that the definition gives by the probes.
+    ensures defined { IfOk result (λ quoted.
+        quoted ≡ quoted_of batch.now (further form.now side) limit) }
 
     // A buy at a whole price raises the surplus exactly where its price is at least this one, a sell where it is at most this.
     ensures raises { IfOk result (λ quoted. IfAt quoted (λ price raising beside base.

@@ -1,0 +1,2 @@
+pub mod AsRun
+pub mod MayQuote

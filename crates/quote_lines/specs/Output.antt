@@ -1,0 +1,25 @@
+-- What is written for a line that may ask for a quote.
+use Rattle.std.specs.Prelude.{◌≡◌, ◌⊎◌, ℕ, List, [], ◌∷◌, ◌++◌}
+use Rattle.exchange_core.specs.ExchangeState.{ExchangeState}
+use Rattle.exchange_lines.specs.LineSteps.{IsRefusalText}
+use Rattle.quote_text.specs.declared.prices.QuotedPrice.{QuotedPrice}
+use Rattle.quote_text.specs.Bodies.{quotes_body_of}
+use Rattle.quote_text.specs.Quoted.{quoted_line}
+use Rattle.quote_lines.specs.declared.replies.QuotesReply.{QuotesReply}
+use Rattle.quote_lines.specs.Replies.{quotes_reply_line, quotes_reply_to}
+
+-- the line of a reply, with its line feed
+abbrev pub written_reply : ℕ → QuotesReply × ExchangeState → List ℕ × ExchangeState
+written_reply number result = (quotes_reply_line number result.0 ++ 10 ∷ [], result.1)
+
+-- what is written for a line of these bytes, and the state after it
+abbrev pub quotes_line : ℕ → ExchangeState → List ℕ → List ℕ × ExchangeState
+quotes_line number state line = written_reply number (quotes_reply_to state (quotes_body_of line))
+
+-- a text is the line of what is quoted of some market, with its line feed
+abbrev pub IsQuotedText : ℕ → List ℕ → Type 0
+IsQuotedText number text = (market : ℕ) × (bid : QuotedPrice) × (ask : QuotedPrice) × (text ≡ quoted_line number market bid ask ++ 10 ∷ [])
+
+-- or of a refusal
+abbrev pub IsQuoteText : ℕ → List ℕ → Type 0
+IsQuoteText number text = IsRefusalText number text ⊎ IsQuotedText number text

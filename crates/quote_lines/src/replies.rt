@@ -1,0 +1,51 @@
+// The reply to what a line says.
+ghost use Rattle.std.specs.Prelude.{◌≡◌, IfOk, OnErr};
+ghost use Rattle.quote_text.specs.Within.{QuotesBodyIsWithin};
+ghost use Rattle.quote_lines.specs.Replies.{quotes_reply_line, quotes_reply_to};
+
+use crate::quoting::quote_reply;
+use exchange_core::{Exchange, Reply};
+use quote_text::{QuotedPrice, QuotesBody, print_quoted};
+use std::alloc::{AllocError, Global};
+
+/// What a line is answered where it may ask for a quote.
+#[derive(Debug, Drop)]
+pub enum QuotesReply {
+    /// What a line of a run is answered.
+    Plain(Reply),
+    /// The prices at which one further buy, and one further sell, of the option raises the greatest surplus of the market.
+    Quoted {
+        market: u32,
+        bid: QuotedPrice,
+        ask: QuotedPrice,
+    },
+}
+
+/// Takes the exchange one line further: a line of a run as there, and a request for a quote changes nothing.
+///
+/// Want of memory leaves the exchange as it was.
+pub fn reply_to(
+    alloc: Global,
+    exchange: &mut Exchange,
+    said: &QuotesBody,
+) -> Result<QuotesReply, AllocError>
+    requires { QuotesBodyIsWithin said.now }
+    ensures ok { IfOk result (λ reply.
+        (reply, exchange.new) ≡ quotes_reply_to exchange.old said.now) }
+    ensures err { OnErr result (exchange.new ≡ exchange.old) }
+{
+    match said {
+        QuotesBody::Plain(body) => Ok(QuotesReply::Plain(line_replies::reply_to(exchange, body)?)),
+        QuotesBody::Quote(request) => quote_reply(alloc, exchange, request),
+    }
+}
+
+// The line of a reply, without its line feed.
+pub(crate) fn print(alloc: Global, line: u32, reply: &QuotesReply) -> Result<Vec<u8>, AllocError>
+    ensures { IfOk result (λ text. text.items ≡ quotes_reply_line line reply.now) }
+{
+    match reply {
+        QuotesReply::Plain(reply) => reply_print::print(alloc, line, reply),
+        QuotesReply::Quoted { market, bid, ask } => print_quoted(alloc, line, *market, *bid, *ask),
+    }
+}

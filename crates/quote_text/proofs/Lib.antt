@@ -1,0 +1,5 @@
+pub mod Words
+pub mod QuotedPlain
+pub mod FirstFields
+pub mod RequestSays
+pub mod RequestsWithin
