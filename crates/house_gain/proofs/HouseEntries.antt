@@ -27,7 +27,7 @@ use Rattle.exchange_core.specs.Premiums.{premium_entries, premium_transfer, prem
 use Rattle.house_gain.specs.Gain.{house_total, is_entry_for, is_for_batch, is_payout_of, paid_to_trader, paid_to_traders, premium_gain, premium_gains}
 
 -- ---- entries one after another
-balance_of-append : (account : ℕ) (xs ys : List Entry) → balance_of account (xs ++ ys) ≡ balance_of account xs +ℤ balance_of account ys
+pub balance_of-append : (account : ℕ) (xs ys : List Entry) → balance_of account (xs ++ ys) ≡ balance_of account xs +ℤ balance_of account ys
 balance_of-append account [] ys = omega (arith, ints)
 balance_of-append account (entry ∷ xs) ys = omega (arith, ints, balance_of-append account xs ys)
 

@@ -14,24 +14,15 @@ use Rattle.exact_num.proofs.Stands.{Stands}
 use Rattle.exact_num.proofs.Values.{whole_is_lowest}
 use Rattle.form.specs.declared.orders.Order.{Order}
 use Rattle.form.specs.Payoff.{bundle_of, bundle_payoff, scale_of}
-use Rattle.form.specs.Steps.{add_for_side, bundle_payoff_of}
-use Rattle.form.proofs.LegSteps.{bundle_payoffs_are_exact}
-use Rattle.clearing_model.specs.Clearing.{for_side, signed_sum}
+use Rattle.clearing_model.specs.Clearing.{signed_sum}
 use Rattle.clearing_model.specs.Certificate.{signed_over}
 use Rattle.line_cover.specs.Net.{add_payoff, net_of}
-use Rattle.line_cover.proofs.Fills.{side_stands, fills_stand}
+use Rattle.line_cover.proofs.Fills.{fills_stand}
+use Rattle.line_cover.proofs.Sound.{payoff_adds}
 use Rattle.settlement.specs.declared.position.Position.{Position}
 use Rattle.portfolio_margin.specs.Owed.{EqualsAt, fills_of, owed_over}
 use Rattle.portfolio_margin.specs.Run.{Asked, asked_for, net_at, orders_of, wanted_at}
 use Rattle.portfolio_margin.proofs.Owing.{Divides, fills_lowest, signed_is_owed}
-
--- the step for a fill adds what its bundle pays
-payoff_adds : (limit D : ℕ) (z : List ℕ) (o : Order) (a : Fraction) (y : ℤ) → Stands a y D → (start s : Fraction) (x : ℤ) → Stands start x D → add_payoff limit z start (o, a) ≡ Ok s
-    → Stands s (x +ℤ for_side o.side (bundle_payoff (bundle_of o) z *ℤ y)) D
-payoff_adds limit D z o a y sa start s x st h =
-    let pays = after_value (bundle_payoff_of limit (bundle_of o) z) (λ p. add_for_side limit start o.side a p) s h in
-    let is = bundle_payoffs_are_exact limit (bundle_of o) z pays.value pays.first in
-    side_stands limit o.side start a s (bundle_payoff (bundle_of o) z) x y D st sa (rw (← is) pays.rest)
 
 net_stands : (limit D : ℕ) (os : List Order) (fs : List Fraction) (z : List ℕ) (s : Fraction) → All IsLowest fs → All (Divides D) fs → net_of limit (zip os fs) z ≡ Ok s
     → Stands s (signed_sum (λ o. bundle_payoff (bundle_of o) z) (signed_over D os fs)) D

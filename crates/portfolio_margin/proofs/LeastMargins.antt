@@ -133,6 +133,7 @@ keeps limit budget n ps may = record {
   asked = λ L at w. asked limit budget n ps L may w.lowest;
   closes = λ L at spent units tree w ended. (
     record {
+      lowest = w.lowest;
       covers = closes_covers limit budget n spent units ps L tree may w.lowest ended;
       state = w.state;
       settlement = w.settlement;

@@ -1,12 +1,12 @@
 -- An amount covers what the positions lose, whatever the prices.
-use Rattle.std.proofs.Common.{◌≡◌, ℕ, suc, ◌+◌, ◌*◌, ◌/◌, List, [], ◌∷◌, length, map, Bool, true, false, None, arith, ℤ, pos, neg_ℤ, ◌+ℤ◌, ◌*ℤ◌, ◌≤ℤ◌, All, refl, ap, sym, ◌∙◌, subst}
+use Rattle.std.proofs.Common.{◌≡◌, ℕ, suc, ◌+◌, ◌*◌, ◌/◌, List, [], ◌∷◌, length, map, Bool, true, false, None, Ok, Err, arith, ℤ, pos, neg_ℤ, ◌+ℤ◌, ◌*ℤ◌, ◌≤ℤ◌, All, refl, ap, sym, ◌∙◌, subst}
 use Rattle.std.specs.Prelude.{nat_le, int_lt, if◌then◌else◌}
 use Rattle.std.specs.Int.{◌∣◌}
 use Rattle.std.proofs.lemmas.Int.{ints}
 use Rattle.std.proofs.lemmas.List.Elements.{All-cons}
 use Rattle.std.proofs.lemmas.List.Sums.{sum_by-cons}
 use native.Mathlib.Nat.{mul-div_cancel'}
-use Rattle.arithmetic.specs.Sums.{total}
+use Rattle.arithmetic.specs.Sums.{positive_part, total}
 use Rattle.arithmetic.proofs.Integers.{*ℤ_cancel_le, *ℤ_distr, *ℤ_mono}
 use Rattle.arithmetic.proofs.Parts.{positive_part_above}
 use Rattle.arithmetic.proofs.Products.{products}
@@ -16,7 +16,6 @@ use Rattle.arithmetic.proofs.Tests.{int_lt-yes, int_lt-no}
 use Rattle.exact_num.specs.Fraction.{Fraction, IsDefined}
 use Rattle.exact_num.specs.CommonDenominator.{amount_over, common_denominator}
 use Rattle.frac.specs.Range.{limit as largest}
-use Rattle.frac.specs.Value.{fraction_of}
 use Rattle.form.specs.declared.orders.Side.{Side}
 use Rattle.form.specs.declared.orders.Side.TheVariants.{Buy, Sell}
 use Rattle.form.specs.Payoff.{IsState, bundle_legs, bundle_payoff}
@@ -29,8 +28,8 @@ use Rattle.portfolio_margin.specs.declared.least_margin.LeastMargin.TheVariants.
 use Rattle.portfolio_margin.specs.declared.needs.Needed.{Needed}
 use Rattle.portfolio_margin.specs.declared.needs.Needed.TheVariants.{Amount, Sum}
 use Rattle.portfolio_margin.specs.Owed.{Covers, fill_of, fills_of, owed_by, owed_over}
-use Rattle.portfolio_margin.specs.Need.{Counted, ceil_of, counted_part, first_word, part_of, sum_need, whole_of, word_or}
-use Rattle.portfolio_margin.specs.Laws.{AreCovered, NeedsCover, Settled, gain_in}
+use Rattle.portfolio_margin.specs.Need.{Ask, Counted, ask_part, asks_of, ceil_of, first_ask_word, first_word, sum_asked, sum_need, whole_asked, word_or}
+use Rattle.portfolio_margin.specs.Laws.{AreAsksCovered, NeedsCover, Settled, gain_in}
 use Rattle.portfolio_margin.proofs.Owing.{Divides, common_is, fills_defined}
 use Rattle.portfolio_margin.proofs.Rounded.{liabilities_are_rounded_up}
 
@@ -134,23 +133,40 @@ part_covers y g part le lost = omega (arith, ints, le, lost)
 together : (a b whole : ℕ) (g G : ℤ) → whole ≡ a + b → neg_ℤ (pos a) ≤ℤ g → neg_ℤ (pos b) ≤ℤ G → neg_ℤ (pos whole) ≤ℤ (g +ℤ G)
 together a b whole g G is first rest = omega (arith, ints, is, first, rest)
 
-all_covered : (margins : List Counted) (markets : List Settled) → first_word margins ≡ None → AreCovered margins markets → neg_ℤ (pos (whole_of margins)) ≤ℤ total gain_in markets
-all_covered [] [] none covered = omega (arith, ints)
-all_covered [] (s ∷ markets) none covered = absurd covered
-all_covered (m ∷ margins) [] none covered = absurd covered
-all_covered ((Least L at tree, count) ∷ margins) (s ∷ markets) none (counted, covers, rest) =
-    let l = fraction_of L in
-    let y = ceil_of l.numerator l.denominator +ℤ pos count in
-    let lost : neg_ℤ y ≤ℤ gain_in s = subst (λ (k : ℕ). neg_ℤ (ceil_of l.numerator l.denominator +ℤ pos k) ≤ℤ gain_in s) counted (market_loses l s.prices s.positions L.lowest.positive covers) in
-    let part = part_of (Least L at tree) count in
-    together part (whole_of margins) (whole_of ((Least L at tree, count) ∷ margins)) (gain_in s) (total gain_in markets)
-    (sum_by-cons (λ (k : ℕ). k) part (map counted_part margins))
-    (part_covers y (gain_in s) part (positive_part_above y) lost) (all_covered margins markets none rest)
-all_covered ((Unbounded ray, count) ∷ margins) (s ∷ markets) none covered = cc
-all_covered ((Wide unit wide, count) ∷ margins) (s ∷ markets) none covered = cc
-all_covered ((Budget, count) ∷ margins) (s ∷ markets) none covered = cc
+-- each liability is a fraction
+abbrev pub AreDefined : {W : Type 0} → List (Ask W) → Type 0
+AreDefined [] = Unit {0}
+AreDefined ((Ok L, count) ∷ asks) = IsDefined L × AreDefined asks
+AreDefined ((Err word, count) ∷ asks) = AreDefined asks
+
+all_covered : {W : Type 0} (asks : List (Ask W)) (markets : List Settled) → first_ask_word asks ≡ None → AreDefined asks → AreAsksCovered asks markets
+    → neg_ℤ (pos (whole_asked asks)) ≤ℤ total gain_in markets
+all_covered [] [] none are covered = omega (arith, ints)
+all_covered [] (s ∷ markets) none are covered = absurd covered
+all_covered (a ∷ asks) [] none are covered = absurd covered
+all_covered ((Ok L, count) ∷ asks) (s ∷ markets) none (defined, are) (counted, covers, rest) =
+    let y = ceil_of L.numerator L.denominator +ℤ pos count in
+    let lost : neg_ℤ y ≤ℤ gain_in s = subst (λ (k : ℕ). neg_ℤ (ceil_of L.numerator L.denominator +ℤ pos k) ≤ℤ gain_in s) counted (market_loses L s.prices s.positions defined covers) in
+    let part = positive_part y in
+    together part (whole_asked asks) (whole_asked ((Ok L, count) ∷ asks)) (gain_in s) (total gain_in markets)
+    (sum_by-cons (λ (k : ℕ). k) part (map (λ a. ask_part a.0 a.1) asks))
+    (part_covers y (gain_in s) part (positive_part_above y) lost) (all_covered asks markets none are rest)
+all_covered ((Err word, count) ∷ asks) (s ∷ markets) none are covered = cc
 
 -- ---- the amount
+amount_is : {W : Type 0} (asks : List (Ask W)) (amount : ℕ) → sum_asked asks ≡ Amount amount → whole_asked asks ≡ amount
+amount_is asks amount h = by (nat_le (whole_asked asks) largest) h
+  where
+    by : (b : Bool) → (if b then Amount (whole_asked asks) else Sum) ≡ Amount amount → whole_asked asks ≡ amount
+    by true h = cc
+    by false h = cc
+
+-- where each market asks a liability, their sum covers what the positions lose
+pub sums_cover : {W : Type 0} (asks : List (Ask W)) (markets : List Settled) (amount : ℕ) → first_ask_word asks ≡ None → sum_asked asks ≡ Amount amount
+    → AreDefined asks → AreAsksCovered asks markets → neg_ℤ (pos amount) ≤ℤ total gain_in markets
+sums_cover asks markets amount none h are covered =
+    subst (λ (k : ℕ). neg_ℤ (pos k) ≤ℤ total gain_in markets) (amount_is asks amount h) (all_covered asks markets none are covered)
+
 no_word : (margins : List Counted) (need : Needed) (amount : ℕ) → word_or (first_word margins) need ≡ Amount amount → (first_word margins ≡ None) × (need ≡ Amount amount)
 no_word [] need amount h = (refl, h)
 no_word ((Least L at tree, count) ∷ margins) need amount h = no_word margins need amount h
@@ -158,14 +174,14 @@ no_word ((Unbounded ray, count) ∷ margins) need amount h = cc
 no_word ((Wide unit wide, count) ∷ margins) need amount h = cc
 no_word ((Budget, count) ∷ margins) need amount h = cc
 
-amount_is : (margins : List Counted) (amount : ℕ) → sum_need margins ≡ Amount amount → whole_of margins ≡ amount
-amount_is margins amount h = by (nat_le (whole_of margins) largest) h
-  where
-    by : (b : Bool) → (if b then Amount (whole_of margins) else Sum) ≡ Amount amount → whole_of margins ≡ amount
-    by true h = cc
-    by false h = cc
+margins_defined : (margins : List Counted) → AreDefined (asks_of margins)
+margins_defined [] = tt
+margins_defined ((Least L at tree, count) ∷ margins) = (L.lowest.positive, margins_defined margins)
+margins_defined ((Unbounded ray, count) ∷ margins) = margins_defined margins
+margins_defined ((Wide unit wide, count) ∷ margins) = margins_defined margins
+margins_defined ((Budget, count) ∷ margins) = margins_defined margins
 
 pub needs_cover : NeedsCover
 needs_cover margins markets amount h covered =
     let parts = no_word margins (sum_need margins) amount h in
-    subst (λ (k : ℕ). neg_ℤ (pos k) ≤ℤ total gain_in markets) (amount_is margins amount parts.1) (all_covered margins markets parts.0 covered)
+    sums_cover (asks_of margins) markets amount parts.0 parts.1 (margins_defined margins) covered

@@ -1,20 +1,17 @@
 -- What margins and needs imply.
-use Rattle.std.specs.Prelude.{ℕ, ◌≡◌, ◌≤◌, List, [], ◌∷◌, length, ℤ, pos, neg_ℤ, ◌≤ℤ◌}
+use Rattle.std.specs.Prelude.{ℕ, ◌≡◌, ◌≤◌, List, [], ◌∷◌, length, ℤ, pos, neg_ℤ, ◌≤ℤ◌, Result, Ok, Err}
 use Rattle.std.specs.List.{All}
 use Rattle.arithmetic.specs.Sums.{total}
 use Rattle.exact_num.specs.Fraction.{Fraction, IsNotBelowZero}
-use Rattle.frac.specs.Value.{fraction_of}
 use Rattle.clearing_model.specs.Certificate.{ClosesAsWritten}
 use Rattle.clearing_model.specs.Written.{WrittenTree, nodes_of, multipliers_of}
 use Rattle.settlement.specs.declared.position.Position.{Position}
 use Rattle.settlement.specs.Positions.{gain_at}
 use Rattle.table_run.specs.Ending.{done, unbounded}
-use Rattle.portfolio_margin.specs.declared.least_margin.LeastMargin.{LeastMargin}
-use Rattle.portfolio_margin.specs.declared.least_margin.LeastMargin.TheVariants.{Least, Unbounded, Wide, Budget}
 use Rattle.portfolio_margin.specs.declared.needs.Needed.TheVariants.{Amount}
 use Rattle.portfolio_margin.specs.Owed.{Covers, IsLeast, IsUnbounded, fills_of}
 use Rattle.portfolio_margin.specs.Run.{asked_for, least, endless, margin_run, orders_of}
-use Rattle.portfolio_margin.specs.Need.{Counted, need_of}
+use Rattle.portfolio_margin.specs.Need.{Ask, Counted, asks_of, need_of}
 
 -- ---- the run
 -- positions on one to eight underlyings whose fills are not below 0
@@ -51,18 +48,20 @@ pub record Settled : Type 0 where
 abbrev pub gain_in : Settled → ℤ
 gain_in s = total (gain_at s.prices) s.positions
 
--- the margin's liability covers the positions, of which there are so many
-abbrev pub IsCovered : LeastMargin → Settled → Type 0
-IsCovered (Least L at tree) s = Covers (length s.prices) s.positions (fraction_of L)
-IsCovered (Unbounded ray) s = Unit {0}
-IsCovered (Wide unit wide) s = Unit {0}
-IsCovered Budget s = Unit {0}
+-- the liability covers the positions
+abbrev pub IsCovered : {W : Type 0} → Result Fraction W → Settled → Type 0
+IsCovered (Ok L) s = Covers (length s.prices) s.positions L
+IsCovered (Err word) s = Unit {0}
+
+-- each does, of so many positions
+abbrev pub AreAsksCovered : {W : Type 0} → List (Ask W) → List Settled → Type 0
+AreAsksCovered [] [] = Unit {0}
+AreAsksCovered [] (s ∷ markets) = ⊥
+AreAsksCovered (a ∷ asks) [] = ⊥
+AreAsksCovered (a ∷ asks) (s ∷ markets) = (length s.positions ≡ a.1) × IsCovered a.0 s × AreAsksCovered asks markets
 
 abbrev pub AreCovered : List Counted → List Settled → Type 0
-AreCovered [] [] = Unit {0}
-AreCovered [] (s ∷ markets) = ⊥
-AreCovered (m ∷ margins) [] = ⊥
-AreCovered (m ∷ margins) (s ∷ markets) = (length s.positions ≡ m.1) × IsCovered m.0 s × AreCovered margins markets
+AreCovered margins markets = AreAsksCovered (asks_of margins) markets
 
 -- an amount covers what all positions lose, whatever the prices of each market
 abbrev pub NeedsCover : Type 0

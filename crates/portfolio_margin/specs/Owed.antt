@@ -3,7 +3,7 @@ use Rattle.std.specs.Prelude.{ℕ, ◌≡◌, ◌≤◌, List, ◌∷◌, map, �
 use Rattle.std.specs.Int.{◌∣◌}
 use Rattle.std.specs.List.{All}
 use Rattle.arithmetic.specs.Sums.{total}
-use Rattle.exact_num.specs.Fraction.{Fraction, IsDefined, AtMost}
+use Rattle.exact_num.specs.Fraction.{Fraction, IsDefined, IsLowest, AtMost}
 use Rattle.exact_num.specs.CommonDenominator.{amount_over}
 use Rattle.frac.specs.Value.{fraction_of}
 use Rattle.form.specs.declared.orders.Side.{Side}
@@ -47,6 +47,7 @@ Covers n positions L = (z : List ℕ) → IsState n z → CoversAt L positions z
 
 -- the least liability that covers them: it does, and at a settlement they owe just that much
 pub record IsLeast (n : ℕ) (positions : List Position) (L : Fraction) (at : List ℕ) : Type 0 where
+  pub lowest : IsLowest L
   pub covers : Covers n positions L
   pub state : IsState n at
   pub settlement : 1 ≤ scale_of at

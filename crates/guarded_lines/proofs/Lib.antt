@@ -1,0 +1,9 @@
+pub mod AsRun
+pub mod ToldMargins
+pub mod MarginReplies
+pub mod HeldPositions
+pub mod AskSums
+pub mod Leaving
+pub mod Rising
+pub mod Settled
+pub mod Covered

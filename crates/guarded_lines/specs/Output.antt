@@ -1,0 +1,31 @@
+-- What is written for a line that may ask for a margin.
+use Rattle.std.specs.Prelude.{◌≡◌, ◌⊎◌, ℕ, List, [], ◌∷◌, ◌++◌}
+use Rattle.exchange_core.specs.ExchangeState.{ExchangeState}
+use Rattle.exchange_lines.specs.LineSteps.{IsRefusalText}
+use Rattle.margin_text.specs.declared.margins.ToldMargin.{ToldMargin}
+use Rattle.margin_text.specs.declared.needs.Need.{Need}
+use Rattle.margin_text.specs.declared.requests.MarginRequest.{MarginRequest}
+use Rattle.margin_text.specs.Bodies.{guarded_body_of}
+use Rattle.margin_text.specs.Told.{margin_line, uncovered_line}
+use Rattle.guarded_lines.specs.declared.replies.GuardedReply.{GuardedReply}
+use Rattle.guarded_lines.specs.Replies.{guarded_reply_line, guarded_reply_to}
+
+-- the line of a reply, with its line feed
+abbrev pub written_reply : ℕ → GuardedReply × ExchangeState → List ℕ × ExchangeState
+written_reply number result = (guarded_reply_line number result.0 ++ 10 ∷ [], result.1)
+
+-- what is written for a line of these bytes, and the state after it
+abbrev pub guarded_line : ℕ → ExchangeState → List ℕ → List ℕ × ExchangeState
+guarded_line number state line = written_reply number (guarded_reply_to state (guarded_body_of line))
+
+-- a text is the line of a margin that was asked for, with its line feed
+abbrev pub IsToldText : ℕ → List ℕ → Type 0
+IsToldText number text = (request : MarginRequest) × (margin : ToldMargin) × (text ≡ margin_line number request margin ++ 10 ∷ [])
+
+-- of a need that is not covered
+abbrev pub IsUncoveredText : ℕ → List ℕ → Type 0
+IsUncoveredText number text = (need : Need) × (text ≡ uncovered_line number need ++ 10 ∷ [])
+
+-- of one of these, or of a refusal
+abbrev pub IsMarginText : ℕ → List ℕ → Type 0
+IsMarginText number text = IsRefusalText number text ⊎ (IsToldText number text ⊎ IsUncoveredText number text)

@@ -1,0 +1,31 @@
+-- The reply to a line that may ask for a margin, and the exchange after it.
+use Rattle.std.specs.Prelude.{ℕ, List}
+use Rattle.std.specs.Option.{option_map_or}
+use Rattle.command_text.specs.declared.command.Body.{Body}
+use Rattle.exchange_core.specs.ExchangeState.{ExchangeState}
+use Rattle.line_replies.specs.Replies.{reply_to}
+use Rattle.margin_text.specs.declared.bodies.GuardedBody.{GuardedBody}
+use Rattle.margin_text.specs.declared.bodies.GuardedBody.TheVariants as body
+use Rattle.margin_text.specs.Told.{margin_line, uncovered_line}
+use Rattle.reply_print.specs.ReplyPieces.{reply_line}
+use Rattle.guarded_lines.specs.declared.replies.GuardedReply.{GuardedReply}
+use Rattle.guarded_lines.specs.declared.replies.GuardedReply.TheVariants.{Plain, Margin, Uncovered}
+use Rattle.guarded_lines.specs.Margins.{margin_reply}
+use Rattle.guarded_lines.specs.Withdrawals.{uncovered_by}
+
+-- a run's reply to what a line says, and the exchange after it
+abbrev pub plain_reply_to : ExchangeState → Body → GuardedReply × ExchangeState
+plain_reply_to state said = let now = reply_to state said in (Plain now.0, now.1)
+
+-- the reply to what a line says, and the exchange after it: a run's, but for a withdrawal that would leave less than is needed.
+-- That and a request for a margin change nothing
+abbrev pub guarded_reply_to : ExchangeState → GuardedBody → GuardedReply × ExchangeState
+guarded_reply_to state (body.Plain said) =
+    option_map_or (λ need. (Uncovered need, state)) (uncovered_by state said) (plain_reply_to state said)
+guarded_reply_to state (body.Margin request) = (margin_reply state request, state)
+
+-- the line of a reply, without its line feed
+abbrev pub guarded_reply_line : ℕ → GuardedReply → List ℕ
+guarded_reply_line number (Plain reply) = reply_line number reply
+guarded_reply_line number (Margin request margin) = margin_line number request margin
+guarded_reply_line number (Uncovered need) = uncovered_line number need

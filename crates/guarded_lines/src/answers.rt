@@ -1,0 +1,30 @@
+//! The answer to one line.
+ghost use Rattle.std.specs.Prelude.{◌≡◌, ◌<◌, ◌==◌, false, length, IfOk};
+ghost use Rattle.std.specs.List.{list_any};
+ghost use Rattle.guarded_lines.specs.Output.{guarded_line};
+
+use crate::replies::{print, reply_to};
+use exchange_core::Exchange;
+use margin_text::guarded_body_of;
+use std::alloc::{AllocError, Global};
+
+/// Takes the exchange one line further, and answers what is written for a line of exactly these bytes with this number: the line
+/// of its reply and a line feed. A line that asks for a margin changes nothing, nor does a withdrawal that is refused. The only
+/// error is want of memory.
+pub fn answer(
+    alloc: Global,
+    exchange: &mut Exchange,
+    number: u32,
+    line: &[u8],
+) -> Result<Vec<u8>, AllocError>
+    requires some { 0 < length line.now }
+    requires one_line { list_any (λ b. b == 10) line.now ≡ false }
+    ensures { IfOk result (λ text.
+        (text.items, exchange.new) ≡ guarded_line number exchange.old line.now) }
+{
+    let said = guarded_body_of(alloc, line)?;
+    let reply = reply_to(alloc, exchange, &said)?;
+    let mut text = print(alloc, number, &reply)?;
+    text.push(b'\n')?;
+    Ok(text)
+}

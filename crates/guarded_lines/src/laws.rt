@@ -1,0 +1,13 @@
+//! Laws over the definition of the answers: each is the contract of a function that does nothing.
+ghost use Rattle.guarded_lines.specs.Laws.{GuardedAnswerAsRun, WithdrawalsAreCovered};
+
+/// Each line is answered as in a run, or by a refusal or by what is told of a margin, and then the exchange is as it was.
+pub fn guarded_answer_as_run()
+    ensures { GuardedAnswerAsRun }
+{}
+
+/// After a withdrawal that is accepted, were all markets in which the account has positions settled next, in rising number and at
+/// any prices, its balance would not be below 0.
+pub fn withdrawals_are_covered()
+    ensures { WithdrawalsAreCovered }
+{}

@@ -1,0 +1,118 @@
+// The margin of an account in a market.
+ghost use Rattle.std.specs.Prelude.{◌≡◌, ◌≤◌, ◌+◌, IfOk, IfSome, length};
+ghost use Rattle.std.specs.List.{All};
+ghost use Rattle.form.specs.Payoff.{IsOnCount};
+ghost use Rattle.form.specs.declared.limits.TheConstants.{MAX_UNDERLYINGS};
+ghost use Rattle.refusals.specs.Refusals.{first_of};
+ghost use Rattle.settlement.specs.Positions.{IsHeldPosition};
+ghost use Rattle.exchange_core.specs.Held.{positions_of};
+ghost use Rattle.guarded_lines.specs.Margins.{IsMarginIn, market_refusals, margin_reply, told_by, underlyings_in};
+
+use crate::replies::GuardedReply;
+use exchange_core::{Exchange, Refusal};
+use form::MAX_ORDERS;
+use margin_text::{MarginRequest, ToldMargin};
+use order_book::MarketInfo;
+use portfolio_margin::{LeastMargin, margin};
+use settlement::Position;
+use std::alloc::{AllocError, Global};
+
+// The number of underlyings of a market; 1 where there is no such market, in which no account has positions.
+fn underlyings_in(exchange: &Exchange, market: u32) -> u8
+    ensures value { result ≡ underlyings_in exchange.now.book market }
+    ensures some { 1 ≤ result }
+    ensures few { result ≤ MAX_UNDERLYINGS }
+{
+    match exchange.info(market) {
+        Some(info) => info.underlyings,
+        None => 1,
+    }
+}
+
+// The positions that an account has in a market.
+fn positions_in(exchange: &Exchange, account: u32, market: u32) -> Result<Vec<Position>, AllocError>
+    ensures positions { IfOk result (λ positions.
+        positions.items ≡ positions_of account market exchange.now.positions) }
+    ensures forms { IfOk result (λ positions.
+        All (λ p. IsOnCount (underlyings_in exchange.now.book market + 1) p.bundle)
+        positions.items) }
+    ensures held { IfOk result (λ positions. All IsHeldPosition positions.items) }
+{
+    exchange.positions_of(account, market)
+}
+
+/// The margin of the positions that an account has in a market, with their number; `None` where they are more than
+/// 256. The only error is want of memory.
+pub(crate) fn margin_in(
+    alloc: Global,
+    exchange: &Exchange,
+    account: u32,
+    market: u32,
+    limit: u32,
+) -> Result<Option<(LeastMargin, u32)>, AllocError>
+    ensures { IfOk result (IsMarginIn exchange.now account market limit) }
+{
+    let positions = positions_in(exchange, account, market)?;
+    if positions.len() > MAX_ORDERS {
+        return Ok(None);
+    }
+    let underlyings = underlyings_in(exchange, market);
+    let count = positions.len() as u32;
+    let margin = margin(alloc, &positions, underlyings, limit)?;
+    Ok(Some((margin, count)))
+}
+
+// What is told of a margin.
+fn told(margin: &LeastMargin) -> ToldMargin
+    ensures { result ≡ told_by margin.now }
+{
+    match margin {
+        LeastMargin::Least { liability, at, .. } => ToldMargin::Least {
+            liability: *liability,
+            at: *at,
+        },
+        LeastMargin::Unbounded { ray } => ToldMargin::Unbounded { ray: *ray },
+        LeastMargin::Wide { .. } => ToldMargin::Wide,
+        LeastMargin::Budget => ToldMargin::Budget,
+    }
+}
+
+// Why a margin is refused by what is told of its market.
+fn refused_by(info: Option<MarketInfo>) -> Option<Refusal>
+    ensures { result ≡ first_of (market_refusals info) }
+{
+    match info {
+        None => Some(Refusal::NoMarket),
+        Some(info) if info.settled => Some(Refusal::Settled),
+        Some(_) => None,
+    }
+}
+
+/// The margin that is asked for, or the first refusal that the request meets. The only error is want of memory.
+pub(crate) fn margin_reply(
+    alloc: Global,
+    exchange: &Exchange,
+    request: &MarginRequest,
+) -> Result<GuardedReply, AllocError>
+    ensures { IfOk result (λ reply. reply ≡ margin_reply exchange.now request.now) }
+{
+    if let Some(refusal) = refused_by(exchange.info(request.market)) {
+        return Ok(GuardedReply::Plain(refusal.reply()));
+    }
+    if exchange.balance(request.account).is_none() {
+        return Ok(GuardedReply::Plain(Refusal::NoAccount.reply()));
+    }
+    match margin_in(
+        alloc,
+        exchange,
+        request.account,
+        request.market,
+        request.budget,
+    )? {
+        Some(counted) => Ok(GuardedReply::Margin {
+            request: *request,
+            margin: told(&counted.0),
+        }),
+        None => Ok(GuardedReply::Plain(Refusal::TooMany.reply())),
+    }
+}

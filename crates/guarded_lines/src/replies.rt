@@ -1,0 +1,60 @@
+// The reply to what a line says.
+ghost use Rattle.std.specs.Prelude.{◌≡◌, IfOk, OnErr};
+ghost use Rattle.margin_text.specs.Within.{GuardedBodyIsWithin};
+ghost use Rattle.guarded_lines.specs.Replies.{guarded_reply_line, guarded_reply_to};
+
+use crate::margins::margin_reply;
+use crate::withdrawals::uncovered;
+use exchange_core::{Exchange, Reply};
+use margin_text::{GuardedBody, MarginRequest, Need, ToldMargin, print_margin, print_uncovered};
+use std::alloc::{AllocError, Global};
+
+/// What a line is answered where it may ask for a margin.
+#[derive(Debug, Drop)]
+pub enum GuardedReply {
+    /// What a line of a run is answered.
+    Plain(Reply),
+    /// The margin that was asked for.
+    Margin {
+        request: MarginRequest,
+        margin: ToldMargin,
+    },
+    /// The withdrawal would leave the account less than its positions ask.
+    Uncovered {
+        need: Need,
+    },
+}
+
+/// Takes the exchange one line further: a line of a run as there, but for a withdrawal that would leave its account less than its
+/// positions ask; that and a request for a margin change nothing.
+///
+/// Want of memory leaves the exchange as it was.
+pub fn reply_to(
+    alloc: Global,
+    exchange: &mut Exchange,
+    said: &GuardedBody,
+) -> Result<GuardedReply, AllocError>
+    requires { GuardedBodyIsWithin said.now }
+    ensures ok { IfOk result (λ reply.
+        (reply, exchange.new) ≡ guarded_reply_to exchange.old said.now) }
+    ensures err { OnErr result (exchange.new ≡ exchange.old) }
+{
+    match said {
+        GuardedBody::Plain(body) => match uncovered(alloc, exchange, body)? {
+            Some(need) => Ok(GuardedReply::Uncovered { need }),
+            None => Ok(GuardedReply::Plain(line_replies::reply_to(exchange, body)?)),
+        },
+        GuardedBody::Margin(request) => margin_reply(alloc, exchange, request),
+    }
+}
+
+// The line of a reply, without its line feed.
+pub(crate) fn print(alloc: Global, line: u32, reply: &GuardedReply) -> Result<Vec<u8>, AllocError>
+    ensures { IfOk result (λ text. text.items ≡ guarded_reply_line line reply.now) }
+{
+    match reply {
+        GuardedReply::Plain(reply) => reply_print::print(alloc, line, reply),
+        GuardedReply::Margin { request, margin } => print_margin(alloc, line, request, margin),
+        GuardedReply::Uncovered { need } => print_uncovered(alloc, line, *need),
+    }
+}

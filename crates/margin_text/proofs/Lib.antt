@@ -1,0 +1,4 @@
+pub mod Words
+pub mod FirstFields
+pub mod RequestsWithin
+pub mod PlainLines
