@@ -4,8 +4,9 @@
 mod check;
 mod demo;
 mod failure;
+mod lines;
+mod modes;
 mod program;
-mod run;
 mod serving;
 #[cfg(test)]
 mod sessions;
@@ -14,9 +15,9 @@ mod status;
 mod tests;
 
 pub use check::MAX_JOURNAL;
+pub use lines::MAX_INPUT;
 use port_io::{StdSink, StdSource};
 pub use program::exchange;
-pub use run::MAX_INPUT;
 pub use status::Status;
 use std::io;
 use std::process::ExitCode;

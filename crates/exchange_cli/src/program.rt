@@ -19,9 +19,12 @@ use std::alloc::Global;
 
 /// Runs the program on the words after its name.
 ///
-/// `run` reads commands to their end and writes a reply line for each, by one `write_all`. `check` reads reply lines to their
-/// end and writes one report line: that all are sound, with their counts, or the first that is not, and why. `sessions` reads
-/// messages to their end and answers each, once and in its session's order. `demo` with a seed and a number of orders reads nothing, runs the text that it makes from them, and writes one summary line.
+/// `run` reads commands to their end and writes a reply line for each, by one `write_all`. `quotes` does the same and also
+/// answers at which prices a further order raises the greatest surplus. `guarded` does the same as `run` and also answers which
+/// liability covers an account's positions, and it refuses a withdrawal below what the account needs. `check` reads reply lines
+/// to their end and writes one report line: that all are sound, with their counts, or the first that is not, and why.
+/// `sessions` reads messages to their end and answers each, once and in its session's order. `demo` with a seed and a number of
+/// orders reads nothing, runs the text that it makes from them, and writes one summary line.
 pub fn exchange<S: Source, K: Sink>(
     alloc: Global,
     words: &[String],
@@ -48,7 +51,7 @@ pub fn exchange<S: Source, K: Sink>(
         OfInput request (S.left source.old) (λ input.
         AppendsFront (K.written sink.old) (K.written sink.new) (output_for request input))) }
 
-    // It keeps what the request promises of it: a run's is the text of answers that keep what is promised.
+    // It keeps what the request promises of it: command lines are told answers that keep what is promised.
     ensures told { result ≡ Status.Done →
         Asked (map string_bytes words.now) (λ request.
         Wrote (K.written sink.old) (K.written sink.new) (Promised request)) }

@@ -14,7 +14,7 @@ ghost use Rattle.exchange_cli.specs.Wrote.{Wrote, WroteFront};
 use crate::check::{MAX_JOURNAL, report_on};
 use crate::demo::write_demo;
 use crate::failure::AnswerFailure;
-use crate::run::{MAX_INPUT, answer_input};
+use crate::lines::{MAX_INPUT, answer_lines};
 use crate::status::Status;
 use exchange_sessions::answer_messages;
 use port_io::{ReadStop, Sink, Source, read_all};
@@ -42,7 +42,7 @@ fn input_of<S: Source>(alloc: Global, request: Request, source: &mut S) -> Resul
         raised (S.taken source.old) (input_limit request + 1) ≤ S.taken source.new }
 {
     match request {
-        Request::Run | Request::Sessions => read_all(alloc, source, MAX_INPUT),
+        Request::Lines(_) | Request::Sessions => read_all(alloc, source, MAX_INPUT),
         Request::Check => read_all(alloc, source, MAX_JOURNAL),
         Request::Demo { .. } => Ok(Vec::new(alloc)),
     }
@@ -67,8 +67,8 @@ fn respond<K: Sink>(
     ensures later { K.faults sink.old ≤ K.faults sink.new }
 {
     match request {
-        Request::Run => {
-            answer_input(alloc, input, sink)?;
+        Request::Lines(mode) => {
+            answer_lines(alloc, mode, input, sink)?;
             Ok(Status::Done)
         }
         Request::Check => report_on(alloc, input, sink),
@@ -103,7 +103,7 @@ pub(crate) fn serve<S: Source, K: Sink>(
         OfInput request (S.left source.old) (λ input.
         AppendsFront (K.written sink.old) (K.written sink.new) (output_for request input)) }
 
-    // It keeps what the request promises of it: a run's is the text of answers that keep what is promised.
+    // It keeps what the request promises of it: command lines are told answers that keep what is promised.
     ensures told { result ≡ Status.Done →
         Wrote (K.written sink.old) (K.written sink.new) (Promised request) }
     ensures told_front { (result ≡ Status.WriteFault) ⊎ (result ≡ Status.Memory) →

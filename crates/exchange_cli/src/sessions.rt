@@ -410,3 +410,92 @@ balance,2
 balance,0
 = {"account":0,"balance":"4","line":20,"reply":"balance","reserved":"0"}
 "#;
+
+// The same of the word `quotes`: between two sells only a bid raises the surplus, and one unit is too few for its first probe.
+pub(crate) static QUOTES: &str = r#"==
+open,1
+= {"account":1,"line":1,"reply":"opened"}
+open,2
+= {"account":2,"line":2,"reply":"opened"}
+open,3
+= {"account":3,"line":3,"reply":"opened"}
+deposit,1,100
+= {"account":1,"balance":"100","line":4,"reply":"deposited"}
+market,1,1
+= {"line":5,"market":1,"reply":"listed","underlyings":1}
+sell,2,1,call,5,8,1,1
+= {"line":6,"order":1,"reply":"placed"}
+sell,3,1,call,12,4,1,1
+= {"line":7,"order":2,"reply":"placed"}
+quote,1,20000,call,10,1
+= {"ask":"never","bid":"6","line":8,"market":1,"reply":"quoted"}
+quote,1,1,call,10,1
+= {"ask":"never","bid":"unmarked","line":9,"market":1,"reply":"quoted"}
+quote,2,1,call,10,1
+= {"line":10,"number":4,"reason":"NoMarket","reply":"refused"}
+quote,1,0,call,10,1
+= {"field":3,"line":11,"number":8,"reason":"Range","reply":"refused"}
+margin,1,1,100
+= {"line":12,"number":1,"reason":"Syntax","reply":"refused"}
+buy,1,1,call,10,6,1,1
+= {"line":13,"order":3,"reply":"placed"}
+"#;
+
+// The same of the word `guarded`: a sold put needs what it may owe, and a sold call alone has no margin.
+pub(crate) static GUARDED: &str = r#"==
+open,1
+= {"account":1,"line":1,"reply":"opened"}
+open,2
+= {"account":2,"line":2,"reply":"opened"}
+deposit,1,7
+= {"account":1,"balance":"7","line":3,"reply":"deposited"}
+deposit,2,20
+= {"account":2,"balance":"20","line":4,"reply":"deposited"}
+market,1,1
+= {"line":5,"market":1,"reply":"listed","underlyings":1}
+buy,1,1,put,10,7,1,1
+= {"line":6,"order":1,"reply":"placed"}
+sell,2,1,put,10,5,1,1
+= {"line":7,"order":2,"reply":"placed"}
+clear,1,100
+= {"batch":1,"certificate":{"cover":"line","measure":[{"state":["1","0"],"weight":"1/2"},{"state":["1","10"],"weight":"1/2"}]},"fills":["1","1"],"liability":"0","line":8,"mark":"optimal","market":1,"orders":[{"account":1,"form":[10,-1],"order":1,"price":7,"quantity":1,"side":"buy"},{"account":2,"form":[10,-1],"order":2,"price":5,"quantity":1,"side":"sell"}],"reply":"cleared","surplus":"2","underlyings":1,"units":2,"version":1}
+balance,2
+= {"account":2,"balance":"25","line":9,"reply":"balance","reserved":"0"}
+margin,2,1,100
+= {"account":2,"at":["1","0"],"line":10,"margin":"10","market":1,"reply":"margin"}
+withdraw,2,15
+= {"line":11,"need":"11","number":14,"reason":"Margin","reply":"refused"}
+withdraw,2,14
+= {"account":2,"balance":"11","line":12,"reply":"withdrawn"}
+settle,1,0
+= {"lapsed":0,"line":13,"market":1,"payouts":[{"account":1,"amount":"10","batch":1,"order":1},{"account":2,"amount":"-10","batch":1,"order":2}],"reply":"settled"}
+balance,2
+= {"account":2,"balance":"1","line":14,"reply":"balance","reserved":"0"}
+quote,1,1,call,10,1
+= {"line":15,"number":1,"reason":"Syntax","reply":"refused"}
+==
+open,1
+= {"account":1,"line":1,"reply":"opened"}
+open,2
+= {"account":2,"line":2,"reply":"opened"}
+open,3
+= {"account":3,"line":3,"reply":"opened"}
+deposit,1,100
+= {"account":1,"balance":"100","line":4,"reply":"deposited"}
+market,1,1
+= {"line":5,"market":1,"reply":"listed","underlyings":1}
+buy,1,1,call,10,6,1,1
+= {"line":6,"order":1,"reply":"placed"}
+sell,2,1,call,5,8,1,1
+= {"line":7,"order":2,"reply":"placed"}
+sell,3,1,call,12,4,1,1
+= {"line":8,"order":3,"reply":"placed"}
+clear,1,20000
+= {"batch":1,"certificate":{"cover":"line","measure":[{"state":["1","0"],"weight":"3/7"},{"state":["1","12"],"weight":"4/7"},{"state":["0","1"],"weight":"4"}]},"fills":["1","2/7","5/7"],"liability":"0","line":9,"mark":"optimal","market":1,"orders":[{"account":1,"form":[-10,1],"order":1,"price":6,"quantity":1,"side":"buy"},{"account":2,"form":[-5,1],"order":2,"price":8,"quantity":1,"side":"sell"},{"account":3,"form":[-12,1],"order":3,"price":4,"quantity":1,"side":"sell"}],"reply":"cleared","surplus":"6/7","underlyings":1,"units":3,"version":1}
+margin,2,1,100
+= {"account":2,"at":["0","1"],"line":10,"margin":"unbounded","market":1,"reply":"margin"}
+withdraw,2,1
+= {"line":11,"need":"unbounded","number":14,"reason":"Margin","reply":"refused"}
+balance,2
+= {"account":2,"balance":"2","line":12,"reply":"balance","reserved":"0"}
+"#;

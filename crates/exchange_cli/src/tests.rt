@@ -1,4 +1,4 @@
-use crate::sessions::SESSIONS;
+use crate::sessions::{GUARDED, QUOTES, SESSIONS};
 use crate::{MAX_INPUT, Status, exchange};
 use port_io::{MemSink, MemSource, SureSink, SureSource};
 use std::alloc::{AllocError, Global};
@@ -72,11 +72,13 @@ fn assert_lines(rt: &impl Abort, written: &[u8], wanted: &str) {
 #[test]
 fn sessions_give_their_replies(rt: HostRuntime) -> Result<(), Fail> {
     let alloc = rt.alloc();
-    for text in SESSIONS.split("==\n") {
-        let (input, output) = session(alloc, text)?;
-        let (status, sink) = run(alloc, "run", input.as_bytes(), 0, 0)?;
-        assert_eq!(rt; status, Status::Done, "at {text}");
-        assert_lines(&rt, sink.written(), &output);
+    for (word, sessions) in [("run", SESSIONS), ("quotes", QUOTES), ("guarded", GUARDED)] {
+        for text in sessions.split("==\n") {
+            let (input, output) = session(alloc, text)?;
+            let (status, sink) = run(alloc, word, input.as_bytes(), 0, 0)?;
+            assert_eq!(rt; status, Status::Done, "at {text}");
+            assert_lines(&rt, sink.written(), &output);
+        }
     }
     let (status, sink) = run(alloc, "run", ENDS.as_bytes(), 0, 0)?;
     assert_eq!(rt; status, Status::Done);
@@ -157,7 +159,9 @@ fn a_failed_write_leaves_the_lines_before_it(rt: HostRuntime) -> Result<(), Fail
 #[test]
 fn other_words_are_usage(rt: HostRuntime) -> Result<(), Fail> {
     let alloc = rt.alloc();
-    for words in "|run now|Run|demo 1|demo 1 0|demo 01 1|demo 1 1 1|check 1|--help".split('|') {
+    let others =
+        "|run now|Run|quotes 1|guarded run|quote|demo 1|demo 1 0|demo 01 1|demo 1 1 1|check 1|--help";
+    for words in others.split('|') {
         let (status, _) = run(alloc, words, MATCHED.as_bytes(), 0, 0)?;
         assert_eq!(rt; status, Status::Usage, "at {words}");
     }
@@ -176,6 +180,17 @@ fn journals_are_checked(rt: HostRuntime) -> Result<(), Fail> {
     assert_eq!(rt; status, Status::CheckNo);
     let faulty = "{\"line\":7,\"reason\":\"Cover\",\"verdict\":\"no\"}\n";
     assert_lines(&rt, sink.written(), faulty);
+    // No line of another mode is one of a journal.
+    for line in [
+        r#"{"ask":"never","bid":"6","line":1,"market":1,"reply":"quoted"}"#,
+        r#"{"account":2,"at":["1","0"],"line":1,"margin":"10","market":1,"reply":"margin"}"#,
+        r#"{"line":1,"need":"11","number":14,"reason":"Margin","reply":"refused"}"#,
+    ] {
+        let (status, sink) = run(alloc, "check", line.as_bytes(), 0, 0)?;
+        assert_eq!(rt; status, Status::CheckNo, "at {line}");
+        let report = "{\"line\":1,\"reason\":\"Shape\",\"verdict\":\"no\"}\n";
+        assert_lines(&rt, sink.written(), report);
+    }
     for fault in 1..2u32 {
         let (status, _) = run(alloc, "check", MATCHED_REPLIES.as_bytes(), fault, 0)?;
         assert_eq!(rt; status, Status::ReadFault);

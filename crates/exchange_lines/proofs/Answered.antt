@@ -17,12 +17,11 @@ use Rattle.exchange_core.specs.Kept.{IsKept}
 use Rattle.exchange_core.proofs.Covered.{step_has, step_is_covered, step_is_optimal, step_is_marked}
 use Rattle.exchange_core.proofs.Keeping.{empty_is_kept, step_keeps}
 use Rattle.form.specs.declared.orders.Batch.{Batch}
-use Rattle.exchange_lines.specs.Output.{output_from, output}
+use Rattle.exchange_lines.specs.Output.{output_from}
 use Rattle.line_replies.specs.Replies.{reply_to}
-use Rattle.exchange_lines.specs.Promises.{IsCoveredIn, IsGreatestIn, IsJudgedYes, IsJudgedYesIn, IsMarkedIn, TellAnswers, OutputIsAnswers, OfEachAnswer}
+use Rattle.exchange_lines.specs.Promises.{IsCoveredIn, IsGreatestIn, IsJudgedYes, IsJudgedYesIn, IsMarkedIn, KeepsPromises, OutputIsAnswers, OfEachAnswer}
 use Rattle.exchange_lines.specs.Replies.{Answer, IsMarkedAs, answer_to, answers_from, answers_text, answers}
 use Rattle.reply_print.specs.ReplyPieces.{reply_line}
-use Rattle.exchange_lines.proofs.HouseGains.{gains_told}
 
 -- what is kept of an exchange is kept by each line
 answer_keeps : (state : ExchangeState) (said : Body) → IsKept state → BodyIsWithin said → IsKept (reply_to state said).1
@@ -80,11 +79,11 @@ lines_are_written (line ∷ lines) state =
 pub output_is_answers : OutputIsAnswers
 output_is_answers input = lines_are_written (commands_in input) empty_exchange
 
--- what is written for an input keeps what is promised
-pub output_tells : (input : List ℕ) → TellAnswers (output input)
-output_tells input = record {
-  answers = answers input;
-  text = output_is_answers input;
-  promises = λ k d inside. record { covered = answers_are_covered input k d inside; greatest = optimal_is_greatest input k d inside; marked = answers_are_marked input k d inside };
-  gains = gains_told input;
-}
+-- each answer to lines keeps what is promised
+pub answers_keep : (lines : List Line) → All IsLineWithin lines → All KeepsPromises (answers_from empty_exchange lines)
+answers_keep lines within =
+    lines_have KeepsPromises (λ state line kept. record {
+      covered = batch_has IsCovered step_is_covered state line kept;
+      greatest = batch_has IsProvedGreatest step_is_optimal state line kept;
+      marked = answer_marked state line kept;
+    }) empty_exchange lines empty_is_kept within

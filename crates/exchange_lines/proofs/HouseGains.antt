@@ -1,5 +1,5 @@
 -- The answers to an input leave the house its gains.
-use Rattle.std.proofs.Common.{◌≡◌, ℕ, List, [], ◌∷◌, refl, sym, ap, subst}
+use Rattle.std.proofs.Common.{◌≡◌, List, [], ◌∷◌, refl, sym, ap, subst}
 use Rattle.std.specs.List.{All}
 use Rattle.command_text.specs.declared.command.Body.{Body}
 use Rattle.command_text.specs.declared.command.Body.TheVariants.{Command, Syntax, Range}
@@ -11,14 +11,14 @@ use Rattle.exchange_core.specs.declared.refusal.Refusal.TheVariants as refusal
 use Rattle.exchange_core.specs.ExchangeState.{ExchangeState, all_live, empty_exchange}
 use Rattle.exchange_core.specs.Kept.{IsKept}
 use Rattle.house_gain.specs.Gain.{GainsSurplus, IsGained}
-use Rattle.house_gain.specs.Runs.{HouseGains, replies_by}
+use Rattle.house_gain.specs.Runs.{HouseGains, replies_by, state_by}
 use Rattle.house_gain.proofs.RunGains.{gains_run}
 use Rattle.house_gain.proofs.Replies.{settled_weaker}
 use Rattle.house_gain.proofs.RunStates.{empty_runs}
 use Rattle.house_gain.proofs.Steps.{IsTrader, StepsTo, refusal_steps, command_steps}
 use Rattle.line_replies.specs.Replies.{reply_to}
-use Rattle.exchange_lines.specs.Promises.{AnswersGain, GainsInEach, line_reply, replies_of, state_after}
-use Rattle.exchange_lines.specs.Replies.{answers, answers_from}
+use Rattle.exchange_lines.specs.Promises.{AnswersGain, GainsInEach, line_reply, replies_of}
+use Rattle.exchange_lines.specs.Replies.{answers_from}
 
 pub body_steps : (state : ExchangeState) (said : Body) → BodyIsWithin said → IsKept state → All IsTrader (all_live state) → StepsTo state (reply_to state said)
 body_steps state (Command command) within kept traders = command_steps state command within kept traders
@@ -29,12 +29,16 @@ replies_are : (state : ExchangeState) (lines : List Line) → replies_of (answer
 replies_are state [] = refl
 replies_are state (line ∷ lines) = ap (λ l. (line_reply state line).0 ∷ l) (replies_are (line_reply state line).1 lines)
 
+lines_gain : (lines : List Line) → All IsLineWithin lines → HouseGains (state_by line_reply empty_exchange lines).entries (replies_of (answers_from empty_exchange lines))
+lines_gain lines within =
+    subst (HouseGains (state_by line_reply empty_exchange lines).entries) (sym (replies_are empty_exchange lines))
+    (gains_run line_reply IsLineWithin (λ state line. body_steps state line.body) lines empty_exchange within empty_runs)
+
 pub answers_gain : AnswersGain
-answers_gain input =
-    subst (HouseGains (state_after input).entries) (sym (replies_are empty_exchange (commands_in input)))
-    (gains_run line_reply IsLineWithin (λ state line. body_steps state line.body) (commands_in input) empty_exchange (inputs_are_within input) empty_runs)
+answers_gain input = lines_gain (commands_in input) (inputs_are_within input)
 
 -- as far as the answers tell
-pub gains_told : (input : List ℕ) → GainsInEach (answers input)
-gains_told input =
-    settled_weaker (IsGained (state_after input).entries) GainsSurplus (λ number batch outcome payouts gained. gained.surplus) (replies_of (answers input)) (answers_gain input)
+pub gains_told : (lines : List Line) → All IsLineWithin lines → GainsInEach (answers_from empty_exchange lines)
+gains_told lines within =
+    settled_weaker (IsGained (state_by line_reply empty_exchange lines).entries) GainsSurplus (λ number batch outcome payouts gained. gained.surplus)
+    (replies_of (answers_from empty_exchange lines)) (lines_gain lines within)

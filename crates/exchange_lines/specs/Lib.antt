@@ -1,3 +1,4 @@
+pub mod LineSteps
 pub mod Output
 pub mod Promises
 pub mod Replies

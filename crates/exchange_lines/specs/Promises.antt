@@ -1,5 +1,5 @@
 -- What a run promises of the bytes that it writes.
-use Rattle.std.specs.Prelude.{◌≡◌, List, ℕ, map}
+use Rattle.std.specs.Prelude.{◌≡◌, List, [], ◌∷◌, ◌++◌, ℕ, map, ⊤}
 use Rattle.std.specs.List.{All}
 use Rattle.frac.specs.Range.{limit}
 use Rattle.form.specs.declared.orders.Batch.{Batch}
@@ -11,6 +11,7 @@ use Rattle.command_text.specs.declared.command.Line.{Line}
 use Rattle.command_text.specs.Lines.{commands_in}
 use Rattle.exchange_core.specs.Covered.{IfCleared, IsProvedGreatest}
 use Rattle.reply_print.specs.declared.replies.Reply.{Reply}
+use Rattle.reply_print.specs.ReplyPieces.{reply_line}
 use Rattle.exchange_core.specs.ExchangeState.{ExchangeState, empty_exchange}
 use Rattle.house_gain.specs.Gain.{GainsSurplus}
 use Rattle.house_gain.specs.Runs.{HouseGains, OfEachSettled, state_by}
@@ -60,12 +61,41 @@ abbrev pub GainsInEach : List Answer → Type 0
 GainsInEach answers = OfEachSettled GainsSurplus (replies_of answers)
 
 -- ---- of the bytes
--- they are the text of answers, each of which keeps what is promised, and which leave the house its gains
-pub record TellAnswers (bytes : List ℕ) : Type 0 where
-  pub answers : List Answer
-  pub text : bytes ≡ answers_text answers
-  pub promises : All KeepsPromises answers
-  pub gains : GainsInEach answers
+-- what is told for a line: a run's answer, or a text beside these that clears and settles nothing
+pub data LineAnswer : Type 0 where
+  replied : Answer → LineAnswer
+  beside : (line : ℕ) (text : List ℕ) → LineAnswer
+
+-- the answers that are a run's
+abbrev pub replied_in : List LineAnswer → List Answer
+replied_in [] = []
+replied_in (replied answer ∷ more) = answer ∷ replied_in more
+replied_in (beside line text ∷ more) = replied_in more
+
+abbrev pub told_text : LineAnswer → List ℕ
+told_text (replied answer) = reply_line answer.line answer.reply ++ 10 ∷ []
+told_text (beside line text) = text
+
+abbrev pub told_texts : List LineAnswer → List ℕ
+told_texts [] = []
+told_texts (answer ∷ more) = told_text answer ++ told_texts more
+
+-- what is told beside a run's answers is one of these texts
+abbrev pub IsToldBy : (ℕ → List ℕ → Type 0) → LineAnswer → Type 0
+IsToldBy IsBeside (replied answer) = ⊤
+IsToldBy IsBeside (beside line text) = IsBeside line text
+
+-- they are the text of answers and of such texts beside them; each answer keeps what is promised, and they leave the house its gains
+pub record TellAnswers (IsBeside : ℕ → List ℕ → Type 0) (bytes : List ℕ) : Type 0 where
+  pub answers : List LineAnswer
+  pub text : bytes ≡ told_texts answers
+  pub told : All (IsToldBy IsBeside) answers
+  pub promises : All KeepsPromises (replied_in answers)
+  pub gains : GainsInEach (replied_in answers)
+
+-- a run writes nothing beside its answers
+abbrev pub IsNoText : ℕ → List ℕ → Type 0
+IsNoText line text = ⊥
 
 -- ---- of the defined output, whatever the input
 abbrev pub OutputIsAnswers : Type 0

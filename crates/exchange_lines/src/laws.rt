@@ -1,5 +1,6 @@
 //! Laws over the definition of the output: each is the contract of a function that does nothing.
 
+ghost use Rattle.exchange_lines.specs.LineSteps.{RunsAreByLines};
 ghost use Rattle.exchange_lines.specs.Promises.{AnswersGain, OutputIsAnswers, OfEachAnswer, IsCoveredIn, IsGreatestIn, IsJudgedYesIn, IsMarkedIn};
 
 /// The output of an input is the text of the answers to its lines.
@@ -31,4 +32,9 @@ pub fn answers_are_marked()
 /// tells, by the premiums of its fills and the payouts that the settled reply tells, and the house's entries sum to it.
 pub fn answers_gain()
     ensures { AnswersGain }
+{}
+
+/// What a run's step writes line by line is the output of the run.
+pub fn runs_are_by_lines()
+    ensures { RunsAreByLines }
 {}

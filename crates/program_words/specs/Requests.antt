@@ -3,7 +3,8 @@ use Rattle.std.specs.Prelude.{ℕ, ◌≤◌, ⊤, List, [], ◌∷◌, ◌&&◌
 use Rattle.std.specs.Str.{bytes_eq}
 use Rattle.common_texts.specs.Naturals.{is_natural, natural_value}
 use Rattle.program_words.specs.declared.requests.Request.{Request}
-use Rattle.program_words.specs.declared.requests.Request.TheVariants.{Run, Check, Sessions, Demo}
+use Rattle.program_words.specs.declared.requests.Request.TheVariants.{Lines, Check, Sessions, Demo}
+use Rattle.program_words.specs.declared.requests.Mode.TheVariants.{Run, Quotes, Guarded}
 use Rattle.program_words.specs.declared.requests.TheConstants.{MAX_SEED, MAX_COUNT}
 
 -- the value of `0`, or of digits that do not begin with 0, where it is from low to high
@@ -18,7 +19,9 @@ demo_of (Some seed) (Some count) = Some (Demo seed count)
 
 abbrev pub one_word : List ℕ → Option Request
 one_word word =
-    if bytes_eq word (codes "run") then Some Run
+    if bytes_eq word (codes "run") then Some (Lines Run)
+    else if bytes_eq word (codes "quotes") then Some (Lines Quotes)
+    else if bytes_eq word (codes "guarded") then Some (Lines Guarded)
     else if bytes_eq word (codes "check") then Some Check
     else if bytes_eq word (codes "sessions") then Some Sessions
     else None
@@ -27,7 +30,7 @@ abbrev pub three_words : List ℕ → List ℕ → List ℕ → Option Request
 three_words word seed count =
     if bytes_eq word (codes "demo") then demo_of (natural_in 0 MAX_SEED seed) (natural_in 1 MAX_COUNT count) else None
 
--- `run`, `check`, `sessions`, or `demo` with a seed and a number of orders
+-- `run`, `quotes`, `guarded`, `check`, `sessions`, or `demo` with a seed and a number of orders
 abbrev pub request_of : List (List ℕ) → Option Request
 request_of [] = None
 request_of (word ∷ []) = one_word word
@@ -37,7 +40,7 @@ request_of (word ∷ seed ∷ count ∷ more ∷ words) = None
 
 -- a demo has at least one order, and at most as many as it may
 abbrev pub IsRequestWithin : Request → Type 0
-IsRequestWithin Run = ⊤
+IsRequestWithin (Lines mode) = ⊤
 IsRequestWithin Check = ⊤
 IsRequestWithin Sessions = ⊤
 IsRequestWithin (Demo seed count) = (1 ≤ count) × (count ≤ MAX_COUNT)

@@ -1,13 +1,16 @@
 -- Words and what they ask for. The definitions compute them.
 use Rattle.std.specs.Prelude.{◌≡◌, List, ℕ, [], ◌∷◌, codes, Some, None}
-use Rattle.program_words.specs.declared.requests.Request.TheVariants.{Run, Check, Sessions, Demo}
+use Rattle.program_words.specs.declared.requests.Request.TheVariants.{Lines, Check, Sessions, Demo}
+use Rattle.program_words.specs.declared.requests.Mode.TheVariants.{Run, Quotes, Guarded}
 use Rattle.program_words.specs.Requests.{request_of}
 
 abbrev pub demo_words : List ℕ → List ℕ → List (List ℕ)
 demo_words seed count = codes "demo" ∷ seed ∷ count ∷ []
 
 pub record FormsByHand : Type 0 where
-  pub run : request_of (codes "run" ∷ []) ≡ Some Run
+  pub run : request_of (codes "run" ∷ []) ≡ Some (Lines Run)
+  pub quotes : request_of (codes "quotes" ∷ []) ≡ Some (Lines Quotes)
+  pub guarded : request_of (codes "guarded" ∷ []) ≡ Some (Lines Guarded)
   pub check : request_of (codes "check" ∷ []) ≡ Some Check
   pub sessions : request_of (codes "sessions" ∷ []) ≡ Some Sessions
   pub least : request_of (demo_words (codes "0") (codes "1")) ≡ Some (Demo 0 1)
@@ -17,6 +20,8 @@ pub record OthersByHand : Type 0 where
   pub no_word : request_of [] ≡ None
   pub another_word : request_of (codes "Run" ∷ []) ≡ None
   pub option : request_of (codes "--help" ∷ []) ≡ None
+  pub quotes_twice : request_of (codes "quotes" ∷ codes "quotes" ∷ []) ≡ None
+  pub guarded_in_capitals : request_of (codes "GUARDED" ∷ []) ≡ None
   pub run_with_number : request_of (codes "run" ∷ codes "1" ∷ []) ≡ None
   pub seed_alone : request_of (codes "demo" ∷ codes "1" ∷ []) ≡ None
   pub leading_zero : request_of (demo_words (codes "01") (codes "1")) ≡ None

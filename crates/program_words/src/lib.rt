@@ -8,5 +8,5 @@ mod requests;
 mod tests;
 mod words;
 
-pub use requests::{MAX_COUNT, MAX_SEED, Request, WordsFault};
+pub use requests::{MAX_COUNT, MAX_SEED, Mode, Request, WordsFault};
 pub use words::request;

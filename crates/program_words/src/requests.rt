@@ -11,11 +11,22 @@ pub const MAX_SEED: u32 = 4_294_967_295;
 /// A demo has at most so many orders.
 pub const MAX_COUNT: u32 = 10_000;
 
+/// How command lines are answered.
+#[derive(Clone, Copy, Debug, PartialEq, Eq)]
+pub enum Mode {
+    /// Each by its reply.
+    Run,
+    /// As in a run, and questions for quotes besides.
+    Quotes,
+    /// As in a run, and questions for margins besides; a withdrawal leaves the balance that the account needs.
+    Guarded,
+}
+
 /// What the program is asked to do.
 #[derive(Clone, Copy, Debug, PartialEq, Eq)]
 pub enum Request {
-    /// Reads command lines and writes a reply for each.
-    Run,
+    /// Reads command lines and writes a reply for each, in a mode.
+    Lines(Mode),
     /// Reads reply lines and reports on them.
     Check,
     /// Reads messages of many sessions and answers each.

@@ -1,11 +1,13 @@
-use crate::{Request, WordsFault, request};
+use crate::{Mode, Request, WordsFault, request};
 use std::test::Fail;
 
 #[test]
 fn words_ask_for_what_is_listed(rt: HostRuntime) -> Result<(), Fail> {
     let alloc = rt.alloc();
     for (line, expected) in [
-        ("run", Ok(Request::Run)),
+        ("run", Ok(Request::Lines(Mode::Run))),
+        ("quotes", Ok(Request::Lines(Mode::Quotes))),
+        ("guarded", Ok(Request::Lines(Mode::Guarded))),
         ("check", Ok(Request::Check)),
         ("sessions", Ok(Request::Sessions)),
         (
@@ -32,6 +34,11 @@ fn words_ask_for_what_is_listed(rt: HostRuntime) -> Result<(), Fail> {
         ("demo 1 1 1", Err(WordsFault::Usage)),
         ("demo  1", Err(WordsFault::Usage)),
         ("run run", Err(WordsFault::Usage)),
+        ("run quotes", Err(WordsFault::Usage)),
+        ("quotes 1", Err(WordsFault::Usage)),
+        ("quote", Err(WordsFault::Usage)),
+        ("guarded guarded", Err(WordsFault::Usage)),
+        ("Guarded", Err(WordsFault::Usage)),
         ("Run", Err(WordsFault::Usage)),
         ("help", Err(WordsFault::Usage)),
         ("--help", Err(WordsFault::Usage)),

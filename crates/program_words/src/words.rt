@@ -4,7 +4,7 @@ ghost use Rattle.program_words.specs.Positional.{is_plain, are_positional, reque
 ghost use Rattle.program_words.specs.Requests.{natural_in, one_word, three_words, request_of, IsRequestWithin};
 
 use crate::matched::{Texts, by_place};
-use crate::requests::{MAX_COUNT, MAX_SEED, Request, WordsFault};
+use crate::requests::{MAX_COUNT, MAX_SEED, Mode, Request, WordsFault};
 use command_text::{NumberRead, number};
 use std::alloc::Global;
 
@@ -22,7 +22,13 @@ fn one_word(word: &str) -> Option<Request>
     ensures { result ≡ one_word word.now }
 {
     if word == "run" {
-        return Some(Request::Run);
+        return Some(Request::Lines(Mode::Run));
+    }
+    if word == "quotes" {
+        return Some(Request::Lines(Mode::Quotes));
+    }
+    if word == "guarded" {
+        return Some(Request::Lines(Mode::Guarded));
     }
     if word == "check" {
         return Some(Request::Check);
@@ -73,8 +79,8 @@ fn are_positional(words: &[String]) -> bool
     }
 }
 
-/// What the words after the program's name ask for: `run`, `check`, `sessions`, or `demo` with a seed and a number of orders, each of
-/// which is `0` or digits that do not begin with 0.
+/// What the words after the program's name ask for: `run`, `quotes`, `guarded`, `check`, `sessions`, or `demo` with a seed and a
+/// number of orders, each of which is `0` or digits that do not begin with 0.
 ///
 /// Usage where they have none of these forms, and Memory for want of memory alone.
 pub fn request(alloc: Global, words: &[String]) -> Result<Request, WordsFault>
