@@ -1,0 +1,56 @@
+//! Tells of each clear of a session which numbers its run fits: a word a clear, from command lines on standard input. The
+//! session itself clears nothing, so its orders stay for the next clear.
+#![tactic(auto)]
+
+ghost use Rattle.command_text.specs.Within.{BodyIsWithin};
+
+use anyhow::{Context, Result, bail};
+use clearing::{Pass, clear_first};
+use command_text::{Body, Command, commands};
+use exchange_core::{Exchange, Reply};
+use frac::Frac64;
+use port_io::{StdSource, read_all};
+use std::alloc::Global;
+
+/// At most so many bytes are read.
+const MAX_INPUT: usize = 16_777_216;
+
+// Takes the exchange one line further, or tells the pass in which the line's batch is cleared.
+fn tried(alloc: Global, exchange: &mut Exchange, said: &Body) -> Result<Option<Pass>>
+    requires { BodyIsWithin said.now }
+{
+    match said {
+        Body::Command(Command::Clear { market, budget }) => {
+            let batch = exchange.live(*market)?;
+            let (_, pass) = clear_first::<Frac64>(alloc, &batch, *budget)?;
+            Ok(Some(pass))
+        }
+        Body::Command(command) => match exchange.step(command)? {
+            Reply::Refused { number, .. } => bail!("refused as {number}"),
+            _ => Ok(None),
+        },
+        _ => bail!("a command"),
+    }
+}
+
+fn word_of(pass: &Pass) -> &'static str {
+    match pass {
+        Pass::Narrow => "narrow",
+        Pass::Broad => "broad",
+    }
+}
+
+fn main(rt: HostRuntime) -> Result<()> {
+    let alloc = rt.alloc();
+    let mut source = StdSource::new(rt.reader());
+    let input = read_all(alloc, &mut source, MAX_INPUT)
+        .ok()
+        .context("an input")?;
+    let mut exchange = Exchange::new(alloc);
+    for line in &commands(alloc, input.as_slice())? {
+        if let Some(pass) = tried(alloc, &mut exchange, &line.body)? {
+            println!(rt; "{}", word_of(&pass))?;
+        }
+    }
+    Ok(())
+}
