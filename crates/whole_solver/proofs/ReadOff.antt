@@ -13,7 +13,7 @@ use Rattle.table_run.specs.Places.{fraction_zero}
 use Rattle.compact_table.proofs.Reading.{past}
 use Rattle.whole_rows.specs.Lines.{Line, WholeRow, whole_row, number_at, entry_of}
 use Rattle.whole_rows.specs.Running.{whole_where_basic}
-use Rattle.whole_rows.specs.Compact.{CompactTable, Column, filled, none_of, labels, price_of}
+use Rattle.whole_rows.specs.Compact.{CompactTable, Column, number_for, none_of, labels, price_of}
 use Rattle.whole_rows.proofs.LineSteps.{reduced_zero}
 use Rattle.whole_rows.proofs.StepsFit.{quotients_fit}
 use Rattle.whole_solver.specs.Rows.{beside_basics}
@@ -72,8 +72,8 @@ pub basic_missing : (f : WholeRow → Fraction) (j : ℕ) (bs : List ℕ) (lines
 basic_missing f j bs lines h = basic_nowhere f j bs lines (past (λ b. b == j) bs h)
 
 -- ---- the number of a variable that has a column
-filled_here : (j N : ℕ) (vs : List ℕ) (zs : List ℤ) (k : ℕ) → k < length vs → length vs ≤ length zs → (get_or vs k 0 == j) ≡ true → ((i : ℕ) → i < k → (get_or vs i 0 == j) ≡ false) → filled none_of (labels N vs) zs j ≡ number_at zs k
-unfolding filled
+filled_here : (j N : ℕ) (vs : List ℕ) (zs : List ℤ) (k : ℕ) → k < length vs → length vs ≤ length zs → (get_or vs k 0 == j) ≡ true → ((i : ℕ) → i < k → (get_or vs i 0 == j) ≡ false) → number_for none_of (labels N vs) zs j ≡ number_at zs k
+unfolding number_for
 filled_here j N [] zs k low long here before = absurd (omega (arith, low))
 filled_here j N (v ∷ vs) [] k low long here before = absurd (omega (arith, long))
 filled_here j N (v ∷ vs) (z ∷ zs) zero low long here before = rw here refl
@@ -81,24 +81,24 @@ filled_here j N (v ∷ vs) (z ∷ zs) (suc k) low long here before =
     let first : (v == j) ≡ false = before 0 (omega arith) in
     rw first (filled_here j N vs zs k (omega (arith, low)) (omega (arith, long)) here (λ i p. before (suc i) (omega (arith, p))))
 
-pub filled_found : (j N : ℕ) (vs : List ℕ) (zs : List ℤ) (k : ℕ) → length vs ≤ length zs → Some k ≡ position (λ v. v == j) vs → filled none_of (labels N vs) zs j ≡ number_at zs k
+pub filled_found : (j N : ℕ) (vs : List ℕ) (zs : List ℤ) (k : ℕ) → length vs ≤ length zs → Some k ≡ position (λ v. v == j) vs → number_for none_of (labels N vs) zs j ≡ number_at zs k
 filled_found j N vs zs k long e =
     let w = position-Some (λ v. v == j) vs k 0 (sym e) in
     filled_here j N vs zs k w.0 long w.1 w.2
 
-filled_nowhere : (j N : ℕ) (vs : List ℕ) (zs : List ℤ) → j < N → length vs ≤ position_or_len (λ v. v == j) vs → filled none_of (labels N vs) zs j ≡ pos 0
-unfolding filled
+filled_nowhere : (j N : ℕ) (vs : List ℕ) (zs : List ℤ) → j < N → length vs ≤ position_or_len (λ v. v == j) vs → number_for none_of (labels N vs) zs j ≡ pos 0
+unfolding number_for
 filled_nowhere j N [] [] low h = refl
 filled_nowhere j N [] (z ∷ zs) low h = let other : nat_eq N j ≡ false = grind (arith, nat_tests) in rw other refl
 filled_nowhere j N (v ∷ vs) [] low h = refl
 filled_nowhere j N (v ∷ vs) (z ∷ zs) low h = step (v == j) h (filled_nowhere j N vs zs low)
   where
-    step : (t : Bool) → suc (length vs) ≤ cond (not t) (1 + position_or_len (λ v. v == j) vs) 0 → (length vs ≤ position_or_len (λ v. v == j) vs → filled none_of (labels N vs) zs j ≡ pos 0)
-        → (if t then z else filled none_of (labels N vs) zs j) ≡ pos 0
+    step : (t : Bool) → suc (length vs) ≤ cond (not t) (1 + position_or_len (λ v. v == j) vs) 0 → (length vs ≤ position_or_len (λ v. v == j) vs → number_for none_of (labels N vs) zs j ≡ pos 0)
+        → (if t then z else number_for none_of (labels N vs) zs j) ≡ pos 0
     step true k later = absurd (omega (arith, k))
     step false k later = later (omega (arith, k))
 
-pub filled_missing : (j N : ℕ) (vs : List ℕ) (zs : List ℤ) → j < N → None ≡ position (λ v. v == j) vs → filled none_of (labels N vs) zs j ≡ pos 0
+pub filled_missing : (j N : ℕ) (vs : List ℕ) (zs : List ℤ) → j < N → None ≡ position (λ v. v == j) vs → number_for none_of (labels N vs) zs j ≡ pos 0
 filled_missing j N vs zs low e = filled_nowhere j N vs zs low (past (λ v. v == j) vs e)
 
 pub price_missing : (t : CompactTable) (j : ℕ) → 0 < t.objective.denominator → j < t.columns → None ≡ position (λ v. v == j) t.names → price_of t j ≡ fraction_zero

@@ -1,20 +1,19 @@
 -- The rows of a turn.
 use Rattle.std.proofs.Common.{◌≡◌, ℕ, zero, suc, ◌+◌, ◌<◌, ◌≤◌, List, [], ◌∷◌, length, take, drop, set, get_or, add-one, refl, sym, ◌∙◌, ap, subst, arith, true, ℤ, pos, unsigned_abs, length-set}
-use Rattle.std.specs.Prelude.{Some, None}
+use Rattle.std.specs.Prelude.{Some}
 use Rattle.std.proofs.lemmas.Bool.{le-leb}
 use Rattle.std.proofs.lemmas.List.{length-map, map-set}
 use Rattle.std.proofs.lemmas.Slice.{take-put_mid}
 use borrow.Rule.Slice.PartMut.{put_mid}
 use Rattle.whole_rows.specs.Lines.{Line, IsLine, AreSizes, line_of, number_at, no_line, line_fits}
-use Rattle.whole_rows.specs.Turning.{cut}
 use Rattle.whole_rows.specs.Compact.{compact_cleared, turned_in}
-use Rattle.whole_rows.proofs.LineSteps.{line_of_fit, fit_of_sizes, cut_within}
+use Rattle.whole_rows.proofs.LineSteps.{line_of_fit, fit_of_sizes}
 use Rattle.whole_rows.proofs.CompactRun.{cleared_shaped}
 use Rattle.compact_run.proofs.Columns.{same_test, other_test}
 use Rattle.compact_table.proofs.ArenaSteps.{at_set_same}
 use Rattle.whole_solver.specs.Within.{kept}
 use Rattle.whole_solver.specs.Rows.{line_in, lines_in, row_at, pivot_line, line_after, lines_after, AreLinesIn}
-use Rattle.whole_solver.proofs.Numbers.{kept_some, kept_none, written_more, written_all}
+use Rattle.whole_solver.proofs.Numbers.{kept_some, written_more, written_all}
 use Rattle.whole_solver.proofs.Choosing.{line_place}
 
 -- ---- the pivot row
@@ -56,18 +55,6 @@ cleared_line b n c a d pivot ns old g pa wide h =
     let k = kept_some (line_fits b (compact_cleared c a pivot old)) (compact_cleared c a pivot old) (line_of d ns) h in
     let shaped = cleared_shaped n c a pivot old (record { positive = g.positive; count = g.count }) pa wide in
     (k.1, subst (IsLine b n) (sym k.1) (line_of_fit b n (compact_cleared c a pivot old) shaped k.0))
-
--- the line that is written where it is cut
-pub cut_line_is : (b n d : ℕ) (ns : List ℤ) (l : Line) → IsLine b n l → Some (line_of d ns) ≡ kept (line_fits b (cut l)) (cut l) → (line_of d ns ≡ cut l) × IsLine b n (line_of d ns)
-cut_line_is b n d ns l g h =
-    let k = kept_some (line_fits b (cut l)) (cut l) (line_of d ns) h in
-    (k.1, subst (IsLine b n) (sym k.1) (cut_within b n l g))
-
-pub cut_line_there : (b n : ℕ) (l : Line) → IsLine b n l → None ≡ kept (line_fits b (cut l)) (cut l) → ⊥
-cut_line_there b n l g h =
-    let fits = line_of_sizes b n (cut l) (cut_within b n l g) in
-    let none = kept_none (line_fits b (cut l)) (cut l) h in
-    absurd cc
 
 pub pivot_within : (b n c : ℕ) (l : Line) → c < n → IsLine b n l → 0 < unsigned_abs (number_at l.numbers c) → IsLine b n (pivot_line c (unsigned_abs (number_at l.numbers c)) l)
 pivot_within b n c l h g p =

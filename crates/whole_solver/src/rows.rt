@@ -6,24 +6,23 @@ ghost use Rattle.whole_rows.specs.Compact.{compact_cleared};
 ghost use Rattle.whole_rows.specs.Turning.{cut};
 ghost use Rattle.whole_solver.specs.Rows.{AreLinesIn, IsPivot, IsTurned, line_in, lines_after, lines_in, pivot_line, row_at};
 
-use crate::line::{clear_line, cut_line, write_wide};
+use crate::line::{clear_line, common_short, divide_numbers, size_of};
 use row_arena::RowArena;
 
-/// Brings the line at the front of the row to lowest terms. `room` has as many places as it has
-/// numbers.
-fn cut_front(row: &mut [i64], room: &mut [i128], bound: u64)
-    requires width { length room.old < length row.old }
-    requires bound { bound ≤ widest }
-    requires line { IsLine bound (length room.old) (line_in (length room.old) row.old) }
-    ensures { line_in (length room.old) row.new ≡ cut (line_in (length room.old) row.old) }
+/// Brings the line of so many numbers at the front of the row to lowest terms.
+fn cut_front(row: &mut [i64], width: usize)
+    requires width { width < length row.old }
+    requires line { IsLine widest width (line_in width row.old) }
+    ensures { line_in width row.new ≡ cut (line_in width row.old) }
 {
-    let width = room.len();
     let denominator = row[0].unsigned_abs();
     let numbers = &mut row[1..width + 1];
-    write_wide(room, numbers);
-    if let Some(below) = cut_line(denominator as u128, numbers, room, bound) {
-        row[0] = below as i64;
+    let divisor = common_short(denominator, numbers);
+    if divisor == 1 {
+        return;
     }
+    divide_numbers(numbers, divisor);
+    row[0] = (denominator / divisor) as i64;
 }
 
 /// Exchanges the denominator and the number in column `c`.
@@ -39,18 +38,72 @@ fn exchange_denominator(row: &mut [i64], c: usize)
 }
 
 /// The row that leaves becomes the pivot row: in lowest terms its numbers stand over the one in
-/// column `c`, in whose place the old denominator comes.
-fn take_pivot(row: &mut [i64], room: &mut [i128], c: usize, bound: u64)
-    requires column { c < length room.old }
-    requires width { length room.old < length row.old }
-    requires bound { bound ≤ widest }
-    requires line { IsLine bound (length room.old) (line_in (length room.old) row.old) }
-    ensures { line_in (length room.old) row.new ≡ pivot_line c
-        (unsigned_abs (number_at (cut (line_in (length room.old) row.old)).numbers c))
-        (cut (line_in (length room.old) row.old)) }
+/// column `c`, in whose place the old denominator comes. Its line has `width` numbers.
+fn take_pivot(row: &mut [i64], width: usize, c: usize)
+    requires column { c < width }
+    requires width { width < length row.old }
+    requires line { IsLine widest width (line_in width row.old) }
+    ensures { line_in width row.new ≡ pivot_line c
+        (unsigned_abs (number_at (cut (line_in width row.old)).numbers c))
+        (cut (line_in width row.old)) }
 {
-    cut_front(row, room, bound);
+    cut_front(row, width);
     exchange_denominator(row, c);
+}
+
+/// A size that none of the numbers at the front of the row is above.
+fn front_size(row: &[i64], width: usize) -> u64
+    requires { width < length row.now }
+    ensures { AreSizes result (line_in width row.now).numbers }
+{
+    size_of(&row[1..width + 1])
+}
+
+/// Clears column `c` of the line at the front of the row, and says whether it is within the bound.
+/// The numbers of the pivot row are at most `pivot_most`. `short` and `room` have as many places as
+/// the line has numbers.
+fn clear_sized(
+    row: &mut [i64],
+    pivot: &[i64],
+    pivot_most: u64,
+    short: &mut [i64],
+    room: &mut [i128],
+    c: usize,
+    a: u64,
+    bound: u64,
+) -> bool
+    requires column { c < length room.old }
+    requires short { length short.old ≡ length room.old }
+    requires widths { (length room.old < length row.old) × (length room.old < length pivot.now) }
+    requires bound { bound ≤ widest }
+    requires pivot { AreSizes bound (line_in (length room.old) pivot.now).numbers }
+    requires sizes { AreSizes pivot_most (line_in (length room.old) pivot.now).numbers }
+    requires above { (0 < a) × (a ≤ bound) }
+    requires line { IsLine bound (length room.old) (line_in (length room.old) row.old) }
+    ensures cleared { result ≡ true → line_in (length room.old) row.new
+        ≡ compact_cleared c a (line_in (length room.old) pivot.now).numbers
+        (line_in (length room.old) row.old) }
+    ensures line { result ≡ true
+        → IsLine bound (length room.old) (line_in (length room.old) row.new) }
+{
+    let width = room.len();
+    let denominator = row[0].unsigned_abs();
+    let numbers = &mut row[1..width + 1];
+    let Some(below) = clear_line(
+        denominator,
+        numbers,
+        &pivot[1..width + 1],
+        pivot_most,
+        short,
+        room,
+        c,
+        a,
+        bound,
+    ) else {
+        return false;
+    };
+    row[0] = below as i64;
+    true
 }
 
 /// Clears column `c` of the line at the front of the row, and says whether it is within the bound.
@@ -77,23 +130,8 @@ fn clear_front(
     ensures line { result ≡ true
         → IsLine bound (length room.old) (line_in (length room.old) row.new) }
 {
-    let width = room.len();
-    let denominator = row[0].unsigned_abs();
-    let numbers = &mut row[1..width + 1];
-    let Some(below) = clear_line(
-        denominator,
-        numbers,
-        &pivot[1..width + 1],
-        short,
-        room,
-        c,
-        a,
-        bound,
-    ) else {
-        return false;
-    };
-    row[0] = below as i64;
-    true
+    let pivot_most = front_size(pivot, room.len());
+    clear_sized(row, pivot, pivot_most, short, room, c, a, bound)
 }
 
 /// Clears each row but the pivot row r, up to the first that is not within the bound, and says
@@ -122,10 +160,11 @@ fn clear_rows(
     ensures spare { rows.new.spare ≡ rows.old.spare }
     ensures count { length rows.new.rows ≡ length rows.old.rows }
 {
+    let pivot_most = front_size(rows.row(r), room.len());
     for i in 0..rows.len() {
         if i != r {
             let (pivot, row) = rows.pair(r, i);
-            if !clear_front(row, pivot, short, room, c, a, bound) {
+            if !clear_sized(row, pivot, pivot_most, short, room, c, a, bound) {
                 return false;
             }
         }
@@ -160,7 +199,7 @@ fn turn_lines(
     ensures spare { rows.new.spare ≡ rows.old.spare }
     ensures count { length rows.new.rows ≡ length rows.old.rows }
 {
-    take_pivot(rows.row_mut(r), room, c, bound);
+    take_pivot(rows.row_mut(r), room.len(), c);
     let a = rows.row(r)[0].unsigned_abs();
     if !clear_front(objective, rows.row(r), short, room, c, a, bound) {
         return false;

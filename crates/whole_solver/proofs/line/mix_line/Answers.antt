@@ -2,7 +2,7 @@ use Rattle.std.proofs.Common.{◌*◌, unsigned_abs, w64}
 use Rattle.std.proofs.lemmas.Int.{to_z-of_z}
 use Rattle.std.proofs.Math.Nat.{mul-pos}
 use Rattle.whole_rows.specs.Lines.{line_of}
-use Rattle.whole_rows.specs.Turning.{mixed}
+use Rattle.whole_rows.specs.Turning.{cross_difference}
 use Rattle.whole_solver.proofs.Cut.{fits_kept}
 use Rattle.whole_solver.proofs.line.mix_line.Goals as goal
 
@@ -13,5 +13,5 @@ pub returns-in-Some : goal.returns-in-Some
 returns-in-Some c =
     let p_is = to_z-of_z w64 c.args.p c.ranges.p in
     let f_is = to_z-of_z w64 c.args.f c.ranges.f in
-    fits_kept c.args.bound (line_of (c.args.denominator * unsigned_abs c.args.p) (mixed (unsigned_abs c.args.p) c.args.f c.args.numbers.now c.args.pivot.now)) (line_of c.in-Some.below c.mix_short.new.numbers) c.requires.bound
+    fits_kept c.args.bound (line_of (c.args.denominator * unsigned_abs c.args.p) (cross_difference (unsigned_abs c.args.p) c.args.f c.args.numbers.now c.args.pivot.now)) (line_of c.in-Some.below c.mix_short.new.numbers) c.requires.bound
     (rw (p_is, f_is) at c.in-Some.ensures.mixed) c.in-Some.ensures.fits

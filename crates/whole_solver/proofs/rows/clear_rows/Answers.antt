@@ -1,12 +1,19 @@
 use Rattle.std.proofs.Common.{◌≡◌, ◌<◌, [], ◌∙◌, refl, sym, ap, subst, arith, length, length-set, set, ℕ, List, ℤ}
 use Rattle.row_arena.proofs.Lists.{refit_is}
 use Rattle.compact_table.proofs.ArenaSteps.{set_here, at_set_other}
-use Rattle.whole_rows.specs.Lines.{IsLine}
+use Rattle.whole_rows.specs.Lines.{AreSizes, IsLine}
 use Rattle.whole_rows.specs.Compact.{compact_cleared}
 use Rattle.whole_solver.specs.Rows.{line_in, row_at, AreLinesIn}
 use Rattle.whole_solver.proofs.Turned.{rows_more, rows_all, lines_set, after_pivot, after_other}
-use Rattle.whole_solver.proofs.rows.clear_rows.Goals.{then-i-r+else-not-clear_front, else-i-r}
+use Rattle.whole_solver.proofs.rows.clear_rows.Goals.{then-i-r+else-not-clear_sized, else-i-r}
 use Rattle.whole_solver.proofs.rows.clear_rows.Goals as goal
+
+pub clear_sized-requires-clause-sizes : goal.clear_sized-requires-clause-sizes
+clear_sized-requires-clause-sizes c =
+    let inv = c.loop-i.invariant in
+    let pivot_is = c.pair-row.ensures.parts.0 ∙ inv.pivot ∙ sym c.row.ensures.row in
+    subst (λ (k : ℕ). AreSizes c.front_size-pivot_most.result (line_in k c.pair-row.result.0.now).numbers) (sym inv.places)
+    (subst (λ (z : List ℤ). AreSizes c.front_size-pivot_most.result (line_in (length c.args.room.now) z).numbers) (sym pivot_is) c.front_size-pivot_most.ensures)
 
 pub loop-i-preserved : goal.loop-i-preserved
 loop-i-preserved c =
@@ -23,16 +30,16 @@ loop-i-preserved c =
     let here : x ≡ row_at old i = inv.left i (omega arith) in
     let lines : AreLinesIn c.args.bound n rows = subst (λ (k : ℕ). AreLinesIn c.args.bound k rows) inv.places inv.lines in
     elim c.if-i-r.branch [
-      | then-i-r+else-not-clear_front w ↦
+      | then-i-r+else-not-clear_sized w ↦
           (let parts = w.pair-row.ensures.parts in
-          let ys = w.clear_front.new.row in
+          let ys = w.clear_sized.new.row in
           let full : length ys ≡ c.loop-i.rows.width = omega (arith, w.pair-row.ensures.widths) in
           let new : c.if-i-r.rows.rows ≡ set rows i ys = ap (λ s. s.rows) w.rows-is ∙ ap (set rows i) (refit_is c.loop-i.rows.width x ys full) in
-          let cleared = subst (λ (k : ℕ). line_in k ys ≡ compact_cleared c.args.c c.args.a (line_in k w.pair-row.result.0.now).numbers (line_in k w.pair-row.result.1.now)) inv.places (w.clear_front.ensures.cleared w.if-not-clear_front.false) in
+          let cleared = subst (λ (k : ℕ). line_in k ys ≡ compact_cleared c.args.c c.args.a (line_in k w.pair-row.result.0.now).numbers (line_in k w.pair-row.result.1.now)) inv.places (w.clear_sized.ensures.cleared w.if-not-clear_sized.false) in
           let pivot_is = parts.0 ∙ inv.pivot in
           let row_is = parts.1 ∙ here in
           let is_line = cleared ∙ (λ k. compact_cleared c.args.c c.args.a (line_in n (pivot_is k)).numbers (line_in n (row_is k))) ∙ sym (after_other c.args.c c.args.a r i P (line_in n (row_at old i)) w.if-i-r.true) in
-          let within = subst (λ (k : ℕ). IsLine c.args.bound k (line_in k ys)) inv.places (w.clear_front.ensures.line w.if-not-clear_front.false) in
+          let within = subst (λ (k : ℕ). IsLine c.args.bound k (line_in k ys)) inv.places (w.clear_sized.ensures.line w.if-not-clear_sized.false) in
           let kept : AreLinesIn c.args.bound n c.if-i-r.rows.rows = subst (AreLinesIn c.args.bound n) (sym new) (lines_set c.args.bound n rows i ys lines within) in
           record {
             count = ap length new ∙ length-set rows i ys ∙ inv.count;

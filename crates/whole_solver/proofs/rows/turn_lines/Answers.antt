@@ -2,19 +2,20 @@ use Rattle.std.proofs.Common.{◌≡◌, ◌<◌, ◌≤◌, [], ◌∙◌, refl
 use Rattle.std.proofs.lemmas.Int.{to_z-of_z}
 use Rattle.row_arena.proofs.Lists.{refit_is}
 use Rattle.compact_table.proofs.ArenaSteps.{at_set_same}
-use Rattle.whole_rows.specs.Lines.{Line, IsLine, AreSizes, number_at}
+use Rattle.whole_rows.specs.Lines.{Line, IsLine, AreSizes, number_at, widest}
 use Rattle.whole_rows.specs.Compact.{compact_cleared}
 use Rattle.whole_rows.specs.Turning.{cut}
 use Rattle.whole_rows.proofs.LineSteps.{cut_within}
 use Rattle.whole_rows.proofs.TurnSteps.{size_above, cut_above}
 use Rattle.whole_solver.specs.Rows.{line_in, lines_in, lines_after, row_at, pivot_line, AreLinesIn}
-use Rattle.whole_solver.proofs.Turned.{pivot_within, lines_set, turned_rows}
+use Rattle.whole_solver.proofs.Turned.{line_wider, pivot_within, lines_set, turned_rows}
 use Rattle.whole_solver.proofs.rows.turn_lines.Goals as goal
 
 pub take_pivot-requires-clause-line : goal.take_pivot-requires-clause-line
 take_pivot-requires-clause-line c =
     let w = length c.args.room.now in
-    subst (λ (z : List ℤ). IsLine c.args.bound w (line_in w z)) (sym c.row_mut.ensures.row) (c.requires.lines c.args.r c.requires.pivot.row)
+    subst (λ (z : List ℤ). IsLine widest w (line_in w z)) (sym c.row_mut.ensures.row)
+    (line_wider c.args.bound widest w _ c.requires.bound (c.requires.lines c.args.r c.requires.pivot.row))
 
 pub clear_front-requires-clause-pivot : goal.clear_front-requires-clause-pivot
 clear_front-requires-clause-pivot c =
@@ -42,8 +43,7 @@ clear_front-requires-clause-pivot c =
     let old : IsLine c.args.bound w l = cut_within c.args.bound w (line_in w x) before in
     let above : 0 < A = (size_above (number_at l.numbers c.args.c) (cut_above (line_in w x) c.args.c before.positive c.requires.pivot.above)).1 in
     let within = pivot_within c.args.bound w c.args.c l c.requires.column old above in
-    let same = c.take_pivot.auto.room in
-    rw same (subst (λ (z : List ℤ). AreSizes c.args.bound (line_in w z).numbers) (sym row2) (subst (λ (m : Line). AreSizes c.args.bound m.numbers) (sym pivot) within.sizes))
+    subst (λ (z : List ℤ). AreSizes c.args.bound (line_in w z).numbers) (sym row2) (subst (λ (m : Line). AreSizes c.args.bound m.numbers) (sym pivot) within.sizes)
 
 pub clear_front-requires-clause-above : goal.clear_front-requires-clause-above
 clear_front-requires-clause-above c =
@@ -129,8 +129,7 @@ clear_rows-requires-clause-lines c =
     let within = pivot_within c.args.bound w c.args.c l c.requires.column old above in
     let all : AreLinesIn c.args.bound w (set rows r y) = lines_set c.args.bound w rows r y c.requires.lines (subst (IsLine c.args.bound w) (sym pivot) within) in
     let same = c.clear_front.auto.room in
-    let before_it = c.take_pivot.auto.room in
-    rw (refit, same, before_it) all
+    rw (refit, same) all
 
 pub returns-clause-turned : goal.returns-clause-turned
 returns-clause-turned c done =
@@ -161,11 +160,10 @@ returns-clause-turned c done =
     let from = set rows r y in
     let new = c.clear_rows.new.rows.rows in
     let same = c.clear_front.auto.room in
-    let before_it = c.take_pivot.auto.room in
-    let told = rw (refit, same, before_it) at (c.clear_rows.ensures.cleared done) in
+    let told = rw (refit, same) at (c.clear_rows.ensures.cleared done) in
     let h = told ∙ ap (λ (q : ℕ). lines_after c.args.c q r (line_in w (row_at from r)).numbers 0 (lines_in w from)) a in
     let numbers = ap (λ (z : List ℤ). (line_in w z).numbers) row2 ∙ ap (λ (m : Line). m.numbers) pivot in
     record {
       rows = turned_rows w c.args.c r A rows new from y l low refl pivot h;
-      objective = (rw before_it at (c.clear_front.ensures.cleared c.if-not-clear_front.false)) ∙ (λ i. compact_cleared c.args.c (a i) (numbers i) (line_in w c.args.objective.now));
+      objective = c.clear_front.ensures.cleared c.if-not-clear_front.false ∙ (λ i. compact_cleared c.args.c (a i) (numbers i) (line_in w c.args.objective.now));
     }

@@ -5,7 +5,7 @@ use borrow.Rule.Slice.PartMut.{put_mid}
 use Rattle.whole_rows.specs.Lines.{IsLine, line_of, number_at}
 use Rattle.whole_solver.specs.Rows.{line_in}
 use Rattle.whole_solver.proofs.Turned.{line_of_sizes, cleared_line, front_of_mid, written_front}
-use Rattle.whole_solver.proofs.rows.clear_front.Goals as goal
+use Rattle.whole_solver.proofs.rows.clear_sized.Goals as goal
 
 pub clear_line-requires-clause-fits : goal.clear_line-requires-clause-fits
 clear_line-requires-clause-fits c =
