@@ -7,7 +7,7 @@ use Rattle.form.specs.declared.orders.Order.{Order}
 use Rattle.form.specs.declared.orders.Batch.{Batch}
 use Rattle.clearing_model.specs.Clearing.{premium}
 use Rattle.each_match.specs.Match.{match_by_bundle}
-use Rattle.each_match.specs.Laws.{matched}
+use Rattle.each_match.specs.Laws.{match_of}
 use Rattle.simplex.specs.declared.stop.Stop.{Stop}
 use Rattle.simplex.specs.declared.stop.Stop.TheVariants.{Wide as WideStop, Budget as BudgetStop}
 use Rattle.rounds.specs.Answers.{IsCoverAs, IsJointAnswer}
@@ -49,7 +49,7 @@ optimal_outcome-parts fills L S written cover points units is =
 
 -- the match and its premium are the fallback
 pub fallback-parts : (orders : List Order) (mark : Mark) (units : ℕ) (fills : List Frac128) (L S : Frac128)
-    → fills ≡ whole_fills (match_by_bundle orders) → L ≡ value_of (whole (pos 0)) → S ≡ value_of (whole (premium (matched orders)))
+    → fills ≡ whole_fills (match_by_bundle orders) → L ≡ value_of (whole (pos 0)) → S ≡ value_of (whole (premium (match_of orders)))
     → ◌≡◌ {A = Outcome} (record { fills = fills; claim = record { liability = L; surplus = S }; mark = mark; units = units }) (fallback orders mark units)
 unfolding fallback
 fallback-parts orders mark units fills L S e eL eS = rw (eS, eL, e) refl

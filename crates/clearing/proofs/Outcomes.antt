@@ -31,7 +31,7 @@ use Rattle.cert_check.specs.declared.outcome.Outcome.{Outcome}
 use Rattle.cert_check.specs.Conditions.{IfOptimal, OwesNothing, IsEnough, Meets, conditions}
 use Rattle.cert_check.proofs.Certified.{conditions_cover, conditions_measure, conditions_prove}
 use Rattle.each_match.specs.Match.{match_by_bundle}
-use Rattle.each_match.specs.Laws.{matched}
+use Rattle.each_match.specs.Laws.{match_of}
 use Rattle.each_match.proofs.MatchLaws.{match_is_within, match_is_balanced, match_earns, fills_small}
 use Rattle.master_program.specs.Reading.{Reading}
 use Rattle.master_program.specs.Certified.{IsGreatestByMeasure}
@@ -58,7 +58,7 @@ are_on batch within k d lt = is_bundle_of batch.underlyings (get_or batch.orders
 pub record IsFallback (orders : List Order) (outcome : Outcome) : Type 0 where
   pub fills : map fraction_of outcome.fills ≡ wholes (match_by_bundle orders)
   pub liability : fraction_of outcome.claim.liability ≡ whole (pos 0)
-  pub surplus : fraction_of outcome.claim.surplus ≡ whole (premium (matched orders))
+  pub surplus : fraction_of outcome.claim.surplus ≡ whole (premium (match_of orders))
 
 pub amounts_small : (orders : List Order) → All IsOrderWithin orders → All (λ amount. amount ≤ MAX_QUANTITY) (match_by_bundle orders)
 amounts_small orders within =

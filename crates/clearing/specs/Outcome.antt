@@ -24,7 +24,7 @@ use Rattle.cert_check.specs.declared.outcome.Mark.{Mark}
 use Rattle.cert_check.specs.declared.outcome.Mark.TheVariants.{Optimal, Wide, Budget}
 use Rattle.cert_check.specs.declared.outcome.Outcome.{Outcome}
 use Rattle.each_match.specs.Match.{match_by_bundle}
-use Rattle.each_match.specs.Laws.{matched}
+use Rattle.each_match.specs.Laws.{match_of}
 use Rattle.master_program.specs.Reading.{Reading}
 use Rattle.rounds.specs.declared.joint.Joint.{Joint}
 use Rattle.rounds.specs.Answers.{IsCoverAs, claimed_in, limits_of, reading_in}
@@ -77,7 +77,7 @@ unfoldable pub fallback : List Order → Mark → ℕ → Outcome
 fallback orders mark units =
     record {
       fills = whole_fills (match_by_bundle orders);
-      claim = record { liability = value_of (whole (pos 0)); surplus = value_of (whole (premium (matched orders))) };
+      claim = record { liability = value_of (whole (pos 0)); surplus = value_of (whole (premium (match_of orders))) };
       mark = mark;
       units = units;
     }

@@ -6,7 +6,7 @@ use Rattle.form.specs.declared.orders.Order.{Order}
 use Rattle.form.specs.declared.orders.Batch.{Batch}
 use Rattle.clearing_model.specs.Clearing.{premium}
 use Rattle.each_match.specs.Match.{match_by_bundle}
-use Rattle.each_match.specs.Laws.{matched}
+use Rattle.each_match.specs.Laws.{match_of}
 use Rattle.rounds.specs.Rooms.{IsJointRoom, IsSumsRoom}
 use Rattle.clearing.specs.declared.fallback.Matched.{Matched}
 use Rattle.clearing.specs.declared.room.BroadRoom.{BroadRoom}
@@ -16,7 +16,7 @@ use Rattle.clearing.specs.Outcome.{whole_fills}
 -- the match of these orders, as fractions
 pub record IsMatchOf (orders : List Order) (kept : Matched) : Type 0 where
   pub fills : kept.fills.items ≡ whole_fills (match_by_bundle orders)
-  pub surplus : kept.surplus ≡ value_of (whole (premium (matched orders)))
+  pub surplus : kept.surplus ≡ value_of (whole (premium (match_of orders)))
 
 -- room for the batch with at most so many units, by a run in 128 bits alone
 pub record IsBroadRoom (batch : Batch) (units : ℕ) (room : BroadRoom) : Type 0 where

@@ -20,7 +20,7 @@ use cert_check::{Claim, Fills, Mark, Outcome};
 use exact_num::Exact;
 use form::Batch;
 use frac::{Frac64, Frac128};
-use rounds::{Joint, judge_in, solve_joint_in, solve_unjudged_in};
+use rounds::{Joint, judge_in, solve_unjudged_in};
 use simplex::{Budget, RunStop};
 use std::alloc::{AllocError, Global};
 
@@ -62,16 +62,15 @@ fn outcome_at(
 }
 
 /// The outcome of a batch by a run in 128 bits.
-fn broad_outcome(batch: &Batch, limit: u32, room: BroadRoom) -> Outcome
+fn broad_outcome(batch: &Batch, limit: u32, room: &mut BroadRoom) -> Outcome
     requires within { IsWithinLimits batch.now }
     requires limit { limit ≤ 20000 }
-    requires room { IsBroadRoom batch.now limit room }
+    requires room { IsBroadRoom batch.now limit room.old }
     ensures { result ≡ outcome_of batch.now limit }
 {
-    let BroadRoom { run, sums, matched } = room;
     let mut budget = Budget::new(limit);
-    let end = solve_joint_in(batch, &mut budget, run, sums);
-    outcome_at(limit, end, budget.spent, matched)
+    let end = room.run.solve(batch, &mut budget, &mut room.sums);
+    outcome_at(limit, end, budget.spent, room.matched.take())
 }
 
 /// The outcome of a batch by a run in these numbers, where each number before the sums of the verdict fits, and else by a run
@@ -84,7 +83,7 @@ fn outcome_first<N: Exact>(batch: &Batch, limit: u32, room: FirstRoom<N>) -> (Ou
     ensures outcome { result.0 ≡ outcome_of batch.now limit }
     ensures pass { IsPass (unjudged_in (unsigned_abs N.LIMIT) batch.now limit) result.1 }
 {
-    let FirstRoom { first, broad } = room;
+    let FirstRoom { first, mut broad } = room;
     let mut budget = Budget::new(limit);
     match solve_unjudged_in(batch, &mut budget, first) {
         Ok(joint) => {
@@ -96,7 +95,7 @@ fn outcome_first<N: Exact>(batch: &Batch, limit: u32, room: FirstRoom<N>) -> (Ou
             let outcome = fallback(broad.matched, Mark::Budget, limit);
             (outcome, Pass::Narrow)
         }
-        Err(RunStop::Wide { .. }) => (broad_outcome(batch, limit, broad), Pass::Broad),
+        Err(RunStop::Wide { .. }) => (broad_outcome(batch, limit, &mut broad), Pass::Broad),
     }
 }
 
@@ -192,10 +191,32 @@ pub fn clear(alloc: Global, batch: &Batch, limit: u32) -> Result<Outcome, AllocE
     let (outcome, _pass) = clear_in(batch, limit, room);
     Ok(outcome)
 }
-/// Clears a batch in given room by a run in 128 bits alone: the outcome of `clear` with all that is said of it there. The
-/// solver tries rows of whole numbers first, and a run in narrow fractions before it would only cost time. It takes no
-/// memory, and has no other answer.
-pub fn clear_broad_in(batch: &Batch, limit: u32, room: BroadRoom) -> Outcome
+
+impl BroadRoom {
+    /// Clears the batch in this room by a run in 128 bits alone: the outcome of `clear` with all that is said of it there. The
+    /// solver tries rows of whole numbers first, and a run in narrow fractions before it would only cost time. It takes no
+    /// memory, and has no other answer.
+    pub fn clear(&mut self, batch: &Batch, limit: u32) -> Outcome
+        requires within { IsWithinLimits batch.now }
+        requires limit { (1 ≤ limit) × (limit ≤ 20000) }
+        requires room { IsBroadRoom batch.now limit self.old }
+        ensures outcome { result ≡ outcome_of batch.now limit }
+        ensures marked { IsMarked batch.now limit result }
+        ensures within { AreFractionFills batch.now.orders (map fraction_of result.fills) }
+        ensures covers { IsCovered batch.now result }
+        ensures measured { IfOptimal result.mark
+            (λ cover measure. IsMeasured batch.now result measure) }
+        ensures greatest { IfOptimal result.mark
+            (λ cover measure. IsProved batch.now result) }
+        ensures yes { verdict_of largest batch.now result ≡ Yes }
+        ensures choices { HasEnoughUnits batch.now limit result }
+    {
+        broad_outcome(batch, limit, self)
+    }
+}
+
+/// The same in room that is used up.
+pub fn clear_broad_in(batch: &Batch, limit: u32, mut room: BroadRoom) -> Outcome
     requires within { IsWithinLimits batch.now }
     requires limit { (1 ≤ limit) × (limit ≤ 20000) }
     requires room { IsBroadRoom batch.now limit room }
@@ -210,7 +231,7 @@ pub fn clear_broad_in(batch: &Batch, limit: u32, room: BroadRoom) -> Outcome
     ensures yes { verdict_of largest batch.now result ≡ Yes }
     ensures choices { HasEnoughUnits batch.now limit result }
 {
-    broad_outcome(batch, limit, room)
+    room.clear(batch, limit)
 }
 
 /// The same in room of its own, which is taken before the first step. The only error is want of memory.

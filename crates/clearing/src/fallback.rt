@@ -15,6 +15,7 @@ use cert_check::{Claim, Fills, Mark, Outcome};
 use each_match::match_each;
 use form::{Batch, Order, Side};
 use frac::{Frac128, whole};
+use pricing_oracle::filling::take_list;
 use std::alloc::{AllocError, Global};
 
 /// What a fill pays, in ticks, where its order is on the side, and else 0.
@@ -100,6 +101,16 @@ impl Matched {
             fills: whole_fills(alloc, amounts.as_slice())?,
             surplus: value(surplus),
         })
+    }
+
+    /// Takes the match out of its place. It takes no memory.
+    pub(crate) fn take(&mut self) -> Matched
+        ensures { result ≡ self.old }
+    {
+        Matched {
+            fills: take_list(&mut self.fills),
+            surplus: self.surplus,
+        }
     }
 }
 

@@ -1,5 +1,5 @@
 //! What a batch is cleared in. All memory of a clear is taken here, before the first step of its run.
-ghost use Rattle.std.specs.Prelude.{◌≤◌, IfOk};
+ghost use Rattle.std.specs.Prelude.{◌≤◌, IfOk, OnOk};
 ghost use Rattle.form.specs.Limits.{IsWithinLimits};
 ghost use Rattle.clearing.specs.Rooms.{IsBroadRoom, IsFirstRoom};
 
@@ -10,8 +10,9 @@ use frac::{Frac64, Frac128};
 use rounds::{JointRoom, SumsRoom};
 use std::alloc::{AllocError, Global};
 
-/// What a batch is cleared in by a run in 128 bits alone, with at most so many units. Only `new` takes memory. A contract sees
-/// it as the batch and the limit that it is for.
+/// What a batch is cleared in by a run in 128 bits alone, with at most so many units. Only `new` and `renew` take memory. A
+/// contract sees it as the batch and the limit that it is for; after a clear it is for none until `renew`, since the outcome
+/// takes its lists out.
 #[derive(Drop)]
 pub struct BroadRoom {
     pub(crate) run: JointRoom<Frac128>,
@@ -32,6 +33,20 @@ impl BroadRoom {
             sums: SumsRoom::new(alloc, batch)?,
             matched: Matched::new(alloc, batch)?,
         })
+    }
+
+    /// Makes it room for the clearing of this batch with at most `limit` units. The tables of the programs, by far the most of
+    /// it, stay where they are large enough; the lists that an outcome takes out, and the match of the batch, are taken anew.
+    /// The error is want of memory.
+    pub fn renew(&mut self, alloc: Global, batch: &Batch, limit: u32) -> Result<(), AllocError>
+        requires within { IsWithinLimits batch.now }
+        requires limit { limit ≤ 20000 }
+        ensures { OnOk result (IsBroadRoom batch.now limit self.new) }
+    {
+        self.run.renew(alloc, batch, limit)?;
+        self.sums.renew(batch)?;
+        self.matched = Matched::new(alloc, batch)?;
+        Ok(())
     }
 }
 

@@ -9,7 +9,7 @@ use Rattle.cert_check.specs.declared.outcome.Outcome.{Outcome}
 use Rattle.clearing.specs.Outcome.{outcome_of}
 use Rattle.option_quotes.specs.declared.ends.Probed.{Probed}
 use Rattle.option_quotes.specs.declared.quotes.Quoted.TheVariants.{Unmarked}
-use Rattle.option_quotes.specs.Probes.{Probe, is_optimal, is_raised, probed, gap, best_price, worst_price, most_halvings, probe_at, probes, probes_between, probes_from_best, probes_from_worst, first_unmarked}
+use Rattle.option_quotes.specs.Probes.{Probe, is_optimal, is_raised, probe_outcome, gap, best_price, worst_price, most_halvings, probe_at, probes, probes_between, probes_from_best, probes_from_worst, first_unmarked}
 use Rattle.option_quotes.specs.Quotes.{IsQuote}
 use Rattle.option_quotes.specs.Ends.{IsProbed, IsBetter, AreEnds}
 use Rattle.option_quotes.proofs.Middles.{first_marked, first_not_marked}
@@ -34,7 +34,7 @@ gap_of_all Sell = lit≤ tt
 
 pub first_ends : (batch : Batch) (o : Order) (limit : ℕ) (base : Outcome) (best : Probed) (price : ℕ) (outcome : Outcome)
     → IsProbed batch o limit best → best.price ≡ best_price o.side → is_raised base best.outcome ≡ true
-    → price ≡ worst_price o.side → outcome ≡ probed batch o limit price → is_optimal outcome ≡ true → is_raised base outcome ≡ false
+    → price ≡ worst_price o.side → outcome ≡ probe_outcome batch o limit price → is_optimal outcome ≡ true → is_raised base outcome ≡ false
     → AreEnds batch o limit base (record { raising = best; other = record { price = price; outcome = outcome } })
 first_ends batch o limit base best price outcome best_is at_best raised at_worst is optimal not_raised =
     record {
@@ -116,13 +116,13 @@ pub base_stops : (batch : Batch) (o : Order) (limit : ℕ) (base : Outcome) → 
 base_stops batch o limit base is not_optimal =
     let first = outcome_of batch limit in
     ap (λ (it : Outcome). Some (None, it)) is
-    ∙ sym (first_not_marked (None, first) (probes_from_best (probed batch o limit) first o.side) (ap is_optimal (sym is) ∙ not_optimal))
+    ∙ sym (first_not_marked (None, first) (probes_from_best (probe_outcome batch o limit) first o.side) (ap is_optimal (sym is) ∙ not_optimal))
 
 pub base_goes_on : (batch : Batch) (o : Order) (limit : ℕ) (base : Outcome) (answer : Option Probe) → base ≡ outcome_of batch limit → is_optimal base ≡ true
-    → answer ≡ first_unmarked (probes_from_best (probed batch o limit) base o.side)
+    → answer ≡ first_unmarked (probes_from_best (probe_outcome batch o limit) base o.side)
     → answer ≡ first_unmarked (probes batch o limit)
 base_goes_on batch o limit base answer is optimal rest =
     let first = outcome_of batch limit in
     rest
-    ∙ ap (λ (it : Outcome). first_unmarked (probes_from_best (probed batch o limit) it o.side)) is
-    ∙ sym (first_marked (None, first) (probes_from_best (probed batch o limit) first o.side) (ap is_optimal (sym is) ∙ optimal))
+    ∙ ap (λ (it : Outcome). first_unmarked (probes_from_best (probe_outcome batch o limit) it o.side)) is
+    ∙ sym (first_marked (None, first) (probes_from_best (probe_outcome batch o limit) first o.side) (ap is_optimal (sym is) ∙ optimal))

@@ -1,5 +1,5 @@
 -- A quote is what its probes give: the last of them that raised is at the price from which on all prices raise.
-use Rattle.std.proofs.Common.{◌≡◌, ℕ, suc, zero, ◌+◌, ◌-◌, ◌^◌, ◌<◌, ◌≤◌, ◌==◌, Bool, true, false, List, [], ◌∷◌, map, arith, Option, Some, None, Result, Ok, Err, IfOk, if◌then◌else◌, refl, ap, sym, subst, ◌∙◌, true≢false, inl, inr}
+use Rattle.std.proofs.Common.{◌≡◌, ℕ, suc, zero, ◌^◌, ◌≤◌, ◌==◌, Bool, true, false, List, [], ◌∷◌, map, arith, Option, Some, None, Result, Ok, Err, IfOk, if◌then◌else◌, refl, ap, sym, subst, ◌∙◌, true≢false, inl, inr}
 use Rattle.std.specs.Option.{option_map_or, option_or}
 use Rattle.std.specs.Prelude.{◌↔◌}
 use Rattle.std.proofs.lemmas.Bool.{cases_Bool, cases_lt}
@@ -17,11 +17,11 @@ use Rattle.option_quotes.specs.declared.quotes.Quoted.{Quoted}
 use Rattle.option_quotes.specs.declared.quotes.Quoted.TheVariants.{At, Never, Unmarked}
 use Rattle.option_quotes.specs.ByProbes.{last_raising, next_worse, beside_of, marked_quote, quoted_of}
 use Rattle.option_quotes.specs.Ends.{IsBetter}
-use Rattle.option_quotes.specs.Probes.{Probe, best_price, worst_price, is_optimal, is_raised, probed, gap, middle, middles, most_halvings, probe_at, probes, probes_between, probes_from_best, probes_from_worst, first_unmarked, with_order}
+use Rattle.option_quotes.specs.Probes.{Probe, best_price, worst_price, is_optimal, is_raised, probe_outcome, gap, middle, middles, most_halvings, probe_at, probes, probes_between, probes_from_best, probes_from_worst, first_unmarked, with_order}
 use Rattle.option_quotes.specs.Quotes.{IsBeside, IsNextWorse, IsQuote, IsShown, Raises, RaisesFrom, unmarked_of}
 use Rattle.option_quotes.proofs.Answered.{base_goes_on, best_fits, gap_of_all, worst_fits}
 use Rattle.option_quotes.proofs.Middles.{halved, middle_within, middles_end, middles_up, middles_down}
-use Rattle.option_quotes.proofs.Raising.{from_best, raises_where_raised, raised_where_raises, to_worst}
+use Rattle.option_quotes.proofs.Raising.{from_best, raises_where_raised, raised_where_raises}
 
 -- ---- probes that are all marked
 none_unmarked : (probe : Probe) (rest : List Probe) → first_unmarked (probe ∷ rest) ≡ None → (is_optimal probe.1 ≡ true) × (first_unmarked rest ≡ None)
@@ -137,11 +137,11 @@ not_worst Sell price p next fits = (grind (arith, nat_tests), omega (arith, next
 
 beside_is : (batch : Batch) (o : Order) (limit price : ℕ) (beside : Option Outcome) → IsBeside batch o limit price beside → beside ≡ beside_of batch o limit price
 beside_is batch o limit price None worst =
-    sym (ap (λ (t : Bool). if t then None else Some (probed batch o limit (next_worse o.side price))) (is_worst price (worst_price o.side) worst))
+    sym (ap (λ (t : Bool). if t then None else Some (probe_outcome batch o limit (next_worse o.side price))) (is_worst price (worst_price o.side) worst))
 beside_is batch o limit price (Some outcome) (p, next, fits, shown) =
     let found = not_worst o.side price p next fits in
-    ap Some (shown.is ∙ ap (probed batch o limit) found.1)
-    ∙ sym (ap (λ (t : Bool). if t then None else Some (probed batch o limit (next_worse o.side price))) found.0)
+    ap Some (shown.is ∙ ap (probe_outcome batch o limit) found.1)
+    ∙ sym (ap (λ (t : Bool). if t then None else Some (probe_outcome batch o limit (next_worse o.side price))) found.0)
 
 -- ---- the quote
 -- from the price of the last that raised, where all are marked
@@ -152,10 +152,10 @@ by_last batch o limit last marked is =
     ap (marked_quote batch o limit) (sym is)
     ∙ ap (λ (u : Option Probe). option_map_or (λ (probe : Probe). Unmarked probe.0 probe.1) u (marked_quote batch o limit (last_raising (outcome_of batch limit) (probes batch o limit)))) marked
 
-rest_marked : (batch : Batch) (o : Order) (limit : ℕ) → None ≡ first_unmarked (probes batch o limit) → first_unmarked (probes_from_best (probed batch o limit) (outcome_of batch limit) o.side) ≡ None
+rest_marked : (batch : Batch) (o : Order) (limit : ℕ) → None ≡ first_unmarked (probes batch o limit) → first_unmarked (probes_from_best (probe_outcome batch o limit) (outcome_of batch limit) o.side) ≡ None
 rest_marked batch o limit marked =
     let base = outcome_of batch limit in
-    (none_unmarked (None, base) (probes_from_best (probed batch o limit) base o.side) (sym marked)).1
+    (none_unmarked (None, base) (probes_from_best (probe_outcome batch o limit) base o.side) (sym marked)).1
 
 pub stopped_is : (batch : Batch) (o : Order) (limit : ℕ) (probe : Option ℕ) (outcome : Outcome) → Some (probe, outcome) ≡ first_unmarked (probes batch o limit) → Unmarked probe outcome ≡ quoted_of batch o limit
 unfolding quoted_of
@@ -166,7 +166,7 @@ pub quote_is : (batch : Batch) (o : Order) (limit : ℕ) (quoted : Quoted) → I
 quote_is batch o limit (Unmarked probe outcome) within is unmarked = stopped_is batch o limit probe outcome unmarked
 quote_is batch o limit (Never extreme base) within is unmarked =
     let first = outcome_of batch limit in
-    let f : ℕ → Outcome = probed batch o limit in
+    let f : ℕ → Outcome = probe_outcome batch o limit in
     let b = best_price o.side in
     let best = none_unmarked (probe_at f b) (if is_raised first (f b) then probes_from_worst f first o.side else []) (rest_marked batch o limit unmarked) in
     let none : is_raised first (f b) ≡ false = elim (cases_Bool (is_raised first (f b))) [
@@ -180,7 +180,7 @@ quote_is batch o limit (Never extreme base) within is unmarked =
     ∙ by_last batch o limit None unmarked (after_base (last_raising first (probes_from_best f first o.side)) (is_raised first first) ∙ none_raises f first o.side none)
 quote_is batch o limit (At price raising beside base) within is unmarked =
     let first = outcome_of batch limit in
-    let f : ℕ → Outcome = probed batch o limit in
+    let f : ℕ → Outcome = probe_outcome batch o limit in
     let raises : RaisesFrom batch o first price = subst (λ (it : Outcome). RaisesFrom batch o it price) is.shown.base_shown.is is.raises in
     let threshold : (p : ℕ) → p ≤ MAX_PRICE → is_optimal (f p) ≡ true → (is_raised first (f p) ≡ true) ↔ IsNoWorse o.side price p =
     λ p fits optimal. (
@@ -193,7 +193,7 @@ quote_is batch o limit (At price raising beside base) within is unmarked =
 
 -- what is answered behind a base that is marked
 pub answer_is : {E : Type 0} (batch : Batch) (o : Order) (limit : ℕ) (base : Outcome) (answer : Result Quoted E) → IsWithinLimits (with_order batch o) → IsShown batch limit base → IfOk answer (IsQuote batch o limit)
-    → IfOk answer (λ quoted. unmarked_of quoted ≡ first_unmarked (probes_from_best (probed batch o limit) base o.side)) → IfOk answer (λ quoted. quoted ≡ quoted_of batch o limit)
+    → IfOk answer (λ quoted. unmarked_of quoted ≡ first_unmarked (probes_from_best (probe_outcome batch o limit) base o.side)) → IfOk answer (λ quoted. quoted ≡ quoted_of batch o limit)
 answer_is batch o limit base (Ok quoted) within shown is unmarked =
     quote_is batch o limit quoted within is (base_goes_on batch o limit base (unmarked_of quoted) shown.is shown.optimal unmarked)
 answer_is batch o limit base (Err error) within shown is unmarked = tt

@@ -1,11 +1,11 @@
 -- There are few probes: one for each halving of the gap, and three before.
-use Rattle.std.proofs.Common.{◌≡◌, ℕ, suc, zero, ◌+◌, ◌≤◌, Bool, true, false, nat_le, List, [], ◌∷◌, length, map, arith, if◌then◌else◌, subst, sym}
+use Rattle.std.proofs.Common.{ℕ, suc, zero, ◌≤◌, Bool, true, false, nat_le, List, [], ◌∷◌, length, arith, if◌then◌else◌, subst, sym}
 use Rattle.std.proofs.lemmas.List.{length-map}
 use Rattle.form.specs.declared.orders.Side.{Side}
 use Rattle.cert_check.specs.declared.outcome.Outcome.{Outcome}
 use Rattle.clearing.specs.Outcome.{outcome_of}
 use Rattle.option_quotes.specs.Laws.{ProbesAreFew}
-use Rattle.option_quotes.specs.Probes.{Probe, best_price, worst_price, is_raised, probed, gap, middle, middles, most_halvings, probe_at, probes_between, probes_from_best, probes_from_worst}
+use Rattle.option_quotes.specs.Probes.{Probe, best_price, worst_price, is_raised, probe_outcome, gap, middle, middles, most_halvings, probe_at, probes_between, probes_from_best, probes_from_worst}
 
 either_few : {A : Type 0} (n : ℕ) (test : Bool) (xs ys : List A) → length xs ≤ n → length ys ≤ n → length (if test then xs else ys) ≤ n
 either_few n true xs ys h k = h
@@ -39,5 +39,5 @@ few_from_best f base side =
 
 pub probes_are_few : ProbesAreFew
 probes_are_few batch order limit =
-    let few = few_from_best (probed batch order limit) (outcome_of batch limit) order.side in
+    let few = few_from_best (probe_outcome batch order limit) (outcome_of batch limit) order.side in
     omega (arith, few)

@@ -11,7 +11,7 @@ use Rattle.form.specs.declared.orders.Batch.{Batch}
 use Rattle.form.specs.declared.limits.TheConstants.{MAX_PRICE}
 use Rattle.cert_check.specs.declared.outcome.Outcome.{Outcome}
 use Rattle.option_quotes.specs.declared.ends.Ends.{Ends}
-use Rattle.option_quotes.specs.Probes.{Probe, is_optimal, is_raised, probed, gap, middle, middles, probe_at, probes_between, first_unmarked}
+use Rattle.option_quotes.specs.Probes.{Probe, is_optimal, is_raised, probe_outcome, gap, middle, middles, probe_at, probes_between, first_unmarked}
 use Rattle.option_quotes.specs.Ends.{IsBetter, AreEnds}
 
 -- ---- one halving
@@ -75,7 +75,7 @@ first_not_marked probe rest e = ap (λ (t : Bool). if t then first_unmarked rest
 
 -- ---- the ends that a loop has come to, from those at its start: what is left to be probed
 abbrev pub unmarked_between : Batch → Order → ℕ → Outcome → ℕ → ℕ → ℕ → Option Probe
-unmarked_between batch o limit base h a b = first_unmarked (probes_between (probed batch o limit) base h a b)
+unmarked_between batch o limit base h a b = first_unmarked (probes_between (probe_outcome batch o limit) base h a b)
 
 pub record Narrows (batch : Batch) (o : Order) (limit : ℕ) (base : Outcome) (a b : ℕ) (ends : Ends) : Type 0 where
   pub are : AreEnds batch o limit base ends
@@ -90,12 +90,12 @@ Left : Batch → Order → ℕ → Outcome → ℕ → ℕ → ℕ → ℕ → �
 Left batch o limit base k r x a b = (h : ℕ) × (gap a b ≤ 2 ^ h) × (unmarked_between batch o limit base k r x ≡ unmarked_between batch o limit base h a b)
 
 left_up : (batch : Batch) (o : Order) (limit : ℕ) (base : Outcome) (k r x : ℕ) → gap r x ≤ 2 ^ k → 1 < gap r x
-    → is_optimal (probed batch o limit (middle r x)) ≡ true → is_raised base (probed batch o limit (middle r x)) ≡ true
+    → is_optimal (probe_outcome batch o limit (middle r x)) ≡ true → is_raised base (probe_outcome batch o limit (middle r x)) ≡ true
     → Left batch o limit base k r x (middle r x) x
 unfolding Left
 left_up batch o limit base zero r x small far optimal raised = absurd (omega (arith, small, far))
 left_up batch o limit base (suc h) r x small far optimal raised =
-    let outcome = probed batch o limit in
+    let outcome = probe_outcome batch o limit in
     let raises : ℕ → Bool = λ price. is_raised base (outcome price) in (
       h,
       (halved h r x small).0,
@@ -104,12 +104,12 @@ left_up batch o limit base (suc h) r x small far optimal raised =
     )
 
 left_down : (batch : Batch) (o : Order) (limit : ℕ) (base : Outcome) (k r x : ℕ) → gap r x ≤ 2 ^ k → 1 < gap r x
-    → is_optimal (probed batch o limit (middle r x)) ≡ true → is_raised base (probed batch o limit (middle r x)) ≡ false
+    → is_optimal (probe_outcome batch o limit (middle r x)) ≡ true → is_raised base (probe_outcome batch o limit (middle r x)) ≡ false
     → Left batch o limit base k r x r (middle r x)
 unfolding Left
 left_down batch o limit base zero r x small far optimal raised = absurd (omega (arith, small, far))
 left_down batch o limit base (suc h) r x small far optimal raised =
-    let outcome = probed batch o limit in
+    let outcome = probe_outcome batch o limit in
     let raises : ℕ → Bool = λ price. is_raised base (outcome price) in (
       h,
       (halved h r x small).1,
@@ -118,7 +118,7 @@ left_down batch o limit base (suc h) r x small far optimal raised =
     )
 
 pub narrows_up : (batch : Batch) (o : Order) (limit : ℕ) (base : Outcome) (a b : ℕ) (ends : Ends) (outcome : Outcome) → Narrows batch o limit base a b ends
-    → 1 < gap ends.raising.price ends.other.price → outcome ≡ probed batch o limit (middle ends.raising.price ends.other.price) → is_optimal outcome ≡ true → is_raised base outcome ≡ true
+    → 1 < gap ends.raising.price ends.other.price → outcome ≡ probe_outcome batch o limit (middle ends.raising.price ends.other.price) → is_optimal outcome ≡ true → is_raised base outcome ≡ true
     → Narrows batch o limit base a b (record { raising = record { price = middle ends.raising.price ends.other.price; outcome = outcome }; other = ends.other })
 unfolding Left
 narrows_up batch o limit base a b ends outcome n far is optimal raised =
@@ -139,7 +139,7 @@ narrows_up batch o limit base a b ends outcome n far is optimal raised =
     }
 
 pub narrows_down : (batch : Batch) (o : Order) (limit : ℕ) (base : Outcome) (a b : ℕ) (ends : Ends) (outcome : Outcome) → Narrows batch o limit base a b ends
-    → 1 < gap ends.raising.price ends.other.price → outcome ≡ probed batch o limit (middle ends.raising.price ends.other.price) → is_optimal outcome ≡ true → is_raised base outcome ≡ false
+    → 1 < gap ends.raising.price ends.other.price → outcome ≡ probe_outcome batch o limit (middle ends.raising.price ends.other.price) → is_optimal outcome ≡ true → is_raised base outcome ≡ false
     → Narrows batch o limit base a b (record { raising = ends.raising; other = record { price = middle ends.raising.price ends.other.price; outcome = outcome } })
 unfolding Left
 narrows_down batch o limit base a b ends outcome n far is optimal not_raised =
@@ -164,24 +164,24 @@ pub narrows_end : (batch : Batch) (o : Order) (limit : ℕ) (base : Outcome) (a 
     → (h : ℕ) → gap a b ≤ 2 ^ h → None ≡ unmarked_between batch o limit base h a b
 narrows_end batch o limit base a b ends n near h small =
     let was = n.left h small in
-    let outcome = probed batch o limit in
+    let outcome = probe_outcome batch o limit in
     let none = middles_end was.0 (λ price. is_raised base (outcome price)) ends.raising.price ends.other.price near in
     sym (was.2 ∙ ap (λ (prices : List ℕ). first_unmarked (map (probe_at outcome) prices)) none)
 
 -- the middle is not marked
 stopped : (batch : Batch) (o : Order) (limit : ℕ) (base : Outcome) (k r x : ℕ) → gap r x ≤ 2 ^ k → 1 < gap r x
-    → is_optimal (probed batch o limit (middle r x)) ≡ false
-    → unmarked_between batch o limit base k r x ≡ Some (Some (middle r x), probed batch o limit (middle r x))
+    → is_optimal (probe_outcome batch o limit (middle r x)) ≡ false
+    → unmarked_between batch o limit base k r x ≡ Some (Some (middle r x), probe_outcome batch o limit (middle r x))
 stopped batch o limit base zero r x small far not_optimal = absurd (omega (arith, small, far))
 stopped batch o limit base (suc h) r x small far not_optimal =
-    let outcome = probed batch o limit in
+    let outcome = probe_outcome batch o limit in
     let raises : ℕ → Bool = λ price. is_raised base (outcome price) in
     let rest = middles_more h raises r x far in
     ap (λ (prices : List ℕ). first_unmarked (map (probe_at outcome) prices)) rest.1
     ∙ first_not_marked (probe_at outcome (middle r x)) (map (probe_at outcome) rest.0) not_optimal
 
 pub narrows_stop : (batch : Batch) (o : Order) (limit : ℕ) (base : Outcome) (a b : ℕ) (ends : Ends) (outcome : Outcome) → Narrows batch o limit base a b ends
-    → 1 < gap ends.raising.price ends.other.price → outcome ≡ probed batch o limit (middle ends.raising.price ends.other.price) → is_optimal outcome ≡ false
+    → 1 < gap ends.raising.price ends.other.price → outcome ≡ probe_outcome batch o limit (middle ends.raising.price ends.other.price) → is_optimal outcome ≡ false
     → (h : ℕ) → gap a b ≤ 2 ^ h → Some (Some (middle ends.raising.price ends.other.price), outcome) ≡ unmarked_between batch o limit base h a b
 narrows_stop batch o limit base a b ends outcome n far is not_optimal h small =
     let r = ends.raising.price in

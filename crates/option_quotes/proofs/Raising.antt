@@ -105,6 +105,13 @@ asked_within batch form side within room ids listed on =
       orders_within = All-push IsOrderWithin batch.orders o within.orders_within (further_within form side listed);
     }
 
+-- and so is an order that is this one
+pub order_within : (batch : Batch) (form : Form) (side : Side) (order : Order) → order ≡ further form side → IsWithinLimits batch → length batch.orders ≤ 255
+    → All (λ (order : Order). order.id ≤ 1000000) batch.orders → IsListed (option_of form) → form.count ≡ batch.underlyings + 1
+    → IsWithinLimits (with_order batch order)
+order_within batch form side order is within room ids listed on =
+    subst (λ (order : Order). IsWithinLimits (with_order batch order)) (sym is) (asked_within batch form side within room ids listed on)
+
 -- ---- the order of surpluses
 less_says : (a b : ℤ) → is_lt (int_cmp a b) ≡ true → a <ℤ b
 less_says a b h = grind (arith, ints, h)

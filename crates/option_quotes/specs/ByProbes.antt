@@ -9,7 +9,7 @@ use Rattle.cert_check.specs.declared.outcome.Outcome.{Outcome}
 use Rattle.clearing.specs.Outcome.{outcome_of}
 use Rattle.option_quotes.specs.declared.quotes.Quoted.{Quoted}
 use Rattle.option_quotes.specs.declared.quotes.Quoted.TheVariants.{At, Never, Unmarked}
-use Rattle.option_quotes.specs.Probes.{Probe, best_price, worst_price, is_raised, probed, probes, first_unmarked}
+use Rattle.option_quotes.specs.Probes.{Probe, best_price, worst_price, is_raised, probe_outcome, probes, first_unmarked}
 
 -- the price of the last probe that raised the surplus
 abbrev pub last_raising : Outcome → List Probe → Option ℕ
@@ -24,13 +24,13 @@ next_worse Sell price = price + 1
 -- the outcome at the next worse price, where there is one
 abbrev pub beside_of : Batch → Order → ℕ → ℕ → Option Outcome
 beside_of batch order limit price =
-    if price == worst_price order.side then None else Some (probed batch order limit (next_worse order.side price))
+    if price == worst_price order.side then None else Some (probe_outcome batch order limit (next_worse order.side price))
 
 -- the quote where each probe is marked optimal, by the price of the last that raised
 abbrev pub marked_quote : Batch → Order → ℕ → Option ℕ → Quoted
-marked_quote batch order limit None = Never (probed batch order limit (best_price order.side)) (outcome_of batch limit)
+marked_quote batch order limit None = Never (probe_outcome batch order limit (best_price order.side)) (outcome_of batch limit)
 marked_quote batch order limit (Some price) =
-    At price (probed batch order limit price) (beside_of batch order limit price) (outcome_of batch limit)
+    At price (probe_outcome batch order limit price) (beside_of batch order limit price) (outcome_of batch limit)
 
 -- the quote: the first probe that is not marked optimal, else by the price of the last that raised
 unfoldable pub quoted_of : Batch → Order → ℕ → Quoted

@@ -8,12 +8,12 @@ use Rattle.form.specs.declared.limits.TheConstants.{MAX_PRICE}
 use Rattle.cert_check.specs.declared.outcome.Outcome.{Outcome}
 use Rattle.option_quotes.specs.declared.ends.Probed.{Probed}
 use Rattle.option_quotes.specs.declared.ends.Ends.{Ends}
-use Rattle.option_quotes.specs.Probes.{is_optimal, is_raised, probed}
+use Rattle.option_quotes.specs.Probes.{is_optimal, is_raised, probe_outcome}
 
 -- the outcome is that of the batch with the order at this price, and marked optimal
 pub record IsProbed (batch : Batch) (order : Order) (limit : ℕ) (p : Probed) : Type 0 where
   pub within : p.price ≤ MAX_PRICE
-  pub is : p.outcome ≡ probed batch order limit p.price
+  pub is : p.outcome ≡ probe_outcome batch order limit p.price
   pub optimal : is_optimal p.outcome ≡ true
 
 -- for a match the price q is better than p

@@ -30,8 +30,8 @@ abbrev pub with_order : Batch → Order → Batch
 with_order batch order = record { underlyings = batch.underlyings; orders = batch.orders ++ order ∷ [] }
 
 -- the outcome of the batch with the order at a price
-abbrev pub probed : Batch → Order → ℕ → ℕ → Outcome
-probed batch order limit price = outcome_of (with_order batch (at_price order price)) limit
+abbrev pub probe_outcome : Batch → Order → ℕ → ℕ → Outcome
+probe_outcome batch order limit price = outcome_of (with_order batch (at_price order price)) limit
 
 -- the best price for a match, and the worst
 abbrev pub best_price : Side → ℕ
@@ -92,7 +92,7 @@ probes_from_best outcome base side =
 abbrev pub probes : Batch → Order → ℕ → List Probe
 probes batch order limit =
     let base = outcome_of batch limit in
-    (None, base) ∷ probes_from_best (probed batch order limit) base order.side
+    (None, base) ∷ probes_from_best (probe_outcome batch order limit) base order.side
 
 -- the first that is not marked optimal
 abbrev pub first_unmarked : List Probe → Option Probe

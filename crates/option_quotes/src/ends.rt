@@ -2,12 +2,13 @@
 ghost use Rattle.std.specs.Prelude.{◌≡◌, ◌≤◌, ◌^◌, ℕ, IfOk};
 ghost use Rattle.form.specs.Limits.{IsWithinLimits};
 ghost use Rattle.option_quotes.specs.Ends.{AreEnds};
-ghost use Rattle.option_quotes.specs.Probes.{first_unmarked, gap, probed, probes_between, with_order};
+ghost use Rattle.option_quotes.specs.Probes.{first_unmarked, gap, probe_outcome, probes_between, with_order};
 ghost use Rattle.option_quotes.specs.Quotes.{IsQuote, IsShown, unmarked_of};
 
 use crate::probes::{is_optimal, is_raised, probe};
 use crate::quotes::Quoted;
 use cert_check::Outcome;
+use clearing::BroadRoom;
 use form::{Batch, Order};
 use std::alloc::{AllocError, Global};
 
@@ -33,6 +34,7 @@ pub(crate) fn between(
     limit: u32,
     base: Outcome,
     mut ends: Ends,
+    room: &mut BroadRoom,
 ) -> Result<Quoted, AllocError>
     requires within { IsWithinLimits (with_order batch.now order) }
     requires limit { (1 ≤ limit) × (limit ≤ 20000) }
@@ -42,11 +44,11 @@ pub(crate) fn between(
     ensures unmarked { let a = ends.raising.price in let b = ends.other.price in
         IfOk result (λ quoted. (halvings : ℕ) → gap a b ≤ 2 ^ halvings
         → unmarked_of quoted
-        ≡ first_unmarked (probes_between (probed batch.now order limit) base halvings a b)) }
+        ≡ first_unmarked (probes_between (probe_outcome batch.now order limit) base halvings a b)) }
 {
     while ends.raising.price.abs_diff(ends.other.price) > 1 {
         let price = (ends.raising.price + ends.other.price) / 2;
-        let outcome = probe(alloc, batch, order, price, limit)?;
+        let outcome = probe(alloc, batch, order, price, limit, room)?;
         if !is_optimal(&outcome) {
             return Ok(Quoted::Unmarked {
                 probe: Some(price),

@@ -1,11 +1,16 @@
-//! One probe: what clears where the batch has one order more.
+//! One probe: what clears where the batch has one order more. All probes of a quote are cleared in one room.
 ghost use Rattle.std.specs.Prelude.{◌≡◌, ◌≤◌, IfOk, length};
+ghost use Rattle.frac.specs.Range.{limit as largest};
 ghost use Rattle.form.specs.Limits.{IsWithinLimits};
 ghost use Rattle.form.specs.declared.limits.TheConstants.{MAX_ORDERS};
-ghost use Rattle.option_quotes.specs.Probes.{best_price, further, is_optimal, is_raised, probed, with_order, worst_price};
+ghost use Rattle.cert_check.specs.declared.outcome.Judgement.TheVariants.{Yes};
+ghost use Rattle.cert_check.specs.Events.{verdict_of};
+ghost use Rattle.clearing.specs.Outcome.{outcome_of};
+ghost use Rattle.clearing.specs.Rooms.{IsBroadRoom};
+ghost use Rattle.option_quotes.specs.Probes.{best_price, further, is_optimal, is_raised, probe_outcome, with_order, worst_price};
 
 use cert_check::{Mark, Outcome};
-use clearing::clear;
+use clearing::BroadRoom;
 use form::{Batch, Bundle, Form, MAX_PRICE, Order, Orders, Side};
 use std::alloc::{AllocError, Global};
 
@@ -43,6 +48,38 @@ fn with_order(alloc: Global, batch: &Batch, order: Order) -> Result<Batch, Alloc
     })
 }
 
+/// The room of a quote, for the batch with the order.
+pub(crate) fn room_with(
+    alloc: Global,
+    batch: &Batch,
+    order: Order,
+    limit: u32,
+) -> Result<BroadRoom, AllocError>
+    requires within { IsWithinLimits (with_order batch.now order) }
+    requires limit { limit ≤ 20000 }
+    ensures { IfOk result (IsBroadRoom (with_order batch.now order) limit) }
+{
+    let extended = with_order(alloc, batch, order)?;
+    BroadRoom::new(alloc, &extended, limit)
+}
+
+/// The outcome of the batch, cleared in the room: its tables stay, and only the lists of this clear are taken before its first
+/// step.
+pub(crate) fn cleared(
+    alloc: Global,
+    batch: &Batch,
+    limit: u32,
+    room: &mut BroadRoom,
+) -> Result<Outcome, AllocError>
+    requires within { IsWithinLimits batch.now }
+    requires limit { (1 ≤ limit) × (limit ≤ 20000) }
+    ensures outcome { IfOk result (λ outcome. outcome ≡ outcome_of batch.now limit) }
+    ensures yes { IfOk result (λ outcome. verdict_of largest batch.now outcome ≡ Yes) }
+{
+    room.renew(alloc, batch, limit)?;
+    Ok(room.clear(batch, limit))
+}
+
 /// The outcome of the batch with the order at the price.
 pub(crate) fn probe(
     alloc: Global,
@@ -50,14 +87,15 @@ pub(crate) fn probe(
     order: Order,
     price: u64,
     limit: u32,
+    room: &mut BroadRoom,
 ) -> Result<Outcome, AllocError>
     requires within { IsWithinLimits (with_order batch.now order) }
     requires price { price ≤ MAX_PRICE }
     requires limit { (1 ≤ limit) × (limit ≤ 20000) }
-    ensures { IfOk result (λ outcome. outcome ≡ probed batch.now order limit price) }
+    ensures { IfOk result (λ outcome. outcome ≡ probe_outcome batch.now order limit price) }
 {
     let extended = with_order(alloc, batch, Order { price, ..order })?;
-    clear(alloc, &extended, limit)
+    cleared(alloc, &extended, limit, room)
 }
 
 /// Whether the outcome is marked optimal.

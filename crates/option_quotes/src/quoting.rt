@@ -5,14 +5,16 @@ ghost use Rattle.form.specs.Limits.{IsListed, IsWithinLimits};
 ghost use Rattle.form.specs.Options.{option_of};
 ghost use Rattle.option_quotes.specs.ByProbes.{quoted_of};
 ghost use Rattle.option_quotes.specs.Ends.{IsProbed};
-ghost use Rattle.option_quotes.specs.Probes.{best_price, first_unmarked, further, is_raised, probed, probes, probes_from_best, probes_from_worst, with_order};
+ghost use Rattle.option_quotes.specs.Probes.{best_price, first_unmarked, further, is_raised, probe_outcome, probes, probes_from_best, probes_from_worst, with_order};
 ghost use Rattle.option_quotes.specs.Quotes.{AreShown, IfAt, IfNever, IsNever, IsQuote, IsShown, RaisesFrom, unmarked_of};
 
 use crate::ends::{Ends, Probed, between};
-use crate::probes::{best_price, further, is_optimal, is_raised, probe, worst_price};
+use crate::probes::{
+    best_price, cleared, further, is_optimal, is_raised, probe, room_with, worst_price,
+};
 use crate::quotes::Quoted;
 use cert_check::Outcome;
-use clearing::clear;
+use clearing::BroadRoom;
 use form::{Batch, Form, Order, Side};
 use std::alloc::{AllocError, Global};
 
@@ -24,6 +26,7 @@ fn from_worst(
     limit: u32,
     base: Outcome,
     best: Probed,
+    room: &mut BroadRoom,
 ) -> Result<Quoted, AllocError>
     requires within { IsWithinLimits (with_order batch.now order) }
     requires limit { (1 ≤ limit) × (limit ≤ 20000) }
@@ -34,10 +37,10 @@ fn from_worst(
     ensures quote { IfOk result (IsQuote batch.now order limit) }
     ensures unmarked { IfOk result (λ quoted.
         unmarked_of quoted
-        ≡ first_unmarked (probes_from_worst (probed batch.now order limit) base order.side)) }
+        ≡ first_unmarked (probes_from_worst (probe_outcome batch.now order limit) base order.side)) }
 {
     let price = worst_price(order.side);
-    let outcome = probe(alloc, batch, order, price, limit)?;
+    let outcome = probe(alloc, batch, order, price, limit, room)?;
     if !is_optimal(&outcome) {
         return Ok(Quoted::Unmarked {
             probe: Some(price),
@@ -56,7 +59,7 @@ fn from_worst(
         raising: best,
         other: Probed { price, outcome },
     };
-    between(alloc, batch, order, limit, base, ends)
+    between(alloc, batch, order, limit, base, ends, room)
 }
 
 /// The quote where the base is marked optimal: from the best price on.
@@ -66,6 +69,7 @@ fn from_best(
     order: Order,
     limit: u32,
     base: Outcome,
+    room: &mut BroadRoom,
 ) -> Result<Quoted, AllocError>
     requires within { IsWithinLimits (with_order batch.now order) }
     requires limit { (1 ≤ limit) × (limit ≤ 20000) }
@@ -73,10 +77,10 @@ fn from_best(
     ensures quote { IfOk result (IsQuote batch.now order limit) }
     ensures unmarked { IfOk result (λ quoted.
         unmarked_of quoted
-        ≡ first_unmarked (probes_from_best (probed batch.now order limit) base order.side)) }
+        ≡ first_unmarked (probes_from_best (probe_outcome batch.now order limit) base order.side)) }
 {
     let price = best_price(order.side);
-    let outcome = probe(alloc, batch, order, price, limit)?;
+    let outcome = probe(alloc, batch, order, price, limit, room)?;
     if !is_optimal(&outcome) {
         return Ok(Quoted::Unmarked {
             probe: Some(price),
@@ -89,13 +93,15 @@ fn from_best(
             base,
         });
     }
-    from_worst(alloc, batch, order, limit, base, Probed { price, outcome })
+    let best = Probed { price, outcome };
+    from_worst(alloc, batch, order, limit, base, best, room)
 }
 
 /// The whole price at which a further buy or sell of one bundle of the option raises the greatest surplus of the batch: the
 /// least for a buy, the greatest for a sell. At most 43 batches are cleared, each with at most `limit` units of work: the batch
 /// itself, and the batch with one order more at the best price for a match, at the worst, and then at the middle of the gap
-/// between a price that raises the surplus and one that does not. The only error is want of memory.
+/// between a price that raises the surplus and one that does not. They are cleared in one room, which is taken once; each
+/// takes its own lists before its first step. The only error is want of memory.
 pub fn quote(
     alloc: Global,
     batch: &Batch,
@@ -131,12 +137,14 @@ pub fn quote(
     ensures unmarked { IfOk result (λ quoted.
         unmarked_of quoted ≡ first_unmarked (probes batch.now (further form.now side) limit)) }
 {
-    let base = clear(alloc, batch, limit)?;
+    let order = further(form, side);
+    let mut room = room_with(alloc, batch, order, limit)?;
+    let base = cleared(alloc, batch, limit, &mut room)?;
     if !is_optimal(&base) {
         return Ok(Quoted::Unmarked {
             probe: None,
             outcome: base,
         });
     }
-    from_best(alloc, batch, further(form, side), limit, base)
+    from_best(alloc, batch, order, limit, base, &mut room)
 }

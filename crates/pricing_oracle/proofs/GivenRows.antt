@@ -14,7 +14,7 @@ use Rattle.simplex.specs.Spaces.{given}
 use Rattle.node_program.specs.Roles.{Role, Idle, Covering, Free, Above, Below, entries}
 use Rattle.node_program.specs.Node.{after_zero, if_covering, minus_units, signed_of, with_sign}
 use Rattle.node_program.specs.Steps.{counted_role, cover_rows_steps, signed_row_steps, signed_rows_steps, with_row as row_before}
-use Rattle.pricing_oracle.specs.Built.{added}
+use Rattle.pricing_oracle.specs.Built.{list_then}
 use Rattle.pricing_oracle.specs.Nodes.{RoleLeg, covering_of, in_roles, is_signed, node_leg, option_in}
 use Rattle.pricing_oracle.specs.Programs.{given_with, signed_entries, unit_at, units_from, with_rows}
 
@@ -29,7 +29,7 @@ one_more p k row rows =
     }
 
 -- a row that was given, and those after it
-pub row_given : (steps : Result (List Fraction) Wide) (tail row : List Fraction) (p : LinearProgram) (k : ℕ) (later : Result (List Fraction) Wide) → added [] (after steps (λ xs. Ok (xs ++ tail))) ≡ Ok row
+pub row_given : (steps : Result (List Fraction) Wide) (tail row : List Fraction) (p : LinearProgram) (k : ℕ) (later : Result (List Fraction) Wide) → list_then [] (after steps (λ xs. Ok (xs ++ tail))) ≡ Ok row
     → given_with p (suc k) (row_before steps tail later) ≡ given_with (with_row p row fraction_zero) k later
 row_given (Ok xs) tail row p k (Ok rows) h =
     let same : xs ++ tail ≡ row = cc in
@@ -38,7 +38,7 @@ row_given (Ok xs) tail row p k (Err w) h = refl
 row_given (Err w) tail row p k later h = cc
 
 -- and one that does not fit
-pub row_stops : (steps : Result (List Fraction) Wide) (tail : List Fraction) (p : LinearProgram) (k : ℕ) (later : Result (List Fraction) Wide) (w : Wide) → added [] (after steps (λ xs. Ok (xs ++ tail))) ≡ Err w
+pub row_stops : (steps : Result (List Fraction) Wide) (tail : List Fraction) (p : LinearProgram) (k : ℕ) (later : Result (List Fraction) Wide) (w : Wide) → list_then [] (after steps (λ xs. Ok (xs ++ tail))) ≡ Err w
     → given_with p k (row_before steps tail later) ≡ Err w
 row_stops (Ok xs) tail p k later w h = cc
 row_stops (Err v) tail p k later w h =

@@ -15,7 +15,7 @@ use Rattle.simplex.specs.Spaces.{Contents, Workspace, IsProgramGiven, nothing, g
 use Rattle.node_program.specs.Roles.{Role, Idle, Covering, Free, Above, Below, entries}
 use Rattle.node_program.specs.Node.{covers_of, minus_units, signed_of}
 use Rattle.node_program.specs.Steps.{counted_node, cover_rows_steps, signed_rows_steps, negated_of, with_row as row_before}
-use Rattle.pricing_oracle.specs.Built.{added}
+use Rattle.pricing_oracle.specs.Built.{list_then}
 use Rattle.pricing_oracle.specs.Filled.{HasMade, HasFilled}
 use Rattle.pricing_oracle.specs.Nodes.{RoleLeg, covering_of, in_roles, is_signed}
 use Rattle.pricing_oracle.specs.Programs.{IsOpen, given_with, signed_entries, unit_at}
@@ -60,10 +60,10 @@ length-steps {A} {B} f (x ∷ xs) ys h = go (f x) (map_steps f xs) (λ zs r. len
     go (Ok y) (Err w) long h = cc
     go (Err w) rest long h = cc
 
-row_width : (f : ℤ → Result Fraction Misfit) (n : ℕ) (v : List ℤ) (tail row : List Fraction) → added [] (after (map_steps f (entries n v)) (λ xs. Ok (xs ++ tail))) ≡ Ok row → length row ≡ suc n + length tail
+row_width : (f : ℤ → Result Fraction Misfit) (n : ℕ) (v : List ℤ) (tail row : List Fraction) → list_then [] (after (map_steps f (entries n v)) (λ xs. Ok (xs ++ tail))) ≡ Ok row → length row ≡ suc n + length tail
 row_width f n v tail row h = go (map_steps f (entries n v)) refl h
   where
-    go : (steps : Result (List Fraction) Misfit) → map_steps f (entries n v) ≡ steps → added [] (after steps (λ xs. Ok (xs ++ tail))) ≡ Ok row → length row ≡ suc n + length tail
+    go : (steps : Result (List Fraction) Misfit) → map_steps f (entries n v) ≡ steps → list_then [] (after steps (λ xs. Ok (xs ++ tail))) ≡ Ok row → length row ≡ suc n + length tail
     go (Ok xs) is h =
         let same : xs ++ tail ≡ row = cc in
         let entry_at : ℕ → ℤ = λ i. get_or v i (pos 0) in
@@ -75,18 +75,18 @@ length-unit before behind =
     omega (arith, length-map (unit_at before behind) whole, length-append (replicate before (pos 0)) (negsuc 0 ∷ replicate behind (pos 0)), length-replicate before (pos 0), length-replicate behind (pos 0))
 
 pub cover_row_width : (limit n : ℕ) (v : List ℤ) (place covers : ℕ) (row : List Fraction) → place < covers
-    → added [] (after (map_steps (whole_of limit) (entries n v)) (λ xs. Ok (xs ++ map whole (unit_at place (covers - place - 1))))) ≡ Ok row → length row ≡ n + 1 + covers
+    → list_then [] (after (map_steps (whole_of limit) (entries n v)) (λ xs. Ok (xs ++ map whole (unit_at place (covers - place - 1))))) ≡ Ok row → length row ≡ n + 1 + covers
 cover_row_width limit n v place covers row low h =
     omega (arith, low, row_width (whole_of limit) n v (map whole (unit_at place (covers - place - 1))) row h, length-unit place (covers - place - 1))
 
 pub signed_row_width : (limit n : ℕ) (role : Role) (v : List ℤ) (covers : ℕ) (row : List Fraction)
-    → added [] (after (signed_entries limit role (entries n v)) (λ xs. Ok (xs ++ replicate covers fraction_zero))) ≡ Ok row → length row ≡ n + 1 + covers
+    → list_then [] (after (signed_entries limit role (entries n v)) (λ xs. Ok (xs ++ replicate covers fraction_zero))) ≡ Ok row → length row ≡ n + 1 + covers
 signed_row_width limit n role v covers row h = go role h
   where
-    by : (f : ℤ → Result Fraction Misfit) → added [] (after (map_steps f (entries n v)) (λ xs. Ok (xs ++ replicate covers fraction_zero))) ≡ Ok row → length row ≡ n + 1 + covers
+    by : (f : ℤ → Result Fraction Misfit) → list_then [] (after (map_steps f (entries n v)) (λ xs. Ok (xs ++ replicate covers fraction_zero))) ≡ Ok row → length row ≡ n + 1 + covers
     by f h = omega (arith, row_width f n v (replicate covers fraction_zero) row h, length-replicate covers fraction_zero)
 
-    go : (role : Role) → added [] (after (signed_entries limit role (entries n v)) (λ xs. Ok (xs ++ replicate covers fraction_zero))) ≡ Ok row → length row ≡ n + 1 + covers
+    go : (role : Role) → list_then [] (after (signed_entries limit role (entries n v)) (λ xs. Ok (xs ++ replicate covers fraction_zero))) ≡ Ok row → length row ≡ n + 1 + covers
     go Above h = by (negated_of limit) h
     go Below h = by (whole_of limit) h
     go Idle h = by (whole_of limit) h
@@ -103,13 +103,13 @@ cover_rows_are limit n covers p legs signs h =
     λ i. given_with p (count i) (cover_rows_steps limit n (covers_in legs signs i) ((ap minus_units count ∙ sym (units_at_first (length all))) i))
 
 pub cover_row_on : (limit n place behind : ℕ) (left : List FractionLeg) (l : FractionLeg) (rest : List FractionLeg) (p : LinearProgram) (row : List Fraction) → left ≡ l ∷ rest → behind ≡ length rest
-    → added [] (after (map_steps (whole_of limit) (entries n l.option)) (λ xs. Ok (xs ++ map whole (unit_at place behind)))) ≡ Ok row
+    → list_then [] (after (map_steps (whole_of limit) (entries n l.option)) (λ xs. Ok (xs ++ map whole (unit_at place behind)))) ≡ Ok row
     → given_with p (length left) (cover_rows_from limit n place left) ≡ given_with (with_row p row fraction_zero) (length rest) (cover_rows_from limit n (place + 1) rest)
 cover_row_on limit n place behind left l rest p row is b h =
     let steps = map_steps (whole_of limit) (entries n l.option) in
     (λ i. given_with p (length (is i)) (cover_row_first limit n place left l rest is i))
     ∙ row_given steps (map whole (unit_at place (length rest))) row p (length rest) (cover_rows_from limit n (place + 1) rest)
-    (subst (λ (k : ℕ). added [] (after steps (λ xs. Ok (xs ++ map whole (unit_at place k)))) ≡ Ok row) b h)
+    (subst (λ (k : ℕ). list_then [] (after steps (λ xs. Ok (xs ++ map whole (unit_at place k)))) ≡ Ok row) b h)
 
 pub cover_row_fails : (limit n place behind : ℕ) (left : List FractionLeg) (l : FractionLeg) (rest : List FractionLeg) (p : LinearProgram) (row : List Fraction) (result : Result (Unit {0}) Misfit) (w : Misfit) (all : Result Contents Misfit) (new : Contents)
     → left ≡ l ∷ rest → behind ≡ length rest → all ≡ given_with p (length left) (cover_rows_from limit n place left) → result ≡ Err w
@@ -127,7 +127,7 @@ pub signed_rows_are : (limit n : ℕ) (tail : List Fraction) (p : LinearProgram)
 signed_rows_are limit n tail p legs signs = ap (λ node. given_with p (length (signed_of n node)) (signed_rows_steps limit n tail node)) (node_is legs signs)
 
 pub signed_row_on : (limit n : ℕ) (tail : List Fraction) (left : List RoleLeg) (l : RoleLeg) (rest : List RoleLeg) (p : LinearProgram) (row : List Fraction) → left ≡ l ∷ rest → is_signed l.role ≡ true
-    → added [] (after (signed_entries limit l.role (entries n l.leg.option)) (λ xs. Ok (xs ++ tail))) ≡ Ok row
+    → list_then [] (after (signed_entries limit l.role (entries n l.leg.option)) (λ xs. Ok (xs ++ tail))) ≡ Ok row
     → given_with p (signed_count n left) (signed_rows_from limit n tail left) ≡ given_with (with_row p row fraction_zero) (signed_count n rest) (signed_rows_from limit n tail rest)
 signed_row_on limit n tail left l rest p row is signed h =
     (λ i. given_with p (signed_first_count n left l rest is signed i) (signed_row_first limit n tail left l rest is signed i))

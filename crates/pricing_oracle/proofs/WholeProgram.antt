@@ -15,7 +15,7 @@ use Rattle.simplex.specs.Spaces.{Contents, Workspace, IsProgramGiven, given, pro
 use Rattle.node_program.specs.Roles.{NodeLeg, values}
 use Rattle.node_program.specs.Node.{covers_of, minus_units, signed_of, size_row}
 use Rattle.node_program.specs.Steps.{counted_node, cover_cost_steps, cover_rows_steps, covering_legs, node_steps, signed_rows_steps, state_cost_steps}
-use Rattle.pricing_oracle.specs.Built.{added}
+use Rattle.pricing_oracle.specs.Built.{list_then}
 use Rattle.pricing_oracle.specs.Filled.{HasMade, HasFilled}
 use Rattle.pricing_oracle.specs.Programs.{IsOpen, costs_steps, given_with, with_rows}
 use Rattle.pricing_oracle.proofs.ByRole.{cover_count_is, covering_is}
@@ -103,7 +103,7 @@ program_is limit n legs L signs =
     go (Err w) ys cs ss a b = refl
 
 -- ---- costs that are written, and costs that are not
-pub is_written : (steps : Result (List Fraction) Misfit) (row : List Fraction) → added [] steps ≡ Ok row → steps ≡ Ok row
+pub is_written : (steps : Result (List Fraction) Misfit) (row : List Fraction) → list_then [] steps ≡ Ok row → steps ≡ Ok row
 is_written (Ok xs) row h = h
 is_written (Err w) row h = cc
 
@@ -111,7 +111,7 @@ pub not_written : (steps : Result (List Fraction) Misfit) (next : List Fraction 
     → all ≡ after steps next → result ≡ Err w → HasFilled [] steps result row → HasMade (λ (done : Unit {0}). new) all (Err w)
 not_written steps next result w row all new is err h = is ∙ go steps (subst (λ r. HasFilled [] steps r row) err h)
   where
-    go : (steps : Result (List Fraction) Misfit) → added [] steps ≡ Err w → after steps next ≡ Err w
+    go : (steps : Result (List Fraction) Misfit) → list_then [] steps ≡ Err w → after steps next ≡ Err w
     go (Ok xs) h = cc
     go (Err v) h =
         let same : v ≡ w = cc in

@@ -5,5 +5,5 @@ use Rattle.exact_num.specs.Fraction.{Fraction}
 use Rattle.exact_num.specs.Fits.{after}
 
 -- the list, and behind it what the steps give
-abbrev pub added : List Fraction → Result (List Fraction) Misfit → Result (List Fraction) Misfit
-added old steps = after steps (λ more. Ok (old ++ more))
+abbrev pub list_then : List Fraction → Result (List Fraction) Misfit → Result (List Fraction) Misfit
+list_then old steps = after steps (λ more. Ok (old ++ more))

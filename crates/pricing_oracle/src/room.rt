@@ -1,5 +1,5 @@
 //! Room for searches, one after another.
-ghost use Rattle.std.specs.Prelude.{◌≡◌, ◌≤◌, IfOk, length, map, replicate, unsigned_abs, vec_capacity};
+ghost use Rattle.std.specs.Prelude.{◌≡◌, ◌≤◌, IfOk, OnOk, length, map, replicate, unsigned_abs, vec_capacity};
 ghost use Rattle.std.specs.List.{All};
 ghost use Rattle.exact_num.specs.Fraction.{IsNotBelowZero};
 ghost use Rattle.clearing_model.specs.Tree.{Unsigned};
@@ -10,6 +10,7 @@ ghost use Rattle.pricing_oracle.specs.Rooms.{HasSameRoom};
 ghost use Rattle.pricing_oracle.specs.Searches.{HasSearched, asked_within, no_parts, parts_in};
 
 use crate::branches::branch;
+use crate::filling::{make_room, take_list};
 use crate::legs::Asked;
 use crate::node::TreeParts;
 use compact_table::room::push_within;
@@ -21,7 +22,7 @@ use std::alloc::{AllocError, Global};
 use std::marker::Model;
 
 /// What searches over batches with at most so many underlyings and legs work in, one after another, with at most so many
-/// units each. Only `new` takes memory. Contracts see it as these sizes and the tree of the last search.
+/// units each. Only `new` and `renew` take memory. Contracts see it as these sizes and the tree of the last search.
 #[derive(Drop)]
 pub struct SearchRoom<N: Exact> {
     underlyings: usize,
@@ -92,6 +93,33 @@ impl<N: Exact> SearchRoom<N> {
         })
     }
 
+    /// Makes it room for searches over batches with at least so many underlyings and legs, with at least so many units: the
+    /// programs, signs and rows stay where they are large enough, and the lists of the tree are taken where they are not
+    /// there. The error is want of memory.
+    pub fn renew(
+        &mut self,
+        alloc: Global,
+        underlyings: usize,
+        legs: usize,
+        units: u32,
+    ) -> Result<(), AllocError>
+        requires underlyings { underlyings ≤ 8 }
+        requires legs { legs ≤ 1024 }
+        ensures sizes { OnOk result ((underlyings ≤ self.new.underlyings)
+            × (legs ≤ self.new.legs) × (units ≤ self.new.units)) }
+    {
+        if self.underlyings < underlyings || self.legs < legs {
+            *self = SearchRoom::new(alloc, underlyings, legs, units)?;
+            return Ok(());
+        }
+        // Until both lists are there, it is for no unit.
+        self.units = 0;
+        make_room(&mut self.tree.nodes, units as usize)?;
+        make_room(&mut self.tree.multipliers, units as usize)?;
+        self.units = units;
+        Ok(())
+    }
+
     /// Searches from the root, at which no leg has a sign: the tree stands here where it closes, and else the answer is the
     /// state that it finds.
     pub(crate) fn search(
@@ -126,13 +154,23 @@ impl<N: Exact> SearchRoom<N> {
         )
     }
 
+    /// Takes the tree of the last search, which closed, and its memory: the room is for no unit then, until `renew`.
+    pub fn take_tree(&mut self) -> SignTree
+        ensures tree { result ≡ self.old.tree }
+        ensures sizes { (self.new.underlyings ≡ self.old.underlyings)
+            × (self.new.legs ≡ self.old.legs) × (self.new.units ≡ 0) }
+    {
+        self.units = 0;
+        SignTree {
+            nodes: Nodes::from_vec(take_list(&mut self.tree.nodes)),
+            multipliers: Multipliers::from_vec(take_list(&mut self.tree.multipliers)),
+        }
+    }
+
     /// The tree of the last search, which closed.
-    pub fn into_tree(self) -> SignTree
+    pub fn into_tree(mut self) -> SignTree
         ensures { result ≡ self.tree }
     {
-        SignTree {
-            nodes: Nodes::from_vec(self.tree.nodes),
-            multipliers: Multipliers::from_vec(self.tree.multipliers),
-        }
+        self.take_tree()
     }
 }

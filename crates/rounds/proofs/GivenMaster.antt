@@ -19,7 +19,7 @@ use Rattle.master_program.specs.Laws.{unit_rows}
 use Rattle.master_program.specs.Master.{map_steps, cost_steps, quantity_steps, entry_steps, quantity_rows, row_steps, rows_steps, master}
 use Rattle.master_program.proofs.Steps.{whole_gives}
 use Rattle.master_program.proofs.UnitRows.{quantity_rows_are_unit_rows}
-use Rattle.pricing_oracle.specs.Built.{added}
+use Rattle.pricing_oracle.specs.Built.{list_then}
 use Rattle.pricing_oracle.specs.Programs.{IsOpen, given_with, with_rows}
 use Rattle.pricing_oracle.proofs.GivenRows.{one_more, rows_end}
 use Rattle.pricing_oracle.proofs.GivenSteps.{length-steps}
@@ -27,19 +27,19 @@ use Rattle.pricing_oracle.proofs.WholeProgram.{is_written}
 use Rattle.rounds.specs.Parts.{costs_steps, units_given, with_units}
 
 -- ---- rows that begin with steps
-first_stops : (old : List Fraction) (steps : Result (List Fraction) Misfit) (w : Misfit) → added old steps ≡ Err w → steps ≡ Err w
+first_stops : (old : List Fraction) (steps : Result (List Fraction) Misfit) (w : Misfit) → list_then old steps ≡ Err w → steps ≡ Err w
 first_stops old (Ok xs) w h = cc
 first_stops old (Err v) w h = h
 
-first_there : (old mid : List Fraction) (steps : Result (List Fraction) Misfit) → old ≡ [] → added old steps ≡ Ok mid → steps ≡ Ok mid
-first_there old mid steps none h = is_written steps mid (ap (λ (xs : List Fraction). added xs steps) (sym none) ∙ h)
+first_there : (old mid : List Fraction) (steps : Result (List Fraction) Misfit) → old ≡ [] → list_then old steps ≡ Ok mid → steps ≡ Ok mid
+first_there old mid steps none h = is_written steps mid (ap (λ (xs : List Fraction). list_then xs steps) (sym none) ∙ h)
 
 -- ---- the costs
-pub costs_written : (limit : ℕ) (orders : List Order) (old mid new : List Fraction) → old ≡ [] → added old (map_steps (cost_steps limit) orders) ≡ Ok mid → new ≡ mid ++ (whole (negsuc 0) ∷ []) → costs_steps limit orders ≡ Ok new
+pub costs_written : (limit : ℕ) (orders : List Order) (old mid new : List Fraction) → old ≡ [] → list_then old (map_steps (cost_steps limit) orders) ≡ Ok mid → new ≡ mid ++ (whole (negsuc 0) ∷ []) → costs_steps limit orders ≡ Ok new
 costs_written limit orders old mid new none h is =
     ap (λ r. after r (λ costs. Ok (costs ++ (whole (negsuc 0) ∷ [])))) (first_there old mid (map_steps (cost_steps limit) orders) none h) ∙ ap (λ (l : List Fraction). Ok l) (sym is)
 
-pub costs_stop : (limit : ℕ) (orders : List Order) (old : List Fraction) (w : Misfit) → added old (map_steps (cost_steps limit) orders) ≡ Err w → costs_steps limit orders ≡ Err w
+pub costs_stop : (limit : ℕ) (orders : List Order) (old : List Fraction) (w : Misfit) → list_then old (map_steps (cost_steps limit) orders) ≡ Err w → costs_steps limit orders ≡ Err w
 costs_stop limit orders old w h = ap (λ r. after r (λ costs. Ok (costs ++ (whole (negsuc 0) ∷ [])))) (first_stops old (map_steps (cost_steps limit) orders) w h)
 
 pub costs_width : (limit : ℕ) (orders : List Order) (row : List Fraction) → costs_steps limit orders ≡ Ok row → length row ≡ length orders + 1
@@ -52,7 +52,7 @@ costs_width limit orders row h = go (map_steps (cost_steps limit) orders) refl h
     go (Err w) is h = cc
 
 -- ---- the row of a state
-pub row_there : (payoff_limit limit : ℕ) (orders : List Order) (z : List ℕ) (old mid new : List Fraction) (t : Fraction) → old ≡ [] → added old (map_steps (entry_steps payoff_limit limit z) orders) ≡ Ok mid
+pub row_there : (payoff_limit limit : ℕ) (orders : List Order) (z : List ℕ) (old mid new : List Fraction) (t : Fraction) → old ≡ [] → list_then old (map_steps (entry_steps payoff_limit limit z) orders) ≡ Ok mid
     → whole_of limit (pos (scale_of z)) ≡ Ok t → new ≡ mid ++ (negated t ∷ []) → row_steps payoff_limit limit orders z ≡ Ok new
 unfolding row_steps
 row_there payoff_limit limit orders z old mid new t none h t_is is =
@@ -61,13 +61,13 @@ row_there payoff_limit limit orders z old mid new t none h t_is is =
     ∙ ap (λ r. after r (λ t. Ok (mid ++ (negated t ∷ [])))) t_is
     ∙ ap (λ (l : List Fraction). Ok l) (sym is)
 
-pub entries_stop : (payoff_limit limit : ℕ) (orders : List Order) (z : List ℕ) (old : List Fraction) (w : Misfit) → added old (map_steps (entry_steps payoff_limit limit z) orders) ≡ Err w → row_steps payoff_limit limit orders z ≡ Err w
+pub entries_stop : (payoff_limit limit : ℕ) (orders : List Order) (z : List ℕ) (old : List Fraction) (w : Misfit) → list_then old (map_steps (entry_steps payoff_limit limit z) orders) ≡ Err w → row_steps payoff_limit limit orders z ≡ Err w
 unfolding row_steps
 entries_stop payoff_limit limit orders z old w h =
     let scale = whole_of limit (pos (scale_of z)) in
     ap (λ r. after r (λ entries. after scale (λ t. Ok (entries ++ (negated t ∷ []))))) (first_stops old (map_steps (entry_steps payoff_limit limit z) orders) w h)
 
-pub slack_stops : (payoff_limit limit : ℕ) (orders : List Order) (z : List ℕ) (old mid : List Fraction) (w : Misfit) → old ≡ [] → added old (map_steps (entry_steps payoff_limit limit z) orders) ≡ Ok mid
+pub slack_stops : (payoff_limit limit : ℕ) (orders : List Order) (z : List ℕ) (old mid : List Fraction) (w : Misfit) → old ≡ [] → list_then old (map_steps (entry_steps payoff_limit limit z) orders) ≡ Ok mid
     → whole_of limit (pos (scale_of z)) ≡ Err w → row_steps payoff_limit limit orders z ≡ Err w
 unfolding row_steps
 slack_stops payoff_limit limit orders z old mid w none h t_is =

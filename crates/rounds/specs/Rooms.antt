@@ -69,9 +69,9 @@ pub record IsRoundsRoom {A : Type 0} (batch : Batch) (units : ℕ) (states : Lis
   pub state_room : states_within batch.underlyings units ≤ room_for + 1
   pub few : states_within batch.underlyings units ≤ MAX_STATES
   pub solve_room : IsSolveRoom (length batch.orders) (states_within batch.underlyings units) solve
-  pub underlyings : search.underlyings ≡ batch.underlyings
-  pub legs : search.legs ≡ leg_count batch.orders
-  pub unit_count : search.units ≡ units
+  pub underlyings : batch.underlyings ≤ search.underlyings
+  pub legs : leg_count batch.orders ≤ search.legs
+  pub unit_count : units ≤ search.units
 
 abbrev pub IsRoomBy : {A : Type 0} → Batch → ℕ → List State → ℕ → SolveRoom A → Option SearchSpace → Type 0
 IsRoomBy batch units states room_for solve None = IsLineRoom batch states solve

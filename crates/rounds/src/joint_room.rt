@@ -1,7 +1,8 @@
 //! What a joint solve works in.
-ghost use Rattle.std.specs.Prelude.{ℕ, ◌≡◌, ◌≤◌, ◌<◌, ◌+◌, IfOk, map, vec_capacity, vec_len};
+ghost use Rattle.std.specs.Prelude.{ℕ, ◌≡◌, ◌≤◌, ◌<◌, ◌+◌, IfOk, OnOk, map, vec_capacity, vec_len};
 ghost use Rattle.std.specs.List.{All};
 ghost use Rattle.form.specs.Limits.{IsWithinLimits};
+ghost use Rattle.sign_tree.specs.Legs.{leg_count};
 ghost use Rattle.rounds.specs.Rooms.{IsJointRoom};
 
 use crate::first_states::write_axis_rays;
@@ -10,13 +11,15 @@ use exact_num::Exact;
 use form::{Batch, State};
 use line_cover::breakpoints;
 use pricing_oracle::SearchRoom;
+use pricing_oracle::filling::make_room;
 use sign_tree::leg_count;
 use std::alloc::{AllocError, Global};
 
 /// The most units of a joint solve in given room.
 pub const MAX_UNITS: u32 = 199_000;
 
-/// What the joint solve of a batch with so many units works in. Only `new` takes memory.
+/// What the joint solve of a batch with so many units works in. Only `new` and `renew` take memory. What a solve finds takes its
+/// lists out of the room, which is then room for no batch until `renew`.
 #[derive(Drop)]
 pub struct JointRoom<N: Exact> {
     // the states of the line, or those of the rounds so far
@@ -66,6 +69,68 @@ fn rounds_room<N: Exact>(
     })
 }
 
+// Makes it room for a batch on one underlying.
+fn renew_line<N: Exact>(
+    room: &mut JointRoom<N>,
+    alloc: Global,
+    batch: &Batch,
+) -> Result<(), AllocError>
+    requires limits { IsWithinLimits batch.now }
+    requires one { batch.now.underlyings ≡ 1 }
+    ensures { (units : ℕ) → OnOk result (IsJointRoom batch.now units room.new) }
+{
+    let states = breakpoints(alloc, batch)?;
+    let orders = batch.orders.as_slice().len();
+    room.solve.renew(alloc, orders, states.len())?;
+    room.states = states;
+    room.search = None;
+    Ok(())
+}
+
+// Room for searches, that which is given where it is large enough.
+fn search_room<N: Exact>(
+    alloc: Global,
+    given: Option<SearchRoom<N>>,
+    batch: &Batch,
+    units: u32,
+) -> Result<SearchRoom<N>, AllocError>
+    requires limits { IsWithinLimits batch.now }
+    ensures { IfOk result (λ search. (batch.now.underlyings ≤ search.underlyings)
+        × (leg_count batch.now.orders ≤ search.legs) × (units ≤ search.units)) }
+{
+    let underlyings = usize::from(batch.underlyings);
+    let legs = leg_count(batch.orders.as_slice());
+    match given {
+        Some(mut search) => {
+            search.renew(alloc, underlyings, legs, units)?;
+            Ok(search)
+        }
+        None => SearchRoom::new(alloc, underlyings, legs, units),
+    }
+}
+
+// Makes it room for a batch on several underlyings.
+fn renew_rounds<N: Exact>(
+    room: &mut JointRoom<N>,
+    alloc: Global,
+    batch: &Batch,
+    units: u32,
+) -> Result<(), AllocError>
+    requires limits { IsWithinLimits batch.now }
+    requires several { 1 < batch.now.underlyings }
+    requires units { units ≤ MAX_UNITS }
+    ensures { OnOk result (IsJointRoom batch.now units room.new) }
+{
+    let later = usize::from(batch.underlyings) + units as usize / 2;
+    make_room(&mut room.states, later)?;
+    write_axis_rays(&mut room.states, batch.underlyings);
+    let orders = batch.orders.as_slice().len();
+    room.solve.renew(alloc, orders, 1 + later)?;
+    let search = search_room(alloc, room.search.take(), batch, units)?;
+    room.search = Some(search);
+    Ok(())
+}
+
 impl<N: Exact> JointRoom<N> {
     /// Room for the joint solve of the batch with at most so many units. The error is want of memory.
     pub fn new(alloc: Global, batch: &Batch, units: u32) -> Result<JointRoom<N>, AllocError>
@@ -77,6 +142,20 @@ impl<N: Exact> JointRoom<N> {
             line_room(alloc, batch)
         } else {
             rounds_room(alloc, batch, units)
+        }
+    }
+
+    /// Makes it room for the joint solve of this batch with at most so many units: its programs and rows stay where they are
+    /// large enough, and the lists that a solve takes out are taken anew. The error is want of memory.
+    pub fn renew(&mut self, alloc: Global, batch: &Batch, units: u32) -> Result<(), AllocError>
+        requires limits { IsWithinLimits batch.now }
+        requires units { units ≤ MAX_UNITS }
+        ensures { OnOk result (IsJointRoom batch.now units self.new) }
+    {
+        if batch.underlyings == 1 {
+            renew_line(self, alloc, batch)
+        } else {
+            renew_rounds(self, alloc, batch, units)
         }
     }
 }

@@ -1,5 +1,5 @@
 //! The sums of the verdict, which come last in a run.
-ghost use Rattle.std.specs.Prelude.{◌≡◌, ◌≤◌, IfOk, map, length, vec_capacity, vec_len};
+ghost use Rattle.std.specs.Prelude.{◌≡◌, ◌≤◌, IfOk, OnOk, map, length, vec_capacity, vec_len};
 ghost use Rattle.form.specs.Limits.{HasItsForms, IsWithinLimits};
 ghost use Rattle.form.specs.declared.limits.TheConstants.{MAX_ORDERS};
 ghost use Rattle.frac.specs.Value.{fraction_of};
@@ -18,11 +18,12 @@ use exact_num::{Exact, Wide};
 use form::Batch;
 use frac::Frac128;
 use measure::Measure;
+use pricing_oracle::filling::{make_room, take_list};
 use sign_tree::leg_count;
 use simplex::RunStop;
 use std::alloc::{AllocError, Global};
 
-/// What the sums of the verdict on a batch work in. Only `new` takes memory.
+/// What the sums of the verdict on a batch work in. Only `new` and `renew` take memory.
 #[derive(Drop)]
 pub struct SumsRoom {
     // the fills in 128 bits
@@ -42,6 +43,16 @@ impl SumsRoom {
             fills: Vec::with_capacity(alloc, orders.len())?,
             signs: vec![in alloc; 0_i8; leg_count(orders)]?,
         })
+    }
+
+    /// Makes it room for the sums of the verdict on what a run of this batch found. The error is want of memory.
+    pub fn renew(&mut self, batch: &Batch) -> Result<(), AllocError>
+        requires few { length batch.now.orders ≤ MAX_ORDERS }
+        ensures { OnOk result (IsSumsRoom batch.now self.new) }
+    {
+        let orders = batch.orders.as_slice();
+        make_room(&mut self.fills, orders.len())?;
+        self.signs.resize(leg_count(orders), 0)
     }
 }
 
@@ -110,24 +121,23 @@ fn claimed_by<N: Exact>(joint: &Joint<N>, mut fills: Vec<Frac128>) -> Claimed
 }
 
 /// The numbers of a solution in 128 bits, where each step of the tests on them fits.
-fn judged<N: Exact>(batch: &Batch, joint: &Joint<N>, room: SumsRoom) -> Result<Claimed, Wide>
+fn judged<N: Exact>(batch: &Batch, joint: &Joint<N>, room: &mut SumsRoom) -> Result<Claimed, Wide>
     requires forms { HasItsForms batch.now }
     requires joint { IsJointOf batch.now joint.now }
-    requires room { IsSumsRoom batch.now room }
+    requires room { IsSumsRoom batch.now room.old }
     ensures reading { IfOk result (λ wide. claimed_in (map fraction_of wide.fills.items) wide.claim
         joint.now.measure ≡ reading_in N.fraction joint.now) }
     ensures sums { ArePassed (sums_on batch.now (reading_in N.fraction joint.now)
         joint.now.cover) result }
 {
-    let SumsRoom { fills, mut signs } = room;
-    let wide = claimed_by(joint, fills);
+    let wide = claimed_by(joint, take_list(&mut room.fills));
     tests_hold(
         batch,
         &wide.fills,
         &wide.claim,
         &joint.cover,
         &joint.measure,
-        &mut signs,
+        &mut room.signs,
     )?;
     Ok(wide)
 }
@@ -137,11 +147,11 @@ pub(crate) fn certify<N: Exact>(
     batch: &Batch,
     joint: Joint<N>,
     unit: u32,
-    room: SumsRoom,
+    room: &mut SumsRoom,
 ) -> Result<Joint<N>, RunStop>
     requires forms { HasItsForms batch.now }
     requires joint { IsJointOf batch.now joint }
-    requires room { IsSumsRoom batch.now room }
+    requires room { IsSumsRoom batch.now room.old }
     ensures { IsJudgedAnswer N.fraction N.fraction batch.now joint (as_stopped result) unit }
 {
     match judged(batch, &joint, room) {
@@ -156,14 +166,14 @@ pub fn judge_in<N: Exact>(
     batch: &Batch,
     joint: Joint<N>,
     unit: u32,
-    room: SumsRoom,
+    mut room: SumsRoom,
 ) -> Result<Joint<Frac128>, RunStop>
     requires limits { IsWithinLimits batch.now }
     requires joint { IsJointOf batch.now joint }
     requires room { IsSumsRoom batch.now room }
     ensures { IsJudgedAnswer N.fraction fraction_of batch.now joint (as_stopped result) unit }
 {
-    match judged(batch, &joint, room) {
+    match judged(batch, &joint, &mut room) {
         Ok(wide) => Ok(Joint {
             fills: wide.fills,
             liability: wide.claim.liability,

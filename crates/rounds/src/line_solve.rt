@@ -19,10 +19,10 @@ pub(crate) fn solve_line<N: Exact>(
     batch: &Batch,
     budget: &mut Budget,
     states: &[State],
-    mut solve: SolveRoom<N>,
+    solve: &mut SolveRoom<N>,
 ) -> Result<Joint<N>, RunStop>
     requires limits { IsWithinLimits batch.now }
-    requires room { IsLineRoom batch.now states.now solve }
+    requires room { IsLineRoom batch.now states.now solve.old }
     ensures run { IsJointAnswer N.fraction (unjudged_run
         (limits_of (unsigned_abs N.LIMIT) budget.old.limit) batch.now.underlyings
         batch.now.orders budget.old.spent) (as_stopped result) budget.new.spent }
@@ -30,6 +30,6 @@ pub(crate) fn solve_line<N: Exact>(
     ensures limit { budget.new.limit ≡ budget.old.limit }
 {
     let (_first, later) = states.split_at(1);
-    let read = solve_over(batch, later, budget, &mut solve)?;
+    let read = solve_over(batch, later, budget, solve)?;
     Ok(covered(reading_in(solve, read), Cover::Line))
 }

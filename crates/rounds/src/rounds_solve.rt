@@ -52,20 +52,20 @@ fn close<N: Exact>(
 pub(crate) fn solve_rounds<N: Exact>(
     batch: &Batch,
     budget: &mut Budget,
-    mut states: Vec<State>,
-    mut solve: SolveRoom<N>,
-    mut search: SearchRoom<N>,
+    states: &mut Vec<State>,
+    solve: &mut SolveRoom<N>,
+    search: &mut SearchRoom<N>,
 ) -> Result<Joint<N>, RunStop>
     requires limits { IsWithinLimits batch.now }
-    requires room { IsRoundsRoom batch.now budget.old.limit states.items
-        (vec_capacity states) solve search }
+    requires room { IsRoundsRoom batch.now budget.old.limit states.old.items
+        (vec_capacity states.old) solve.old search.old }
     ensures run { IsJointAnswer N.fraction (unjudged_run
         (limits_of (unsigned_abs N.LIMIT) budget.old.limit) batch.now.underlyings
         batch.now.orders budget.old.spent) (as_stopped result) budget.new.spent }
     ensures joint { IfOk result (IsJointOf batch.now) }
     ensures limit { budget.new.limit ≡ budget.old.limit }
 {
-    let read = close(batch, budget, &mut states, &mut solve, &mut search)?;
+    let read = close(batch, budget, states, solve, search)?;
     let reading = reading_in(solve, read);
-    Ok(covered(reading, Cover::Tree(search.into_tree())))
+    Ok(covered(reading, Cover::Tree(search.take_tree())))
 }

@@ -1,5 +1,5 @@
 //! What the solves of master programs work in.
-ghost use Rattle.std.specs.Prelude.{◌≡◌, ◌≤◌, ◌+◌, IfOk};
+ghost use Rattle.std.specs.Prelude.{◌≡◌, ◌≤◌, ◌+◌, IfOk, OnOk};
 ghost use Rattle.form.specs.declared.limits.TheConstants.{MAX_ORDERS};
 ghost use Rattle.rounds.specs.declared.master.TheConstants.{MAX_STATES};
 ghost use Rattle.rounds.specs.Readings.{reading_as, reading_in_lists};
@@ -8,6 +8,7 @@ ghost use Rattle.rounds.specs.Rooms.{IsSolveRoom};
 use crate::reading::{Read, Reading};
 use exact_num::Exact;
 use measure::{Measure, Points, Weighted};
+use pricing_oracle::filling::{make_room, take_list};
 use simplex::Space;
 use std::alloc::{AllocError, Global};
 
@@ -39,19 +40,37 @@ impl<N: Exact> SolveRoom<N> {
             points: Vec::with_capacity(alloc, states)?,
         })
     }
+
+    /// Makes it room for master programs of at least so many orders and states, where it is not yet. The error is want of
+    /// memory.
+    pub(crate) fn renew(
+        &mut self,
+        alloc: Global,
+        orders: usize,
+        states: usize,
+    ) -> Result<(), AllocError>
+        requires orders { orders ≤ MAX_ORDERS }
+        requires states { (1 ≤ states) × (states ≤ MAX_STATES) }
+        ensures { OnOk result (IsSolveRoom orders states self.new) }
+    {
+        self.space.reserve(alloc, orders + states, orders + 1)?;
+        make_room(&mut self.row, orders + 1)?;
+        make_room(&mut self.fills, orders)?;
+        make_room(&mut self.points, states)
+    }
 }
 
-/// What was read off, with its lists.
-pub(crate) fn reading_in<N: Exact>(room: SolveRoom<N>, read: Read<N>) -> Reading<N>
+/// What was read off, with its lists, which are taken out of the room.
+pub(crate) fn reading_in<N: Exact>(room: &mut SolveRoom<N>, read: Read<N>) -> Reading<N>
     ensures { reading_as N.fraction result
-        ≡ reading_in_lists N.fraction room.fills.items room.points.items read }
+        ≡ reading_in_lists N.fraction room.old.fills.items room.old.points.items read }
 {
     Reading {
-        fills: room.fills,
+        fills: take_list(&mut room.fills),
         liability: read.liability,
         surplus: read.surplus,
         measure: Measure {
-            points: Points::from_vec(room.points),
+            points: Points::from_vec(take_list(&mut room.points)),
         },
     }
 }

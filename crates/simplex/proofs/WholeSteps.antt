@@ -23,7 +23,7 @@ use Rattle.exact_num.specs.Fraction.{Fraction}
 use Rattle.table_run.specs.Units.{units_of}
 use Rattle.whole_solver.proofs.Turned.{line_wider}
 use Rattle.simplex.specs.Spaces.{IsBeingGiven, answer_of, contents_after, whole_optimum_in}
-use Rattle.simplex.specs.Attempts.{IsStageOf, IsStopOf}
+use Rattle.simplex.specs.Attempts.{IsStageOf, EndsInStop}
 use Rattle.simplex.specs.WholeEnds.{IsWholeEnd}
 use Rattle.simplex.specs.declared.whole_run.WholeEnd.TheVariants.{Optimal as WholeOptimum, Unbounded as WholeRay, NoUnit}
 use Rattle.simplex.specs.declared.stage.Stage.TheVariants.{WholeOptimal, WholeUnbounded}
@@ -135,7 +135,7 @@ module _ {A : Type 0} (value : A → Fraction) (limit b left spent after : ℕ) 
       }
 
   pub whole_no_unit : IsWholeEnd b (program_in value t).variables (program_in value t).rows NoUnit after w2 (compact_run_from b (program_in value t).variables (program_in value t).rows left spent (as_whole w1))
-      → IsStopOf (run limit (program_in value t) left spent) RunBudget after
+      → EndsInStop (run limit (program_in value t) left spent) RunBudget after
   whole_no_unit h =
       let e : no_unit_left after ≡ run limit (program_in value t) left spent = sym (is_run _ h) in
       record { answer = ap answer_of e; contents = ap contents_after e; units = ap units_of e }

@@ -28,14 +28,14 @@ pub record IsStageOf {A : Type 0} (value : A → Fraction) (limit : ℕ) (run : 
   pub units : spent ≡ units_of run
   pub there : IsAt value limit stage t w
 
-pub record IsStopOf (run : Ending Optimum) (stop : RunStop) (spent : ℕ) : Type 0 where
+pub record EndsInStop (run : Ending Optimum) (stop : RunStop) (spent : ℕ) : Type 0 where
   pub answer : Err stop ≡ answer_of run
   pub contents : stopped ≡ contents_after run
   pub units : spent ≡ units_of run
 
 abbrev pub IsEndOf : {A : Type 0} → (A → Fraction) → ℕ → Ending Optimum → Result Stage RunStop → ℕ → Table A → WholeTable → Type 0
 IsEndOf value limit run (Ok stage) spent t w = IsStageOf value limit run stage spent t w
-IsEndOf value limit run (Err stop) spent t w = IsStopOf run stop spent
+IsEndOf value limit run (Err stop) spent t w = EndsInStop run stop spent
 
 -- the same, where it was not given up
 abbrev pub IsTried : {A : Type 0} → (A → Fraction) → ℕ → Ending Optimum → Option (Result Stage RunStop) → ℕ → Table A → WholeTable → Type 0

@@ -1,5 +1,5 @@
 //! Room for the runs of programs, taken once.
-ghost use Rattle.std.specs.Prelude.{◌≡◌, ◌-◌, ◌<◌, ◌≤◌, Err, IfOk, length, map, unsigned_abs};
+ghost use Rattle.std.specs.Prelude.{◌≡◌, ◌-◌, ◌<◌, ◌≤◌, Err, IfOk, OnOk, length, map, unsigned_abs};
 ghost use Rattle.table_run.specs.Choose.{bases_of};
 ghost use Rattle.table_run.specs.Optimum.{IsAsSaid};
 ghost use Rattle.exact_num.specs.Fraction.{IsNotBelowZero};
@@ -18,8 +18,8 @@ use std::alloc::{AllocError, Global};
 use std::marker::Model;
 use whole_solver::WholeTable;
 
-/// Room for the runs of programs of so many rows and variables, one after another. Only `new` takes
-/// memory.
+/// Room for the runs of programs of so many rows and variables, one after another. Only `new` and
+/// `reserve` take memory.
 ///
 /// A program is given by its costs and then its rows, and run; its optimum is then read off.
 #[derive(Drop)]
@@ -76,6 +76,19 @@ impl<N: Exact> Space<N> {
             table,
             whole,
         })
+    }
+
+    /// Makes it room for programs of at least so many rows and columns: it is kept where it is large
+    /// enough, and a new one is taken else. The error is want of memory.
+    pub fn reserve(&mut self, alloc: Global, rows: usize, columns: usize) -> Result<(), AllocError>
+        requires rows { (1 ≤ rows) × (rows ≤ 100000) }
+        requires columns { (1 ≤ columns) × (columns ≤ 100000) }
+        ensures sizes { OnOk result ((rows ≤ self.new.rows) × (columns ≤ self.new.columns)) }
+    {
+        if self.rows < rows || self.columns < columns {
+            *self = Space::new(alloc, rows, columns)?;
+        }
+        Ok(())
     }
 
     /// Starts a program: these costs, and no row. What stood there before is gone.

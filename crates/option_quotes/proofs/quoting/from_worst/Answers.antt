@@ -1,7 +1,7 @@
 use Rattle.std.proofs.Common.{rules, ◌≡◌, ◌≤◌, true, false, sym, subst}
 use Rattle.std.proofs.lemmas.Result.{IfOk-weaker}
 use Rattle.form.specs.declared.limits.TheConstants.{MAX_PRICE}
-use Rattle.option_quotes.specs.Probes.{is_optimal, is_raised, probed}
+use Rattle.option_quotes.specs.Probes.{is_optimal, is_raised, probe_outcome}
 use Rattle.option_quotes.specs.Quotes.{unmarked_of}
 use Rattle.option_quotes.proofs.Raising.{quote_worst}
 use Rattle.option_quotes.proofs.Answered.{worst_does_not, worst_fits}
@@ -25,6 +25,6 @@ returns-clause-unmarked c =
     let optimal : is_optimal outcome ≡ true = search rules in
     let not_raised : is_raised c.args.base outcome ≡ false = search rules in
     IfOk-weaker c.between.result _ _
-    (λ quoted. worst_does_not (probed c.args.batch.now order c.args.limit) c.args.base order.side c.args.best.price c.worst_price-price.result outcome (unmarked_of quoted)
+    (λ quoted. worst_does_not (probe_outcome c.args.batch.now order c.args.limit) c.args.base order.side c.args.best.price c.worst_price-price.result outcome (unmarked_of quoted)
     c.requires.price c.worst_price-price.ensures c.in_ok-outcome.ensures optimal not_raised)
     c.between.ensures.unmarked

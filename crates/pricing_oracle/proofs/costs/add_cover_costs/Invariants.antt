@@ -4,7 +4,7 @@ use Rattle.master_program.specs.Master.{map_steps}
 use Rattle.sign_tree.specs.Left.{IsAtLeg}
 use Rattle.sign_tree.specs.Read.{sign_of}
 use Rattle.node_program.specs.Steps.{cover_cost_steps}
-use Rattle.pricing_oracle.specs.Built.{added}
+use Rattle.pricing_oracle.specs.Built.{list_then}
 use Rattle.pricing_oracle.specs.Nodes.{covering_of, in_roles, legs_asked, roles_left}
 use Rattle.pricing_oracle.proofs.costs.add_cover_costs.Given as goal
 
@@ -14,8 +14,8 @@ invariant-loop-leg g l =
     let value = g.N.Exact.fraction in
     let f = cover_cost_steps (unsigned_abs g.N.Exact.LIMIT) in
     record {
-      added : added (map value l.fn.row.items) (map_steps f (covering_of (in_roles (legs_asked value l.asked) (map sign_of l.signs))))
-          ≡ added (map value l.row.items) (map_steps f (covering_of (roles_left value l.left)));
+      added : list_then (map value l.fn.row.items) (map_steps f (covering_of (in_roles (legs_asked value l.asked) (map sign_of l.signs))))
+          ≡ list_then (map value l.row.items) (map_steps f (covering_of (roles_left value l.left)));
       at : IsAtLeg l.left.legs;
       left : vec_len l.row + length (roles_left value l.left) ≤ vec_capacity l.row;
       room : vec_capacity l.fn.row ≤ vec_capacity l.row;

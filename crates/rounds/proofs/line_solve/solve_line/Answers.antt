@@ -27,7 +27,7 @@ solve_over-requires-clause-few_states g c = omega (arith, ap length c.split_at.e
 pub solve_over-requires-clause-room : goal.solve_over-requires-clause-room
 solve_over-requires-clause-room g c =
     let some = ap length c.requires.room.are in
-    fewer_states (length c.args.batch.now.orders) (length c.args.states.now) (length c.split_at.result.1.now + 1) c.args.solve
+    fewer_states (length c.args.batch.now.orders) (length c.args.states.now) (length c.split_at.result.1.now + 1) c.args.solve.now
     (omega (arith, ap length c.split_at.ensures.back, length-drop 1 c.args.states.now, some, length-map c.args.states.now vector_of)) c.requires.room.solve_room
 
 pub returns-in_err-read-clause-run : goal.returns-in_err-read-clause-run

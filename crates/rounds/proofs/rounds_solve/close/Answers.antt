@@ -100,9 +100,9 @@ loop-round-preserved g c =
       limit = c.round.ensures.limit ∙ l.invariant.limit;
       state_room = omega (arith, l.invariant.state_room, c.push_within.ensures.capacity);
       solve = kept_room (length orders) (states_within n budget.limit) l.room c.round.new.room c.round.ensures.room l.invariant.solve;
-      underlyings = c.round.ensures.search.0 ∙ l.invariant.underlyings;
-      legs = c.round.ensures.search.1 ∙ l.invariant.legs;
-      units = c.round.ensures.search.2 ∙ l.invariant.units;
+      underlyings = omega (arith, c.round.ensures.search.0, l.invariant.underlyings);
+      legs = omega (arith, c.round.ensures.search.1, l.invariant.legs);
+      units = omega (arith, c.round.ensures.search.2, l.invariant.units);
     }
 
 pub returns-in_err-read-clause-run : goal.returns-in_err-read-clause-run

@@ -19,7 +19,7 @@ invariant-loop-round g l = record {
   limit : l.budget.limit ≡ l.fn.budget.limit;
   state_room : states_within l.batch.underlyings l.fn.budget.limit ≤ vec_capacity l.states + 1;
   solve : IsSolveRoom (length l.batch.orders) (states_within l.batch.underlyings l.fn.budget.limit) l.room;
-  underlyings : l.search.underlyings ≡ l.batch.underlyings;
-  legs : l.search.legs ≡ leg_count l.batch.orders;
-  units : l.search.units ≡ l.fn.budget.limit;
+  underlyings : l.batch.underlyings ≤ l.search.underlyings;
+  legs : leg_count l.batch.orders ≤ l.search.legs;
+  units : l.fn.budget.limit ≤ l.search.units;
 }

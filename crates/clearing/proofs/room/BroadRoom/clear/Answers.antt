@@ -1,5 +1,5 @@
 use Rattle.clearing.proofs.Cleared.{cleared}
-use Rattle.clearing.proofs.clearing.clear_broad_in.Goals as goal
+use Rattle.clearing.proofs.room.BroadRoom.clear.Goals as goal
 
 pub returns : goal.returns
 returns c =

@@ -5,7 +5,7 @@ use Rattle.simplex.specs.Stops.{stop_of}
 use Rattle.rounds.specs.Answers.{as_stopped, limits_of}
 use Rattle.rounds.proofs.Certified.{judged_after, stops_before, then_sums}
 use Rattle.rounds.proofs.JointRuns.{answer_is_greatest, answer_passes}
-use Rattle.rounds.proofs.solving.solve_joint_in.Goals as goal
+use Rattle.rounds.proofs.joint_room.JointRoom.solve.Goals as goal
 
 pub returns-in_err-joint-clause-run : goal.returns-in_err-joint-clause-run
 returns-in_err-joint-clause-run g c =
@@ -14,14 +14,14 @@ returns-in_err-joint-clause-run g c =
     let limits = limits_of (unsigned_abs g.N.Exact.LIMIT) c.args.budget.now.limit in
     let batch = c.args.batch.now in
     rw (q.1, q.2)
-    (stops_before value value _ _ _ (stop_of c.in_err-joint.field-0.0) c.solve_unjudged_in.new.budget.spent (then_sums limits batch.underlyings batch.orders c.args.budget.now.spent) c.in_err-joint.ensures.run)
+    (stops_before value value _ _ _ (stop_of c.in_err-joint.field-0.0) c.solve_unjudged.new.budget.spent (then_sums limits batch.underlyings batch.orders c.args.budget.now.spent) c.in_err-joint.ensures.run)
 
 pub returns-clause-run : goal.returns-clause-run
 returns-clause-run g c =
     let value = g.N.Exact.fraction in
     let limits = limits_of (unsigned_abs g.N.Exact.LIMIT) c.args.budget.now.limit in
     let batch = c.args.batch.now in
-    judged_after value value batch _ _ c.in_ok-joint.joint (as_stopped c.certify.result) c.solve_unjudged_in.new.budget.spent (then_sums limits batch.underlyings batch.orders c.args.budget.now.spent)
+    judged_after value value batch _ _ c.in_ok-joint.joint (as_stopped c.certify.result) c.solve_unjudged.new.budget.spent (then_sums limits batch.underlyings batch.orders c.args.budget.now.spent)
     c.in_ok-joint.ensures.run c.certify.ensures
 
 pub returns-clause-greatest : goal.returns-clause-greatest
