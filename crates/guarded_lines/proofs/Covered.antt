@@ -24,8 +24,8 @@ use Rattle.margin_text.specs.declared.needs.Need.{Need}
 use Rattle.margin_text.specs.declared.needs.Need.TheVariants as need
 use Rattle.portfolio_margin.specs.declared.needs.Needed.{Needed}
 use Rattle.portfolio_margin.specs.declared.needs.Needed.TheVariants.{Amount, Unbounded, Wide, Budget, Sum}
-use Rattle.portfolio_margin.specs.Laws.{AreAsksCovered, IsCovered, MayBeAsked, Settled, gain_in}
-use Rattle.portfolio_margin.specs.Need.{Ask, ask_word, first_ask_word, or_word, sum_asked}
+use Rattle.portfolio_margin.specs.Laws.{AreDemandsCovered, IsCovered, MayBeAsked, Settled, gain_in}
+use Rattle.portfolio_margin.specs.Need.{Demand, demand_word, first_demand_word, or_word, demand_sum}
 use Rattle.portfolio_margin.specs.Owed.{Covers}
 use Rattle.portfolio_margin.specs.Run.{Margin, least, endless}
 use Rattle.portfolio_margin.proofs.LeastMargins.{margins_are_least}
@@ -36,30 +36,26 @@ use Rattle.guarded_lines.specs.declared.replies.GuardedReply.{GuardedReply}
 use Rattle.guarded_lines.specs.declared.replies.GuardedReply.TheVariants as reply
 use Rattle.guarded_lines.specs.Laws.{WithdrawalsAreCovered}
 use Rattle.guarded_lines.specs.Margins.{are_many, held_by, run_in, underlyings_in}
-use Rattle.guarded_lines.specs.Needs.{ask_in, asks_in, liability_in, liability_of, margin_budget, need_as, need_in}
+use Rattle.guarded_lines.specs.Needs.{demand_in, demands_in, liability_in, liability_of, margin_budget, need_as, need_in}
 use Rattle.guarded_lines.specs.Settlements.{after_settling}
 use Rattle.guarded_lines.specs.Withdrawals.{covers, left_in}
 use Rattle.guarded_lines.proofs.HeldPositions.{held_are_held, underlyings_few}
 use Rattle.guarded_lines.proofs.Rising.{markets_rise}
 use Rattle.guarded_lines.proofs.Settled.{balance_after, gain_of_market}
 
--- ---- no market asks by an amount
+-- ---- no market demands by an amount
 abbrev IsWord : Need → Type 0
 IsWord (need.Amount amount) = ⊥
 IsWord word = Unit {0}
 
-AsksByWord : Result Fraction Need → Type 0
-AsksByWord (Ok L) = Unit {0}
-AsksByWord (Err word) = IsWord word
-
-ends_by_word : (ending : Ending Margin) → IfSome (ask_word (liability_of ending)) IsWord
+ends_by_word : (ending : Ending Margin) → IfSome (demand_word (liability_of ending)) IsWord
 ends_by_word (done (least L at tree) units) = tt
 ends_by_word (done (endless ray) units) = tt
 ends_by_word (unbounded direction units) = tt
 ends_by_word (wide_at units wide) = tt
 ends_by_word (no_unit_left units) = tt
 
-market_by_word : (many : Bool) (ending : Ending Margin) → IfSome (ask_word (if many then Err need.Positions else liability_of ending)) IsWord
+market_by_word : (many : Bool) (ending : Ending Margin) → IfSome (demand_word (if many then Err need.Positions else liability_of ending)) IsWord
 market_by_word true ending = tt
 market_by_word false ending = ends_by_word ending
 
@@ -67,13 +63,13 @@ either_by_word : (a b : Option Need) → IfSome a IsWord → IfSome b IsWord →
 either_by_word (Some word) b here later = here
 either_by_word None b here later = later
 
-all_by_word : (state : ExchangeState) (account : ℕ) (markets : List ℕ) → IfSome (first_ask_word (map (ask_in state account) markets)) IsWord
+all_by_word : (state : ExchangeState) (account : ℕ) (markets : List ℕ) → IfSome (first_demand_word (map (demand_in state account) markets)) IsWord
 all_by_word state account [] = tt
 all_by_word state account (m ∷ markets) =
-    either_by_word (ask_word (liability_in state account m)) (first_ask_word (map (ask_in state account) markets))
+    either_by_word (demand_word (liability_in state account m)) (first_demand_word (map (demand_in state account) markets))
     (market_by_word (are_many state account m) (run_in state account m margin_budget)) (all_by_word state account markets)
 
--- so where an amount is needed, each asks by a liability, and it is their sum
+-- so where an amount is needed, each demands a liability, and it is their sum
 sum_is : (needed : Needed) (amount : ℕ) → need_as needed ≡ need.Amount amount → needed ≡ Amount amount
 sum_is (Amount n) amount h = cc
 sum_is Unbounded amount h = cc
@@ -84,13 +80,13 @@ sum_is Sum amount h = cc
 not_word : (word : Need) (amount : ℕ) → IsWord word → word ≡ need.Amount amount → ⊥
 not_word word amount is h = subst IsWord h is
 
-amount_is_sum : (asks : List (Ask Need)) (amount : ℕ) → IfSome (first_ask_word asks) IsWord → unwrap_or (first_ask_word asks) (need_as (sum_asked asks)) ≡ need.Amount amount
-    → (first_ask_word asks ≡ None) × (sum_asked asks ≡ Amount amount)
-amount_is_sum asks amount words h = by (first_ask_word asks) refl words h
+amount_is_sum : (demands : List (Demand Need)) (amount : ℕ) → IfSome (first_demand_word demands) IsWord → unwrap_or (first_demand_word demands) (need_as (demand_sum demands)) ≡ need.Amount amount
+    → (first_demand_word demands ≡ None) × (demand_sum demands ≡ Amount amount)
+amount_is_sum demands amount words h = by (first_demand_word demands) refl words h
   where
-    by : (w : Option Need) → first_ask_word asks ≡ w → IfSome w IsWord → unwrap_or w (need_as (sum_asked asks)) ≡ need.Amount amount
-        → (first_ask_word asks ≡ None) × (sum_asked asks ≡ Amount amount)
-    by None e words h = (e, sum_is (sum_asked asks) amount h)
+    by : (w : Option Need) → first_demand_word demands ≡ w → IfSome w IsWord → unwrap_or w (need_as (demand_sum demands)) ≡ need.Amount amount
+        → (first_demand_word demands ≡ None) × (demand_sum demands ≡ Amount amount)
+    by None e words h = (e, sum_is (demand_sum demands) amount h)
     by (Some word) e words h = absurd (not_word word amount words h)
 
 -- ---- each liability covers the positions of its market
@@ -104,9 +100,9 @@ module _ (state : ExchangeState) (account : ℕ) (kept : IsKept state) (prices :
       let n = underlyings_few state market kept in
       record { some = n.0; few = n.1; not_below_zero = fills_low (held_by state account market) (held_are_held state account market kept) }
 
-  -- what holds of what a market asks
+  -- what holds of what a market demands
   abbrev Holds : ℕ → Result Fraction Need → Type 0
-  Holds market asked = AreDefined ((asked, length (held_by state account market)) ∷ []) × IsCovered asked (record { positions = held_by state account market; prices = prices market })
+  Holds market liability = AreDefined ((liability, length (held_by state account market)) ∷ []) × IsCovered liability (record { positions = held_by state account market; prices = prices market })
 
   ending_holds : (market : ℕ) (ending : Ending Margin) → run_in state account market margin_budget ≡ ending → Holds market (liability_of ending)
   ending_holds market (done (least L at tree) units) is =
@@ -122,25 +118,25 @@ module _ (state : ExchangeState) (account : ℕ) (kept : IsKept state) (prices :
   market_holds market true = (tt, tt)
   market_holds market false = ending_holds market (run_in state account market margin_budget) refl
 
-  defined_more : (asked : Result Fraction Need) (count : ℕ) (asks : List (Ask Need)) → AreDefined ((asked, count) ∷ []) → AreDefined asks → AreDefined ((asked, count) ∷ asks)
-  defined_more (Ok L) count asks here later = (here.0, later)
-  defined_more (Err word) count asks here later = later
+  defined_more : (liability : Result Fraction Need) (count : ℕ) (demands : List (Demand Need)) → AreDefined ((liability, count) ∷ []) → AreDefined demands → AreDefined ((liability, count) ∷ demands)
+  defined_more (Ok L) count demands here later = (here.0, later)
+  defined_more (Err word) count demands here later = later
 
-  all_defined : (markets : List ℕ) → AreDefined (map (ask_in state account) markets)
+  all_defined : (markets : List ℕ) → AreDefined (map (demand_in state account) markets)
   all_defined [] = tt
   all_defined (m ∷ markets) =
-      defined_more (liability_in state account m) (length (held_by state account m)) (map (ask_in state account) markets)
+      defined_more (liability_in state account m) (length (held_by state account m)) (map (demand_in state account) markets)
       (market_holds m (are_many state account m)).0 (all_defined markets)
 
-  all_covered : (markets : List ℕ) → AreAsksCovered (map (ask_in state account) markets) (map settled_in markets)
+  all_covered : (markets : List ℕ) → AreDemandsCovered (map (demand_in state account) markets) (map settled_in markets)
   all_covered [] = tt
   all_covered (m ∷ markets) = (refl, (market_holds m (are_many state account m)).1, all_covered markets)
 
   -- the positions lose at most the amount that is needed
-  gains_of : (markets : List ℕ) (amount : ℕ) → first_ask_word (map (ask_in state account) markets) ≡ None → sum_asked (map (ask_in state account) markets) ≡ Amount amount
+  gains_of : (markets : List ℕ) (amount : ℕ) → first_demand_word (map (demand_in state account) markets) ≡ None → demand_sum (map (demand_in state account) markets) ≡ Amount amount
       → neg_ℤ (pos amount) ≤ℤ total gain_in (map settled_in markets)
   gains_of markets amount none sum =
-      sums_cover (map (ask_in state account) markets) (map settled_in markets) amount none sum (all_defined markets) (all_covered markets)
+      sums_cover (map (demand_in state account) markets) (map settled_in markets) amount none sum (all_defined markets) (all_covered markets)
 
   gains_same : (some : 1 ≤ account) (markets : List ℕ) → total gain_in (map settled_in markets) ≡ total (gain_of_market account some prices state) markets
   gains_same some markets = total-map gain_in settled_in markets
@@ -189,7 +185,7 @@ withdrawals_are_covered state account amount balance prices kept some h fit =
     let markets = markets_of account state.positions in
     let answer = accepted state account amount balance (refusal_of state (Withdraw account amount)) (covers (need_in state account) (left_in state account amount)) h in
     let n = covered_amount (need_in state account) (left_in state account amount) answer.0 in
-    let sums = amount_is_sum (asks_in state account) n.0 (all_by_word state account markets) n.1 in
+    let sums = amount_is_sum (demands_in state account) n.0 (all_by_word state account markets) n.1 in
     let next = (withdraw_effect state account amount).1 in
     let gains = total (gain_of_market account some prices state) markets in
     let lost : neg_ℤ (pos n.0) ≤ℤ gains =

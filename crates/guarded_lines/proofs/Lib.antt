@@ -2,7 +2,7 @@ pub mod AsRun
 pub mod ToldMargins
 pub mod MarginReplies
 pub mod HeldPositions
-pub mod AskSums
+pub mod DemandSums
 pub mod Leaving
 pub mod Rising
 pub mod Settled

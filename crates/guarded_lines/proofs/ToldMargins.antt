@@ -13,10 +13,10 @@ use Rattle.margin_text.specs.declared.needs.Need.TheVariants as need
 use Rattle.portfolio_margin.specs.declared.least_margin.LeastMargin.{LeastMargin}
 use Rattle.portfolio_margin.specs.declared.least_margin.LeastMargin.TheVariants.{Least, Unbounded, Wide, Budget}
 use Rattle.portfolio_margin.specs.Answers.{IsMarginOf}
-use Rattle.portfolio_margin.specs.Need.{asked_of}
+use Rattle.portfolio_margin.specs.Need.{liability_or_word}
 use Rattle.portfolio_margin.specs.Run.{Asked, Margin, asked_for, margin_run}
 use Rattle.guarded_lines.specs.Margins.{IsMarginIn, held_by, run_in, told_by, told_of, underlyings_in}
-use Rattle.guarded_lines.specs.Needs.{liability_in, liability_of, margin_budget, renamed}
+use Rattle.guarded_lines.specs.Needs.{liability_in, liability_of, margin_budget, liability_or_need}
 
 pub told_is : (ending : Ending Margin) (margin : LeastMargin) → IsMarginOf ending margin → told_by margin ≡ told_of ending
 told_is ending (Least L at tree) (written, units, is, ended) =
@@ -25,7 +25,7 @@ told_is ending (Unbounded ray) (units, ended) = sym (ap told_of ended ∙ (λ i.
 told_is ending (Wide unit wide) ended = sym (ap told_of ended)
 told_is ending Budget (units, ended) = sym (ap told_of ended)
 
-pub liability_is : (ending : Ending Margin) (margin : LeastMargin) → IsMarginOf ending margin → renamed (asked_of margin) ≡ liability_of ending
+pub liability_is : (ending : Ending Margin) (margin : LeastMargin) → IsMarginOf ending margin → liability_or_need (liability_or_word margin) ≡ liability_of ending
 liability_is ending (Least L at tree) (written, units, is, ended) = sym (ap liability_of ended)
 liability_is ending (Unbounded ray) (units, ended) = sym (ap liability_of ended)
 liability_is ending (Wide unit wide) ended = sym (ap liability_of ended)
@@ -49,13 +49,13 @@ many_so n more = grind (arith, nat_tests)
 pub many_not : (n : ℕ) → n ≤ MAX_ORDERS → nat_lt MAX_ORDERS n ≡ false
 many_not n few = grind (arith, nat_tests)
 
--- what it asks
-pub many_ask : (state : ExchangeState) (account market : ℕ) → MAX_ORDERS < length (held_by state account market) → Err need.Positions ≡ liability_in state account market
-many_ask state account market more =
+-- what it demands
+pub many_demand : (state : ExchangeState) (account market : ℕ) → MAX_ORDERS < length (held_by state account market) → Err need.Positions ≡ liability_in state account market
+many_demand state account market more =
     sym (ap (λ (b : Bool). if b then Err need.Positions else liability_of (run_in state account market margin_budget)) (many_so (length (held_by state account market)) more))
 
-pub few_ask : (state : ExchangeState) (account market count : ℕ) (margin : LeastMargin) → IsMarginIn state account market margin_budget (Some (margin, count))
-    → renamed (asked_of margin) ≡ liability_in state account market
-few_ask state account market count margin (few, counted, is) =
+pub few_demand : (state : ExchangeState) (account market count : ℕ) (margin : LeastMargin) → IsMarginIn state account market margin_budget (Some (margin, count))
+    → liability_or_need (liability_or_word margin) ≡ liability_in state account market
+few_demand state account market count margin (few, counted, is) =
     liability_is (run_in state account market margin_budget) margin is
     ∙ sym (ap (λ (b : Bool). if b then Err need.Positions else liability_of (run_in state account market margin_budget)) (many_not (length (held_by state account market)) few))

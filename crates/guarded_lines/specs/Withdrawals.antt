@@ -1,4 +1,4 @@
--- Withdrawals that would leave an account less than its positions ask.
+-- Withdrawals that would leave an account less than its positions demand.
 use Rattle.std.specs.Prelude.{ℕ, ℤ, pos, ◌≡◌, ◌-ℤ◌, int_le, Bool, true, false, ◌||◌, is_some, Option, Some, None, if◌then◌else◌}
 use Rattle.command_text.specs.declared.command.Body.{Body}
 use Rattle.command_text.specs.declared.command.Body.TheVariants as body

@@ -1,7 +1,7 @@
-// What the positions of an account ask of its balance.
+// What the positions of an account demand of its balance.
 ghost use Rattle.std.specs.Prelude.{◌≡◌, IfOk};
-ghost use Rattle.guarded_lines.specs.Needs.{IsAskOf, need_as, need_in, renamed};
-ghost use Rattle.portfolio_margin.specs.Need.{ask_word, asked_of};
+ghost use Rattle.guarded_lines.specs.Needs.{IsDemandOf, need_as, need_in, liability_or_need};
+ghost use Rattle.portfolio_margin.specs.Need.{demand_word, liability_or_word};
 
 use crate::margins::margin_in;
 use exchange_core::Exchange;
@@ -27,7 +27,7 @@ fn need_as(needed: Needed) -> Need
 
 // The word of a margin that is not least.
 fn word_of(margin: &LeastMargin) -> Option<Need>
-    ensures { result ≡ ask_word (renamed (asked_of margin.now)) }
+    ensures { result ≡ demand_word (liability_or_need (liability_or_word margin.now)) }
 {
     match margin {
         LeastMargin::Least { .. } => None,
@@ -37,14 +37,14 @@ fn word_of(margin: &LeastMargin) -> Option<Need>
     }
 }
 
-// What a market asks of an account: a margin that is least with its number of positions, or else a word.
-fn asked(
+// What a market demands of an account: a margin that is least with its number of positions, or else a word.
+fn demand(
     alloc: Global,
     exchange: &Exchange,
     account: u32,
     market: u32,
 ) -> Result<Result<(LeastMargin, u32), Need>, AllocError>
-    ensures { IfOk result (IsAskOf exchange.now account market) }
+    ensures { IfOk result (IsDemandOf exchange.now account market) }
 {
     let Some((margin, count)) = margin_in(alloc, exchange, account, market, MARGIN_BUDGET)? else {
         return Ok(Err(Need::Positions));
@@ -55,7 +55,7 @@ fn asked(
     }
 }
 
-/// What the positions of an account ask of its balance: the markets in which it has some are taken in rising number, and the first
+/// What the positions of an account demand of its balance: the markets in which it has some are taken in rising number, and the first
 /// in which they are more than 256, or whose margin is not least, decides; else the margins' need. The only error is want of
 /// memory.
 pub(crate) fn need_of(alloc: Global, exchange: &Exchange, account: u32) -> Result<Need, AllocError>
@@ -64,7 +64,7 @@ pub(crate) fn need_of(alloc: Global, exchange: &Exchange, account: u32) -> Resul
     let markets = exchange.held_markets(account)?;
     let mut margins = Vec::new(alloc);
     for market in markets.iter() {
-        match asked(alloc, exchange, account, *market)? {
+        match demand(alloc, exchange, account, *market)? {
             Ok(counted) => margins.push(counted)?,
             Err(word) => return Ok(word),
         }

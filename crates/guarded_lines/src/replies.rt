@@ -19,14 +19,14 @@ pub enum GuardedReply {
         request: MarginRequest,
         margin: ToldMargin,
     },
-    /// The withdrawal would leave the account less than its positions ask.
+    /// The withdrawal would leave the account less than its positions demand.
     Uncovered {
         need: Need,
     },
 }
 
 /// Takes the exchange one line further: a line of a run as there, but for a withdrawal that would leave its account less than its
-/// positions ask; that and a request for a margin change nothing.
+/// positions demand; that and a request for a margin change nothing.
 ///
 /// Want of memory leaves the exchange as it was.
 pub fn reply_to(

@@ -7,7 +7,7 @@ use std::alloc::{AllocError, Global};
 
 // The replies behind `= ` are the last of each session: a put that is sold; an option whose loss has no bound; a put that is sold in
 // one market and bought in another, which does not help; a spread in one market, which does; a bundle that pays below 0, on both
-// sides; refusals in their order; lines of a run.
+// sides; eight bundles on two underlyings, whose margin wants more than 2,000 units; refusals in their order; lines of a run.
 static SESSIONS: &str = r#"open,1
 deposit,1,100
 open,2
@@ -86,6 +86,33 @@ margin,1,1,2000
 = {"account":1,"at":["1","0"],"line":8,"margin":"10","market":1,"reply":"margin"}
 margin,2,1,2000
 = {"account":2,"at":["1","10"],"line":9,"margin":"0","market":1,"reply":"margin"}
+==
+open,1
+open,2
+deposit,1,10000
+deposit,2,10000
+market,1,2
+bundle,1,1,buy,1000,1,4,1,put,30,0,1,1,put,40,1,1,1,put,70,0,1,1,put,90,1,1
+bundle,2,1,sell,0,1,4,1,put,30,0,1,1,put,40,1,1,1,put,70,0,1,1,put,90,1,1
+bundle,2,1,buy,1000,1,4,1,put,60,0,1,1,call,90,1,1,1,call,30,1,0,1,call,90,1,0
+bundle,1,1,sell,0,1,4,1,put,60,0,1,1,call,90,1,1,1,call,30,1,0,1,call,90,1,0
+bundle,2,1,buy,1000,1,4,1,put,90,0,1,1,put,80,1,1,1,put,90,0,1,1,put,80,0,1
+bundle,1,1,sell,0,1,4,1,put,90,0,1,1,put,80,1,1,1,put,90,0,1,1,put,80,0,1
+bundle,2,1,buy,1000,1,4,1,put,90,1,1,1,call,60,1,1,1,put,50,0,1,1,put,40,1,1
+bundle,1,1,sell,0,1,4,1,put,90,1,1,1,call,60,1,1,1,put,50,0,1,1,put,40,1,1
+bundle,2,1,buy,1000,1,4,1,put,10,1,0,1,call,50,1,0,1,put,40,1,0,1,call,10,0,1
+bundle,1,1,sell,0,1,4,1,put,10,1,0,1,call,50,1,0,1,put,40,1,0,1,call,10,0,1
+bundle,2,1,buy,1000,1,4,1,call,10,1,0,1,call,10,1,0,1,put,30,0,1,1,put,10,1,0
+bundle,1,1,sell,0,1,4,1,call,10,1,0,1,call,10,1,0,1,put,30,0,1,1,put,10,1,0
+bundle,1,1,buy,1000,1,4,1,put,60,1,0,1,put,60,0,1,1,put,50,1,0,1,put,50,1,0
+bundle,2,1,sell,0,1,4,1,put,60,1,0,1,put,60,0,1,1,put,50,1,0,1,put,50,1,0
+bundle,2,1,buy,1000,1,4,1,call,20,0,1,1,call,80,1,0,1,put,90,0,1,1,put,50,1,0
+bundle,1,1,sell,0,1,4,1,call,20,0,1,1,call,80,1,0,1,put,90,0,1,1,put,50,1,0
+clear,1,1
+margin,2,1,2000
+= {"account":2,"line":23,"margin":"budget","market":1,"reply":"margin"}
+withdraw,2,1
+= {"line":24,"need":"budget","number":14,"reason":"Margin","reply":"refused"}
 ==
 market,2,2
 margin,1,2

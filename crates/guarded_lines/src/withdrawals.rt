@@ -1,4 +1,4 @@
-// Withdrawals that would leave an account less than its positions ask.
+// Withdrawals that would leave an account less than its positions demand.
 ghost use Rattle.std.specs.Prelude.{◌≡◌, ◌≤ℤ◌, ◌<ℤ◌, ◌-ℤ◌, pos, IfOk, MatchOption};
 ghost use Rattle.guarded_lines.specs.Withdrawals.{IsLeftBy, covers, uncovered_by, uncovered_withdrawal};
 

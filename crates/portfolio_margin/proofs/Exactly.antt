@@ -1,5 +1,5 @@
 -- The liability that a settlement wants is what the positions owe there, by t.
-use Rattle.std.proofs.Common.{◌≡◌, ℕ, ◌*◌, ◌≤◌, List, zip, arith, ℤ, pos, ◌+ℤ◌, ◌*ℤ◌, All, Ok, ap, sym, ◌∙◌, subst}
+use Rattle.std.proofs.Common.{◌≡◌, ℕ, ◌*◌, ◌≤◌, List, zip, arith, ℤ, pos, ◌*ℤ◌, All, Ok, ap, sym, ◌∙◌, subst}
 use Rattle.std.specs.Prelude.{◌≢◌}
 use Rattle.std.proofs.lemmas.Int.{ints}
 use Rattle.arithmetic.proofs.Integers.{*ℤ_cancel, swap_factors}
@@ -10,7 +10,7 @@ use Rattle.exact_num.specs.Fits.{div_of}
 use Rattle.exact_num.proofs.After.{after_value}
 use Rattle.exact_num.proofs.Exactness.{quotients_are_exact}
 use Rattle.exact_num.proofs.Fractions.{amount_is_exact, divides}
-use Rattle.exact_num.proofs.Stands.{Stands}
+use Rattle.exact_num.proofs.LowestRatios.{IsLowestRatio}
 use Rattle.exact_num.proofs.Values.{whole_is_lowest}
 use Rattle.form.specs.declared.orders.Order.{Order}
 use Rattle.form.specs.Payoff.{bundle_of, bundle_payoff, scale_of}
@@ -25,16 +25,16 @@ use Rattle.portfolio_margin.specs.Run.{Asked, asked_for, net_at, orders_of, want
 use Rattle.portfolio_margin.proofs.Owing.{Divides, fills_lowest, signed_is_owed}
 
 net_stands : (limit D : ℕ) (os : List Order) (fs : List Fraction) (z : List ℕ) (s : Fraction) → All IsLowest fs → All (Divides D) fs → net_of limit (zip os fs) z ≡ Ok s
-    → Stands s (signed_sum (λ o. bundle_payoff (bundle_of o) z) (signed_over D os fs)) D
+    → IsLowestRatio s (signed_sum (λ o. bundle_payoff (bundle_of o) z) (signed_over D os fs)) D
 net_stands limit D os fs z s lowest divides h =
     fills_stand D (add_payoff limit z) (λ o. bundle_payoff (bundle_of o) z) (λ o a sa. payoff_adds limit D z o a (amount_over D a) sa) os fs s
     (λ k d lt. record { lowest = lowest k d lt; ratio = amount_is_exact D _ (divides k d lt) }) h
 
 -- the net of positions
 pub owed_stands : (limit D : ℕ) (ps : List Position) (z : List ℕ) (s : Fraction) → All (Divides D) (fills_of ps) → net_of limit (zip (orders_of ps) (fills_of ps)) z ≡ Ok s
-    → Stands s (owed_over D ps z) D
+    → IsLowestRatio s (owed_over D ps z) D
 owed_stands limit D ps z s divides h =
-    subst (λ (v : ℤ). Stands s v D) (signed_is_owed D ps z) (net_stands limit D (orders_of ps) (fills_of ps) z s (fills_lowest ps) divides h)
+    subst (λ (v : ℤ). IsLowestRatio s v D) (signed_is_owed D ps z) (net_stands limit D (orders_of ps) (fills_of ps) z s (fills_lowest ps) divides h)
 
 -- ---- a quotient, in whole numbers: m / n is o / D, and l / d is a / D and m / n by t
 quotient_is : (o a m l : ℤ) (D t n d : ℕ) → 1 ≤ n → 1 ≤ d → m *ℤ pos D ≡ o *ℤ pos n → (l *ℤ pos t) *ℤ pos n ≡ m *ℤ pos (d * 1) → l *ℤ pos D ≡ a *ℤ pos d → o ≡ a *ℤ pos t

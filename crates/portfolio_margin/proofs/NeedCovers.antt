@@ -28,8 +28,8 @@ use Rattle.portfolio_margin.specs.declared.least_margin.LeastMargin.TheVariants.
 use Rattle.portfolio_margin.specs.declared.needs.Needed.{Needed}
 use Rattle.portfolio_margin.specs.declared.needs.Needed.TheVariants.{Amount, Sum}
 use Rattle.portfolio_margin.specs.Owed.{Covers, fill_of, fills_of, owed_by, owed_over}
-use Rattle.portfolio_margin.specs.Need.{Ask, Counted, ask_part, asks_of, ceil_of, first_ask_word, first_word, sum_asked, sum_need, whole_asked, word_or}
-use Rattle.portfolio_margin.specs.Laws.{AreAsksCovered, NeedsCover, Settled, gain_in}
+use Rattle.portfolio_margin.specs.Need.{Demand, Counted, demand_amount, demands_of, ceil_of, first_demand_word, first_word, demand_sum, sum_need, whole_demand, word_or}
+use Rattle.portfolio_margin.specs.Laws.{AreDemandsCovered, NeedsCover, Settled, gain_in}
 use Rattle.portfolio_margin.proofs.Owing.{Divides, common_is, fills_defined}
 use Rattle.portfolio_margin.proofs.Rounded.{liabilities_are_rounded_up}
 
@@ -134,38 +134,38 @@ together : (a b whole : ℕ) (g G : ℤ) → whole ≡ a + b → neg_ℤ (pos a)
 together a b whole g G is first rest = omega (arith, ints, is, first, rest)
 
 -- each liability is a fraction
-abbrev pub AreDefined : {W : Type 0} → List (Ask W) → Type 0
+abbrev pub AreDefined : {W : Type 0} → List (Demand W) → Type 0
 AreDefined [] = Unit {0}
-AreDefined ((Ok L, count) ∷ asks) = IsDefined L × AreDefined asks
-AreDefined ((Err word, count) ∷ asks) = AreDefined asks
+AreDefined ((Ok L, count) ∷ demands) = IsDefined L × AreDefined demands
+AreDefined ((Err word, count) ∷ demands) = AreDefined demands
 
-all_covered : {W : Type 0} (asks : List (Ask W)) (markets : List Settled) → first_ask_word asks ≡ None → AreDefined asks → AreAsksCovered asks markets
-    → neg_ℤ (pos (whole_asked asks)) ≤ℤ total gain_in markets
+all_covered : {W : Type 0} (demands : List (Demand W)) (markets : List Settled) → first_demand_word demands ≡ None → AreDefined demands → AreDemandsCovered demands markets
+    → neg_ℤ (pos (whole_demand demands)) ≤ℤ total gain_in markets
 all_covered [] [] none are covered = omega (arith, ints)
 all_covered [] (s ∷ markets) none are covered = absurd covered
-all_covered (a ∷ asks) [] none are covered = absurd covered
-all_covered ((Ok L, count) ∷ asks) (s ∷ markets) none (defined, are) (counted, covers, rest) =
+all_covered (a ∷ demands) [] none are covered = absurd covered
+all_covered ((Ok L, count) ∷ demands) (s ∷ markets) none (defined, are) (counted, covers, rest) =
     let y = ceil_of L.numerator L.denominator +ℤ pos count in
     let lost : neg_ℤ y ≤ℤ gain_in s = subst (λ (k : ℕ). neg_ℤ (ceil_of L.numerator L.denominator +ℤ pos k) ≤ℤ gain_in s) counted (market_loses L s.prices s.positions defined covers) in
     let part = positive_part y in
-    together part (whole_asked asks) (whole_asked ((Ok L, count) ∷ asks)) (gain_in s) (total gain_in markets)
-    (sum_by-cons (λ (k : ℕ). k) part (map (λ a. ask_part a.0 a.1) asks))
-    (part_covers y (gain_in s) part (positive_part_above y) lost) (all_covered asks markets none are rest)
-all_covered ((Err word, count) ∷ asks) (s ∷ markets) none are covered = cc
+    together part (whole_demand demands) (whole_demand ((Ok L, count) ∷ demands)) (gain_in s) (total gain_in markets)
+    (sum_by-cons (λ (k : ℕ). k) part (map (λ a. demand_amount a.0 a.1) demands))
+    (part_covers y (gain_in s) part (positive_part_above y) lost) (all_covered demands markets none are rest)
+all_covered ((Err word, count) ∷ demands) (s ∷ markets) none are covered = cc
 
 -- ---- the amount
-amount_is : {W : Type 0} (asks : List (Ask W)) (amount : ℕ) → sum_asked asks ≡ Amount amount → whole_asked asks ≡ amount
-amount_is asks amount h = by (nat_le (whole_asked asks) largest) h
+amount_is : {W : Type 0} (demands : List (Demand W)) (amount : ℕ) → demand_sum demands ≡ Amount amount → whole_demand demands ≡ amount
+amount_is demands amount h = by (nat_le (whole_demand demands) largest) h
   where
-    by : (b : Bool) → (if b then Amount (whole_asked asks) else Sum) ≡ Amount amount → whole_asked asks ≡ amount
+    by : (b : Bool) → (if b then Amount (whole_demand demands) else Sum) ≡ Amount amount → whole_demand demands ≡ amount
     by true h = cc
     by false h = cc
 
--- where each market asks a liability, their sum covers what the positions lose
-pub sums_cover : {W : Type 0} (asks : List (Ask W)) (markets : List Settled) (amount : ℕ) → first_ask_word asks ≡ None → sum_asked asks ≡ Amount amount
-    → AreDefined asks → AreAsksCovered asks markets → neg_ℤ (pos amount) ≤ℤ total gain_in markets
-sums_cover asks markets amount none h are covered =
-    subst (λ (k : ℕ). neg_ℤ (pos k) ≤ℤ total gain_in markets) (amount_is asks amount h) (all_covered asks markets none are covered)
+-- where each market demands a liability, their sum covers what the positions lose
+pub sums_cover : {W : Type 0} (demands : List (Demand W)) (markets : List Settled) (amount : ℕ) → first_demand_word demands ≡ None → demand_sum demands ≡ Amount amount
+    → AreDefined demands → AreDemandsCovered demands markets → neg_ℤ (pos amount) ≤ℤ total gain_in markets
+sums_cover demands markets amount none h are covered =
+    subst (λ (k : ℕ). neg_ℤ (pos k) ≤ℤ total gain_in markets) (amount_is demands amount h) (all_covered demands markets none are covered)
 
 no_word : (margins : List Counted) (need : Needed) (amount : ℕ) → word_or (first_word margins) need ≡ Amount amount → (first_word margins ≡ None) × (need ≡ Amount amount)
 no_word [] need amount h = (refl, h)
@@ -174,7 +174,7 @@ no_word ((Unbounded ray, count) ∷ margins) need amount h = cc
 no_word ((Wide unit wide, count) ∷ margins) need amount h = cc
 no_word ((Budget, count) ∷ margins) need amount h = cc
 
-margins_defined : (margins : List Counted) → AreDefined (asks_of margins)
+margins_defined : (margins : List Counted) → AreDefined (demands_of margins)
 margins_defined [] = tt
 margins_defined ((Least L at tree, count) ∷ margins) = (L.lowest.positive, margins_defined margins)
 margins_defined ((Unbounded ray, count) ∷ margins) = margins_defined margins
@@ -184,4 +184,4 @@ margins_defined ((Budget, count) ∷ margins) = margins_defined margins
 pub needs_cover : NeedsCover
 needs_cover margins markets amount h covered =
     let parts = no_word margins (sum_need margins) amount h in
-    sums_cover (asks_of margins) markets amount parts.0 parts.1 (margins_defined margins) covered
+    sums_cover (demands_of margins) markets amount parts.0 parts.1 (margins_defined margins) covered

@@ -19,7 +19,7 @@ use Rattle.clearing_model.specs.Certificate.{filled_over, signed_over}
 use Rattle.market_laws.proofs.Legs.{signed_sums_agree}
 use Rattle.settlement.specs.declared.position.Position.{Position}
 use Rattle.portfolio_margin.specs.Owed.{CoversAt, IsDenominator, fill_of, fills_of, owed_by, owed_over}
-use Rattle.portfolio_margin.specs.Run.{orders_of, turned}
+use Rattle.portfolio_margin.specs.Run.{orders_of, opposite}
 
 abbrev pub Divides : ℕ → Fraction → Type 0
 Divides D f = f.denominator ∣ D
@@ -95,16 +95,16 @@ above_over C ps z c above D d =
     zero_first less = omega (arith, ints, less)
 
 -- ---- the batch
-for_turned : (side : Side) (x : ℤ) → for_side (turned side) x ≡ owed_by side x
-for_turned Buy x = refl
-for_turned Sell x = refl
+for_opposite : (side : Side) (x : ℤ) → for_side (opposite side) x ≡ owed_by side x
+for_opposite Buy x = refl
+for_opposite Sell x = refl
 
 -- over signed amounts
 pub signed_is_owed : (D : ℕ) (ps : List Position) (z : List ℕ) → signed_sum (λ o. bundle_payoff (bundle_of o) z) (signed_over D (orders_of ps) (fills_of ps)) ≡ owed_over D ps z
 unfolding bundle_of
 signed_is_owed D [] z = refl
 signed_is_owed D (p ∷ ps) z =
-    let here = for_turned p.side (bundle_payoff (bundle_legs p.bundle) z *ℤ amount_over D (fill_of p)) in
+    let here = for_opposite p.side (bundle_payoff (bundle_legs p.bundle) z *ℤ amount_over D (fill_of p)) in
     let rest = signed_is_owed D ps z in
     λ i. here i +ℤ rest i
 
@@ -115,7 +115,7 @@ unfolding bundle_of
 natural_is_owed D [] z h = refl
 natural_is_owed D (p ∷ ps) z h =
     let pays = bundle_payoff (bundle_legs p.bundle) z in
-    let here = for_turned p.side (pays *ℤ pos (positive_part (amount_over D (fill_of p))))
+    let here = for_opposite p.side (pays *ℤ pos (positive_part (amount_over D (fill_of p))))
     ∙ ap (λ (a : ℤ). owed_by p.side (pays *ℤ a)) (sym (amount_is_natural D (fill_of p) (All-head IsNotBelowZero (fill_of p) (fills_of ps) h))) in
     let rest = natural_is_owed D ps z (All-tail IsNotBelowZero (fill_of p) (fills_of ps) h) in
     λ i. here i +ℤ rest i

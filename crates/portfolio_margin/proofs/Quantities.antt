@@ -14,7 +14,7 @@ use Rattle.form.specs.Legs.{IsCounted}
 use Rattle.form.specs.Payoff.{count_sizes, legs_in}
 use Rattle.form.specs.Vector.{positive_part}
 use Rattle.settlement.specs.Payout.{IsHolding}
-use Rattle.settlement.specs.Premium.{IsHeld, rounded_up}
+use Rattle.settlement.specs.Premium.{IsOrderFill, rounded_up}
 use Rattle.settlement.proofs.Quotients.{above_back, premium_fits, up_fits}
 
 -- a bundle counts some option
@@ -35,7 +35,7 @@ sizes_some bundle =
     sum_some (legs_in bundle) (omega (arith, length-take-le bundle.size bundle.legs few, bundle.size_in_range.0)) bundle.counted
 
 -- so a fill that counts at most so many options is at most as much
-pub held_is : (bundle : Bundle) (fill : Fraction) → IsHolding bundle fill → IsHeld fill
+pub held_is : (bundle : Bundle) (fill : Fraction) → IsHolding bundle fill → IsOrderFill fill
 held_is bundle fill held = record {
   not_below_zero = held.not_below_zero;
   at_most = by fill.numerator held.not_below_zero held.counted;
@@ -53,6 +53,6 @@ held_is bundle fill held = record {
     by (negsuc n) low counted = absurd (omega (arith, ints, low))
 
 -- and is so when it is rounded up
-pub rounded_small : (fill : Fraction) → 0 < fill.denominator → IsHeld fill → rounded_up fill 1 ≤ MAX_QUANTITY
+pub rounded_small : (fill : Fraction) → 0 < fill.denominator → IsOrderFill fill → rounded_up fill 1 ≤ MAX_QUANTITY
 rounded_small fill some held =
     up_fits fill.numerator (positive_part fill.numerator) fill.denominator 1 MAX_QUANTITY some refl (premium_fits fill.numerator fill.denominator 1 held.not_below_zero held.at_most) held.not_below_zero

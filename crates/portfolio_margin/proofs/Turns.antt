@@ -1,7 +1,6 @@
 -- One search after another.
-use Rattle.std.proofs.Common.{◌≡◌, ℕ, suc, ◌+◌, ◌-◌, ◌≤◌, ◌<◌, List, [], ◌∷◌, length, map, zip, Result, Ok, Err, arith, All, ap, sym, ◌∙◌, subst}
+use Rattle.std.proofs.Common.{◌≡◌, ℕ, suc, ◌+◌, ◌-◌, ◌≤◌, ◌<◌, List, [], length, map, zip, Result, Ok, Err, arith, All, ap, sym, ◌∙◌, subst}
 use Rattle.std.proofs.lemmas.List.{length-map}
-use Rattle.std.proofs.lemmas.List.Elements.{All-nil, All-cons}
 use Rattle.std.proofs.lemmas.Simd.{map-map}
 use Rattle.arithmetic.proofs.Sums.{All-to_map}
 use Rattle.exact_num.specs.declared.misfit.Wide.{Wide as Misfit}
@@ -28,7 +27,7 @@ use Rattle.portfolio_margin.specs.declared.least_margin.LeastMargin.TheVariants.
 use Rattle.portfolio_margin.specs.declared.turn.Turn.TheVariants.{Ends, Goes}
 use Rattle.portfolio_margin.specs.declared.turn.Wanted.{Wanted}
 use Rattle.portfolio_margin.specs.Run.{Asked, Margin, Turn, asked_for, margin_run, net_at, on_turn, order_of, orders_of, turn_at, turns_from}
-use Rattle.portfolio_margin.specs.Answers.{EndsAs, IsMarginOf, IsStopOf, TurnsAs, asked_in}
+use Rattle.portfolio_margin.specs.Answers.{EndsAs, IsMarginOf, StopsAs, TurnsAs, asked_in}
 use Rattle.portfolio_margin.specs.Owed.{fill_of, fills_of}
 use Rattle.portfolio_margin.proofs.Exactly.{wanted_is_lowest}
 use Rattle.portfolio_margin.proofs.Runs.{Keeps, turns_say}
@@ -64,15 +63,15 @@ turns_go a all i L at spent later wanted le left went =
     next_is a all i L at spent le left ∙ ap (λ (e : Ending Turn). on_answer e (on_turn (later_turns a i))) went
 
 -- where one stops, they stop
-stops_after : (e : Ending Turn) (next : Turn → ℕ → Ending Margin) (stop : Stop) (spent : ℕ) → IsStopOf e stop spent → IsStopOf (on_answer e next) stop spent
+stops_after : (e : Ending Turn) (next : Turn → ℕ → Ending Margin) (stop : Stop) (spent : ℕ) → StopsAs e stop spent → StopsAs (on_answer e next) stop spent
 stops_after e next (WideStop unit w) spent is = (ap (λ (x : Ending Turn). on_answer x next) is.0, is.1)
 stops_after e next BudgetStop spent is = ap (λ (x : Ending Turn). on_answer x next) is
 stops_after e next Memory spent is = tt
 
 pub turns_stop : (a : Asked) (all : Ending Margin) (i : ℕ) (L : Fraction) (at : List ℕ) (spent later : ℕ) (stop : Stop) → i ≤ a.budget → AreLeft a all i L at spent
-    → IsStopOf (turn_at a L at spent) stop later → IsStopOf all stop later
+    → StopsAs (turn_at a L at spent) stop later → StopsAs all stop later
 turns_stop a all i L at spent later stop le left is =
-    subst (λ (e : Ending Margin). IsStopOf e stop later) (sym (next_is a all i L at spent le left)) (stops_after (turn_at a L at spent) (on_turn (later_turns a i)) stop later is)
+    subst (λ (e : Ending Margin). StopsAs e stop later) (sym (next_is a all i L at spent le left)) (stops_after (turn_at a L at spent) (on_turn (later_turns a i)) stop later is)
 
 -- and some search is always left: of what the code may ask, whatever its first liability
 abbrev IsAny : Margin → Type 0
@@ -137,11 +136,11 @@ margin_of ending (Unbounded ray) spent ended = (spent, ended)
 margin_of ending (Wide unit wide) spent ended = absurd ended
 margin_of ending Budget spent ended = absurd ended
 
-pub wide_of : (ending : Ending Margin) (stop : Stop) (unit : ℕ) (w : Misfit) (spent : ℕ) → stop ≡ WideStop unit w → IsStopOf ending stop spent → IsMarginOf ending (Wide unit w)
-wide_of ending stop unit w spent is said = (subst (λ (s : Stop). IsStopOf ending s spent) is said).0
+pub wide_of : (ending : Ending Margin) (stop : Stop) (unit : ℕ) (w : Misfit) (spent : ℕ) → stop ≡ WideStop unit w → StopsAs ending stop spent → IsMarginOf ending (Wide unit w)
+wide_of ending stop unit w spent is said = (subst (λ (s : Stop). StopsAs ending s spent) is said).0
 
-pub budget_of : (ending : Ending Margin) (stop : Stop) (spent : ℕ) → stop ≡ BudgetStop → IsStopOf ending stop spent → IsMarginOf ending Budget
-budget_of ending stop spent is said = (spent, subst (λ (s : Stop). IsStopOf ending s spent) is said)
+pub budget_of : (ending : Ending Margin) (stop : Stop) (spent : ℕ) → stop ≡ BudgetStop → StopsAs ending stop spent → IsMarginOf ending Budget
+budget_of ending stop spent is said = (spent, subst (λ (s : Stop). StopsAs ending s spent) is said)
 
 -- ---- the batch of positions
 pub fills_are : (ps : List Position) (xs ys : List Frac128) → xs ≡ ys → ys ≡ map (λ (p : Position). p.fill) ps → map fraction_of xs ≡ fills_of ps

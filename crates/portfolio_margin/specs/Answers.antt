@@ -42,10 +42,10 @@ IsTrueOf n positions (Wide unit wide) = Unit {0}
 IsTrueOf n positions Budget = Unit {0}
 
 -- ---- parts of the run, with the units that are spent; want of memory says nothing
-abbrev pub IsStopOf : {A : Type 0} → Ending A → Stop → ℕ → Type 0
-IsStopOf ending (WideStop unit wide) spent = (ending ≡ wide_at unit wide) × (spent ≡ unit)
-IsStopOf ending BudgetStop spent = ending ≡ no_unit_left spent
-IsStopOf ending Memory spent = Unit {0}
+abbrev pub StopsAs : {A : Type 0} → Ending A → Stop → ℕ → Type 0
+StopsAs ending (WideStop unit wide) spent = (ending ≡ wide_at unit wide) × (spent ≡ unit)
+StopsAs ending BudgetStop spent = ending ≡ no_unit_left spent
+StopsAs ending Memory spent = Unit {0}
 
 abbrev pub EndsAs : Ending Margin → LeastMargin → ℕ → Type 0
 EndsAs ending (Least L at tree) spent =
@@ -56,7 +56,7 @@ EndsAs ending Budget spent = ⊥
 
 abbrev pub IsEndOf : Ending Margin → Result LeastMargin Stop → ℕ → Type 0
 IsEndOf ending (Ok margin) spent = EndsAs ending margin spent
-IsEndOf ending (Err stop) spent = IsStopOf ending stop spent
+IsEndOf ending (Err stop) spent = StopsAs ending stop spent
 
 abbrev pub TurnsAs : Ending Turn → TurnOf → ℕ → Type 0
 TurnsAs ending (Ends (Least L at tree)) spent =
@@ -68,7 +68,7 @@ TurnsAs ending (Goes wanted) spent = ending ≡ done (goes (fraction_of wanted.l
 
 abbrev pub IsTurnOf : Ending Turn → Result TurnOf Stop → ℕ → Type 0
 IsTurnOf ending (Ok turn) spent = TurnsAs ending turn spent
-IsTurnOf ending (Err stop) spent = IsStopOf ending stop spent
+IsTurnOf ending (Err stop) spent = StopsAs ending stop spent
 
 -- the state that goes on is one of n underlyings
 abbrev pub IsOnForms : ℕ → TurnOf → Type 0

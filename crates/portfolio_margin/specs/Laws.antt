@@ -11,7 +11,7 @@ use Rattle.table_run.specs.Ending.{done, unbounded}
 use Rattle.portfolio_margin.specs.declared.needs.Needed.TheVariants.{Amount}
 use Rattle.portfolio_margin.specs.Owed.{Covers, IsLeast, IsUnbounded, fills_of}
 use Rattle.portfolio_margin.specs.Run.{asked_for, least, endless, margin_run, orders_of}
-use Rattle.portfolio_margin.specs.Need.{Ask, Counted, asks_of, need_of}
+use Rattle.portfolio_margin.specs.Need.{Demand, Counted, demands_of, need_of}
 
 -- ---- the run
 -- positions on one to eight underlyings whose fills are not below 0
@@ -54,14 +54,14 @@ IsCovered (Ok L) s = Covers (length s.prices) s.positions L
 IsCovered (Err word) s = Unit {0}
 
 -- each does, of so many positions
-abbrev pub AreAsksCovered : {W : Type 0} → List (Ask W) → List Settled → Type 0
-AreAsksCovered [] [] = Unit {0}
-AreAsksCovered [] (s ∷ markets) = ⊥
-AreAsksCovered (a ∷ asks) [] = ⊥
-AreAsksCovered (a ∷ asks) (s ∷ markets) = (length s.positions ≡ a.1) × IsCovered a.0 s × AreAsksCovered asks markets
+abbrev pub AreDemandsCovered : {W : Type 0} → List (Demand W) → List Settled → Type 0
+AreDemandsCovered [] [] = Unit {0}
+AreDemandsCovered [] (s ∷ markets) = ⊥
+AreDemandsCovered (d ∷ demands) [] = ⊥
+AreDemandsCovered (d ∷ demands) (s ∷ markets) = (length s.positions ≡ d.1) × IsCovered d.0 s × AreDemandsCovered demands markets
 
 abbrev pub AreCovered : List Counted → List Settled → Type 0
-AreCovered margins markets = AreAsksCovered (asks_of margins) markets
+AreCovered margins markets = AreDemandsCovered (demands_of margins) markets
 
 -- an amount covers what all positions lose, whatever the prices of each market
 abbrev pub NeedsCover : Type 0

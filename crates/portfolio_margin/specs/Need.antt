@@ -1,4 +1,4 @@
--- What the margins of one account ask of its balance.
+-- What the margins of one account demand of its balance.
 use Rattle.std.specs.Prelude.{ℕ, suc, ◌/◌, nat_le, List, [], ◌∷◌, map, ℤ, pos, negsuc, neg_ℤ, ◌+ℤ◌, ◌≤ℤ◌, Option, Some, None, Result, Ok, Err, if◌then◌else◌}
 use Rattle.std.specs.Int.{div_ceil}
 use Rattle.std.specs.List.{sum}
@@ -24,64 +24,64 @@ pub record IsCeil (x : Fraction) (m : ℤ) : Type 0 where
 abbrev pub LiabilitiesAreRoundedUp : Type 0
 LiabilitiesAreRoundedUp = (x : Fraction) → IsDefined x → IsCeil x (ceil_of x.numerator x.denominator)
 
--- what a margin asks: its liability where it is least, or else its word
-abbrev pub asked_of : LeastMargin → Result Fraction Needed
-asked_of (Least L at tree) = Ok (fraction_of L)
-asked_of (Unbounded ray) = Err NoBound
-asked_of (Wide unit wide) = Err TooWide
-asked_of Budget = Err NoUnit
+-- the liability of a margin that is least, or else its word
+abbrev pub liability_or_word : LeastMargin → Result Fraction Needed
+liability_or_word (Least L at tree) = Ok (fraction_of L)
+liability_or_word (Unbounded ray) = Err NoBound
+liability_or_word (Wide unit wide) = Err TooWide
+liability_or_word Budget = Err NoUnit
 
--- ---- what markets ask: each a liability or a word, with a number of positions
-abbrev pub Ask : Type 0 → Type 0
-Ask W = Result Fraction W × ℕ
+-- ---- what markets demand: each a liability or a word, with a number of positions
+abbrev pub Demand : Type 0 → Type 0
+Demand W = Result Fraction W × ℕ
 
 -- the liability rounded up and the number of positions, or 0 where that is below 0
-abbrev pub ask_part : {W : Type 0} → Result Fraction W → ℕ → ℕ
-ask_part (Ok L) positions = positive_part (ceil_of L.numerator L.denominator +ℤ pos positions)
-ask_part (Err word) positions = 0
+abbrev pub demand_amount : {W : Type 0} → Result Fraction W → ℕ → ℕ
+demand_amount (Ok L) positions = positive_part (ceil_of L.numerator L.denominator +ℤ pos positions)
+demand_amount (Err word) positions = 0
 
-abbrev pub ask_word : {W : Type 0} → Result Fraction W → Option W
-ask_word (Ok L) = None
-ask_word (Err word) = Some word
+abbrev pub demand_word : {W : Type 0} → Result Fraction W → Option W
+demand_word (Ok L) = None
+demand_word (Err word) = Some word
 
 abbrev pub or_word : {W : Type 0} → Option W → Option W → Option W
 or_word (Some word) later = Some word
 or_word None later = later
 
 -- the first word of all
-abbrev pub first_ask_word : {W : Type 0} → List (Ask W) → Option W
-first_ask_word [] = None
-first_ask_word (a ∷ asks) = or_word (ask_word a.0) (first_ask_word asks)
+abbrev pub first_demand_word : {W : Type 0} → List (Demand W) → Option W
+first_demand_word [] = None
+first_demand_word (d ∷ demands) = or_word (demand_word d.0) (first_demand_word demands)
 
-abbrev pub whole_asked : {W : Type 0} → List (Ask W) → ℕ
-whole_asked asks = sum (map (λ a. ask_part a.0 a.1) asks)
+abbrev pub whole_demand : {W : Type 0} → List (Demand W) → ℕ
+whole_demand demands = sum (map (λ d. demand_amount d.0 d.1) demands)
 
 -- no part is below 0, so that some sum of the first ones passes the limit just where the whole sum does
-abbrev pub sum_asked : {W : Type 0} → List (Ask W) → Needed
-sum_asked asks = if nat_le (whole_asked asks) largest then Amount (whole_asked asks) else Sum
+abbrev pub demand_sum : {W : Type 0} → List (Demand W) → Needed
+demand_sum demands = if nat_le (whole_demand demands) largest then Amount (whole_demand demands) else Sum
 
--- ---- what margins ask
+-- ---- what margins demand
 abbrev pub part_of : LeastMargin → ℕ → ℕ
-part_of margin positions = ask_part (asked_of margin) positions
+part_of margin positions = demand_amount (liability_or_word margin) positions
 
 abbrev pub word_of : LeastMargin → Option Needed
-word_of margin = ask_word (asked_of margin)
+word_of margin = demand_word (liability_or_word margin)
 
 -- a margin with its number of positions
 abbrev pub Counted : Type 0
 Counted = LeastMargin × ℕ
 
-abbrev pub asks_of : List Counted → List (Ask Needed)
-asks_of margins = map (λ (m : Counted). (asked_of m.0, m.1)) margins
+abbrev pub demands_of : List Counted → List (Demand Needed)
+demands_of margins = map (λ (m : Counted). (liability_or_word m.0, m.1)) margins
 
 abbrev pub first_word : List Counted → Option Needed
-first_word margins = first_ask_word (asks_of margins)
+first_word margins = first_demand_word (demands_of margins)
 
 abbrev pub whole_of : List Counted → ℕ
-whole_of margins = whole_asked (asks_of margins)
+whole_of margins = whole_demand (demands_of margins)
 
 abbrev pub sum_need : List Counted → Needed
-sum_need margins = sum_asked (asks_of margins)
+sum_need margins = demand_sum (demands_of margins)
 
 abbrev pub word_or : Option Needed → Needed → Needed
 word_or (Some word) need = word

@@ -17,13 +17,13 @@ use Rattle.table_run.specs.Ending.{Ending, done, on_answer, on_steps}
 use Rattle.portfolio_margin.specs.Owed.{fill_of, fills_of}
 
 -- ---- the positions as a batch whose net is what they owe
-abbrev pub turned : Side → Side
-turned Buy = Sell
-turned Sell = Buy
+abbrev pub opposite : Side → Side
+opposite Buy = Sell
+opposite Sell = Buy
 
 abbrev pub order_of : Position → Order
 order_of p =
-    record { id = p.order; account = p.account; side = turned p.side; bundle = p.bundle; price = 0; quantity = rounded_up (fill_of p) 1 }
+    record { id = p.order; account = p.account; side = opposite p.side; bundle = p.bundle; price = 0; quantity = rounded_up (fill_of p) 1 }
 
 abbrev pub orders_of : List Position → List Order
 orders_of positions = map order_of positions

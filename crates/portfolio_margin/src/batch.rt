@@ -2,7 +2,7 @@
 ghost use Rattle.std.specs.Prelude.{◌≡◌, IfOk, map};
 ghost use Rattle.std.specs.List.{All};
 ghost use Rattle.settlement.specs.Positions.{IsHeldPosition};
-ghost use Rattle.portfolio_margin.specs.Run.{order_of, orders_of, turned};
+ghost use Rattle.portfolio_margin.specs.Run.{order_of, orders_of, opposite};
 
 use form::{Order, Side};
 use frac::Frac128;
@@ -10,8 +10,8 @@ use settlement::{Position, premium};
 use std::alloc::{AllocError, Global};
 
 // The side of the order: the market owes a buyer what an account owes for a sell.
-fn turned(side: Side) -> Side
-    ensures { result ≡ turned side }
+fn opposite(side: Side) -> Side
+    ensures { result ≡ opposite side }
 {
     match side {
         Side::Buy => Side::Sell,
@@ -28,7 +28,7 @@ fn order_of(position: &Position) -> Order
     Order {
         id: position.order,
         account: position.account,
-        side: turned(position.side),
+        side: opposite(position.side),
         bundle: position.bundle,
         price: 0,
         quantity: rounded as u32,

@@ -1,4 +1,4 @@
-//! What the margins of one account ask of its balance.
+//! What the margins of one account demand of its balance.
 ghost use Rattle.std.specs.Prelude.{◌≡◌, ◌≤◌, ◌+◌, ◌^◌, ℕ, List, neg_ℤ, pos, ◌≤ℤ◌, ◌+ℤ◌};
 ghost use Rattle.arithmetic.specs.Sums.{positive_part, total};
 ghost use Rattle.frac.specs.Range.{limit as largest};
@@ -14,7 +14,7 @@ use frac::Frac128;
 // The largest amount.
 const LARGEST: u128 = i128::MAX as u128;
 
-/// What margins ask of the balance of their account.
+/// What margins demand of the balance of their account.
 #[derive(Clone, Copy, PartialEq, Eq, Debug)]
 pub enum Needed {
     /// So much, in ticks, whatever the prices at which their markets are settled.
@@ -45,7 +45,7 @@ fn amount_of(liability: &Frac128, positions: u32) -> u128
     }
 }
 
-// What one margin asks, where it is least.
+// What one margin demands, where it is least.
 fn part_of(margin: &LeastMargin, positions: u32) -> u128
     ensures value { result ≡ part_of margin.now positions }
     ensures fits { result ≤ largest + 2 ^ 32 }
@@ -80,7 +80,7 @@ fn first_word(margins: &[(LeastMargin, u32)]) -> Option<Needed>
     None
 }
 
-// The sum of what they ask, where it fits.
+// The sum of what they demand, where it fits.
 fn sum_of(margins: &[(LeastMargin, u32)]) -> Needed
     ensures { result ≡ sum_need margins.now }
 {
@@ -95,7 +95,7 @@ fn sum_of(margins: &[(LeastMargin, u32)]) -> Needed
     Needed::Amount(total)
 }
 
-/// What the margins of one account ask of its balance, each given with its number of positions: the sum of the liabilities,
+/// What the margins of one account demand of its balance, each given with its number of positions: the sum of the liabilities,
 /// each rounded up and with a tick for each position, and none of these below 0. An amount covers what the positions lose
 /// where each market is settled at any prices. Takes no memory.
 pub fn need(margins: &[(LeastMargin, u32)]) -> Needed

@@ -1,5 +1,5 @@
 -- Each line is answered as in a run, or changes nothing.
-use Rattle.std.proofs.Common.{ℕ, List, Bool, true, false, codes, Option, Some, None, Result, Ok, Err, if◌then◌else◌, inl, inr, refl, ap, sym, subst}
+use Rattle.std.proofs.Common.{ℕ, List, Bool, codes, Option, Some, None, Result, Ok, Err, if◌then◌else◌, inl, inr, refl, ap, sym, subst}
 use Rattle.std.specs.Option.{option_map_or}
 use Rattle.std.specs.Str.{bytes_eq}
 use Rattle.std.proofs.lemmas.Bool.{cases_Bool}
@@ -8,7 +8,7 @@ use Rattle.command_text.specs.declared.asked.Fault.TheVariants.{Syntax, Range}
 use Rattle.command_text.specs.declared.command.Body.{Body}
 use Rattle.command_text.specs.declared.command.Body.TheVariants as body
 use Rattle.command_text.specs.Asked.{text_of}
-use Rattle.command_text.specs.Commands.{body_of_fields, body_of_result, command_of_fields}
+use Rattle.command_text.specs.Commands.{body_of_fields, body_of_result}
 use Rattle.command_text.specs.Fields.{fields_of_line}
 use Rattle.form.specs.declared.orders.Side.TheVariants.{Buy, Sell}
 use Rattle.exchange_core.specs.declared.refusal.Refusal.{Refusal}
@@ -23,12 +23,11 @@ use Rattle.quote_text.specs.Bodies.{body_of_request, quotes_body_of_fields}
 use Rattle.quote_text.specs.Requests.{request_of}
 use Rattle.quote_text.proofs.Words.{quote_is_no_command}
 use Rattle.refusals.specs.Refusals.{first_of}
-use Rattle.quote_lines.specs.declared.replies.QuotesReply.{QuotesReply}
 use Rattle.quote_lines.specs.declared.replies.QuotesReply.TheVariants as told
 use Rattle.quote_lines.specs.Laws.{QuotesAnswerAsRun}
 use Rattle.quote_lines.specs.Output.{IsQuoteText, written_reply}
 use Rattle.quote_lines.specs.Refusals.{quote_refusals}
-use Rattle.quote_lines.specs.Replies.{quoted_for, quoted_price, quotes_reply_line, quotes_reply_to}
+use Rattle.quote_lines.specs.Replies.{quoted_for, quoted_price, quotes_reply_to}
 
 -- a refusal, or what is quoted
 quote_told : (number : ℕ) (state : ExchangeState) (said : Body) (request : QuoteRequest) (refused : Option Refusal)

@@ -1,5 +1,5 @@
 -- What a request meets: a batch that may be quoted, or its first refusal.
-use Rattle.std.proofs.Common.{◌≡◌, ℕ, ◌+◌, ◌≤◌, ◌<◌, List, [], ◌∷◌, ◌++◌, length, All, Bool, true, false, not, nat_eq, nat_le, Option, Some, None, is_some, if◌then◌else◌, refl, sym, ap, subst, ◌∙◌, arith}
+use Rattle.std.proofs.Common.{◌≡◌, ◌+◌, ◌≤◌, ◌<◌, [], ◌∷◌, length, All, Bool, true, false, not, nat_eq, nat_le, Option, Some, None, is_some, if◌then◌else◌, refl, sym, ap, subst, ◌∙◌, arith}
 use Rattle.std.specs.Option.{option_map, option_map_or}
 use Rattle.std.proofs.lemmas.Bool.Decides.{nat_tests}
 use Rattle.std.proofs.lemmas.List.Elements.{All-weaker}
@@ -14,7 +14,7 @@ use Rattle.order_book.specs.Markets.{MarketState}
 use Rattle.order_book.specs.Refusals.{batch_refusals, is_full}
 use Rattle.order_book.proofs.BookKept.{market_kept}
 use Rattle.exchange_core.specs.declared.refusal.Refusal.{Refusal}
-use Rattle.exchange_core.specs.declared.refusal.Refusal.TheVariants.{NoMarket, Settled, WeightCount, BookFull, TooMany}
+use Rattle.exchange_core.specs.declared.refusal.Refusal.TheVariants.{Settled, WeightCount, BookFull, TooMany}
 use Rattle.exchange_core.specs.ExchangeState.{ExchangeState}
 use Rattle.exchange_core.specs.Kept.{IsKept}
 use Rattle.exchange_core.specs.Reply.{refused_with}

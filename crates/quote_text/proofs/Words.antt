@@ -1,16 +1,16 @@
 -- The word of a quote is that of no command, and a line of another word says what it says to a run.
-use Rattle.std.proofs.Common.{◌≡◌, ℕ, List, [], ◌∷◌, Bool, true, codes, Option, Some, None, Err, if◌then◌else◌, inl, inr, refl, sym, ap, ◌∙◌}
-use Rattle.std.proofs.lemmas.Bool.{cases_Bool}
+use Rattle.std.proofs.Common.{◌≡◌, ℕ, List, [], ◌∷◌, Bool, true, codes, Option, Err, if◌then◌else◌, refl, sym, ap, ◌∙◌}
 use Rattle.std.proofs.lemmas.Slice.Eq.{bytes_eq-Decides}
 use Rattle.std.specs.Option.{option_map_or}
 use Rattle.std.specs.Str.{bytes_eq}
 use Rattle.command_text.specs.declared.asked.Fault.TheVariants.{Syntax}
-use Rattle.command_text.specs.declared.command.Body.{Body}
 use Rattle.command_text.specs.declared.command.Body.TheVariants as body
 use Rattle.command_text.specs.Asked.{text_of}
-use Rattle.command_text.specs.Commands.{body_of_fields, body_of_result, command_of_fields}
+use Rattle.command_text.specs.Commands.{body_of_fields, body_of_line, body_of_result, command_of_fields}
+use Rattle.command_text.specs.Fields.{fields_of_line}
+use Rattle.command_text.proofs.FurtherWords.{plain_said}
 use Rattle.quote_text.specs.declared.bodies.QuotesBody.TheVariants.{Plain}
-use Rattle.quote_text.specs.Bodies.{body_of_request, quotes_body_of_fields}
+use Rattle.quote_text.specs.Bodies.{body_of_request, quotes_body_of, quotes_body_of_fields}
 use Rattle.quote_text.specs.Laws.{OtherLinesAreRuns}
 use Rattle.quote_text.specs.Requests.{request_of}
 
@@ -25,9 +25,5 @@ other_lines_are_runs line fields is other =
     ∙ sym (ap (λ (o : Option (List (List ℕ))). Plain (body_of_fields o)) is)
 
 -- what a command says, it says here too
-pub command_is_plain : (said : Body) (fields : Option (List (List ℕ))) → said ≡ body_of_fields fields → ¬ (said ≡ body.Syntax) → Plain said ≡ option_map_or quotes_body_of_fields fields (Plain body.Syntax)
-command_is_plain said None is not_syntax = absurd (not_syntax is)
-command_is_plain said (Some fields) is not_syntax = elim (cases_Bool (bytes_eq (text_of fields 1) (codes "quote"))) [
-  | inl quote ↦ absurd (not_syntax (is ∙ ap body_of_result (quote_is_no_command fields quote)))
-  | inr other ↦ ap Plain is ∙ sym (ap (λ (b : Bool). if b then body_of_request (request_of fields) else Plain (body_of_result (command_of_fields fields))) other)
-]
+pub other_is_plain : (line : List ℕ) → (body_of_line line ≡ body.Syntax → ⊥) → Plain (body_of_line line) ≡ quotes_body_of line
+other_is_plain line other = plain_said (codes "quote") request_of body_of_request Plain quote_is_no_command (fields_of_line line) other

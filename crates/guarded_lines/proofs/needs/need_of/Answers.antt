@@ -1,7 +1,7 @@
 use Rattle.std.proofs.Common.{◌≡◌, ◌+◌, ◌++◌, ◌<◌, ◌≤◌, List, map, length, get_or, None, arith, ap, sym, subst, ◌∙◌}
-use Rattle.portfolio_margin.specs.Need.{Counted, first_ask_word, need_of as need_of_margins, sum_asked}
-use Rattle.guarded_lines.specs.Needs.{IsAskOf, ask_in, asks_in, need_as}
-use Rattle.guarded_lines.proofs.AskSums.{AreLeft, need_is, none_left, renamed_asks, still_left, still_none, word_is}
+use Rattle.portfolio_margin.specs.Need.{Counted, first_demand_word, need_of as need_of_margins, demand_sum}
+use Rattle.guarded_lines.specs.Needs.{IsDemandOf, demand_in, demands_in, need_as}
+use Rattle.guarded_lines.proofs.DemandSums.{AreLeft, need_is, none_left, renamed_demands, still_left, still_none, word_is}
 use Rattle.guarded_lines.proofs.needs.need_of.Goals as goal
 
 pub loop-market-init : goal.loop-market-init
@@ -10,9 +10,9 @@ loop-market-init c =
     let account = c.args.account in
     let empty = c.new-margins.ensures.items in
     record {
-      left = ap (λ (ms : List Counted). renamed_asks ms ++ map (ask_in state account) c.deref-market-items.result.now) empty
-          ∙ ap (map (ask_in state account)) (c.deref-market-items.ensures.value ∙ c.in_ok-markets.ensures.markets);
-      none = ap (λ (ms : List Counted). first_ask_word (renamed_asks ms)) empty;
+      left = ap (λ (ms : List Counted). renamed_demands ms ++ map (demand_in state account) c.deref-market-items.result.now) empty
+          ∙ ap (map (demand_in state account)) (c.deref-market-items.ensures.value ∙ c.in_ok-markets.ensures.markets);
+      none = ap (λ (ms : List Counted). first_demand_word (renamed_demands ms)) empty;
     }
 
 pub loop-market-preserved : goal.loop-market-preserved
@@ -22,12 +22,12 @@ loop-market-preserved c =
     let l = c.loop-market in
     let within : l.market-index < length c.deref-market-items.result.now = omega arith in
     let counted = c.in-Ok.counted in
-    let asks = subst (IsAskOf state account (get_or c.deref-market-items.result.now l.market-index 0)) c.in-Ok.is c.in_ok-counted.ensures in
+    let demands = subst (IsDemandOf state account (get_or c.deref-market-items.result.now l.market-index 0)) c.in-Ok.is c.in_ok-counted.ensures in
     let items = c.in_ok-push-in-Ok.ensures.items in
     record {
-      left = subst (λ (ms : List Counted). AreLeft state account c.deref-market-items.result.now (asks_in state account) ms (l.market-index + 1)) (sym items)
-          (still_left state account c.deref-market-items.result.now (asks_in state account) l.margins.items counted l.market-index within l.invariant.left asks.1 asks.2);
-      none = subst (λ (ms : List Counted). first_ask_word (renamed_asks ms) ≡ None) (sym items) (still_none l.margins.items counted l.invariant.none asks.0);
+      left = subst (λ (ms : List Counted). AreLeft state account c.deref-market-items.result.now (demands_in state account) ms (l.market-index + 1)) (sym items)
+          (still_left state account c.deref-market-items.result.now (demands_in state account) l.margins.items counted l.market-index within l.invariant.left demands.1 demands.2);
+      none = subst (λ (ms : List Counted). first_demand_word (renamed_demands ms) ≡ None) (sym items) (still_none l.margins.items counted l.invariant.none demands.0);
     }
 
 pub returns-in-Err : goal.returns-in-Err
@@ -37,9 +37,9 @@ returns-in-Err c =
     let l = c.loop-market in
     let within : l.market-index < length c.deref-market-items.result.now = omega arith in
     let word = c.in-Err.word in
-    let asks = subst (IsAskOf state account (get_or c.deref-market-items.result.now l.market-index 0)) c.in-Err.is c.in_ok-counted.ensures in
-    word_is state account c.deref-market-items.result.now (asks_in state account) l.margins.items l.market-index word (need_as (sum_asked (asks_in state account))) within
-    l.invariant.left l.invariant.none asks
+    let demands = subst (IsDemandOf state account (get_or c.deref-market-items.result.now l.market-index 0)) c.in-Err.is c.in_ok-counted.ensures in
+    word_is state account c.deref-market-items.result.now (demands_in state account) l.margins.items l.market-index word (need_as (demand_sum (demands_in state account))) within
+    l.invariant.left l.invariant.none demands
 
 pub returns : goal.returns
 returns c =
@@ -48,4 +48,4 @@ returns c =
     let l = c.loop-market in
     let past : length c.deref-market-items.result.now ≤ l.market-index = omega arith in
     c.need_as.ensures ∙ ap need_as (c.need.ensures.need ∙ ap need_of_margins c.deref.ensures.value)
-    ∙ need_is l.margins.items (asks_in state account) (none_left state account c.deref-market-items.result.now (asks_in state account) l.margins.items l.market-index past l.invariant.left) l.invariant.none
+    ∙ need_is l.margins.items (demands_in state account) (none_left state account c.deref-market-items.result.now (demands_in state account) l.margins.items l.market-index past l.invariant.left) l.invariant.none

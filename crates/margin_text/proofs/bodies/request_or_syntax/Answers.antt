@@ -1,9 +1,11 @@
 use Rattle.std.proofs.Common.{Some, map, option_map, sym, ap, ◌∙◌}
 use Rattle.command_text.specs.Commands.{body_of_fields}
 use Rattle.command_text.specs.Fields.{fields_of_line}
-use Rattle.command_text.proofs.LongLines.{same_body}
+use Rattle.command_text.specs.declared.command.Body.TheVariants.{Syntax}
+use Rattle.command_text.proofs.LongLines.{read_by_first, read_by_none, same_body}
+use Rattle.margin_text.specs.declared.bodies.GuardedBody.TheVariants.{Plain}
 use Rattle.margin_text.specs.Bodies.{guarded_body_of_fields}
-use Rattle.margin_text.proofs.FirstFields.{said_by_first, said_by_none}
+use Rattle.margin_text.proofs.FirstFields.{same_guarded_body}
 use Rattle.margin_text.proofs.bodies.request_or_syntax.Goals as goal
 
 pub said-requires : goal.said-requires
@@ -15,8 +17,9 @@ said-requires c =
 
 pub returns-in-Some : goal.returns-in-Some
 returns-in-Some c =
-    said_by_first _ _ _ (c.said.ensures ∙ ap (λ fields. guarded_body_of_fields (map (λ f. f.items) fields)) c.deref.ensures.value)
+    read_by_first guarded_body_of_fields (Plain Syntax) same_guarded_body _ _ _ (c.said.ensures ∙ ap (λ fields. guarded_body_of_fields (map (λ f. f.items) fields)) c.deref.ensures.value)
     (sym (ap (option_map (λ v. map (λ f. f.items) v.items)) c.in-Some.is) ∙ c.in_ok-fields.ensures)
 
 pub returns-in-None : goal.returns-in-None
-returns-in-None c = said_by_none _ (sym (ap (option_map (λ v. map (λ f. f.items) v.items)) c.in-None.is) ∙ c.in_ok-fields.ensures)
+returns-in-None c =
+    read_by_none guarded_body_of_fields (Plain Syntax) _ (sym (ap (option_map (λ v. map (λ f. f.items) v.items)) c.in-None.is) ∙ c.in_ok-fields.ensures)

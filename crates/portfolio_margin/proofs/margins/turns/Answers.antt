@@ -3,7 +3,7 @@ use Rattle.std.proofs.lemmas.Result.{err_from_is_err_and}
 use Rattle.frac.specs.Value.{fraction_of}
 use Rattle.form.specs.States.{vector_of}
 use Rattle.portfolio_margin.specs.declared.turn.Turn.TheVariants.{Ends, Goes}
-use Rattle.portfolio_margin.specs.Answers.{IsStopOf, TurnsAs, asked_in}
+use Rattle.portfolio_margin.specs.Answers.{StopsAs, TurnsAs, asked_in}
 use Rattle.portfolio_margin.specs.Run.{turn_at, turns_from}
 use Rattle.portfolio_margin.proofs.Turns.{never_none, turns_end, turns_go, turns_stop}
 use Rattle.portfolio_margin.proofs.margins.turns.Goals as goal
@@ -23,7 +23,7 @@ returns-in_err-margin c =
     let later = c.take_turn.new.budget.spent in
     let same : turn_at (asked_in l.budget.limit batch fills) L at l.budget.spent ≡ turn_at a L at l.budget.spent =
     λ j. turn_at (asked_in (l.invariant.limit j) batch fills) L at l.budget.spent in
-    let was : IsStopOf (turn_at a L at l.budget.spent) stop later = subst (λ e. IsStopOf e stop later) same c.in_err-margin.ensures.turn in
+    let was : StopsAs (turn_at a L at l.budget.spent) stop later = subst (λ e. StopsAs e stop later) same c.in_err-margin.ensures.turn in
     let low : l._turn ≤ budget.limit = omega (arith, c.loop-turn-test.true, c.from-turn-end.ensures) in
     record { end = rw (q.1, q.2) (turns_stop a all l._turn L at l.budget.spent later stop low l.invariant.left was) }
 
