@@ -4,7 +4,7 @@
 //! a tree and the place and the value of each of its multipliers; or it is the step that did not fit, or budget.
 
 /// The cases.
-pub const CASES: &str = "\
+pub static CASES: &str = "\
 == empty batch
 market,1,1
 clear,1,20000
@@ -168,7 +168,7 @@ clear,1,20000
 
 /// Batches that are cleared with numbers of 64 bits first. Their orders are bundles of one option, and before the outcome stands
 /// whether the pass was narrow or broad.
-pub const PASSES: &str = "\
+pub static PASSES: &str = "\
 == one option matched
 market,1,1
 bundle,1,1,buy,7,1,1,1,call,10,1

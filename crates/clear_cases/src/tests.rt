@@ -1,15 +1,17 @@
 //! Each case, from its command lines to the text of its outcome.
-ghost use Rattle.command_text.specs.Within.{BodyIsWithin};
+ghost use Rattle.std.specs.Prelude.{◌≤◌};
+ghost use Rattle.form.specs.Limits.{IsWithinLimits};
+ghost use Rattle.command_text.specs.Within.{BodyIsWithin, IsWithin};
 
 use crate::cases::{CASES, PASSES};
 use anyhow::{Context, Result, bail, ensure};
 use case_texts::{print_number, print_wide};
 use cert_check::{Cover, Mark, Outcome};
-use clearing::{Pass, clear_first};
+use clearing::{Pass, Room, clear_in};
 use command_text::{Body, Command, commands};
 use exact_num::Exact;
 use exchange_core::{Exchange, Reply};
-use frac::Frac64;
+use form::Batch;
 use measure::{Measure, Weighted};
 use order_book::{Book, NewOrder};
 use sign_tree::{Node, SignTree};
@@ -105,27 +107,64 @@ fn print(alloc: Global, outcome: &Outcome) -> Result<String, AllocError> {
     Ok(text)
 }
 
-// Takes the exchange one line further, and answers the outcome of the batch that it clears.
-fn carry_out(exchange: &mut Exchange, said: &Body) -> Result<Option<Outcome>>
+// Clears a batch in room of its own, which alone takes memory, and answers the text of the outcome behind the name of the pass.
+fn outcome_in_room(alloc: Global, batch: &Batch, limit: u32) -> Result<String, AllocError>
+    requires within { IsWithinLimits batch.now }
+    requires limit { (1 ≤ limit) × (limit ≤ 20000) }
+{
+    let room = Room::new(alloc, batch, limit)?;
+    let (outcome, pass) = clear_in(batch, limit, room);
+    let name = match pass {
+        Pass::Narrow => "narrow",
+        Pass::Broad => "broad",
+    };
+    let outcome = print(alloc, &outcome)?;
+    format!(in alloc; "{name} |{outcome}")
+}
+
+// The same of the batch that a command is to clear, if it is to clear one.
+fn outcome_before(alloc: Global, exchange: &Exchange, command: &Command) -> Result<Option<String>>
+    requires { IsWithin command.now }
+{
+    let Command::Clear { market, budget } = command else {
+        return Ok(None);
+    };
+    let batch = exchange.live(*market)?;
+    Ok(Some(outcome_in_room(alloc, &batch, *budget)?))
+}
+
+// Takes the exchange one line further, and answers the text of the outcome of the batch that it clears, which is that of the
+// same batch in room of its own.
+fn carry_out(alloc: Global, exchange: &mut Exchange, said: &Body) -> Result<Option<String>>
     requires { BodyIsWithin said.now }
 {
     let Body::Command(command) = said else {
         bail!("a command");
     };
+    let before = outcome_before(alloc, exchange, command)?;
     match exchange.step(command)? {
-        Reply::Cleared { outcome, .. } => Ok(Some(outcome)),
+        Reply::Cleared { outcome, .. } => {
+            let text = print(alloc, &outcome)?;
+            let before = before.context("a clear")?;
+            let (_, in_room) = before.split_once('|').context("a pass")?;
+            ensure!(
+                in_room == text.as_str(),
+                "another outcome in room of its own"
+            );
+            Ok(Some(text))
+        }
         Reply::Refused { number, .. } => bail!("refused as {number}"),
         _ => Ok(None),
     }
 }
 
-// The outcome of the batch that the last of the command lines clears.
-fn cleared(alloc: Global, text: &str) -> Result<Outcome> {
+// The text of the outcome of the batch that the last of the command lines clears.
+fn outcome_of(alloc: Global, text: &str) -> Result<String> {
     ensure!(text.len() <= 16_777_216, "a text");
     let mut exchange = Exchange::new(alloc);
     let mut last = None;
     for line in &commands(alloc, text.as_bytes())? {
-        last = carry_out(&mut exchange, &line.body)?;
+        last = carry_out(alloc, &mut exchange, &line.body)?;
     }
     last.context("a batch that is cleared")
 }
@@ -165,7 +204,7 @@ fn enter(book: &mut Book, said: &Body) -> Result<()>
     Ok(())
 }
 
-// Takes a book one line further, or clears its batch with numbers of 64 bits first, and answers the text of the outcome.
+// Takes a book one line further, or clears its batch in room of its own, and answers the text of the pass and the outcome.
 fn tried(alloc: Global, book: &mut Book, said: &Body) -> Result<Option<String>>
     requires { BodyIsWithin said.now }
 {
@@ -174,13 +213,7 @@ fn tried(alloc: Global, book: &mut Book, said: &Body) -> Result<Option<String>>
         return Ok(None);
     };
     let batch = book.batch(*market)?;
-    let (outcome, pass) = clear_first::<Frac64>(alloc, &batch, *budget)?;
-    let name = match pass {
-        Pass::Narrow => "narrow",
-        Pass::Broad => "broad",
-    };
-    let outcome = print(alloc, &outcome)?;
-    Ok(Some(format!(in alloc; "{name} |{outcome}")?))
+    Ok(Some(outcome_in_room(alloc, &batch, *budget)?))
 }
 
 // Whether the batch of a case is cleared by the pass and with the outcome that the case says.
@@ -202,8 +235,7 @@ fn clears_so(alloc: Global, case: &str) -> Result<bool> {
     let (input, outcome) = case.split_once('=').context("an outcome")?;
     let (_, lines) = input.split_once('\n').context("a name")?;
     let text = format!(in alloc; "{ACCOUNTS}{lines}")?;
-    let cleared = cleared(alloc, &text)?;
-    Ok(print(alloc, &cleared)?.as_str().trim() == outcome.trim())
+    Ok(outcome_of(alloc, &text)?.as_str().trim() == outcome.trim())
 }
 
 #[test]

@@ -16,7 +16,7 @@ use Rattle.command_text.specs.declared.command.Body.{Body}
 use Rattle.command_text.specs.declared.numbers.NumberRead.{NumberRead}
 use Rattle.command_text.specs.declared.numbers.NumberRead.TheVariants.{NotNumber, Outside, Value}
 use Rattle.command_text.specs.Asked.{text_of, fault_in, natural_in, value_or_zero}
-use Rattle.command_text.specs.Bundles.{side_in, fields_each, refused, bundle_command, sized_command}
+use Rattle.command_text.specs.Bundles.{side_in, fields_each, fault_or_syntax, bundle_command, sized_command}
 use Rattle.command_text.specs.Commands.{body_of_fields, body_of_line, body_of_result, command_of_fields}
 use Rattle.command_text.specs.Fields.{fields_of_line, first_of_many}
 use Rattle.command_text.specs.Numbers.{number_in, IsWithin as IsRead}
@@ -26,7 +26,7 @@ use Rattle.command_text.proofs.LegsWithin.{each_is}
 
 -- what a bundle of more fields than four legs can have says
 abbrev long_bundle : List (List ℕ) → Result Command Fault
-long_bundle fields = with_some (side_in (text_of fields 4)) (λ side. if natural_in fields LEGS == 0 then refused (fault_in 0 HEAD fields) else Err Syntax)
+long_bundle fields = with_some (side_in (text_of fields 4)) (λ side. if natural_in fields LEGS == 0 then fault_or_syntax (fault_in 0 HEAD fields) else Err Syntax)
 
 -- what so many fields say
 abbrev long_command : List (List ℕ) → Result Command Fault
@@ -45,19 +45,16 @@ long_command fields =
     else Err Syntax
 
 -- ---- a number of fields that no command has
-not_two : (n : ℕ) → 51 < n → (n == 2) ≡ false
-not_two n many = grind (arith, nat_tests)
+pub not_equal : (n few : ℕ) → 51 < n → few ≤ 51 → (n == few) ≡ false
+not_equal n few many small = grind (arith, nat_tests)
 
-not_three : (n : ℕ) → 51 < n → (n == 3) ≡ false
-not_three n many = grind (arith, nat_tests)
-
-past : (n low high : ℕ) → 51 < n → high ≤ 51 → (nat_le low n && nat_le n high) ≡ false
+pub past : (n low high : ℕ) → 51 < n → high ≤ 51 → (nat_le low n && nat_le n high) ≡ false
 past n low high many small = elim (cases_Bool (nat_le low n && nat_le n high)) [
   | inl within ↦ let both = and_parts (nat_le low n) (nat_le n high) within in let under = both.1 in absurd (grind (arith, nat_tests, under))
   | inr without ↦ without
 ]
 
-chosen : (test : Bool) (said : Result Command Fault) → test ≡ false → (if test then said else Err Syntax) ≡ Err Syntax
+pub chosen : {A : Type 0} (test : Bool) (said : Result A Fault) → test ≡ false → (if test then said else Err Syntax) ≡ Err Syntax
 chosen test said not_so = rw not_so refl
 
 small_value : (low high : ℕ) (r : NumberRead) → IsRead (pos low) (pos high) r → unsigned_abs (value_or_zero r) ≤ high
@@ -92,7 +89,7 @@ is_long_bundle fields many =
     let n = length fields in
     let legs = natural_in fields LEGS in
     let side = side_in (text_of fields 4) in
-    let counted : Option ℕ → Side → Result Command Fault = λ each s. if legs == 0 then refused (fault_in 0 HEAD fields) else with_some each (λ size. sized_command s legs size fields) in
+    let counted : Option ℕ → Side → Result Command Fault = λ each s. if legs == 0 then fault_or_syntax (fault_in 0 HEAD fields) else with_some each (λ size. sized_command s legs size fields) in
     let seven : nat_le 7 n ≡ true = grind (arith, nat_tests) in
     ap (λ b. if b then with_some side (counted (fields_each (n - 7) legs)) else Err Syntax) seven
     ∙ ap (λ each. with_some side (counted each)) (no_each (n - 7) legs (omega (arith, many)) (few_legs fields))
@@ -101,8 +98,8 @@ is_long : (fields : List (List ℕ)) → 51 < length fields → command_of_field
 is_long fields many =
     let n = length fields in
     let word = text_of fields 1 in
-    let two = not_two n many in
-    let three = not_three n many in
+    let two = not_equal n 2 many (omega arith) in
+    let three = not_equal n 3 many (omega arith) in
     let trades = past n 8 15 many (omega arith) in
     by_word (bytes_eq word (codes "open")) _ _ _ _ (chosen (n == 2) _ two)
     (by_word (bytes_eq word (codes "deposit")) _ _ _ _ (chosen (n == 3) _ three)

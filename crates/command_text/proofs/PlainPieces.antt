@@ -2,7 +2,7 @@
 use Rattle.std.proofs.Common.{◌≡◌, ℕ, List, [], ◌∷◌, Bool, true, false, not, nat_eq, Some, None, option_map, option_and_then, inl, inr, refl, sym, ap, ◌∙◌, true≢false, ◌||◌, ◌&&◌, ◌==◌, if◌then◌else◌}
 use Rattle.std.proofs.lemmas.Bool.{cases_Bool, and_parts, or_parts}
 use Rattle.std.specs.List.{list_all}
-use Rattle.command_text.specs.Fields.{closed, field_of, fields_of_pieces, has_quote, is_readable, fields_of_line, is_without_quotes}
+use Rattle.command_text.specs.Fields.{before_end_quote, field_of, fields_of_pieces, has_quote, is_readable, fields_of_line, is_without_quotes}
 use Rattle.command_text.proofs.Machine.{parts, split, split_comma, split_other}
 
 abbrev without : List ℕ → Bool
@@ -29,7 +29,7 @@ own_field : (piece : List ℕ) → without piece ≡ true → field_of piece ≡
 own_field [] plain = refl
 own_field (b ∷ bs) plain =
     let each = or_parts (b == 34) (has_quote bs) (not_so (has_quote (b ∷ bs)) plain) in
-    ap (λ q. if q then closed bs else (if has_quote bs then None else Some (b ∷ bs))) each.0
+    ap (λ q. if q then before_end_quote bs else (if has_quote bs then None else Some (b ∷ bs))) each.0
     ∙ ap (λ q. if q then None else Some (b ∷ bs)) each.1
 
 own_fields : (pieces : List (List ℕ)) → list_all without pieces ≡ true → fields_of_pieces pieces ≡ Some pieces

@@ -15,7 +15,7 @@ use Rattle.command_text.specs.declared.numbers.NumberRead.{NumberRead}
 use Rattle.command_text.specs.declared.numbers.NumberRead.TheVariants.{NotNumber, Outside, Value}
 use Rattle.command_text.specs.declared.ranges.TheConstants.{ACCOUNT, ANY_ACCOUNT, MARKET, AMOUNT, UNDERLYINGS, ORDER, BUDGET, SETTLE, LISTED, BUNDLE_PRICE, BUNDLE_QUANTITY, STRIKE, PRICE, QUANTITY, TRADE, LEGS, HEAD, LEG}
 use Rattle.command_text.specs.Asked.{text_of, fault_in, fault_of, either_fault, natural_in, value_in, says_in}
-use Rattle.command_text.specs.Bundles.{side_in, kind_fault, leg_fault, has_leg, leg_fields, fault_at, weightless_at, legs_fault, legs_weightless, legs_size, too_many, bundle_fault, sized_command, fields_each, refused, bundle_command}
+use Rattle.command_text.specs.Bundles.{side_in, kind_fault, leg_fault, has_leg, leg_fields, fault_at, weightless_at, legs_fault, legs_weightless, legs_size, too_many, bundle_fault, sized_command, fields_each, fault_or_syntax, bundle_command}
 use Rattle.command_text.specs.Commands.{body_of_fields, body_of_result, command_of_fields}
 use Rattle.command_text.specs.Fields.{fields_of_line}
 use Rattle.command_text.specs.Refused.{word_read, reads_in, Shape, weight_place, trade_shape, or_else, leg_reads, leg_weight_place, legs_reads, legs_beyond, head_reads, legs_shape, bundle_shape, shape_of, has_unread, first_outside, fault_of_shape, fault_of_fields, fault_of_body, LinesAreRefused}
@@ -193,7 +193,7 @@ some_fault fields zero none =
     let none_there : natural_in fields LEGS ≡ 0 = grind (arith, nat_tests, zero) in
     absurd (omega (arith, counted.0, none_there))
 
-refused_is : (fault : Option Fault) → (fault ≡ None → ⊥) → fault_in_result (refused fault) ≡ fault
+refused_is : (fault : Option Fault) → (fault ≡ None → ⊥) → fault_in_result (fault_or_syntax fault) ≡ fault
 refused_is None some = absurd (some refl)
 refused_is (Some fault) some = refl
 
@@ -223,12 +223,12 @@ bundle_is fields =
     let each = fields_each (n - 7) legs in
     let fault = fault_in 0 HEAD fields in
     let P : Bool → Type 0 = λ b. (legs == 0) ≡ b
-    → fault_in_result (if nat_le 7 n then with_some side (λ s. if b then refused fault else with_some each (λ size. sized_command s legs size fields)) else Err Syntax)
+    → fault_in_result (if nat_le 7 n then with_some side (λ s. if b then fault_or_syntax fault else with_some each (λ size. sized_command s legs size fields)) else Err Syntax)
     ≡ fault_of_shape (if b then record { sized = nat_le 7 n; reads = head_reads fields; beyond = None } else legs_shape each fields) in
     (elim (legs == 0) as P [
       | true ↦ λ zero.
-          when_sized (nat_le 7 n) (with_some side (λ s. refused fault)) (head_reads fields) None
-          (with_word 4 side (λ s. refused fault) fault (λ s. refused_is fault (some_fault fields zero))
+          when_sized (nat_le 7 n) (with_some side (λ s. fault_or_syntax fault)) (head_reads fields) None
+          (with_word 4 side (λ s. fault_or_syntax fault) fault (λ s. refused_is fault (some_fault fields zero))
           ∙ ap (either_fault (fault_of 4 (word_read side))) (said_in 0 HEAD fields)
           ∙ sym (either_none (fault_said (head_reads fields))))
       | false ↦ λ some. legs_shape_is fields legs side each refl

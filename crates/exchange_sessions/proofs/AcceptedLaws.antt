@@ -8,7 +8,7 @@ use Rattle.session_gate.specs.Laws.{bodies_of, numbers_of, AreFrom}
 use Rattle.session_gate.specs.Runs.{Replies, Served, nothing_served, after, run, if_first, firsts}
 use Rattle.session_gate.proofs.RunLaws.{serves_firsts, numbers_in_order}
 use Rattle.exchange_sessions.specs.Answers.{Told, told_of, told_to, after_said, answers_from}
-use Rattle.exchange_sessions.specs.Laws.{is_first, first_in, accepted, accepted_messages, after_lines, TakesAccepted, AcceptsInOrder}
+use Rattle.exchange_sessions.specs.Laws.{is_first, first_in, told_first, accepted_messages, after_lines, TakesAccepted, AcceptsInOrder}
 use Rattle.exchange_sessions.specs.Lines.{NumberedLine, lines_in}
 use Rattle.exchange_sessions.specs.Messages.{message_in}
 use Rattle.exchange_sessions.specs.Served.{exchange_reply}
@@ -52,10 +52,10 @@ lines_accept reply served [] = refl
 lines_accept reply served (line ∷ lines) = by (message_in line.text) (λ next. lines_accept reply next lines)
   where
     by : (said : Option Message) → ((next : Served) → accepted_messages (answers_from reply next lines) ≡ firsts reply next (messages_in lines))
-        → map (λ (told : Told). told.message) (first_in (told_said reply served said) ++ accepted (answers_from reply (after_said reply served said) lines)) ≡ firsts reply served (said_in said (messages_in lines))
+        → map (λ (told : Told). told.message) (first_in (told_said reply served said) ++ told_first (answers_from reply (after_said reply served said) lines)) ≡ firsts reply served (said_in said (messages_in lines))
     by None each = each served
     by (Some message) each =
-        told_in_front (answer_to served.gate message) message (told_to reply served message).reply (accepted (answers_from reply (after reply served message) lines))
+        told_in_front (answer_to served.gate message) message (told_to reply served message).reply (told_first (answers_from reply (after reply served message) lines))
         ∙ ap (if_first (answer_to served.gate message) message) (each (after reply served message))
 
 pub takes_accepted : TakesAccepted

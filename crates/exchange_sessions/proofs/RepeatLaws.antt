@@ -7,11 +7,11 @@ use Rattle.session_gate.specs.declared.answer.Answer.{Answer}
 use Rattle.session_gate.specs.declared.answer.Answer.TheVariants.{First, Repeat, Old, Ahead, Changed, Sessions}
 use Rattle.session_gate.specs.Answers.{answer_to}
 use Rattle.session_gate.specs.Gate.{Message, LastAccepted, KnownSessions, message_of, accepted_as, kept_of}
-use Rattle.session_gate.specs.Runs.{Replies, Served, nothing_served, taken, after, after_answer}
+use Rattle.session_gate.specs.Runs.{Replies, Served, nothing_served, after_served, after, after_answer}
 use Rattle.session_gate.proofs.AnswerLaws.{repeats_are_kept}
 use Rattle.session_gate.proofs.KnownBefore.{kept_of-keep}
 use Rattle.exchange_sessions.specs.Answers.{Told, LineAnswer, reply_of, kept_reply, told_of, told_to, after_said, answer_in, answers_from}
-use Rattle.exchange_sessions.specs.Laws.{is_first, first_in, accepted, RepeatsTellTheSame}
+use Rattle.exchange_sessions.specs.Laws.{is_first, first_in, told_first, RepeatsTellTheSame}
 use Rattle.exchange_sessions.specs.Lines.{NumberedLine, lines_in}
 use Rattle.exchange_sessions.specs.Messages.{message_in}
 use Rattle.exchange_sessions.specs.Served.{exchange_reply}
@@ -27,7 +27,7 @@ still_told sessions done more are session kept is = Contains-append_left done mo
 
 -- one taken message more
 taken_told : (reply : Replies) (served : Served) (message : Message) (done : List Told) → AreTold served.gate.sessions done
-    → AreTold (taken reply served message).gate.sessions (done ++ told_as reply served message First ∷ [])
+    → AreTold (after_served reply served message).gate.sessions (done ++ told_as reply served message First ∷ [])
 taken_told reply served message done are session kept is = by (nat_eq session message.session) refl (sym (kept_of-keep message.session (accepted_as message (reply (served.bodies ++ message.body ∷ []))) served.gate.sessions session) ∙ is)
   where
     by : (b : Bool) → nat_eq session message.session ≡ b → cond b (Some (accepted_as message (reply (served.bodies ++ message.body ∷ [])))) (kept_of served.gate.sessions session) ≡ Some kept
@@ -79,7 +79,7 @@ told_is reply served (Some message) = refl
 
 repeats_from : (reply : Replies) (served : Served) (lines : List NumberedLine) (done : List Told) → AreTold served.gate.sessions done
     → (before later : List LineAnswer) (answer : LineAnswer) (told : Told) → answers_from reply served lines ≡ before ++ answer ∷ later → answer.told ≡ Some told → told.answer ≡ Repeat
-    → Contains (done ++ accepted before) (told_of told.message First told.reply)
+    → Contains (done ++ told_first before) (told_of told.message First told.reply)
 repeats_from reply served [] done are [] later answer told e is repeat = absurd (cc)
 repeats_from reply served [] done are (first ∷ before) later answer told e is repeat = absurd (cc)
 repeats_from reply served (line ∷ lines) done are [] later answer told e is repeat =
@@ -93,7 +93,7 @@ repeats_from reply served (line ∷ lines) done are (first ∷ before) later ans
     let now = line_told reply served (message_in line.text) done are in
     let all = repeats_from reply (after_said reply served (message_in line.text)) lines (done ++ first_in (told_said reply served (message_in line.text))) now before later answer told rest is repeat in
     subst (λ l. Contains l (told_of told.message First told.reply))
-    (append_assoc done (first_in (told_said reply served (message_in line.text))) (accepted before) ∙ ap (λ t. done ++ (first_in t ++ accepted before)) shown) all
+    (append_assoc done (first_in (told_said reply served (message_in line.text))) (told_first before) ∙ ap (λ t. done ++ (first_in t ++ told_first before)) shown) all
 
 none_told : AreTold nothing_served.gate.sessions []
 none_told session kept e = absurd (cc)

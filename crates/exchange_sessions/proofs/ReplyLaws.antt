@@ -11,10 +11,10 @@ use Rattle.session_gate.specs.Answers.{answer_to}
 use Rattle.session_gate.specs.Bodies.{is_body}
 use Rattle.session_gate.specs.Gate.{Message, message_of, accepted_as, kept_of}
 use Rattle.session_gate.specs.Laws.{bodies_of}
-use Rattle.session_gate.specs.Runs.{Replies, Served, nothing_served, taken, after_answer}
+use Rattle.session_gate.specs.Runs.{Replies, Served, nothing_served, after_served, after_answer}
 use Rattle.session_gate.proofs.KnownBefore.{kept_of-keep}
 use Rattle.exchange_sessions.specs.Answers.{Told, LineAnswer, reply_of, kept_reply, told_of, after_said, answers_from, answers}
-use Rattle.exchange_sessions.specs.Laws.{is_first, first_in, accepted, accepted_bodies, replies_text, RepliesAreOfOneInput}
+use Rattle.exchange_sessions.specs.Laws.{is_first, first_in, told_first, accepted_bodies, replies_text, RepliesAreOfOneInput}
 use Rattle.exchange_sessions.specs.Lines.{NumberedLine, lines_in}
 use Rattle.exchange_sessions.specs.Messages.{at_comma, number_to, message_with, message_in}
 use Rattle.exchange_sessions.specs.Served.{exchange_reply}
@@ -22,7 +22,7 @@ use Rattle.exchange_sessions.proofs.AcceptedLaws.{told_said}
 use Rattle.exchange_sessions.proofs.OneInput.{IsBody, replies_of, output_is_replies}
 
 -- what is kept of a session whose message is taken
-pub kept_first : (reply : Replies) (served : Served) (message : Message) → kept_reply (taken reply served message).gate message.session ≡ reply (served.bodies ++ message.body ∷ [])
+pub kept_first : (reply : Replies) (served : Served) (message : Message) → kept_reply (after_served reply served message).gate message.session ≡ reply (served.bodies ++ message.body ∷ [])
 kept_first reply served message =
     let kept = accepted_as message (reply (served.bodies ++ message.body ∷ [])) in
     ap reply_of (kept_of-keep message.session kept served.gate.sessions message.session)
@@ -34,17 +34,17 @@ told_as reply served message given = told_of message given (kept_reply (after_an
 
 module _ (reply : Replies) where
   abbrev AreReplies : List LineAnswer → Served → Type 0
-  AreReplies given served = replies_text (accepted given) ≡ replies_of reply served.bodies (accepted_bodies given)
+  AreReplies given served = replies_text (told_first given) ≡ replies_of reply served.bodies (accepted_bodies given)
 
   replies_told : (served : Served) (lines : List NumberedLine) → AreReplies (answers_from reply served lines) served
   replies_told served [] = refl
   replies_told served (line ∷ lines) = said (message_in line.text) (λ next. replies_told next lines)
     where
       by : (message : Message) (given : Answer) → ((next : Served) → AreReplies (answers_from reply next lines) next)
-          → replies_text ((if is_first given then told_as reply served message given ∷ [] else []) ++ accepted (answers_from reply (after_answer given reply served message) lines))
+          → replies_text ((if is_first given then told_as reply served message given ∷ [] else []) ++ told_first (answers_from reply (after_answer given reply served message) lines))
           ≡ replies_of reply served.bodies (bodies_of (map (λ (told : Told). told.message)
-          ((if is_first given then told_as reply served message given ∷ [] else []) ++ accepted (answers_from reply (after_answer given reply served message) lines))))
-      by message First each = ap₂ (λ (r rest : List ℕ). r ++ 10 ∷ rest) (kept_first reply served message) (each (taken reply served message))
+          ((if is_first given then told_as reply served message given ∷ [] else []) ++ told_first (answers_from reply (after_answer given reply served message) lines))))
+      by message First each = ap₂ (λ (r rest : List ℕ). r ++ 10 ∷ rest) (kept_first reply served message) (each (after_served reply served message))
       by message Repeat each = each served
       by message (Old expected) each = each served
       by message (Ahead expected) each = each served
@@ -52,8 +52,8 @@ module _ (reply : Replies) where
       by message Sessions each = each served
 
       said : (what : Option Message) → ((next : Served) → AreReplies (answers_from reply next lines) next)
-          → replies_text (first_in (told_said reply served what) ++ accepted (answers_from reply (after_said reply served what) lines))
-          ≡ replies_of reply served.bodies (bodies_of (map (λ (told : Told). told.message) (first_in (told_said reply served what) ++ accepted (answers_from reply (after_said reply served what) lines))))
+          → replies_text (first_in (told_said reply served what) ++ told_first (answers_from reply (after_said reply served what) lines))
+          ≡ replies_of reply served.bodies (bodies_of (map (λ (told : Told). told.message) (first_in (told_said reply served what) ++ told_first (answers_from reply (after_said reply served what) lines))))
       said None each = each served
       said (Some message) each = by message (answer_to served.gate message) each
 
@@ -83,8 +83,8 @@ module _ (reply : Replies) where
     where
       by : (message : Message) (given : Answer) → IsBody message.body → ((next : Served) → All IsBody (accepted_bodies (answers_from reply next lines)))
           → All IsBody (bodies_of (map (λ (told : Told). told.message)
-          ((if is_first given then told_as reply served message given ∷ [] else []) ++ accepted (answers_from reply (after_answer given reply served message) lines))))
-      by message First is each = All-cons IsBody message.body (accepted_bodies (answers_from reply (taken reply served message) lines)) is (each (taken reply served message))
+          ((if is_first given then told_as reply served message given ∷ [] else []) ++ told_first (answers_from reply (after_answer given reply served message) lines))))
+      by message First is each = All-cons IsBody message.body (accepted_bodies (answers_from reply (after_served reply served message) lines)) is (each (after_served reply served message))
       by message Repeat is each = each served
       by message (Old expected) is each = each served
       by message (Ahead expected) is each = each served
@@ -92,7 +92,7 @@ module _ (reply : Replies) where
       by message Sessions is each = each served
 
       said : (what : Option Message) → message_in line.text ≡ what → ((next : Served) → All IsBody (accepted_bodies (answers_from reply next lines)))
-          → All IsBody (bodies_of (map (λ (told : Told). told.message) (first_in (told_said reply served what) ++ accepted (answers_from reply (after_said reply served what) lines))))
+          → All IsBody (bodies_of (map (λ (told : Told). told.message) (first_in (told_said reply served what) ++ told_first (answers_from reply (after_said reply served what) lines))))
       said None is each = each served
       said (Some message) is each = by message (answer_to served.gate message) (said_body line.text message is) each
 

@@ -24,12 +24,12 @@ first_in None = []
 first_in (Some told) = if is_first told.answer then told ∷ [] else []
 
 -- what was told to the messages that were answered First, in order
-abbrev pub accepted : List LineAnswer → List Told
-accepted [] = []
-accepted (answer ∷ more) = first_in answer.told ++ accepted more
+abbrev pub told_first : List LineAnswer → List Told
+told_first [] = []
+told_first (answer ∷ more) = first_in answer.told ++ told_first more
 
 abbrev pub accepted_messages : List LineAnswer → List Message
-accepted_messages given = map (λ (told : Told). told.message) (accepted given)
+accepted_messages given = map (λ (told : Told). told.message) (told_first given)
 
 abbrev pub accepted_bodies : List LineAnswer → List (List ℕ)
 accepted_bodies given = bodies_of (accepted_messages given)
@@ -59,13 +59,13 @@ replies_text (told ∷ more) = told.reply ++ 10 ∷ replies_text more
 
 -- The replies told to the messages answered First are the output of their bodies as one input.
 abbrev pub RepliesAreOfOneInput : Type 0
-RepliesAreOfOneInput = (input : List ℕ) → replies_text (accepted (answers input)) ≡ output (as_input (accepted_bodies (answers input)))
+RepliesAreOfOneInput = (input : List ℕ) → replies_text (told_first (answers input)) ≡ output (as_input (accepted_bodies (answers input)))
 
 -- a message that is answered Repeat was answered First before, with the same reply
 abbrev pub AreRepeats : List LineAnswer → Type 0
 AreRepeats given = (before later : List LineAnswer) (answer : LineAnswer) (told : Told)
     → given ≡ before ++ answer ∷ later → answer.told ≡ Some told → told.answer ≡ Repeat
-    → Contains (accepted before) (told_of told.message First told.reply)
+    → Contains (told_first before) (told_of told.message First told.reply)
 
 -- A Repeat tells the reply that was told to its First.
 abbrev pub RepeatsTellTheSame : Type 0
@@ -79,7 +79,7 @@ pub record TellOnce (bytes : List ℕ) : Type 0 where
   -- the messages answered First have, session by session, the numbers 1, 2, 3 and so on
   pub in_order : (session : ℕ) → AreFrom 1 (numbers_of session (accepted_messages answers))
   -- their replies are the output of their bodies as one input
-  pub replies : replies_text (accepted answers) ≡ output (as_input (accepted_bodies answers))
+  pub replies : replies_text (told_first answers) ≡ output (as_input (accepted_bodies answers))
   pub repeats : AreRepeats answers
 
 -- What is written for an input tells each message once.

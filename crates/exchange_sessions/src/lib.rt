@@ -7,8 +7,6 @@ mod lines;
 mod messages;
 mod server;
 mod stop;
-#[cfg(test)]
-mod tests;
 mod texts;
 
 pub use answers::answer_messages;

@@ -1,4 +1,9 @@
 //! Each case, from the text of its program to the text of its end.
+ghost use Rattle.std.specs.Prelude.{◌≡◌, ◌*◌, ◌≤◌, IfOk, vec_len};
+ghost use Rattle.std.specs.List.{All};
+ghost use Rattle.exact_num.specs.Fraction.{IsNotBelowZero};
+ghost use Rattle.frac.specs.Value.{fraction_of};
+
 use crate::cases::CASES;
 use anyhow::{Context, Result, ensure};
 use case_texts::{is_none_below_zero, numbers, print_number, print_wide};
@@ -43,36 +48,82 @@ fn print_end(text: &mut String, end: &Result<Solved<Frac128>, Stop>) -> Result<(
     }
 }
 
-// Solves the program of the text, and prints the units spent and the end.
-fn solved(alloc: Global, text: &str) -> Result<String> {
-    let mut parts = text.split('|');
-    let mut sizes = parts.next().context("the sizes")?.split_whitespace();
-    let units = sizes.next().context("the units")?.parse::<u32>()?;
-    let n = sizes.next().context("the variables")?.parse::<usize>()?;
-    let m = sizes.next().context("the rows")?.parse::<usize>()?;
-    let a = numbers(alloc, parts.next().context("the coefficients")?)?;
-    let b = numbers(alloc, parts.next().context("the right sides")?)?;
-    let c = numbers(alloc, parts.next().context("the costs")?)?;
+// The units, the variables and the rows of a text.
+fn sizes(text: &str) -> Result<(u32, usize, usize)> {
+    let mut words = text.split_whitespace();
+    Ok((
+        words.next().context("the units")?.parse()?,
+        words.next().context("the variables")?.parse()?,
+        words.next().context("the rows")?.parse()?,
+    ))
+}
+
+// The program of so many variables and rows, with its coefficients, right sides and costs.
+fn program(
+    n: usize,
+    m: usize,
+    a: Vec<Frac128>,
+    b: Vec<Frac128>,
+    c: Vec<Frac128>,
+) -> Result<Program<Frac128>>
+    ensures coefficients { IfOk result (λ program. vec_len program.a ≡ program.m * program.n) }
+    ensures right_sides { IfOk result (λ program. vec_len program.b ≡ program.m) }
+    ensures costs { IfOk result (λ program. vec_len program.c ≡ program.n) }
+    ensures variables { IfOk result (λ program. program.n ≤ 100000) }
+    ensures rows { IfOk result (λ program. program.m ≤ 100000) }
+    ensures not_below_zero { IfOk result
+        (λ program. All (λ b. IsNotBelowZero (fraction_of b)) program.b.items) }
+{
     ensure!(n <= 1000 && m <= 1000, "too many numbers");
     ensure!(a.len() == m * n, "the coefficients");
     ensure!(b.len() == m, "the right sides");
     ensure!(c.len() == n, "the costs");
     let signs = is_none_below_zero(b.as_slice());
     ensure!(signs, "a right side below 0");
+    Ok(Program { n, m, a, b, c })
+}
+
+// Solves the program, and prints the units spent and the end.
+fn solved(alloc: Global, units: u32, program: &Program<Frac128>) -> Result<String, AllocError>
+    requires coefficients { vec_len program.now.a ≡ program.now.m * program.now.n }
+    requires right_sides { vec_len program.now.b ≡ program.now.m }
+    requires costs { vec_len program.now.c ≡ program.now.n }
+    requires variables { program.now.n ≤ 100000 }
+    requires rows { program.now.m ≤ 100000 }
+    requires not_below_zero { All (λ b. IsNotBelowZero (fraction_of b)) program.now.b.items }
+{
     let mut budget = Budget::new(units);
-    let program = Program { n, m, a, b, c };
-    let end = solve(alloc, &program, &mut budget);
+    let end = solve(alloc, program, &mut budget);
     let spent = budget.spent;
     let mut answer = format!(in alloc; "{spent}")?;
     print_end(&mut answer, &end)?;
     Ok(answer)
 }
 
+// How the program of the text ends.
+fn end_of(alloc: Global, text: &str) -> Result<String> {
+    let mut parts = text.split('|');
+    let (units, n, m) = sizes(parts.next().context("the sizes")?)?;
+    let a = numbers(alloc, parts.next().context("the coefficients")?)?;
+    let b = numbers(alloc, parts.next().context("the right sides")?)?;
+    let c = numbers(alloc, parts.next().context("the costs")?)?;
+    let program = program(n, m, a, b, c)?;
+    Ok(solved(alloc, units, &program)?)
+}
+
+// Whether the program of a case ends as the case says.
+fn ends_so(alloc: Global, case: &str) -> Result<bool> {
+    let (input, end) = case.split_once("\n= ").context("an end")?;
+    let (_, program) = input.split_once('\n').context("a name")?;
+    Ok(end_of(alloc, program)?.as_str() == end.trim())
+}
+
 #[test]
 fn each_case_ends_as_it_says(rt: HostRuntime) -> Result<()> {
-    for (name, program, end) in CASES {
-        let found = solved(rt.alloc(), program)?;
-        assert_eq!(rt; found.as_str(), end, "{name}");
+    let (_, cases) = CASES.split_once("== ").context("a case")?;
+    for case in cases.split("== ") {
+        let so = ends_so(rt.alloc(), case)?;
+        assert!(rt; so, "{case}");
     }
     Ok(())
 }
@@ -95,29 +146,54 @@ fn the_ways_to_choose_are_counted(rt: HostRuntime) {
     }
 }
 
-// max x + y under x <= 1 and y <= 1; max x under -x <= 0; and max x under x <= 1 without a unit.
+// The value of max x + y under x <= 1 and y <= 1, where the run ends with an optimum.
+fn value_of_both(space: &mut Space<Frac128>, budget: &mut Budget) -> Option<Frac128>
+    requires { (2 ≤ space.old.rows) × (2 ≤ space.old.columns) }
+    ensures { (space.new.rows ≡ space.old.rows) × (space.new.columns ≡ space.old.columns) }
+{
+    let zero = Frac128::zero();
+    let one = Frac128::one();
+    space.begin(&[one, one]);
+    space.row(&[one, zero], one);
+    space.row(&[zero, one], one);
+    let found = space.run(budget);
+    if found == Ok(true) {
+        Some(space.value())
+    } else {
+        None
+    }
+}
+
+// Runs max x under a x <= b.
+fn run_row(
+    space: &mut Space<Frac128>,
+    a: Frac128,
+    b: Frac128,
+    budget: &mut Budget,
+) -> Result<bool, RunStop>
+    requires room { (1 ≤ space.old.rows) × (1 ≤ space.old.columns) }
+    requires right_side { IsNotBelowZero (fraction_of b) }
+    ensures { (space.new.rows ≡ space.old.rows) × (space.new.columns ≡ space.old.columns) }
+{
+    space.begin(&[Frac128::one()]);
+    space.row(&[a], b);
+    space.run(budget)
+}
+
+// The last program is run without a unit left.
 #[test]
 fn a_space_serves_one_program_after_another(rt: HostRuntime) -> Result<()> {
     let zero = Frac128::zero();
     let one = Frac128::one();
     let mut space: Space<Frac128> = Space::new(rt.alloc(), 2, 2)?;
     let mut budget = Budget::new(3);
-    space.begin(&[one, one]);
-    space.row(&[one, zero], one);
-    space.row(&[zero, one], one);
-    let found = space.run(&mut budget);
-    assert_eq!(rt; found, Ok(true));
-    let two = one.add(one).ok().context("two")?;
-    assert_eq!(rt; space.value(), two);
+    let value = value_of_both(&mut space, &mut budget);
+    assert!(rt; value == Frac128::from_whole(2).ok());
     assert_eq!(rt; budget.spent, 2);
-    space.begin(&[one]);
-    space.row(&[one.neg()], zero);
-    let rising = space.run(&mut budget);
+    let rising = run_row(&mut space, one.neg(), zero, &mut budget);
     assert_eq!(rt; rising, Ok(false));
     assert_eq!(rt; budget.spent, 3);
-    space.begin(&[one]);
-    space.row(&[one], one);
-    let stopped = space.run(&mut budget);
+    let stopped = run_row(&mut space, one, one, &mut budget);
     assert_eq!(rt; stopped, Err(RunStop::Budget));
     Ok(())
 }

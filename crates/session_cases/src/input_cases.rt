@@ -1,4 +1,4 @@
-use crate::{AnswerStop, answer_messages};
+use exchange_sessions::{AnswerStop, answer_messages};
 use port_io::MemSink;
 use std::alloc::{AllocError, Global};
 use std::process::Abort;
