@@ -5,6 +5,9 @@ use borrow.Author.Differences.{up, down, sum_is_lem, product_is, neg_is, le_out,
 use native.Mathlib.Nat.{mul-le-mul_left, le_of_mul-le-mul_left}
 use Rattle.std.proofs.Math.Nat.{lt_of_mul-lt-mul_right, mul_comm}
 
+pub plus_negative : (a b : ℤ) → a +ℤ neg_ℤ b ≡ a -ℤ b
+plus_negative a b = omega (arith, ints)
+
 pub *ℤ_distl : (a b c : ℤ) → a *ℤ (b +ℤ c) ≡ (a *ℤ b) +ℤ (a *ℤ c)
 *ℤ_distl a b c = omega (arith, ints, ap (λ n. up a * n) (sum_is_lem b c), ap (λ n. down a * n) (sum_is_lem b c))
 

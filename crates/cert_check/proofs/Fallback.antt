@@ -11,7 +11,7 @@ use Rattle.exact_num.specs.Tests.{is_same}
 use Rattle.exact_num.proofs.After.{after_value}
 use Rattle.exact_num.proofs.Fractions.{common_positive}
 use Rattle.exact_num.proofs.Order.{parts_same, same_parts}
-use Rattle.exact_num.proofs.Stands.{Stands, amounts_stand, sum_stands, difference_stands}
+use Rattle.exact_num.proofs.LowestRatios.{IsLowestRatio, amounts_stand, sum_stands, difference_stands}
 use Rattle.exact_num.proofs.Tested.{ratio_is_same, lowest_are_defined, all_hold, not_all_hold}
 use Rattle.exact_num.proofs.Values.{whole_is_lowest}
 use Rattle.frac.specs.Range.{limit}
@@ -33,27 +33,27 @@ use Rattle.cert_check.specs.Cover.{add_fill, add_same, balance_of, balances_at, 
 abbrev counts_for : List BundleLeg → Order → ℤ
 counts_for bundle o = one_if (is_same_bundle (bundle_of o) bundle)
 
-fill_stands : (side : Side) (total f s : Fraction) (x y : ℤ) (D : ℕ) → Stands total x D → Stands f y D → add_fill limit total side f ≡ Ok s → Stands s (x +ℤ for_side side (pos 1 *ℤ y)) D
+fill_stands : (side : Side) (total f s : Fraction) (x y : ℤ) (D : ℕ) → IsLowestRatio total x D → IsLowestRatio f y D → add_fill limit total side f ≡ Ok s → IsLowestRatio s (x +ℤ for_side side (pos 1 *ℤ y)) D
 fill_stands Buy total f s x y D st sf h =
     let e : x +ℤ y ≡ x +ℤ (pos 1 *ℤ y) = omega (arith, ints, products) in
-    subst (λ w. Stands s w D) e (sum_stands limit total f s x y D st sf h)
+    subst (λ w. IsLowestRatio s w D) e (sum_stands limit total f s x y D st sf h)
 fill_stands Sell total f s x y D st sf h =
     let e : x +ℤ neg_ℤ y ≡ x +ℤ neg_ℤ (pos 1 *ℤ y) = omega (arith, ints, products) in
-    subst (λ w. Stands s w D) e (difference_stands limit total f s x y D st sf h)
+    subst (λ w. IsLowestRatio s w D) e (difference_stands limit total f s x y D st sf h)
 
 nothing : (side : Side) (x y : ℤ) → x ≡ x +ℤ for_side side (pos 0 *ℤ y)
 nothing Buy x y = omega (arith, ints, products)
 nothing Sell x y = omega (arith, ints, products)
 
-same_stands : (bundle : List BundleLeg) (o : Order) (total f s : Fraction) (x y : ℤ) (D : ℕ) → Stands total x D → Stands f y D → add_same limit bundle total (o, f) ≡ Ok s → Stands s (x +ℤ for_side o.side (counts_for bundle o *ℤ y)) D
+same_stands : (bundle : List BundleLeg) (o : Order) (total f s : Fraction) (x y : ℤ) (D : ℕ) → IsLowestRatio total x D → IsLowestRatio f y D → add_same limit bundle total (o, f) ≡ Ok s → IsLowestRatio s (x +ℤ for_side o.side (counts_for bundle o *ℤ y)) D
 same_stands bundle o total f s x y D st sf h = by_test (is_same_bundle (bundle_of o) bundle) refl
   where
-    by_test : (t : Bool) → is_same_bundle (bundle_of o) bundle ≡ t → Stands s (x +ℤ for_side o.side (counts_for bundle o *ℤ y)) D
+    by_test : (t : Bool) → is_same_bundle (bundle_of o) bundle ≡ t → IsLowestRatio s (x +ℤ for_side o.side (counts_for bundle o *ℤ y)) D
     by_test true e = rw e (fill_stands o.side total f s x y D st sf (rw e at h))
     by_test false e =
         let none : Ok total ≡ Ok s = rw e at h in
         let stays : total ≡ s = cc in
-        rw e (subst (λ w. Stands s w D) (nothing o.side x y) (subst (λ t. Stands t x D) stays st))
+        rw e (subst (λ w. IsLowestRatio s w D) (nothing o.side x y) (subst (λ t. IsLowestRatio t x D) stays st))
 
 -- the balance of a bundle, from the sum over its denominator
 balance_is : (os : List Order) (fs : List Fraction) (bundle : List BundleLeg) → AreFractionFills os fs
@@ -66,7 +66,7 @@ balance_is os fs bundle are =
 record BalanceSum (os : List Order) (fs : List Fraction) (o : Order) (is : Bool) : Type 0 where
   sum : Fraction
   test : is_same sum (whole (pos 0)) ≡ is
-  stands : Stands sum (model_balance (bundle_of o) (zip os (amounts_of fs))) (common_denominator fs)
+  stands : IsLowestRatio sum (model_balance (bundle_of o) (zip os (amounts_of fs))) (common_denominator fs)
 
 balance_sum : (os : List Order) (fs : List Fraction) (o : Order) (is : Bool) → AreFractionFills os fs → All IsLowest fs → balances_at limit (zip os fs) (bundle_of o) ≡ Ok is → BalanceSum os fs o is
 balance_sum os fs o is are low h =
@@ -74,7 +74,7 @@ balance_sum os fs o is are low h =
     let bundle = bundle_of o in
     let sum = after_value (balance_of limit (zip os fs) bundle) (λ sum. Ok (is_same sum (whole (pos 0)))) is h in
     let st = fills_stand D (add_same limit bundle) (counts_for bundle) (λ o a sa start s x st step. same_stands bundle o start a s x _ D st sa step) os fs sum.value (amounts_stand fs low) sum.first in
-    record { sum = sum.value; test = cc (sum.rest); stands = subst (λ x. Stands sum.value x D) (sym (balance_is os fs bundle are)) st }
+    record { sum = sum.value; test = cc (sum.rest); stands = subst (λ x. IsLowestRatio sum.value x D) (sym (balance_is os fs bundle are)) st }
 
 balance_here : (os : List Order) (fs : List Fraction) (o : Order) → AreFractionFills os fs → All IsLowest fs → balances_at limit (zip os fs) (bundle_of o) ≡ Ok true → model_balance (bundle_of o) (zip os (amounts_of fs)) ≡ pos 0
 balance_here os fs o are low h =

@@ -11,7 +11,7 @@ use Rattle.exact_num.specs.Tests.{is_same, is_not_below_zero}
 use Rattle.exact_num.proofs.After.{after_value}
 use Rattle.exact_num.proofs.Fractions.{common_positive}
 use Rattle.exact_num.proofs.Order.{same_parts}
-use Rattle.exact_num.proofs.Stands.{Stands, amounts_stand, difference_stands}
+use Rattle.exact_num.proofs.LowestRatios.{IsLowestRatio, amounts_stand, difference_stands}
 use Rattle.exact_num.proofs.Tested.{ratio_is_same, lowest_are_defined}
 use Rattle.frac.specs.Range.{limit}
 use Rattle.form.specs.declared.orders.Order.{Order}
@@ -24,12 +24,12 @@ use Rattle.cert_check.specs.Tests.{add_premium, premium_of, is_claimed, surplus_
 record SurplusSum (os : List Order) (fs : List Fraction) (L S : Fraction) (is : Bool) : Type 0 where
   left : Fraction
   test : is_claimed S left ≡ is
-  stands : (let D = common_denominator (L ∷ fs) in Stands left (signed_premium (signed_over D os fs) -ℤ amount_over D L) D)
+  stands : (let D = common_denominator (L ∷ fs) in IsLowestRatio left (signed_premium (signed_over D os fs) -ℤ amount_over D L) D)
 
 surplus_sum : (os : List Order) (fs : List Fraction) (L S : Fraction) (is : Bool) → All IsLowest fs → IsLowest L → surplus_holds limit (zip os fs) L S ≡ Ok is → SurplusSum os fs L S is
 surplus_sum os fs L S is low lowest_L h =
     let D = common_denominator (L ∷ fs) in
-    let P : Fraction → Type 0 = λ a. Stands a (amount_over D a) D in
+    let P : Fraction → Type 0 = λ a. IsLowestRatio a (amount_over D a) D in
     let stand = amounts_stand (L ∷ fs) (All-cons IsLowest L fs lowest_L low) in
     let outer = after_value (premium_of limit (zip os fs)) (λ premium. after (sub_of limit premium L) (λ left. Ok (is_claimed S left))) is h in
     let inner = after_value (sub_of limit outer.value L) (λ left. Ok (is_claimed S left)) is outer.rest in

@@ -8,7 +8,7 @@ use Rattle.exact_num.specs.Fits.{after, written_back}
 use Rattle.compact_table.proofs.EntrySteps.{front_of, behind, behind_more, done_more, left_less}
 use Rattle.compact_run.specs.Turn.{short_divided, short_cleared}
 use Rattle.compact_run.proofs.Columns.{same_test, other_test}
-use Rattle.compact_table.specs.Lists.{front, fronts, list_after, lists_after, turned}
+use Rattle.compact_table.specs.Lists.{front, fronts, list_after, lists_after, lists_after_turn}
 
 module _ {A : Type 0} (V : A → List Fraction) (L h k r : ℕ) (P : List Fraction) where
   step : (rows : List A) (i : ℕ) (x : A) → i < length rows → x ≡ slice_index_or rows i x
@@ -85,7 +85,7 @@ pivot_unread L h k r P i (suc j) (xs ∷ rows) y e =
     ap (λ z. after (list_after L h k r P i xs) (λ first. after z (λ others. Ok (first ∷ others)))) (pivot_unread L h k r P (i + 1) j rows y (omega (arith, e)))
 
 pub turned_is : (L h k r : ℕ) (rows : List (List Fraction)) (P last : List Fraction) → short_divided L h k (slice_index_or rows r []) ≡ Ok P
-    → turned L h k r rows last ≡ after (lists_after L h k r P 0 (set rows r P)) (λ others. after (short_cleared L h k P last) (λ l. Ok (others, l)))
+    → lists_after_turn L h k r rows last ≡ after (lists_after L h k r P 0 (set rows r P)) (λ others. after (short_cleared L h k P last) (λ l. Ok (others, l)))
 turned_is L h k r rows P last e = let unread = pivot_unread L h k r P 0 r rows P (omega arith) in rw (e, unread) refl
 
 pub beside : {T A B : Type 0} (q : Result T Wide) (a : A) (b : B) → written_back {A = A × B} q (a, b) ≡ after (written_back q b) (λ l. Ok (a, l))

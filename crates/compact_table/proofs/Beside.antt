@@ -5,10 +5,10 @@ use Rattle.exact_num.specs.declared.misfit.Wide.{Wide}
 use Rattle.exact_num.specs.Fraction.{Fraction}
 use Rattle.exact_num.specs.Fits.{after}
 use Rattle.table_run.specs.Table.{Row, row_of, entries_at, basic_at}
-use Rattle.compact_run.specs.Compact.{CompactTable, moved}
+use Rattle.compact_run.specs.Compact.{CompactTable, remove_insert}
 use Rattle.compact_run.specs.Turn.{short_divided, short_cleared, short_rows_after, short_pivoted_at}
 use Rattle.compact_run.proofs.Columns.{same_test, other_test}
-use Rattle.compact_table.specs.Lists.{lists_after, turned}
+use Rattle.compact_table.specs.Lists.{lists_after, lists_after_turn}
 use Rattle.compact_table.specs.Candidates.{beside_basics, apart}
 
 one_more : (b : ℕ) (bs : List ℕ) (q : Result (List Fraction) Wide) (rest : Result (List (List Fraction)) Wide)
@@ -69,11 +69,11 @@ made_of kept basics (Err w) last = refl
 
 pub pivoted_apart : (L h k r : ℕ) (kept basics : List ℕ) (lists : List (List Fraction)) (objective : List Fraction) → length basics ≡ length lists
     → short_pivoted_at L h k r (apart kept basics lists objective)
-    ≡ after (turned L h k r lists objective) (λ t. Ok (apart (moved h k (slice_index_or basics r 0) kept) (set basics r (get_or kept h 0)) t.0 t.1))
+    ≡ after (lists_after_turn L h k r lists objective) (λ t. Ok (apart (remove_insert h k (slice_index_or basics r 0) kept) (set basics r (get_or kept h 0)) t.0 t.1))
 unfolding short_pivoted_at
 pivoted_apart L h k r kept basics lists objective s =
     let b = basic_beside basics lists r s in
-    let news = moved h k (slice_index_or basics r 0) kept in
+    let news = remove_insert h k (slice_index_or basics r 0) kept in
     rw (entries_beside basics lists r s, b) (go (short_divided L h k (slice_index_or lists r [])) news)
   where
     go : (q : Result (List Fraction) Wide) (news : List ℕ)

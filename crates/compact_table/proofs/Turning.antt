@@ -6,21 +6,21 @@ use Rattle.exact_num.specs.declared.misfit.Wide.{Wide}
 use Rattle.exact_num.specs.Fraction.{Fraction}
 use Rattle.exact_num.specs.Fits.{after}
 use Rattle.table_run.specs.Choice.{Ratio, least}
-use Rattle.compact_run.specs.Compact.{CompactTable, moved, place_for}
+use Rattle.compact_run.specs.Compact.{CompactTable, remove_insert, place_for}
 use Rattle.compact_run.specs.Turn.{short_ratios, short_pivoted, short_pivoted_at, without_limit, stopped_by, compact_turn, short_leave, on_short_ratios, on_or_stopped}
 use Rattle.compact_table.specs.Candidates.{apart, best_with, short_leaving_of}
-use Rattle.compact_table.specs.Lists.{turned}
+use Rattle.compact_table.specs.Lists.{lists_after_turn}
 use Rattle.compact_table.proofs.Beside.{basic_beside, pivoted_apart}
 
 -- ---- the pivot, where l is the variable that leaves
 pub pivoted_by : (L h r k l : ℕ) (kept basics : List ℕ) (lists : List (List Fraction)) (objective : List Fraction) → length basics ≡ length lists → slice_index_or basics r 0 ≡ l → k ≡ place_for l (remove kept h)
-    → short_pivoted L h r (apart kept basics lists objective) ≡ after (turned L h k r lists objective) (λ t. Ok (apart (moved h k l kept) (set basics r (get_or kept h 0)) t.0 t.1))
+    → short_pivoted L h r (apart kept basics lists objective) ≡ after (lists_after_turn L h k r lists objective) (λ t. Ok (apart (remove_insert h k l kept) (set basics r (get_or kept h 0)) t.0 t.1))
 pivoted_by L h r k l kept basics lists objective same is_l is_k =
     let basic = basic_beside basics lists r same ∙ is_l in
     ap (λ b. short_pivoted_at L h (place_for b (remove kept h)) r (apart kept basics lists objective)) basic
     ∙ ap (λ p. short_pivoted_at L h p r (apart kept basics lists objective)) (sym is_k)
     ∙ pivoted_apart L h k r kept basics lists objective same
-    ∙ ap (λ b. after (turned L h k r lists objective) (λ t. Ok (apart (moved h k b kept) (set basics r (get_or kept h 0)) t.0 t.1))) is_l
+    ∙ ap (λ b. after (lists_after_turn L h k r lists objective) (λ t. Ok (apart (remove_insert h k b kept) (set basics r (get_or kept h 0)) t.0 t.1))) is_l
 
 -- ---- a turn by its leaving row
 pub turn_none : (L h : ℕ) (c : CompactTable) → short_leaving_of L (length c.kept) h c.rows ≡ Ok None → without_limit ≡ compact_turn L h c

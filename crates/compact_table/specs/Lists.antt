@@ -24,8 +24,8 @@ lists_after limit h k r pivot i (xs ∷ rows) =
     (λ first. after (lists_after limit h k r pivot (i + 1) rows) (λ others. Ok (first ∷ others)))
 
 -- the rows and the objective row of a turn
-abbrev pub turned : ℕ → ℕ → ℕ → ℕ → List (List Fraction) → List Fraction → Result (List (List Fraction) × List Fraction) Wide
-turned limit h k r rows objective =
+abbrev pub lists_after_turn : ℕ → ℕ → ℕ → ℕ → List (List Fraction) → List Fraction → Result (List (List Fraction) × List Fraction) Wide
+lists_after_turn limit h k r rows objective =
     after (short_divided limit h k (slice_index_or rows r []))
     (λ pivot. after (lists_after limit h k r pivot 0 rows)
     (λ others. after (short_cleared limit h k pivot objective) (λ last. Ok (others, last))))

@@ -70,7 +70,7 @@ fn difference<N: Exact>(entry: N, product: N) -> Result<N, Wide>
 }
 
 /// The entry less `factor` times the entry `pivot` of the pivot row, which is not 0.
-fn cleared<N: Exact>(entry: N, factor: N, pivot: N) -> Result<N, Wide>
+fn entry_less_product<N: Exact>(entry: N, factor: N, pivot: N) -> Result<N, Wide>
     requires { is_zero_of (N.fraction pivot) ≡ false }
     ensures { meaning N.fraction result ≡ short_less (unsigned_abs N.LIMIT)
         (N.fraction factor) (N.fraction entry) (N.fraction pivot) }
@@ -87,7 +87,7 @@ fn clear_entry<N: Exact>(row: &mut [N], pivot: &[N], factor: N, j: usize) -> Res
         ≡ entry_after (unsigned_abs N.LIMIT) (N.fraction factor)
         (map N.fraction pivot.now) j (map N.fraction row.old) }
 {
-    let entry = cleared(row[j], factor, pivot[j])?;
+    let entry = entry_less_product(row[j], factor, pivot[j])?;
     row[j] = entry;
     Ok(())
 }

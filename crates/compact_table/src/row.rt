@@ -22,7 +22,7 @@ pub fn take_pivot<N: Exact>(row: &mut [N], h: usize, k: usize) -> Result<(), Wid
 }
 
 /// Another row, or the objective row, is cleared; `places` are those where the pivot row is not 0.
-pub fn clear<N: Exact>(
+pub fn clear_column<N: Exact>(
     row: &mut [N],
     pivot: &[N],
     places: &[usize],

@@ -3,11 +3,11 @@ ghost use Rattle.std.specs.Prelude.{◌≡◌, ◌≢◌, ◌<◌, ◌≤◌, []
 ghost use Rattle.exact_num.specs.Fits.{written_back};
 ghost use Rattle.table_run.specs.Places.{at};
 ghost use Rattle.compact_run.specs.Turn.{short_divided, short_cleared};
-ghost use Rattle.compact_table.specs.Lists.{front, fronts, lists_after, turned};
+ghost use Rattle.compact_table.specs.Lists.{front, fronts, lists_after, lists_after_turn};
 ghost use Rattle.compact_table.specs.Nonzero.{nonzero_places};
 
 use crate::entries::list_nonzero;
-use crate::row::{clear, take_pivot};
+use crate::row::{clear_column, take_pivot};
 use exact_num::{Exact, Wide};
 use row_arena::RowArena;
 
@@ -37,7 +37,7 @@ fn clear_front<N: Exact>(
         ≡ short_cleared (unsigned_abs N.LIMIT) h k
         (front N.fraction width pivot.now) (front N.fraction width row.old) }
 {
-    clear(&mut row[..width], &pivot[..width], places, h, k)
+    clear_column(&mut row[..width], &pivot[..width], places, h, k)
 }
 
 /// Clears each row but the pivot row r, up to the first step that does not fit.
@@ -89,7 +89,7 @@ pub fn turn_rows<N: Exact>(
     requires room { length objective.old ≤ vec_capacity places.old }
     ensures turned { written_back result
         (fronts N.fraction (length objective.old) rows.new.rows, map N.fraction objective.new)
-        ≡ turned (unsigned_abs N.LIMIT) h k r
+        ≡ lists_after_turn (unsigned_abs N.LIMIT) h k r
         (fronts N.fraction (length objective.old) rows.old.rows) (map N.fraction objective.old) }
     ensures width { rows.new.width ≡ rows.old.width }
     ensures spare { rows.new.spare ≡ rows.old.spare }
@@ -100,5 +100,5 @@ pub fn turn_rows<N: Exact>(
     take_front(rows.row_mut(r), width, h, k)?;
     list_nonzero(&rows.row(r)[..width], places);
     clear_rows(rows, width, places.as_slice(), r, h, k)?;
-    clear(objective, &rows.row(r)[..width], places.as_slice(), h, k)
+    clear_column(objective, &rows.row(r)[..width], places.as_slice(), h, k)
 }

@@ -2,11 +2,11 @@
 ghost use Rattle.std.specs.Prelude.{◌≡◌, ◌+◌, ◌<◌, ◌≤◌, ◌==◌, [], false, IfOk, IfSome, length, map, position, unsigned_abs, vec_capacity, vec_len, slice_index_or, slice_set, get_or};
 ghost use Rattle.exact_num.specs.Fits.{written_back};
 ghost use Rattle.table_run.specs.Table.{right_side, where_basic};
-ghost use Rattle.compact_run.specs.Compact.{compact_first, entering_place, moved};
+ghost use Rattle.compact_run.specs.Compact.{compact_first, entering_place, remove_insert};
 ghost use Rattle.compact_run.specs.Run.{price_of};
 ghost use Rattle.compact_run.specs.Turn.{compact_turn, short_pivoted};
 ghost use Rattle.compact_table.specs.Candidates.{short_leaving_of, IsPivot};
-ghost use Rattle.compact_table.specs.Lists.{turned};
+ghost use Rattle.compact_table.specs.Lists.{lists_after_turn};
 ghost use Rattle.compact_table.specs.Programs.{empty_program, with_row};
 
 use crate::columns::{move_column, place_without};
@@ -183,7 +183,7 @@ impl<N: Exact> Table<N> {
         requires pivot { IsPivot h r (lists_of N.fraction self.old) }
         ensures turned { written_back result
             (lists_of N.fraction self.new, objective_of N.fraction self.new)
-            ≡ turned (unsigned_abs N.LIMIT) h k r
+            ≡ lists_after_turn (unsigned_abs N.LIMIT) h k r
             (lists_of N.fraction self.old) (objective_of N.fraction self.old) }
         ensures kept { self.new.kept.items ≡ self.old.kept.items }
         ensures basics { self.new.basics.items ≡ self.old.basics.items }
@@ -205,7 +205,7 @@ impl<N: Exact> Table<N> {
         requires columns { (h < length self.old.kept.items) × (k < length self.old.kept.items) }
         requires row { r < length self.old.basics.items }
         ensures kept { self.new.kept.items
-            ≡ moved h k (slice_index_or self.old.basics.items r 0) self.old.kept.items }
+            ≡ remove_insert h k (slice_index_or self.old.basics.items r 0) self.old.kept.items }
         ensures basics { self.new.basics.items
             ≡ slice_set self.old.basics.items r (get_or self.old.kept.items h 0) }
         ensures lists { lists_of N.fraction self.new ≡ lists_of N.fraction self.old }

@@ -15,8 +15,8 @@ use Rattle.form.specs.Payoff.{BundleLeg, bundle_of}
 use Rattle.market_laws.proofs.Balance.{same_bundle_is}
 use Rattle.each_match.specs.declared.queues.Offer.{Offer}
 use Rattle.each_match.specs.declared.auction.Trade.{Trade}
-use Rattle.each_match.specs.Auction.{place_on, amount_at, filled}
-use Rattle.each_match.specs.Laws.{matched, MatchIsBalanced}
+use Rattle.each_match.specs.Auction.{place_on, amount_at, fill_at}
+use Rattle.each_match.specs.Laws.{match_of, MatchIsBalanced}
 use Rattle.each_match.specs.Match.{trades_of, fill_of, fills_from}
 use Rattle.each_match.specs.Queue.{is_on, belongs, offer_of, offers_from, queue_of}
 use Rattle.each_match.proofs.InLine.{Each-in_line}
@@ -83,7 +83,7 @@ module _ (orders : List Order) (bundle : List BundleLeg) where
   -- what trades fill of the orders of the bundle on a side
   abbrev share : Side → List Trade → ℕ → List Order → ℕ
   share side ts place [] = 0
-  share side ts place (o ∷ rest) = (if belongs side bundle o then filled side place ts else 0) + share side ts (place + 1) rest
+  share side ts place (o ∷ rest) = (if belongs side bundle o then fill_at side place ts else 0) + share side ts (place + 1) rest
 
   share-none : (side : Side) (place : ℕ) (rest : List Order) → share side [] place rest ≡ 0
   share-none side place [] = refl
@@ -94,7 +94,7 @@ module _ (orders : List Order) (bundle : List BundleLeg) where
   share_before : (side : Side) (t : Trade) (ts : List Trade) (place : ℕ) (rest : List Order) → place_on side t < place → share side (t ∷ ts) place rest ≡ share side ts place rest
   share_before side t ts place [] lt = refl
   share_before side t ts place (o ∷ rest) lt =
-      let here : filled side place (t ∷ ts) ≡ filled side place ts = omega (arith, filled-cons side place t ts, amount_elsewhere side place t (λ e. omega (arith, e, lt))) in
+      let here : fill_at side place (t ∷ ts) ≡ fill_at side place ts = omega (arith, filled-cons side place t ts, amount_elsewhere side place t (λ e. omega (arith, e, lt))) in
       ap₂ (λ n m. (if belongs side bundle o then n else 0) + m) here (share_before side t ts (place + 1) rest (omega (arith, lt)))
 
   share_at : (side : Side) (t : Trade) (ts : List Trade) (place i : ℕ) (rest : List Order) (o : Order) → place_on side t ≡ place + i → slice_get rest i ≡ Some o → belongs side bundle o ≡ true
@@ -106,9 +106,9 @@ module _ (orders : List Order) (bundle : List BundleLeg) where
       let amount = amount_here side place t (omega (arith, is)) in
       rw e (omega (arith, here, amount, share_before side t ts (place + 1) rest (omega (arith, is))))
   share_at side t ts place (suc i) (p ∷ rest) o is at own =
-      let here : filled side place (t ∷ ts) ≡ filled side place ts = omega (arith, filled-cons side place t ts, amount_elsewhere side place t (λ e. omega (arith, e, is))) in
+      let here : fill_at side place (t ∷ ts) ≡ fill_at side place ts = omega (arith, filled-cons side place t ts, amount_elsewhere side place t (λ e. omega (arith, e, is))) in
       let later = share_at side t ts (place + 1) i rest o (omega (arith, is)) at own in
-      let first : (if belongs side bundle p then filled side place (t ∷ ts) else 0) ≡ (if belongs side bundle p then filled side place ts else 0) = ap (λ n. if belongs side bundle p then n else 0) here in
+      let first : (if belongs side bundle p then fill_at side place (t ∷ ts) else 0) ≡ (if belongs side bundle p then fill_at side place ts else 0) = ap (λ n. if belongs side bundle p then n else 0) here in
       omega (arith, first, later)
 
   at_side : (side : Side) (t : Trade) → IsAt Buy t.buy × IsAt Sell t.sell → IsAt side (place_on side t)
@@ -126,15 +126,15 @@ module _ (orders : List Order) (bundle : List BundleLeg) where
       → weigh_ℤ (λ (fill : Filled). taken side fill.0.side fill.1) (λ (fill : Filled). one_if (is_same_bundle (bundle_of fill.0) bundle)) (zip rest (fills_from orders place rest)) ≡ pos (share side (trades_of orders bundle) place rest)
   sum_is side place [] = refl
   sum_is side place (o ∷ rest) =
-      let here = term side o.side (is_same_bundle (bundle_of o) bundle) (fill_of orders place o) (filled side place (trades_of orders bundle))
-      (λ on same. ap₂ (λ s b. filled s place (trades_of orders b)) on (same_bundle_is (bundle_of o) bundle same)) in
+      let here = term side o.side (is_same_bundle (bundle_of o) bundle) (fill_of orders place o) (fill_at side place (trades_of orders bundle))
+      (λ on same. ap₂ (λ s b. fill_at s place (trades_of orders b)) on (same_bundle_is (bundle_of o) bundle same)) in
       omega (arith, ints, here, sum_is side (place + 1) rest)
 
-  pub balance : balance_of bundle (matched orders) ≡ pos 0
+  pub balance : balance_of bundle (match_of orders) ≡ pos 0
   balance =
       let bought = sum_is Buy 0 orders in
       let sold = sum_is Sell 0 orders in
       omega (arith, ints, bought, sold, share_is Buy (trades_of orders bundle) trades_at, share_is Sell (trades_of orders bundle) trades_at)
 
 pub match_is_balanced : MatchIsBalanced
-match_is_balanced orders k d lt = balance orders (bundle_of (get_or (matched orders) k d).0)
+match_is_balanced orders k d lt = balance orders (bundle_of (get_or (match_of orders) k d).0)

@@ -14,7 +14,7 @@ use Rattle.form.specs.Payoff.{BundleLeg, bundle_of}
 use Rattle.market_laws.proofs.Balance.{bundle_is_same}
 use Rattle.each_match.specs.declared.queues.Offer.{Offer}
 use Rattle.each_match.specs.declared.auction.Trade.{Trade}
-use Rattle.each_match.specs.Auction.{filled}
+use Rattle.each_match.specs.Auction.{fill_at}
 use Rattle.each_match.specs.Laws.{IsBetter, IsFilledAt, MatchIsTheAuction}
 use Rattle.each_match.specs.Match.{trades_of, fill_of, fills_from, match_by_bundle}
 use Rattle.each_match.specs.Queue.{is_on, belongs, offers_from, queue_of}
@@ -57,13 +57,13 @@ module _ (orders : List Order) (bundle : List BundleLeg) where
   takes Buy limit = nat_le price_of limit
   takes Sell limit = nat_le limit price_of
 
-  filled_between : (side : Side) (k : ℕ) → (waits (gains side) k (queue_of side bundle orders) ≤ filled side k (trades_of orders bundle)) × (filled side k (trades_of orders bundle) ≤ waits (takes side) k (queue_of side bundle orders))
+  filled_between : (side : Side) (k : ℕ) → (waits (gains side) k (queue_of side bundle orders) ≤ fill_at side k (trades_of orders bundle)) × (fill_at side k (trades_of orders bundle) ≤ waits (takes side) k (queue_of side bundle orders))
   unfolding gains takes price_of
   filled_between Buy k = has_price.bought k
   filled_between Sell k = has_price.sold k
 
   -- of the orders of other bundles nothing is filled
-  pub others_unfilled : (side : Side) (k : ℕ) (o : Order) → slice_get orders k ≡ Some o → belongs side bundle o ≡ false → filled side k (trades_of orders bundle) ≡ 0
+  pub others_unfilled : (side : Side) (k : ℕ) (o : Order) → slice_get orders k ≡ Some o → belongs side bundle o ≡ false → fill_at side k (trades_of orders bundle) ≡ 0
   others_unfilled side k o at other =
       let none : waits (takes side) k (queue_of side bundle orders) ≡ 0 = waits-queue_of side bundle (takes side) k orders o at ∙ ap (λ b. cond b (waiting_of (takes side) o) 0) other in
       omega (arith, none, (filled_between side k).1)
@@ -86,12 +86,12 @@ order_is_filled orders k o at =
     let bundle = bundle_of o in
     let price = price_of orders bundle in
     let trades = trades_of orders bundle in
-    let Goal : Side → Type 0 = λ side. belongs side bundle o ≡ true → (filled side k trades ≤ o.quantity) × ((IsBetter side o.price price → filled side k trades ≡ o.quantity) × (IsBetter side price o.price → filled side k trades ≡ 0)) in
+    let Goal : Side → Type 0 = λ side. belongs side bundle o ≡ true → (fill_at side k trades ≤ o.quantity) × ((IsBetter side o.price price → fill_at side k trades ≡ o.quantity) × (IsBetter side price o.price → fill_at side k trades ≡ 0)) in
     let own : (side : Side) → belongs side bundle o ≡ true → (p : ℕ → Bool) → waits p k (queue_of side bundle orders) ≡ waiting_of p o =
     λ side own p. waits-queue_of side bundle p k orders o at ∙ ap (λ b. cond b (waiting_of p o) 0) own in
-    let bounds : (side : Side) → belongs side bundle o ≡ true → (filled side k trades ≤ o.quantity) × (gains orders bundle side o.price ≡ true → filled side k trades ≡ o.quantity) × (takes orders bundle side o.price ≡ false → filled side k trades ≡ 0) =
+    let bounds : (side : Side) → belongs side bundle o ≡ true → (fill_at side k trades ≤ o.quantity) × (gains orders bundle side o.price ≡ true → fill_at side k trades ≡ o.quantity) × (takes orders bundle side o.price ≡ false → fill_at side k trades ≡ 0) =
     λ side mine. let h = filled_between orders bundle side k in
-    between (gains orders bundle side o.price) (takes orders bundle side o.price) (filled side k trades) o.quantity (omega (arith, h.0, own side mine (gains orders bundle side))) (omega (arith, h.1, own side mine (takes orders bundle side))) in
+    between (gains orders bundle side o.price) (takes orders bundle side o.price) (fill_at side k trades) o.quantity (omega (arith, h.0, own side mine (gains orders bundle side))) (omega (arith, h.1, own side mine (takes orders bundle side))) in
     (elim o.side as Goal [
       | Buy ↦ λ mine. let b = bounds Buy mine in (b.0, (λ better. b.1 (lt-ltb price o.price better), λ worse. b.2 (grind (arith, nat_tests))))
       | Sell ↦ λ mine. let b = bounds Sell mine in (b.0, (λ better. b.1 (lt-ltb o.price price better), λ worse. b.2 (grind (arith, nat_tests))))
@@ -129,7 +129,7 @@ fills_more orders place o done pushed whole fill at push is h =
     let later = fills_from orders (place + 1) (drop (place + 1) orders) in
     (λ i. push i ++ later) ∙ append_assoc done (fill ∷ []) later ∙ (λ i. done ++ is i ∷ later) ∙ ap (λ l. done ++ fills_from orders place l) (sym rest) ∙ h
 
-pub fill_fits : (orders : List Order) (place : ℕ) (o : Order) (trades : List Trade) → AreTradesOf orders trades → slice_get orders place ≡ Some o → o.quantity < 2 ^ 32 → filled o.side place trades < 2 ^ 64
+pub fill_fits : (orders : List Order) (place : ℕ) (o : Order) (trades : List Trade) → AreTradesOf orders trades → slice_get orders place ≡ Some o → o.quantity < 2 ^ 32 → fill_at o.side place trades < 2 ^ 64
 fill_fits orders place o trades of at small = omega (arith, of place o at, (order_is_filled orders place o at).0, small)
 
 pub match_is_the_auction : MatchIsTheAuction

@@ -9,7 +9,7 @@ use Rattle.form.specs.declared.orders.Order.{Order}
 use Rattle.clearing_model.specs.Clearing.{Filled, AreFills, premium}
 use Rattle.form.specs.Payoff.{bundle_of}
 use Rattle.market_laws.proofs.Balance.{balanced_owes_nothing}
-use Rattle.each_match.specs.Laws.{matched, IsFilledAt, MatchIsWithin, MatchOwesNothing, MatchEarns, MatchCovers, MatchHasPrices, MatchIsTheBest}
+use Rattle.each_match.specs.Laws.{match_of, IsFilledAt, MatchIsWithin, MatchOwesNothing, MatchEarns, MatchCovers, MatchHasPrices, MatchIsTheBest}
 use Rattle.each_match.specs.Match.{match_by_bundle}
 pub use Rattle.each_match.proofs.Balances.{match_is_balanced}
 use Rattle.each_match.proofs.Fills.{price_of, order_is_filled, length-fills_from, All-matched}
@@ -23,7 +23,7 @@ match_is_within orders = (
 )
 
 pub match_owes_nothing : MatchOwesNothing
-match_owes_nothing orders z = balanced_owes_nothing (matched orders) (match_is_balanced orders) z
+match_owes_nothing orders z = balanced_owes_nothing (match_of orders) (match_is_balanced orders) z
 
 pub match_has_prices : MatchHasPrices
 match_has_prices orders = (price_of orders, All-matched (λ (fill : Filled). IsFilledAt (price_of orders (bundle_of fill.0)) fill) orders (λ k o at. (order_is_filled orders k o at).1))
@@ -37,7 +37,7 @@ match_earns orders =
 pub match_covers : MatchCovers
 match_covers n orders t s some size =
     let owed = match_owes_nothing orders (t ∷ s) in
-    let m = matched orders in
+    let m = match_of orders in
     omega (arith, ints, products, owed)
 
 pub match_is_the_best : MatchIsTheBest

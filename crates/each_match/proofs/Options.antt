@@ -9,7 +9,7 @@ use Rattle.form.specs.Vector.{is_same_bundle}
 use Rattle.form.specs.Payoff.{BundleLeg, bundle_of}
 use Rattle.market_laws.proofs.Balance.{bundle_is_same, same_bundle_is}
 use Rattle.each_match.specs.declared.auction.Trade.{Trade}
-use Rattle.each_match.specs.Auction.{amount_at, filled}
+use Rattle.each_match.specs.Auction.{amount_at, fill_at}
 use Rattle.each_match.specs.Match.{trades_of, fill_of}
 use Rattle.each_match.specs.Queue.{is_on}
 use Rattle.each_match.specs.Trades.{is_seen, AreTradesOf}
@@ -18,7 +18,7 @@ use Rattle.each_match.proofs.Fills.{others_unfilled}
 -- the trades are those of the bundles that were seen
 abbrev pub AreTradesSoFar : List Order → ℕ → List Trade → Type 0
 AreTradesSoFar orders place trades =
-    (k : ℕ) (o : Order) → slice_get orders k ≡ Some o → filled o.side k trades ≡ (if is_seen orders place (bundle_of o) then fill_of orders k o else 0)
+    (k : ℕ) (o : Order) → slice_get orders k ≡ Some o → fill_at o.side k trades ≡ (if is_seen orders place (bundle_of o) then fill_of orders k o else 0)
 
 pub none_so_far : (orders : List Order) → AreTradesSoFar orders 0 []
 none_so_far orders k o at = refl
@@ -37,17 +37,17 @@ module _ (orders : List Order) (place : ℕ) (x : Order) (at_x : slice_get order
   pub first_of_bundle : is_seen orders place (bundle_of x) ≡ false → AreTradesSoFar orders (place + 1) (trades ++ trades_of orders (bundle_of x))
   first_of_bundle new k o at =
       let more = trades_of orders (bundle_of x) in
-      let sum : filled o.side k (trades ++ more) ≡ filled o.side k trades + filled o.side k more = sum_by-append (amount_at o.side k) trades more in
-      let Q : Bool → Type 0 = λ b. is_same_bundle (bundle_of x) (bundle_of o) ≡ b → filled o.side k (trades ++ more) ≡ (if is_seen orders place (bundle_of o) || b then fill_of orders k o else 0) in
+      let sum : fill_at o.side k (trades ++ more) ≡ fill_at o.side k trades + fill_at o.side k more = sum_by-append (amount_at o.side k) trades more in
+      let Q : Bool → Type 0 = λ b. is_same_bundle (bundle_of x) (bundle_of o) ≡ b → fill_at o.side k (trades ++ more) ≡ (if is_seen orders place (bundle_of o) || b then fill_of orders k o else 0) in
       (elim (is_same_bundle (bundle_of x) (bundle_of o)) as Q [
         | true ↦ λ same.
             let is : bundle_of x ≡ bundle_of o = same_bundle_is (bundle_of x) (bundle_of o) same in
             let unseen : is_seen orders place (bundle_of o) ≡ false = ap (is_seen orders place) (sym is) ∙ new in
-            let none : filled o.side k trades ≡ 0 = h k o at ∙ ap (λ b. if b then fill_of orders k o else 0) unseen in
-            let all : filled o.side k more ≡ fill_of orders k o = ap (λ bundle. filled o.side k (trades_of orders bundle)) is in
+            let none : fill_at o.side k trades ≡ 0 = h k o at ∙ ap (λ b. if b then fill_of orders k o else 0) unseen in
+            let all : fill_at o.side k more ≡ fill_of orders k o = ap (λ bundle. fill_at o.side k (trades_of orders bundle)) is in
             rw unseen (omega (arith, sum, none, all))
         | false ↦ λ other.
-            let none : filled o.side k more ≡ 0 = others_unfilled orders (bundle_of x) o.side k o at (not_of_it o other) in
+            let none : fill_at o.side k more ≡ 0 = others_unfilled orders (bundle_of x) o.side k o at (not_of_it o other) in
             rw (or-false (is_seen orders place (bundle_of o))) (omega (arith, sum, none, h k o at))
       ]) refl ∙ ap (λ b. if b then fill_of orders k o else 0) (sym (seen_more orders place x (bundle_of o) at_x))
     where

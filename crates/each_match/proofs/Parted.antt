@@ -9,13 +9,13 @@ use Rattle.form.specs.declared.orders.Side.{Side}
 use Rattle.form.specs.declared.orders.Side.TheVariants.{Buy, Sell}
 use Rattle.each_match.specs.declared.queues.Offer.{Offer}
 use Rattle.each_match.specs.declared.auction.Trade.{Trade}
-use Rattle.each_match.specs.Auction.{fill_first, auction, amount_at, filled}
+use Rattle.each_match.specs.Auction.{fill_first, auction, amount_at, fill_at}
 use Rattle.each_match.specs.Queue.{stands_before}
 use Rattle.each_match.proofs.InLine.{Each-weaker, NoneBefore, IsInLine}
 use Rattle.each_match.proofs.Turns.{with_left, first_filled, Each-fill_first, trade_of, of_auction}
 use Rattle.each_match.proofs.Waiting.{part, waits, waits-fill_first, none_waits}
 
-pub filled-cons : (side : Side) (k : ℕ) (t : Trade) (ts : List Trade) → filled side k (t ∷ ts) ≡ amount_at side k t + filled side k ts
+pub filled-cons : (side : Side) (k : ℕ) (t : Trade) (ts : List Trade) → fill_at side k (t ∷ ts) ≡ amount_at side k t + fill_at side k ts
 filled-cons side k t ts = sum_by-cons (amount_at side k) t ts
 
 -- ---- prices along a queue
@@ -55,8 +55,8 @@ pub record IsParted (low high : ℕ) (buys sells : List Offer) (trades : List Tr
   pub price : ℕ
   pub above : low ≤ price
   pub below : price ≤ high
-  pub bought : (k : ℕ) → (waits (λ limit. nat_lt price limit) k buys ≤ filled Buy k trades) × (filled Buy k trades ≤ waits (λ limit. nat_le price limit) k buys)
-  pub sold : (k : ℕ) → (waits (λ limit. nat_lt limit price) k sells ≤ filled Sell k trades) × (filled Sell k trades ≤ waits (λ limit. nat_le limit price) k sells)
+  pub bought : (k : ℕ) → (waits (λ limit. nat_lt price limit) k buys ≤ fill_at Buy k trades) × (fill_at Buy k trades ≤ waits (λ limit. nat_le price limit) k buys)
+  pub sold : (k : ℕ) → (waits (λ limit. nat_lt limit price) k sells ≤ fill_at Sell k trades) × (fill_at Sell k trades ≤ waits (λ limit. nat_le limit price) k sells)
 
 abbrev HasPrice : List Offer → List Offer → List Trade → Type 0
 HasPrice buys sells trades = (low high : ℕ) → low ≤ high → AtMost high buys → AtLeast low sells → IsInLine Buy buys → IsInLine Sell sells → IsParted low high buys sells trades
@@ -104,8 +104,8 @@ parted = of_auction HasPrice
     })
   where
     bounds : (side : Side) (k : ℕ) (t : Trade) (later : List Trade) (p q : ℕ → Bool) (n : ℕ) (x : Offer) (xs : List Offer) → n ≤ x.left → amount_at side k t ≡ (if x.place == k then n else 0) → q x.price ≡ true
-        → (waits p k (fill_first n (x ∷ xs)) ≤ filled side k later) × (filled side k later ≤ waits q k (fill_first n (x ∷ xs)))
-        → (waits p k (x ∷ xs) ≤ filled side k (t ∷ later)) × (filled side k (t ∷ later) ≤ waits q k (x ∷ xs))
+        → (waits p k (fill_first n (x ∷ xs)) ≤ fill_at side k later) × (fill_at side k later ≤ waits q k (fill_first n (x ∷ xs)))
+        → (waits p k (x ∷ xs) ≤ fill_at side k (t ∷ later)) × (fill_at side k (t ∷ later) ≤ waits q k (x ∷ xs))
     bounds side k t later p q n x xs le here passes h =
         let sum = filled-cons side k t later in (
           omega (arith, sum, here, part_below p k n x, waits-fill_first p k n x xs le, h.0),

@@ -48,5 +48,5 @@ abbrev pub amount_at : Side → ℕ → Trade → ℕ
 amount_at side place trade = if place_on side trade == place then trade.amount else 0
 
 -- what trades fill of the order on a side at a place
-abbrev pub filled : Side → ℕ → List Trade → ℕ
-filled side place trades = sum_by (amount_at side place) trades
+abbrev pub fill_at : Side → ℕ → List Trade → ℕ
+fill_at side place trades = sum_by (amount_at side place) trades

@@ -14,8 +14,8 @@ use Rattle.each_match.specs.Auction.{next_trade, trade_then, auction}
 use Rattle.each_match.specs.Match.{fill_of, match_by_bundle}
 
 -- the orders with their matched fills
-abbrev pub matched : List Order → List Filled
-matched orders = zip orders (match_by_bundle orders)
+abbrev pub match_of : List Order → List Filled
+match_of orders = zip orders (match_by_bundle orders)
 
 -- an auction makes its next trade and goes on with what that leaves of the queues, and ends where there is none
 abbrev pub AuctionGoesOn : Type 0
@@ -38,23 +38,23 @@ MatchIsWithin = (orders : List Order) → AreFills orders (match_by_bundle order
 
 -- of each bundle as much is bought as sold
 abbrev pub MatchIsBalanced : Type 0
-MatchIsBalanced = (orders : List Order) → AreBalanced (matched orders)
+MatchIsBalanced = (orders : List Order) → AreBalanced (match_of orders)
 
 -- so nothing is owed at any state
 abbrev pub OwesNothing : List Filled → Type 0
 OwesNothing fills = (z : List ℕ) → net fills z ≡ pos 0
 
 abbrev pub MatchOwesNothing : Type 0
-MatchOwesNothing = (orders : List Order) → OwesNothing (matched orders)
+MatchOwesNothing = (orders : List Order) → OwesNothing (match_of orders)
 
 -- buyers pay no less than sellers get
 abbrev pub MatchEarns : Type 0
-MatchEarns = (orders : List Order) → pos 0 ≤ℤ premium (matched orders)
+MatchEarns = (orders : List Order) → pos 0 ≤ℤ premium (match_of orders)
 
 -- the match covers its premium at every settlement
 abbrev pub MatchCovers : Type 0
 MatchCovers =
-    (n : ℕ) (orders : List Order) → Covers n (matched orders) 1 (whole (premium (matched orders)))
+    (n : ℕ) (orders : List Order) → Covers n (match_of orders) 1 (whole (premium (match_of orders)))
 
 -- a limit is better than a price: a buyer would pay more, a seller would take less
 abbrev pub IsBetter : Side → ℕ → ℕ → Type 0
@@ -72,7 +72,7 @@ abbrev pub MatchHasPrices : Type 0
 MatchHasPrices =
     (orders : List Order)
     → (price : List BundleLeg → ℕ)
-    × All (λ (fill : Filled). IsFilledAt (price (bundle_of fill.0)) fill) (matched orders)
+    × All (λ (fill : Filled). IsFilledAt (price (bundle_of fill.0)) fill) (match_of orders)
 
 -- no fills g over F of the orders that sell of each bundle just what they buy of it earn more than the fills m
 abbrev pub IsBestBalanced : List Order → List ℕ → Type 0

@@ -4,7 +4,7 @@ use Rattle.form.specs.declared.orders.Order.{Order}
 use Rattle.form.specs.declared.orders.Side.TheVariants.{Buy, Sell}
 use Rattle.form.specs.Payoff.{BundleLeg, bundle_of}
 use Rattle.each_match.specs.declared.auction.Trade.{Trade}
-use Rattle.each_match.specs.Auction.{auction, filled}
+use Rattle.each_match.specs.Auction.{auction, fill_at}
 use Rattle.each_match.specs.Queue.{queue_of}
 
 -- the trades of the auction of a bundle
@@ -13,7 +13,7 @@ trades_of orders bundle = auction (queue_of Buy bundle orders) (queue_of Sell bu
 
 -- what the auction of its bundle fills of an order of the batch, which stands at a place
 abbrev pub fill_of : List Order → ℕ → Order → ℕ
-fill_of batch place order = filled order.side place (trades_of batch (bundle_of order))
+fill_of batch place order = fill_at order.side place (trades_of batch (bundle_of order))
 
 -- the fills of orders of the batch, the first of which stands at a place
 abbrev pub fills_from : List Order → ℕ → List Order → List ℕ

@@ -5,7 +5,7 @@ use Rattle.form.specs.declared.orders.Order.{Order}
 use Rattle.form.specs.Vector.{is_same_bundle}
 use Rattle.form.specs.Payoff.{BundleLeg, bundle_of}
 use Rattle.each_match.specs.declared.auction.Trade.{Trade}
-use Rattle.each_match.specs.Auction.{filled}
+use Rattle.each_match.specs.Auction.{fill_at}
 use Rattle.each_match.specs.Match.{fill_of}
 
 -- whether an order before the place is of the bundle
@@ -17,4 +17,4 @@ is_seen orders place bundle =
 abbrev pub AreTradesOf : List Order → List Trade → Type 0
 AreTradesOf orders trades =
     (place : ℕ) (order : Order) → slice_get orders place ≡ Some order
-    → filled order.side place trades ≡ fill_of orders place order
+    → fill_at order.side place trades ≡ fill_of orders place order

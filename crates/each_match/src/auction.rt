@@ -1,6 +1,6 @@
 // The double auction of two queues.
 ghost use Rattle.std.specs.Prelude.{◌≡◌, ◌++◌, ◌≤◌, ◌<◌, ◌^◌, OnOk};
-ghost use Rattle.each_match.specs.Auction.{next_trade, fill_first, auction, amount_at, filled};
+ghost use Rattle.each_match.specs.Auction.{next_trade, fill_first, auction, amount_at, fill_at};
 
 use crate::queues::Offer;
 use form::Side;
@@ -77,8 +77,8 @@ fn amount_at(trade: &Trade, side: Side, place: usize) -> u64
 // What trades fill of it.
 #[tactic(auto, using(std::proofs::lemmas::List::Sums::sum_by_more_le))]
 pub(crate) fn filled(trades: &[Trade], side: Side, place: usize) -> u64
-    requires { filled side place trades.now < 2 ^ 64 }
-    ensures { result ≡ filled side place trades.now }
+    requires { fill_at side place trades.now < 2 ^ 64 }
+    ensures { result ≡ fill_at side place trades.now }
 {
     let mut filled = 0;
     for trade in trades {

@@ -15,7 +15,7 @@ pub mod WholeNumbers
 pub mod After
 pub mod Loops
 pub mod Tested
-pub mod Stands
+pub mod LowestRatios
 pub mod GreaterLimit
 pub mod GreaterLimits
 pub mod WithinLimits

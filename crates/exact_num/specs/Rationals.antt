@@ -75,12 +75,12 @@ total zero f = 0Q
 total (suc n) f = total n f +Q f n
 
 -- ---- 1 at one place, else 0
-abbrev pub chosen : Bool → Q
-chosen true = 1Q
-chosen false = 0Q
+abbrev pub one_or_zero : Bool → Q
+one_or_zero true = 1Q
+one_or_zero false = 0Q
 
 unfoldable pub unit : ℕ → ℕ → Q
-unit k j = chosen (nat_eq k j)
+unit k j = one_or_zero (nat_eq k j)
 
 -- the vector with v i at the place g i
 unfoldable pub spread : ℕ → (ℕ → ℕ) → (ℕ → Q) → ℕ → Q

@@ -4,6 +4,6 @@ use Rattle.exchange_cli.specs.declared.failure.AnswerFailure.TheVariants.{SinkFa
 use Rattle.exchange_sessions.specs.declared.stop.AnswerStop.{AnswerStop}
 use Rattle.exchange_sessions.specs.declared.stop.AnswerStop.TheVariants.{WriteFault, Memory}
 
-abbrev pub stopped : AnswerStop → AnswerFailure
-stopped WriteFault = SinkFailed
-stopped Memory = OutOfMemory
+abbrev pub failure_of : AnswerStop → AnswerFailure
+failure_of WriteFault = SinkFailed
+failure_of Memory = OutOfMemory

@@ -1,6 +1,6 @@
 // Why an answer was not written whole.
 ghost use Rattle.std.specs.Prelude.{◌≡◌};
-ghost use Rattle.exchange_cli.specs.Failures.{stopped};
+ghost use Rattle.exchange_cli.specs.Failures.{failure_of};
 ghost use Rattle.exchange_cli.specs.declared.failure.AnswerFailure.TheVariants.{OutOfMemory, SinkFailed};
 
 use exchange_sessions::AnswerStop;
@@ -31,7 +31,7 @@ impl From<WriteStop> for AnswerFailure {
 }
 
 impl From<AnswerStop> for AnswerFailure {
-    ghost from_gives = { λ stop e. e ≡ stopped stop };
+    ghost from_gives = { λ stop e. e ≡ failure_of stop };
 
     fn from(stop: AnswerStop) -> Self {
         match stop {

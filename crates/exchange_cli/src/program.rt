@@ -2,7 +2,7 @@
 ghost use Rattle.std.specs.Prelude.{◌≡◌, ◌⊎◌, ◌≤◌, ◌<◌, ◌+◌, None, IfSome, length, map, string_bytes};
 ghost use Rattle.std.specs.List.{All};
 ghost use Rattle.std.specs.Io.KnownBytes.{Appends};
-ghost use Rattle.port_io.specs.Faults.{Rose, raised};
+ghost use Rattle.port_io.specs.Faults.{Rose, raised_by};
 ghost use Rattle.port_io.specs.Reads.{TakesUpTo};
 ghost use Rattle.port_io.specs.Writes.{AppendsFront};
 ghost use Rattle.journal_check.specs.JournalLines.{lines_of};
@@ -92,7 +92,7 @@ pub fn exchange<S: Source, K: Sink>(
         S.faults source.new ≡ S.faults source.old }
     ensures too_many { result ≡ Status.TooLong →
         Asked (map string_bytes words.now) (λ request.
-        raised (S.taken source.old) (input_limit request + 1) ≤ S.taken source.new) }
+        raised_by (S.taken source.old) (input_limit request + 1) ≤ S.taken source.new) }
     ensures within { HasEnded result ⊎ (result ≡ Status.WriteFault) →
         Asked (map string_bytes words.now) (λ request.
         OfInput request (S.left source.old) (λ input. length input ≤ input_limit request)) }

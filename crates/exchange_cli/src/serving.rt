@@ -2,7 +2,7 @@
 ghost use Rattle.std.specs.Prelude.{◌≡◌, ◌≢◌, ◌⊎◌, ◌≤◌, ◌<◌, ◌+◌, IfOk, IfSome, IsErrOf, OnErr, OnOk, length};
 ghost use Rattle.std.specs.List.{All};
 ghost use Rattle.std.specs.Io.KnownBytes.{Appends};
-ghost use Rattle.port_io.specs.Faults.{Rose, raised};
+ghost use Rattle.port_io.specs.Faults.{Rose, raised_by};
 ghost use Rattle.port_io.specs.Reads.{TakesUpTo};
 ghost use Rattle.port_io.specs.Writes.{AppendsFront};
 ghost use Rattle.journal_check.specs.JournalLines.{lines_of};
@@ -39,7 +39,7 @@ fn input_of<S: Source>(alloc: Global, request: Request, source: &mut S) -> Resul
     ensures no_fault_before { IsErrOf result ReadStop.TooLong →
         S.faults source.new ≡ S.faults source.old }
     ensures too_many { IsErrOf result ReadStop.TooLong →
-        raised (S.taken source.old) (input_limit request + 1) ≤ S.taken source.new }
+        raised_by (S.taken source.old) (input_limit request + 1) ≤ S.taken source.new }
 {
     match request {
         Request::Lines(_) | Request::Sessions => read_all(alloc, source, MAX_INPUT),
@@ -135,7 +135,7 @@ pub(crate) fn serve<S: Source, K: Sink>(
     ensures too_long_no_fault { result ≡ Status.TooLong →
         S.faults source.new ≡ S.faults source.old }
     ensures too_many { result ≡ Status.TooLong →
-        raised (S.taken source.old) (input_limit request + 1) ≤ S.taken source.new }
+        raised_by (S.taken source.old) (input_limit request + 1) ≤ S.taken source.new }
     ensures within { HasEnded result ⊎ (result ≡ Status.WriteFault) →
         OfInput request (S.left source.old) (λ input. length input ≤ input_limit request) }
 

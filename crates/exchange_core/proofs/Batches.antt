@@ -19,7 +19,7 @@ use Rattle.order_book.specs.Book.{BookState, batch_of, market_of, live_of}
 use Rattle.order_book.specs.Markets.{MarketState}
 use Rattle.order_book.proofs.MarketLists.{live_found}
 use Rattle.order_book.proofs.BookKept.{market_kept, orders_within}
-use Rattle.settlement.specs.Premium.{IsHeld}
+use Rattle.settlement.specs.Premium.{IsOrderFill}
 use Rattle.exchange_core.specs.Kept.{AreJoined, IsOfOpen, IsPayable}
 use Rattle.exchange_core.proofs.LiveAccounts.{All-live_in}
 
@@ -61,7 +61,7 @@ live_payable ledger book joined market m found accounts same =
 -- ---- what is paid
 -- a fill from 0 to the quantity of such an order may be paid for
 abbrev pub MayBePaid : Frac128 → Type 0
-MayBePaid fill = IsHeld (fraction_of fill)
+MayBePaid fill = IsOrderFill (fraction_of fill)
 
 paid : (order : Order) (fill : Frac128) → IsOrderWithin order → IsFill (order, fraction_of fill) → MayBePaid fill
 paid order fill within is =

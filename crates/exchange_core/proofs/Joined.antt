@@ -6,7 +6,7 @@ use Rattle.cash_ledger.specs.declared.limits.TheConstants.{MAX_RESERVED}
 use Rattle.form.specs.declared.orders.Order.{Order}
 use Rattle.order_book.specs.declared.new_order.NewOrder.{NewOrder}
 use Rattle.order_book.specs.Book.{BookState, market_of, live_of, order_of, with_number, with_market, with_order, without_order, after_batch, after_close}
-use Rattle.order_book.specs.Markets.{MarketState, closed, live_orders, with_live}
+use Rattle.order_book.specs.Markets.{MarketState, settled_market, live_orders, with_live}
 use Rattle.order_book.specs.Refusals.{market_refusals, place_refusals, batch_refusals}
 use Rattle.refusals.specs.Refusals.{first_of}
 use Rattle.form.specs.declared.limits.TheConstants.{MAX_UNDERLYINGS}
@@ -68,7 +68,7 @@ module _ (ledger : LedgerState) (book : BookState) (joined : AreJoined ledger bo
         let there = subst IsSome (sym found) refl in
         record {
           kept = kept-close after.accounts book kept market m found;
-          reserves = λ q. omega (arith, reserves q, joined.reserves q, reserve_of-replaced q market closed [] (λ m. refl) book.markets there);
+          reserves = λ q. omega (arith, reserves q, joined.reserves q, reserve_of-replaced q market settled_market [] (λ m. refl) book.markets there);
         }
 
   -- an account more

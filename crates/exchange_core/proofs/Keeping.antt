@@ -18,7 +18,7 @@ use Rattle.form.proofs.MadeBundles.{legs_in-bundle_one}
 use Rattle.order_book.specs.declared.new_order.NewOrder.{NewOrder}
 use Rattle.order_book.specs.Book.{BookState, market_of, live_of, with_number, with_market, with_order, without_order, after_batch, after_close}
 use Rattle.order_book.specs.Kept.{IsMarketKept}
-use Rattle.order_book.specs.Markets.{MarketState, closed, live_orders, with_live}
+use Rattle.order_book.specs.Markets.{MarketState, settled_market, live_orders, with_live}
 use Rattle.order_book.specs.Refusals.{market_refusals, place_refusals as book_place_refusals, batch_refusals}
 use Rattle.refusals.specs.Refusals.{first_of}
 use Rattle.order_book.specs.Within.{IsNewOrderWithin}
@@ -103,7 +103,7 @@ module _ (accounts : List ℕ) (book : BookState) (kept : AreOrdersKept accounts
   pub kept-close : (market : ℕ) (m : MarketState) → market_of book market ≡ Some m → AreOrdersKept accounts (after_close book market)
   kept-close market m found = record {
     house = kept.house;
-    accounts = All-replaced (IsOfOpen accounts) market closed [] (λ m. refl) book.markets kept.accounts (All-nil (IsOfOpen accounts));
+    accounts = All-replaced (IsOfOpen accounts) market settled_market [] (λ m. refl) book.markets kept.accounts (All-nil (IsOfOpen accounts));
     book = kept-after_close book kept.book market m found;
   }
 

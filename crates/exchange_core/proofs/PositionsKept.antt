@@ -7,7 +7,7 @@ use Rattle.std.proofs.lemmas.Bool.Decides.{nat_tests}
 use Rattle.std.proofs.lemmas.List.Elements.{All-nil, All-cons, All-head, All-tail, All-weaker}
 use Rattle.cash_ledger.specs.Ledger.{is_open}
 use Rattle.form.specs.declared.orders.Order.{Order}
-use Rattle.order_book.specs.Markets.{MarketState, Markets, closed, changed_in, with_live, with_live_in, without, without_in_each}
+use Rattle.order_book.specs.Markets.{MarketState, Markets, settled_market, changed_in, with_live, with_live_in, without, without_in_each}
 use Rattle.settlement.specs.declared.position.Position.{Position}
 use Rattle.settlement.specs.Positions.{outside}
 use Rattle.exchange_core.specs.Kept.{IsPositionKept, ArePositionsKept, on_if_trading, trading_on}
@@ -94,18 +94,18 @@ module _ (accounts : List ℕ) where
 
   -- the positions of a market that is settled are taken out
   pub positions-closed : (market : ℕ) (markets : Markets) (positions : List Position) → ArePositionsKept accounts markets positions
-      → ArePositionsKept accounts (changed_in closed market markets) (outside market positions)
-  positions-closed market markets [] kept = All-nil (IsPositionKept accounts (changed_in closed market markets))
+      → ArePositionsKept accounts (changed_in settled_market market markets) (outside market positions)
+  positions-closed market markets [] kept = All-nil (IsPositionKept accounts (changed_in settled_market market markets))
   positions-closed market markets (p ∷ positions) kept =
       by (nat_eq p.market market) refl (positions-closed market markets positions (All-tail (IsPositionKept accounts markets) p positions kept))
     where
       After : Position → Type 0
-      After = IsPositionKept accounts (changed_in closed market markets)
+      After = IsPositionKept accounts (changed_in settled_market market markets)
 
       stays : nat_eq p.market market ≡ false → After p
       stays other =
-          moved accounts accounts markets (changed_in closed market markets) p (λ held. held)
-          (λ n there. trading-changed p.market closed market (λ m same. absurd (true≢false (sym same ∙ other))) markets ∙ there)
+          moved accounts accounts markets (changed_in settled_market market markets) p (λ held. held)
+          (λ n there. trading-changed p.market settled_market market (λ m same. absurd (true≢false (sym same ∙ other))) markets ∙ there)
           (All-head (IsPositionKept accounts markets) p positions kept)
 
       by : (b : Bool) → nat_eq p.market market ≡ b → All After (outside market positions) → All After (cond (not b) (p ∷ outside market positions) (outside market positions))

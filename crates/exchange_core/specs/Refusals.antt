@@ -9,7 +9,7 @@ use Rattle.form.specs.declared.orders.Side.TheVariants.{Buy, Sell}
 use Rattle.order_book.specs.declared.new_order.NewOrder.{NewOrder}
 use Rattle.order_book.specs.declared.refusal.BookRefusal.{BookRefusal}
 use Rattle.order_book.specs.Refusals as book
-use Rattle.refusals.specs.Refusals.{first_of, named}
+use Rattle.refusals.specs.Refusals.{first_of, by_name}
 use Rattle.command_text.specs.declared.command.Command.{Command}
 use Rattle.command_text.specs.declared.command.Command.TheVariants.{Open, Deposit, Withdraw, Market, Trade, Bundle, Cancel, Clear, Settle, Balance}
 use Rattle.exchange_core.specs.declared.refusal.Refusal.{Refusal}
@@ -26,10 +26,10 @@ abbrev pub book_name : BookRefusal → Option Refusal
 book_name refusal = unless_memory (book_failure refusal)
 
 abbrev pub by_ledger : List (Bool × LedgerRefusal) → List (Bool × Refusal)
-by_ledger refusals = named ledger_name refusals
+by_ledger refusals = by_name ledger_name refusals
 
 abbrev pub by_book : List (Bool × BookRefusal) → List (Bool × Refusal)
-by_book refusals = named book_name refusals
+by_book refusals = by_name book_name refusals
 
 -- ---- of the commands
 -- of an order by its account: a buy is paid from what is free, and a sell costs nothing

@@ -6,7 +6,7 @@ ghost use Rattle.clearing.specs.Outcome.{IsMarked};
 ghost use Rattle.frac.specs.Value.{fraction_of};
 ghost use Rattle.order_book.specs.Refusals.{batch_refusals};
 ghost use Rattle.refusals.specs.Refusals.{TellsFirst};
-ghost use Rattle.settlement.specs.Premium.{IsHeld};
+ghost use Rattle.settlement.specs.Premium.{IsOrderFill};
 ghost use Rattle.exchange_core.specs.Covered.{IfCleared};
 ghost use Rattle.exchange_core.specs.ExchangeState.{state_of};
 ghost use Rattle.exchange_core.specs.Kept.{IsPayable, AreJoined, ArePositionsKept};
@@ -18,7 +18,7 @@ ghost use Rattle.command_text.specs.Within.{IsBudget};
 
 use crate::Reply;
 use crate::failure::Failure;
-use crate::hold::hold_all;
+use crate::new_positions::add_positions;
 use crate::reserve::release_all;
 use cash_ledger::{Cause, Ledger};
 use exact_num::Exact;
@@ -32,7 +32,7 @@ use std::alloc::Global;
 fn pay(ledger: &mut Ledger, batch: u32, order: &Order, fill: &Frac128)
     requires payable { IsPayable ledger.old.accounts order.now }
     requires house { is_open ledger.old.accounts 0 ≡ true }
-    requires fill { IsHeld (fraction_of fill.now) }
+    requires fill { IsOrderFill (fraction_of fill.now) }
     requires room { 2 ≤ ledger.old.spare }
     ensures entries { ledger.new.entries
         ≡ ledger.old.entries ++ premiums_of batch order.now (fraction_of fill.now) }
@@ -56,7 +56,7 @@ fn pay_all(ledger: &mut Ledger, batch: u32, orders: &[Order], fills: &[Frac128])
     requires payable { All (IsPayable ledger.old.accounts) orders.now }
     requires house { is_open ledger.old.accounts 0 ≡ true }
     requires size { length fills.now ≡ length orders.now }
-    requires fills { All (λ fill. IsHeld (fraction_of fill)) fills.now }
+    requires fills { All (λ fill. IsOrderFill (fraction_of fill)) fills.now }
     requires room { 2 * length orders.now ≤ ledger.old.spare }
     ensures entries { ledger.new.entries
         ≡ ledger.old.entries ++ premium_entries batch orders.now fills.now }
@@ -99,7 +99,7 @@ pub(crate) fn clear(
     positions.room(orders.len())?;
     let number = book.finish_batch(market);
     pay_all(ledger, number, orders, outcome.fills.as_slice());
-    hold_all(positions, market, number, orders, outcome.fills.as_slice());
+    add_positions(positions, market, number, orders, outcome.fills.as_slice());
     release_all(ledger, orders);
     Ok(Reply::Cleared {
         number,

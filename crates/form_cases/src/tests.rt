@@ -2,7 +2,7 @@
 ghost use Rattle.std.specs.Prelude.{IsTrue, map};
 ghost use Rattle.form.specs.Primitive.{IsDirection};
 ghost use Rattle.frac.specs.Value.{fraction_of};
-ghost use Rattle.settlement.specs.Premium.{IsHeld};
+ghost use Rattle.settlement.specs.Premium.{IsOrderFill};
 
 use crate::cases::{BUNDLES, PAYOFFS, PREMIUMS, PRIMITIVES};
 use anyhow::{Context, Result, bail, ensure};
@@ -115,7 +115,7 @@ fn bundle_text(alloc: Global, text: &str) -> Result<String> {
 
 // Whether the fill is 0 to 1,000,000.
 fn is_held(fill: &Frac128) -> bool
-    ensures { IsTrue result → IsHeld (fraction_of fill.now) }
+    ensures { IsTrue result → IsOrderFill (fraction_of fill.now) }
 {
     let (numerator, denominator) = fill.parts();
     numerator >= 0 && numerator.unsigned_abs().div_ceil(1_000_000) <= denominator.unsigned_abs()

@@ -17,7 +17,7 @@ use Rattle.form.specs.Payoff.{BundleLeg, bundle_legs}
 use Rattle.frac.specs.declared.frac128.Frac128.{Frac128}
 use Rattle.frac.specs.Value.{fraction_of}
 use Rattle.order_book.specs.Book.{BookState}
-use Rattle.order_book.specs.Markets.{closed, with_live}
+use Rattle.order_book.specs.Markets.{settled_market, with_live}
 use Rattle.settlement.specs.declared.position.PaidOut.{PaidOut}
 use Rattle.settlement.specs.declared.position.Position.{Position}
 use Rattle.settlement.specs.Payout.{floor_of, worth_at}
@@ -124,7 +124,7 @@ module _ (number market : ℕ) where
           record {
             underlyings = over.underlyings;
             listed = ap (λ (b : BookState). listed_in b.markets market) settle.book
-                ∙ listed-changed market closed settle.market (λ m h. absurd (true≢false (sym h ∙ ne_eqb market settle.market (λ e. other (sym e))))) state.book.markets ∙ over.listed;
+                ∙ listed-changed market settled_market settle.market (λ m h. absurd (true≢false (sym h ∙ ne_eqb market settle.market (λ e. other (sym e))))) state.book.markets ∙ over.listed;
             held = ap (held_for number) settle.positions ∙ held_outside number settle.market state.positions ∙ ap (outside settle.market) over.held;
             used = subst (λ n. number ≤ n) (sym (ap (λ (b : BookState). b.finished) settle.book)) over.used;
             entered = ap (house_total number) settle.entries
@@ -223,7 +223,7 @@ module _ (number market : ℕ) where
             inl (
               record {
                 listed = ap (λ (b : BookState). listed_in b.markets market) settle.book
-                    ∙ listed-changed market closed settle.market (λ m h. absurd (true≢false (sym h ∙ test))) state.book.markets ∙ waiting.listed;
+                    ∙ listed-changed market settled_market settle.market (λ m h. absurd (true≢false (sym h ∙ test))) state.book.markets ∙ waiting.listed;
                 held = ap (held_for number) settle.positions ∙ held_outside number settle.market state.positions
                     ∙ ap (outside settle.market) waiting.held ∙ made_outside market number batch.orders outcome.fills settle.market test;
                 used = subst (λ n. number ≤ n) (sym (ap (λ (b : BookState). b.finished) settle.book)) waiting.used;

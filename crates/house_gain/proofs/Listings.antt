@@ -3,7 +3,7 @@ use Rattle.std.proofs.Common.{◌≡◌, ℕ, [], ◌∷◌, ◌++◌, Bool, tru
 use Rattle.std.specs.Map.{lookup}
 use Rattle.std.specs.Option.{option_map}
 use Rattle.std.proofs.lemmas.Bool.Decides.{nat_tests}
-use Rattle.order_book.specs.Markets.{MarketState, Markets, changed_in, closed, with_live, without, without_in_each}
+use Rattle.order_book.specs.Markets.{MarketState, Markets, changed_in, settled_market, with_live, without, without_in_each}
 
 -- on how many underlyings a market is, and whether it is settled
 abbrev pub listing : MarketState → ℕ × Bool
@@ -49,15 +49,15 @@ module _ (q : ℕ) where
       (elim (nat_eq q m.0) as Goal [ true ↦ λ h. h | false ↦ λ h. listed-more is new markets h ]) there
 
   -- the market that is settled
-  pub listed-closed : (n : ℕ) (s : Bool) (markets : Markets) → listed_in markets q ≡ Some (n, s) → listed_in (changed_in closed q markets) q ≡ Some (n, true)
+  pub listed-closed : (n : ℕ) (s : Bool) (markets : Markets) → listed_in markets q ≡ Some (n, s) → listed_in (changed_in settled_market q markets) q ≡ Some (n, true)
   listed-closed n s [] there = cc
   listed-closed n s (m ∷ markets) there = by (nat_eq q m.0) refl there (listed-closed n s markets)
     where
-      settled : (m : MarketState) → Some (listing m) ≡ Some (n, s) → Some (listing (closed m)) ≡ Some (n, true)
+      settled : (m : MarketState) → Some (listing m) ≡ Some (n, s) → Some (listing (settled_market m)) ≡ Some (n, true)
       settled m h = ap (λ (p : ℕ × Bool). Some (p.0, true)) (same_listing (listing m) (n, s) h)
 
       by : (b : Bool) → nat_eq q m.0 ≡ b → option_map listing (cond b (Some m.1) (lookup (nat_eq q) markets)) ≡ Some (n, s)
-          → (listed_in markets q ≡ Some (n, s) → listed_in (changed_in closed q markets) q ≡ Some (n, true))
-          → option_map listing (lookup (nat_eq q) (if b then (m.0, closed m.1) ∷ markets else m ∷ changed_in closed q markets)) ≡ Some (n, true)
-      by true is h later = ap (λ c. option_map listing (cond c (Some (closed m.1)) (lookup (nat_eq q) markets))) is ∙ settled m.1 h
-      by false is h later = ap (λ c. option_map listing (cond c (Some m.1) (lookup (nat_eq q) (changed_in closed q markets)))) is ∙ later h
+          → (listed_in markets q ≡ Some (n, s) → listed_in (changed_in settled_market q markets) q ≡ Some (n, true))
+          → option_map listing (lookup (nat_eq q) (if b then (m.0, settled_market m.1) ∷ markets else m ∷ changed_in settled_market q markets)) ≡ Some (n, true)
+      by true is h later = ap (λ c. option_map listing (cond c (Some (settled_market m.1)) (lookup (nat_eq q) markets))) is ∙ settled m.1 h
+      by false is h later = ap (λ c. option_map listing (cond c (Some m.1) (lookup (nat_eq q) (changed_in settled_market q markets)))) is ∙ later h

@@ -13,7 +13,7 @@ use Rattle.form.specs.declared.orders.Batch.{Batch}
 use Rattle.form.specs.declared.orders.Order.{Order}
 use Rattle.order_book.specs.declared.new_order.NewOrder.{NewOrder}
 use Rattle.order_book.specs.Book.{after_batch, after_close, batch_of, live_of, market_of, with_number}
-use Rattle.order_book.specs.Markets.{MarketState, closed, with_live}
+use Rattle.order_book.specs.Markets.{MarketState, settled_market, with_live}
 use Rattle.order_book.proofs.Accepting.{closable, finishable}
 use Rattle.order_book.proofs.AllLive.{live-with_market}
 use Rattle.settlement.specs.Positions.{outside, payouts_of}
@@ -122,7 +122,7 @@ module _ (state : ExchangeState) (kept : IsKept state) (traders : All IsTrader (
   effect_traders (Bundle side account market price quantity bundle) within = placed_traders (order_for side account market price quantity bundle) within.0.0
   effect_traders (Cancel account order) within = All-without_in_each IsTrader order state.book.markets traders
   effect_traders (Clear market budget) within = All-replaced IsTrader market (λ m. with_live m []) [] (λ m. refl) state.book.markets traders (All-nil IsTrader)
-  effect_traders (Settle market count prices) within = All-replaced IsTrader market closed [] (λ m. refl) state.book.markets traders (All-nil IsTrader)
+  effect_traders (Settle market count prices) within = All-replaced IsTrader market settled_market [] (λ m. refl) state.book.markets traders (All-nil IsTrader)
   effect_traders (BalanceOf account) within = traders
 
   effect_is : (command : Command) → refusal_of state command ≡ None → IfCleared IsCovered (effect state command).0 → IsOneKind state (effect state command)

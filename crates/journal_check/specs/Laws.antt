@@ -23,7 +23,7 @@ use Rattle.journal_check.specs.JournalLines.{lines_of}
 use Rattle.reply_print.specs.ReplyPieces.{reply_line}
 use Rattle.reply_print.specs.Within.{IsWithin}
 use Rattle.journal_check.specs.Findings.{fault_in, reply_finding}
-use Rattle.journal_check.specs.Reports.{counted, report_of}
+use Rattle.journal_check.specs.Reports.{sound_report, report_of}
 
 -- the fills cover the claimed surplus, and with the mark optimal no fills cover more
 pub record IsCertified (batch : Batch) (outcome : Outcome) : Type 0 where
@@ -98,4 +98,4 @@ journal_of (pair ∷ pairs) = reply_line pair.0 pair.1 ++ 10 ∷ journal_of pair
 abbrev pub JournalsAreCounted : Type 0
 JournalsAreCounted =
     (pairs : List (ℕ × Reply)) → All IsSoundReply pairs
-    → report_of (journal_of pairs) ≡ counted (map (λ pair. reply_finding pair.1) pairs)
+    → report_of (journal_of pairs) ≡ sound_report (map (λ pair. reply_finding pair.1) pairs)

@@ -19,12 +19,12 @@ first_fault number [] = None
 first_fault number (finding ∷ findings) = fault_or number (fault_in finding) (first_fault (number + 1) findings)
 
 -- the numbers of cleared lines, of lines and of lines marked optimal
-abbrev pub counted : List Finding → Report
-counted findings = Sound (count_by is_batch findings) (length findings) (count_by is_optimal findings)
+abbrev pub sound_report : List Finding → Report
+sound_report findings = Sound (count_by is_batch findings) (length findings) (count_by is_optimal findings)
 
 abbrev pub report_with : List Finding → Option (ℕ × Reason) → Report
 report_with findings (Some fault) = Faulty fault.0 fault.1
-report_with findings None = counted findings
+report_with findings None = sound_report findings
 
 -- the first fault, or else the counts
 abbrev pub report_on : List Finding → Report

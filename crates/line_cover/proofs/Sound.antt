@@ -13,7 +13,7 @@ use Rattle.exact_num.specs.Tests.{is_above_zero}
 use Rattle.exact_num.proofs.After.{after_value}
 use Rattle.exact_num.proofs.Fractions.{common_positive}
 use Rattle.exact_num.proofs.Loops.{both, not_both}
-use Rattle.exact_num.proofs.Stands.{Stands, amounts_stand, less_stands, not_above, is_above}
+use Rattle.exact_num.proofs.LowestRatios.{IsLowestRatio, amounts_stand, less_stands, not_above, is_above}
 use Rattle.exact_num.proofs.Tested.{all_hold, not_all_hold, lowest_are_defined}
 use Rattle.form.specs.declared.orders.Order.{Order}
 use Rattle.form.specs.Payoff.{bundle_of, bundle_payoff, scale_of}
@@ -30,8 +30,8 @@ use Rattle.line_cover.proofs.Fills.{side_stands, fills_stand}
 use Rattle.line_cover.proofs.LineStates.{breaks_are, orders_of_fills}
 
 -- the step for a fill adds what its bundle pays
-pub payoff_adds : (limit D : ℕ) (z : List ℕ) (o : Order) (a : Fraction) (y : ℤ) → Stands a y D → (start s : Fraction) (x : ℤ) → Stands start x D → add_payoff limit z start (o, a) ≡ Ok s
-    → Stands s (x +ℤ for_side o.side (bundle_payoff (bundle_of o) z *ℤ y)) D
+pub payoff_adds : (limit D : ℕ) (z : List ℕ) (o : Order) (a : Fraction) (y : ℤ) → IsLowestRatio a y D → (start s : Fraction) (x : ℤ) → IsLowestRatio start x D → add_payoff limit z start (o, a) ≡ Ok s
+    → IsLowestRatio s (x +ℤ for_side o.side (bundle_payoff (bundle_of o) z *ℤ y)) D
 payoff_adds limit D z o a y sa start s x st h =
     let pays = after_value (bundle_payoff_of limit (bundle_of o) z) (λ p. add_for_side limit start o.side a p) s h in
     let is = bundle_payoffs_are_exact limit (bundle_of o) z pays.value pays.first in
@@ -44,14 +44,14 @@ turned false answer h = ap not h
 -- what the check at a state computes
 record Excess (os : List Order) (fs : List Fraction) (L : Fraction) (z : List ℕ) (answer : Bool) : Type 0 where
   value : Fraction
-  stands : (let D = common_denominator (L ∷ fs) in Stands value (signed_net (signed_over D os fs) z +ℤ neg_ℤ (amount_over D L *ℤ pos (scale_of z))) D)
+  stands : (let D = common_denominator (L ∷ fs) in IsLowestRatio value (signed_net (signed_over D os fs) z +ℤ neg_ℤ (amount_over D L *ℤ pos (scale_of z))) D)
   test : is_above_zero value ≡ not answer
 
 excess_at : (limit : ℕ) (os : List Order) (fs : List Fraction) (L : Fraction) (z : List ℕ) (answer : Bool) → All IsLowest (L ∷ fs)
     → holds_at limit (zip os fs) L z ≡ Ok answer → Excess os fs L z answer
 excess_at limit os fs L z answer low h =
     let D = common_denominator (L ∷ fs) in
-    let P : Fraction → Type 0 = λ a. Stands a (amount_over D a) D in
+    let P : Fraction → Type 0 = λ a. IsLowestRatio a (amount_over D a) D in
     let stand = amounts_stand (L ∷ fs) low in
     let outer = after_value (excess limit (zip os fs) L z) (λ e. Ok (not (is_above_zero e))) answer h in
     let inner = after_value (net_of limit (zip os fs) z) (λ net. less_product limit net L (whole (pos (scale_of z)))) outer.value outer.first in

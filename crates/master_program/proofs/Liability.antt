@@ -13,7 +13,7 @@ use Rattle.exact_num.specs.Steps.{plus_product}
 use Rattle.exact_num.proofs.After.{after_value}
 use Rattle.exact_num.proofs.Exactness.{sums_are_exact}
 use Rattle.exact_num.proofs.Fractions.{divides, amount_is_exact}
-use Rattle.exact_num.proofs.Stands.{Stands, plus_stands}
+use Rattle.exact_num.proofs.LowestRatios.{IsLowestRatio, plus_stands}
 use Rattle.form.specs.declared.orders.Side.{Side}
 use Rattle.form.specs.declared.orders.Side.TheVariants.{Buy, Sell}
 use Rattle.form.specs.declared.orders.Order.{Order}
@@ -31,15 +31,15 @@ turned Buy a f = omega (arith, ints, products)
 turned Sell a f = omega (arith, ints, products)
 
 -- the step for a fill adds what it owes at the first state
-owed_adds : (limit D : ℕ) (o : Order) (fill : Fraction) (a : ℤ) → Stands fill a D → (total s : Fraction) (x : ℤ) → Stands total x D → add_owed limit total (o, fill) ≡ Ok s
-    → Stands s (x +ℤ for_side o.side (payoff_at_zero o *ℤ a)) D
+owed_adds : (limit D : ℕ) (o : Order) (fill : Fraction) (a : ℤ) → IsLowestRatio fill a D → (total s : Fraction) (x : ℤ) → IsLowestRatio total x D → add_owed limit total (o, fill) ≡ Ok s
+    → IsLowestRatio s (x +ℤ for_side o.side (payoff_at_zero o *ℤ a)) D
 unfolding add_owed
 owed_adds limit D o fill a sf total s x st h =
     let f : ℤ = payoff_at_zero o in
     let step = after_value (whole_of limit f) (λ first. plus_product limit total fill (signed_for o.side first)) s h in
     let here : plus_product limit total fill (whole (for_side o.side f)) ≡ Ok s =
     ap (λ w. plus_product limit total fill w) (sym (ap (signed_for o.side) (whole_gives limit f step.value step.first) ∙ side_is o.side f f refl)) ∙ step.rest in
-    subst (λ v. Stands s v D) (ap (λ v. x +ℤ v) (turned o.side a f)) (plus_stands limit total fill s (for_side o.side f) x a D st sf here)
+    subst (λ v. IsLowestRatio s v D) (ap (λ v. x +ℤ v) (turned o.side a f)) (plus_stands limit total fill s (for_side o.side f) x a D st sf here)
 
 -- ---- the slack is the liability less what is owed
 slack_cross : (a b l N Lo : ℤ) (D da db dl : ℕ) → 0 < da → 0 < dl → l *ℤ pos (da * db) ≡ (a *ℤ pos db +ℤ b *ℤ pos da) *ℤ pos dl → a *ℤ pos D ≡ N *ℤ pos da → l *ℤ pos D ≡ Lo *ℤ pos dl → b *ℤ pos D ≡ (Lo -ℤ N) *ℤ pos db
@@ -62,7 +62,7 @@ liability_is_read limit n orders fills slack L low slack_low h =
     let parts = divides (L ∷ fills) in
     let step = after_value (owed_of limit (zip orders fills)) (λ owed. add_of limit owed slack) L h in
     let owed : Fraction = step.value in
-    let each : All (λ f. Stands f (amount_over D f) D) fills = λ k d lt. record { lowest = low k d lt; ratio = amount_is_exact D _ (All-tail (Divides D) L fills parts k d lt) } in
+    let each : All (λ f. IsLowestRatio f (amount_over D f) D) fills = λ k d lt. record { lowest = low k d lt; ratio = amount_is_exact D _ (All-tail (Divides D) L fills parts k d lt) } in
     let stands = fills_stand D (add_owed limit) payoff_at_zero (λ o f sf. owed_adds limit D o f (amount_over D f) sf) orders fills owed each step.first in
     let N : ℤ = signed_net (signed_over D orders fills) (zero_prices n) in
     let same : signed_sum payoff_at_zero (signed_over D orders fills) ≡ N = λ j. signed_sum (λ o. first_is o n j) (signed_over D orders fills) in

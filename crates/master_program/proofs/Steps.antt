@@ -22,6 +22,7 @@ use Rattle.form.proofs.LegSteps.{bundle_payoffs_are_exact}
 use Rattle.master_program.specs.Master.{zero_prices, pays, order_cost, order_entry, costs_of, quantity_rows, state_row, rows_of, right_sides_of, plain_master, map_steps, signed_for, payoff_at_zero, order_payoff, cost_steps, entry_steps, row_steps, rows_steps, quantity_steps, master}
 use Rattle.master_program.specs.Laws.{StepsGiveMaster}
 use Rattle.master_program.proofs.Matrix.{flat}
+use Rattle.arithmetic.proofs.Integers.{plus_negative}
 
 -- the only value that r can have is a
 abbrev pub Gives : {A : Type 0} → Result A Wide → A → Type 0
@@ -43,11 +44,8 @@ pub whole_gives : (limit : ℕ) (v : ℤ) → Gives (whole_of limit v) (whole v)
 unfolding whole_of
 whole_gives limit v s h = whole_if (size_fits limit v) v _ s h
 
-minus_is : (a b : ℤ) → a +ℤ neg_ℤ b ≡ a -ℤ b
-minus_is a b = omega (arith, ints)
-
 sub_gives : (limit : ℕ) (a b : ℤ) → Gives (sub_of limit (whole a) (whole b)) (whole (a -ℤ b))
-sub_gives limit a b s h = add_whole_is limit a (neg_ℤ b) s h ∙ ap whole (minus_is a b)
+sub_gives limit a b s h = add_whole_is limit a (neg_ℤ b) s h ∙ ap whole (plus_negative a b)
 
 pub all_give : {A B : Type 0} (f : A → Result B Wide) (g : A → B) (xs : List A) → ((x : A) → Gives (f x) (g x)) → Gives (map_steps f xs) (map g xs)
 unfolding map_steps

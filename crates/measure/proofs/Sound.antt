@@ -18,7 +18,7 @@ use Rattle.exact_num.proofs.After.{after_value}
 use Rattle.exact_num.proofs.Values.{whole_is_lowest}
 use Rattle.exact_num.proofs.Order.{same_parts}
 use Rattle.exact_num.proofs.Fractions.{common_positive, same_from}
-use Rattle.exact_num.proofs.Stands.{Stands, Adds, amounts_stand, fold_stands, plus_stands, times_stands, difference_stands, whole_stands, above, not_above}
+use Rattle.exact_num.proofs.LowestRatios.{IsLowestRatio, Adds, amounts_stand, fold_stands, plus_stands, times_stands, difference_stands, whole_stands, above, not_above}
 use Rattle.exact_num.proofs.Tested.{ratio_is_same, lowest_are_defined}
 use Rattle.frac.specs.declared.frac128.Frac128.{Frac128}
 use Rattle.frac.specs.Value.{fraction_of}
@@ -51,18 +51,18 @@ denominator_is_positive points low = common_positive (map fraction_weight points
 
 -- each weight stands over the common denominator
 abbrev HasItsAmount : ℕ → Point → Type 0
-HasItsAmount W point = Stands point.1 (amount_over W point.1) W
+HasItsAmount W point = IsLowestRatio point.1 (amount_over W point.1) W
 
 weights_stand : (points : List Point) → All IsLowest (map fraction_weight points) → All (HasItsAmount (common_denominator (map fraction_weight points))) points
 weights_stand points low =
     let W = common_denominator (map fraction_weight points) in
-    All-of_map (λ f. Stands f (amount_over W f) W) fraction_weight points (amounts_stand (map fraction_weight points) low)
+    All-of_map (λ f. IsLowestRatio f (amount_over W f) W) fraction_weight points (amounts_stand (map fraction_weight points) low)
 
 -- a sum over points adds up what each step adds
 sum_over : (step : Fraction → Point → Result Fraction Wide) (v : WeightedState → ℤ) (points : List Point) (s : Fraction)
     → (let W = common_denominator (map fraction_weight points) in
     All IsLowest (map fraction_weight points) → ((point : Point) → HasItsAmount W point → Adds step (λ (p : Point). v (p.0, amount_over W p.1)) W point)
-    → fold_steps step (whole (pos 0)) points ≡ Ok s → Stands s (total v (points_over W points)) W)
+    → fold_steps step (whole (pos 0)) points ≡ Ok s → IsLowestRatio s (total v (points_over W points)) W)
 sum_over step v points s low adds h =
     let W = common_denominator (map fraction_weight points) in
     rw (total-map v (λ (p : Point). (p.0, amount_over W p.1)) points)
@@ -70,7 +70,7 @@ sum_over step v points s low adds h =
 
 -- ---- the mass
 mass_stands : (limit : ℕ) (points : List Point) (s : Fraction) → All IsLowest (map fraction_weight points) → mass_of limit points ≡ Ok s
-    → (let W = common_denominator (map fraction_weight points) in Stands s (model_mass (points_over W points)) W)
+    → (let W = common_denominator (map fraction_weight points) in IsLowestRatio s (model_mass (points_over W points)) W)
 mass_stands limit points s low h =
     sum_over (add_mass limit) _ points s low (λ point st start t x here step. plus_stands limit start point.1 t _ x _ _ here st step) h
 
@@ -85,7 +85,7 @@ weights_pass points are = list_all-from_AllPass is_weight points (λ k d lt. int
 record MassSum (points : List Point) (is : Bool) : Type 0 where
   sum : Fraction
   test : is_same sum (whole (pos 1)) ≡ is
-  stands : (let W = common_denominator (map fraction_weight points) in Stands sum (model_mass (points_over W points)) W)
+  stands : (let W = common_denominator (map fraction_weight points) in IsLowestRatio sum (model_mass (points_over W points)) W)
 
 mass_sum : (limit : ℕ) (points : List Point) (is : Bool) → All IsLowest (map fraction_weight points) → are_weights points ≡ true → has_unit_mass limit points ≡ Ok is → MassSum points is
 mass_sum limit points is low weights h =
@@ -119,7 +119,7 @@ masses_are_exact limit points low = (masses_pass limit points low, masses_fail l
 
 -- ---- prices
 price_stands : (limit : ℕ) (bundle : List BundleLeg) (points : List Point) (price : Fraction) → All IsLowest (map fraction_weight points) → price_of limit bundle points ≡ Ok price
-    → (let W = common_denominator (map fraction_weight points) in Stands price (model_price bundle (points_over W points)) W)
+    → (let W = common_denominator (map fraction_weight points) in IsLowestRatio price (model_price bundle (points_over W points)) W)
 price_stands limit bundle points price low h =
     sum_over (add_price limit bundle) _ points price low (λ point st start s x here step.
     let pays = after_value (bundle_payoff_of limit bundle point.0) (λ p. plus_product limit start point.1 p) s step in
@@ -135,7 +135,7 @@ abbrev pub distance : Side → ℤ → ℤ → ℤ
 distance Buy bid price = bid -ℤ price
 distance Sell ask price = price -ℤ ask
 
-gain_stands : (limit W : ℕ) (side : Side) (bid price g : Fraction) (x y : ℤ) → Stands bid x W → Stands price y W → gain_at limit side bid price ≡ Ok g → Stands g (distance side x y) W
+gain_stands : (limit W : ℕ) (side : Side) (bid price g : Fraction) (x y : ℤ) → IsLowestRatio bid x W → IsLowestRatio price y W → gain_at limit side bid price ≡ Ok g → IsLowestRatio g (distance side x y) W
 gain_stands limit W Buy bid price g x y sb sp h = difference_stands limit bid price g x y W sb sp h
 gain_stands limit W Sell bid price g x y sb sp h = difference_stands limit price bid g y x W sp sb h
 
@@ -143,19 +143,19 @@ gain_is_part : (side : Side) (x y : ℤ) → gain side x y ≡ positive_part (di
 gain_is_part Buy x y = refl
 gain_is_part Sell x y = refl
 
-quantity_gains : (limit W q : ℕ) (start g s : Fraction) (x d : ℤ) → Stands start x W → Stands g d W → plus_gain limit start q g ≡ Ok s → Stands s (x +ℤ pos (q * positive_part d)) W
+quantity_gains : (limit W q : ℕ) (start g s : Fraction) (x d : ℤ) → IsLowestRatio start x W → IsLowestRatio g d W → plus_gain limit start q g ≡ Ok s → IsLowestRatio s (x +ℤ pos (q * positive_part d)) W
 quantity_gains limit W q start g s x d st sg h = by_test (is_above_zero g) refl
   where
-    by_test : (t : Bool) → is_above_zero g ≡ t → Stands s (x +ℤ pos (q * positive_part d)) W
+    by_test : (t : Bool) → is_above_zero g ≡ t → IsLowestRatio s (x +ℤ pos (q * positive_part d)) W
     by_test true e =
         let part = part_above d (above g d W sg e) in
         let same : x +ℤ (d *ℤ pos q) ≡ x +ℤ pos (q * positive_part d) = omega (arith, ints, products, ap (λ (w : ℤ). w *ℤ pos q) part) in
-        subst (λ w. Stands s w W) same (times_stands limit start g s (pos q) x d W st sg (rw e at h))
+        subst (λ w. IsLowestRatio s w W) same (times_stands limit start g s (pos q) x d W st sg (rw e at h))
     by_test false e =
         let none : Ok start ≡ Ok s = rw e at h in
         let stays : start ≡ s = cc in
         let same : x ≡ x +ℤ pos (q * positive_part d) = rw (part_below d (not_above g d W sg e)) (omega (arith, ints)) in
-        subst (λ t. Stands t (x +ℤ pos (q * positive_part d)) W) stays (subst (λ w. Stands start w W) same st)
+        subst (λ t. IsLowestRatio t (x +ℤ pos (q * positive_part d)) W) stays (subst (λ w. IsLowestRatio start w W) same st)
 
 order_gains : (limit : ℕ) (points : List Point) (o : Order) → All IsLowest (map fraction_weight points)
     → (let W = common_denominator (map fraction_weight points) in Adds (add_gain limit points) (λ o. pos (o.quantity * gain_of (points_over W points) W o)) W o)
@@ -164,12 +164,12 @@ order_gains limit points o low start s x st h =
     let price = after_value (price_of limit (bundle_of o) points) (λ price. after (gain_at limit o.side (whole (pos o.price)) price) (plus_gain limit start o.quantity)) s h in
     let gained = after_value (gain_at limit o.side (whole (pos o.price)) price.value) (plus_gain limit start o.quantity) s price.rest in
     let p = model_price (bundle_of o) (points_over W points) in
-    let sp : Stands price.value p W = price_stands limit (bundle_of o) points price.value low price.first in
+    let sp : IsLowestRatio price.value p W = price_stands limit (bundle_of o) points price.value low price.first in
     let sg = gain_stands limit W o.side (whole (pos o.price)) price.value gained.value (pos o.price *ℤ pos W) p (whole_stands (pos o.price) W) sp gained.first in
     rw (gain_is_part o.side (pos (o.price * W)) p) (quantity_gains limit W o.quantity start gained.value s x (distance o.side (pos (o.price * W)) p) st sg gained.rest)
 
 bound_stands : (limit : ℕ) (orders : List Order) (points : List Point) (bound : Fraction) → All IsLowest (map fraction_weight points) → bound_of limit orders points ≡ Ok bound
-    → (let W = common_denominator (map fraction_weight points) in Stands bound (pos (model_bound orders (points_over W points) W)) W)
+    → (let W = common_denominator (map fraction_weight points) in IsLowestRatio bound (pos (model_bound orders (points_over W points) W)) W)
 bound_stands limit orders points bound low h =
     let W = common_denominator (map fraction_weight points) in
     rw (← total_weighs (λ (o : Order). o.quantity) (gain_of (points_over W points) W) orders)

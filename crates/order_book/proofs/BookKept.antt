@@ -16,7 +16,7 @@ use Rattle.form.specs.Bundles.{IsOnCount}
 use Rattle.form.specs.Limits.{IsOrderWithin, IsWithinLimits}
 use Rattle.order_book.specs.declared.limits.TheConstants.{MAX_MARKETS, MAX_ACCEPTED, MAX_BATCHES}
 use Rattle.order_book.specs.declared.new_order.NewOrder.{NewOrder}
-use Rattle.order_book.specs.Markets.{MarketState, Markets, closed, has_number, changed_in, live_in, live_orders, with_live, with_live_in, without, without_in_each}
+use Rattle.order_book.specs.Markets.{MarketState, Markets, settled_market, has_number, changed_in, live_in, live_orders, with_live, with_live_in, without, without_in_each}
 use Rattle.order_book.specs.Numbers.{number_count, AreNumberedApart}
 use Rattle.order_book.specs.Book.{BookState, market_of, batch_of, with_market, with_number, with_order, without_order, after_batch, after_close}
 use Rattle.order_book.specs.Within.{IsNewOrderWithin}
@@ -127,7 +127,7 @@ module _ (book : BookState) (kept : IsBookKept book) where
     kept-after_batch more = emptied_book (λ s. with_live s []) (book.finished + 1) (λ s. refl) (omega arith) (emptied m.settled)
 
     pub kept-after_close : IsBookKept (after_close book market)
-    kept-after_close = emptied_book closed book.finished (λ s. refl) kept.finished (emptied true)
+    kept-after_close = emptied_book settled_market book.finished (λ s. refl) kept.finished (emptied true)
 
   pub kept-with_market : (market underlyings : ℕ) → market_of book market ≡ None → 1 ≤ underlyings → underlyings ≤ MAX_UNDERLYINGS → length book.markets < MAX_MARKETS → IsBookKept (with_market book market underlyings)
   kept-with_market market underlyings fresh some few room =

@@ -7,7 +7,7 @@ use Rattle.form.specs.declared.orders.Order.{Order}
 use Rattle.form.specs.declared.orders.Batch.{Batch}
 use Rattle.order_book.specs.declared.market.MarketInfo.{MarketInfo}
 use Rattle.order_book.specs.declared.new_order.NewOrder.{NewOrder}
-use Rattle.order_book.specs.Markets.{MarketState, Markets, closed, has_number, changed_in, live_in, live_orders, with_live_in, without_in_each}
+use Rattle.order_book.specs.Markets.{MarketState, Markets, settled_market, has_number, changed_in, live_in, live_orders, with_live_in, without_in_each}
 
 pub record BookState : Type 0 where
   pub markets : Markets
@@ -87,4 +87,4 @@ after_batch book market = record book { markets = with_live_in market [] book.ma
 
 -- the book with the market settled: its live orders have lapsed
 abbrev pub after_close : BookState → ℕ → BookState
-after_close book market = record book { markets = changed_in closed market book.markets }
+after_close book market = record book { markets = changed_in settled_market market book.markets }

@@ -32,8 +32,8 @@ abbrev pub live_orders : Markets → List Order
 live_orders markets = flat_map (λ (m : ℕ × MarketState). m.1.live) markets
 
 -- a market that is settled: it has no live orders
-abbrev pub closed : MarketState → MarketState
-closed market = record market { settled = true; live = [] }
+abbrev pub settled_market : MarketState → MarketState
+settled_market market = record market { settled = true; live = [] }
 
 -- the markets with one of them changed
 abbrev pub changed_in : (MarketState → MarketState) → ℕ → Markets → Markets

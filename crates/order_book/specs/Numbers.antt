@@ -9,8 +9,8 @@ abbrev pub numbers_of : List Order → List ℕ
 numbers_of orders = map (λ (order : Order). order.id) orders
 
 -- the entries with the orders that their boxes hold
-abbrev pub unboxed : List (ℕ × Box Order Global) → List (ℕ × Order)
-unboxed entries = map (λ (e : ℕ × Box Order Global). (e.0, e.1.value)) entries
+abbrev pub orders_in_boxes : List (ℕ × Box Order Global) → List (ℕ × Order)
+orders_in_boxes entries = map (λ (e : ℕ × Box Order Global). (e.0, e.1.value)) entries
 
 -- each order stands under its number, and no two under the same
 pub record AreByNumber (entries : List (ℕ × Order)) : Type 0 where

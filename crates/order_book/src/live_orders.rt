@@ -19,13 +19,13 @@ impl Model for LiveOrders {
     ghost use Rattle.std.specs.Prelude.{List};
     ghost use Rattle.std.specs.Map.{values_of};
     ghost use Rattle.form.specs.declared.orders.Order.{Order};
-    ghost use Rattle.order_book.specs.Numbers.{AreByNumber, unboxed};
+    ghost use Rattle.order_book.specs.Numbers.{AreByNumber, orders_in_boxes};
 
     ghost Value = { List Order };
 
-    ghost view = { λ s. values_of (unboxed s.by_number.entries) };
+    ghost view = { λ s. values_of (orders_in_boxes s.by_number.entries) };
 
-    ghost invariant = { λ s. AreByNumber (unboxed s.by_number.entries) };
+    ghost invariant = { λ s. AreByNumber (orders_in_boxes s.by_number.entries) };
 }
 
 impl LiveOrders {

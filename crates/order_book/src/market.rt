@@ -3,7 +3,7 @@ ghost use Rattle.std.specs.Prelude.{◌≡◌, ◌≤◌, ◌++◌, [], ◌∷�
 ghost use Rattle.std.specs.List.{find};
 ghost use Rattle.form.specs.declared.limits.TheConstants.{MAX_ORDERS};
 ghost use Rattle.order_book.specs.Book.{batch_of, info_of};
-ghost use Rattle.order_book.specs.Markets.{closed, has_number, with_live, without};
+ghost use Rattle.order_book.specs.Markets.{settled_market, has_number, with_live, without};
 
 use crate::live_orders::LiveOrders;
 use form::{Batch, Order, Orders};
@@ -123,7 +123,7 @@ impl Market {
     // Settles the market for good. Answers how many live orders lapse.
     pub(crate) fn close(&mut self) -> usize
         ensures lapsed { result ≡ length self.old.live }
-        ensures closed { self.new ≡ closed self.old }
+        ensures closed { self.new ≡ settled_market self.old }
     {
         let lapsed = self.live.len();
         self.clear();

@@ -3,7 +3,7 @@ ghost use Rattle.std.specs.Prelude.{◌≡◌, ◌≤◌, ◌++◌, [], ◌∷�
 ghost use Rattle.std.specs.List.{find};
 ghost use Rattle.std.specs.Map.{lookup};
 ghost use Rattle.std.specs.Option.{option_copied};
-ghost use Rattle.order_book.specs.Markets.{closed, has_number, changed_in, live_in, live_orders, with_live_in, without, holder_of};
+ghost use Rattle.order_book.specs.Markets.{settled_market, has_number, changed_in, live_in, live_orders, with_live_in, without, holder_of};
 ghost use Rattle.order_book.specs.Numbers.{number_count};
 
 use crate::market::Market;
@@ -140,7 +140,7 @@ impl Markets {
     pub(crate) fn close(&mut self, market: u32) -> usize
         requires { IsSome (lookup (nat_eq market) self.old) }
         ensures lapsed { result ≡ length (live_in market self.old) }
-        ensures closed { self.new ≡ changed_in closed market self.old }
+        ensures closed { self.new ≡ changed_in settled_market market self.old }
     {
         self.by_number.get_mut(&market).unwrap().close()
     }

@@ -10,9 +10,9 @@ abbrev pub as_count : ℕ → ℕ
 as_count n = min n last_count
 
 -- a count that is raised by a number
-abbrev pub raised : ℕ → ℕ → ℕ
-raised before by = as_count (before + by)
+abbrev pub raised_by : ℕ → ℕ → ℕ
+raised_by before by = as_count (before + by)
 
 -- the count rose: it is greater now, or it stands at its last value
 abbrev pub Rose : ℕ → ℕ → Type 0
-Rose before now = raised before 1 ≤ now
+Rose before now = raised_by before 1 ≤ now

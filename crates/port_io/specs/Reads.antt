@@ -3,7 +3,7 @@ use Rattle.std.specs.Prelude.{◌≡◌, ℕ, ◌≤◌, min, List, [], ◌∷�
 use Rattle.std.specs.Io.KnownBytes.{Consumes, Keeps, IsAtEnd}
 use Rattle.port_io.specs.declared.source.ReadAnswer.{ReadAnswer}
 use Rattle.port_io.specs.declared.source.ReadAnswer.TheVariants.{Got, End, Failed}
-use Rattle.port_io.specs.Faults.{Rose, raised}
+use Rattle.port_io.specs.Faults.{Rose, raised_by}
 
 -- a number of bytes that is told is from 1 to a limit
 abbrev pub GotWithin : ReadAnswer → ℕ → Type 0
@@ -24,7 +24,7 @@ as_many_as_fit size (b ∷ bs) = Got (min size (length (b ∷ bs)))
 
 -- the count of bytes taken after a read
 abbrev pub taken_after : ℕ → ReadAnswer → ℕ
-taken_after before (Got count) = raised before count
+taken_after before (Got count) = raised_by before count
 taken_after before End = before
 taken_after before Failed = before
 

@@ -1,7 +1,7 @@
 // A source and a sink in memory, whose calls fail by a list.
 ghost use Rattle.std.specs.Prelude.{◌≡◌, ◌-◌, ◌≤◌, ◌<◌, ◌↔◌, ◌⊎◌, Some, [], length, take, drop, min, IfOk, Contains, IsTrue, vec_capacity};
 ghost use Rattle.std.proofs.Math.Nat.{min-le_right};
-ghost use Rattle.port_io.specs.Faults.{as_count, last_count, raised};
+ghost use Rattle.port_io.specs.Faults.{as_count, last_count, raised_by};
 ghost use Rattle.port_io.specs.InMemory.{SourceInMemory, SinkInMemory};
 ghost use Rattle.port_io.specs.Reads.{GotWithin, Takes, taken_after, ReadCause};
 ghost use Rattle.port_io.specs.Writes.{TookWithin, Writes, WriteCause};
@@ -97,7 +97,7 @@ impl Source for MemSource {
         ensures cause { ReadCause (as_count self.old.faults) (as_count self.new.faults) result }
 
         ensures piece { GotWithin result self.old.piece }
-        ensures call { self.new.calls ≡ raised self.old.calls 1 }
+        ensures call { self.new.calls ≡ raised_by self.old.calls 1 }
         ensures fails { result ≡ ReadAnswer.Failed ↔ Contains self.old.failing self.new.calls }
         ensures same_piece { self.new.piece ≡ self.old.piece }
         ensures same_failing { self.new.failing ≡ self.old.failing }
@@ -201,7 +201,7 @@ impl Sink for MemSink {
 
         ensures piece { TookWithin result self.old.piece }
         ensures room { TookWithin result (self.old.room - length self.old.written) }
-        ensures call { self.new.calls ≡ raised self.old.calls 1 }
+        ensures call { self.new.calls ≡ raised_by self.old.calls 1 }
         ensures fails { result ≡ WriteAnswer.Failed
             ↔ Contains self.old.failing self.new.calls ⊎ (self.old.room ≤ length self.old.written) }
         ensures same_room { self.new.room ≡ self.old.room }

@@ -1,6 +1,6 @@
 // Where bytes come from.
 ghost use Rattle.std.specs.Prelude.{◌≡◌, ◌+◌, ◌≤◌, ◌<◌, List, ℕ, Option, Some, length, IfOk, IfSome, OnOk, IsErrOf, []};
-ghost use Rattle.port_io.specs.Faults.{Rose, last_count, raised};
+ghost use Rattle.port_io.specs.Faults.{Rose, last_count, raised_by};
 ghost use Rattle.port_io.specs.Reads.{GotWithin, Takes, TakesUpTo, taken_after, ReadCause};
 ghost use Rattle.port_io.specs.declared.source.ReadStop.TheVariants.{Memory};
 
@@ -84,7 +84,7 @@ pub fn read_all<S: Source>(alloc: Global, source: &mut S, limit: usize) -> Resul
     ensures no_fault_before { IsErrOf result ReadStop.TooLong →
         S.faults source.new ≡ S.faults source.old }
     ensures too_many { IsErrOf result ReadStop.TooLong →
-        raised (S.taken source.old) (limit + 1) ≤ S.taken source.new }
+        raised_by (S.taken source.old) (limit + 1) ≤ S.taken source.new }
 
     ensures later { S.faults source.old ≤ S.faults source.new }
 {

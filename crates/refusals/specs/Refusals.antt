@@ -13,9 +13,9 @@ refusal_in name (Ok value) = None
 refusal_in name (Err error) = name error
 
 -- the refusals by their names
-abbrev pub named : {E R : Type 0} → (E → Option R) → List (Bool × E) → List (Bool × R)
-named name [] = []
-named name (refusal ∷ others) = option_map_or (λ r. (refusal.0, r) ∷ named name others) (name refusal.1) (named name others)
+abbrev pub by_name : {E R : Type 0} → (E → Option R) → List (Bool × E) → List (Bool × R)
+by_name name [] = []
+by_name name (refusal ∷ others) = option_map_or (λ r. (refusal.0, r) ∷ by_name name others) (name refusal.1) (by_name name others)
 
 -- the refusal that a call answers is the first whose condition holds
 abbrev pub TellsFirst : {T E R : Type 0} → (E → Option R) → Result T E → List (Bool × R) → Type 0

@@ -12,7 +12,7 @@ use Rattle.order_book.specs.declared.new_order.NewOrder.{NewOrder}
 use Rattle.order_book.specs.declared.refusal.BookRefusal.{BookRefusal}
 use Rattle.order_book.specs.declared.refusal.BookRefusal.TheVariants as from_book
 use Rattle.order_book.specs.Refusals as book
-use Rattle.refusals.specs.Refusals.{first_of, named}
+use Rattle.refusals.specs.Refusals.{first_of, by_name}
 use Rattle.exchange_core.specs.declared.refusal.Refusal.{Refusal}
 use Rattle.exchange_core.specs.ExchangeState.{ExchangeState}
 use Rattle.exchange_core.specs.Orders.{order_by, order_for}
@@ -51,13 +51,13 @@ book_told from_book.TooMany = ((omega arith, omega arith), refl)
 book_told from_book.Memory = tt
 
 module _ {E : Type 0} (name : E → Option Refusal) (each : (error : E) → IsToldIf (name error)) where
-  all_told : (errors : List (Bool × E)) → All IsOne (named name errors)
+  all_told : (errors : List (Bool × E)) → All IsOne (by_name name errors)
   all_told [] = All-nil IsOne
   all_told (e ∷ errors) = by (name e.1) (each e.1) (all_told errors)
     where
-      by : (r : Option Refusal) → IsToldIf r → All IsOne (named name errors) → All IsOne (option_map_or (λ r. (e.0, r) ∷ named name errors) r (named name errors))
+      by : (r : Option Refusal) → IsToldIf r → All IsOne (by_name name errors) → All IsOne (option_map_or (λ r. (e.0, r) ∷ by_name name errors) r (by_name name errors))
       by None told rest = rest
-      by (Some refusal) told rest = All-cons IsOne (e.0, refusal) (named name errors) told rest
+      by (Some refusal) told rest = All-cons IsOne (e.0, refusal) (by_name name errors) told rest
 
 of_ledger : (errors : List (Bool × LedgerRefusal)) → All IsOne (by_ledger errors)
 of_ledger = all_told ledger_name ledger_told

@@ -5,7 +5,7 @@ use Rattle.std.proofs.lemmas.List.Elements.{All-map}
 use Rattle.exchange_core.specs.Covered.{IfCleared}
 use Rattle.journal_check.specs.Findings.{cleared_finding, fault_in, reply_finding}
 use Rattle.journal_check.specs.Laws.{IsSoundReply, journal_of}
-use Rattle.journal_check.specs.Reports.{counted, report_of}
+use Rattle.journal_check.specs.Reports.{sound_report, report_of}
 use Rattle.journal_check.proofs.Journals.{journals_are_counted}
 use Rattle.reply_print.specs.declared.replies.Reply.{Reply}
 use Rattle.reply_print.specs.declared.replies.Reply.TheVariants.{Opened, Deposited, Withdrawn, Listed, Placed, Cancelled, Cleared, Settled, Balance, Refused}
@@ -52,4 +52,4 @@ runs_are_accepted input few =
     let all = answers input in
     ap report_of (output_is_answers input ∙ text_is_journal all)
     ∙ journals_are_counted (map told all) (All-map IsSoundReply told all (sound_answers input few))
-    ∙ ap counted (findings_told all)
+    ∙ ap sound_report (findings_told all)

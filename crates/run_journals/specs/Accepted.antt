@@ -2,7 +2,7 @@
 use Rattle.std.specs.Prelude.{◌≡◌, ◌≤◌, ℕ, List, length, map}
 use Rattle.std.specs.List.{All}
 use Rattle.journal_check.specs.Findings.{reply_finding}
-use Rattle.journal_check.specs.Reports.{counted, report_of}
+use Rattle.journal_check.specs.Reports.{sound_report, report_of}
 use Rattle.reply_print.specs.Within.{IsWithin}
 use Rattle.exchange_lines.specs.Output.{output}
 use Rattle.exchange_lines.specs.Replies.{Answer, answers}
@@ -21,4 +21,4 @@ AnswersAreWithin = (input : List ℕ) → IsInput input → All IsAnswerWithin (
 
 -- the report on what is written for an input has the counts of its replies, and names no line
 abbrev pub RunsAreAccepted : Type 0
-RunsAreAccepted = (input : List ℕ) → IsInput input → report_of (output input) ≡ counted (map (λ (answer : Answer). reply_finding answer.reply) (answers input))
+RunsAreAccepted = (input : List ℕ) → IsInput input → report_of (output input) ≡ sound_report (map (λ (answer : Answer). reply_finding answer.reply) (answers input))

@@ -8,7 +8,7 @@ use Rattle.form.specs.declared.orders.Side.TheVariants.{Buy, Sell}
 use Rattle.form.specs.Vector.{positive_part}
 
 -- a fill that an order may have: 0 to 1,000,000 options
-pub record IsHeld (fill : Fraction) : Type 0 where
+pub record IsOrderFill (fill : Fraction) : Type 0 where
   pub not_below_zero : pos 0 ≤ℤ fill.numerator
   pub at_most : AtMost fill (whole (pos MAX_QUANTITY))
 

@@ -13,7 +13,7 @@ use Rattle.form.specs.Payoff.{BundleLeg, bundle_of}
 use Rattle.clearing_model.specs.Legs.{FilledLeg, filled_leg, legs_of}
 use Rattle.clearing_model.specs.Written.{PlacedMultiplier}
 use Rattle.clearing_model.specs.Certificate.{filled_over, by_of}
-use Rattle.exact_num.proofs.Stands.{Stands, amounts_stand}
+use Rattle.exact_num.proofs.LowestRatios.{IsLowestRatio, amounts_stand}
 use Rattle.sign_tree.specs.Legs.{FractionLeg, fraction_leg, fraction_legs}
 use Rattle.sign_tree.proofs.LeafSums.{amount_of, HasAmount, has_amount, leg_over, legs_over, LegHasAmount, MultiplierHasAmount}
 
@@ -34,7 +34,7 @@ length_of_legs E legs = length-map legs (leg_over E)
 
 -- ---- over one denominator
 abbrev pub HasPart : ℕ → PlacedMultiplier → Type 0
-HasPart D m = Stands m.by (amount_over D m.by) D
+HasPart D m = IsLowestRatio m.by (amount_over D m.by) D
 
 abbrev pub HasNoMinus : PlacedMultiplier → Type 0
 HasNoMinus m = pos 0 ≤ℤ m.by.numerator
@@ -46,12 +46,12 @@ with_amounts D ms parts least k d lt = has_amount D (get_or ms k d).by (parts k 
 pub record StandsOver (D : ℕ) (legs : List FractionLeg) (L : Fraction) (ms : List PlacedMultiplier) : Type 0 where
   pub one : 1 ≤ D
   pub legs_are : All (LegHasAmount D) legs
-  pub liability : Stands L (amount_over D L) D
+  pub liability : IsLowestRatio L (amount_over D L) D
   pub parts : All (HasPart D) ms
 
 -- each fraction stands for its amount
 abbrev HasItsAmount : ℕ → Fraction → Type 0
-HasItsAmount D f = Stands f (amount_over D f) D
+HasItsAmount D f = IsLowestRatio f (amount_over D f) D
 
 bundle_has : (D : ℕ) (side : Side) (f : Fraction) (bundle : List BundleLeg) (rest : List FractionLeg) → HasAmount D f → All (LegHasAmount D) rest
     → All (LegHasAmount D) (map (fraction_leg side f) bundle ++ rest)

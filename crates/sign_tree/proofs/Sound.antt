@@ -13,7 +13,7 @@ use Rattle.clearing_model.specs.Legs.{FilledLeg, legs_of}
 use Rattle.clearing_model.specs.Tree.{Sign, Unsigned, Plus, Minus, IsClosed, IsClosedUnder}
 use Rattle.clearing_model.specs.Written.{WrittenNode, SplitNode, LeafNode, PlacedMultiplier, WrittenTree, Ends, Parts, nodes_of, multipliers_of, tree_over, IsWritten, IsFormed}
 use Rattle.clearing_model.specs.Certificate.{filled_over, by_of, ClosesAsWritten}
-use Rattle.exact_num.proofs.Stands.{Stands}
+use Rattle.exact_num.proofs.LowestRatios.{IsLowestRatio}
 use Rattle.sign_tree.specs.Walk.{FractionLeg, fraction_legs, is_unsigned, passes_at, may_split, are_placed, keeps_within, entries_close, leaf_closes, walk}
 use Rattle.sign_tree.specs.Laws.{WalksCloseTrees}
 use Rattle.sign_tree.proofs.LeafSums.{legs_over, LegHasAmount, then_holds, entries_within}
@@ -25,7 +25,7 @@ pub record IsSound (n D E : ℕ) (legs : List FractionLeg) (L : Fraction) (signs
   pub formed : IsFormed (legs_over E legs) signs tree
   pub closes : IsClosedUnder n (legs_over D legs) (amount_over D L) signs (tree_over D (legs_over D legs) tree)
 
-leaf_is_sound : (limit n D E : ℕ) (legs : List FractionLeg) (L : Fraction) (signs : List Sign) (ms : List PlacedMultiplier) → 1 ≤ D → All (LegHasAmount D) legs → Stands L (amount_over D L) D → All (HasPart D) ms
+leaf_is_sound : (limit n D E : ℕ) (legs : List FractionLeg) (L : Fraction) (signs : List Sign) (ms : List PlacedMultiplier) → 1 ≤ D → All (LegHasAmount D) legs → IsLowestRatio L (amount_over D L) D → All (HasPart D) ms
     → leaf_closes limit n legs L signs ms ≡ Ok true → IsSound n D E legs L signs (Ends ms)
 leaf_is_sound limit n D E legs L signs ms one legs_are sl parts h =
     let sums = entries_close limit legs L signs ms 0 (n + 1) in
@@ -63,7 +63,7 @@ joined n D E legs L nodes signs pending ms place splits p =
     (Parts place p.0 m.0, m.1, m.2, ap (λ (x : List WrittenNode). SplitNode place ∷ x) all, both, sound, m.6)
 
 walked : (limit n D E : ℕ) (legs : List FractionLeg) (L : Fraction) (nodes : List WrittenNode) (pending : List (List Sign)) (ms : List PlacedMultiplier)
-    → 1 ≤ D → All (LegHasAmount D) legs → Stands L (amount_over D L) D → All (HasPart D) ms
+    → 1 ≤ D → All (LegHasAmount D) legs → IsLowestRatio L (amount_over D L) D → All (HasPart D) ms
     → walk limit n legs L nodes pending ms ≡ Ok true → AreWritten (IsSound n D E legs L) pending nodes ms
 walked limit n D E legs L [] [] [] one legs_are sl parts h = (refl, refl)
 walked limit n D E legs L [] [] (m ∷ ms) one legs_are sl parts h = cc

@@ -10,12 +10,12 @@ use Rattle.exact_num.specs.CommonDenominator.{amount_over}
 use Rattle.exact_num.proofs.After.{after_value}
 use Rattle.clearing_model.specs.Tree.{Sign, liability_at}
 use Rattle.clearing_model.specs.Written.{PlacedMultiplier}
-use Rattle.exact_num.proofs.Stands.{Stands}
+use Rattle.exact_num.proofs.LowestRatios.{IsLowestRatio}
 use Rattle.sign_tree.specs.Walk.{FractionLeg, entry_sum, entries_close}
 use Rattle.sign_tree.proofs.LeafSums.{LegHasAmount, MultiplierHasAmount, RiseFrom, entry_over, entry_stands}
 
 -- a number that stands for one that is not above 0 is not
-low_stands : (e : Fraction) (y : ℤ) (D : ℕ) → 1 ≤ D → Stands e y D → y ≤ℤ pos 0 → int_lt (pos 0) e.numerator ≡ false
+low_stands : (e : Fraction) (y : ℤ) (D : ℕ) → 1 ≤ D → IsLowestRatio e y D → y ≤ℤ pos 0 → int_lt (pos 0) e.numerator ≡ false
 low_stands e y D one st low = by_test (int_lt (pos 0) e.numerator) refl
   where
     by_test : (t : Bool) → int_lt (pos 0) e.numerator ≡ t → int_lt (pos 0) e.numerator ≡ false
@@ -26,7 +26,7 @@ low_stands e y D one st low = by_test (int_lt (pos 0) e.numerator) refl
     by_test false h = h
 
 pub low_entries : (limit D : ℕ) (legs : List FractionLeg) (L : Fraction) (signs : List Sign) (ms : List PlacedMultiplier) (i left : ℕ)
-    → 1 ≤ D → All (LegHasAmount D) legs → All (MultiplierHasAmount D) ms → RiseFrom 1 ms → Stands L (amount_over D L) D
+    → 1 ≤ D → All (LegHasAmount D) legs → All (MultiplierHasAmount D) ms → RiseFrom 1 ms → IsLowestRatio L (amount_over D L) D
     → ((j : ℕ) → i ≤ j → j < i + left → entry_over D j 1 legs signs ms ≤ℤ liability_at (amount_over D L) j)
     → entries_close limit legs L signs ms i left ≡ Ok false → ⊥
 low_entries limit D legs L signs ms i zero one legs_are ms_are rise sl low h = cc

@@ -17,7 +17,7 @@ returns g c =
     let j = c.args.j in
     let at_row = at-map value c.args.row.now j c.index-row-j.result c.requires.inside.0 c.index-row-j.is in
     let at_pivot = at-map value c.args.pivot.now j c.index-pivot-j.result c.requires.inside.1 c.index-pivot-j.is in
-    let fits = sym c.cleared.ensures ∙ ap (meaning value) c.in_ok-entry.was in
+    let fits = sym c.entry_less_product.ensures ∙ ap (meaning value) c.in_ok-entry.was in
     ap Ok (map-set value c.args.row.now j c.in_ok-entry.entry)
     ∙ sym (
     ap (λ (x : Fraction). after (short_less L f x (at (map value c.args.pivot.now) j)) (λ y. Ok (set row j y))) at_row

@@ -57,8 +57,8 @@ returns-clause-turned g c =
     let from_set = ap (lists_after L h k r (value ys) 0) (map-set value rows r ys) in
     let goes = c.in_ok-clear_rows.ensures.rows ∙ from_rows ∙ from_pivot ∙ from_set in
     let pivot_row = c.row-2.ensures.row ∙ c.in_ok-clear_rows.ensures.pivot ∙ ap (λ z. slice_index_or (set rows r z) r []) refitted ∙ here in
-    let objective = c.clear.ensures ∙ ap (λ z. short_cleared L h k (value z) last) pivot_row in
+    let objective = c.clear_column.ensures ∙ ap (λ z. short_cleared L h k (value z) last) pivot_row in
     let news = map value c.clear_rows.new.rows.rows in
-    beside c.clear.result news (map g.N.Exact.fraction c.clear.new.row)
+    beside c.clear_column.result news (map g.N.Exact.fraction c.clear_column.new.row)
     ∙ ap (λ z. after z (λ l. Ok (news, l))) objective
     ∙ sym (whole ∙ ap (λ z. after z (λ others. after (short_cleared L h k (value ys) last) (λ l. Ok (others, l)))) (sym goes))

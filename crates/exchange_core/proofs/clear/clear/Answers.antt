@@ -47,8 +47,8 @@ returns-clause-joined c =
     (c.release_all.ensures.accounts ∙ c.pay_all.ensures.accounts ∙ c.room.ensures.accounts) c.args.market none
     (λ q. omega (arith, ap (reserve_of q) (found.1 ∙ sym c.as_slice-orders.ensures), c.release_all.ensures.reserves q, c.pay_all.ensures.reserves q, c.room.ensures.reserves q)))
 
-pub hold_all-requires-clause-held : goal.hold_all-requires-clause-held
-hold_all-requires-clause-held c =
+pub add_positions-requires-clause-held : goal.add_positions-requires-clause-held
+add_positions-requires-clause-held c =
     fills_held c.in_ok-batch.batch c.in_ok-outcome.outcome c.as_slice-orders.result.now c.as_slice-2.result.now c.in_ok-batch.ensures.within c.in_ok-outcome.ensures.within c.as_slice-orders.ensures c.as_slice-2.ensures
 
 pub returns-clause-positions : goal.returns-clause-positions
@@ -60,6 +60,6 @@ returns-clause-positions c =
     let kept = with_batch_kept c.args.ledger.now.accounts c.args.book.now old c.requires.joined.kept c.requires.positions c.args.market c.finish_batch-number.result none
     c.in_ok-batch.batch c.in_ok-outcome.outcome c.as_slice-orders.result.now c.as_slice-2.result.now found.1 c.in_ok-outcome.ensures.within c.as_slice-orders.ensures c.as_slice-2.ensures in
     let new = positions_in c.args.market c.finish_batch-number.result c.as_slice-orders.result.now c.as_slice-2.result.now in
-    let list = c.hold_all.ensures.list ∙ ap (λ (l : List Position). l ++ new) c.room-2.ensures.list in
+    let list = c.add_positions.ensures.list ∙ ap (λ (l : List Position). l ++ new) c.room-2.ensures.list in
     subst (λ (l : List Position). ArePositionsKept c.release_all.new.ledger.accounts c.finish_batch-number.new.self.markets l) (sym list)
     (positions-at _ (ap (λ (b : BookState). b.markets) c.finish_batch-number.ensures.finished) (positions-same _ same kept))

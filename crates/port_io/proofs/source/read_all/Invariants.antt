@@ -1,6 +1,6 @@
 use Rattle.std.proofs.Common.{◌≡◌, ◌+◌, ◌-◌, ◌≤◌, length}
 use Rattle.std.specs.Io.KnownBytes.{Consumes}
-use Rattle.port_io.specs.Faults.{raised}
+use Rattle.port_io.specs.Faults.{raised_by}
 use Rattle.port_io.proofs.source.read_all.Given as goal
 
 abbrev pub invariant-loop-buf : goal.invariant-loop-buf
@@ -9,7 +9,7 @@ invariant-loop-buf g l =
     record {
       gave : Consumes (S.left l.fn.source) (S.left l.source) l.bytes.items;
       calm : S.faults l.source ≡ S.faults l.fn.source;
-      taken : raised (S.taken l.fn.source) (length l.bytes.items) ≤ S.taken l.source;
+      taken : raised_by (S.taken l.fn.source) (length l.bytes.items) ≤ S.taken l.source;
       few : S.taken l.source ≤ S.taken l.fn.source + length l.bytes.items;
     }
 

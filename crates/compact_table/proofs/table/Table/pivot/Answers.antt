@@ -4,7 +4,7 @@ use Rattle.std.specs.List.{remove}
 use Rattle.std.proofs.lemmas.Result.{err_from_is_err_and}
 use Rattle.std.proofs.lemmas.List.{length-map}
 use Rattle.exact_num.specs.Fits.{after}
-use Rattle.compact_run.specs.Compact.{moved, place_for}
+use Rattle.compact_run.specs.Compact.{remove_insert, place_for}
 use Rattle.compact_table.specs.Candidates.{apart}
 use Rattle.compact_table.specs.Lists.{front}
 use Rattle.compact_table.specs.Tables.{lists_of, objective_of}
@@ -29,7 +29,7 @@ returns-in_err-turn_rows-clause-table g c =
     let is_k = c.place_without-k.ensures.place ∙ ap (λ (ks : List ℕ). place_for l (remove ks h)) c.as_slice.ensures.value in
     let whole = pivoted_by (unsigned_abs g.N.Exact.LIMIT) h r k l t.kept.items t.basics.items lists (objective_of value t) same is_l is_k in
     let stop = step_stops c.turn_rows.result _ _ _ c.turn_rows.ensures.turned c.in_err-turn_rows.was in
-    rw (p.1, p.2) (sym (whole ∙ ap (λ z. after z (λ u. Ok (apart (moved h k l t.kept.items) (set t.basics.items r (get_or t.kept.items h 0)) u.0 u.1))) stop))
+    rw (p.1, p.2) (sym (whole ∙ ap (λ z. after z (λ u. Ok (apart (remove_insert h k l t.kept.items) (set t.basics.items r (get_or t.kept.items h 0)) u.0 u.1))) stop))
 
 pub returns-clause-table : goal.returns-clause-table
 returns-clause-table g c =
@@ -50,11 +50,11 @@ returns-clause-table g c =
     let old_basics = c.turn_rows.ensures.basics in
     let turned = c.turn_rows.new.self in
     let kept = c.exchange.ensures.kept
-    ∙ ap (λ (bs : List ℕ). moved h k (slice_index_or bs r 0) turned.kept.items) old_basics
-    ∙ ap (λ (v : ℕ). moved h k v turned.kept.items) is_l
-    ∙ ap (moved h k l) old_kept in
+    ∙ ap (λ (bs : List ℕ). remove_insert h k (slice_index_or bs r 0) turned.kept.items) old_basics
+    ∙ ap (λ (v : ℕ). remove_insert h k v turned.kept.items) is_l
+    ∙ ap (remove_insert h k l) old_kept in
     let basics = c.exchange.ensures.basics
     ∙ ap (λ (bs : List ℕ). set bs r (get_or turned.kept.items h 0)) old_basics
     ∙ ap (λ (ks : List ℕ). set t.basics.items r (get_or ks h 0)) old_kept in
     (λ i. Ok (apart (kept i) (basics i) (c.exchange.ensures.lists i) (c.exchange.ensures.objective i)))
-    ∙ sym (whole ∙ ap (λ z. after z (λ u. Ok (apart (moved h k l t.kept.items) (set t.basics.items r (get_or t.kept.items h 0)) u.0 u.1))) goes)
+    ∙ sym (whole ∙ ap (λ z. after z (λ u. Ok (apart (remove_insert h k l t.kept.items) (set t.basics.items r (get_or t.kept.items h 0)) u.0 u.1))) goes)

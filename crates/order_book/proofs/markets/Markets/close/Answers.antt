@@ -1,6 +1,6 @@
 use Rattle.std.proofs.Common.{length, sym, ap, ◌∙◌}
 use Rattle.std.specs.Option.{option_copied_mut}
-use Rattle.order_book.specs.Markets.{Markets, closed, changed_in, live_in}
+use Rattle.order_book.specs.Markets.{Markets, settled_market, changed_in, live_in}
 use Rattle.order_book.proofs.MarketLists.{live_found, changed_written}
 use Rattle.order_book.proofs.markets.Markets.close.Goals as goal
 
@@ -13,5 +13,5 @@ returns-clause-lapsed c =
 pub returns-clause-closed : goal.returns-clause-closed
 returns-clause-closed c =
     let found = sym c.get_mut.ensures.value ∙ ap option_copied_mut c.unwrap.ensures in
-    changed_written c.args.market closed c.self.inside.by_number.entries _ c.unwrap.result.now _ found c.close.ensures.closed (c.get_mut.follows.holds c.close.new.self).0
-    ∙ ap (changed_in closed c.args.market) c.self.view_is
+    changed_written c.args.market settled_market c.self.inside.by_number.entries _ c.unwrap.result.now _ found c.close.ensures.closed (c.get_mut.follows.holds c.close.new.self).0
+    ∙ ap (changed_in settled_market c.args.market) c.self.view_is

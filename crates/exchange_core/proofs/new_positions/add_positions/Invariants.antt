@@ -1,6 +1,6 @@
 use Rattle.std.proofs.Common.{◌≡◌, ◌+◌, ◌≤◌, ◌++◌, length, drop}
 use Rattle.exchange_core.specs.Positions.{positions_in}
-use Rattle.exchange_core.proofs.hold.hold_all.Given as goal
+use Rattle.exchange_core.proofs.new_positions.add_positions.Given as goal
 
 abbrev pub invariant-loop-place : goal.invariant-loop-place
 invariant-loop-place l = record {

@@ -12,7 +12,7 @@ use frac::Frac128;
 use settlement::{Position, Positions};
 
 // Adds the position of a fill, for which there is room. A fill of 0 gives none.
-fn hold(positions: &mut Positions, market: u32, batch: u32, order: &Order, fill: &Frac128)
+fn add_position(positions: &mut Positions, market: u32, batch: u32, order: &Order, fill: &Frac128)
     requires held { IsHolding order.now.bundle (fraction_of fill.now) }
     requires room { 1 ≤ positions.old.spare }
     ensures list { positions.new.list
@@ -34,7 +34,7 @@ fn hold(positions: &mut Positions, market: u32, batch: u32, order: &Order, fill:
 }
 
 // Adds the positions of a batch, in order of number.
-pub(crate) fn hold_all(
+pub(crate) fn add_positions(
     positions: &mut Positions,
     market: u32,
     batch: u32,
@@ -48,6 +48,6 @@ pub(crate) fn hold_all(
         ≡ positions.old.list ++ positions_in market batch orders.now fills.now }
 {
     for (place, order) in orders.iter().enumerate() {
-        hold(positions, market, batch, order, &fills[place]);
+        add_position(positions, market, batch, order, &fills[place]);
     }
 }
