@@ -1,19 +1,19 @@
 -- One step of the run over rows of whole numbers, and from that run to the run over fractions.
-use Rattle.std.proofs.Common.{◌≡◌, ℕ, zero, suc, ◌+◌, ◌-◌, ◌*◌, ◌<◌, ◌≤◌, length, refl, sym, ◌∙◌, ap, arith, true}
+use Rattle.std.proofs.Common.{◌≡◌, ℕ, zero, suc, ◌+◌, ◌-◌, ◌*◌, ◌<◌, ◌≤◌, length, refl, sym, ◌∙◌, ap, subst, arith, true}
 use Rattle.std.specs.Prelude.{Some, None}
 use Rattle.table_run.specs.Program.{LinearProgram}
 use Rattle.table_run.specs.Optimum.{IsProgram}
 use Rattle.table_run.specs.Ending.{Ending, no_unit_left, unbounded, done}
 use Rattle.table_run.specs.Run.{Optimum, run}
-use Rattle.whole_rows.specs.Compact.{CompactTable, Column, compact_entering, compact_turn, compact_fits, compact_read_off, compact_direction, compact_run_from, compact_run, first_compact_table}
+use Rattle.whole_rows.specs.Compact.{CompactTable, Column, compact_entering, compact_turn, compact_objective_fits, compact_read_off, compact_direction, compact_run_from, compact_run, first_compact_table}
 use Rattle.whole_rows.proofs.CompactFirst.{compact_runs_end_the_same}
 use Rattle.whole_solver.specs.declared.table.WholeTable.{WholeTable}
 use Rattle.whole_solver.specs.declared.columns.Entering.{Entering}
 use Rattle.whole_solver.specs.Choices.{as_column}
 use Rattle.whole_solver.specs.Within.{IsUsable}
-use Rattle.whole_rows.specs.Lines.{widest}
+use Rattle.whole_rows.specs.Lines.{rows_fit, widest}
 use Rattle.whole_solver.specs.Tables.{as_whole, taken_from, IsWithin, SameShape}
-use Rattle.whole_solver.proofs.Pivoting.{fits_in}
+use Rattle.whole_solver.proofs.Pivoting.{rows_fit_in}
 use Rattle.whole_solver.proofs.Taken.{first_taken}
 use Rattle.compact_run.specs.Compact.{compact_first}
 use Rattle.compact_table.specs.declared.table.Table.{Table}
@@ -22,55 +22,56 @@ use Rattle.table_run.proofs.Listed.{listed_count}
 use Rattle.exact_num.specs.Fraction.{Fraction}
 use Rattle.table_run.specs.Units.{units_of}
 use Rattle.whole_solver.proofs.Turned.{line_wider}
-use Rattle.simplex.specs.Spaces.{IsBeingGiven, answer_of, contents_after, whole_optimum_in}
+use Rattle.simplex.specs.Spaces.{IsBeingGiven, IsReadable, answer_of, contents_after, whole_optimum_in}
 use Rattle.simplex.specs.Attempts.{IsStageOf, EndsInStop}
 use Rattle.simplex.specs.WholeEnds.{IsWholeEnd}
 use Rattle.simplex.specs.declared.whole_run.WholeEnd.TheVariants.{Optimal as WholeOptimum, Unbounded as WholeRay, NoUnit}
 use Rattle.simplex.specs.declared.stage.Stage.TheVariants.{WholeOptimal, WholeUnbounded}
 use Rattle.simplex.specs.declared.stop.RunStop.TheVariants.{Budget as RunBudget}
 
-pub whole_ends : (b n m left spent : ℕ) (t : CompactTable) → compact_entering t ≡ None → compact_run_from b n m left spent t ≡ Some (compact_read_off n m t spent)
+pub whole_ends : (b limit n m left spent : ℕ) (t : CompactTable) → compact_entering t ≡ None → compact_run_from b limit n m left spent t ≡ Some (compact_read_off n m t spent)
 unfolding compact_run_from
-whole_ends b n m zero spent t h = rw h refl
-whole_ends b n m (suc left) spent t h = rw h refl
+whole_ends b limit n m zero spent t h = rw h refl
+whole_ends b limit n m (suc left) spent t h = rw h refl
 
-pub whole_out : (b n m left spent : ℕ) (t : CompactTable) (c : Column) → compact_entering t ≡ Some c → left ≡ 0 → compact_run_from b n m left spent t ≡ Some (no_unit_left spent)
+pub whole_out : (b limit n m left spent : ℕ) (t : CompactTable) (c : Column) → compact_entering t ≡ Some c → left ≡ 0 → compact_run_from b limit n m left spent t ≡ Some (no_unit_left spent)
 unfolding compact_run_from
-whole_out b n m zero spent t c h z = rw h refl
-whole_out b n m (suc left) spent t c h z = absurd (omega (arith, z))
+whole_out b limit n m zero spent t c h z = rw h refl
+whole_out b limit n m (suc left) spent t c h z = absurd (omega (arith, z))
 
-pub whole_moves : (b n m left spent : ℕ) (t next : CompactTable) (c : Column) → compact_entering t ≡ Some c → compact_turn c.place t ≡ Some next → compact_fits b next ≡ true → 0 < left
-    → compact_run_from b n m left spent t ≡ compact_run_from b n m (left - 1) (spent + 1) next
+pub whole_moves : (b limit n m left spent : ℕ) (t next : CompactTable) (c : Column) → compact_entering t ≡ Some c → compact_turn c.place t ≡ Some next → compact_objective_fits limit c.place t ≡ true → rows_fit b next.rows ≡ true → 0 < left
+    → compact_run_from b limit n m left spent t ≡ compact_run_from b limit n m (left - 1) (spent + 1) next
 unfolding compact_run_from
-whole_moves b n m zero spent t next c h k f p = absurd (omega (arith, p))
-whole_moves b n m (suc left) spent t next c h k f p = let less : suc left - 1 ≡ left = omega arith in rw (h, k, f, less) refl
+whole_moves b limit n m zero spent t next c h k o f p = absurd (omega (arith, p))
+whole_moves b limit n m (suc left) spent t next c h k o f p = let less : suc left - 1 ≡ left = omega arith in rw (h, k, o, f, less) refl
 
-pub whole_unlimited : (b n m left spent : ℕ) (t : CompactTable) (c : Column) → compact_entering t ≡ Some c → compact_turn c.place t ≡ None → 0 < left
-    → compact_run_from b n m left spent t ≡ Some (unbounded (compact_direction n c t) (spent + 1))
+pub whole_unlimited : (b limit n m left spent : ℕ) (t : CompactTable) (c : Column) → compact_entering t ≡ Some c → compact_turn c.place t ≡ None → 0 < left
+    → compact_run_from b limit n m left spent t ≡ Some (unbounded (compact_direction n c t) (spent + 1))
 unfolding compact_run_from
-whole_unlimited b n m zero spent t c h k p = absurd (omega (arith, p))
-whole_unlimited b n m (suc left) spent t c h k p = rw (h, k) refl
+whole_unlimited b limit n m zero spent t c h k p = absurd (omega (arith, p))
+whole_unlimited b limit n m (suc left) spent t c h k p = rw (h, k) refl
 
 pub whole_found_is : (n m spent : ℕ) (t : CompactTable) → length t.names ≡ n → compact_read_off n m t spent ≡ done (whole_optimum_in n m t) spent
 unfolding compact_read_off
 whole_found_is n m spent t e = refl
 
 -- ---- the run of the program
-started : (b left spent : ℕ) (p : LinearProgram) (t : CompactTable) → t ≡ first_compact_table p → compact_fits b t ≡ true → compact_run b p left spent ≡ compact_run_from b p.variables p.rows left spent t
+started : (b limit left spent : ℕ) (p : LinearProgram) (t : CompactTable) → t ≡ first_compact_table p → rows_fit b t.rows ≡ true → compact_run b limit p left spent ≡ compact_run_from b limit p.variables p.rows left spent t
 unfolding compact_run
-started b left spent p t first fits =
-    let test : compact_fits b (first_compact_table p) ≡ true = ap (compact_fits b) (sym first) ∙ fits in
-    rw test (ap (compact_run_from b p.variables p.rows left spent) (sym first))
+started b limit left spent p t first fits =
+    let test : rows_fit b (first_compact_table p).rows ≡ true = ap (λ (u : CompactTable). rows_fit b u.rows) (sym first) ∙ fits in
+    rw test (ap (compact_run_from b limit p.variables p.rows left spent) (sym first))
 
-pub whole_is_run : (b limit left spent : ℕ) (p : LinearProgram) (t : CompactTable) (E : Ending Optimum) → IsProgram p → 2 * (b * b) ≤ limit → t ≡ first_compact_table p → compact_fits b t ≡ true
-    → compact_run_from b p.variables p.rows left spent t ≡ Some E → run limit p left spent ≡ E
-whole_is_run b limit left spent p t E g room first fits h = compact_runs_end_the_same b limit p left spent E g room (started b left spent p t first fits ∙ h)
+pub whole_is_run : (b limit left spent : ℕ) (p : LinearProgram) (t : CompactTable) (E : Ending Optimum) → IsProgram p → 2 * (b * b) ≤ limit → t ≡ first_compact_table p → rows_fit b t.rows ≡ true
+    → compact_run_from b limit p.variables p.rows left spent t ≡ Some E → run limit p left spent ≡ E
+whole_is_run b limit left spent p t E g room first fits h = compact_runs_end_the_same b limit p left spent E g room (started b limit left spent p t first fits ∙ h)
 
-pub within_wider : (b c : ℕ) (w : WholeTable) → b ≤ c → IsWithin b w → IsWithin c w
-within_wider b c w low g =
+pub within_wider : (b c limit : ℕ) (w : WholeTable) → b ≤ c → IsWithin b limit w → IsWithin c limit w
+within_wider b c limit w low g =
     record {
       rows = λ i p. line_wider b c _ _ low (g.rows i p);
-      objective = line_wider b c _ _ low g.objective;
+      sizes = g.sizes;
+      objective = g.objective;
     }
 
 -- ---- a run of the program that was taken in
@@ -78,11 +79,11 @@ pub record IsStarted {A : Type 0} (value : A → Fraction) (limit b : ℕ) (t : 
   pub given : IsBeingGiven value limit t
   pub usable : IsUsable limit b
   pub first : as_whole w ≡ first_compact_table (program_in value t)
-  pub within : IsWithin b w
+  pub within : IsWithin b limit w
 
-pub started_at : {A : Type 0} (value : A → Fraction) (limit b : ℕ) (t t1 : Table A) (w : WholeTable) → IsBeingGiven value limit t → IsUsable limit b → as_compact value t1 ≡ compact_first (program_in value t) → as_whole w ≡ taken_from (as_compact value t1) → IsWithin b w
+pub started_at : {A : Type 0} (value : A → Fraction) (limit held b : ℕ) (t t1 : Table A) (w : WholeTable) → held ≡ limit → IsBeingGiven value limit t → IsUsable limit b → as_compact value t1 ≡ compact_first (program_in value t) → as_whole w ≡ taken_from (as_compact value t1) → IsWithin b held w
     → IsStarted value limit b t w
-started_at value limit b t t1 w g u first taken within = record { given = g; usable = u; first = taken ∙ ap taken_from first ∙ sym (first_taken (program_in value t)); within = within }
+started_at value limit held b t t1 w same g u first taken within = record { given = g; usable = u; first = taken ∙ ap taken_from first ∙ sym (first_taken (program_in value t)); within = subst (λ (l : ℕ). IsWithin b l w) same within }
 
 first_names : (q : LinearProgram) → length (first_compact_table q).names ≡ q.variables
 unfolding first_compact_table
@@ -92,11 +93,16 @@ first_columns : (q : LinearProgram) → (first_compact_table q).columns ≡ q.va
 unfolding first_compact_table
 first_columns q = refl
 
-module _ {A : Type 0} (value : A → Fraction) (limit b left spent after : ℕ) (t t1 : Table A) (w1 w2 : WholeTable) (g : IsStarted value limit b t w1) (shape : SameShape w1 w2) where
-  is_run : (E : Ending Optimum) → compact_run_from b (program_in value t).variables (program_in value t).rows left spent (as_whole w1) ≡ Some E → run limit (program_in value t) left spent ≡ E
+-- the limit is that of the numbers, as the code holds it
+module _ {A : Type 0} (value : A → Fraction) (limit held b left spent after : ℕ) (t t1 : Table A) (w1 w2 : WholeTable) (g : IsStarted value limit b t w1) (same : held ≡ limit) (shape : SameShape w1 w2) where
+  is_run : (E : Ending Optimum) → compact_run_from b held (program_in value t).variables (program_in value t).rows left spent (as_whole w1) ≡ Some E → run limit (program_in value t) left spent ≡ E
   is_run E h =
-      let fits = fits_in b w1.names.items w1.basics.items w1.rows.rows w1.objective.items g.within.rows g.within.objective in
-      whole_is_run b limit left spent (program_in value t) (as_whole w1) E g.given.program g.usable.room g.first fits h
+      let fits = rows_fit_in b (length w1.names.items + 1) w1.basics.items w1.rows.rows g.within.rows in
+      let of_limit = ap (λ (l : ℕ). compact_run_from b l (program_in value t).variables (program_in value t).rows left spent (as_whole w1)) (sym same) in
+      whole_is_run b limit left spent (program_in value t) (as_whole w1) E g.given.program g.usable.room g.first fits (of_limit ∙ h)
+
+  there : IsWithin b held w2 → IsReadable limit w2
+  there h = record { read = g.usable.read; within = within_wider b widest limit w2 g.usable.below (subst (λ (l : ℕ). IsWithin b l w2) same h) }
 
   variables : length w2.names.items ≡ (program_in value t).variables
   variables = shape.columns ∙ ap (λ (x : CompactTable). length x.names) g.first ∙ first_names (program_in value t)
@@ -108,7 +114,7 @@ module _ {A : Type 0} (value : A → Fraction) (limit b left spent after : ℕ) 
       let many = shape.rows in
       omega (arith, columns, names, many)
 
-  pub whole_optimum : IsWholeEnd b (program_in value t).variables (program_in value t).rows WholeOptimum after w2 (compact_run_from b (program_in value t).variables (program_in value t).rows left spent (as_whole w1))
+  pub whole_optimum : IsWholeEnd b held (program_in value t).variables (program_in value t).rows WholeOptimum after w2 (compact_run_from b held (program_in value t).variables (program_in value t).rows left spent (as_whole w1))
       → IsStageOf value limit (run limit (program_in value t) left spent) WholeOptimal after t1 w2
   whole_optimum h =
       let found : run limit (program_in value t) left spent ≡ compact_read_off (length w2.names.items) (length w2.rows.rows) (as_whole w2) after =
@@ -119,10 +125,10 @@ module _ {A : Type 0} (value : A → Fraction) (limit b left spent after : ℕ) 
         answer = ap answer_of e;
         contents = ap contents_after e;
         units = ap units_of e;
-        there = record { read = g.usable.read; within = within_wider b widest w2 g.usable.below h.1 };
+        there = there h.1;
       }
 
-  pub whole_ray : (c : Entering) → IsWholeEnd b (program_in value t).variables (program_in value t).rows (WholeRay c) after w2 (compact_run_from b (program_in value t).variables (program_in value t).rows left spent (as_whole w1))
+  pub whole_ray : (c : Entering) → IsWholeEnd b held (program_in value t).variables (program_in value t).rows (WholeRay c) after w2 (compact_run_from b held (program_in value t).variables (program_in value t).rows left spent (as_whole w1))
       → IsStageOf value limit (run limit (program_in value t) left spent) (WholeUnbounded c) after t1 w2
   whole_ray c h =
       let e : unbounded (compact_direction (length w2.names.items) (as_column c) (as_whole w2)) after ≡ run limit (program_in value t) left spent =
@@ -131,10 +137,10 @@ module _ {A : Type 0} (value : A → Fraction) (limit b left spent after : ℕ) 
         answer = ap answer_of e;
         contents = ap contents_after e;
         units = ap units_of e;
-        there = (record { read = g.usable.read; within = within_wider b widest w2 g.usable.below h.1 }, h.2);
+        there = (there h.1, h.2);
       }
 
-  pub whole_no_unit : IsWholeEnd b (program_in value t).variables (program_in value t).rows NoUnit after w2 (compact_run_from b (program_in value t).variables (program_in value t).rows left spent (as_whole w1))
+  pub whole_no_unit : IsWholeEnd b held (program_in value t).variables (program_in value t).rows NoUnit after w2 (compact_run_from b held (program_in value t).variables (program_in value t).rows left spent (as_whole w1))
       → EndsInStop (run limit (program_in value t) left spent) RunBudget after
   whole_no_unit h =
       let e : no_unit_left after ≡ run limit (program_in value t) left spent = sym (is_run _ h) in

@@ -146,10 +146,10 @@ pub record IsBeingGiven {A : Type 0} (value : A → Fraction) (limit : ℕ) (t :
   pub program : IsProgram (program_in value t)
   pub within : IsProgramWithin limit (program_in value t)
 
--- rows of whole numbers that are read off as numbers within the limit
+-- a table of whole numbers that is read off as numbers within the limit
 pub record IsReadable (limit : ℕ) (w : WholeTable) : Type 0 where
   pub read : widest ≤ limit
-  pub within : IsWithin widest w
+  pub within : IsWithin widest limit w
 
 abbrev pub IsAt : {A : Type 0} → (A → Fraction) → ℕ → Stage → Table A → WholeTable → Type 0
 IsAt value limit Empty t w = Unit {0}

@@ -34,11 +34,12 @@ fn run_whole<N: Exact>(
     let Some(bound) = bound_for(N::LIMIT) else {
         return None;
     };
-    if !whole.take_in(table, bound) {
+    let limit = N::LIMIT.unsigned_abs();
+    if !whole.take_in(table, bound, limit) {
         return None;
     }
     let mut tried = *budget;
-    match whole_run(whole, bound, &mut tried) {
+    match whole_run(whole, bound, limit, &mut tried) {
         WholeEnd::Optimal => {
             *budget = tried;
             Some(Ok(Stage::WholeOptimal))

@@ -18,7 +18,7 @@ use exact_num::Exact;
 use std::alloc::{AllocError, Global};
 
 /// A space in which the program is given.
-fn filled<N: Exact>(alloc: Global, program: &Program<N>) -> Result<Space<N>, AllocError>
+fn space_for<N: Exact>(alloc: Global, program: &Program<N>) -> Result<Space<N>, AllocError>
     requires coefficients { vec_len program.now.a ≡ program.now.m * program.now.n }
     requires right_sides { vec_len program.now.b ≡ program.now.m }
     requires costs { vec_len program.now.c ≡ program.now.n }
@@ -143,7 +143,7 @@ pub fn solve<N: Exact>(
     ensures memory { result ≡ Err Stop.Memory → budget.new.spent ≡ budget.old.spent }
     ensures limit { budget.new.limit ≡ budget.old.limit }
 {
-    let mut space = filled(alloc, program)?;
+    let mut space = space_for(alloc, program)?;
     let x = zeros(alloc, program.n)?;
     let y = zeros(alloc, program.m)?;
     let reduced = zeros(alloc, program.n)?;

@@ -1,4 +1,4 @@
-//! Room for the runs of programs, taken once.
+//! Room for the runs of programs, kept from one to the next.
 ghost use Rattle.std.specs.Prelude.{◌≡◌, ◌-◌, ◌<◌, ◌≤◌, Err, IfOk, OnOk, length, map, unsigned_abs};
 ghost use Rattle.table_run.specs.Choose.{bases_of};
 ghost use Rattle.table_run.specs.Optimum.{IsAsSaid};
@@ -44,7 +44,7 @@ impl<N: Exact> Model for Space<N> {
 }
 
 impl<N: Exact> Space<N> {
-    ghost use Rattle.simplex.specs.Spaces.{Contents, nothing, given, program_given, IsProgramGiven, answer_of, contents_after, IsFound, x_of, y_of, reduced_of, value_of, direction_of};
+    ghost use Rattle.simplex.specs.Spaces.{nothing, given, program_given, IsProgramGiven, answer_of, contents_after, IsFound, x_of, y_of, reduced_of, value_of, direction_of};
 
     /// Room for programs of at most so many rows and columns, with no program. The error is want of
     /// memory.
@@ -78,8 +78,8 @@ impl<N: Exact> Space<N> {
         })
     }
 
-    /// Makes it room for programs of at least so many rows and columns: it is kept where it is large
-    /// enough, and a new one is taken else. The error is want of memory.
+    /// Makes it room for programs of at least so many rows and columns: it is kept where it is
+    /// large enough, and a new one is taken else. The error is want of memory.
     pub fn reserve(&mut self, alloc: Global, rows: usize, columns: usize) -> Result<(), AllocError>
         requires rows { (1 ≤ rows) × (rows ≤ 100000) }
         requires columns { (1 ≤ columns) × (columns ≤ 100000) }

@@ -1,5 +1,5 @@
 //! The run over rows of whole numbers.
-ghost use Rattle.std.specs.Prelude.{◌≡◌, ◌-◌, ◌≤◌, ℕ};
+ghost use Rattle.std.specs.Prelude.{◌≡◌, ◌-◌, ◌^◌, ◌≤◌, ℕ};
 ghost use Rattle.whole_rows.specs.Compact.{compact_run_from};
 ghost use Rattle.whole_solver.specs.Tables.{as_whole, IsWithin, SameShape};
 ghost use Rattle.whole_rows.specs.Lines.{widest};
@@ -17,17 +17,18 @@ pub enum WholeEnd {
     Unbounded { column: Entering },
     /// No unit is left.
     NoUnit,
-    /// A number left the bound: nothing is said of the run.
+    /// A row left the bound, or the objective row would leave the limit: nothing is said of the run.
     GivenUp,
 }
 
-/// Turns until no column enters, nothing limits the column, no unit is left or a number leaves the
-/// bound.
-pub fn whole_run(table: &mut WholeTable, bound: u64, budget: &mut Budget) -> WholeEnd
+/// Turns until no column enters, nothing limits the column, no unit is left, a row leaves the bound
+/// or the objective row would leave the limit.
+pub fn whole_run(table: &mut WholeTable, bound: u64, limit: u128, budget: &mut Budget) -> WholeEnd
     requires bound { bound ≤ widest }
-    requires within { IsWithin bound table.old }
-    ensures run { (n m : ℕ) → IsWholeEnd bound n m result budget.new.spent table.new
-        (compact_run_from bound n m (budget.old.limit - budget.old.spent) budget.old.spent
+    requires objective { limit ≤ 2 ^ 127 - 1 }
+    requires within { IsWithin bound limit table.old }
+    ensures run { (n m : ℕ) → IsWholeEnd bound limit n m result budget.new.spent table.new
+        (compact_run_from bound limit n m (budget.old.limit - budget.old.spent) budget.old.spent
         (as_whole table.old)) }
     ensures shape { SameShape table.old table.new }
     ensures limit { budget.new.limit ≡ budget.old.limit }
@@ -36,7 +37,7 @@ pub fn whole_run(table: &mut WholeTable, bound: u64, budget: &mut Budget) -> Who
         if !budget.spend() {
             return WholeEnd::NoUnit;
         }
-        match table.turn(column.place, bound) {
+        match table.turn(column.place, bound, limit) {
             Turn::Moved => {}
             Turn::Unlimited => return WholeEnd::Unbounded { column },
             Turn::GivenUp => return WholeEnd::GivenUp,

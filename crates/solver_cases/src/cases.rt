@@ -17,6 +17,9 @@ pub static CASES: &str = "\
 == numbers that touch the bound of the rows
 20000 1 1 | 9223372036854775807 | 9223372036854775807 | 9223372036854775807
 = 1 optimal 1 | 1 | 0 | 9223372036854775807
+== a surplus beyond the bound of the rows
+20000 1 1 | 1 | 1099511627776 | 1099511627776
+= 1 optimal 1099511627776 | 1099511627776 | 0 | 1208925819614629174706176
 == without an end
 20000 1 1 | -1 | 0 | 1
 = 1 unbounded 1

@@ -84,7 +84,11 @@ fn program(
 }
 
 // Solves the program, and prints the units spent and the end.
-fn solved(alloc: Global, units: u32, program: &Program<Frac128>) -> Result<String, AllocError>
+fn solution_text(
+    alloc: Global,
+    units: u32,
+    program: &Program<Frac128>,
+) -> Result<String, AllocError>
     requires coefficients { vec_len program.now.a ≡ program.now.m * program.now.n }
     requires right_sides { vec_len program.now.b ≡ program.now.m }
     requires costs { vec_len program.now.c ≡ program.now.n }
@@ -108,7 +112,7 @@ fn end_of(alloc: Global, text: &str) -> Result<String> {
     let b = numbers(alloc, parts.next().context("the right sides")?)?;
     let c = numbers(alloc, parts.next().context("the costs")?)?;
     let program = program(n, m, a, b, c)?;
-    Ok(solved(alloc, units, &program)?)
+    Ok(solution_text(alloc, units, &program)?)
 }
 
 // Whether the program of a case ends as the case says.
@@ -198,7 +202,30 @@ fn a_space_serves_one_program_after_another(rt: HostRuntime) -> Result<()> {
     Ok(())
 }
 
-// max x under 2^62 x <= 1 and x <= 1 / (2^62 - 1): the step from one ratio to the other leaves 63 bits.
+// Whether max a x under a x <= a ends at its optimum after a turn, over narrow numbers.
+fn ends_after_a_turn(alloc: Global, number: i128) -> Result<bool> {
+    let a = Frac64::from_whole(number).ok().context("a number")?;
+    ensure!(a.sign() >= 0, "a right side below 0");
+    let mut space: Space<Frac64> = Space::new(alloc, 1, 1)?;
+    let mut budget = Budget::new(20000);
+    space.begin(&[a]);
+    space.row(&[a], a);
+    let end = space.run(&mut budget);
+    Ok(end == Ok(true) && budget.spent == 1)
+}
+
+// 2^31 - 1 is the bound of the rows of whole numbers behind narrow ones.
+#[test]
+fn narrow_rows_touch_their_bound(rt: HostRuntime) -> Result<()> {
+    let within = ends_after_a_turn(rt.alloc(), 2147483647)?;
+    assert!(rt; within, "at the bound");
+    let beyond = ends_after_a_turn(rt.alloc(), 2147483648)?;
+    assert!(rt; beyond, "beyond the bound");
+    Ok(())
+}
+
+// max x under 2^62 x <= 1 and x <= 1 / (2^62 - 1): the step from one ratio to the other leaves 63
+// bits.
 #[test]
 fn narrow_numbers_stop_at_their_limit(rt: HostRuntime) -> Result<()> {
     let one = Frac64::one();

@@ -5,9 +5,9 @@ use Rattle.std.proofs.lemmas.List.{length-map}
 use Rattle.table_run.specs.Choice.{Ratio, least}
 use Rattle.compact_run.proofs.Columns.{same_test, other_test}
 use Rattle.compact_table.specs.Candidates.{best_with}
-use Rattle.whole_rows.specs.Lines.{Line, WholeRow, IsLine, line_of, number_at, line_at, no_line, rows_fit}
-use Rattle.whole_rows.specs.Turning.{cut, whole_ratios}
-use Rattle.whole_rows.specs.Compact.{CompactTable, basic_of, turned_in, compact_cleared, compact_rows_after, compact_pivoted, compact_leave, compact_turn, compact_fits}
+use Rattle.whole_rows.specs.Lines.{Line, WholeRow, line_of, number_at, line_at, no_line, rows_fit}
+use Rattle.whole_rows.specs.Turning.{cut, whole_ratios, mix_fits, leaving_fits}
+use Rattle.whole_rows.specs.Compact.{CompactTable, basic_of, turned_in, compact_cleared, compact_rows_after, compact_pivoted, compact_leave, compact_turn, compact_objective_fits}
 use Rattle.whole_rows.proofs.TurnSteps.{AllOf, IsCandidate, candidates, Leaves, leaves}
 use Rattle.whole_solver.specs.Rows.{line_in, lines_in, row_at, beside_basics, lines_after, AreLinesIn, IsTurned, IsPivot}
 use Rattle.whole_solver.specs.Tables.{table_of}
@@ -56,14 +56,14 @@ module _ (c e r a : ℕ) (P : List ℤ) where
       rw (t, later) refl
 
 -- ---- the table after a pivot
-abbrev pub made : ℕ → List ℕ → List WholeRow → Line → CompactTable
-made columns names rows objective = record { columns = columns; names = names; rows = rows; objective = objective }
+abbrev pub table_with : ℕ → List ℕ → List WholeRow → Line → CompactTable
+table_with columns names rows objective = record { columns = columns; names = names; rows = rows; objective = objective }
 
 pub pivoted_table : (names basics : List ℕ) (rows new : List (List ℤ)) (objective last : List ℤ) (c r : ℕ) → length basics ≡ length rows → r < length rows → length new ≡ length rows → IsTurned (length names + 1) c r rows objective new last
     → table_of (set names c (get_or basics r 0)) (set basics r (get_or names c 0)) new last ≡ compact_pivoted c r (table_of names basics rows objective)
 unfolding compact_pivoted
 pivoted_table names basics rows new objective last c r same low many t =
-    (λ i. made (columns i) (set names c v) (rows_are i) (last_is i)) ∙ sym (λ i. by (cut (line i)) (basic i))
+    (λ i. table_with (columns i) (set names c v) (rows_are i) (last_is i)) ∙ sym (λ i. by (cut (line i)) (basic i))
   where
     w : ℕ
     w = length names + 1
@@ -85,7 +85,7 @@ pivoted_table names basics rows new objective last c r same low many t =
 
     by : Line → ℕ → CompactTable
     by x u =
-        made (length names + length rows) (set names c u) (compact_rows_after c (get_or names c 0) r (unsigned_abs (number_at x.numbers c)) (turned_in c x) 0 (beside_basics basics (lines_in (length names + 1) rows)))
+        table_with (length names + length rows) (set names c u) (compact_rows_after c (get_or names c 0) r (unsigned_abs (number_at x.numbers c)) (turned_in c x) 0 (beside_basics basics (lines_in (length names + 1) rows)))
         (compact_cleared c (unsigned_abs (number_at x.numbers c)) (turned_in c x) (line_in (length names + 1) objective))
 
     wide : length (set names c (get_or basics r 0)) ≡ length names
@@ -128,6 +128,19 @@ turn_pivots c r t h = step (whole_ratios (length t.names) c 0 t.rows) h
     step [] k = absurd cc
     step (q ∷ qs) k = let place : (least q qs).place ≡ r = cc in rw place refl
 
+pub turn_fits : (limit c r : ℕ) (t : CompactTable) → best_with None (whole_ratios (length t.names) c 0 t.rows) ≡ Some r → mix_fits limit t.objective (cut (line_at t.rows r)) ≡ true → compact_objective_fits limit c t ≡ true
+unfolding compact_objective_fits
+turn_fits limit c r t h fits = step (whole_ratios (length t.names) c 0 t.rows) h
+  where
+    step : (qs : List Ratio) → best_with None qs ≡ Some r → leaving_fits limit t.objective t.rows qs ≡ true
+    step [] k = absurd cc
+    step (q ∷ qs) k = let place : (least q qs).place ≡ r = cc in rw place fits
+
+-- the row of the table at r
+pub line_there : (names basics : List ℕ) (rows : List (List ℤ)) (r : ℕ) → length basics ≡ length rows → r < length rows → line_at (beside_basics basics (lines_in (length names + 1) rows)) r ≡ line_in (length names + 1) (row_at rows r)
+line_there names basics rows r same low =
+    line_beside basics (lines_in (length names + 1) rows) r (same ∙ sym (length-map rows (line_in (length names + 1)))) ∙ line_place (length names + 1) rows r no_line low
+
 pub pivot_there : (c r : ℕ) (names basics : List ℕ) (rows : List (List ℤ)) (objective : List ℤ) → length basics ≡ length rows
     → best_with None (whole_ratios (length names) c 0 (beside_basics basics (lines_in (length names + 1) rows))) ≡ Some r → IsPivot (length names + 1) c r rows
 pivot_there c r names basics rows objective same h = step (whole_ratios (length names) c 0 all) (candidates (length names) c 0 all) h
@@ -151,18 +164,11 @@ pivot_there c r names basics rows objective same h = step (whole_ratios (length 
         record { row = low; above = subst (λ (l : Line). int_lt (pos 0) (number_at l.numbers c) ≡ true) line there.above }
 
 -- ---- within the bound
-rows_fit_in : (b w : ℕ) (bs : List ℕ) (rows : List (List ℤ)) → AreLinesIn b w rows → rows_fit b (beside_basics bs (lines_in w rows)) ≡ true
+pub rows_fit_in : (b w : ℕ) (bs : List ℕ) (rows : List (List ℤ)) → AreLinesIn b w rows → rows_fit b (beside_basics bs (lines_in w rows)) ≡ true
 unfolding rows_fit
 rows_fit_in b w [] rows g = refl
 rows_fit_in b w (v ∷ bs) [] g = refl
 rows_fit_in b w (v ∷ bs) (x ∷ rows) g =
     let first = line_of_sizes b w (line_in w x) (g 0 (omega arith)) in
     let later = rows_fit_in b w bs rows (λ i p. g (suc i) (omega (arith, p))) in
-    rw (first, later) refl
-
-pub fits_in : (b : ℕ) (names basics : List ℕ) (rows : List (List ℤ)) (objective : List ℤ) → AreLinesIn b (length names + 1) rows → IsLine b (length names + 1) (line_in (length names + 1) objective)
-    → compact_fits b (table_of names basics rows objective) ≡ true
-fits_in b names basics rows objective g last =
-    let first = rows_fit_in b (length names + 1) basics rows g in
-    let later = line_of_sizes b (length names + 1) (line_in (length names + 1) objective) last in
     rw (first, later) refl

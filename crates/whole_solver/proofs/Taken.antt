@@ -4,7 +4,7 @@ use Rattle.std.specs.Prelude.{slice_index_or}
 use Rattle.std.proofs.lemmas.List.{drop_all, length-map, map-append, take_more, get_or-map}
 use Rattle.exact_num.specs.Fraction.{Fraction}
 use Rattle.table_run.specs.Places.{numbers}
-use Rattle.table_run.specs.Program.{LinearProgram, row}
+use Rattle.table_run.specs.Program.{LinearProgram}
 use Rattle.compact_run.specs.Compact.{compact_first, compact_row, compact_rows_from}
 use Rattle.compact_table.specs.Candidates.{beside_basics as beside_lists}
 use Rattle.table_run.proofs.Listed.{listed_count, map_listed}
@@ -13,7 +13,7 @@ use Rattle.whole_solver.specs.Within.{HasMultiple}
 use Rattle.whole_rows.specs.Compact.{first_compact_table}
 use Rattle.whole_solver.specs.Rows.{line_in, lines_in, row_at, beside_basics, AreLinesIn}
 use Rattle.whole_solver.specs.Tables.{table_of, taken_from}
-use Rattle.whole_solver.proofs.Pivoting.{made}
+use Rattle.whole_solver.proofs.Pivoting.{table_with}
 
 -- ---- the common denominator, from the last entry to the first
 pub multiple_more : {A : Type 0} (f : A → Fraction) (xs : List A) (k : ℕ) (x : A) → k < length xs → x ≡ slice_index_or xs k x → least_multiple (map f (drop k xs)) ≡ multiple (f x).denominator (least_multiple (map f (drop (k + 1) xs)))
@@ -71,7 +71,7 @@ pub table_taken : (kept basics : List ℕ) (lists : List (List Fraction)) (objec
 table_taken kept basics lists objective rows last same many rows_are last_is =
     let columns : length kept + length rows ≡ length kept + length (beside_lists basics lists) = ap (λ k. length kept + k) (many ∙ sym (length-lists basics lists same)) in
     let all = ap (beside_basics basics) rows_are ∙ sym (rows_taken basics lists) in
-    λ i. made (columns i) kept (all i) (last_is i)
+    λ i. table_with (columns i) kept (all i) (last_is i)
 
 -- ---- the first table of a program
 pub first_taken : (p : LinearProgram) → first_compact_table p ≡ taken_from (compact_first p)
@@ -79,4 +79,4 @@ unfolding first_compact_table compact_first
 first_taken p =
     let columns : p.variables + p.rows ≡ length (numbers 0 p.variables) + length (compact_rows_from p 0 p.rows) = λ i. sym (listed_count (λ i. i) 0 p.variables) i + sym (listed_count (compact_row p) 0 p.rows) i in
     let rows = sym (map_listed row_taken_in (compact_row p) 0 p.rows) in
-    λ i. made (columns i) (numbers 0 p.variables) (rows i) (first_compact_table p).objective
+    λ i. table_with (columns i) (numbers 0 p.variables) (rows i) (first_compact_table p).objective

@@ -1,18 +1,22 @@
 -- The rows of a turn.
-use Rattle.std.proofs.Common.{◌≡◌, ℕ, zero, suc, ◌+◌, ◌<◌, ◌≤◌, List, [], ◌∷◌, length, take, drop, set, get_or, add-one, refl, sym, ◌∙◌, ap, subst, arith, true, ℤ, pos, unsigned_abs, length-set}
-use Rattle.std.specs.Prelude.{Some}
-use Rattle.std.proofs.lemmas.Bool.{le-leb}
-use Rattle.std.proofs.lemmas.List.{length-map, map-set}
+use Rattle.std.proofs.Common.{◌≡◌, ℕ, zero, suc, ◌+◌, ◌*◌, ◌<◌, ◌≤◌, List, [], ◌∷◌, length, take, drop, set, get_or, add-one, refl, sym, ◌∙◌, ap, subst, arith, Bool, true, false, ℤ, pos, unsigned_abs, length-set}
+use Rattle.std.specs.Prelude.{Some, nat_eq, if◌then◌else◌}
+use Rattle.std.proofs.lemmas.Bool.{le-leb, leb-true, eq-eqb}
+use Rattle.std.proofs.lemmas.List.{length-map, length-drop, length-take-le, map-set, get_or-set_same}
+use Rattle.std.proofs.Math.Nat.{mul-le-mul}
 use Rattle.std.proofs.lemmas.Slice.{take-put_mid}
 use borrow.Rule.Slice.PartMut.{put_mid}
-use Rattle.whole_rows.specs.Lines.{Line, IsLine, AreSizes, line_of, number_at, no_line, line_fits}
+use Rattle.whole_rows.specs.Lines.{Line, IsLine, AreSizes, line_size, line_of, number_at, no_line, line_fits}
 use Rattle.whole_rows.specs.Compact.{compact_cleared, turned_in}
-use Rattle.whole_rows.proofs.LineSteps.{line_of_fit, fit_of_sizes}
+use Rattle.whole_rows.specs.Turning.{cut}
+use Rattle.whole_rows.proofs.LineSteps.{cut_within, line_of_fit, fit_of_sizes, sizes_least}
+use Rattle.whole_rows.proofs.TurnSteps.{size_above, cut_above}
 use Rattle.whole_rows.proofs.CompactRun.{cleared_shaped}
+use Rattle.whole_rows.proofs.CompactFirst.{cleared_lines_fit, set_sizes}
 use Rattle.compact_run.proofs.Columns.{same_test, other_test}
 use Rattle.compact_table.proofs.ArenaSteps.{at_set_same}
 use Rattle.whole_solver.specs.Within.{kept}
-use Rattle.whole_solver.specs.Rows.{line_in, lines_in, row_at, pivot_line, line_after, lines_after, AreLinesIn}
+use Rattle.whole_solver.specs.Rows.{line_in, lines_in, row_at, pivot_line, line_after, lines_after, AreLinesIn, AreSizesIn, IsPivot}
 use Rattle.whole_solver.proofs.Numbers.{kept_some, written_more, written_all}
 use Rattle.whole_solver.proofs.Choosing.{line_place}
 
@@ -61,16 +65,77 @@ pivot_within b n c l h g p =
     record {
       positive = p;
       below = g.sizes c;
-      sizes = λ j. sizes l.numbers c (pos l.denominator) g.sizes g.below j;
+      sizes = set_sizes b l.numbers c (pos l.denominator) g.sizes g.below;
       count = length-set l.numbers c (pos l.denominator) ∙ g.count;
     }
+
+-- the pivot row, once it is placed
+pub record IsPlaced (b w a : ℕ) (y : List ℤ) : Type 0 where
+  pub line : IsLine b w (line_in w y)
+  pub above : 0 < a
+  pub below : a ≤ b
+
+pub placed : (b w c r a : ℕ) (rows : List (List ℤ)) (y : List ℤ) → c < w → IsPivot w c r rows → AreLinesIn b w rows → a ≡ unsigned_abs (number_at (cut (line_in w (row_at rows r))).numbers c)
+    → line_in w y ≡ pivot_line c a (cut (line_in w (row_at rows r))) → IsPlaced b w a y
+placed b w c r a rows y column p lines is_a is_y =
+    let x = line_in w (row_at rows r) in
+    let l = cut x in
+    let before = lines r p.row in
+    let old : IsLine b w l = cut_within b w x before in
+    let above = (size_above (number_at l.numbers c) (cut_above x c before.positive p.above)).1 in
+    record {
+      line = subst (IsLine b w) (sym (is_y ∙ ap (λ (q : ℕ). pivot_line c q l) is_a)) (pivot_within b w c l column old above);
+      above = subst (λ (k : ℕ). 0 < k) (sym is_a) above;
+      below = subst (λ (k : ℕ). k ≤ b) (sym is_a) (old.sizes c);
+    }
+
+-- a size of the front is one of the line there
+pub front_sizes : (b w : ℕ) (row : List ℤ) → AreSizes b (take (w + 1) row) → AreSizes b (take w (drop 1 row)) × (unsigned_abs (number_at row 0) ≤ b)
+front_sizes b w [] s = (none_at w, omega arith)
   where
-    sizes : (zs : List ℤ) (c : ℕ) (v : ℤ) → AreSizes b zs → unsigned_abs v ≤ b → AreSizes b (set zs c v)
-    sizes [] c v s q j = s j
-    sizes (z ∷ zs) zero v s q zero = q
-    sizes (z ∷ zs) zero v s q (suc j) = s (suc j)
-    sizes (z ∷ zs) (suc c) v s q zero = s 0
-    sizes (z ∷ zs) (suc c) v s q (suc j) = sizes zs c v (λ i. s (suc i)) q j
+    none_at : (w j : ℕ) → unsigned_abs (number_at (take w []) j) ≤ b
+    none_at zero zero = omega arith
+    none_at zero (suc j) = omega arith
+    none_at (suc w) zero = omega arith
+    none_at (suc w) (suc j) = omega arith
+front_sizes b w (d ∷ xs) s =
+    let same = rw (add-one w) at s in
+    (λ j. same (suc j), same 0)
+
+-- the sizes of a line whose number in column c is exchanged for the denominator
+pub unset_sizes : (b c : ℕ) (v : ℤ) (zs : List ℤ) → AreSizes b (set zs c v) → unsigned_abs (number_at zs c) ≤ b → AreSizes b zs
+unset_sizes b c v [] s q j = s j
+unset_sizes b zero v (z ∷ zs) s q zero = q
+unset_sizes b zero v (z ∷ zs) s q (suc j) = s (suc j)
+unset_sizes b (suc c) v (z ∷ zs) s q zero = s 0
+unset_sizes b (suc c) v (z ∷ zs) s q (suc j) = unset_sizes b c v zs (λ i. s (suc i)) q j
+
+-- the line that leaves is no greater than its row, once that is placed
+pub placed_size : (b w c a most : ℕ) (l : Line) (y : List ℤ) → IsLine b w l → c < w → a ≡ unsigned_abs (number_at l.numbers c) → line_in w y ≡ pivot_line c a l → AreSizes most (line_in w y).numbers → a ≤ most → line_size l ≤ most
+placed_size b w c a most l y g column is_a is_y sizes low =
+    let set_sizes : AreSizes most (set l.numbers c (pos l.denominator)) = subst (λ (m : Line). AreSizes most m.numbers) is_y sizes in
+    let inside : c < length l.numbers = (let count = g.count in omega (arith, column, count)) in
+    let own : number_at (set l.numbers c (pos l.denominator)) c ≡ pos l.denominator = get_or-set_same l.numbers c (pos l.denominator) (pos 0) inside in
+    let numbers = unset_sizes most c (pos l.denominator) l.numbers set_sizes (subst (λ (k : ℕ). k ≤ most) is_a low) in
+    leb-true (line_size l) most
+    (sym (sizes_least most l) ∙ line_of_sizes most w l (record { positive = g.positive; below = subst (λ (z : ℤ). unsigned_abs z ≤ most) own (set_sizes c); sizes = numbers; count = g.count }))
+
+-- ---- the objective row
+pub line_of_size : (size limit w : ℕ) (row : List ℤ) → IsLine limit w (line_in w row) → AreSizes size (take (w + 1) row) → IsLine size w (line_in w row)
+line_of_size size limit w row g s = let front = front_sizes size w row s in record { positive = g.positive; below = front.1; sizes = front.0; count = g.count }
+
+pub mix_room : (size most limit w : ℕ) (l : Line) → IsLine size w l → 2 * (size * most) ≤ limit → 2 * (line_size l * most) ≤ limit
+mix_room size most limit w l g room =
+    let low : line_size l ≤ size = leb-true (line_size l) size (sym (sizes_least size l) ∙ line_of_sizes size w l g) in
+    let less : line_size l * most ≤ size * most = mul-le-mul low (omega arith) in
+    omega (arith, less, room)
+
+pub wide_cleared : (size most limit w c a d : ℕ) (row pivot ns : List ℤ) → IsLine limit w (line_in w row) → AreSizes size (take (w + 1) row) → AreSizes most (line_in w pivot).numbers → w < length pivot → 0 < a → a ≤ most → 2 * (size * most) ≤ limit
+    → line_of d ns ≡ compact_cleared c a (line_in w pivot).numbers (line_in w row) → IsLine limit w (line_of d ns)
+wide_cleared size most limit w c a d row pivot ns g s sp wide pa la room told =
+    let behind = length-drop 1 pivot in
+    let count : length (take w (drop 1 pivot)) ≡ w = length-take-le w (drop 1 pivot) (omega (arith, behind, wide)) in
+    subst (IsLine limit w) (sym told) (cleared_lines_fit size most limit w c a (line_in w pivot).numbers (line_in w row) room (line_of_size size limit w row g s) sp count pa la)
 
 -- ---- the loop over the rows
 pub length-after : (c a r : ℕ) (pivot : List ℤ) (i : ℕ) (lines : List Line) → length (lines_after c a r pivot i lines) ≡ length lines
@@ -115,6 +180,32 @@ lines_set b w rows i ys g l = λ j p. at_place rows i j ys g l p
     at_place (x ∷ rows) zero (suc j) ys g l p = g (suc j) p
     at_place (x ∷ rows) (suc i) zero ys g l p = g 0 (omega arith)
     at_place (x ∷ rows) (suc i) (suc j) ys g l p = at_place rows i j ys (λ k q. g (suc k) (omega (arith, q))) l (omega (arith, p))
+
+pub sizes_in_set : (w : ℕ) (rows : List (List ℤ)) (sizes : List ℕ) (i : ℕ) (ys : List ℤ) (size : ℕ) → AreSizesIn sizes w rows → i < length sizes → AreSizes size (line_in w ys).numbers → AreSizesIn (set sizes i size) w (set rows i ys)
+sizes_in_set w rows sizes i ys size g low h = λ j p. at_place rows sizes i j g low p
+  where
+    at_place : (rows : List (List ℤ)) (sizes : List ℕ) (i j : ℕ) → AreSizesIn sizes w rows → i < length sizes → j < length (set rows i ys)
+        → AreSizes (get_or (set sizes i size) j 0) (line_in w (row_at (set rows i ys) j)).numbers
+    at_place [] sizes i j g low p = absurd (omega (arith, p))
+    at_place (x ∷ rows) [] i j g low p = absurd (omega (arith, low))
+    at_place (x ∷ rows) (s ∷ sizes) zero zero g low p = h
+    at_place (x ∷ rows) (s ∷ sizes) zero (suc j) g low p = g (suc j) p
+    at_place (x ∷ rows) (s ∷ sizes) (suc i) zero g low p = g 0 (omega arith)
+    at_place (x ∷ rows) (s ∷ sizes) (suc i) (suc j) g low p = at_place rows sizes i j (λ k q. g (suc k) (omega (arith, q))) (omega (arith, low)) (omega (arith, p))
+
+front_number : (w c : ℕ) (row : List ℤ) → c < w → number_at (take w (drop 1 row)) c ≡ number_at row (c + 1)
+front_number w c [] h = taken_number w [] c h
+front_number w c (d ∷ xs) h = let next = add-one c in rw next (taken_number w xs c h)
+
+-- a line with 0 in the column stays
+pub after_zero : (w c a r i : ℕ) (P row : List ℤ) → c < w → number_at row (c + 1) ≡ pos 0 → line_after c a r P i (line_in w row) ≡ line_in w row
+after_zero w c a r i P row h none =
+    let zero : nat_eq (unsigned_abs (number_at (take w (drop 1 row)) c)) 0 ≡ true = eq-eqb _ 0 (ap unsigned_abs (front_number w c row h ∙ none)) in
+    rw zero (either (nat_eq i r))
+  where
+    either : (b : Bool) → (if b then line_in w row else line_in w row) ≡ line_in w row
+    either true = refl
+    either false = refl
 
 -- the line of the pivot row stays
 pub after_pivot : (c a r i : ℕ) (P : List ℤ) (l : Line) → i ≡ r → line_after c a r P i l ≡ l

@@ -1,9 +1,10 @@
 -- The rows of an arena as lines: the denominator first, then the numbers, the right side last.
 use Rattle.std.specs.Prelude.{◌≡◌, ℕ, ◌+◌, ◌<◌, List, [], ◌∷◌, take, drop, map, length, ℤ, pos, unsigned_abs, slice_index_or, slice_set, if◌then◌else◌, nat_eq, int_lt, Option, Some, true}
-use Rattle.exact_num.specs.Fraction.{over}
+use Rattle.exact_num.specs.Fraction.{over, whole}
 use Rattle.table_run.specs.Choice.{Ratio, ratio_of}
 use Rattle.compact_table.specs.Candidates.{better_of}
-use Rattle.whole_rows.specs.Lines.{Line, WholeRow, IsLine, line_of, whole_row, number_at}
+use Rattle.compact_table.specs.Nonzero.{nonzero_places}
+use Rattle.whole_rows.specs.Lines.{Line, WholeRow, AreSizes, IsLine, line_of, whole_row, number_at}
 use Rattle.whole_rows.specs.Turning.{cut}
 use Rattle.whole_rows.specs.Compact.{Column, smaller, compact_cleared, turned_in}
 
@@ -26,6 +27,14 @@ beside_basics (b ∷ bs) (l ∷ lines) = whole_row b l ∷ beside_basics bs line
 -- each row holds a line within the bound
 abbrev pub AreLinesIn : ℕ → ℕ → List (List ℤ) → Type 0
 AreLinesIn bound w rows = (i : ℕ) → i < length rows → IsLine bound w (line_in w (row_at rows i))
+
+-- the places where the numbers are not 0
+abbrev pub nonzero_in : List ℤ → List ℕ
+nonzero_in zs = nonzero_places (map whole zs)
+
+-- each size is one of the numbers in its row
+abbrev pub AreSizesIn : List ℕ → ℕ → List (List ℤ) → Type 0
+AreSizesIn sizes w rows = (i : ℕ) → i < length rows → AreSizes (slice_index_or sizes i 0) (line_in w (row_at rows i)).numbers
 
 -- ---- the lines of a turn, the pivot row r being there already
 abbrev pub line_after : ℕ → ℕ → ℕ → List ℤ → ℕ → Line → Line

@@ -1,14 +1,14 @@
 -- What the table of the code stands for.
-use Rattle.std.specs.Prelude.{◌≡◌, ℕ, ◌+◌, List, [], ◌∷◌, ◌++◌, ℤ, pos, neg_ℤ, length, map, if◌then◌else◌, nat_eq, Some, None}
+use Rattle.std.specs.Prelude.{◌≡◌, ℕ, ◌+◌, List, [], ◌∷◌, ◌++◌, ℤ, pos, neg_ℤ, length, map, if◌then◌else◌, nat_eq, true, Some, None}
 use Rattle.exact_num.specs.Fraction.{Fraction, whole, reduced}
 use Rattle.compact_run.specs.Compact.{CompactTable as FractionTable}
 use Rattle.whole_rows.specs.Lines.{IsLine, number_at, taken_in, row_taken_in}
 use Rattle.whole_rows.specs.Running.{whole_where_basic}
-use Rattle.whole_rows.specs.Compact.{CompactTable, Column, compact_turn}
+use Rattle.whole_rows.specs.Compact.{CompactTable, Column, compact_turn, compact_objective_fits}
 use Rattle.whole_solver.specs.declared.table.WholeTable.{WholeTable}
 use Rattle.whole_solver.specs.declared.turn.Turn.{Turn}
 use Rattle.whole_solver.specs.declared.turn.Turn.TheVariants.{Moved, Unlimited, GivenUp}
-use Rattle.whole_solver.specs.Rows.{line_in, lines_in, beside_basics, AreLinesIn}
+use Rattle.whole_solver.specs.Rows.{line_in, lines_in, beside_basics, AreLinesIn, AreSizesIn}
 
 -- as many numbers a line as there are columns, and the right side
 abbrev pub width_of : WholeTable → ℕ
@@ -26,10 +26,11 @@ table_of names basics rows objective =
 abbrev pub as_whole : WholeTable → CompactTable
 as_whole t = table_of t.names.items t.basics.items t.rows.rows t.objective.items
 
--- each line is within the bound
-pub record IsWithin (bound : ℕ) (t : WholeTable) : Type 0 where
+-- each row is within the bound, and its numbers within the size that is kept with it. The objective row is within the limit
+pub record IsWithin (bound limit : ℕ) (t : WholeTable) : Type 0 where
   pub rows : AreLinesIn bound (width_of t) t.rows.rows
-  pub objective : IsLine bound (width_of t) (line_in (width_of t) t.objective.items)
+  pub sizes : AreSizesIn t.sizes.items (width_of t) t.rows.rows
+  pub objective : IsLine limit (width_of t) (line_in (width_of t) t.objective.items)
 
 -- ---- room
 abbrev pub room_of : WholeTable → ℕ
@@ -45,10 +46,11 @@ pub record SameShape (old new : WholeTable) : Type 0 where
   pub room : SameRoom old new
 
 -- ---- a turn: the table after it, where it is not given up
-abbrev pub IsTurn : ℕ → ℕ → Turn → WholeTable → WholeTable → Type 0
-IsTurn bound c Moved old new = (compact_turn c (as_whole old) ≡ Some (as_whole new)) × IsWithin bound new
-IsTurn bound c Unlimited old new = (compact_turn c (as_whole old) ≡ None) × (new ≡ old)
-IsTurn bound c GivenUp old new = Unit {0}
+abbrev pub IsTurn : ℕ → ℕ → ℕ → Turn → WholeTable → WholeTable → Type 0
+IsTurn bound limit c Moved old new =
+    (compact_turn c (as_whole old) ≡ Some (as_whole new)) × (compact_objective_fits limit c (as_whole old) ≡ true) × IsWithin bound limit new
+IsTurn bound limit c Unlimited old new = (compact_turn c (as_whole old) ≡ None) × (new ≡ old)
+IsTurn bound limit c GivenUp old new = Unit {0}
 
 -- ---- the first table: that of a table of fractions whose rows are over common denominators
 abbrev pub taken_from : FractionTable → CompactTable

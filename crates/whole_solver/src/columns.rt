@@ -25,7 +25,7 @@ fn smaller(column: Entering, later: Option<Entering>) -> Entering
 }
 
 /// This column, where its number is below 0, or the best of later ones.
-fn with_column(number: i64, column: Entering, later: Option<Entering>) -> Option<Entering>
+fn with_column(number: i128, column: Entering, later: Option<Entering>) -> Option<Entering>
     ensures { option_map as_column result
         ≡ with_column_of number (as_column column) (option_map as_column later) }
 {
@@ -37,7 +37,7 @@ fn with_column(number: i64, column: Entering, later: Option<Entering>) -> Option
 }
 
 /// Of the columns whose number is below 0 that of the smallest variable.
-pub fn least_column(names: &[usize], numbers: &[i64]) -> Option<Entering>
+pub fn least_column(names: &[usize], numbers: &[i128]) -> Option<Entering>
     requires { length names.now ≤ length numbers.now }
     ensures column { option_map as_column result ≡ least_column_of 0 names.now numbers.now }
     ensures inside { IfSome result (λ c. c.place < length names.now) }

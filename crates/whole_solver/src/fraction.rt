@@ -1,5 +1,5 @@
 //! Numbers over a denominator as fractions, and fractions over a common denominator.
-ghost use Rattle.std.specs.Prelude.{◌≡◌, ◌<◌, ◌≤◌, IfSome, length, map, pos, true, unsigned_abs};
+ghost use Rattle.std.specs.Prelude.{◌≡◌, ◌<◌, ◌≤◌, IfSome, length, map, true, unsigned_abs};
 ghost use Rattle.exact_num.specs.CommonDenominator.{amount_over, signed_amounts_over};
 ghost use Rattle.exact_num.specs.Fraction.{reduced, whole as whole_of};
 ghost use Rattle.whole_rows.specs.Lines.{AreSizes, IsLine, least_multiple as least_multiple_of, multiple as multiple_of, taken_in, widest};
@@ -16,14 +16,22 @@ fn whole<N: Exact>(v: i128) -> N
     N::from_whole(v).unwrap()
 }
 
+/// The number in 128 bits.
+pub fn wide(number: i64) -> i128
+    ensures { result ≡ number }
+{
+    number as i128
+}
+
 /// The number over the denominator, in lowest terms.
-pub fn fraction<N: Exact>(number: i64, denominator: u64) -> N
-    requires limit { widest ≤ unsigned_abs N.LIMIT }
-    requires number { unsigned_abs number ≤ widest }
-    requires denominator { (0 < denominator) × (denominator ≤ widest) }
+pub fn fraction<N: Exact>(number: i128, denominator: u128) -> N
+    requires number { unsigned_abs number ≤ unsigned_abs N.LIMIT }
+    requires denominator { (0 < denominator) × (denominator ≤ unsigned_abs N.LIMIT) }
     ensures { N.fraction result ≡ reduced number denominator }
 {
-    let above: N = whole(number as i128);
+    // a number of 128 bits, so that the denominator is one
+    let _limit = N::LIMIT;
+    let above: N = whole(number);
     let below: N = whole(denominator as i128);
     above.div(below).unwrap()
 }
@@ -34,6 +42,9 @@ fn multiple(one: u128, other: u64, bound: u64) -> Option<u64>
     requires other { (0 < other) × (other ≤ bound) }
     ensures { IfSome result (λ m. (m ≡ multiple_of one other) × (0 < m) × (m ≤ bound)) }
 {
+    if one == 1 {
+        return Some(other);
+    }
     if one > bound as u128 {
         return None;
     }
@@ -71,6 +82,18 @@ fn least_multiple<N: Exact>(entries: &[N], bound: u64) -> Option<u64>
     Some(found)
 }
 
+/// The number, where it is within the bound.
+fn within(number: i128, bound: u64) -> Option<i64>
+    requires { bound ≤ widest }
+    ensures { IfSome result (λ z. (z ≡ number) × (unsigned_abs z ≤ bound)) }
+{
+    if number.unsigned_abs() <= bound as u128 {
+        Some(number as i64)
+    } else {
+        None
+    }
+}
+
 /// What the fraction is over the denominator, which its own divides, where it is within the bound.
 fn amount<N: Exact>(entry: N, denominator: u64, bound: u64) -> Option<i64>
     requires { bound ≤ widest }
@@ -78,15 +101,14 @@ fn amount<N: Exact>(entry: N, denominator: u64, bound: u64) -> Option<i64>
         × (unsigned_abs z ≤ bound)) }
 {
     let (above, below) = entry.parts();
+    if below as u128 == denominator as u128 {
+        return within(above, bound);
+    }
     let share = denominator as u128 / below as u128;
     let Some(number) = above.checked_mul(share as i128) else {
         return None;
     };
-    if number.unsigned_abs() <= bound as u128 {
-        Some(number as i64)
-    } else {
-        None
-    }
+    within(number, bound)
 }
 
 /// Writes what each fraction is over the denominator, and says whether all are within the bound.

@@ -1,12 +1,13 @@
 //! The rows of a turn in an arena. A row is its denominator and then its numbers, the right side
 //! last.
-ghost use Rattle.std.specs.Prelude.{◌≡◌, ◌+◌, ◌<◌, ◌≤◌, length, pos, true, unsigned_abs, slice_set};
-ghost use Rattle.whole_rows.specs.Lines.{AreSizes, IsLine, number_at, widest};
+ghost use Rattle.std.specs.Prelude.{◌≡◌, ◌≢◌, ◌+◌, ◌-◌, ◌*◌, ◌^◌, ◌<◌, ◌≤◌, ℕ, List, ℤ, false, length, pos, true, unsigned_abs, slice_set, vec_capacity};
+ghost use Rattle.whole_rows.specs.Lines.{AreSizes, IsLine, line_size, number_at, widest};
 ghost use Rattle.whole_rows.specs.Compact.{compact_cleared};
-ghost use Rattle.whole_rows.specs.Turning.{cut};
-ghost use Rattle.whole_solver.specs.Rows.{AreLinesIn, IsPivot, IsTurned, line_in, lines_after, lines_in, pivot_line, row_at};
+ghost use Rattle.whole_rows.specs.Turning.{cut, mix_fits};
+ghost use Rattle.whole_solver.specs.Rows.{AreLinesIn, AreSizesIn, IsPivot, IsTurned, line_after, line_in, lines_after, lines_in, nonzero_in, pivot_line, row_at};
 
-use crate::line::{clear_line, common_short, divide_numbers, size_of};
+use crate::line::{clear_line, common_short, divide_numbers, list_nonzero, size_of};
+use crate::objective::{clear_wide_line, may_mix, wide_size};
 use row_arena::RowArena;
 
 /// Brings the line of so many numbers at the front of the row to lowest terms.
@@ -51,33 +52,65 @@ fn take_pivot(row: &mut [i64], width: usize, c: usize)
     exchange_denominator(row, c);
 }
 
-/// A size that none of the numbers at the front of the row is above.
+/// Row r becomes the pivot row, and its denominator is answered.
+fn place_pivot(rows: &mut RowArena<i64>, width: usize, r: usize, c: usize) -> u64
+    requires column { c < width }
+    requires width { width < rows.old.width }
+    requires row { r < length rows.old.rows }
+    requires line { IsLine widest width (line_in width (row_at rows.old.rows r)) }
+    ensures pivot { line_in width (row_at rows.new.rows r)
+        ≡ pivot_line c result (cut (line_in width (row_at rows.old.rows r))) }
+    ensures denominator { result
+        ≡ unsigned_abs (number_at (cut (line_in width (row_at rows.old.rows r))).numbers c) }
+    ensures rows { rows.new.rows ≡ slice_set rows.old.rows r (row_at rows.new.rows r) }
+    ensures width { rows.new.width ≡ rows.old.width }
+    ensures spare { rows.new.spare ≡ rows.old.spare }
+    ensures count { length rows.new.rows ≡ length rows.old.rows }
+{
+    take_pivot(rows.row_mut(r), width, c);
+    rows.row(r)[0].unsigned_abs()
+}
+
+/// A size that neither the denominator nor one of the numbers at the front of the row is above.
 fn front_size(row: &[i64], width: usize) -> u64
     requires { width < length row.now }
-    ensures { AreSizes result (line_in width row.now).numbers }
+    ensures numbers { AreSizes result (line_in width row.now).numbers }
+    ensures denominator { (line_in width row.now).denominator ≤ result }
 {
-    size_of(&row[1..width + 1])
+    size_of(&row[..width + 1])
+}
+
+/// Lists the places where the numbers at the front of the row are not 0.
+fn front_nonzero(row: &[i64], width: usize, places: &mut Vec<usize>)
+    requires width { width < length row.now }
+    requires capacity { width ≤ vec_capacity places.old }
+    ensures places { places.new.items ≡ nonzero_in (line_in width row.now).numbers }
+    ensures capacity { vec_capacity places.old ≤ vec_capacity places.new }
+{
+    list_nonzero(&row[1..width + 1], places)
 }
 
 /// Clears column `c` of the line at the front of the row, and says whether it is within the bound.
-/// The numbers of the pivot row are at most `pivot_most`. `short` and `room` have as many places as
-/// the line has numbers.
+/// Its numbers are at most `most`, which is kept so, and those of the pivot row, which is not 0 at
+/// `places`, at most `pivot_most`. `room` has as many places as the line has numbers.
 fn clear_sized(
     row: &mut [i64],
+    most: &mut u64,
     pivot: &[i64],
     pivot_most: u64,
-    short: &mut [i64],
+    places: &[usize],
     room: &mut [i128],
     c: usize,
     a: u64,
     bound: u64,
 ) -> bool
     requires column { c < length room.old }
-    requires short { length short.old ≡ length room.old }
     requires widths { (length room.old < length row.old) × (length room.old < length pivot.now) }
     requires bound { bound ≤ widest }
+    requires sizes { AreSizes most.old (line_in (length room.old) row.old).numbers }
     requires pivot { AreSizes bound (line_in (length room.old) pivot.now).numbers }
-    requires sizes { AreSizes pivot_most (line_in (length room.old) pivot.now).numbers }
+    requires pivot_sizes { AreSizes pivot_most (line_in (length room.old) pivot.now).numbers }
+    requires places { places.now ≡ nonzero_in (line_in (length room.old) pivot.now).numbers }
     requires above { (0 < a) × (a ≤ bound) }
     requires line { IsLine bound (length room.old) (line_in (length room.old) row.old) }
     ensures cleared { result ≡ true → line_in (length room.old) row.new
@@ -85,6 +118,8 @@ fn clear_sized(
         (line_in (length room.old) row.old) }
     ensures line { result ≡ true
         → IsLine bound (length room.old) (line_in (length room.old) row.new) }
+    ensures sizes { result ≡ true
+        → AreSizes most.new (line_in (length room.old) row.new).numbers }
 {
     let width = room.len();
     let denominator = row[0].unsigned_abs();
@@ -92,9 +127,10 @@ fn clear_sized(
     let Some(below) = clear_line(
         denominator,
         numbers,
+        most,
         &pivot[1..width + 1],
         pivot_most,
-        short,
+        places,
         room,
         c,
         a,
@@ -106,39 +142,64 @@ fn clear_sized(
     true
 }
 
-/// Clears column `c` of the line at the front of the row, and says whether it is within the bound.
-/// `short` and `room` have as many places as the line has numbers.
-fn clear_front(
-    row: &mut [i64],
+/// Clears column `c` of the objective row, where the sizes of both rows say that it stays within
+/// the limit, and says whether they do. The numbers of the pivot row are at most `pivot_most`.
+fn clear_objective(
+    objective: &mut [i128],
     pivot: &[i64],
-    short: &mut [i64],
-    room: &mut [i128],
+    pivot_most: u64,
+    width: usize,
     c: usize,
     a: u64,
-    bound: u64,
+    limit: u128,
 ) -> bool
-    requires column { c < length room.old }
-    requires short { length short.old ≡ length room.old }
-    requires widths { (length room.old < length row.old) × (length room.old < length pivot.now) }
-    requires bound { bound ≤ widest }
-    requires pivot { AreSizes bound (line_in (length room.old) pivot.now).numbers }
-    requires above { (0 < a) × (a ≤ bound) }
-    requires line { IsLine bound (length room.old) (line_in (length room.old) row.old) }
-    ensures cleared { result ≡ true → line_in (length room.old) row.new
-        ≡ compact_cleared c a (line_in (length room.old) pivot.now).numbers
-        (line_in (length room.old) row.old) }
-    ensures line { result ≡ true
-        → IsLine bound (length room.old) (line_in (length room.old) row.new) }
+    requires column { c < width }
+    requires widths { (width < length objective.old) × (width < length pivot.now) }
+    requires pivot { AreSizes pivot_most (line_in width pivot.now).numbers }
+    requires above { (0 < a) × (a ≤ pivot_most) }
+    requires below { a ≤ widest }
+    requires limit { limit ≤ 2 ^ 127 - 1 }
+    requires line { IsLine limit width (line_in width objective.old) }
+    ensures fits { result ≡ true
+        → 2 * (line_size (line_in width objective.old) * pivot_most) ≤ limit }
+    ensures cleared { result ≡ true → line_in width objective.new
+        ≡ compact_cleared c a (line_in width pivot.now).numbers (line_in width objective.old) }
+    ensures line { result ≡ true → IsLine limit width (line_in width objective.new) }
 {
-    let pivot_most = front_size(pivot, room.len());
-    clear_sized(row, pivot, pivot_most, short, room, c, a, bound)
+    let size = wide_size(&objective[..width + 1]);
+    if !may_mix(size, pivot_most, limit) {
+        return false;
+    }
+    let denominator = objective[0].unsigned_abs();
+    let numbers = &mut objective[1..width + 1];
+    let pivot = &pivot[1..width + 1];
+    let below = clear_wide_line(denominator, numbers, size, pivot, pivot_most, c, a);
+    objective[0] = below as i128;
+    true
+}
+
+/// Whether row i is to be cleared: another row than r, that is not 0 in column `c`.
+fn is_to_clear(rows: &RowArena<i64>, i: usize, r: usize, c: usize) -> bool
+    requires row { i < length rows.now.rows }
+    requires column { c + 1 < rows.now.width }
+    ensures apart { result ≡ true → r ≢ i }
+    ensures stays { result ≡ false → (w a : ℕ) → c < w → (pivot : List ℤ)
+        → line_after c a r pivot i (line_in w (row_at rows.now.rows i))
+        ≡ line_in w (row_at rows.now.rows i) }
+{
+    if i == r {
+        return false;
+    }
+    rows.row(i)[c + 1] != 0
 }
 
 /// Clears each row but the pivot row r, up to the first that is not within the bound, and says
-/// whether all are.
+/// whether all are. The size that is kept with a row goes with it.
 fn clear_rows(
     rows: &mut RowArena<i64>,
-    short: &mut [i64],
+    sizes: &mut [u64],
+    pivot_most: u64,
+    places: &[usize],
     room: &mut [i128],
     r: usize,
     c: usize,
@@ -147,102 +208,144 @@ fn clear_rows(
 ) -> bool
     requires row { r < length rows.old.rows }
     requires column { c < length room.old }
-    requires short { length short.old ≡ length room.old }
     requires width { length room.old < rows.old.width }
     requires bound { bound ≤ widest }
     requires above { (0 < a) × (a ≤ bound) }
     requires lines { AreLinesIn bound (length room.old) rows.old.rows }
+    requires sizes { AreSizesIn sizes.old (length room.old) rows.old.rows }
+    requires count { length rows.old.rows ≤ length sizes.old }
+    requires pivot { AreSizes pivot_most
+        (line_in (length room.old) (row_at rows.old.rows r)).numbers }
+    requires places { places.now
+        ≡ nonzero_in (line_in (length room.old) (row_at rows.old.rows r)).numbers }
     ensures cleared { result ≡ true → lines_in (length room.old) rows.new.rows
         ≡ lines_after c a r (line_in (length room.old) (row_at rows.old.rows r)).numbers 0
         (lines_in (length room.old) rows.old.rows) }
     ensures lines { result ≡ true → AreLinesIn bound (length room.old) rows.new.rows }
+    ensures sizes { result ≡ true → AreSizesIn sizes.new (length room.old) rows.new.rows }
     ensures width { rows.new.width ≡ rows.old.width }
     ensures spare { rows.new.spare ≡ rows.old.spare }
     ensures count { length rows.new.rows ≡ length rows.old.rows }
 {
-    let pivot_most = front_size(rows.row(r), room.len());
     for i in 0..rows.len() {
-        if i != r {
+        if is_to_clear(rows, i, r, c) {
             let (pivot, row) = rows.pair(r, i);
-            if !clear_sized(row, pivot, pivot_most, short, room, c, a, bound) {
+            let mut most = sizes[i];
+            if !clear_sized(row, &mut most, pivot, pivot_most, places, room, c, a, bound) {
                 return false;
             }
+            sizes[i] = most;
         }
     }
     true
 }
 
-/// The same, where `short` and `room` have as many places as a line has numbers.
+/// The rows of a turn and the objective row, where column `c` enters in row r, and the sizes that
+/// are kept with the rows. Says whether the rows are within the bound and the objective row within
+/// the limit. `room` has as many places as a
+/// line has numbers, and `places` room for them.
 fn turn_lines(
     rows: &mut RowArena<i64>,
-    objective: &mut [i64],
-    short: &mut [i64],
+    sizes: &mut [u64],
+    objective: &mut [i128],
+    places: &mut Vec<usize>,
     room: &mut [i128],
     r: usize,
     c: usize,
     bound: u64,
+    limit: u128,
 ) -> bool
     requires column { c < length room.old }
-    requires short { length short.old ≡ length room.old }
     requires widths { (length room.old < rows.old.width)
         × (length room.old < length objective.old) }
     requires bound { bound ≤ widest }
+    requires limit { limit ≤ 2 ^ 127 - 1 }
     requires pivot { IsPivot (length room.old) c r rows.old.rows }
     requires lines { AreLinesIn bound (length room.old) rows.old.rows }
-    requires objective { IsLine bound (length room.old) (line_in (length room.old) objective.old) }
+    requires sizes { AreSizesIn sizes.old (length room.old) rows.old.rows }
+    requires count { length rows.old.rows ≤ length sizes.old }
+    requires capacity { length room.old ≤ vec_capacity places.old }
+    requires objective { IsLine limit (length room.old) (line_in (length room.old) objective.old) }
+    ensures fits { result ≡ true → mix_fits limit (line_in (length room.old) objective.old)
+        (cut (line_in (length room.old) (row_at rows.old.rows r))) ≡ true }
     ensures turned { result ≡ true → IsTurned (length room.old) c r
         rows.old.rows objective.old rows.new.rows objective.new }
     ensures lines { result ≡ true → AreLinesIn bound (length room.old) rows.new.rows }
+    ensures sizes { result ≡ true → AreSizesIn sizes.new (length room.old) rows.new.rows }
     ensures objective { result ≡ true
-        → IsLine bound (length room.old) (line_in (length room.old) objective.new) }
+        → IsLine limit (length room.old) (line_in (length room.old) objective.new) }
     ensures width { rows.new.width ≡ rows.old.width }
     ensures spare { rows.new.spare ≡ rows.old.spare }
     ensures count { length rows.new.rows ≡ length rows.old.rows }
+    ensures capacity { vec_capacity places.old ≤ vec_capacity places.new }
 {
-    take_pivot(rows.row_mut(r), room.len(), c);
-    let a = rows.row(r)[0].unsigned_abs();
-    if !clear_front(objective, rows.row(r), short, room, c, a, bound) {
+    let a = place_pivot(rows, room.len(), r, c);
+    let pivot = rows.row(r);
+    let pivot_most = front_size(pivot, room.len());
+    sizes[r] = pivot_most;
+    front_nonzero(pivot, room.len(), places);
+    if !clear_objective(objective, pivot, pivot_most, room.len(), c, a, limit) {
         return false;
     }
-    clear_rows(rows, short, room, r, c, a, bound)
+    clear_rows(
+        rows,
+        sizes,
+        pivot_most,
+        places.as_slice(),
+        room,
+        r,
+        c,
+        a,
+        bound,
+    )
 }
 
-/// The rows of a turn and the objective row, where column `c` enters in row r. Says whether all are
-/// within the bound.
+/// The same, where a line has `width` numbers and there is room for more.
 pub fn turn_rows(
     rows: &mut RowArena<i64>,
-    objective: &mut [i64],
-    short: &mut [i64],
+    sizes: &mut [u64],
+    objective: &mut [i128],
+    places: &mut Vec<usize>,
     room: &mut [i128],
     width: usize,
     r: usize,
     c: usize,
     bound: u64,
+    limit: u128,
 ) -> bool
     requires column { c < width }
-    requires short { width ≤ length short.old }
     requires room { width ≤ length room.old }
     requires widths { (width < rows.old.width) × (width < length objective.old) }
     requires bound { bound ≤ widest }
+    requires limit { limit ≤ 2 ^ 127 - 1 }
     requires pivot { IsPivot width c r rows.old.rows }
     requires lines { AreLinesIn bound width rows.old.rows }
-    requires objective { IsLine bound width (line_in width objective.old) }
+    requires sizes { AreSizesIn sizes.old width rows.old.rows }
+    requires count { length rows.old.rows ≤ length sizes.old }
+    requires capacity { width ≤ vec_capacity places.old }
+    requires objective { IsLine limit width (line_in width objective.old) }
+    ensures fits { result ≡ true → mix_fits limit (line_in width objective.old)
+        (cut (line_in width (row_at rows.old.rows r))) ≡ true }
     ensures turned { result ≡ true → IsTurned width c r
         rows.old.rows objective.old rows.new.rows objective.new }
     ensures lines { result ≡ true → AreLinesIn bound width rows.new.rows }
+    ensures sizes { result ≡ true → AreSizesIn sizes.new width rows.new.rows }
     ensures objective { result ≡ true
-        → IsLine bound width (line_in width objective.new) }
+        → IsLine limit width (line_in width objective.new) }
     ensures width { rows.new.width ≡ rows.old.width }
     ensures spare { rows.new.spare ≡ rows.old.spare }
     ensures count { length rows.new.rows ≡ length rows.old.rows }
+    ensures capacity { vec_capacity places.old ≤ vec_capacity places.new }
 {
     turn_lines(
         rows,
+        sizes,
         objective,
-        &mut short[..width],
+        places,
         &mut room[..width],
         r,
         c,
         bound,
+        limit,
     )
 }

@@ -1,17 +1,18 @@
 //! The table of a run. Nothing outside this file knows how it is laid out.
-ghost use Rattle.std.specs.Prelude.{◌≡◌, ◌+◌, ◌<◌, ◌≤◌, IfSome, [], length, map, position, true, unsigned_abs, vec_capacity, vec_len, slice_index_or, slice_set, ◌==◌};
+ghost use Rattle.std.specs.Prelude.{◌≡◌, ◌+◌, ◌-◌, ◌^◌, ◌<◌, ◌≤◌, IfSome, [], length, map, position, true, unsigned_abs, vec_capacity, vec_len, slice_index_or, slice_set, ◌==◌};
 ghost use Rattle.std.specs.Option.{option_map};
 ghost use Rattle.compact_table.specs.Candidates.{best_with};
 ghost use Rattle.compact_table.specs.Tables.{as_compact};
 ghost use Rattle.whole_rows.specs.Compact.{compact_entering, compact_pivoted, price_of};
 ghost use Rattle.whole_rows.specs.Lines.{IsLine, entry_of, taken_in, widest};
 ghost use Rattle.whole_rows.specs.Running.{whole_where_basic};
-ghost use Rattle.whole_rows.specs.Turning.{whole_ratios};
+ghost use Rattle.whole_rows.specs.Turning.{cut, mix_fits, whole_ratios};
 ghost use Rattle.whole_solver.specs.Choices.{as_column};
-ghost use Rattle.whole_solver.specs.Rows.{IsPivot, IsTurned, line_in, row_at};
+ghost use Rattle.whole_solver.specs.Rows.{AreLinesIn, IsPivot, IsTurned, line_in, row_at};
 
 use crate::columns::{Entering, least_column};
-use crate::fraction::{fraction, take_line};
+use crate::fraction::{fraction, take_line, wide};
+use crate::objective::widen;
 use crate::ratios::leaving;
 use crate::rows::turn_rows;
 use crate::turn::Turn;
@@ -30,9 +31,12 @@ pub struct WholeTable {
     basics: Vec<usize>,
     // of each row, and of the objective row, the front counts
     rows: RowArena<i64>,
-    objective: Vec<i64>,
-    // room for the numbers of a line before it is cut, in 128 bits, and in 64 for those of a line
-    // or a row that comes
+    objective: Vec<i128>,
+    // with each row a size that none of its numbers is above
+    sizes: Vec<u64>,
+    // room for the places where the pivot row is not 0
+    places: Vec<usize>,
+    // room for the numbers of a line before it is cut, in 128 bits, and for a row that comes
     room: Vec<i128>,
     line: Vec<i64>,
     ghost count: { vec_len basics ≡ length rows.rows },
@@ -40,6 +44,8 @@ pub struct WholeTable {
     ghost objective_width: { vec_len objective ≡ rows.width },
     ghost names_room: { rows.width ≤ vec_capacity names + 2 },
     ghost basics_room: { vec_len basics + rows.spare ≤ vec_capacity basics },
+    ghost sizes_count: { vec_len sizes ≡ length rows.rows + rows.spare },
+    ghost places_room: { rows.width ≤ vec_capacity places },
     ghost room_width: { vec_len room + 1 ≡ rows.width },
     ghost line_width: { vec_len line ≡ rows.width },
 }
@@ -58,6 +64,9 @@ impl WholeTable {
         let basics = Vec::with_capacity(alloc, arena.spare())?;
         let mut objective = Vec::with_capacity(alloc, width)?;
         objective.resize(width, 0)?;
+        let mut sizes = Vec::with_capacity(alloc, arena.spare())?;
+        sizes.resize(arena.spare(), 0)?;
+        let places = Vec::with_capacity(alloc, width)?;
         let mut room = Vec::with_capacity(alloc, columns + 1)?;
         room.resize(columns + 1, 0)?;
         let mut line = Vec::with_capacity(alloc, width)?;
@@ -67,6 +76,8 @@ impl WholeTable {
             basics,
             rows: arena,
             objective,
+            sizes,
+            places,
             room,
             line,
         })
@@ -109,7 +120,11 @@ impl WholeTable {
         ensures basics { self.new.basics.items ≡ self.old.basics.items }
         ensures rows { self.new.rows ≡ self.old.rows }
     {
-        take_line(self.objective.as_mut_slice(), entries, bound)
+        if !take_line(self.line.as_mut_slice(), entries, bound) {
+            return false;
+        }
+        widen(self.objective.as_mut_slice(), self.line.as_slice());
+        true
     }
 
     /// Adds a row, where it is within the bound, and says whether it is.
@@ -131,13 +146,26 @@ impl WholeTable {
         true
     }
 
+    /// Keeps the bound of the rows as the size of each. The limit is not below it.
+    fn keep_sizes(&mut self, bound: u64, limit: u128)
+        requires rows { AreLinesIn bound (width_of self.old) self.old.rows.rows }
+        requires objective { IsLine bound (width_of self.old)
+            (line_in (width_of self.old) self.old.objective.items) }
+        requires limit { bound ≤ limit }
+        ensures table { as_whole self.new ≡ as_whole self.old }
+        ensures within { IsWithin bound limit self.new }
+    {
+        self.sizes.as_mut_slice().fill(bound);
+    }
+
     /// Becomes the table of these fractions, each row over the least common denominator, and says
     /// whether it has room and is within the bound.
-    pub fn take_in<N: Exact>(&mut self, table: &Table<N>, bound: u64) -> bool
+    pub fn take_in<N: Exact>(&mut self, table: &Table<N>, bound: u64, limit: u128) -> bool
         requires bound { (1 ≤ bound) × (bound ≤ widest) }
+        requires objective { (bound ≤ limit) × (limit ≤ 2 ^ 127 - 1) }
         ensures table { result ≡ true
             → as_whole self.new ≡ taken_from (as_compact N.fraction table.now) }
-        ensures within { result ≡ true → IsWithin bound self.new }
+        ensures within { result ≡ true → IsWithin bound limit self.new }
     {
         if !self.has_room(table.rows(), table.variables()) {
             return false;
@@ -151,6 +179,7 @@ impl WholeTable {
                 return false;
             }
         }
+        self.keep_sizes(bound, limit);
         true
     }
 
@@ -174,16 +203,21 @@ impl WholeTable {
         leaving(self.basics.as_slice(), &self.rows, self.names.len(), c)
     }
 
-    /// The rows of a turn and the objective row. Says whether they are within the bound.
-    fn turn_rows(&mut self, c: usize, r: usize, bound: u64) -> bool
+    /// The rows of a turn and the objective row. Says whether they are within the bound and the
+    /// limit.
+    fn turn_rows(&mut self, c: usize, r: usize, bound: u64, limit: u128) -> bool
         requires column { c < length self.old.names.items }
         requires pivot { IsPivot (width_of self.old) c r self.old.rows.rows }
         requires bound { bound ≤ widest }
-        requires within { IsWithin bound self.old }
+        requires objective { limit ≤ 2 ^ 127 - 1 }
+        requires within { IsWithin bound limit self.old }
+        ensures fits { result ≡ true → mix_fits limit
+            (line_in (width_of self.old) self.old.objective.items)
+            (cut (line_in (width_of self.old) (row_at self.old.rows.rows r))) ≡ true }
         ensures turned { result ≡ true → IsTurned (width_of self.old) c r
             self.old.rows.rows self.old.objective.items
             self.new.rows.rows self.new.objective.items }
-        ensures within { result ≡ true → IsWithin bound self.new }
+        ensures within { result ≡ true → IsWithin bound limit self.new }
         ensures names { self.new.names.items ≡ self.old.names.items }
         ensures basics { self.new.basics.items ≡ self.old.basics.items }
         ensures shape { SameShape self.old self.new }
@@ -191,13 +225,15 @@ impl WholeTable {
         let width = self.names.len() + 1;
         turn_rows(
             &mut self.rows,
+            self.sizes.as_mut_slice(),
             self.objective.as_mut_slice(),
-            self.line.as_mut_slice(),
+            &mut self.places,
             self.room.as_mut_slice(),
             width,
             r,
             c,
             bound,
+            limit,
         )
     }
 
@@ -211,43 +247,50 @@ impl WholeTable {
             ≡ slice_set self.old.basics.items r (slice_index_or self.old.names.items c 0) }
         ensures rows { self.new.rows ≡ self.old.rows }
         ensures objective { self.new.objective.items ≡ self.old.objective.items }
+        ensures sizes { self.new.sizes.items ≡ self.old.sizes.items }
     {
         let leaving = self.basics[r];
         self.basics[r] = self.names[c];
         self.names[c] = leaving;
     }
 
-    /// The variable of column `c` becomes basic in row r, where the table is within the bound then.
-    /// Says whether it is.
-    fn pivot(&mut self, c: usize, r: usize, bound: u64) -> bool
+    /// The variable of column `c` becomes basic in row r, where the table is within both bounds
+    /// then. Says whether it is.
+    fn pivot(&mut self, c: usize, r: usize, bound: u64, limit: u128) -> bool
         requires column { c < length self.old.names.items }
         requires pivot { IsPivot (width_of self.old) c r self.old.rows.rows }
         requires bound { bound ≤ widest }
-        requires within { IsWithin bound self.old }
+        requires objective { limit ≤ 2 ^ 127 - 1 }
+        requires within { IsWithin bound limit self.old }
+        ensures fits { result ≡ true → mix_fits limit
+            (line_in (width_of self.old) self.old.objective.items)
+            (cut (line_in (width_of self.old) (row_at self.old.rows.rows r))) ≡ true }
         ensures table { result ≡ true
             → as_whole self.new ≡ compact_pivoted c r (as_whole self.old) }
-        ensures within { result ≡ true → IsWithin bound self.new }
+        ensures within { result ≡ true → IsWithin bound limit self.new }
         ensures shape { SameShape self.old self.new }
     {
-        if !self.turn_rows(c, r, bound) {
+        if !self.turn_rows(c, r, bound, limit) {
             return false;
         }
         self.exchange(c, r);
         true
     }
 
-    /// One turn: column `c` enters. It is given up where a number leaves the bound.
-    pub fn turn(&mut self, c: usize, bound: u64) -> Turn
+    /// One turn: column `c` enters. It is given up where a row leaves the bound, or where the
+    /// objective row may leave the limit.
+    pub fn turn(&mut self, c: usize, bound: u64, limit: u128) -> Turn
         requires column { c < length self.old.names.items }
         requires bound { bound ≤ widest }
-        requires within { IsWithin bound self.old }
-        ensures turn { IsTurn bound c result self.old self.new }
+        requires objective { limit ≤ 2 ^ 127 - 1 }
+        requires within { IsWithin bound limit self.old }
+        ensures turn { IsTurn bound limit c result self.old self.new }
         ensures shape { SameShape self.old self.new }
     {
         match self.leaving(c) {
             None => Turn::Unlimited,
             Some(r) => {
-                if self.pivot(c, r, bound) {
+                if self.pivot(c, r, bound, limit) {
                     Turn::Moved
                 } else {
                     Turn::GivenUp
@@ -280,20 +323,20 @@ impl WholeTable {
     /// The number at place k of a row, as a fraction.
     fn entry<N: Exact>(&self, i: usize, k: usize) -> N
         requires limit { widest ≤ unsigned_abs N.LIMIT }
-        requires within { IsWithin widest self.now }
+        requires within { IsWithin widest (unsigned_abs N.LIMIT) self.now }
         requires row { i < length self.now.rows.rows }
         requires place { k < width_of self.now }
         ensures { N.fraction result
             ≡ entry_of (line_in (width_of self.now) (row_at self.now.rows.rows i)) k }
     {
         let row = self.rows.row(i);
-        fraction(row[k + 1], row[0].unsigned_abs())
+        fraction(wide(row[k + 1]), row[0].unsigned_abs() as u128)
     }
 
     /// The number at place k of the objective row, as a fraction.
     fn price<N: Exact>(&self, k: usize) -> N
         requires limit { widest ≤ unsigned_abs N.LIMIT }
-        requires within { IsWithin widest self.now }
+        requires within { IsWithin widest (unsigned_abs N.LIMIT) self.now }
         requires place { k < width_of self.now }
         ensures { N.fraction result ≡ entry_of (as_whole self.now).objective k }
     {
@@ -303,7 +346,7 @@ impl WholeTable {
     /// The value of variable j: the right side of the row where it is basic, else 0.
     pub fn value_at<N: Exact>(&self, j: usize) -> N
         requires limit { widest ≤ unsigned_abs N.LIMIT }
-        requires within { IsWithin widest self.now }
+        requires within { IsWithin widest (unsigned_abs N.LIMIT) self.now }
         ensures { N.fraction result
             ≡ whole_where_basic (λ row. entry_of row.line (length self.now.names.items)) j
             (as_whole self.now).rows }
@@ -317,7 +360,7 @@ impl WholeTable {
     /// The objective entry of variable j: 0 where it is basic.
     pub fn price_at<N: Exact>(&self, j: usize) -> N
         requires limit { widest ≤ unsigned_abs N.LIMIT }
-        requires within { IsWithin widest self.now }
+        requires within { IsWithin widest (unsigned_abs N.LIMIT) self.now }
         requires variable { j < (as_whole self.now).columns }
         ensures { N.fraction result ≡ price_of (as_whole self.now) j }
     {
@@ -330,7 +373,7 @@ impl WholeTable {
     /// What a step of 1 in the column changes in variable j.
     pub fn direction_at<N: Exact>(&self, column: Entering, j: usize) -> N
         requires limit { widest ≤ unsigned_abs N.LIMIT }
-        requires within { IsWithin widest self.now }
+        requires within { IsWithin widest (unsigned_abs N.LIMIT) self.now }
         requires column { column.place < length self.now.names.items }
         ensures { N.fraction result ≡ direction_entry (as_column column) (as_whole self.now) j }
     {
@@ -349,7 +392,7 @@ impl WholeTable {
     /// The objective's value.
     pub fn value<N: Exact>(&self) -> N
         requires limit { widest ≤ unsigned_abs N.LIMIT }
-        requires within { IsWithin widest self.now }
+        requires within { IsWithin widest (unsigned_abs N.LIMIT) self.now }
         ensures { N.fraction result
             ≡ entry_of (as_whole self.now).objective (length self.now.names.items) }
     {

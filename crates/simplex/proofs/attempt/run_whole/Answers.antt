@@ -1,4 +1,4 @@
-use Rattle.std.proofs.Common.{◌-◌, rules, unsigned_abs}
+use Rattle.std.proofs.Common.{◌≡◌, ◌-◌, rules, unsigned_abs}
 use Rattle.compact_table.specs.Tables.{program_in}
 use Rattle.whole_solver.specs.Within.{IsUsable}
 use Rattle.simplex.proofs.WholeSteps.{started_at, whole_optimum, whole_ray, whole_no_unit}
@@ -14,12 +14,14 @@ returns-in-Optimal-clause-tried g c t given first =
     let w1 = c.take_in.new.self in
     let w2 = c.whole_run.new.table in
     let after = c.whole_run.new.budget.spent in
+    let held = c.unsigned_abs-limit.result in
+    let same : held ≡ L = search rules in
     let usable : IsUsable L b = search rules in
     let taken = c.if-not-take_in.false in
-    let start = started_at value L b t c.args.table.now w1 given usable first (c.take_in.ensures.table taken) (c.take_in.ensures.within taken) in
+    let start = started_at value L held b t c.args.table.now w1 same given usable first (c.take_in.ensures.table taken) (c.take_in.ensures.within taken) in
     let p = program_in value t in
     let told = c.in-Optimal.ensures.run p.variables p.rows in
-    whole_optimum value L b left spent after t c.args.table.now w1 w2 start c.whole_run.ensures.shape told
+    whole_optimum value L held b left spent after t c.args.table.now w1 w2 start same c.whole_run.ensures.shape told
 
 pub returns-in-Unbounded-clause-tried : goal.returns-in-Unbounded-clause-tried
 returns-in-Unbounded-clause-tried g c t given first =
@@ -31,12 +33,14 @@ returns-in-Unbounded-clause-tried g c t given first =
     let w1 = c.take_in.new.self in
     let w2 = c.whole_run.new.table in
     let after = c.whole_run.new.budget.spent in
+    let held = c.unsigned_abs-limit.result in
+    let same : held ≡ L = search rules in
     let usable : IsUsable L b = search rules in
     let taken = c.if-not-take_in.false in
-    let start = started_at value L b t c.args.table.now w1 given usable first (c.take_in.ensures.table taken) (c.take_in.ensures.within taken) in
+    let start = started_at value L held b t c.args.table.now w1 same given usable first (c.take_in.ensures.table taken) (c.take_in.ensures.within taken) in
     let p = program_in value t in
     let told = c.in-Unbounded.ensures.run p.variables p.rows in
-    whole_ray value L b left spent after t c.args.table.now w1 w2 start c.whole_run.ensures.shape c.in-Unbounded.column told
+    whole_ray value L held b left spent after t c.args.table.now w1 w2 start same c.whole_run.ensures.shape c.in-Unbounded.column told
 
 pub returns-in-NoUnit-clause-tried : goal.returns-in-NoUnit-clause-tried
 returns-in-NoUnit-clause-tried g c t given first =
@@ -48,9 +52,11 @@ returns-in-NoUnit-clause-tried g c t given first =
     let w1 = c.take_in.new.self in
     let w2 = c.whole_run.new.table in
     let after = c.whole_run.new.budget.spent in
+    let held = c.unsigned_abs-limit.result in
+    let same : held ≡ L = search rules in
     let usable : IsUsable L b = search rules in
     let taken = c.if-not-take_in.false in
-    let start = started_at value L b t c.args.table.now w1 given usable first (c.take_in.ensures.table taken) (c.take_in.ensures.within taken) in
+    let start = started_at value L held b t c.args.table.now w1 same given usable first (c.take_in.ensures.table taken) (c.take_in.ensures.within taken) in
     let p = program_in value t in
     let told = c.in-NoUnit.ensures.run p.variables p.rows in
-    whole_no_unit value L b left spent after t c.args.table.now w1 w2 start c.whole_run.ensures.shape told
+    whole_no_unit value L held b left spent after t c.args.table.now w1 w2 start same c.whole_run.ensures.shape told

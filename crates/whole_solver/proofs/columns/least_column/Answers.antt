@@ -1,4 +1,5 @@
-use Rattle.std.proofs.Common.{◌≡◌, ◌<◌, ◌+◌, ◌-◌, ◌∙◌, sym, ap, arith, rules, length, drop, slice_index_or, pos, FitsSigned, w64}
+use Rattle.std.proofs.Common.{◌≡◌, ◌<◌, ◌+◌, ◌-◌, ◌∙◌, sym, ap, arith, rules, length, drop, slice_index_or, pos, FitsSigned}
+use mir.Syntax.{w128}
 use Rattle.std.specs.Prelude.{Option}
 use Rattle.std.proofs.lemmas.Int.{to_z-of_z}
 use Rattle.whole_rows.specs.Compact.{Column, least_column}
@@ -18,7 +19,7 @@ loop-place-preserved c =
     let low : k < length names = omega arith in
     let in_numbers : k < length numbers = omega (arith, low, c.requires) in
     let z = slice_index_or numbers k (pos 0) in
-    let fz : FitsSigned w64 z = search rules in
+    let fz : FitsSigned w128 z = search rules in
     let step = simp to_z-of_z at c.with_column-best.ensures in
     let rest = c.loop-place.invariant ∙ (λ i. least_column (next i) (drop (next i) names) (drop (next i) numbers)) in
     step ∙ ap (λ (l : Option Column). with_column z (column k (slice_index_or names k 0)) l) rest ∙ sym (column_more names numbers k low in_numbers)

@@ -1,9 +1,16 @@
-use Rattle.std.proofs.Common.{◌*◌, ◌/◌, ap, subst, sym, ◌<◌}
+use Rattle.std.proofs.Common.{◌*◌, ◌/◌, ◌∙◌, ap, subst, sym, ◌<◌}
 use Rattle.std.proofs.Math.Nat.{mul-pos}
 use Rattle.arithmetic.specs.Gcd.{gcd}
 use Rattle.arithmetic.proofs.GcdLaws.{gcd_pos_right, gcd_dvd_right, pos_of_quotient}
+use Rattle.whole_rows.specs.Lines.{multiple}
+use Rattle.whole_rows.proofs.CompactFirst.{multiple_one}
 use Rattle.whole_solver.proofs.Cleared.{shared_above}
 use Rattle.whole_solver.proofs.fraction.multiple.Goals as goal
+
+pub returns-then-one-eq1 : goal.returns-then-one-eq1
+returns-then-one-eq1 c =
+    let other = c.args.other in
+    (sym (ap (λ one. multiple one other) c.if-one-eq1.true ∙ multiple_one other), c.requires.other.0, c.requires.other.1)
 
 pub nonzero_div-product : goal.nonzero_div-product
 nonzero_div-product c = shared_above c.args.one c.args.other c.gcd-shared.result c.requires.other.0 c.gcd-shared.ensures

@@ -14,12 +14,12 @@ loop-number-preserved c =
     let i = c.loop-number.number-index in
     let number = slice_index_or c.args.numbers.now i (pos 0) in
     let fits : FitsSigned w64 number = search rules in
-    let found : c.shared-found.result ≡ gcd (unsigned_abs number) c.loop-number.found = c.shared-found.ensures.value ∙ ap (λ n. gcd n c.loop-number.found) (c.unsigned_abs.ensures.value ∙ ap unsigned_abs (to_z-of_z w64 number fits)) in
-    let less = c.shared-found.ensures.below in
+    let found : c.common_with-found.result ≡ gcd (unsigned_abs number) c.loop-number.found = c.common_with-found.ensures.value ∙ ap (λ n. gcd n c.loop-number.found) (c.unsigned_abs.ensures.value ∙ ap unsigned_abs (to_z-of_z w64 number fits)) in
+    let less = c.common_with-found.ensures.below in
     let low = c.loop-number.invariant.below in
     record {
       common = ap (λ g. common_of g (drop (i + 1) c.args.numbers.now)) found ∙ sym (common_more c.loop-number.found c.args.numbers.now i (pos 0) c.loop-number-test.true) ∙ c.loop-number.invariant.common;
-      above = c.shared-found.ensures.above;
+      above = c.common_with-found.ensures.above;
       below = omega (arith, less, low);
     }
 

@@ -1,19 +1,28 @@
-use Rattle.std.proofs.Common.{◌≡◌, ◌≤◌, ◌+◌, ◌*◌, true, refl, sym, subst, rules, unsigned_abs, w64}
+use Rattle.std.proofs.Common.{◌≡◌, ◌+◌, ◌*◌, true, refl, sym, subst, arith, unsigned_abs, w64, List, ℤ}
 use Rattle.std.proofs.lemmas.Bool.{le-leb}
 use Rattle.std.proofs.lemmas.Int.{to_z-of_z}
-use Rattle.whole_rows.specs.Lines.{numbers_fit}
+use Rattle.whole_rows.specs.Lines.{AreSizes, numbers_fit}
 use Rattle.whole_rows.specs.Turning.{cross_difference}
 use Rattle.whole_rows.proofs.LineSteps.{fit_of_sizes}
 use Rattle.whole_solver.proofs.Numbers.{mixed_sizes}
 use Rattle.whole_solver.proofs.line.mix_short.Goals as goal
 
-pub returns-clause-fits : goal.returns-clause-fits
-returns-clause-fits c =
+pub returns-clause-sizes : goal.returns-clause-sizes
+returns-clause-sizes c =
     let p_is = to_z-of_z w64 c.args.p c.ranges.p in
     let f_is = to_z-of_z w64 c.args.f c.ranges.f in
-    let first = le-leb _ _ c.if-below-bound.false in
-    let room : c.size_of-most.result * unsigned_abs c.args.p + unsigned_abs c.args.f * c.args.pivot_most ≤ c.args.bound = search rules in
-    let sizes = mixed_sizes (unsigned_abs c.args.p) _ _ c.args.bound c.args.f c.args.numbers.now c.args.pivot.now c.size_of-most.ensures c.requires.sizes room in
+    let times : c.unsigned_abs-times.result ≡ unsigned_abs c.args.p = rw p_is at c.unsigned_abs-times.ensures.value in
+    let less : c.unsigned_abs-less.result ≡ unsigned_abs c.args.f = rw f_is at c.unsigned_abs-less.ensures.value in
+    let size : c.mixed_size.result ≡ c.in-Some.size * unsigned_abs c.args.p + unsigned_abs c.args.f * c.args.pivot_most = rw (times, less) at c.mixed_size.ensures in
     let written : c.mix_sized.new.numbers ≡ cross_difference (unsigned_abs c.args.p) c.args.f c.args.numbers.now c.args.pivot.now = rw (p_is, f_is) at c.mix_sized.ensures in
-    let later : numbers_fit c.args.bound c.mix_sized.new.numbers ≡ true = subst (λ zs. numbers_fit c.args.bound zs ≡ true) (sym written) (fit_of_sizes c.args.bound _ (λ j _. sizes j)) in
+    subst (λ (zs : List ℤ). AreSizes c.mixed_size.result zs) (sym written)
+    (mixed_sizes (unsigned_abs c.args.p) c.in-Some.size c.args.pivot_most c.mixed_size.result c.args.f c.args.numbers.now c.args.pivot.now c.in-Some.ensures.sizes c.requires.pivot (omega (arith, size)))
+
+pub returns-clause-fits : goal.returns-clause-fits
+returns-clause-fits c =
+    let sizes = returns-clause-sizes c in
+    let size = c.mixed_size.ensures in
+    let within = c.in-Some.ensures.within in
+    let first = le-leb _ _ c.if-below-bound.false in
+    let later : numbers_fit c.args.bound c.mix_sized.new.numbers ≡ true = fit_of_sizes c.args.bound _ (λ j _. (let small = sizes j in omega (arith, small, size, within))) in
     rw (first, later) refl

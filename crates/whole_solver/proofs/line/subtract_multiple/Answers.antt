@@ -1,52 +1,54 @@
-use Rattle.std.proofs.Common.{rules, refl, ◌∙◌, ap, sym, subst, arith, FitsSigned, w64, pos, slice_index_or, length, take, ℕ, ◌≡◌, ◌<◌, ◌≤◌, ◌*ℤ◌, ◌-ℤ◌, unsigned_abs}
+use Rattle.std.proofs.Common.{◌<◌, ◌≤◌, ◌∙◌, ap, sym, subst, arith, ℤ, List, ℕ, length, length-set, map, slice_index_or, unsigned_abs, w64, pos}
 use Rattle.std.proofs.lemmas.Int.{to_z-of_z}
-use Rattle.std.proofs.lemmas.List.{length-set, get_or-set_other}
-use Rattle.whole_rows.specs.Turning.{cross_difference}
-use Rattle.whole_rows.proofs.LineSteps.{length-mixed}
-use Rattle.whole_solver.proofs.Numbers.{written_more, written_all, mixed_at, sizes_room}
+use Rattle.std.proofs.lemmas.List.{length-map, get_or-set_other}
+use Rattle.exact_num.specs.Fraction.{whole}
+use Rattle.compact_table.proofs.Nonzero.{place_inside}
+use Rattle.whole_rows.specs.Lines.{number_at}
+use Rattle.whole_solver.specs.Rows.{nonzero_in}
+use Rattle.whole_solver.proofs.Numbers.{sizes_room}
+use Rattle.whole_solver.proofs.Sparse.{less_at, less_is, less_more, less_end, rising}
 use Rattle.whole_solver.proofs.line.subtract_multiple.Goals as goal
 
-pub short_number-number-requires : goal.short_number-number-requires
-short_number-number-requires c =
-    let i = c.loop-i.i in
-    let z = slice_index_or c.loop-i.numbers i (pos 0) in
-    let q = slice_index_or c.args.pivot.now i (pos 0) in
-    let fz : FitsSigned w64 z = search rules in
-    let fq : FitsSigned w64 q = search rules in
-    let most : unsigned_abs z ≤ c.args.most = subst (λ y. unsigned_abs y ≤ c.args.most) (sym (c.loop-i.invariant.left i (omega arith))) (c.requires.numbers i) in
-    rw (to_z-of_z w64 c.args.f c.ranges.f, to_z-of_z w64 z fz, to_z-of_z w64 q fq)
-    (sizes_room (unsigned_abs z) 1 (unsigned_abs c.args.f) (unsigned_abs q) _ _ _ most (c.requires.pivot i) c.requires.room)
+pub subtract_at-requires-clause-inside : goal.subtract_at-requires-clause-inside
+subtract_at-requires-clause-inside c =
+    let ps = map whole c.args.pivot.now in
+    let t = c.loop-place.place-index in
+    let places = c.requires.places in
+    let low : t < length (nonzero_in c.args.pivot.now) = (rw places at c.loop-place-test.true) in
+    let inside : slice_index_or c.args.places.now t 0 < length c.args.pivot.now = rw places (rw length-map at (place_inside ps t low)) in
+    let same = c.loop-place.invariant.width in
+    (omega (arith, inside, c.requires.width, same), inside)
 
-pub loop-i-preserved : goal.loop-i-preserved
-loop-i-preserved c =
-    let i = c.loop-i.i in
-    let old = c.args.numbers.now in
-    let zs = c.loop-i.numbers in
-    let qs = c.args.pivot.now in
-    let z = slice_index_or zs i (pos 0) in
-    let q = slice_index_or qs i (pos 0) in
-    let v = c.short_number-number.result in
-    let inv = c.loop-i.invariant in
-    let in_zs : i < length zs = omega arith in
-    let same = inv.width in
-    let in_old : i < length old = omega (arith, in_zs, same) in
-    let fz : FitsSigned w64 z = search rules in
-    let fq : FitsSigned w64 q = search rules in
-    let fv : FitsSigned w64 v = search rules in
-    let f_is = to_z-of_z w64 c.args.f c.ranges.f in
-    let told : v ≡ (z *ℤ pos 1) -ℤ (c.args.f *ℤ q) = rw f_is at (simp to_z-of_z at c.short_number-number.ensures) in
-    let wide = length-mixed 1 c.args.f old qs c.requires.width in
-    let is_v = mixed_at (pos 1) c.args.f z q v old qs i (search rules) c.requires.width in_old (inv.left i (omega arith)) refl told in
-    rw (f_is, to_z-of_z w64 v fv) (record {
-      width = length-set zs i v ∙ inv.width;
-      mixed = written_more (cross_difference 1 c.args.f old qs) zs i v (pos 0) in_zs (omega (arith, wide, in_old)) (rw f_is at inv.mixed) is_v;
-      left = λ j p. get_or-set_other zs i j v (pos 0) (λ e. omega (arith, p, e)) ∙ inv.left j (omega (arith, p));
-    })
+pub subtract_at-requires-clause-room : goal.subtract_at-requires-clause-room
+subtract_at-requires-clause-room c =
+    let t = c.loop-place.place-index in
+    let j = slice_index_or c.args.places.now t 0 in
+    let most : unsigned_abs (number_at c.loop-place.numbers j) ≤ c.args.most = subst (λ (y : ℤ). unsigned_abs y ≤ c.args.most) (sym (c.loop-place.invariant.left t (omega arith) c.loop-place-test.true)) (c.requires.numbers j) in
+    rw (to_z-of_z w64 c.args.f c.ranges.f)
+    (sizes_room (unsigned_abs (number_at c.loop-place.numbers j)) 1 (unsigned_abs c.args.f) (unsigned_abs (number_at c.args.pivot.now j)) _ _ _ most (c.requires.pivot j) c.requires.room)
+
+pub loop-place-preserved : goal.loop-place-preserved
+loop-place-preserved c =
+    let t = c.loop-place.place-index in
+    let places = c.args.places.now in
+    let j = slice_index_or places t 0 in
+    let inv = c.loop-place.invariant in
+    let zs = c.loop-place.numbers in
+    let new = c.subtract_at.new.numbers in
+    let told = c.subtract_at.ensures in
+    record {
+      width = ap length told ∙ length-set zs j _ ∙ inv.width;
+      rest = less_more _ c.args.pivot.now zs new _ places t c.loop-place-test.true told inv.rest;
+      left = λ k p low.
+          (let rises : j < slice_index_or places k 0 = rw c.requires.places (rising c.args.pivot.now t k (omega (arith, p)) (rw c.requires.places at low)) in
+          ap (λ (ws : List ℤ). number_at ws (slice_index_or places k 0)) told ∙ get_or-set_other zs j (slice_index_or places k 0) _ (pos 0) (λ e. omega (arith, rises, e)) ∙ inv.left k (omega (arith, p)) low);
+    }
 
 pub returns : goal.returns
 returns c =
+    let inv = c.loop-place.invariant in
+    let f = c.args.f in
+    let qs = c.args.pivot.now in
     let old = c.args.numbers.now in
-    let wide = length-mixed 1 c.args.f old c.args.pivot.now c.requires.width in
-    let over : length c.loop-i.numbers ≤ c.loop-i.i = omega arith in
-    let same = c.loop-i.invariant.width in
-    written_all (cross_difference 1 c.args.f old c.args.pivot.now) c.loop-i.numbers c.loop-i.i over (omega (arith, over, same, wide)) (rw (to_z-of_z w64 c.args.f c.ranges.f) at c.loop-i.invariant.mixed)
+    less_end f qs c.loop-place.numbers _ c.args.places.now c.loop-place.place-index (omega (arith, c.loop-place-test.false)) (rw (to_z-of_z w64 f c.ranges.f) at inv.rest)
+    ∙ ap (λ (js : List ℕ). less_at f qs js old) c.requires.places ∙ less_is f old qs c.requires.width

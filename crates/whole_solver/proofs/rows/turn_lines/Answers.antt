@@ -1,169 +1,99 @@
-use Rattle.std.proofs.Common.{◌≡◌, ◌<◌, ◌≤◌, [], ◌∙◌, refl, sym, ap, subst, arith, rules, length, set, slice_index_or, pos, unsigned_abs, FitsSigned, w64, ℕ, List, ℤ}
-use Rattle.std.proofs.lemmas.Int.{to_z-of_z}
-use Rattle.row_arena.proofs.Lists.{refit_is}
-use Rattle.compact_table.proofs.ArenaSteps.{at_set_same}
-use Rattle.whole_rows.specs.Lines.{Line, IsLine, AreSizes, number_at, widest}
-use Rattle.whole_rows.specs.Compact.{compact_cleared}
-use Rattle.whole_rows.specs.Turning.{cut}
+use Rattle.std.proofs.Common.{◌≡◌, ◌<◌, ◌≤◌, ◌*◌, ◌∙◌, sym, ap, subst, arith, length, set, ℕ, List, ℤ}
+use Rattle.whole_rows.specs.Lines.{Line, AreSizes, line_size, widest}
+use Rattle.std.proofs.lemmas.Bool.{le-leb}
+use Rattle.std.proofs.Math.Nat.{mul-le-mul}
 use Rattle.whole_rows.proofs.LineSteps.{cut_within}
-use Rattle.whole_rows.proofs.TurnSteps.{size_above, cut_above}
-use Rattle.whole_solver.specs.Rows.{line_in, lines_in, lines_after, row_at, pivot_line, AreLinesIn}
-use Rattle.whole_solver.proofs.Turned.{line_wider, pivot_within, lines_set, turned_rows}
+use Rattle.whole_rows.specs.Compact.{compact_cleared, turned_in}
+use Rattle.whole_rows.specs.Turning.{cut}
+use Rattle.whole_solver.specs.Rows.{line_in, lines_in, lines_after, row_at, pivot_line, AreLinesIn, AreSizesIn, nonzero_in}
+use Rattle.whole_solver.proofs.Turned.{line_wider, lines_set, placed, placed_size, sizes_in_set, turned_rows}
 use Rattle.whole_solver.proofs.rows.turn_lines.Goals as goal
 
-pub take_pivot-requires-clause-line : goal.take_pivot-requires-clause-line
-take_pivot-requires-clause-line c =
-    let w = length c.args.room.now in
-    subst (λ (z : List ℤ). IsLine widest w (line_in w z)) (sym c.row_mut.ensures.row)
-    (line_wider c.args.bound widest w _ c.requires.bound (c.requires.lines c.args.r c.requires.pivot.row))
+pub place_pivot-a-requires-clause-line : goal.place_pivot-a-requires-clause-line
+place_pivot-a-requires-clause-line c = line_wider c.args.bound widest (length c.args.room.now) _ c.requires.bound (c.requires.lines c.args.r c.requires.pivot.row)
 
-pub clear_front-requires-clause-pivot : goal.clear_front-requires-clause-pivot
-clear_front-requires-clause-pivot c =
+pub clear_objective-requires-clause-above : goal.clear_objective-requires-clause-above
+clear_objective-requires-clause-above c =
     let w = length c.args.room.now in
-    let rows = c.args.rows.now.rows in
-    let r = c.args.r in
-    let x = row_at rows r in
-    let y = c.take_pivot.new.row in
-    let l = cut (line_in w x) in
-    let A = unsigned_abs (number_at l.numbers c.args.c) in
-    let low = c.requires.pivot.row in
-    let is_x : c.row_mut.result.now ≡ x = c.row_mut.ensures.row in
-    let pivot : line_in w y ≡ pivot_line c.args.c A l =
-    c.take_pivot.ensures ∙ ap (λ (z : List ℤ). pivot_line c.args.c (unsigned_abs (number_at (cut (line_in w z)).numbers c.args.c)) (cut (line_in w z))) is_x in
-    let full : length y ≡ c.args.rows.now.width = omega (arith, c.row_mut.ensures.width, c.take_pivot.auto.row) in
-    let refit = refit_is c.args.rows.now.width x y full in
-    let at_r = ap (λ (z : List ℤ). row_at (set rows r z) r) refit ∙ at_set_same rows r y [] low in
-    let row1 : c.row.result.now ≡ y = c.row.ensures.row ∙ at_r in
-    let row2 : c.row-2.result.now ≡ y = c.row-2.ensures.row ∙ at_r in
-    let first = slice_index_or c.row.result.now 0 (pos 0) in
-    let fz : FitsSigned w64 first = search rules in
-    let size : c.unsigned_abs-a.result ≡ unsigned_abs first = simp to_z-of_z at c.unsigned_abs-a.ensures.value in
-    let a : c.unsigned_abs-a.result ≡ A = size ∙ ap (λ (z : List ℤ). unsigned_abs (number_at z 0)) row1 ∙ ap (λ (m : Line). m.denominator) pivot in
-    let before : IsLine c.args.bound w (line_in w x) = c.requires.lines r low in
-    let old : IsLine c.args.bound w l = cut_within c.args.bound w (line_in w x) before in
-    let above : 0 < A = (size_above (number_at l.numbers c.args.c) (cut_above (line_in w x) c.args.c before.positive c.requires.pivot.above)).1 in
-    let within = pivot_within c.args.bound w c.args.c l c.requires.column old above in
-    subst (λ (z : List ℤ). AreSizes c.args.bound (line_in w z).numbers) (sym row2) (subst (λ (m : Line). AreSizes c.args.bound m.numbers) (sym pivot) within.sizes)
+    let told = c.place_pivot-a.ensures in
+    let p = placed c.args.bound w c.args.c c.args.r c.place_pivot-a.result c.args.rows.now.rows (row_at c.place_pivot-a.new.rows.rows c.args.r) c.requires.column c.requires.pivot c.requires.lines told.denominator told.pivot in
+    let most = c.front_size-pivot_most.result in
+    (p.above, subst (λ (k : ℕ). k ≤ most) (ap (λ (m : Line). m.denominator) told.pivot) (subst (λ (z : List ℤ). (line_in w z).denominator ≤ most) c.row-pivot.ensures.row c.front_size-pivot_most.ensures.denominator))
 
-pub clear_front-requires-clause-above : goal.clear_front-requires-clause-above
-clear_front-requires-clause-above c =
-    let w = length c.args.room.now in
-    let rows = c.args.rows.now.rows in
-    let r = c.args.r in
-    let x = row_at rows r in
-    let y = c.take_pivot.new.row in
-    let l = cut (line_in w x) in
-    let A = unsigned_abs (number_at l.numbers c.args.c) in
-    let low = c.requires.pivot.row in
-    let is_x : c.row_mut.result.now ≡ x = c.row_mut.ensures.row in
-    let pivot : line_in w y ≡ pivot_line c.args.c A l =
-    c.take_pivot.ensures ∙ ap (λ (z : List ℤ). pivot_line c.args.c (unsigned_abs (number_at (cut (line_in w z)).numbers c.args.c)) (cut (line_in w z))) is_x in
-    let full : length y ≡ c.args.rows.now.width = omega (arith, c.row_mut.ensures.width, c.take_pivot.auto.row) in
-    let refit = refit_is c.args.rows.now.width x y full in
-    let at_r = ap (λ (z : List ℤ). row_at (set rows r z) r) refit ∙ at_set_same rows r y [] low in
-    let row1 : c.row.result.now ≡ y = c.row.ensures.row ∙ at_r in
-    let row2 : c.row-2.result.now ≡ y = c.row-2.ensures.row ∙ at_r in
-    let first = slice_index_or c.row.result.now 0 (pos 0) in
-    let fz : FitsSigned w64 first = search rules in
-    let size : c.unsigned_abs-a.result ≡ unsigned_abs first = simp to_z-of_z at c.unsigned_abs-a.ensures.value in
-    let a : c.unsigned_abs-a.result ≡ A = size ∙ ap (λ (z : List ℤ). unsigned_abs (number_at z 0)) row1 ∙ ap (λ (m : Line). m.denominator) pivot in
-    let before : IsLine c.args.bound w (line_in w x) = c.requires.lines r low in
-    let old : IsLine c.args.bound w l = cut_within c.args.bound w (line_in w x) before in
-    let above : 0 < A = (size_above (number_at l.numbers c.args.c) (cut_above (line_in w x) c.args.c before.positive c.requires.pivot.above)).1 in
-    let within = pivot_within c.args.bound w c.args.c l c.requires.column old above in
-    (subst (λ (k : ℕ). 0 < k) (sym a) above, subst (λ (k : ℕ). k ≤ c.args.bound) (sym a) (old.sizes c.args.c))
+pub clear_objective-requires-clause-below : goal.clear_objective-requires-clause-below
+clear_objective-requires-clause-below c =
+    let told = c.place_pivot-a.ensures in
+    let p = placed c.args.bound (length c.args.room.now) c.args.c c.args.r c.place_pivot-a.result c.args.rows.now.rows (row_at c.place_pivot-a.new.rows.rows c.args.r) c.requires.column c.requires.pivot c.requires.lines told.denominator told.pivot in
+    let low = p.below in
+    omega (arith, low, c.requires.bound)
 
 pub clear_rows-requires-clause-above : goal.clear_rows-requires-clause-above
 clear_rows-requires-clause-above c =
-    let w = length c.args.room.now in
-    let rows = c.args.rows.now.rows in
-    let r = c.args.r in
-    let x = row_at rows r in
-    let y = c.take_pivot.new.row in
-    let l = cut (line_in w x) in
-    let A = unsigned_abs (number_at l.numbers c.args.c) in
-    let low = c.requires.pivot.row in
-    let is_x : c.row_mut.result.now ≡ x = c.row_mut.ensures.row in
-    let pivot : line_in w y ≡ pivot_line c.args.c A l =
-    c.take_pivot.ensures ∙ ap (λ (z : List ℤ). pivot_line c.args.c (unsigned_abs (number_at (cut (line_in w z)).numbers c.args.c)) (cut (line_in w z))) is_x in
-    let full : length y ≡ c.args.rows.now.width = omega (arith, c.row_mut.ensures.width, c.take_pivot.auto.row) in
-    let refit = refit_is c.args.rows.now.width x y full in
-    let at_r = ap (λ (z : List ℤ). row_at (set rows r z) r) refit ∙ at_set_same rows r y [] low in
-    let row1 : c.row.result.now ≡ y = c.row.ensures.row ∙ at_r in
-    let row2 : c.row-2.result.now ≡ y = c.row-2.ensures.row ∙ at_r in
-    let first = slice_index_or c.row.result.now 0 (pos 0) in
-    let fz : FitsSigned w64 first = search rules in
-    let size : c.unsigned_abs-a.result ≡ unsigned_abs first = simp to_z-of_z at c.unsigned_abs-a.ensures.value in
-    let a : c.unsigned_abs-a.result ≡ A = size ∙ ap (λ (z : List ℤ). unsigned_abs (number_at z 0)) row1 ∙ ap (λ (m : Line). m.denominator) pivot in
-    let before : IsLine c.args.bound w (line_in w x) = c.requires.lines r low in
-    let old : IsLine c.args.bound w l = cut_within c.args.bound w (line_in w x) before in
-    let above : 0 < A = (size_above (number_at l.numbers c.args.c) (cut_above (line_in w x) c.args.c before.positive c.requires.pivot.above)).1 in
-    let within = pivot_within c.args.bound w c.args.c l c.requires.column old above in
-    (subst (λ (k : ℕ). 0 < k) (sym a) above, subst (λ (k : ℕ). k ≤ c.args.bound) (sym a) (old.sizes c.args.c))
+    let told = c.place_pivot-a.ensures in
+    let p = placed c.args.bound (length c.args.room.now) c.args.c c.args.r c.place_pivot-a.result c.args.rows.now.rows (row_at c.place_pivot-a.new.rows.rows c.args.r) c.requires.column c.requires.pivot c.requires.lines told.denominator told.pivot in
+    (p.above, p.below)
 
 pub clear_rows-requires-clause-lines : goal.clear_rows-requires-clause-lines
 clear_rows-requires-clause-lines c =
     let w = length c.args.room.now in
-    let rows = c.args.rows.now.rows in
+    let told = c.place_pivot-a.ensures in
+    let y = row_at c.place_pivot-a.new.rows.rows c.args.r in
+    let p = placed c.args.bound w c.args.c c.args.r c.place_pivot-a.result c.args.rows.now.rows y c.requires.column c.requires.pivot c.requires.lines told.denominator told.pivot in
+    let all = subst (AreLinesIn c.args.bound w) (sym told.rows) (lines_set c.args.bound w c.args.rows.now.rows c.args.r y c.requires.lines p.line) in
+    all
+
+pub clear_rows-requires-clause-pivot : goal.clear_rows-requires-clause-pivot
+clear_rows-requires-clause-pivot c =
+    (subst (λ (z : List ℤ). AreSizes c.front_size-pivot_most.result (line_in (length c.args.room.now) z).numbers) c.row-pivot.ensures.row c.front_size-pivot_most.ensures.numbers)
+
+pub clear_rows-requires-clause-places : goal.clear_rows-requires-clause-places
+clear_rows-requires-clause-places c =
+    (c.as_slice.ensures.value ∙ c.front_nonzero.ensures.places ∙ ap (λ (z : List ℤ). nonzero_in (line_in (length c.args.room.now) z).numbers) c.row-pivot.ensures.row)
+
+pub clear_rows-requires-clause-sizes : goal.clear_rows-requires-clause-sizes
+clear_rows-requires-clause-sizes c =
+    let w = length c.args.room.now in
     let r = c.args.r in
-    let x = row_at rows r in
-    let y = c.take_pivot.new.row in
-    let l = cut (line_in w x) in
-    let A = unsigned_abs (number_at l.numbers c.args.c) in
-    let low = c.requires.pivot.row in
-    let is_x : c.row_mut.result.now ≡ x = c.row_mut.ensures.row in
-    let pivot : line_in w y ≡ pivot_line c.args.c A l =
-    c.take_pivot.ensures ∙ ap (λ (z : List ℤ). pivot_line c.args.c (unsigned_abs (number_at (cut (line_in w z)).numbers c.args.c)) (cut (line_in w z))) is_x in
-    let full : length y ≡ c.args.rows.now.width = omega (arith, c.row_mut.ensures.width, c.take_pivot.auto.row) in
-    let refit = refit_is c.args.rows.now.width x y full in
-    let at_r = ap (λ (z : List ℤ). row_at (set rows r z) r) refit ∙ at_set_same rows r y [] low in
-    let row1 : c.row.result.now ≡ y = c.row.ensures.row ∙ at_r in
-    let row2 : c.row-2.result.now ≡ y = c.row-2.ensures.row ∙ at_r in
-    let first = slice_index_or c.row.result.now 0 (pos 0) in
-    let fz : FitsSigned w64 first = search rules in
-    let size : c.unsigned_abs-a.result ≡ unsigned_abs first = simp to_z-of_z at c.unsigned_abs-a.ensures.value in
-    let a : c.unsigned_abs-a.result ≡ A = size ∙ ap (λ (z : List ℤ). unsigned_abs (number_at z 0)) row1 ∙ ap (λ (m : Line). m.denominator) pivot in
-    let before : IsLine c.args.bound w (line_in w x) = c.requires.lines r low in
-    let old : IsLine c.args.bound w l = cut_within c.args.bound w (line_in w x) before in
-    let above : 0 < A = (size_above (number_at l.numbers c.args.c) (cut_above (line_in w x) c.args.c before.positive c.requires.pivot.above)).1 in
-    let within = pivot_within c.args.bound w c.args.c l c.requires.column old above in
-    let all : AreLinesIn c.args.bound w (set rows r y) = lines_set c.args.bound w rows r y c.requires.lines (subst (IsLine c.args.bound w) (sym pivot) within) in
-    let same = c.clear_front.auto.room in
-    rw (refit, same) all
+    let old = c.args.rows.now.rows in
+    let most = c.front_size-pivot_most.result in
+    let sizes = c.args.sizes.now in
+    let y = row_at c.place_pivot-a.new.rows.rows r in
+    let size : AreSizes most (line_in w y).numbers = subst (λ (z : List ℤ). AreSizes most (line_in w z).numbers) c.row-pivot.ensures.row c.front_size-pivot_most.ensures.numbers in
+    let inside : r < length sizes = omega (arith, c.requires.pivot.row, c.requires.count) in
+    let all = subst (AreSizesIn (set sizes r most) w) (sym c.place_pivot-a.ensures.rows) (sizes_in_set w old sizes r y most c.requires.sizes inside size) in
+    all
 
 pub returns-clause-turned : goal.returns-clause-turned
 returns-clause-turned c done =
     let w = length c.args.room.now in
-    let rows = c.args.rows.now.rows in
+    let k = c.args.c in
     let r = c.args.r in
-    let x = row_at rows r in
-    let y = c.take_pivot.new.row in
-    let l = cut (line_in w x) in
-    let A = unsigned_abs (number_at l.numbers c.args.c) in
-    let low = c.requires.pivot.row in
-    let is_x : c.row_mut.result.now ≡ x = c.row_mut.ensures.row in
-    let pivot : line_in w y ≡ pivot_line c.args.c A l =
-    c.take_pivot.ensures ∙ ap (λ (z : List ℤ). pivot_line c.args.c (unsigned_abs (number_at (cut (line_in w z)).numbers c.args.c)) (cut (line_in w z))) is_x in
-    let full : length y ≡ c.args.rows.now.width = omega (arith, c.row_mut.ensures.width, c.take_pivot.auto.row) in
-    let refit = refit_is c.args.rows.now.width x y full in
-    let at_r = ap (λ (z : List ℤ). row_at (set rows r z) r) refit ∙ at_set_same rows r y [] low in
-    let row1 : c.row.result.now ≡ y = c.row.ensures.row ∙ at_r in
-    let row2 : c.row-2.result.now ≡ y = c.row-2.ensures.row ∙ at_r in
-    let first = slice_index_or c.row.result.now 0 (pos 0) in
-    let fz : FitsSigned w64 first = search rules in
-    let size : c.unsigned_abs-a.result ≡ unsigned_abs first = simp to_z-of_z at c.unsigned_abs-a.ensures.value in
-    let a : c.unsigned_abs-a.result ≡ A = size ∙ ap (λ (z : List ℤ). unsigned_abs (number_at z 0)) row1 ∙ ap (λ (m : Line). m.denominator) pivot in
-    let before : IsLine c.args.bound w (line_in w x) = c.requires.lines r low in
-    let old : IsLine c.args.bound w l = cut_within c.args.bound w (line_in w x) before in
-    let above : 0 < A = (size_above (number_at l.numbers c.args.c) (cut_above (line_in w x) c.args.c before.positive c.requires.pivot.above)).1 in
-    let within = pivot_within c.args.bound w c.args.c l c.requires.column old above in
-    let from = set rows r y in
+    let old = c.args.rows.now.rows in
     let new = c.clear_rows.new.rows.rows in
-    let same = c.clear_front.auto.room in
-    let told = rw (refit, same) at (c.clear_rows.ensures.cleared done) in
-    let h = told ∙ ap (λ (q : ℕ). lines_after c.args.c q r (line_in w (row_at from r)).numbers 0 (lines_in w from)) a in
-    let numbers = ap (λ (z : List ℤ). (line_in w z).numbers) row2 ∙ ap (λ (m : Line). m.numbers) pivot in
+    let from = c.place_pivot-a.new.rows.rows in
+    let l = cut (line_in w (row_at old r)) in
+    let is = c.place_pivot-a.ensures in
+    let a = c.place_pivot-a.result in
+    let told : lines_in w new ≡ lines_after k a r (line_in w (row_at from r)).numbers 0 (lines_in w from) = c.clear_rows.ensures.cleared done in
+    let turned = turned_rows w k r a old new from (row_at from r) l c.requires.pivot.row is.rows is.pivot told in
+    let numbers = ap (λ (z : List ℤ). (line_in w z).numbers) c.row-pivot.ensures.row ∙ ap (λ (m : Line). m.numbers) is.pivot in
     record {
-      rows = turned_rows w c.args.c r A rows new from y l low refl pivot h;
-      objective = c.clear_front.ensures.cleared c.if-not-clear_front.false ∙ (λ i. compact_cleared c.args.c (a i) (numbers i) (line_in w c.args.objective.now));
+      rows = subst (λ (q : ℕ). lines_in w new ≡ lines_after k q r (turned_in k l) 0 (set (lines_in w old) r (pivot_line k q l))) is.denominator turned;
+      objective = c.clear_objective.ensures.cleared c.if-not-clear_objective.false ∙ (λ i. compact_cleared k (is.denominator i) (numbers i) (line_in w c.args.objective.now));
     }
+
+pub returns-clause-fits : goal.returns-clause-fits
+returns-clause-fits c done =
+    let w = length c.args.room.now in
+    let r = c.args.r in
+    let x = line_in w (row_at c.args.rows.now.rows r) in
+    let told = c.place_pivot-a.ensures in
+    let y = row_at c.place_pivot-a.new.rows.rows r in
+    let most = c.front_size-pivot_most.result in
+    let sizes = subst (λ (z : List ℤ). AreSizes most (line_in w z).numbers) c.row-pivot.ensures.row c.front_size-pivot_most.ensures.numbers in
+    let low = subst (λ (k : ℕ). k ≤ most) (ap (λ (m : Line). m.denominator) told.pivot) (subst (λ (z : List ℤ). (line_in w z).denominator ≤ most) c.row-pivot.ensures.row c.front_size-pivot_most.ensures.denominator) in
+    let small = placed_size c.args.bound w c.args.c c.place_pivot-a.result most (cut x) y (cut_within c.args.bound w x (c.requires.lines r c.requires.pivot.row)) c.requires.column told.denominator told.pivot sizes low in
+    let size = line_size (line_in w c.args.objective.now) in
+    let less : size * line_size (cut x) ≤ size * most = mul-le-mul (omega arith) small in
+    let room = c.clear_objective.ensures.fits c.if-not-clear_objective.false in
+    le-leb _ c.args.limit (omega (arith, less, room))

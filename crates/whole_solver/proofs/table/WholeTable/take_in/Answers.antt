@@ -56,7 +56,8 @@ returns-clause-table g c done =
     let basics = inv.basics ∙ take_all i table.basics.items (omega (arith, high, same, many)) in
     let rows = inv.rows ∙ take_all i (map taken_in lists) (omega (arith, high, many, length-map lists taken_in)) in
     let count = inv.count in
-    (λ k. table_of (inv.names k) (basics k) self.rows.rows self.objective.items)
+    c.keep_sizes.ensures.table
+    ∙ (λ k. table_of (inv.names k) (basics k) self.rows.rows self.objective.items)
     ∙ table_taken table.kept.items table.basics.items lists (objective_of f table) self.rows.rows self.objective.items same (omega (arith, count, high, reached, many))
     (ap (λ (ns : List ℕ). lines_in (length ns + 1) self.rows.rows) (sym inv.names) ∙ rows)
     (ap (λ (ns : List ℕ). line_in (length ns + 1) self.objective.items) (sym inv.names) ∙ inv.objective)

@@ -1,7 +1,9 @@
-use Rattle.std.proofs.Common.{◌∙◌, ap, sym, arith, refl}
+use Rattle.std.proofs.Common.{◌≡◌, ◌∙◌, ap, sym, subst, arith, refl, true}
 use Rattle.std.specs.Prelude.{Some}
+use Rattle.whole_rows.specs.Lines.{Line}
+use Rattle.whole_rows.specs.Turning.{cut, mix_fits}
 use Rattle.whole_solver.specs.Tables.{as_whole}
-use Rattle.whole_solver.proofs.Pivoting.{pivot_there, turn_none, turn_pivots}
+use Rattle.whole_solver.proofs.Pivoting.{line_there, pivot_there, turn_fits, turn_none, turn_pivots}
 use Rattle.whole_solver.proofs.table.WholeTable.turn.Goals as goal
 
 pub pivot-requires-clause-pivot : goal.pivot-requires-clause-pivot
@@ -15,4 +17,11 @@ returns-in-None-clause-turn c = (turn_none c.args.c (as_whole c.args.self.now) (
 pub returns-then-pivot-clause-turn : goal.returns-then-pivot-clause-turn
 returns-then-pivot-clause-turn c =
     let place = sym c.leaving.ensures ∙ c.in-Some.is in
-    (turn_pivots c.args.c c.in-Some.r (as_whole c.args.self.now) place ∙ ap Some (sym (c.pivot.ensures.table c.if-pivot.true)), c.pivot.ensures.within c.if-pivot.true)
+    let t = c.args.self.now in
+    let p = pivot_there c.args.c c.in-Some.r t.names.items t.basics.items t.rows.rows t.objective.items (omega (arith, t.count, t.basics.ok)) place in
+    let line = line_there t.names.items t.basics.items t.rows.rows c.in-Some.r (omega (arith, t.count, t.basics.ok)) p.row in
+    let fits = subst (λ (l : Line). mix_fits c.args.limit (as_whole t).objective (cut l) ≡ true) (sym line) (c.pivot.ensures.fits c.if-pivot.true) in (
+      turn_pivots c.args.c c.in-Some.r (as_whole t) place ∙ ap Some (sym (c.pivot.ensures.table c.if-pivot.true)),
+      turn_fits c.args.limit c.args.c c.in-Some.r (as_whole t) place fits,
+      c.pivot.ensures.within c.if-pivot.true,
+    )

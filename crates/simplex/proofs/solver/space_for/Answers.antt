@@ -6,7 +6,7 @@ use Rattle.compact_table.proofs.EntrySteps.{at-map}
 use Rattle.simplex.specs.Programs.{as_program}
 use Rattle.simplex.specs.Spaces.{Workspace, Contents, given, program_given, IsProgramGiven}
 use Rattle.simplex.proofs.SolveSteps.{no_row, one_row_more, all_rows}
-use Rattle.simplex.proofs.solver.filled.Goals as goal
+use Rattle.simplex.proofs.solver.space_for.Goals as goal
 
 pub loop-i-init : goal.loop-i-init
 loop-i-init g c =

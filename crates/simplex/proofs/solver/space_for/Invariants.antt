@@ -2,7 +2,7 @@ use Rattle.std.proofs.Common.{◌≡◌, ◌*◌, drop}
 use Rattle.simplex.specs.Programs.{as_program}
 use Rattle.simplex.specs.Spaces.{given}
 use Rattle.simplex.proofs.SolveSteps.{front_of_program}
-use Rattle.simplex.proofs.solver.filled.Given as goal
+use Rattle.simplex.proofs.solver.space_for.Given as goal
 
 -- the rows before i are given, and `left` has the coefficients of the rest
 abbrev pub invariant-loop-i : goal.invariant-loop-i

@@ -3,7 +3,7 @@ use Rattle.std.proofs.lemmas.Nat.Gcd.{le_of_dvd}
 use Rattle.arithmetic.specs.Gcd.{gcd}
 use Rattle.arithmetic.proofs.GcdLaws.{gcd_dvd_right, gcd_pos_right}
 use Rattle.whole_solver.proofs.Numbers.{gcd_of_multiple}
-use Rattle.whole_solver.proofs.line.shared.Goals as goal
+use Rattle.whole_solver.proofs.line.common_with.Goals as goal
 
 pub returns-then-size-found-eq0-clause-value : goal.returns-then-size-found-eq0-clause-value
 returns-then-size-found-eq0-clause-value c = sym (gcd_of_multiple c.args.size c.args.found c.if-size-found-eq0.true)

@@ -1,0 +1,14 @@
+use Rattle.std.proofs.Common.{◌≡◌, ◌≤◌, ◌++◌, map, drop, vec_len, vec_capacity}
+use Rattle.exact_num.specs.Fraction.{whole}
+use Rattle.compact_table.specs.Nonzero.{nonzero_from}
+use Rattle.whole_solver.specs.Rows.{nonzero_in}
+use Rattle.whole_solver.proofs.line.list_nonzero.Given as goal
+
+-- the places before j are there
+abbrev pub invariant-loop-j : goal.invariant-loop-j
+invariant-loop-j l =
+    record {
+      places : l.places.items ++ nonzero_from l.j (drop l.j (map whole l.numbers)) ≡ nonzero_in l.numbers;
+      few : vec_len l.places ≤ l.j;
+      room : vec_capacity l.fn.places ≤ vec_capacity l.places;
+    }
