@@ -17,3 +17,4 @@ pub mod LegSteps
 pub mod EqualBundles
 pub mod MadeBundles
 pub mod OneOption
+pub mod NothingAdded

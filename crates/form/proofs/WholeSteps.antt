@@ -1,12 +1,17 @@
 -- What a checked operation of 128 bits gives, as a step with a limit.
-use Rattle.std.proofs.Common.{◌≡◌, ℕ, suc, ◌-◌, ◌^◌, ◌≤◌, Bool, true, false, Option, Some, None, option_and_then, FitsSigned, negsuc, ℤ, pos, if◌then◌else◌, Ok, Err, arith, refl}
+use Rattle.std.proofs.Common.{◌≡◌, ℕ, suc, ◌-◌, ◌^◌, ◌≤◌, Bool, true, false, Option, Some, None, option_and_then, FitsSigned, w32, w64, negsuc, ℤ, pos, ◌+ℤ◌, ◌*ℤ◌, unsigned_abs, to_z, of_z, if◌then◌else◌, Ok, Err, arith, refl, sym, subst, ◌∙◌}
 use Rattle.std.specs.Prelude.{nat_le}
+use Rattle.std.proofs.Math.Nat.{mul-le-mul}
+use Rattle.std.proofs.lemmas.Bool.{le-leb}
+use Rattle.std.proofs.lemmas.Int.{fits_signed_from_abs, ints, to_z-of_z, unsigned_abs-mul}
 use Rattle.std.specs.Option.{SomeIff, ok_or}
 use mir.Syntax.{w128}
 use Rattle.std.proofs.lemmas.Bool.Decides.{nat_tests}
 use Rattle.exact_num.specs.declared.misfit.Wide.{Wide}
 use Rattle.exact_num.specs.Fraction.{whole}
-use Rattle.exact_num.specs.Fits.{size_fits, meaning}
+use Rattle.exact_num.specs.Fits.{size_fits, meaning, add_of, mul_of}
+use Rattle.exact_num.specs.Steps.{plus_product}
+use Rattle.exact_num.proofs.WholeNumbers.{add-wholes, mul-wholes}
 
 -- the number that is asked for, where it fits
 abbrev pub fitted : ℕ → Option ℤ → Option ℤ
@@ -32,3 +37,60 @@ checked_step None z w h = rw (too_large z h) refl
     too_large : (z : ℤ) → (FitsSigned w128 z → ⊥) → size_fits (2 ^ 127 - 1) z ≡ false
     too_large (pos n) h = not_true _ (λ t. h (record { sfits = omega (arith, at_most n (2 ^ 127 - 1) t) }))
     too_large (negsuc n) h = not_true _ (λ t. h (record { sfits = omega (arith, at_most (suc n) (2 ^ 127 - 1) t) }))
+
+-- ---- steps that fit
+product_is : (a b : ℤ) → unsigned_abs (a *ℤ b) ≤ 2 ^ 126 → mul_of (2 ^ 127 - 1) (whole a) (whole b) ≡ Ok (whole (a *ℤ b))
+product_is a b small =
+    let fits : size_fits (2 ^ 127 - 1) (a *ℤ b) ≡ true = le-leb _ (2 ^ 127 - 1) (omega (arith, small)) in
+    mul-wholes (2 ^ 127 - 1) a b (omega arith) ∙ rw fits refl
+
+sum_is : (t p : ℤ) → unsigned_abs t ≤ 2 ^ 126 → unsigned_abs p ≤ 2 ^ 94 → add_of (2 ^ 127 - 1) (whole t) (whole p) ≡ Ok (whole (t +ℤ p))
+sum_is t p small shorter =
+    let fits : size_fits (2 ^ 127 - 1) (t +ℤ p) ≡ true = le-leb _ (2 ^ 127 - 1) (omega (arith, ints, small, shorter)) in
+    add-wholes (2 ^ 127 - 1) t p (omega arith) (omega (arith, small)) (omega (arith, shorter)) ∙ rw fits refl
+
+-- ---- numbers of 64 bits, and of 32
+size_64 : (a : ℤ) → FitsSigned w64 a → unsigned_abs a ≤ 2 ^ 63
+size_64 (pos n) p = omega (arith, p.sfits)
+size_64 (negsuc n) p = omega (arith, p.sfits)
+
+size_32 : (a : ℤ) → FitsSigned w32 a → unsigned_abs a ≤ 2 ^ 31
+size_32 (pos n) p = omega (arith, p.sfits)
+size_32 (negsuc n) p = omega (arith, p.sfits)
+
+pub short_product : (a b : ℤ) → FitsSigned w64 a → FitsSigned w64 b → unsigned_abs (a *ℤ b) ≤ 2 ^ 126
+short_product a b p q = subst (λ w. w ≤ 2 ^ 126) (sym (unsigned_abs-mul a b)) (mul-le-mul (size_64 a p) (size_64 b q))
+
+pub shorter_product : (a x : ℤ) → FitsSigned w64 a → FitsSigned w32 x → unsigned_abs (a *ℤ x) ≤ 2 ^ 94
+shorter_product a x p q = subst (λ w. w ≤ 2 ^ 94) (sym (unsigned_abs-mul a x)) (mul-le-mul (size_64 a p) (size_32 x q))
+
+pub short_product_is : (a b : ℤ) → FitsSigned w64 a → FitsSigned w64 b → mul_of (2 ^ 127 - 1) (whole a) (whole b) ≡ Ok (whole (a *ℤ b))
+short_product_is a b p q = product_is a b (short_product a b p q)
+
+pub add_shorter_is : (t a x : ℤ) → unsigned_abs t ≤ 2 ^ 126 → FitsSigned w64 a → FitsSigned w32 x → plus_product (2 ^ 127 - 1) (whole t) (whole a) (whole x) ≡ Ok (whole (t +ℤ (a *ℤ x)))
+add_shorter_is t a x small p q =
+    let product = shorter_product a x p q in
+    rw (product_is a x (omega (arith, product))) (sum_is t (a *ℤ x) small product)
+
+-- ---- what is read of them in 128 bits
+product_read : (x y a b : ℤ) → unsigned_abs a ≤ 2 ^ 63 → unsigned_abs b ≤ 2 ^ 63 → unsigned_abs (a *ℤ b) ≤ 2 ^ 126 → x ≡ a → y ≡ b
+    → to_z w128 (of_z w128 (to_z w128 (of_z w128 x) *ℤ to_z w128 (of_z w128 y))) ≡ a *ℤ b
+product_read x y a b p q product x_is y_is =
+    let left : FitsSigned w128 a = fits_signed_from_abs w128 a (omega (arith, p)) in
+    let right : FitsSigned w128 b = fits_signed_from_abs w128 b (omega (arith, q)) in
+    let all : FitsSigned w128 (a *ℤ b) = fits_signed_from_abs w128 (a *ℤ b) (omega (arith, product)) in
+    rw (x_is, y_is, to_z-of_z w128 a left, to_z-of_z w128 b right) (to_z-of_z w128 (a *ℤ b) all)
+
+pub short_product_read : (x y a b : ℤ) → FitsSigned w64 a → FitsSigned w64 b → x ≡ to_z w64 (of_z w64 a) → y ≡ to_z w64 (of_z w64 b)
+    → to_z w128 (of_z w128 (to_z w128 (of_z w128 x) *ℤ to_z w128 (of_z w128 y))) ≡ a *ℤ b
+short_product_read x y a b p q x_is y_is = product_read x y a b (size_64 a p) (size_64 b q) (short_product a b p q) (x_is ∙ to_z-of_z w64 a p) (y_is ∙ to_z-of_z w64 b q)
+
+pub add_shorter_read : (t x y a b : ℤ) → unsigned_abs t ≤ 2 ^ 126 → FitsSigned w64 a → FitsSigned w32 b → x ≡ to_z w64 (of_z w64 a) → y ≡ to_z w32 (of_z w32 b)
+    → to_z w128 (of_z w128 (to_z w128 (of_z w128 t) +ℤ to_z w128 (of_z w128 (to_z w128 (of_z w128 x) *ℤ to_z w128 (of_z w128 y))))) ≡ t +ℤ (a *ℤ b)
+add_shorter_read t x y a b small p q x_is y_is =
+    let product = shorter_product a b p q in
+    let total : FitsSigned w128 t = fits_signed_from_abs w128 t (omega (arith, small)) in
+    let all : FitsSigned w128 (t +ℤ (a *ℤ b)) = fits_signed_from_abs w128 _ (omega (arith, ints, small, product)) in
+    let shorter = size_32 b q in
+    rw (product_read x y a b (size_64 a p) (omega (arith, shorter)) (omega (arith, product)) (x_is ∙ to_z-of_z w64 a p) (y_is ∙ to_z-of_z w32 b q), to_z-of_z w128 t total)
+    (to_z-of_z w128 (t +ℤ (a *ℤ b)) all)

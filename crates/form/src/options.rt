@@ -1,6 +1,6 @@
 //! Calls and puts.
 
-ghost use Rattle.std.specs.Prelude.{◌≡◌, ◌≤◌, ◌≢◌, length, map, neg_ℤ};
+ghost use Rattle.std.specs.Prelude.{◌≡◌, ◌≤◌, ◌≢◌, length, neg_ℤ};
 ghost use Rattle.form.specs.Vector.{call_of, put_of};
 ghost use Rattle.form.specs.Payoff.{option_of};
 

@@ -1,6 +1,6 @@
 //! What options and bundles pay at states.
 
-ghost use Rattle.std.specs.Prelude.{◌≡◌, ◌≤◌, unsigned_abs, option_and_then, if◌then◌else◌, IfOk};
+ghost use Rattle.std.specs.Prelude.{◌≡◌, ◌≤◌, ◌+◌, ◌^◌, Ok, unsigned_abs, option_and_then, if◌then◌else◌, IfOk, IfSome};
 ghost use Rattle.exact_num.specs.Fraction.{whole};
 ghost use Rattle.exact_num.specs.Limit.{limit};
 ghost use Rattle.exact_num.specs.Fits.{add_of, meaning, misfit, mul_of, size_fits};
@@ -23,11 +23,48 @@ pub fn payoff(form: &Form, state: &State) -> Result<i128, Wide>
         ≡ payoff_of limit (option_of form.now) (vector_of state.now) }
     ensures fits { IfOk result (λ h. unsigned_abs h ≤ limit) }
 {
+    match short_payoff(form, state) {
+        Some(payoff) => Ok(payoff),
+        None => payoff_by_steps(form, state),
+    }
+}
+
+/// The same where each entry of the state is of 32 bits: then each step fits, and none is tested.
+fn short_payoff(form: &Form, state: &State) -> Option<i128>
+    requires { form.now.count ≡ state.now.count }
+    ensures payoff { IfSome result (λ h. Ok (whole h)
+        ≡ payoff_of limit (option_of form.now) (vector_of state.now)) }
+    ensures fits { IfSome result (λ h. unsigned_abs h ≤ limit) }
+{
+    let mut total: i128 = 0;
+    for i in 0..form.count as usize {
+        let entry = i32::try_from(state.entries[i]).ok()?;
+        total = add_short_product(total, form.entries[i], entry);
+    }
+    Some(total.max(0))
+}
+
+/// The same, whatever the entries.
+fn payoff_by_steps(form: &Form, state: &State) -> Result<i128, Wide>
+    requires { form.now.count ≡ state.now.count }
+    ensures payoff { meaning whole result
+        ≡ payoff_of limit (option_of form.now) (vector_of state.now) }
+    ensures fits { IfOk result (λ h. unsigned_abs h ≤ limit) }
+{
     let mut total: i128 = 0;
     for i in 0..form.count as usize {
         total = add_product(total, form.entries[i], state.entries[i])?;
     }
     Ok(total.max(0))
+}
+
+/// The total and the product of the two numbers, which fit.
+fn add_short_product(total: i128, a: i64, x: i32) -> i128
+    requires { unsigned_abs total ≤ 2 ^ 126 }
+    ensures sum { Ok (whole result) ≡ plus_product limit (whole total) (whole a) (whole x) }
+    ensures size { unsigned_abs result ≤ unsigned_abs total + 2 ^ 94 }
+{
+    total + i128::from(a) * i128::from(x)
 }
 
 /// What the bundle pays at the state: the sum of each leg's count times its payoff, which may be below 0. `Wide` comes
@@ -63,16 +100,27 @@ fn add_product(total: i128, a: i64, x: i128) -> Result<i128, Wide>
     ensures sum { meaning whole result ≡ plus_product limit (whole total) (whole a) (whole x) }
     ensures fits { IfOk result (λ s. unsigned_abs s ≤ limit) }
 {
-    let product = whole_product(a.into(), x)?;
+    let product = whole_product(a, x)?;
     whole_sum(total, product)
 }
 
-/// The product of two whole numbers, as exact numbers of 128 bits have it.
-fn whole_product(a: i128, b: i128) -> Result<i128, Wide>
+/// The product of two whole numbers, as exact numbers of 128 bits have it. Of two numbers of 64 bits each fits.
+fn whole_product(a: i64, b: i128) -> Result<i128, Wide>
     ensures product { meaning whole result ≡ mul_of limit (whole a) (whole b) }
     ensures fits { IfOk result (λ p. unsigned_abs p ≤ limit) }
 {
-    fitting(a.checked_mul(b)).ok_or(wide(Operator::Mul, a, b))
+    match i64::try_from(b) {
+        Ok(b) => Ok(i128::from(a) * i128::from(b)),
+        Err(_) => checked_product(a.into(), b),
+    }
+}
+
+/// The same, whatever their sizes.
+fn checked_product(a: i128, b: i128) -> Result<i128, Wide>
+    ensures product { meaning whole result ≡ mul_of limit (whole a) (whole b) }
+    ensures fits { IfOk result (λ p. unsigned_abs p ≤ limit) }
+{
+    within_limit(a.checked_mul(b)).ok_or(wide(Operator::Mul, a, b))
 }
 
 /// The sum of two whole numbers, likewise.
@@ -82,11 +130,11 @@ fn whole_sum(a: i128, b: i128) -> Result<i128, Wide>
     ensures sum { meaning whole result ≡ add_of limit (whole a) (whole b) }
     ensures fits { IfOk result (λ s. unsigned_abs s ≤ limit) }
 {
-    fitting(a.checked_add(b)).ok_or(wide(Operator::Add, a, b))
+    within_limit(a.checked_add(b)).ok_or(wide(Operator::Add, a, b))
 }
 
 /// The number, where there is one and its size is at most `2^127 - 1`.
-fn fitting(number: Option<i128>) -> Option<i128>
+fn within_limit(number: Option<i128>) -> Option<i128>
     ensures { result ≡ option_and_then (λ n. if size_fits limit n then Some n else None) number }
 {
     match number {

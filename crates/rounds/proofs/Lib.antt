@@ -11,3 +11,4 @@ pub mod Stops
 pub mod WorkedRuns
 pub mod Wider
 pub mod EnoughUnits
+pub mod ShortEntry

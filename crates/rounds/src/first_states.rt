@@ -1,5 +1,5 @@
 //! The states that a run begins with.
-ghost use Rattle.std.specs.Prelude.{◌≡◌, ◌+◌, ◌≤◌, ◌<◌, map, replicate, set, vec_capacity, vec_len};
+ghost use Rattle.std.specs.Prelude.{◌≡◌, ◌+◌, ◌≤◌, ◌<◌, map, replicate, set, vec_capacity};
 ghost use Rattle.std.specs.List.{All};
 ghost use Rattle.form.specs.States.{vector_of};
 ghost use Rattle.master_program.specs.Master.{zero_prices};

@@ -1,5 +1,5 @@
 //! The master program of a batch, given to a space row by row.
-ghost use Rattle.std.specs.Prelude.{◌≡◌, ◌≤◌, ◌+◌, ◌^◌, ◌-◌, Ok, length, map, unsigned_abs, vec_capacity};
+ghost use Rattle.std.specs.Prelude.{◌≤◌, ◌+◌, ◌^◌, ◌-◌, Ok, length, map, unsigned_abs, vec_capacity};
 ghost use Rattle.std.specs.List.{All};
 ghost use Rattle.exact_num.specs.Fits.{after};
 ghost use Rattle.form.specs.Payoff.{IsOnCount};

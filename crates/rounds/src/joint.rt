@@ -22,7 +22,7 @@ pub struct Joint<N> {
 }
 
 /// What was read off, with its cover.
-pub(crate) fn covered<N>(reading: Reading<N>, cover: Cover) -> Joint<N>
+pub(crate) fn joint_with<N>(reading: Reading<N>, cover: Cover) -> Joint<N>
     ensures { result ≡ joint_with reading cover }
 {
     let Reading {

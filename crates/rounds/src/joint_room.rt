@@ -1,6 +1,5 @@
 //! What a joint solve works in.
-ghost use Rattle.std.specs.Prelude.{ℕ, ◌≡◌, ◌≤◌, ◌<◌, ◌+◌, IfOk, OnOk, map, vec_capacity, vec_len};
-ghost use Rattle.std.specs.List.{All};
+ghost use Rattle.std.specs.Prelude.{ℕ, ◌≡◌, ◌≤◌, ◌<◌, ◌+◌, IfOk, OnOk};
 ghost use Rattle.form.specs.Limits.{IsWithinLimits};
 ghost use Rattle.sign_tree.specs.Legs.{leg_count};
 ghost use Rattle.rounds.specs.Rooms.{IsJointRoom};
@@ -69,7 +68,7 @@ fn rounds_room<N: Exact>(
     })
 }
 
-// Makes it room for a batch on one underlying.
+// Makes it room for a batch on one underlying, and gives back the room for searches.
 fn renew_line<N: Exact>(
     room: &mut JointRoom<N>,
     alloc: Global,
@@ -146,7 +145,8 @@ impl<N: Exact> JointRoom<N> {
     }
 
     /// Makes it room for the joint solve of this batch with at most so many units: its programs and rows stay where they are
-    /// large enough, and the lists that a solve takes out are taken anew. The error is want of memory.
+    /// large enough, and the lists that a solve takes out are taken anew. A batch on one underlying needs no room for
+    /// searches, so that is given back, and taken anew for the next batch on several. The error is want of memory.
     pub fn renew(&mut self, alloc: Global, batch: &Batch, units: u32) -> Result<(), AllocError>
         requires limits { IsWithinLimits batch.now }
         requires units { units ≤ MAX_UNITS }

@@ -121,7 +121,11 @@ fn claimed_by<N: Exact>(joint: &Joint<N>, mut fills: Vec<Frac128>) -> Claimed
 }
 
 /// The numbers of a solution in 128 bits, where each step of the tests on them fits.
-fn judged<N: Exact>(batch: &Batch, joint: &Joint<N>, room: &mut SumsRoom) -> Result<Claimed, Wide>
+fn tested_claim<N: Exact>(
+    batch: &Batch,
+    joint: &Joint<N>,
+    room: &mut SumsRoom,
+) -> Result<Claimed, Wide>
     requires forms { HasItsForms batch.now }
     requires joint { IsJointOf batch.now joint.now }
     requires room { IsSumsRoom batch.now room.old }
@@ -154,7 +158,7 @@ pub(crate) fn certify<N: Exact>(
     requires room { IsSumsRoom batch.now room.old }
     ensures { IsJudgedAnswer N.fraction N.fraction batch.now joint (as_stopped result) unit }
 {
-    match judged(batch, &joint, room) {
+    match tested_claim(batch, &joint, room) {
         Ok(_) => Ok(joint),
         Err(wide) => Err(RunStop::Wide { unit, wide }),
     }
@@ -173,7 +177,7 @@ pub fn judge_in<N: Exact>(
     requires room { IsSumsRoom batch.now room }
     ensures { IsJudgedAnswer N.fraction fraction_of batch.now joint (as_stopped result) unit }
 {
-    match judged(batch, &joint, &mut room) {
+    match tested_claim(batch, &joint, &mut room) {
         Ok(wide) => Ok(Joint {
             fills: wide.fills,
             liability: wide.claim.liability,

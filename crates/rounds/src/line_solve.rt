@@ -5,7 +5,7 @@ ghost use Rattle.rounds.specs.Answers.{IsJointAnswer, IsJointOf, as_stopped, lim
 ghost use Rattle.rounds.specs.Rooms.{IsLineRoom};
 ghost use Rattle.rounds.specs.Run.{unjudged_run};
 
-use crate::joint::{Joint, covered};
+use crate::joint::{Joint, joint_with};
 use crate::master_solve::solve_over;
 use crate::solve_room::{SolveRoom, reading_in};
 use cert_check::Cover;
@@ -31,5 +31,5 @@ pub(crate) fn solve_line<N: Exact>(
 {
     let (_first, later) = states.split_at(1);
     let read = solve_over(batch, later, budget, solve)?;
-    Ok(covered(reading_in(solve, read), Cover::Line))
+    Ok(joint_with(reading_in(solve, read), Cover::Line))
 }

@@ -1,5 +1,5 @@
 //! The rows of the master program of a batch over the states of its market.
-ghost use Rattle.std.specs.Prelude.{◌≡◌, ◌≤◌, ◌+◌, ◌^◌, ◌-◌, ◌*ℤ◌, [], IfOk, OnOk, pos, length, map, unsigned_abs, vec_capacity, vec_len};
+ghost use Rattle.std.specs.Prelude.{◌≡◌, ◌≤◌, ◌+◌, ◌^◌, ◌-◌, ◌-ℤ◌, ◌*ℤ◌, [], true, IfOk, OnOk, pos, length, map, unsigned_abs, vec_capacity, vec_len};
 ghost use Rattle.std.specs.List.{All};
 ghost use Rattle.exact_num.specs.Fits.{meaning, whole_of};
 ghost use Rattle.exact_num.specs.Fraction.{IsNotBelowZero, whole};
@@ -9,7 +9,7 @@ ghost use Rattle.form.specs.Vector.{scale_of};
 ghost use Rattle.table_run.specs.Table.{unit_row};
 ghost use Rattle.master_program.specs.Master.{map_steps, cost_steps, entry_steps, order_payoff, payoff_at_zero, quantity_steps, row_steps, signed_for, strike_payoff};
 ghost use Rattle.pricing_oracle.specs.Filled.{HasFilled, HasMade};
-ghost use Rattle.rounds.specs.Entry.{put_aside, whole_less};
+ghost use Rattle.rounds.specs.Entry.{entry_over, put_aside, whole_less};
 ghost use Rattle.rounds.specs.Parts.{costs_steps};
 
 use compact_table::room::push_within;
@@ -109,6 +109,48 @@ fn order_payoff(order: &Order, state: &State) -> Result<i128, Wide>
     bundle_payoff(&order.bundle, state)
 }
 
+/// Whether the number is of 32 bits.
+fn is_short(v: i128) -> bool
+    ensures { result ≡ true → unsigned_abs v ≤ 2 ^ 31 }
+{
+    i32::try_from(v).is_ok()
+}
+
+/// `owed - t * first`, all three of 32 bits.
+fn short_difference(owed: i128, t: i128, first: i128) -> i128
+    requires owed { unsigned_abs owed ≤ 2 ^ 31 }
+    requires t { unsigned_abs t ≤ 2 ^ 31 }
+    requires first { unsigned_abs first ≤ 2 ^ 31 }
+    ensures value { result ≡ owed -ℤ (t *ℤ first) }
+    ensures small { unsigned_abs result ≤ 2 ^ 63 - 1 }
+{
+    owed - t * first
+}
+
+/// What one unit of an order that pays `owed` at a state owes there above what is put aside for it, step by step.
+fn entry_by_steps<N: Exact>(order: &Order, state: &State, owed: i128) -> Result<N, Wide>
+    ensures { meaning N.fraction result ≡ entry_over (unsigned_abs N.LIMIT)
+        (vector_of state.now) order.now owed }
+{
+    let aside = put_aside(order, state)?;
+    let entry = less(owed, aside)?;
+    Ok(for_side(order.side, entry))
+}
+
+/// The same: of short numbers each step fits, so that it is taken in as a whole number.
+fn entry_over<N: Exact>(order: &Order, state: &State, owed: i128) -> Result<N, Wide>
+    ensures { meaning N.fraction result ≡ entry_over (unsigned_abs N.LIMIT)
+        (vector_of state.now) order.now owed }
+{
+    let t = state.entries[0];
+    let first = payoff_at_zero(order);
+    if N::LIMIT < i64::MAX.into() || !is_short(owed) || !is_short(t) || !is_short(first) {
+        return entry_by_steps(order, state, owed);
+    }
+    let entry = N::from_whole(short_difference(owed, t, first))?;
+    Ok(for_side(order.side, entry))
+}
+
 /// What one unit of an order owes at a state above what is put aside for it.
 #[tactic(auto, unfolding(master_program::specs::Master::entry_steps))]
 fn entry<N: Exact>(order: &Order, state: &State) -> Result<N, Wide>
@@ -117,9 +159,7 @@ fn entry<N: Exact>(order: &Order, state: &State) -> Result<N, Wide>
         (vector_of state.now) order.now }
 {
     let owed = order_payoff(order, state)?;
-    let aside = put_aside(order, state)?;
-    let entry = less(owed, aside)?;
-    Ok(for_side(order.side, entry))
+    entry_over(order, state, owed)
 }
 
 /// Adds the costs of the orders.

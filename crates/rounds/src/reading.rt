@@ -34,7 +34,7 @@ fn add_owed<N: Exact>(total: N, order: &Order, fill: N) -> Result<N, Wide>
 }
 
 /// What the fills owe where all prices are 0.
-fn owed<N: Exact>(orders: &[Order], fills: &[N]) -> Result<N, Wide>
+fn amount_owed<N: Exact>(orders: &[Order], fills: &[N]) -> Result<N, Wide>
     requires { length fills.now ≡ length orders.now }
     ensures { meaning N.fraction result ≡ owed_of (unsigned_abs N.LIMIT)
         (zip orders.now (map N.fraction fills.now)) }
@@ -54,7 +54,7 @@ fn liability<N: Exact>(orders: &[Order], fills: &[N], slack: N) -> Result<N, Wid
     ensures { meaning N.fraction result ≡ liability_of (unsigned_abs N.LIMIT) orders.now
         (map N.fraction fills.now) (N.fraction slack) }
 {
-    let owed = owed(orders, fills)?;
+    let owed = amount_owed(orders, fills)?;
     owed.add(slack)
 }
 

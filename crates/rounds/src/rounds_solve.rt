@@ -1,16 +1,13 @@
 //! The joint solve on several underlyings.
-ghost use Rattle.std.specs.Prelude.{◌≡◌, ◌≤◌, ◌<◌, ◌+◌, IfOk, length, map, unsigned_abs, vec_capacity};
-ghost use Rattle.std.specs.List.{All};
+ghost use Rattle.std.specs.Prelude.{◌≡◌, ◌<◌, ◌+◌, IfOk, unsigned_abs, vec_capacity};
 ghost use Rattle.form.specs.Limits.{IsWithinLimits};
-ghost use Rattle.form.specs.States.{vector_of};
-ghost use Rattle.sign_tree.specs.Legs.{leg_count};
-ghost use Rattle.node_program.specs.Rounds.{axis_rays, rounds};
+ghost use Rattle.node_program.specs.Rounds.{rounds};
 ghost use Rattle.rounds.specs.Answers.{IsJointAnswer, IsJointOf, as_stopped, limits_of};
-ghost use Rattle.rounds.specs.Rooms.{IsRoundsRoom, IsSolveRoom, states_within};
+ghost use Rattle.rounds.specs.Rooms.{IsRoundsRoom};
 ghost use Rattle.rounds.specs.Round.{IsClearedAnswer};
 ghost use Rattle.rounds.specs.Run.{unjudged_run};
 
-use crate::joint::{Joint, covered};
+use crate::joint::{Joint, joint_with};
 use crate::reading::Read;
 use crate::round::{RoundEnd, round};
 use crate::solve_room::{SolveRoom, reading_in};
@@ -67,5 +64,5 @@ pub(crate) fn solve_rounds<N: Exact>(
 {
     let read = close(batch, budget, states, solve, search)?;
     let reading = reading_in(solve, read);
-    Ok(covered(reading, Cover::Tree(search.take_tree())))
+    Ok(joint_with(reading, Cover::Tree(search.take_tree())))
 }

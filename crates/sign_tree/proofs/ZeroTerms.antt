@@ -1,6 +1,5 @@
 -- A product with a factor 0 always fits, and changes no total.
-use Rattle.std.proofs.Common.{◌≡◌, ℕ, zero, suc, min, ◌≤◌, true, nat_eq, ℤ, pos, negsuc, unsigned_abs, FitsSigned, to_z, of_z, arith, Ok, refl, ap, sym, ◌∙◌, eqb-true}
-use Rattle.std.specs.Int.{int_signum}
+use Rattle.std.proofs.Common.{◌≡◌, ℕ, ◌≤◌, true, nat_eq, ℤ, pos, unsigned_abs, FitsSigned, to_z, of_z, Ok, refl, ap, sym, ◌∙◌, eqb-true}
 use Rattle.std.proofs.lemmas.Int.{to_z-of_z}
 use mir.Syntax.{Width}
 use Rattle.exact_num.specs.Fraction.{Fraction, IsLowest, whole}
@@ -12,15 +11,6 @@ use Rattle.exact_num.specs.Steps.{plus_product, less_product}
 -- a number whose bits are 0 is 0
 pub zero_bits : (w : Width) (z : ℤ) → FitsSigned w z → to_z w 0 ≡ pos 0 → nat_eq (of_z w z) 0 ≡ true → z ≡ pos 0
 zero_bits w z fits none h = sym (to_z-of_z w z fits) ∙ ap (to_z w) (eqb-true (of_z w z) 0 h) ∙ none
-
--- a number whose sign is 0 is 0
-pub zero_sign : (z : ℤ) → int_signum z ≡ pos 0 → z ≡ pos 0
-zero_sign (pos zero) h = refl
-zero_sign (pos (suc n)) h =
-    let one : min (suc n) 1 ≡ 1 = omega arith in
-    let sign = rw one at h in
-    cc
-zero_sign (negsuc n) h = cc
 
 pub times_zero : (limit : ℕ) (f : Fraction) (x : ℤ) → IsLowest f → 1 ≤ limit → x ≡ pos 0 → mul_of limit f (whole x) ≡ Ok (whole (pos 0))
 times_zero limit f x low one is = rw is (mul-zero limit f low one)

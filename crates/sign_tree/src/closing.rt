@@ -1,6 +1,6 @@
 //! The walk over a tree.
 
-ghost use Rattle.std.specs.Prelude.{◌≡◌, ◌≤◌, ◌<◌, ◌-◌, ◌+◌, List, ◌∷◌, length, map, IfOk, MatchOption, EachIndex, false, pos, slice_index_or};
+ghost use Rattle.std.specs.Prelude.{◌≡◌, ◌≤◌, ◌<◌, ◌-◌, ◌+◌, ◌∷◌, length, map, IfOk, MatchOption, EachIndex, false, pos, slice_index_or};
 ghost use Rattle.std.specs.List.{All};
 ghost use Rattle.frac.specs.Range.{limit};
 ghost use Rattle.frac.specs.Value.{fraction_of};

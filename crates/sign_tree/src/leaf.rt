@@ -9,7 +9,7 @@ ghost use Rattle.frac.specs.Range.{limit};
 ghost use Rattle.exact_num.specs.Steps.{all_of, fold_steps, less_product, plus_product};
 ghost use Rattle.sign_tree.specs.Read.{placed_of, sign_of};
 ghost use Rattle.sign_tree.specs.Left.{batch_legs, exposure_as, leg_as};
-ghost use Rattle.sign_tree.specs.Walk.{SignedLeg, add_leg, add_term, are_placed, entries_close, entry_sum, first_at, has_no_minus, is_unsigned, is_within, keeps_within, leaf_closes, left_after, leg_fill, may_carry, places_rise, plus_filled, signed_legs};
+ghost use Rattle.sign_tree.specs.Walk.{add_leg, add_term, are_placed, entries_close, entry_sum, first_at, has_no_minus, is_unsigned, is_within, keeps_within, leaf_closes, left_after, leg_fill, may_carry, places_rise, plus_filled, signed_legs};
 
 use crate::legs::{BatchLeg, Exposure, LegsLeft, first_leg, leg_at, leg_fill};
 use crate::trees::Multiplier;

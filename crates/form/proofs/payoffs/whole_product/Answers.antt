@@ -1,13 +1,14 @@
-use Rattle.std.proofs.Common.{◌≡◌, ◌-◌, ◌^◌, arith, to_z, of_z}
-use Rattle.std.proofs.lemmas.Int.{to_z-of_z}
-use mir.Syntax.{w128}
-use Rattle.exact_num.proofs.WholeNumbers.{mul-wholes}
-use Rattle.form.proofs.WholeSteps.{checked_step}
+use Rattle.std.proofs.Common.{◌≡◌, FitsSigned, w64, rules, arith, sym}
+use Rattle.form.proofs.WholeSteps.{short_product, short_product_is, short_product_read}
 use Rattle.form.proofs.payoffs.whole_product.Goals as goal
 
-pub returns-clause-product : goal.returns-clause-product
-returns-clause-product c =
-    let a : to_z w128 (of_z w128 c.args.a) ≡ c.args.a = to_z-of_z w128 c.args.a c.ranges.a in
-    let b : to_z w128 (of_z w128 c.args.b) ≡ c.args.b = to_z-of_z w128 c.args.b c.ranges.b in
-    rw (mul-wholes (2 ^ 127 - 1) c.args.a c.args.b (omega arith), c.ok_or.ensures.value, c.fitting.ensures, c.wide.ensures, a, b)
-    (checked_step c.checked_mul.result _ _ (rw (a, b) at c.checked_mul.ensures))
+pub returns-in-Ok-clause-product : goal.returns-in-Ok-clause-product
+returns-in-Ok-clause-product c =
+    let b : c.in-Ok.b ≡ c.args.b = search rules in
+    let fits : FitsSigned w64 c.in-Ok.b = search rules in
+    rw (short_product_read _ _ c.args.a c.in-Ok.b c.ranges.a fits c.from.ensures c.from-in-Ok.ensures, ← b) (sym (short_product_is c.args.a c.in-Ok.b c.ranges.a fits))
+
+pub returns-in-Ok-clause-fits : goal.returns-in-Ok-clause-fits
+returns-in-Ok-clause-fits c =
+    let fits : FitsSigned w64 c.in-Ok.b = search rules in
+    rw (short_product_read _ _ c.args.a c.in-Ok.b c.ranges.a fits c.from.ensures c.from-in-Ok.ensures) (omega (arith, short_product c.args.a c.in-Ok.b c.ranges.a fits))

@@ -9,5 +9,5 @@ pub returns-clause-sum : goal.returns-clause-sum
 returns-clause-sum c =
     let a : to_z w128 (of_z w128 c.args.a) ≡ c.args.a = to_z-of_z w128 c.args.a c.ranges.a in
     let b : to_z w128 (of_z w128 c.args.b) ≡ c.args.b = to_z-of_z w128 c.args.b c.ranges.b in
-    rw (add-wholes (2 ^ 127 - 1) c.args.a c.args.b (omega arith) c.requires.left c.requires.right, c.ok_or.ensures.value, c.fitting.ensures, c.wide.ensures, a, b)
+    rw (add-wholes (2 ^ 127 - 1) c.args.a c.args.b (omega arith) c.requires.left c.requires.right, c.ok_or.ensures.value, c.within_limit.ensures, c.wide.ensures, a, b)
     (checked_step c.checked_add.result _ _ (rw (a, b) at c.checked_add.ensures))

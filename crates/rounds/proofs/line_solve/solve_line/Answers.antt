@@ -59,7 +59,7 @@ returns-clause-run g c =
     let r = reading_in_lists value c.solve_over.new.room.fills.items c.solve_over.new.room.points.items c.in_ok-read.read in
     let run = goes_on _ ending on_line r spent (on_one limits n orders before states c.requires.room.one later) c.in_ok-read.ensures.run
     ∙ ap (λ (r : Reading). done (r, by_line) spent) (sym c.reading_in.ensures) in
-    subst (OfSolution value (λ (s : Solution). unjudged_run limits n orders before ≡ done s spent)) (sym c.covered.ensures) (by_line, tt, run)
+    subst (OfSolution value (λ (s : Solution). unjudged_run limits n orders before ≡ done s spent)) (sym c.joint_with.ensures) (by_line, tt, run)
 
 pub returns-clause-joint : goal.returns-clause-joint
 returns-clause-joint g c =
@@ -68,7 +68,7 @@ returns-clause-joint g c =
     let orders = c.args.batch.now.orders in
     let reading = c.reading_in.result in
     let certified = subst (IsCertifiedAt n orders (zero_prices n ∷ map vector_of c.split_at.result.1.now)) (sym c.reading_in.ensures) c.in_ok-read.ensures.certified in
-    subst (IsJointOf c.args.batch.now) (sym c.covered.ensures)
+    subst (IsJointOf c.args.batch.now) (sym c.joint_with.ensures)
     (record {
       fills = counted value reading.fills (length orders) certified.fills.0;
       cover = c.requires.room.one;

@@ -37,7 +37,7 @@ returns-clause-run g c =
     let run = c.in_ok-read.ensures.run in
     let whole = goes_on _ (rounds limits n orders before) on_tree (r, run.0) spent (on_several limits n orders before c.requires.room.several) run.2
     ∙ ap (λ (r : Reading). done (r, by_tree run.0) spent) (sym c.reading_in-reading.ensures) in
-    subst (OfSolution value (λ (s : Solution). unjudged_run limits n orders before ≡ done s spent)) (sym c.covered.ensures) (by_tree run.0, subst (IsTreeAs run.0) (sym c.take_tree.ensures.tree) run.1, whole)
+    subst (OfSolution value (λ (s : Solution). unjudged_run limits n orders before ≡ done s spent)) (sym c.joint_with.ensures) (by_tree run.0, subst (IsTreeAs run.0) (sym c.take_tree.ensures.tree) run.1, whole)
 
 pub returns-clause-joint : goal.returns-clause-joint
 returns-clause-joint g c =
@@ -52,7 +52,7 @@ returns-clause-joint g c =
     let run = c.in_ok-read.ensures.run in
     let whole = run.2 ∙ ap (λ (r : Reading). done (r, run.0) spent) (sym c.reading_in-reading.ensures) in
     let greatest = rounds_are_greatest limits n before spent orders (reading_as value reading) run.0 forms.some forms.few c.args.budget.now.within whole in
-    subst (IsJointOf c.args.batch.now) (sym c.covered.ensures)
+    subst (IsJointOf c.args.batch.now) (sym c.joint_with.ensures)
     (record {
       fills = counted value reading.fills (length orders) greatest.certified.fills.0;
       cover = c.requires.room.several;

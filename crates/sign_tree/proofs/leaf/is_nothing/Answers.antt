@@ -2,7 +2,8 @@ use Rattle.std.proofs.Common.{arith, rules, FitsSigned, refl, sym, ◌∙◌}
 use mir.Syntax.{w8, w64}
 use Rattle.frac.specs.Range.{limit}
 use Rattle.frac.specs.Value.{fraction_of}
-use Rattle.sign_tree.proofs.ZeroTerms.{zero_bits, zero_sign, times_zero, zero_times}
+use Rattle.form.proofs.NothingAdded.{zero_sign}
+use Rattle.sign_tree.proofs.ZeroTerms.{zero_bits, times_zero, zero_times}
 use Rattle.sign_tree.proofs.leaf.is_nothing.Goals as goal
 
 pub returns-then-x-eq0 : goal.returns-then-x-eq0

@@ -1,7 +1,7 @@
 use Rattle.std.proofs.Common.{◌≡◌, drop, map, zip, unsigned_abs}
 use Rattle.exact_num.specs.Steps.{fold_steps}
 use Rattle.master_program.specs.Reading.{add_owed, owed_of}
-use Rattle.rounds.proofs.reading.owed.Given as goal
+use Rattle.rounds.proofs.reading.amount_owed.Given as goal
 
 -- the sum from here on is the sum
 abbrev pub invariant-loop-i : goal.invariant-loop-i

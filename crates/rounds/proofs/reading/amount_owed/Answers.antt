@@ -2,7 +2,7 @@ use Rattle.std.proofs.Common.{map, unsigned_abs}
 use Rattle.arithmetic.proofs.Lists.{pair_of, pairs_end}
 use Rattle.exact_num.proofs.Loops.{goes_on, stops, ends}
 use Rattle.master_program.specs.Reading.{add_owed}
-use Rattle.rounds.proofs.reading.owed.Goals as goal
+use Rattle.rounds.proofs.reading.amount_owed.Goals as goal
 
 pub returns-in_err-total : goal.returns-in_err-total
 returns-in_err-total g c =

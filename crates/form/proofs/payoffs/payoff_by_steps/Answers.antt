@@ -7,7 +7,7 @@ use Rattle.exact_num.specs.Fraction.{whole}
 use Rattle.exact_num.proofs.Loops.{goes_on, stop_at}
 use Rattle.form.specs.Steps.{add_entry, payoff_of}
 use Rattle.form.proofs.DotSteps.{entries_first, entry_step, no_entry_left, or_zero_is}
-use Rattle.form.proofs.payoffs.payoff.Goals as goal
+use Rattle.form.proofs.payoffs.payoff_by_steps.Goals as goal
 
 pub returns-in_err-total-clause-payoff : goal.returns-in_err-total-clause-payoff
 unfolding payoff_of
