@@ -7,7 +7,7 @@ ghost use Rattle.margin_text.specs.Told.{need_text, uncovered_line, uncovered_pi
 use serde_json::{Value, json};
 use std::alloc::{AllocError, Global};
 
-/// What the positions of an account ask of its balance.
+/// What the positions of an account demand of its balance.
 #[derive(Clone, Copy, Debug, PartialEq, Eq)]
 pub enum Need {
     /// So much, in ticks, whatever the prices at which their markets are settled.

@@ -40,8 +40,8 @@ const BUDGET: Asked = Asked {
 };
 
 // What the fields of a line ask for, whose word is that of a margin.
-pub(crate) fn request(fields: &[Vec<u8>]) -> Result<MarginRequest, Fault>
-    ensures { result ≡ request_of (map (λ f. f.items) fields.now) }
+pub(crate) fn request(fields: &[&[u8]]) -> Result<MarginRequest, Fault>
+    ensures { result ≡ request_of (map (λ f. f.now) fields.now) }
 {
     if fields.len() != 4 {
         return Err(Fault::Syntax);

@@ -8,7 +8,7 @@ ghost use Rattle.quote_text.specs.Within.{QuotesBodyIsWithin};
 
 use crate::requests::{QuoteRequest, request};
 use command_text::asked::{Fault, text_at};
-use command_text::field_lists::first_fields;
+use command_text::field_lists::line_fields;
 use command_text::{Body, body_of};
 use std::alloc::{AllocError, Global};
 
@@ -21,7 +21,7 @@ pub enum QuotesBody {
     Quote(QuoteRequest),
 }
 
-fn told(asked: Result<QuoteRequest, Fault>) -> QuotesBody
+fn body_of_request(asked: Result<QuoteRequest, Fault>) -> QuotesBody
     ensures { result ≡ body_of_request asked }
 {
     match asked {
@@ -32,12 +32,12 @@ fn told(asked: Result<QuoteRequest, Fault>) -> QuotesBody
 }
 
 // What the fields of a line say that are no command's.
-fn said(fields: &[Vec<u8>]) -> QuotesBody
-    requires { body_of_result (command_of_fields (map (λ f. f.items) fields.now)) ≡ Body.Syntax }
-    ensures { result ≡ quotes_body_of_fields (map (λ f. f.items) fields.now) }
+fn said(fields: &[&[u8]]) -> QuotesBody
+    requires { body_of_result (command_of_fields (map (λ f. f.now) fields.now)) ≡ Body.Syntax }
+    ensures { result ≡ quotes_body_of_fields (map (λ f. f.now) fields.now) }
 {
     if text_at(fields, 1) == b"quote".as_slice() {
-        told(request(fields))
+        body_of_request(request(fields))
     } else {
         QuotesBody::Plain(Body::Syntax)
     }
@@ -50,8 +50,8 @@ fn request_or_syntax(alloc: Global, line: &[u8]) -> Result<QuotesBody, AllocErro
     requires syntax { body_of_line line.now ≡ Body.Syntax }
     ensures { IfOk result (λ body. body ≡ quotes_body_of line.now) }
 {
-    match first_fields(alloc, line)? {
-        Some(fields) => Ok(said(&fields)),
+    match line_fields(alloc, line)? {
+        Some(fields) => Ok(said(&fields.first(alloc)?)),
         None => Ok(QuotesBody::Plain(Body::Syntax)),
     }
 }

@@ -76,8 +76,8 @@ const REQUEST: [Asked; 11] = [
 ];
 
 // What the fields of a line ask for, whose word is that of a quote.
-pub(crate) fn request(fields: &[Vec<u8>]) -> Result<QuoteRequest, Fault>
-    ensures { result ≡ request_of (map (λ f. f.items) fields.now) }
+pub(crate) fn request(fields: &[&[u8]]) -> Result<QuoteRequest, Fault>
+    ensures { result ≡ request_of (map (λ f. f.now) fields.now) }
 {
     let count = fields.len();
     if count < 6 || 13 < count {

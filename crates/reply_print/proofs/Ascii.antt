@@ -1,6 +1,6 @@
 -- The bytes of a piece's text are printed ones of ASCII: no line feed is among them.
-use Rattle.std.proofs.Common.{◌≡◌, ℕ, zero, suc, ◌^◌, ◌<◌, ℤ, pos, negsuc, unsigned_abs, List, [], ◌∷◌, ◌++◌, Bool, true, false, ◌&&◌, ◌==◌, nat_lt, nat_le, refl, ◌∙◌, arith}
-use Rattle.std.proofs.lemmas.Bool.{and_parts, and_from, ltb-true}
+use Rattle.std.proofs.Common.{◌≡◌, ℕ, zero, suc, List, [], ◌∷◌, ◌++◌, Bool, true, false, ◌&&◌, ◌==◌, nat_lt, nat_le, refl, ◌∙◌, arith}
+use Rattle.std.proofs.lemmas.Bool.{and_parts, and_from}
 use Rattle.std.proofs.lemmas.Bool.Decides.{nat_tests}
 use Rattle.std.proofs.lemmas.Str.{is_utf8-from_IsUtf8}
 use Rattle.std.specs.Str.{is_utf8}
@@ -12,7 +12,7 @@ use Rattle.reply_print.specs.Within.{IsWithin}
 use Rattle.reply_print.proofs.WrittenReplies.{written}
 use Rattle.json.proofs.Printed.Utf8.{are_ascii, IsUtf8-are_ascii}
 use Rattle.reply_print.specs.Piece.{Piece, whole, words, list, object, Pieces, no_pieces, piece, Fields, no_fields, field, piece_text, pieces_text, fields_text, comma_after}
-use Rattle.reply_print.specs.Written.{is_plain, is_plain_byte, is_short, IsWritten, AreWritten, HasWritten}
+use Rattle.reply_print.specs.Written.{is_plain, is_plain_byte, IsWritten, AreWritten, HasWritten}
 use Rattle.std.specs.Fmt.{signed_decimal}
 use Rattle.reply_print.proofs.Digits.{plain-signed_decimal}
 

@@ -1,13 +1,11 @@
 -- The texts in the pieces of every reply are plain.
-use Rattle.std.proofs.Common.{◌≡◌, ℕ, ℤ, List, [], ◌∷◌, take, drop, Bool, true, false, ◌==◌, refl, codes, unsigned_abs}
-use Rattle.std.specs.Fmt.{signed_decimal}
+use Rattle.std.proofs.Common.{◌≡◌, ℕ, ℤ, List, [], ◌∷◌, take, drop, Bool, true, false, ◌==◌, refl, unsigned_abs}
 use Rattle.exact_num.specs.Fraction.{over}
 use Rattle.exact_num.specs.declared.misfit.Operator.{Operator}
 use Rattle.exact_num.specs.declared.misfit.Operator.TheVariants as operator
 use Rattle.exact_num.specs.declared.misfit.Wide.{Wide}
 use Rattle.frac.specs.declared.frac128.Frac128.{Frac128}
 use Rattle.frac.specs.Value.{fraction_of}
-use Rattle.form.specs.declared.forms.Form.{Form}
 use Rattle.form.specs.declared.legs.Leg.{Leg}
 use Rattle.form.specs.declared.orders.Batch.{Batch}
 use Rattle.form.specs.declared.orders.Order.{Order}
@@ -28,7 +26,7 @@ use Rattle.cert_check.specs.declared.outcome.Outcome.{Outcome}
 use Rattle.settlement.specs.declared.position.PaidOut.{PaidOut}
 use Rattle.reply_print.specs.declared.replies.Reply.{Reply}
 use Rattle.reply_print.specs.declared.replies.Reply.TheVariants.{Opened, Deposited, Withdrawn, Listed, Placed, Cancelled, Cleared, Settled, Balance, Refused}
-use Rattle.reply_print.specs.BatchPieces.{whole_words, fraction, pieces_of, form_piece, leg_piece, order_with, order_piece, are_single}
+use Rattle.reply_print.specs.BatchPieces.{whole_words, fraction, pieces_of, leg_piece, order_with, order_piece, are_single}
 use Rattle.reply_print.specs.OutcomePieces.{state_entries, point_piece, multiplier_piece, node_piece, node_pieces, cover_piece, certificate_piece, wide_piece, wide_field, count_of}
 use Rattle.reply_print.specs.Piece.{Piece, whole, words, list, object, Pieces, no_pieces, piece, Fields, no_fields, field}
 use Rattle.reply_print.specs.ReplyPieces.{reply_piece, signed_amount, paid_piece, refused_with, cleared_with, cleared_middle, cleared_end}

@@ -1,5 +1,5 @@
 -- The pieces of a small line, one behind another, are its text.
-use Rattle.std.proofs.Common.{◌≡◌, ℕ, ℤ, List, [], ◌∷◌, ◌++◌, true, false, ◌∙◌, ap, sym, refl, append_assoc, codes, decimal}
+use Rattle.std.proofs.Common.{◌≡◌, ℕ, ℤ, List, [], ◌∷◌, ◌++◌, true, false, ◌∙◌, ap, sym, append_assoc, codes, decimal}
 use Rattle.std.specs.Fmt.{signed_decimal}
 use Rattle.reply_print.specs.Piece.{piece_text}
 use Rattle.reply_print.specs.ReplyPieces.{balance_piece, moved_piece, ordered_piece, refused_with}

@@ -1,18 +1,12 @@
 -- The pieces of replies within their ranges are plain and shallow, and their keys rise.
-use Rattle.std.proofs.Common.{◌≡◌, ℕ, zero, suc, ◌^◌, ◌<◌, ◌≤◌, ℤ, pos, negsuc, unsigned_abs, List, [], ◌∷◌, take, drop, Bool, true, false, cond, ◌==◌, refl, arith, codes}
-use Rattle.std.specs.Fmt.{signed_decimal}
+use Rattle.std.proofs.Common.{◌≡◌, ℕ, zero, suc, ◌^◌, ◌<◌, ◌≤◌, ℤ, pos, negsuc, unsigned_abs, List, [], ◌∷◌, take, drop, Bool, true, false, ◌==◌, refl, arith, codes}
 use Rattle.std.specs.List.{All, AllByRecursion}
 use Rattle.std.proofs.lemmas.Bool.{lt-ltb}
-use Rattle.std.proofs.lemmas.Int.{ints}
 use Rattle.exact_num.specs.Fraction.{over}
-use Rattle.exact_num.specs.declared.misfit.Operator.{Operator}
 use Rattle.exact_num.specs.declared.misfit.Operator.TheVariants as operator
 use Rattle.exact_num.specs.declared.misfit.Wide.{Wide}
 use Rattle.frac.specs.declared.frac128.Frac128.{Frac128}
-use Rattle.frac.specs.Value.{fraction_of}
 use Rattle.form.specs.declared.forms.Form.{Form}
-use Rattle.form.specs.declared.orders.Side.{Side}
-use Rattle.form.specs.declared.orders.Side.TheVariants.{Buy, Sell}
 use Rattle.form.specs.Limits.{IsListed}
 use Rattle.form.specs.Payoff.{option_of}
 use Rattle.form.specs.Vector.{strike_entry, weights_of}
@@ -35,13 +29,11 @@ use Rattle.settlement.specs.declared.position.PaidOut.{PaidOut}
 use Rattle.reply_print.specs.declared.replies.Reply.{Reply}
 use Rattle.reply_print.specs.declared.replies.Reply.TheVariants.{Opened, Deposited, Withdrawn, Listed, Placed, Cancelled, Cleared, Settled, Balance, Refused}
 use Rattle.reply_print.specs.BatchPieces.{whole_words, fraction, pieces_of, form_piece, leg_piece, order_with, order_piece, are_single, version_of}
-use Rattle.reply_print.specs.Numbers.{fraction_text}
 use Rattle.reply_print.specs.OutcomePieces.{state_entries, point_piece, multiplier_piece, node_pieces, cover_piece, certificate_piece, wide_piece, wide_field}
 use Rattle.reply_print.specs.Piece.{Piece, whole}
 use Rattle.reply_print.specs.ReplyPieces.{reply_piece, signed_amount, paid_piece, moved_piece, ordered_piece, refused_with, cleared_with, cleared_middle, cleared_end}
-use Rattle.reply_print.specs.Words.{reason_word, mark_word, operator_word}
-use Rattle.common_texts.specs.Sides.{side_word}
-use Rattle.reply_print.specs.Within.{IsWithin, IsLine, IsBatchNumber, IsMarket, IsPlace, IsBatchWithin, IsOrderWithin, IsMarkWithin, IsCoverWithin, IsNodeWithin, IsPointWithin, IsPair, IsPaidWithin, IsSmall, IsRefusal}
+use Rattle.reply_print.specs.Words.{reason_word, mark_word}
+use Rattle.reply_print.specs.Within.{IsWithin, IsLine, IsBatchNumber, IsMarket, IsPlace, IsBatchWithin, IsOrderWithin, IsMarkWithin, IsCoverWithin, IsNodeWithin, IsPointWithin, IsPaidWithin, IsSmall, IsRefusal}
 use Rattle.reply_print.specs.Written.{is_plain, IsWritten, AreWritten, HasWritten, is_short}
 use Rattle.reply_print.proofs.Digits.{plain-signed_decimal, plain-fraction_text}
 use Rattle.reply_print.proofs.PlainPieces.{reason_plain, side_plain, operator_plain, fraction_plain}

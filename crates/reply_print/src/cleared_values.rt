@@ -1,13 +1,13 @@
 // The JSON values of cleared batches. Members go in from the last to the first, each before
 // those that are there.
-ghost use Rattle.std.specs.Prelude.{◌≡◌, ◌≤◌, IfOk, codes};
-ghost use Rattle.serde_json.specs.Data.{object, put, string, number, unsigned};
+ghost use Rattle.std.specs.Prelude.{◌≡◌, IfOk, codes};
+ghost use Rattle.serde_json.specs.Data.{put, string, number, unsigned};
 ghost use Rattle.serde_json.specs.View.{view, members_view};
-ghost use Rattle.reply_print.specs.BatchPieces.{natural, are_single, version_of};
-ghost use Rattle.reply_print.specs.OutcomePieces.{wide_field, certificate_field};
+ghost use Rattle.reply_print.specs.BatchPieces.{are_single, version_of};
+ghost use Rattle.reply_print.specs.OutcomePieces.{wide_field};
 ghost use Rattle.reply_print.specs.PieceData.{piece_data, fields_data};
 ghost use Rattle.reply_print.specs.CertificateMember.{with_certificate};
-ghost use Rattle.reply_print.specs.ReplyPieces.{cleared_end, cleared_middle, cleared_with, cleared_piece};
+ghost use Rattle.reply_print.specs.ReplyPieces.{cleared_end, cleared_middle, cleared_piece};
 
 use crate::order_values::{fills_value, fraction_value, is_version_1, orders_value};
 use crate::outcome_values::{certificate_value, wide_value};

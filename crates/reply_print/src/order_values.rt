@@ -1,10 +1,9 @@
 // The JSON values of orders and payouts.
-ghost use Rattle.std.specs.Prelude.{◌≡◌, ◌==◌, ◌≤◌, ◌<◌, ℤ, true, IfOk, length, string_bytes, take, Some};
-ghost use Rattle.exact_num.specs.Fraction.{Fraction};
+ghost use Rattle.std.specs.Prelude.{◌≡◌, ◌==◌, ◌<◌, true, IfOk, string_bytes};
 ghost use Rattle.frac.specs.Value.{fraction_of};
 ghost use Rattle.form.specs.Bundles.{legs_in};
 ghost use Rattle.serde_json.specs.View.{view};
-ghost use Rattle.reply_print.specs.BatchPieces.{fraction, each, form_piece, leg_piece, order_piece, order_with, is_single, are_single, first_form_piece};
+ghost use Rattle.reply_print.specs.BatchPieces.{fraction, each, form_piece, leg_piece, order_piece, is_single, are_single, first_form_piece};
 ghost use Rattle.reply_print.specs.Numbers.{fraction_text};
 ghost use Rattle.reply_print.specs.Piece.{whole};
 ghost use Rattle.reply_print.specs.PieceData.{piece_data};

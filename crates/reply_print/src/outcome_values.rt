@@ -1,12 +1,9 @@
 // The JSON values of certificates and of cleared batches.
-ghost use Rattle.std.specs.Prelude.{◌≡◌, ◌+◌, ◌≤◌, ℤ, IfOk, length, string_bytes, drop, take, unsigned_abs};
-ghost use Rattle.std.specs.List.{AllByRecursion};
-ghost use Rattle.exact_num.specs.Fraction.{over};
+ghost use Rattle.std.specs.Prelude.{◌≡◌, IfOk, drop, take, unsigned_abs};
 ghost use Rattle.serde_json.specs.View.{view};
 ghost use Rattle.reply_print.specs.BatchPieces.{each, whole_words};
-ghost use Rattle.reply_print.specs.Numbers.{fraction_text};
 ghost use Rattle.reply_print.specs.OutcomePieces.{state_entries, point_piece, multiplier_piece, node_piece, node_pieces, count_of as count_is, cover_piece, certificate_piece, pair_words, wide_piece};
-ghost use Rattle.reply_print.specs.Piece.{list, words};
+ghost use Rattle.reply_print.specs.Piece.{list};
 ghost use Rattle.reply_print.specs.PieceData.{piece_data};
 
 use crate::order_values::fraction_value;

@@ -26,14 +26,14 @@ fn joined(alloc: Global, pieces: &[&str]) -> Result<Vec<u8>, AllocError>
 pub(crate) fn opened_line(alloc: Global, line: u32, account: u32) -> Result<Vec<u8>, AllocError>
     ensures { IfOk result (λ text. text.items ≡ piece_text (opened_piece line account)) }
 {
-    let (mut accounts, mut lines) = (Buffer::new(), Buffer::new());
+    let (mut account_digits, mut line_digits) = (Buffer::new(), Buffer::new());
     joined(
         alloc,
         &[
             "{\"account\":",
-            accounts.format(account),
+            account_digits.format(account),
             ",\"line\":",
-            lines.format(line),
+            line_digits.format(line),
             ",\"reply\":\"opened\"}",
         ],
     )
@@ -50,16 +50,20 @@ pub(crate) fn moved_line(
     ensures { IfOk result (λ text.
         text.items ≡ piece_text (moved_piece reply.now line account balance)) }
 {
-    let (mut accounts, mut balances, mut lines) = (Buffer::new(), Buffer::new(), Buffer::new());
+    let (mut account_digits, mut balance_digits, mut line_digits) = (
+        Buffer::new(),
+        Buffer::new(),
+        Buffer::new(),
+    );
     joined(
         alloc,
         &[
             "{\"account\":",
-            accounts.format(account),
+            account_digits.format(account),
             ",\"balance\":\"",
-            balances.format(balance),
+            balance_digits.format(balance),
             "\",\"line\":",
-            lines.format(line),
+            line_digits.format(line),
             ",\"reply\":\"",
             reply,
             "\"}",
@@ -75,16 +79,20 @@ pub(crate) fn listed_line(
 ) -> Result<Vec<u8>, AllocError>
     ensures { IfOk result (λ text. text.items ≡ piece_text (listed_piece line market underlyings)) }
 {
-    let (mut lines, mut markets, mut counts) = (Buffer::new(), Buffer::new(), Buffer::new());
+    let (mut line_digits, mut market_digits, mut count_digits) = (
+        Buffer::new(),
+        Buffer::new(),
+        Buffer::new(),
+    );
     joined(
         alloc,
         &[
             "{\"line\":",
-            lines.format(line),
+            line_digits.format(line),
             ",\"market\":",
-            markets.format(market),
+            market_digits.format(market),
             ",\"reply\":\"listed\",\"underlyings\":",
-            counts.format(underlyings),
+            count_digits.format(underlyings),
             "}",
         ],
     )
@@ -99,14 +107,14 @@ pub(crate) fn ordered_line(
 ) -> Result<Vec<u8>, AllocError>
     ensures { IfOk result (λ text. text.items ≡ piece_text (ordered_piece reply.now line order)) }
 {
-    let (mut lines, mut orders) = (Buffer::new(), Buffer::new());
+    let (mut line_digits, mut order_digits) = (Buffer::new(), Buffer::new());
     joined(
         alloc,
         &[
             "{\"line\":",
-            lines.format(line),
+            line_digits.format(line),
             ",\"order\":",
-            orders.format(order),
+            order_digits.format(order),
             ",\"reply\":\"",
             reply,
             "\"}",
@@ -124,19 +132,19 @@ pub(crate) fn balance_line(
     ensures { IfOk result (λ text.
         text.items ≡ piece_text (balance_piece line account balance reserved)) }
 {
-    let (mut accounts, mut balances) = (Buffer::new(), Buffer::new());
-    let (mut lines, mut reserves) = (Buffer::new(), Buffer::new());
+    let (mut account_digits, mut balance_digits) = (Buffer::new(), Buffer::new());
+    let (mut line_digits, mut reserve_digits) = (Buffer::new(), Buffer::new());
     joined(
         alloc,
         &[
             "{\"account\":",
-            accounts.format(account),
+            account_digits.format(account),
             ",\"balance\":\"",
-            balances.format(balance),
+            balance_digits.format(balance),
             "\",\"line\":",
-            lines.format(line),
+            line_digits.format(line),
             ",\"reply\":\"balance\",\"reserved\":\"",
-            reserves.format(reserved),
+            reserve_digits.format(reserved),
             "\"}",
         ],
     )
@@ -147,14 +155,14 @@ fn reasoned_line(alloc: Global, line: u32, number: u32, reason: &str) -> Result<
     ensures { IfOk result (λ text.
         text.items ≡ piece_text (refused_with false line number 0 reason.now)) }
 {
-    let (mut lines, mut numbers) = (Buffer::new(), Buffer::new());
+    let (mut line_digits, mut number_digits) = (Buffer::new(), Buffer::new());
     joined(
         alloc,
         &[
             "{\"line\":",
-            lines.format(line),
+            line_digits.format(line),
             ",\"number\":",
-            numbers.format(number),
+            number_digits.format(number),
             ",\"reason\":\"",
             reason,
             "\",\"reply\":\"refused\"}",
@@ -173,16 +181,20 @@ fn ranged_line(
     ensures { IfOk result (λ text.
         text.items ≡ piece_text (refused_with true line number field reason.now)) }
 {
-    let (mut fields, mut lines, mut numbers) = (Buffer::new(), Buffer::new(), Buffer::new());
+    let (mut field_digits, mut line_digits, mut number_digits) = (
+        Buffer::new(),
+        Buffer::new(),
+        Buffer::new(),
+    );
     joined(
         alloc,
         &[
             "{\"field\":",
-            fields.format(field),
+            field_digits.format(field),
             ",\"line\":",
-            lines.format(line),
+            line_digits.format(line),
             ",\"number\":",
-            numbers.format(number),
+            number_digits.format(number),
             ",\"reason\":\"",
             reason,
             "\",\"reply\":\"refused\"}",

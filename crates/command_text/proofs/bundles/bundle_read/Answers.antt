@@ -10,5 +10,5 @@ of-requires-clause-alike c =
 
 pub returns : goal.returns
 returns c =
-    bundle_is_made c.of.result (legs_of c.args.legs c.args.size (map (λ f. f.items) c.args.fields.now)) c.requires.whole.0
+    bundle_is_made c.of.result (legs_of c.args.legs c.args.size (map (λ f. f.now) c.args.fields.now)) c.requires.whole.0
     (c.of.ensures ∙ (λ i. take (c.from.ensures i) (c.four_legs-four.ensures i)))

@@ -9,9 +9,9 @@ use Rattle.command_text.proofs.bundles.sized.Goals as goal
 
 pub bundle_read-requires-clause-whole : goal.bundle_read-requires-clause-whole
 bundle_read-requires-clause-whole c =
-    let texts = map (λ f. f.items) c.args.fields.now in
+    let texts = map (λ f. f.now) c.args.fields.now in
     let size = c.args.size in
-    let long : length texts ≡ length c.args.fields.now = length-map c.args.fields.now (λ f. f.items) in
+    let long : length texts ≡ length c.args.fields.now = length-map c.args.fields.now (λ f. f.now) in
     let none : bundle_fault size texts ≡ None = sym c.wrong.ensures ∙ c.in-None.is in
     let over = too_many (natural_in texts BUNDLE_QUANTITY) (legs_size size texts) in
     let parts = none_both (either_fault (fault_in 0 HEAD texts) (legs_fault size texts)) (either_fault (legs_weightless size texts) over) none in

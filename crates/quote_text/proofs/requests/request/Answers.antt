@@ -17,16 +17,16 @@ first_fault-requires c = first_asked _
 
 pub returns-in-Some-first_of : goal.returns-in-Some-first_of
 returns-in-Some-first_of c =
-    let texts = map (λ f. f.items) c.args.fields.now in
-    let size : length texts ≡ length c.args.fields.now = length-map c.args.fields.now (λ f. f.items) in
+    let texts = map (λ f. f.now) c.args.fields.now in
+    let size : length texts ≡ length c.args.fields.now = length-map c.args.fields.now (λ f. f.now) in
     request_says texts c.in-Some.kind c.weights-weights.result (Some c.in-Some-first_of.fault) (omega (arith, size)) (omega (arith, size))
     (c.in-Some.ensures ∙ ap kind_in c.text_at.ensures) c.weights-weights.ensures
     (c.in-Some-first_of.ensures ∙ (λ i. either_fault (c.first_fault.ensures i) (c.all_zero.ensures i)) ∙ ap (λ n. either_fault (fault_in 0 (take (n - 2) REQUEST) texts) (weightless 6 c.weights-weights.result)) (sym size))
 
 pub returns-in-None : goal.returns-in-None
 returns-in-None c =
-    let texts = map (λ f. f.items) c.args.fields.now in
-    let size : length texts ≡ length c.args.fields.now = length-map c.args.fields.now (λ f. f.items) in
+    let texts = map (λ f. f.now) c.args.fields.now in
+    let size : length texts ≡ length c.args.fields.now = length-map c.args.fields.now (λ f. f.now) in
     let strike : to_z w64 (of_z w64 c.value.result) ≡ value_in texts STRIKE = to_z-of_z w64 c.value.result (record { sfits = omega arith }) ∙ c.value.ensures.value in
     (λ i. Ok (request_for (c.natural.ensures.value i) (c.natural-in-None.ensures.value i) (c.option_form.ensures i)))
     ∙ (λ i. Ok (request_for (natural_in texts MARKET) (natural_in texts BUDGET) (form_of (option_by c.in-Some.kind (strike i) (take (sym size i - 5) c.weights-weights.result)))))
