@@ -5,8 +5,6 @@ pub mod laws;
 mod run;
 mod summary;
 mod tally;
-#[cfg(test)]
-mod tests;
 
 pub use summary::demo;
 pub use tally::Tally;

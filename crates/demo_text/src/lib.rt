@@ -4,8 +4,6 @@
 mod draws;
 pub mod laws;
 mod order;
-#[cfg(test)]
-mod tests;
 mod text;
 
 pub use text::{MAX_BYTES, MAX_ORDERS, demo_text};

@@ -84,7 +84,7 @@ pub(crate) struct DrawnOrder {
 
 impl DrawnOrder {
     // The order of the next seven draws.
-    pub(crate) fn drawn(draws: &mut Draws) -> Self
+    pub(crate) fn draw(draws: &mut Draws) -> Self
         ensures value { result ≡ order_from draws.old.state }
         ensures state { draws.new.state ≡ after 7 draws.old.state }
     {

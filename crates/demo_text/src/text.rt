@@ -85,7 +85,7 @@ fn append_orders(
     ensures state { OnOk result (draws.new.state ≡ after (7 * count) draws.old.state) }
 {
     for index in 0..count {
-        let order = DrawnOrder::drawn(draws);
+        let order = DrawnOrder::draw(draws);
         text.push_str(&order.line(alloc)?)?;
         text.push_str(clear_line(count, index + 1))?;
     }

@@ -1,5 +1,5 @@
 // The double auction of two queues.
-ghost use Rattle.std.specs.Prelude.{◌≡◌, ◌++◌, ◌≤◌, ◌<◌, ◌^◌, OnOk};
+ghost use Rattle.std.specs.Prelude.{◌≡◌, ◌++◌, ◌<◌, ◌^◌, OnOk};
 ghost use Rattle.each_match.specs.Auction.{next_trade, fill_first, auction, amount_at, fill_at};
 
 use crate::queues::Offer;
@@ -76,7 +76,7 @@ fn amount_at(trade: &Trade, side: Side, place: usize) -> u64
 
 // What trades fill of it.
 #[tactic(auto, using(std::proofs::lemmas::List::Sums::sum_by_more_le))]
-pub(crate) fn filled(trades: &[Trade], side: Side, place: usize) -> u64
+pub(crate) fn fill_at(trades: &[Trade], side: Side, place: usize) -> u64
     requires { fill_at side place trades.now < 2 ^ 64 }
     ensures { result ≡ fill_at side place trades.now }
 {

@@ -8,7 +8,7 @@ ghost use Rattle.each_match.specs.Laws.{AreFilledByAuction, IsBestBalanced, Owes
 ghost use Rattle.each_match.specs.Match.{match_by_bundle};
 ghost use Rattle.each_match.specs.Trades.{is_seen, AreTradesOf};
 
-use crate::auction::{Trade, auction, filled};
+use crate::auction::{Trade, auction, fill_at};
 use crate::queues::{is_for_same_bundle, queue};
 use form::{Batch, Order, Side};
 use std::alloc::{AllocError, Global};
@@ -47,7 +47,7 @@ fn fills(alloc: Global, orders: &[Order], trades: &[Trade]) -> Result<Vec<u64>, 
     for (place, order) in orders.iter().enumerate() {
         // Read for the proof: the fill is at most this u32, so its sum fits.
         let _quantity = order.quantity;
-        fills.push(filled(trades, order.side, place))?;
+        fills.push(fill_at(trades, order.side, place))?;
     }
     Ok(fills)
 }
@@ -73,62 +73,4 @@ pub fn match_each(alloc: Global, batch: &Batch) -> Result<Vec<u64>, AllocError>
     let orders = batch.orders.as_slice();
     let trades = trades(alloc, orders)?;
     fills(alloc, orders, trades.as_slice())
-}
-
-#[cfg(test)]
-mod tests {
-    use super::*;
-    use form::{Bundle, Orders, call, put};
-    use std::test::Fail;
-
-    // The worked batch of the fallback, and one where bundles and places decide.
-    #[test]
-    fn batches_are_matched_bundle_by_bundle(rt: HostRuntime) -> Result<(), Fail> {
-        let alloc = rt.alloc();
-        let ten = Bundle::one(call(10, &[1]));
-        let five = Bundle::one(call(5, &[1]));
-        // The put with strike -10 on -1 of the underlying is the call with strike 10 on 1.
-        let same = Bundle::one(put(-10, &[-1]));
-        let buy = Side::Buy;
-        let sell = Side::Sell;
-        let fallback = [
-            (buy, ten, 7, 3, 3),
-            (buy, ten, 6, 2, 0),
-            (sell, ten, 5, 2, 2),
-            (sell, same, 6, 2, 1),
-        ];
-        let ties = [
-            (sell, five, 1, 1, 0),
-            (buy, ten, 6, 2, 0),
-            (buy, ten, 7, 1, 1),
-            (buy, ten, 7, 1, 1),
-            (sell, ten, 6, 1, 0),
-            (sell, ten, 5, 2, 2),
-        ];
-        for rows in [fallback.as_slice(), ties.as_slice()] {
-            let mut orders = Vec::new(alloc);
-            for (place, row) in rows.iter().enumerate() {
-                let (side, bundle, price, quantity, _) = *row;
-                let id = place as u64;
-                orders.push(Order {
-                    id,
-                    account: 1,
-                    side,
-                    bundle,
-                    price,
-                    quantity,
-                })?;
-            }
-            let batch = Batch {
-                underlyings: 1,
-                orders: Orders::from_vec(orders),
-            };
-            let fills = match_each(alloc, &batch)?;
-            for (fill, row) in fills.iter().zip(rows) {
-                assert_eq!(rt; *fill, row.4);
-            }
-            assert_eq!(rt; fills.len(), rows.len());
-        }
-        Ok(())
-    }
 }

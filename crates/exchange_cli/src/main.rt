@@ -1,24 +1,8 @@
-//! The exchange program: command lines in, reply lines out.
+//! The exchange program on its words and standard streams.
 #![tactic(auto)]
 
-mod check;
-mod demo;
-mod failure;
-mod lines;
-mod modes;
-mod program;
-mod serving;
-#[cfg(test)]
-mod sessions;
-mod status;
-#[cfg(test)]
-mod tests;
-
-pub use check::MAX_JOURNAL;
-pub use lines::MAX_INPUT;
+use exchange_program::{Status, exchange};
 use port_io::{StdSink, StdSource};
-pub use program::exchange;
-pub use status::Status;
 use std::io;
 use std::process::ExitCode;
 

@@ -10,7 +10,7 @@ ghost use Rattle.frac.specs.Range.{limit, sum_within, product_within};
 
 mod order;
 
-use crate::products::{inverted, product};
+use crate::products::{product, reciprocal};
 use crate::sizes::is_in_range;
 use crate::sums::sum;
 use exact_num::{Exact, Operator, Wide};
@@ -191,7 +191,7 @@ impl Exact for Frac128 {
 
     #[inline(always)]
     fn div(self, other: Self) -> Result<Self, Wide> {
-        match self.product(inverted(other)) {
+        match self.product(reciprocal(other)) {
             Some(value) => Ok(value),
             None => Err(self.misfit(Operator::Div, other)),
         }

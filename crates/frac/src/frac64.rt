@@ -11,7 +11,7 @@ ghost use Rattle.exact_num.proofs.Order.{values_in_order, values_equal, values_p
 ghost use Rattle.arithmetic.proofs.Integers.{le_pos};
 ghost use Rattle.frac.specs.Range.{narrow_limit, sum_within, product_within};
 
-use crate::products::{inverted, product};
+use crate::products::{product, reciprocal};
 use crate::sizes::is_in_range;
 use crate::sums::sum;
 use crate::widths::{narrow, widen};
@@ -118,7 +118,7 @@ impl Frac64 {
         ensures { option_map narrow_fraction result ≡ product_within narrow_limit
             (narrow_fraction self) (inverse (narrow_fraction other)) }
     {
-        let value = product(widen(self), inverted(widen(other)), LARGEST)?;
+        let value = product(widen(self), reciprocal(widen(other)), LARGEST)?;
         Some(narrow(value))
     }
 

@@ -19,6 +19,3 @@ pub use frac128::Frac128;
 pub use shares::{mul_div_ceil, mul_div_floor};
 pub use wholes::whole;
 pub use widths::widen;
-
-#[cfg(test)]
-mod tests;

@@ -28,9 +28,10 @@ struct Factors {
     denominators: (u128, u128),
 }
 
-/// The two fractions without these divisors, where all parts are of 64 bits.
+/// The parts of the two fractions, each numerator and the other's denominator without what they have in common, where
+/// all are of 64 bits.
 #[inline(always)]
-fn crossed_short(x: Frac128, y: Frac128) -> Factors
+fn short_factors(x: Frac128, y: Frac128) -> Factors
     requires left { (unsigned_abs x.numerator < 2 ^ 64) × (x.denominator < 2 ^ 64) }
     requires right { (unsigned_abs y.numerator < 2 ^ 64) × (y.denominator < 2 ^ 64) }
     ensures above { result.numerators.0 *ℤ result.numerators.1
@@ -53,16 +54,17 @@ fn crossed_short(x: Frac128, y: Frac128) -> Factors
     }
 }
 
-/// The two fractions without these divisors: their products are those of a product in lowest terms.
+/// The parts of the two fractions, each numerator and the other's denominator without what they have in common: their
+/// products are those of a product in lowest terms.
 #[inline(always)]
-fn crossed(x: Frac128, y: Frac128) -> Factors
+fn reduced_factors(x: Frac128, y: Frac128) -> Factors
     ensures above { result.numerators.0 *ℤ result.numerators.1
         ≡ product_above (fraction_of x) (fraction_of y) }
     ensures below { result.denominators.0 * result.denominators.1
         ≡ product_below (fraction_of x) (fraction_of y) }
 {
     if is_short(x) && is_short(y) {
-        return crossed_short(x, y);
+        return short_factors(x, y);
     }
     let g = common(x.numerator, y.denominator);
     let h = common(y.numerator, x.denominator);
@@ -103,7 +105,7 @@ pub fn product(x: Frac128, y: Frac128, limit: u128) -> Option<Frac128>
     if x.denominator == 1 && y.denominator == 1 {
         return product_of_wholes(x, y, limit);
     }
-    let factors = crossed(x, y);
+    let factors = reduced_factors(x, y);
     let above = whole_product(factors.numerators.0, factors.numerators.1, limit)?;
     let below = natural_product(factors.denominators.0, factors.denominators.1, limit)?;
     Some(Frac128 {
@@ -114,7 +116,7 @@ pub fn product(x: Frac128, y: Frac128, limit: u128) -> Option<Frac128>
 
 /// One divided by the fraction.
 #[inline(always)]
-pub fn inverted(x: Frac128) -> Frac128
+pub fn reciprocal(x: Frac128) -> Frac128
     requires { x.numerator ≢ pos 0 }
     ensures { fraction_of result ≡ inverse (fraction_of x) }
 {

@@ -7,8 +7,6 @@ pub mod laws;
 mod margins;
 mod needs;
 mod replies;
-#[cfg(test)]
-mod tests;
 mod withdrawals;
 
 pub use answers::answer;

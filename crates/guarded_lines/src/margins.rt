@@ -63,7 +63,7 @@ pub(crate) fn margin_in(
 }
 
 // What is told of a margin.
-fn told(margin: &LeastMargin) -> ToldMargin
+fn told_margin(margin: &LeastMargin) -> ToldMargin
     ensures { result ≡ told_by margin.now }
 {
     match margin {
@@ -111,7 +111,7 @@ pub(crate) fn margin_reply(
     )? {
         Some(counted) => Ok(GuardedReply::Margin {
             request: *request,
-            margin: told(&counted.0),
+            margin: told_margin(&counted.0),
         }),
         None => Ok(GuardedReply::Plain(Refusal::TooMany.reply())),
     }

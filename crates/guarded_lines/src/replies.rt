@@ -4,7 +4,7 @@ ghost use Rattle.margin_text.specs.Within.{GuardedBodyIsWithin};
 ghost use Rattle.guarded_lines.specs.Replies.{guarded_reply_line, guarded_reply_to};
 
 use crate::margins::margin_reply;
-use crate::withdrawals::uncovered;
+use crate::withdrawals::uncovered_by;
 use exchange_core::{Exchange, Reply};
 use margin_text::{GuardedBody, MarginRequest, Need, ToldMargin, print_margin, print_uncovered};
 use std::alloc::{AllocError, Global};
@@ -40,7 +40,7 @@ pub fn reply_to(
     ensures err { OnErr result (exchange.new ≡ exchange.old) }
 {
     match said {
-        GuardedBody::Plain(body) => match uncovered(alloc, exchange, body)? {
+        GuardedBody::Plain(body) => match uncovered_by(alloc, exchange, body)? {
             Some(need) => Ok(GuardedReply::Uncovered { need }),
             None => Ok(GuardedReply::Plain(line_replies::reply_to(exchange, body)?)),
         },

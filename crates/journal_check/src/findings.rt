@@ -44,7 +44,7 @@ fn is_marked(mark: &Mark) -> bool
     }
 }
 
-fn judged(judgement: Judgement, mark: &Mark) -> Finding
+fn judgement_finding(judgement: Judgement, mark: &Mark) -> Finding
     ensures { result ≡ cleared_is judgement mark.now }
 {
     match judgement {
@@ -76,7 +76,7 @@ fn cleared_finding(alloc: Global, batch: &Batch, outcome: &Outcome) -> Result<Fi
         ≡ cleared_is (verdict_of limit batch.now outcome.now) outcome.now.mark) }
 {
     let mut signs = vec![in alloc; 0; leg_count(batch.orders.as_slice())]?;
-    Ok(judged(verdict(batch, outcome, &mut signs), &outcome.mark))
+    Ok(judgement_finding(verdict(batch, outcome, &mut signs), &outcome.mark))
 }
 
 fn reply_finding(alloc: Global, reply: &Reply) -> Result<Finding, AllocError>

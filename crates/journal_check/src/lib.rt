@@ -9,6 +9,3 @@ pub mod reports;
 
 pub use checking::check_journal;
 pub use reports::{Reason, Report, text};
-
-#[cfg(test)]
-mod tests;

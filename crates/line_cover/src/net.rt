@@ -1,6 +1,6 @@
 //! The net payoff of fills at a state, step by step.
 
-ghost use Rattle.std.specs.Prelude.{◌≡◌, ◌≤◌, All, length, map, zip};
+ghost use Rattle.std.specs.Prelude.{◌≡◌, All, length, map, zip};
 ghost use Rattle.exact_num.specs.Fits.{meaning};
 ghost use Rattle.frac.specs.Range.{limit};
 ghost use Rattle.frac.specs.Value.{fraction_of};

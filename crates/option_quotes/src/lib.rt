@@ -10,6 +10,3 @@ mod quoting;
 
 pub use quotes::Quoted;
 pub use quoting::quote;
-
-#[cfg(test)]
-mod tests;

@@ -65,7 +65,7 @@ pub(crate) fn room_with(
 
 /// The outcome of the batch, cleared in the room: its tables stay, and only the lists of this clear are taken before its first
 /// step.
-pub(crate) fn cleared(
+pub(crate) fn outcome_in(
     alloc: Global,
     batch: &Batch,
     limit: u32,
@@ -95,7 +95,7 @@ pub(crate) fn probe(
     ensures { IfOk result (λ outcome. outcome ≡ probe_outcome batch.now order limit price) }
 {
     let extended = with_order(alloc, batch, Order { price, ..order })?;
-    cleared(alloc, &extended, limit, room)
+    outcome_in(alloc, &extended, limit, room)
 }
 
 /// Whether the outcome is marked optimal.

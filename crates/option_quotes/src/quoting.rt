@@ -10,7 +10,7 @@ ghost use Rattle.option_quotes.specs.Quotes.{AreShown, IfAt, IfNever, IsNever, I
 
 use crate::ends::{Ends, Probed, between};
 use crate::probes::{
-    best_price, cleared, further, is_optimal, is_raised, probe, room_with, worst_price,
+    best_price, further, is_optimal, is_raised, outcome_in, probe, room_with, worst_price,
 };
 use crate::quotes::Quoted;
 use cert_check::Outcome;
@@ -36,8 +36,8 @@ fn from_worst(
     requires raised { is_raised base best.outcome ≡ true }
     ensures quote { IfOk result (IsQuote batch.now order limit) }
     ensures unmarked { IfOk result (λ quoted.
-        unmarked_of quoted
-        ≡ first_unmarked (probes_from_worst (probe_outcome batch.now order limit) base order.side)) }
+        unmarked_of quoted ≡ first_unmarked
+        (probes_from_worst (probe_outcome batch.now order limit) base order.side)) }
 {
     let price = worst_price(order.side);
     let outcome = probe(alloc, batch, order, price, limit, room)?;
@@ -139,7 +139,7 @@ pub fn quote(
 {
     let order = further(form, side);
     let mut room = room_with(alloc, batch, order, limit)?;
-    let base = cleared(alloc, batch, limit, &mut room)?;
+    let base = outcome_in(alloc, batch, limit, &mut room)?;
     if !is_optimal(&base) {
         return Ok(Quoted::Unmarked {
             probe: None,

@@ -12,6 +12,3 @@ mod turn;
 pub use least_margin::LeastMargin;
 pub use margins::margin;
 pub use needs::{Needed, need};
-
-#[cfg(test)]
-mod tests;

@@ -2,10 +2,8 @@
 #![tactic(auto)]
 
 pub mod laws;
-mod matched;
+mod places;
 mod requests;
-#[cfg(test)]
-mod tests;
 mod words;
 
 pub use requests::{MAX_COUNT, MAX_SEED, Mode, Request, WordsFault};

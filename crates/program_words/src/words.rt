@@ -3,7 +3,7 @@ ghost use Rattle.std.specs.Prelude.{◌≡◌, map, option_map, string_bytes, If
 ghost use Rattle.program_words.specs.Positional.{is_plain, are_positional, request_in};
 ghost use Rattle.program_words.specs.Requests.{natural_in, one_word, three_words, request_of, IsRequestWithin};
 
-use crate::matched::{Texts, by_place};
+use crate::places::{Texts, by_place};
 use crate::requests::{MAX_COUNT, MAX_SEED, Mode, Request, WordsFault};
 use command_text::{NumberRead, number};
 use std::alloc::Global;

@@ -8,6 +8,3 @@ mod replies;
 
 pub use answers::answer;
 pub use replies::{QuotesReply, reply_to};
-
-#[cfg(test)]
-mod tests;

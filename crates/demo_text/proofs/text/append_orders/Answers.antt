@@ -13,5 +13,5 @@ loop-index-preserved c =
     let before = string_bytes c.loop-index.text in
     let lines : string_bytes c.push_str-in-loop-index.new.self ≡ (before ++ order_line (order_from c.loop-index.draws.state)) ++ clear_line c.args.count (k + 1) = search rules in (
       lines ∙ ap (λ (x : ℕ). (before ++ order_line (order_from x)) ++ clear_line c.args.count (k + 1)) c.loop-index.invariant.1 ∙ order_more seed c.args.count k (string_bytes c.args.text.now) before c.loop-index.invariant.0,
-      c.drawn-order.ensures.state ∙ ap (after 7) c.loop-index.invariant.1 ∙ seven_more k seed,
+      c.draw-order.ensures.state ∙ ap (after 7) c.loop-index.invariant.1 ∙ seven_more k seed,
     )

@@ -16,5 +16,5 @@ returns-in-Some-2 c =
     let opened : is_open state.accounts request.account ≡ true =
     open_where_told state.accounts request.account (balance_of request.account state.entries) c.balance.result c.balance.ensures.value
     ∙ c.is_none.ensures ∙ ap not c.if-is_none.false in
-    margin_replied state request c.info.result c.told.result c.info.ensures.info c.in_default.ensures opened
-    (many_not _ is.0) (c.told.ensures ∙ told_is (run_in state request.account request.market request.budget) counted.0 is.2)
+    margin_replied state request c.info.result c.told_margin.result c.info.ensures.info c.in_default.ensures opened
+    (many_not _ is.0) (c.told_margin.ensures ∙ told_is (run_in state request.account request.market request.budget) counted.0 is.2)

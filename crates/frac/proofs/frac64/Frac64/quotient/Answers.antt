@@ -6,4 +6,4 @@ use Rattle.frac.proofs.frac64.Frac64.quotient.Goals as goal
 
 pub narrow-requires : goal.narrow-requires
 narrow-requires c =
-    product_is_within _ _ _ _ c.widen.result.lowest c.inverted.result.lowest (ap (option_map fraction_of) (sym c.in_ok-value.was) ∙ c.product.ensures)
+    product_is_within _ _ _ _ c.widen.result.lowest c.reciprocal.result.lowest (ap (option_map fraction_of) (sym c.in_ok-value.was) ∙ c.product.ensures)

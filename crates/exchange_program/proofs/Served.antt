@@ -1,0 +1,92 @@
+-- What is written for a request, and the status that it ends with.
+use Rattle.std.proofs.Common.{◌≡◌, ℕ, List, [], Option, Some, None, IfSome, refl, sym, ◌∙◌, subst, arith}
+use Rattle.std.proofs.KnownBytes.{Appends-nil}
+use Rattle.std.specs.List.{All}
+use Rattle.std.specs.Io.KnownBytes.{Appends}
+use Rattle.port_io.specs.Writes.{AppendsFront}
+use Rattle.journal_check.specs.JournalLines.{lines_of}
+use Rattle.journal_check.specs.Laws.{IsSoundLine, Says}
+use Rattle.journal_check.specs.Reports.{report_of}
+use Rattle.journal_check.specs.declared.reports.Report.{Report}
+use Rattle.journal_check.specs.declared.reports.Report.TheVariants.{Sound, Faulty}
+use Rattle.journal_check.proofs.ReportsSay.{reports_say}
+use Rattle.exchange_lines.specs.Promises.{TellAnswers}
+use Rattle.exchange_lines.proofs.AsRun.{output_tells, run_tells}
+use Rattle.exchange_sessions.proofs.TellLaws.{output_tells_once}
+use Rattle.guarded_lines.specs.Output.{IsMarginText, guarded_line}
+use Rattle.guarded_lines.proofs.AsRun.{guarded_answer_as_run}
+use Rattle.program_words.specs.declared.requests.Mode.{Mode}
+use Rattle.program_words.specs.declared.requests.Mode.TheVariants.{Run, Quotes, Guarded}
+use Rattle.program_words.specs.declared.requests.Request.{Request}
+use Rattle.program_words.specs.declared.requests.Request.TheVariants.{Lines, Check, Sessions, Demo}
+use Rattle.quote_lines.specs.Output.{IsQuoteText, quotes_line}
+use Rattle.quote_lines.proofs.AsRun.{quotes_answer_as_run}
+use Rattle.exchange_program.specs.Modes.{IsBesideIn, mode_output}
+use Rattle.exchange_program.specs.Requests.{NamesFault, OfInput, Promised, WhereCheck, output_for, status_by, status_for}
+use Rattle.exchange_program.specs.Wrote.{Wrote, WroteFront}
+use Rattle.exchange_program.specs.declared.status.Status.{Status}
+use Rattle.exchange_program.specs.declared.status.Status.TheVariants.{Done, Usage, CheckNo}
+
+-- ---- what is promised of the bytes that are written
+told_in : (mode : Mode) (input : List ℕ) → TellAnswers (IsBesideIn mode) (mode_output mode input)
+told_in Run input = run_tells input
+told_in Quotes input = output_tells IsQuoteText quotes_line quotes_answer_as_run input
+told_in Guarded input = output_tells IsMarginText guarded_line guarded_answer_as_run input
+
+promised : (request : Request) (input : List ℕ) → Promised request (output_for request input)
+promised (Lines mode) input = told_in mode input
+promised Check input = tt
+promised Sessions input = output_tells_once input
+promised (Demo seed count) input = tt
+
+pub told : (request : Request) (old new : Option (List ℕ)) (input : List ℕ) → Appends old new (output_for request input) → Wrote old new (Promised request)
+told request old new input wrote = (output_for request input, promised request input, wrote)
+
+pub told_front : (request : Request) (old new : Option (List ℕ)) (input : List ℕ) → AppendsFront old new (output_for request input) → WroteFront old new (Promised request)
+told_front request old new input wrote = (output_for request input, promised request input, wrote)
+
+-- nothing at all is a front of it
+pub nothing_told : (request : Request) (old : Option (List ℕ)) → WroteFront old old (Promised request)
+nothing_told request old = told_front request old old [] (0, omega arith, Appends-nil old)
+
+pub nothing_told_yet : (asked : Option Request) (old : Option (List ℕ)) → IfSome asked (λ request. WroteFront old old (Promised request))
+nothing_told_yet None old = tt
+nothing_told_yet (Some request) old = nothing_told request old
+
+-- ---- what a check found
+all_sound : (texts : List (List ℕ)) (report : Report) → Says texts report → status_by report ≡ Done → All IsSoundLine texts
+all_sound texts (Sound batches lines optimal) says is = says
+all_sound texts (Faulty line reason) says is = cc
+
+names_fault : (input : List ℕ) (report : Report) → report_of input ≡ report → Says (lines_of input) report → status_by report ≡ CheckNo → NamesFault input
+names_fault input (Sound batches lines optimal) e says is = cc
+names_fault input (Faulty line reason) e says is = (line, reason, e, says)
+
+module _ (status : Status) (bytes : List ℕ) where
+  pub sound : (request : Request) (left : Option (List ℕ)) → OfInput request left (λ input. bytes ≡ input) → status ≡ status_for request bytes → status ≡ Done
+      → WhereCheck request (IfSome left (λ input. All IsSoundLine (lines_of input)))
+  sound (Lines mode) left all is done = tt
+  sound Check None all is done = tt
+  sound Check (Some input) all is done =
+      subst (λ (b : List ℕ). All IsSoundLine (lines_of b)) all (all_sound (lines_of bytes) (report_of bytes) (reports_say bytes) (sym is ∙ done))
+  sound Sessions left all is done = tt
+  sound (Demo seed count) left all is done = tt
+
+  pub faulty : (request : Request) (left : Option (List ℕ)) → OfInput request left (λ input. bytes ≡ input) → status ≡ status_for request bytes → status ≡ CheckNo
+      → WhereCheck request (IfSome left NamesFault)
+  faulty (Lines mode) left all is failed = tt
+  faulty Check None all is failed = tt
+  faulty Check (Some input) all is failed = subst NamesFault all (names_fault bytes (report_of bytes) refl (reports_say bytes) (sym is ∙ failed))
+  faulty Sessions left all is failed = tt
+  faulty (Demo seed count) left all is failed = tt
+
+-- ---- no answer to a request is Usage
+report_known : (report : Report) → status_by report ≡ Usage → ⊥
+report_known (Sound batches lines optimal) e = cc
+report_known (Faulty line reason) e = cc
+
+pub known : (request : Request) (input : List ℕ) (status : Status) → status ≡ status_for request input → status ≡ Usage → ⊥
+known (Lines mode) input status is usage = cc
+known Check input status is usage = report_known (report_of input) (sym is ∙ usage)
+known Sessions input status is usage = cc
+known (Demo seed count) input status is usage = cc

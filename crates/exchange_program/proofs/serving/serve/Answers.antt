@@ -1,0 +1,31 @@
+use Rattle.std.proofs.Common.{◌≡◌, subst, sym}
+use Rattle.exchange_program.specs.Requests.{OfInput}
+use Rattle.exchange_program.proofs.Served.{told, told_front, nothing_told, sound, faulty, known}
+use Rattle.exchange_program.proofs.serving.serve.Goals as goal
+
+pub returns-in-Ok-respond-clause-told : goal.returns-in-Ok-respond-clause-told
+returns-in-Ok-respond-clause-told g c = λ ended. told c.args.request _ _ c.deref.result.now c.in-Ok-respond.ensures.ok
+
+pub returns-in-Ok-respond-clause-sound : goal.returns-in-Ok-respond-clause-sound
+returns-in-Ok-respond-clause-sound g c = λ ended.
+    sound c.in-Ok-respond.status c.deref.result.now c.args.request (g.S.Source.left c.args.source.now)
+    (subst (λ b. OfInput c.args.request (g.S.Source.left c.args.source.now) (λ input. b ≡ input)) (sym c.deref.ensures.value) c.in-Ok.ensures.all)
+    c.in-Ok-respond.ensures.status ended
+
+pub returns-in-Ok-respond-clause-faulty : goal.returns-in-Ok-respond-clause-faulty
+returns-in-Ok-respond-clause-faulty g c = λ ended.
+    faulty c.in-Ok-respond.status c.deref.result.now c.args.request (g.S.Source.left c.args.source.now)
+    (subst (λ b. OfInput c.args.request (g.S.Source.left c.args.source.now) (λ input. b ≡ input)) (sym c.deref.ensures.value) c.in-Ok.ensures.all)
+    c.in-Ok-respond.ensures.status ended
+
+pub returns-in-Ok-respond-clause-known : goal.returns-in-Ok-respond-clause-known
+returns-in-Ok-respond-clause-known g c = λ usage. known c.args.request c.deref.result.now c.in-Ok-respond.status c.in-Ok-respond.ensures.status usage
+
+pub returns-in-Err-SinkFailed-clause-told_front : goal.returns-in-Err-SinkFailed-clause-told_front
+returns-in-Err-SinkFailed-clause-told_front g c = λ ended. told_front c.args.request _ _ c.deref.result.now c.in-Err-SinkFailed.ensures.front
+
+pub returns-clause-told_front : goal.returns-clause-told_front
+returns-clause-told_front g c = λ ended. told_front c.args.request _ _ c.deref.result.now c.in-Err-OutOfMemory.ensures.front
+
+pub returns-in-Err-Memory-clause-told_front : goal.returns-in-Err-Memory-clause-told_front
+returns-in-Err-Memory-clause-told_front g c = λ ended. nothing_told c.args.request (g.K.Sink.written c.args.sink.now)

@@ -1,0 +1,105 @@
+-- What the program does for each request.
+use Rattle.std.specs.Prelude.{ℕ, List, [], ◌∷◌, ◌++◌, ◌≡◌, ◌≤◌, ◌⊎◌, length, Option, Some, IfSome, IsSomeAnd}
+use Rattle.demo_run.specs.Demo.{demo_output}
+use Rattle.exchange_lines.specs.Promises.{TellAnswers}
+use Rattle.exchange_sessions.specs.Answers.{sessions_output}
+use Rattle.exchange_sessions.specs.Laws.{TellOnce}
+use Rattle.journal_check.specs.JournalLines.{lines_of}
+use Rattle.journal_check.specs.Laws.{IsFirstFault}
+use Rattle.journal_check.specs.declared.reports.Reason.{Reason}
+use Rattle.journal_check.specs.declared.reports.Report.{Report}
+use Rattle.journal_check.specs.declared.reports.Report.TheVariants.{Sound, Faulty}
+use Rattle.journal_check.specs.Reports.{report_of, report_text}
+use Rattle.program_words.specs.declared.requests.Request.{Request}
+use Rattle.program_words.specs.declared.requests.Request.TheVariants.{Lines, Check, Sessions, Demo}
+use Rattle.program_words.specs.Requests.{request_of}
+use Rattle.exchange_program.specs.Modes.{IsBesideIn, mode_output}
+use Rattle.exchange_program.specs.declared.lines.TheConstants.{MAX_INPUT}
+use Rattle.exchange_program.specs.declared.check.TheConstants.{MAX_JOURNAL}
+use Rattle.exchange_program.specs.declared.status.Status.{Status}
+use Rattle.exchange_program.specs.declared.status.Status.TheVariants.{Done, CheckNo}
+
+-- ---- the input
+-- at most so many bytes of it are read, and none for a demo
+abbrev pub input_limit : Request → ℕ
+input_limit (Lines mode) = MAX_INPUT
+input_limit Check = MAX_JOURNAL
+input_limit Sessions = MAX_INPUT
+input_limit (Demo seed count) = 0
+
+-- a fact of the bytes that are read: those that were left, or none
+abbrev pub OfInput : Request → Option (List ℕ) → (List ℕ → Type 0) → Type 0
+OfInput (Lines mode) left P = IfSome left P
+OfInput Check left P = IfSome left P
+OfInput Sessions left P = IfSome left P
+OfInput (Demo seed count) left P = P []
+
+-- all that was left is read, where the input is read
+abbrev pub IsReadWhole : Request → Option (List ℕ) → Option (List ℕ) → Type 0
+IsReadWhole (Lines mode) old new = IfSome old (λ input. new ≡ Some [])
+IsReadWhole Check old new = IfSome old (λ input. new ≡ Some [])
+IsReadWhole Sessions old new = IfSome old (λ input. new ≡ Some [])
+IsReadWhole (Demo seed count) old new = Unit {0}
+
+-- what is left is told, and is within the limit
+abbrev pub IsInputWithin : Request → Option (List ℕ) → Type 0
+IsInputWithin (Lines mode) left = IsSomeAnd left (λ input. length input ≤ MAX_INPUT)
+IsInputWithin Check left = IsSomeAnd left (λ input. length input ≤ MAX_JOURNAL)
+IsInputWithin Sessions left = IsSomeAnd left (λ input. length input ≤ MAX_INPUT)
+IsInputWithin (Demo seed count) left = Unit {0}
+
+-- ---- the output
+abbrev pub report_line : List ℕ → List ℕ
+report_line input = report_text (report_of input) ++ 10 ∷ []
+
+-- what is written, the input being these bytes
+abbrev pub output_for : Request → List ℕ → List ℕ
+output_for (Lines mode) input = mode_output mode input
+output_for Check input = report_line input
+output_for Sessions input = sessions_output input
+output_for (Demo seed count) input = demo_output seed count
+
+-- ---- the status
+abbrev pub status_by : Report → Status
+status_by (Sound batches lines optimal) = Done
+status_by (Faulty line reason) = CheckNo
+
+-- the status once all is written
+abbrev pub status_for : Request → List ℕ → Status
+status_for (Lines mode) input = Done
+status_for Check input = status_by (report_of input)
+status_for Sessions input = Done
+status_for (Demo seed count) input = Done
+
+-- all was written
+abbrev pub HasEnded : Status → Type 0
+HasEnded status = (status ≡ Done) ⊎ (status ≡ CheckNo)
+
+-- ---- facts of one request alone
+-- what is promised of the bytes that are written: command lines are told their answers, and sessions tell each message once
+abbrev pub Promised : Request → List ℕ → Type 0
+Promised (Lines mode) bytes = TellAnswers (IsBesideIn mode) bytes
+Promised Check bytes = Unit {0}
+Promised Sessions bytes = TellOnce bytes
+Promised (Demo seed count) bytes = Unit {0}
+
+abbrev pub WhereCheck : Request → Type 0 → Type 0
+WhereCheck (Lines mode) P = Unit {0}
+WhereCheck Check P = P
+WhereCheck Sessions P = Unit {0}
+WhereCheck (Demo seed count) P = Unit {0}
+
+abbrev pub WhereDemo : Request → Type 0 → Type 0
+WhereDemo (Lines mode) P = Unit {0}
+WhereDemo Check P = Unit {0}
+WhereDemo Sessions P = Unit {0}
+WhereDemo (Demo seed count) P = P
+
+-- ---- a journal with a fault
+-- the report names a line, and it is the first that is not sound
+abbrev pub NamesFault : List ℕ → Type 0
+NamesFault input = (line : ℕ) × (reason : Reason) × (report_of input ≡ Faulty line reason) × IsFirstFault (lines_of input) line reason
+
+-- a fact of what the words ask for
+abbrev pub Asked : List (List ℕ) → (Request → Type 0) → Type 0
+Asked words P = IfSome (request_of words) P

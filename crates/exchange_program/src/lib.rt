@@ -1,0 +1,16 @@
+//! The exchange program over any words, source and sink: command lines in, reply lines out.
+#![tactic(auto)]
+
+mod check;
+mod demo;
+mod failure;
+mod lines;
+mod modes;
+mod program;
+mod serving;
+mod status;
+
+pub use check::MAX_JOURNAL;
+pub use lines::MAX_INPUT;
+pub use program::exchange;
+pub use status::Status;

@@ -1,0 +1,112 @@
+// The top call.
+ghost use Rattle.std.specs.Prelude.{◌≡◌, ◌⊎◌, ◌≤◌, ◌<◌, ◌+◌, None, IfSome, length, map, string_bytes};
+ghost use Rattle.std.specs.List.{All};
+ghost use Rattle.std.specs.Io.KnownBytes.{Appends};
+ghost use Rattle.port_io.specs.Faults.{Rose, raised_by};
+ghost use Rattle.port_io.specs.Reads.{TakesUpTo};
+ghost use Rattle.port_io.specs.Writes.{AppendsFront};
+ghost use Rattle.journal_check.specs.JournalLines.{lines_of};
+ghost use Rattle.journal_check.specs.Laws.{IsSoundLine};
+ghost use Rattle.program_words.specs.Requests.{request_of};
+ghost use Rattle.exchange_program.specs.Requests.{Asked, HasEnded, IsInputWithin, IsReadWhole, NamesFault, OfInput, Promised, WhereCheck, WhereDemo, input_limit, output_for, status_for};
+ghost use Rattle.exchange_program.specs.Wrote.{Wrote, WroteFront};
+
+use crate::serving::serve;
+use crate::status::Status;
+use port_io::{Sink, Source};
+use program_words::{Request, WordsFault, request};
+use std::alloc::Global;
+
+/// Runs the program on the words after its name.
+///
+/// `run` reads commands to their end and writes a reply line for each, by one `write_all`. `quotes` does the same and also
+/// answers at which prices a further order raises the greatest surplus. `guarded` does the same as `run` and also answers which
+/// liability covers an account's positions, and it refuses a withdrawal below what the account needs. `check` reads reply lines
+/// to their end and writes one report line: that all are sound, with their counts, or the first that is not, and why.
+/// `sessions` reads messages to their end and answers each, once and in its session's order. `demo` with a seed and a number of
+/// orders reads nothing, runs the text that it makes from them, and writes one summary line.
+pub fn exchange<S: Source, K: Sink>(
+    alloc: Global,
+    words: &[String],
+    source: &mut S,
+    sink: &mut K,
+) -> Status
+    // The words have one of the forms, or there was no memory to read them.
+    ensures usage { result ≡ Status.Usage → request_of (map string_bytes words.now) ≡ None }
+    ensures usage_else { request_of (map string_bytes words.now) ≡ None →
+        (result ≡ Status.Usage) ⊎ (result ≡ Status.Memory) }
+    ensures usage_untouched { request_of (map string_bytes words.now) ≡ None →
+        (source.new ≡ source.old) × (sink.new ≡ sink.old) }
+
+    // What is written is the defined output of all bytes that were left, and the status is theirs.
+    ensures done { HasEnded result →
+        Asked (map string_bytes words.now) (λ request.
+        OfInput request (S.left source.old) (λ input. (result ≡ status_for request input)
+        × Appends (K.written sink.old) (K.written sink.new) (output_for request input))) }
+    ensures whole { HasEnded result →
+        Asked (map string_bytes words.now) (λ request.
+        IsReadWhole request (S.left source.old) (S.left source.new)) }
+    ensures front { (result ≡ Status.WriteFault) ⊎ (result ≡ Status.Memory) →
+        Asked (map string_bytes words.now) (λ request.
+        OfInput request (S.left source.old) (λ input.
+        AppendsFront (K.written sink.old) (K.written sink.new) (output_for request input))) }
+
+    // It keeps what the request promises of it: command lines are told answers that keep what is promised.
+    ensures told { result ≡ Status.Done →
+        Asked (map string_bytes words.now) (λ request.
+        Wrote (K.written sink.old) (K.written sink.new) (Promised request)) }
+    ensures told_front { (result ≡ Status.WriteFault) ⊎ (result ≡ Status.Memory) →
+        Asked (map string_bytes words.now) (λ request.
+        WroteFront (K.written sink.old) (K.written sink.new) (Promised request)) }
+
+    // Where a check is done every line is sound, and else its report names the first that is not.
+    ensures sound { result ≡ Status.Done →
+        Asked (map string_bytes words.now) (λ request.
+        WhereCheck request (IfSome (S.left source.old) (λ input.
+        All IsSoundLine (lines_of input)))) }
+    ensures faulty { result ≡ Status.CheckNo →
+        Asked (map string_bytes words.now) (λ request.
+        WhereCheck request (IfSome (S.left source.old) NamesFault)) }
+    ensures check_alone { result ≡ Status.CheckNo →
+        Asked (map string_bytes words.now) (λ request.
+        request ≡ Request.Check) }
+
+    // A demo reads nothing.
+    ensures unread { Asked (map string_bytes words.now) (λ request.
+        WhereDemo request (source.new ≡ source.old)) }
+
+    // Each other status has its cause.
+    ensures read_fault { result ≡ Status.ReadFault →
+        Rose (S.faults source.old) (S.faults source.new) }
+    ensures read_fault_in_time { result ≡ Status.ReadFault →
+        Asked (map string_bytes words.now) (λ request.
+        (S.taken source.new ≤ S.taken source.old + input_limit request)
+        × TakesUpTo (S.left source.old) (S.left source.new) (input_limit request)) }
+    ensures silent { (result ≡ Status.ReadFault) ⊎ (result ≡ Status.TooLong) → sink.new ≡ sink.old }
+    ensures write_fault { result ≡ Status.WriteFault →
+        Rose (K.faults sink.old) (K.faults sink.new) }
+    ensures too_long { result ≡ Status.TooLong →
+        Asked (map string_bytes words.now) (λ request.
+        OfInput request (S.left source.old) (λ input. input_limit request < length input)) }
+    ensures too_long_no_fault { result ≡ Status.TooLong →
+        S.faults source.new ≡ S.faults source.old }
+    ensures too_many { result ≡ Status.TooLong →
+        Asked (map string_bytes words.now) (λ request.
+        raised_by (S.taken source.old) (input_limit request + 1) ≤ S.taken source.new) }
+    ensures within { HasEnded result ⊎ (result ≡ Status.WriteFault) →
+        Asked (map string_bytes words.now) (λ request.
+        OfInput request (S.left source.old) (λ input. length input ≤ input_limit request)) }
+
+    // Within the limit and without a fault, the output is written, or there was no memory.
+    ensures complete { Asked (map string_bytes words.now) (λ request.
+        IsInputWithin request (S.left source.old) →
+        ¬ Rose (S.faults source.old) (S.faults source.new) →
+        ¬ Rose (K.faults sink.old) (K.faults sink.new) →
+        HasEnded result ⊎ (result ≡ Status.Memory)) }
+{
+    match request(alloc, words) {
+        Ok(request) => serve(alloc, request, source, sink),
+        Err(WordsFault::Usage) => Status::Usage,
+        Err(WordsFault::Memory) => Status::Memory,
+    }
+}

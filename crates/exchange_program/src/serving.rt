@@ -1,0 +1,159 @@
+// What the program does for a request.
+ghost use Rattle.std.specs.Prelude.{◌≡◌, ◌≢◌, ◌⊎◌, ◌≤◌, ◌<◌, ◌+◌, IfOk, IfSome, IsErrOf, OnErr, OnOk, length};
+ghost use Rattle.std.specs.List.{All};
+ghost use Rattle.std.specs.Io.KnownBytes.{Appends};
+ghost use Rattle.port_io.specs.Faults.{Rose, raised_by};
+ghost use Rattle.port_io.specs.Reads.{TakesUpTo};
+ghost use Rattle.port_io.specs.Writes.{AppendsFront};
+ghost use Rattle.journal_check.specs.JournalLines.{lines_of};
+ghost use Rattle.journal_check.specs.Laws.{IsSoundLine};
+ghost use Rattle.program_words.specs.Requests.{IsRequestWithin};
+ghost use Rattle.exchange_program.specs.Requests.{HasEnded, IsInputWithin, IsReadWhole, NamesFault, OfInput, Promised, WhereCheck, WhereDemo, input_limit, output_for, status_for};
+ghost use Rattle.exchange_program.specs.Wrote.{Wrote, WroteFront};
+
+use crate::check::{MAX_JOURNAL, report_on};
+use crate::demo::write_demo;
+use crate::failure::AnswerFailure;
+use crate::lines::{MAX_INPUT, answer_lines};
+use crate::status::Status;
+use exchange_sessions::answer_messages;
+use port_io::{ReadStop, Sink, Source, read_all};
+use program_words::Request;
+use std::alloc::Global;
+
+// The bytes that the request is about: those that were left, or none.
+fn input_of<S: Source>(alloc: Global, request: Request, source: &mut S) -> Result<Vec<u8>, ReadStop>
+    ensures all { IfOk result (λ bytes.
+        OfInput request (S.left source.old) (λ input. bytes.items ≡ input)) }
+    ensures whole { OnOk result (IsReadWhole request (S.left source.old) (S.left source.new)) }
+    ensures within { IfOk result (λ bytes. length bytes.items ≤ input_limit request) }
+    ensures calm { OnOk result (S.faults source.new ≡ S.faults source.old) }
+    ensures unread { WhereDemo request (source.new ≡ source.old) }
+    ensures fault { IsErrOf result ReadStop.ReadFault →
+        Rose (S.faults source.old) (S.faults source.new) }
+    ensures in_time { IsErrOf result ReadStop.ReadFault →
+        (S.taken source.new ≤ S.taken source.old + input_limit request)
+        × TakesUpTo (S.left source.old) (S.left source.new) (input_limit request) }
+    ensures too_long { IsErrOf result ReadStop.TooLong →
+        OfInput request (S.left source.old) (λ input. input_limit request < length input) }
+    ensures no_fault_before { IsErrOf result ReadStop.TooLong →
+        S.faults source.new ≡ S.faults source.old }
+    ensures too_many { IsErrOf result ReadStop.TooLong →
+        raised_by (S.taken source.old) (input_limit request + 1) ≤ S.taken source.new }
+{
+    match request {
+        Request::Lines(_) | Request::Sessions => read_all(alloc, source, MAX_INPUT),
+        Request::Check => read_all(alloc, source, MAX_JOURNAL),
+        Request::Demo { .. } => Ok(Vec::new(alloc)),
+    }
+}
+
+// Writes what the request asks for, of these bytes.
+fn respond<K: Sink>(
+    alloc: Global,
+    request: Request,
+    input: &[u8],
+    sink: &mut K,
+) -> Result<Status, AnswerFailure>
+    requires asked { IsRequestWithin request }
+    requires within { length input.now ≤ input_limit request }
+    ensures status { IfOk result (λ status. status ≡ status_for request input.now) }
+    ensures ok { OnOk result
+        (Appends (K.written sink.old) (K.written sink.new) (output_for request input.now)) }
+    ensures front { OnErr result
+        (AppendsFront (K.written sink.old) (K.written sink.new) (output_for request input.now)) }
+    ensures fault { IsErrOf result AnswerFailure.SinkFailed →
+        Rose (K.faults sink.old) (K.faults sink.new) }
+    ensures later { K.faults sink.old ≤ K.faults sink.new }
+{
+    match request {
+        Request::Lines(mode) => {
+            answer_lines(alloc, mode, input, sink)?;
+            Ok(Status::Done)
+        }
+        Request::Check => report_on(alloc, input, sink),
+        Request::Sessions => {
+            answer_messages(alloc, input, sink)?;
+            Ok(Status::Done)
+        }
+        Request::Demo { seed, count } => {
+            write_demo(alloc, seed, count, sink)?;
+            Ok(Status::Done)
+        }
+    }
+}
+
+// Reads the input of a request, and writes what it asks for.
+pub(crate) fn serve<S: Source, K: Sink>(
+    alloc: Global,
+    request: Request,
+    source: &mut S,
+    sink: &mut K,
+) -> Status
+    requires { IsRequestWithin request }
+    ensures known { result ≢ Status.Usage }
+
+    // What is written is the defined output of all bytes that were left, and the status is theirs.
+    ensures done { HasEnded result →
+        OfInput request (S.left source.old) (λ input. (result ≡ status_for request input)
+        × Appends (K.written sink.old) (K.written sink.new) (output_for request input)) }
+    ensures whole { HasEnded result →
+        IsReadWhole request (S.left source.old) (S.left source.new) }
+    ensures front { (result ≡ Status.WriteFault) ⊎ (result ≡ Status.Memory) →
+        OfInput request (S.left source.old) (λ input.
+        AppendsFront (K.written sink.old) (K.written sink.new) (output_for request input)) }
+
+    // It keeps what the request promises of it: command lines are told answers that keep what is promised.
+    ensures told { result ≡ Status.Done →
+        Wrote (K.written sink.old) (K.written sink.new) (Promised request) }
+    ensures told_front { (result ≡ Status.WriteFault) ⊎ (result ≡ Status.Memory) →
+        WroteFront (K.written sink.old) (K.written sink.new) (Promised request) }
+
+    // Where a check is done every line is sound, and else its report names the first that is not.
+    ensures sound { result ≡ Status.Done →
+        WhereCheck request (IfSome (S.left source.old) (λ input.
+        All IsSoundLine (lines_of input))) }
+    ensures faulty { result ≡ Status.CheckNo →
+        WhereCheck request (IfSome (S.left source.old) NamesFault) }
+    ensures check_alone { result ≡ Status.CheckNo →
+        request ≡ Request.Check }
+
+    // A demo reads nothing.
+    ensures unread { WhereDemo request (source.new ≡ source.old) }
+
+    // Each other status has its cause.
+    ensures read_fault { result ≡ Status.ReadFault →
+        Rose (S.faults source.old) (S.faults source.new) }
+    ensures read_fault_in_time { result ≡ Status.ReadFault →
+        (S.taken source.new ≤ S.taken source.old + input_limit request)
+        × TakesUpTo (S.left source.old) (S.left source.new) (input_limit request) }
+    ensures silent { (result ≡ Status.ReadFault) ⊎ (result ≡ Status.TooLong) → sink.new ≡ sink.old }
+    ensures write_fault { result ≡ Status.WriteFault →
+        Rose (K.faults sink.old) (K.faults sink.new) }
+    ensures too_long { result ≡ Status.TooLong →
+        OfInput request (S.left source.old) (λ input. input_limit request < length input) }
+    ensures too_long_no_fault { result ≡ Status.TooLong →
+        S.faults source.new ≡ S.faults source.old }
+    ensures too_many { result ≡ Status.TooLong →
+        raised_by (S.taken source.old) (input_limit request + 1) ≤ S.taken source.new }
+    ensures within { HasEnded result ⊎ (result ≡ Status.WriteFault) →
+        OfInput request (S.left source.old) (λ input. length input ≤ input_limit request) }
+
+    // Within the limit and without a fault, the output is written, or there was no memory.
+    ensures complete { IsInputWithin request (S.left source.old) →
+        ¬ Rose (S.faults source.old) (S.faults source.new) →
+        ¬ Rose (K.faults sink.old) (K.faults sink.new) →
+        HasEnded result ⊎ (result ≡ Status.Memory) }
+{
+    let input = match input_of(alloc, request, source) {
+        Ok(input) => input,
+        Err(ReadStop::ReadFault) => return Status::ReadFault,
+        Err(ReadStop::TooLong) => return Status::TooLong,
+        Err(ReadStop::Memory) => return Status::Memory,
+    };
+    match respond(alloc, request, &input, sink) {
+        Ok(status) => status,
+        Err(AnswerFailure::SinkFailed) => Status::WriteFault,
+        Err(AnswerFailure::OutOfMemory) => Status::Memory,
+    }
+}

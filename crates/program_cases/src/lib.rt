@@ -1,0 +1,21 @@
+//! Whole calls of the program, its words, its journals and its demos.
+#![tactic(auto)]
+
+#[cfg(test)]
+mod demos;
+#[cfg(test)]
+mod endings;
+#[cfg(test)]
+mod faults;
+#[cfg(test)]
+mod journals;
+#[cfg(test)]
+mod reports;
+#[cfg(test)]
+mod running;
+#[cfg(test)]
+mod session_texts;
+#[cfg(test)]
+mod sessions;
+#[cfg(test)]
+mod words;

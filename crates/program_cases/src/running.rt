@@ -1,0 +1,60 @@
+// How the program is run, and how what it writes is compared.
+use exchange_program::{Status, exchange};
+use port_io::{MemSink, MemSource};
+use std::alloc::{AllocError, Global};
+use std::process::Abort;
+
+// The worked batch "one option matched", and its replies.
+pub(crate) static MATCHED: &str =
+    "open,1\nopen,2\ndeposit,1,100\nmarket,1,1\nbuy,1,1,call,10,7,1,1\nsell,2,1,call,10,5,1,1\nclear,1,100\nbalance,0";
+
+pub(crate) static MATCHED_REPLIES: &str = r#"{"account":1,"line":1,"reply":"opened"}
+{"account":2,"line":2,"reply":"opened"}
+{"account":1,"balance":"100","line":3,"reply":"deposited"}
+{"line":4,"market":1,"reply":"listed","underlyings":1}
+{"line":5,"order":1,"reply":"placed"}
+{"line":6,"order":2,"reply":"placed"}
+{"batch":1,"certificate":{"cover":"line","measure":[{"state":["1","0"],"weight":"1"},{"state":["0","1"],"weight":"5"}]},"fills":["1","1"],"liability":"0","line":7,"mark":"optimal","market":1,"orders":[{"account":1,"form":[-10,1],"order":1,"price":7,"quantity":1,"side":"buy"},{"account":2,"form":[-10,1],"order":2,"price":5,"quantity":1,"side":"sell"}],"reply":"cleared","surplus":"2","underlyings":1,"units":2,"version":1}
+{"account":0,"balance":"2","line":8,"reply":"balance","reserved":"0"}
+"#;
+
+// Runs the program on its words, apart by blanks, and an input. Of the reads and of the writes, the one of this number
+// fails; of number 0, none.
+pub(crate) fn run(
+    alloc: Global,
+    words: &str,
+    input: &[u8],
+    read: u32,
+    write: u32,
+) -> Result<(Status, MemSink), AllocError> {
+    let mut texts = Vec::new(alloc);
+    for word in words.split_whitespace() {
+        texts.push(String::from_str(alloc, word)?)?;
+    }
+    let mut source = MemSource::new(input.to_vec(alloc)?, 10, vec![in alloc; read]?);
+    let mut sink = MemSink::new(alloc, 1_000_000, 1_000_000, vec![in alloc; write]?)?;
+    let status = exchange(alloc, &texts, &mut source, &mut sink);
+    Ok((status, sink))
+}
+
+// The command lines of a session, and its reply lines.
+pub(crate) fn session(alloc: Global, text: &str) -> Result<(String, String), AllocError> {
+    let mut input = String::new(alloc);
+    let mut output = String::new(alloc);
+    for line in text.split_inclusive('\n') {
+        match line.strip_prefix("= ") {
+            Some(reply) => output.push_str(reply)?,
+            None => input.push_str(line)?,
+        }
+    }
+    Ok((input, output))
+}
+
+// Compares what was written with what is wanted: at the first line that differs the test tells the two.
+pub(crate) fn assert_lines(rt: &impl Abort, written: &[u8], wanted: &str) {
+    let written = str::from_utf8(written).unwrap_or("no text");
+    for (had, line) in written.split('\n').zip(wanted.split('\n')) {
+        assert_eq!(rt; had, line);
+    }
+    assert_eq!(rt; written.len(), wanted.len());
+}
