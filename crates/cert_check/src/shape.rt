@@ -1,6 +1,6 @@
 //! The shape of a batch and its outcome.
 
-ghost use Rattle.std.specs.Prelude.{◌≡◌, ◌+◌, ◌≤◌, length};
+ghost use Rattle.std.specs.Prelude.{◌≡◌, ◌+◌, length};
 ghost use Rattle.frac.specs.Value.{fraction_of};
 ghost use Rattle.cert_check.specs.Shape.{are_fills, cover_fits, forms_have, has_shape, is_fill, mark_fits, states_have};
 

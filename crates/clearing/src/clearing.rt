@@ -19,7 +19,7 @@ use crate::room::{BroadRoom, FirstRoom, Room};
 use cert_check::{Claim, Fills, Mark, Outcome};
 use exact_num::Exact;
 use form::Batch;
-use frac::{Frac64, Frac128};
+use frac::Frac128;
 use rounds::{Joint, judge_in, solve_unjudged_in};
 use simplex::{Budget, RunStop};
 use std::alloc::{AllocError, Global};

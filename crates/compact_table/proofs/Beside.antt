@@ -56,12 +56,12 @@ basic_beside (b ∷ bs) [] r s = absurd (omega (arith, s))
 basic_beside (b ∷ bs) (xs ∷ lists) zero s = refl
 basic_beside (b ∷ bs) (xs ∷ lists) (suc r) s = basic_beside bs lists r (omega (arith, s))
 
-abbrev made : List ℕ → List Row → List Fraction → Result CompactTable Wide
-made kept rows objective = Ok (record { kept = kept; rows = rows; objective = objective })
+abbrev table_with : List ℕ → List Row → List Fraction → Result CompactTable Wide
+table_with kept rows objective = Ok (record { kept = kept; rows = rows; objective = objective })
 
 -- the table made of what is done to the rows and to the objective row
 made_of : (kept basics : List ℕ) (q : Result (List (List Fraction)) Wide) (last : Result (List Fraction) Wide)
-    → after (after q (λ o. Ok (beside_basics basics o))) (λ rows. after last (λ objective. made kept rows objective))
+    → after (after q (λ o. Ok (beside_basics basics o))) (λ rows. after last (λ objective. table_with kept rows objective))
     ≡ after (after {B = List (List Fraction) × List Fraction} q (λ others. after last (λ l. Ok (others, l)))) (λ t. Ok (apart kept basics t.0 t.1))
 made_of kept basics (Ok o) (Ok l) = refl
 made_of kept basics (Ok o) (Err w) = refl
@@ -77,7 +77,7 @@ pivoted_apart L h k r kept basics lists objective s =
     rw (entries_beside basics lists r s, b) (go (short_divided L h k (slice_index_or lists r [])) news)
   where
     go : (q : Result (List Fraction) Wide) (news : List ℕ)
-        → after q (λ pivot. after (short_rows_after L h k (get_or kept h 0) r pivot 0 (beside_basics basics lists)) (λ rows. after (short_cleared L h k pivot objective) (λ o. made news rows o)))
+        → after q (λ pivot. after (short_rows_after L h k (get_or kept h 0) r pivot 0 (beside_basics basics lists)) (λ rows. after (short_cleared L h k pivot objective) (λ o. table_with news rows o)))
         ≡ after (after {B = List (List Fraction) × List Fraction} q (λ pivot. after (lists_after L h k r pivot 0 lists) (λ others. after (short_cleared L h k pivot objective) (λ l. Ok (others, l))))) (λ t. Ok (apart news (set basics r (get_or kept h 0)) t.0 t.1))
     go (Err w) news = refl
     go (Ok P) news = rw (rows_beside L h k (get_or kept h 0) r P basics lists 0 r s (omega arith)) (made_of news (set basics r (get_or kept h 0)) (lists_after L h k r P 0 lists) (short_cleared L h k P objective))

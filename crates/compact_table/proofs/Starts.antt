@@ -152,5 +152,5 @@ none_long n k d low = absurd (omega (arith, low))
 pub first_objective : (objective costs : List Fraction) → objective ≡ costs ++ fraction_zero ∷ [] → map negated objective ≡ map negated costs ++ fraction_zero ∷ []
 first_objective objective costs e = ap (map negated) e ∙ map-append negated costs (fraction_zero ∷ [])
 
-abbrev pub made : List ℕ → List Row → List Fraction → CompactTable
-made kept rows objective = record { kept = kept; rows = rows; objective = objective }
+abbrev pub table_with : List ℕ → List Row → List Fraction → CompactTable
+table_with kept rows objective = record { kept = kept; rows = rows; objective = objective }

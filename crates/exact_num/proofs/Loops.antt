@@ -3,7 +3,7 @@ use Rattle.std.proofs.Common.{◌≡◌, List, [], ◌∷◌, Bool, true, false,
 use Rattle.std.specs.Prelude.{IsErrAnd}
 use Rattle.std.proofs.lemmas.Result.{err_from_is_err_and}
 use Rattle.exact_num.specs.declared.misfit.Wide.{Wide}
-use Rattle.exact_num.specs.Fits.{after, meaning}
+use Rattle.exact_num.specs.Fits.{meaning}
 use Rattle.exact_num.specs.Steps.{fold_steps, and_then}
 use Rattle.exact_num.proofs.After.{after_ok, after_err}
 

@@ -1,6 +1,5 @@
 -- Steps that fit, over one denominator.
 use Rattle.std.proofs.Common.{◌≡◌, ℕ, ◌*◌, ◌≤◌, true, false, List, [], ◌∷◌, ◌≤ℤ◌, ◌<ℤ◌, ℤ, pos, neg_ℤ, ◌+ℤ◌, ◌*ℤ◌, All, Result, Ok, arith, ap, subst}
-use Rattle.std.specs.Int.{◌∣◌}
 use Rattle.std.proofs.lemmas.Int.{ints}
 use Rattle.arithmetic.specs.Sums.{total}
 use Rattle.arithmetic.proofs.Integers.{*ℤ_cancel, *ℤ_cancel_le, *ℤ_cancel_lt, *ℤ_mono, *ℤ_mono_lt}

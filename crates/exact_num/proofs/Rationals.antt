@@ -5,15 +5,15 @@ use Rattle.std.proofs.Math.Nat.{mul-pos, div-mul_cancel}
 use Rattle.std.proofs.Math.Path.{to_path_p}
 use Rattle.std.proofs.lemmas.Int.{ints}
 use Rattle.arithmetic.specs.Gcd.{gcd}
-use Rattle.arithmetic.proofs.GcdLaws.{gcd_dvd_left, gcd_dvd_right, gcd_pos_right, coprime_of_div, pos_of_quotient}
+use Rattle.arithmetic.proofs.GcdLaws.{gcd_dvd_left, gcd_dvd_right}
 use Rattle.arithmetic.proofs.Integers.{*ℤ_cancel, *ℤ_cancel_le, *ℤ_mono}
-use Rattle.arithmetic.proofs.Quotients.{int_div-mul_cancel, unsigned_abs-int_div}
+use Rattle.arithmetic.proofs.Quotients.{int_div-mul_cancel}
 use Rattle.arithmetic.proofs.Products.{products, neg_cross}
 use Rattle.arithmetic.proofs.Ring.{ring, V, K, ◌⊕◌, ◌⊗◌}
-use Rattle.exact_num.specs.Rationals.{Q, value, ◌+Q◌, ◌*Q◌, neg_Q, whole_Q, 0Q, 1Q, quotient_of, reduced_is_lowest, IsNotBelow0, IsAbove0, IsBelow0, IsAtMost, inv_Q}
+use Rattle.exact_num.specs.Rationals.{Q, value, ◌+Q◌, ◌*Q◌, neg_Q, whole_Q, 0Q, 1Q, quotient_of, IsNotBelow0, IsAbove0, IsAtMost, inv_Q}
 use Rattle.exact_num.specs.Fraction.{Fraction, IsLowest, IsSameValue, AtMost, whole, negated, reduced, plain_sum, plain_product, plain_dot}
 use Rattle.exact_num.specs.Fits.{add_of, sub_of, mul_of, div_of, sum_value, sum_fits, product_value, product_fits, inverse, signed_by}
-use Rattle.exact_num.proofs.Values.{lowest_prop, whole_is_lowest, negated_is_lowest, sum_is, sum_is_lowest}
+use Rattle.exact_num.proofs.Values.{lowest_prop, negated_is_lowest, sum_is, sum_is_lowest}
 use Rattle.exact_num.proofs.ProductValues.{positive_size, product_is, product_is_lowest, inverse_is_lowest}
 use Rattle.exact_num.proofs.Order.{lowest_is_unique}
 use Rattle.exact_num.proofs.Answered.{answer_is}

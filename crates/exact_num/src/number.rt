@@ -1,5 +1,5 @@
 //! What every type of exact numbers offers.
-ghost use Rattle.std.specs.Prelude.{◌≡◌, ◌≢◌, ℕ, ℤ, ◌≤◌, ◌≤ℤ◌, pos, unsigned_abs};
+ghost use Rattle.std.specs.Prelude.{◌≡◌, ◌≢◌, ℤ, ◌≤◌, ◌≤ℤ◌, pos, unsigned_abs};
 ghost use Rattle.std.specs.Int.{int_signum};
 ghost use Rattle.exact_num.specs.Fraction.{Fraction, IsLowest, whole, negated, fraction_cmp};
 ghost use Rattle.exact_num.specs.Fits.{add_of, sub_of, mul_of, div_of, whole_of, meaning};

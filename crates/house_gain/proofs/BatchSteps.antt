@@ -47,30 +47,30 @@ any : (orders : List Order) → All IsAny orders
 any orders = λ k d inside. tt
 
 module _ (market number : ℕ) (orders : List Order) (fills : List Frac128) where
-  abbrev made : List Position
-  made = positions_in market number orders fills
+  abbrev new_positions : List Position
+  new_positions = positions_in market number orders fills
 
-  made_for : (q : ℕ) → number ≡ q → held_for q made ≡ made
-  made_for q e = filter_all (is_held_for q) made (all_made (λ p. is_held_for q p ≡ true) IsAny market number (λ order fill h. same number q e) orders fills (any orders))
+  new_for : (q : ℕ) → number ≡ q → held_for q new_positions ≡ new_positions
+  new_for q e = filter_all (is_held_for q) new_positions (all_made (λ p. is_held_for q p ≡ true) IsAny market number (λ order fill h. same number q e) orders fills (any orders))
 
-  made_for_none : (q : ℕ) → nat_eq number q ≡ false → held_for q made ≡ []
-  made_for_none q e = filter_none (is_held_for q) made (all_made (λ p. is_held_for q p ≡ false) IsAny market number (λ order fill h. e) orders fills (any orders))
+  new_for_none : (q : ℕ) → nat_eq number q ≡ false → held_for q new_positions ≡ []
+  new_for_none q e = filter_none (is_held_for q) new_positions (all_made (λ p. is_held_for q p ≡ false) IsAny market number (λ order fill h. e) orders fills (any orders))
 
-  made_inside : (q : ℕ) → market ≡ q → held_in q made ≡ made
-  made_inside q e = filter_all (is_of q) made (all_made (λ p. is_of q p ≡ true) IsAny market number (λ order fill h. same market q e) orders fills (any orders))
+  new_inside : (q : ℕ) → market ≡ q → held_in q new_positions ≡ new_positions
+  new_inside q e = filter_all (is_of q) new_positions (all_made (λ p. is_of q p ≡ true) IsAny market number (λ order fill h. same market q e) orders fills (any orders))
 
-  made_inside_none : (q : ℕ) → nat_eq market q ≡ false → held_in q made ≡ []
-  made_inside_none q e = filter_none (is_of q) made (all_made (λ p. is_of q p ≡ false) IsAny market number (λ order fill h. e) orders fills (any orders))
+  new_inside_none : (q : ℕ) → nat_eq market q ≡ false → held_in q new_positions ≡ []
+  new_inside_none q e = filter_none (is_of q) new_positions (all_made (λ p. is_of q p ≡ false) IsAny market number (λ order fill h. e) orders fills (any orders))
 
-  made_outside : (q : ℕ) → nat_eq market q ≡ false → outside q made ≡ made
-  made_outside q e = filter_all (λ p. not (is_of q p)) made (all_made (λ p. not (is_of q p) ≡ true) IsAny market number (λ order fill h. ap not e) orders fills (any orders))
+  new_outside : (q : ℕ) → nat_eq market q ≡ false → outside q new_positions ≡ new_positions
+  new_outside q e = filter_all (λ p. not (is_of q p)) new_positions (all_made (λ p. not (is_of q p) ≡ true) IsAny market number (λ order fill h. ap not e) orders fills (any orders))
 
-  made_outside_none : (q : ℕ) → market ≡ q → outside q made ≡ []
-  made_outside_none q e = filter_none (λ p. not (is_of q p)) made (all_made (λ p. not (is_of q p) ≡ false) IsAny market number (λ order fill h. ap not (same market q e)) orders fills (any orders))
+  new_outside_none : (q : ℕ) → market ≡ q → outside q new_positions ≡ []
+  new_outside_none q e = filter_none (λ p. not (is_of q p)) new_positions (all_made (λ p. not (is_of q p) ≡ false) IsAny market number (λ order fill h. ap not (same market q e)) orders fills (any orders))
 
   -- those of another batch, put behind
-  held_behind : (q : ℕ) → nat_eq number q ≡ false → (positions : List Position) → held_for q (positions ++ made) ≡ held_for q positions
-  held_behind q e positions = filter-append (is_held_for q) positions made ∙ ap (λ l. held_for q positions ++ l) (made_for_none q e) ∙ append-nil (held_for q positions)
+  held_behind : (q : ℕ) → nat_eq number q ≡ false → (positions : List Position) → held_for q (positions ++ new_positions) ≡ held_for q positions
+  held_behind q e positions = filter-append (is_held_for q) positions new_positions ∙ ap (λ l. held_for q positions ++ l) (new_for_none q e) ∙ append-nil (held_for q positions)
 
 held_outside : (number q : ℕ) (positions : List Position) → held_for number (outside q positions) ≡ outside q (held_for number positions)
 held_outside number q positions = filter_commute (is_held_for number) (λ p. not (is_of q p)) positions
@@ -171,7 +171,7 @@ module _ (number market : ℕ) where
           → AtMost (fraction_of outcome.claim.surplus) (whole (house_gain number batch outcome (payouts_of q prices positions)))
       surplus_gained q prices positions e few held =
           let (full, count, worth) = with_zero_prices batch.underlyings prices few in
-          let paid = paid_own q prices positions held ∙ ap (total (gain_at prices)) (made_inside market number batch.orders outcome.fills q e)
+          let paid = paid_own q prices positions held ∙ ap (total (gain_at prices)) (new_inside market number batch.orders outcome.fills q e)
           ∙ gains_of_fills market number prices batch.orders outcome.fills covered.covers.are_fills.1 in
           subst (λ g. AtMost (fraction_of outcome.claim.surplus) (whole (premium_gains batch.orders outcome.fills -ℤ g)))
           (same_gains full prices worth ∙ sym paid)
@@ -219,13 +219,13 @@ module _ (number market : ℕ) where
         settles_another settle other =
             let test = ne_eqb market settle.market other in
             let none = paid_own settle.market settle.prices state.positions waiting.held
-            ∙ ap (total (gain_at settle.prices)) (made_inside_none market number batch.orders outcome.fills settle.market test) in
+            ∙ ap (total (gain_at settle.prices)) (new_inside_none market number batch.orders outcome.fills settle.market test) in
             inl (
               record {
                 listed = ap (λ (b : BookState). listed_in b.markets market) settle.book
                     ∙ listed-changed market settled_market settle.market (λ m h. absurd (true≢false (sym h ∙ test))) state.book.markets ∙ waiting.listed;
                 held = ap (held_for number) settle.positions ∙ held_outside number settle.market state.positions
-                    ∙ ap (outside settle.market) waiting.held ∙ made_outside market number batch.orders outcome.fills settle.market test;
+                    ∙ ap (outside settle.market) waiting.held ∙ new_outside market number batch.orders outcome.fills settle.market test;
                 used = subst (λ n. number ≤ n) (sym (ap (λ (b : BookState). b.finished) settle.book)) waiting.used;
                 entered = ap (house_total number) settle.entries
                     ∙ settled_entries number settle.market settle.prices state.positions running.holders state.entries
@@ -251,7 +251,7 @@ module _ (number market : ℕ) where
                 underlyings = settle.underlyings;
                 listed = ap (listed_in result.1.book.markets) e ∙ now;
                 held = ap (held_for number) settle.positions ∙ held_outside number settle.market state.positions
-                    ∙ ap (outside settle.market) waiting.held ∙ made_outside_none market number batch.orders outcome.fills settle.market e;
+                    ∙ ap (outside settle.market) waiting.held ∙ new_outside_none market number batch.orders outcome.fills settle.market e;
                 used = subst (λ n. number ≤ n) (sym (ap (λ (b : BookState). b.finished) settle.book)) waiting.used;
                 entered = ap (house_total number) settle.entries
                     ∙ settled_entries number settle.market settle.prices state.positions running.holders state.entries
@@ -280,7 +280,7 @@ cleared_waits state result running clear =
     record {
       listed = ap (λ (b : BookState). listed_in b.markets clear.market) clear.book ∙ listed-changed clear.market (λ m. with_live m []) clear.market (λ m h. refl) state.book.markets ∙ clear.listed;
       held = ap (held_for number) clear.positions ∙ filter-append (is_held_for number) state.positions new ∙ ap (λ l. l ++ held_for number new) none
-          ∙ made_for clear.market number orders fills number refl;
+          ∙ new_for clear.market number orders fills number refl;
       used = subst (λ n. number ≤ n) (sym (ap (λ (b : BookState). b.finished) clear.book)) (omega arith);
       entered = ap (house_total number) clear.entries ∙ house_total-append number state.entries (premium_entries number orders fills)
           ∙ sum_of (running.unused number (omega arith)) (premiums_entered number orders fills clear.traders clear.covered.covers.are_fills.1);

@@ -1,5 +1,5 @@
 -- The numbers that are read off the optimum of a master program are in lowest terms.
-use Rattle.std.proofs.Common.{◌≡◌, ℕ, List, [], length, take, drop, zip, subst, ◌∙◌}
+use Rattle.std.proofs.Common.{◌≡◌, ℕ, List, length, take, drop, zip, subst, ◌∙◌}
 use Rattle.std.specs.Prelude.{Ok}
 use Rattle.std.specs.List.{All}
 use Rattle.std.proofs.lemmas.List.Elements.{All-cons, All-take, All-drop, All-from_get_or}

@@ -1,9 +1,8 @@
 -- An order that is live in a market is live in no other.
-use Rattle.std.proofs.Common.{◌≡◌, ℕ, ◌+◌, ◌≤◌, Bool, true, false, cond, [], ◌∷◌, Option, Some, None, is_some, nat_eq, refl, ap, sym, ◌∙◌, arith, if◌then◌else◌}
+use Rattle.std.proofs.Common.{◌≡◌, ℕ, ◌+◌, ◌≤◌, Bool, true, false, cond, [], ◌∷◌, Option, Some, is_some, nat_eq, refl, ap, sym, arith, if◌then◌else◌}
 use Rattle.std.specs.List.{find}
 use Rattle.std.specs.Map.{lookup}
 use Rattle.std.specs.Option.{option_map_or}
-use Rattle.form.specs.declared.orders.Order.{Order}
 use Rattle.order_book.specs.Markets.{MarketState, Markets, has_number, live_in, live_orders, holder_of}
 use Rattle.order_book.specs.Numbers.{number_count}
 use Rattle.order_book.proofs.LiveOrders.{number_count-append, some_counted}

@@ -1,4 +1,4 @@
-ghost use Rattle.std.specs.Prelude.{◌≡◌, ◌+◌, ◌≤◌, ◌<◌, ◌≢◌, ℕ, length, nat_eq, true, Some, Err, slice_get, IfOk, IfSome, OnOk, OnErr};
+ghost use Rattle.std.specs.Prelude.{◌≡◌, ◌+◌, ◌≤◌, ◌<◌, ◌≢◌, length, true, Some, Err, slice_get, IfOk, IfSome, OnOk, OnErr};
 ghost use Rattle.std.specs.Option.{option_map};
 ghost use Rattle.form.specs.declared.limits.TheConstants.{MAX_ORDERS, MAX_UNDERLYINGS};
 ghost use Rattle.form.specs.Limits.{IsOrderWithin, IsWithinLimits};
@@ -11,11 +11,11 @@ ghost use Rattle.order_book.specs.Kept.{IsBookKept};
 ghost use Rattle.refusals.specs.Refusals.{TellsFirst};
 
 use crate::limits::{MAX_ACCEPTED, MAX_BATCHES, MAX_MARKETS};
-use crate::market::{Market, MarketInfo};
+use crate::market::MarketInfo;
 use crate::markets::Markets;
 use crate::new_order::NewOrder;
 use crate::refusal::BookRefusal;
-use form::{Batch, MAX_ORDERS, Order, Orders};
+use form::{Batch, MAX_ORDERS, Order};
 use std::alloc::{AllocError, Global};
 use std::marker::Model;
 

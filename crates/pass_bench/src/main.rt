@@ -16,7 +16,7 @@ use std::alloc::Global;
 const MAX_INPUT: usize = 16_777_216;
 
 // Takes the exchange one line further, or tells the pass in which the line's batch is cleared.
-fn tried(alloc: Global, exchange: &mut Exchange, said: &Body) -> Result<Option<Pass>>
+fn pass_of(alloc: Global, exchange: &mut Exchange, said: &Body) -> Result<Option<Pass>>
     requires { BodyIsWithin said.now }
 {
     match said {
@@ -48,7 +48,7 @@ fn main(rt: HostRuntime) -> Result<()> {
         .context("an input")?;
     let mut exchange = Exchange::new(alloc);
     for line in &commands(alloc, input.as_slice())? {
-        if let Some(pass) = tried(alloc, &mut exchange, &line.body)? {
+        if let Some(pass) = pass_of(alloc, &mut exchange, &line.body)? {
             println!(rt; "{}", word_of(&pass))?;
         }
     }

@@ -1,7 +1,6 @@
 //! The costs of the program of a node.
-ghost use Rattle.std.specs.Prelude.{◌≡◌, ◌≤◌, ◌<◌, ◌+◌, suc, length, map, unsigned_abs, pos, [], OnOk, vec_capacity, vec_len};
+ghost use Rattle.std.specs.Prelude.{◌≡◌, ◌≤◌, ◌<◌, ◌+◌, suc, length, map, unsigned_abs, [], OnOk, vec_capacity, vec_len};
 ghost use Rattle.exact_num.specs.Fits.{meaning};
-ghost use Rattle.form.specs.Vector.{positive_part};
 ghost use Rattle.master_program.specs.Master.{map_steps};
 ghost use Rattle.sign_tree.specs.Left.{leg_as};
 ghost use Rattle.sign_tree.specs.Read.{sign_of};

@@ -1,5 +1,5 @@
 //! Rows that are written into room, and lists that are taken out of it.
-ghost use Rattle.std.specs.Prelude.{◌≡◌, ◌+◌, ◌<◌, ◌≤◌, ◌++◌, ◌∷◌, [], OnOk, length, map, take, vec_capacity, vec_len};
+ghost use Rattle.std.specs.Prelude.{◌≡◌, ◌<◌, ◌≤◌, [], OnOk, length, map, take, vec_capacity};
 ghost use Rattle.simplex.specs.Spaces.{IsFound, x_of};
 
 use compact_table::room::push_within;

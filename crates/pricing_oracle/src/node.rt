@@ -1,5 +1,5 @@
 //! One node of the search.
-ghost use Rattle.std.specs.Prelude.{◌≡◌, ◌≤◌, ◌<◌, ◌+◌, ◌∷◌, ℕ, List, IfOk, Some, length, map, suc, take, unsigned_abs, vec_capacity, vec_len};
+ghost use Rattle.std.specs.Prelude.{◌≡◌, ◌≤◌, ◌<◌, ◌+◌, ℕ, List, Some, length, map, suc, take, unsigned_abs, vec_capacity, vec_len};
 ghost use Rattle.std.specs.List.{All};
 ghost use Rattle.exact_num.specs.Fraction.{Fraction, IsNotBelowZero};
 ghost use Rattle.exact_num.specs.Tests.{is_above_zero};

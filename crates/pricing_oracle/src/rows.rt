@@ -1,5 +1,5 @@
 //! The rows of the program of a node.
-ghost use Rattle.std.specs.Prelude.{◌≡◌, ◌≤◌, ◌<◌, ◌+◌, ◌-◌, ◌++◌, ◌∷◌, [], Ok, OnOk, get_or, length, map, negsuc, pos, replicate, unsigned_abs, vec_capacity, vec_len};
+ghost use Rattle.std.specs.Prelude.{◌≡◌, ◌≤◌, ◌<◌, ◌+◌, ◌-◌, ◌++◌, [], Ok, OnOk, get_or, length, map, pos, replicate, unsigned_abs, vec_capacity, vec_len};
 ghost use Rattle.exact_num.specs.Fits.{after, meaning, whole_of};
 ghost use Rattle.exact_num.specs.Fraction.{whole};
 ghost use Rattle.form.specs.Payoff.{option_of};
@@ -13,7 +13,7 @@ ghost use Rattle.pricing_oracle.specs.Filled.{HasFilled};
 ghost use Rattle.pricing_oracle.specs.Nodes.{MayBeAsked, legs_asked, role_as};
 ghost use Rattle.pricing_oracle.specs.Programs.{signed_entries, unit_at};
 
-use crate::legs::{Asked, NodeLeg, Role, entry, first_of, legs_of};
+use crate::legs::{Asked, Role, entry, first_of, legs_of};
 use compact_table::room::push_within;
 use exact_num::{Exact, Wide};
 use form::Form;

@@ -167,15 +167,15 @@ module _ (lines : ℕ) (state : ExchangeState) (running : IsRunning state) (rang
       let after : BookState = (effect state (Clear market budget)).1.book in
       let is = batch_ranged lines state running ranged market none in
       let allowed = outcomes_are_within batch budget is.within in
-      let made = positions_in market number batch.orders fills in
+      let new_positions = positions_in market number batch.orders fills in
       let entries = premium_entries number batch.orders fills in
       record {
         accounts = ranged.accounts;
-        positions = All-append (IsNumbered after) state.positions made
+        positions = All-append (IsNumbered after) state.positions new_positions
             (still_numbered state.book after (omega arith) (omega arith) state.positions ranged.positions)
             (all_made (IsNumbered after) (IsAccepted state.book.accepted) market number (λ order fill h. ((omega arith, omega arith), h)) batch.orders fills is.accepted_orders);
         bounded = AreBounded-append state.entries entries ranged.bounded (premiums_bounded number batch.orders fills is.within.orders_within allowed.1);
-        few = omega (arith, ranged.few, is.within.orders_fit, batch_counts market number batch.orders fills, length-append state.entries entries, length-append state.positions made);
+        few = omega (arith, ranged.few, is.within.orders_fit, batch_counts market number batch.orders fills, length-append state.entries entries, length-append state.positions new_positions);
       }
 
   settled_ranged : (market count : ℕ) (prices : List ℕ) → All (λ p. p ≤ MAX_SETTLEMENT_PRICE) prices → first_of (close_refusals state.book market count) ≡ None

@@ -1,6 +1,6 @@
 -- The units of each outcome are no more than its budget.
 use Rattle.std.proofs.Common.{ℕ, ◌-◌, ◌≤◌, ◌==◌, List, Bool, true, false, sym, subst, arith}
-use Rattle.std.specs.Prelude.{Result, Ok, Err, if◌then◌else◌}
+use Rattle.std.specs.Prelude.{Result, if◌then◌else◌}
 use Rattle.exact_num.specs.declared.misfit.Wide.{Wide}
 use Rattle.frac.specs.Range.{limit as largest}
 use Rattle.form.specs.declared.orders.Batch.{Batch}

@@ -1,5 +1,5 @@
 // The certificate that is taken out of a line, where it is within its ranges.
-ghost use Rattle.std.specs.Prelude.{◌≡◌, ◌≤◌, IfOk, codes, option_map, Some};
+ghost use Rattle.std.specs.Prelude.{◌≡◌, IfOk, codes, option_map, Some};
 ghost use Rattle.frac.specs.Range.{limit};
 ghost use Rattle.serde_json.specs.View.{view, items_view};
 ghost use Rattle.reply_shape.specs.Numbers.{fraction_from as fraction_read};

@@ -1,5 +1,5 @@
 // What is taken out of the value of a line.
-ghost use Rattle.std.specs.Prelude.{◌≡◌, ◌≤◌, ◌<◌, ◌^◌, IfSome, codes, option_map, pos, unsigned_abs};
+ghost use Rattle.std.specs.Prelude.{◌≡◌, ◌≤◌, ◌<◌, ◌^◌, IfSome, codes, option_map};
 ghost use Rattle.serde_json.specs.View.{view, items_view};
 ghost use Rattle.reply_shape.specs.Numbers.{whole_value, signed_value};
 ghost use Rattle.common_texts.specs.Naturals.{natural_value};

@@ -2,7 +2,7 @@
 use Rattle.std.specs.Prelude.{◌≡◌, ℕ, ◌≤◌}
 use Rattle.table_run.specs.Program.{LinearProgram}
 use Rattle.table_run.specs.Ending.{Ending, done, unbounded, wide_at, no_unit_left, HasNoMisfit}
-use Rattle.table_run.specs.Run.{run, optimum}
+use Rattle.table_run.specs.Run.{run}
 use Rattle.table_run.specs.Optimum.{IsProgram}
 use Rattle.table_run.specs.Choose.{bases_of}
 

@@ -7,7 +7,7 @@ use Rattle.compact_table.specs.Candidates.{beside_basics}
 use Rattle.compact_table.specs.Tables.{lists_of, objective_of}
 use Rattle.compact_table.specs.Lists.{front}
 use Rattle.compact_table.proofs.Filling.{slice_written}
-use Rattle.compact_table.proofs.Starts.{rows_given, fronts_long, none_long, first_objective, made}
+use Rattle.compact_table.proofs.Starts.{rows_given, fronts_long, none_long, first_objective, table_with}
 use Rattle.compact_table.proofs.table.Table.first.Goals as goal
 
 pub returns-clause-table : goal.returns-clause-table
@@ -26,4 +26,4 @@ returns-clause-table g c =
     let was = ap length c.as_mut_slice.ensures.value in
     let written = slice_written c.turn_signs.new.numbers t.objective.items _ (sym c.as_mut_slice.ensures.len ∙ was) (omega (arith, c.turn_signs.auto.numbers, was)) in
     let turned = ap (map value) written ∙ c.turn_signs.ensures ∙ ap (λ (xs : List g.row.N.Denot). map negated (map value xs)) c.as_mut_slice.ensures.value ∙ first_objective objective costs c.requires.objective in
-    λ i. made (c.requires.kept i) (rows i) (turned i)
+    λ i. table_with (c.requires.kept i) (rows i) (turned i)

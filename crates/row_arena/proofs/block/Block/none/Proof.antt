@@ -18,11 +18,11 @@ none_spec 𝓤 𝓛 𝓜 𝓡 wired X U L LU g d dd met _ =
     let κ = κs.0 in let q = qs.0 in let hp : ℕ × ℕ = a.0.ref_ptr in let h : U.Denot = a.0.now in
     let y : (walk_of 𝓛 En hs c).Ghost = ((κs, qs, bounds, a, (vptr hp.0 hp.1 ∷ [], tt)), gh) in let Post : Val → SProp 𝓤 = (walk_of 𝓛 En hs c).post y in
     let others : Fml = fsep (flft κs.1.0 qs.1.0) (fsep (flft κs.1.1.0 qs.1.1.0) ftrue) in
-    let made : (Br E Z).Denot = record { ptr = null_ptr; by = record {}; numbers = []; spare = 0; alloc = h } in
-    let Told : Type 0 = (made.numbers ≡ []) × (made.spare ≡ 0) × (made.alloc ≡ h) in
+    let empty_block : (Br E Z).Denot = record { ptr = null_ptr; by = record {}; numbers = []; spare = 0; alloc = h } in
+    let Told : Type 0 = (empty_block.numbers ≡ []) × (empty_block.spare ≡ 0) × (empty_block.alloc ≡ h) in
     qed 𝓛 (((‵ (flft κ q) ⊛ ‵ others) ⊛ ‵ (owns (types_at En.signature.params κs) a y.0.4)) ∷ raw (fact 𝓤 _) ∷ raw (fact 𝓤 _) ∷ ‵ ftrue ∷ []) ∵
     keep ! (0 ∷ []) $ split ! $ keep ! (0 ∷ []) $
     enter ! 𝓣.C 𝓣.Λ fn (vptr hp.0 hp.1 ∷ []) Post $ alloc_all ! (λ l. pass_all ! refl ((tt, tt), tt) $
     sets ! (agg ! (no_more !)) refl (tt, tt) $ sets ! (agg ! (and_then ! (lit ! tt) (and_then ! (get ! refl) (no_more !)))) refl (block_Good null_ptr) $
-    block_from_none E Z ! made refl (omega arith) $ use0 𝓛 (raw (fact 𝓤 Told)) (fact_i 𝓤 Told (emp 𝓤) (refl, refl, refl)) $ nothing ! $ nothing ! $ fjoin ! $
-    returns ! (look_at ! 0 refl) $ free_all ! refl $ keep ! (3 ∷ 0 ∷ 2 ∷ 1 ∷ []) $ by ! (leaves 𝓛 En hs c y (block_val null_ptr) made (tt, tt) (tt, tt))))
+    block_from_none E Z ! empty_block refl (omega arith) $ use0 𝓛 (raw (fact 𝓤 Told)) (fact_i 𝓤 Told (emp 𝓤) (refl, refl, refl)) $ nothing ! $ nothing ! $ fjoin ! $
+    returns ! (look_at ! 0 refl) $ free_all ! refl $ keep ! (3 ∷ 0 ∷ 2 ∷ 1 ∷ []) $ by ! (leaves 𝓛 En hs c y (block_val null_ptr) empty_block (tt, tt) (tt, tt))))
