@@ -72,6 +72,7 @@ within_wider b c limit w low g =
       rows = λ i p. line_wider b c _ _ low (g.rows i p);
       sizes = g.sizes;
       objective = g.objective;
+      objective_size = g.objective_size;
     }
 
 -- ---- a run of the program that was taken in

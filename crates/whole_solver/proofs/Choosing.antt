@@ -1,18 +1,18 @@
 -- The choices of a turn, one column or row after another.
-use Rattle.std.proofs.Common.{◌≡◌, ℕ, zero, suc, ◌+◌, ◌<◌, ◌≤◌, List, [], ◌∷◌, length, drop, get_or, add-one, refl, sym, ◌∙◌, ap, arith, Bool, true, false, ℤ, pos, unsigned_abs}
+use Rattle.std.proofs.Common.{◌≡◌, ℕ, zero, suc, ◌+◌, ◌-◌, ◌<◌, ◌≤◌, List, [], ◌∷◌, length, drop, get_or, add-one, refl, sym, ◌∙◌, ap, subst, arith, Bool, true, false, ℤ, pos, unsigned_abs}
 use Rattle.std.specs.Prelude.{Option, Some, None, IfSome, if◌then◌else◌, int_lt, nat_lt}
 use Rattle.std.specs.Option.{option_map}
-use Rattle.std.proofs.lemmas.List.{drop_all, get_or-take}
+use Rattle.std.proofs.lemmas.List.{drop_all, get_or-take, length-map}
 use Rattle.std.proofs.Math.Seq.{drop-cons}
 use Rattle.exact_num.specs.Fraction.{over}
 use Rattle.table_run.specs.Choice.{Ratio, ratio_of, least}
 use Rattle.compact_table.specs.Candidates.{better_of, best_with}
-use Rattle.whole_rows.specs.Lines.{Line, WholeRow, whole_row, number_at}
+use Rattle.whole_rows.specs.Lines.{Line, WholeRow, no_line, whole_row, number_at}
 use Rattle.whole_rows.specs.Turning.{whole_ratios}
 use Rattle.whole_rows.specs.Compact.{Column, smaller, least_column}
 use Rattle.whole_solver.specs.declared.columns.Entering.{Entering}
 use Rattle.whole_solver.specs.Choices.{as_column}
-use Rattle.whole_solver.specs.Rows.{line_in, lines_in, row_at, beside_basics, with_row, with_column}
+use Rattle.whole_solver.specs.Rows.{line_in, lines_in, row_at, beside_basics, with_column}
 
 -- ---- the entering column
 abbrev pub column : ℕ → ℕ → Column
@@ -71,21 +71,25 @@ in_line (suc w) (d ∷ row) k h =
 abbrev pub Chooses : ℕ → ℕ → List WholeRow → ℕ → Option Ratio → Type 0
 Chooses columns c rows i best = best_with best (whole_ratios columns c i (drop i rows)) ≡ best_with None (whole_ratios columns c 0 rows)
 
-best_joined : (t : Bool) (best : Option Ratio) (q : Ratio) (qs : List Ratio) → best_with best (if t then q ∷ qs else qs) ≡ best_with (if t then Some (better_of best q) else best) qs
+best_joined : (best : Option Ratio) (q : Ratio) (qs : List Ratio) → best_with best (q ∷ qs) ≡ best_with (Some (better_of best q)) qs
 unfolding least
-best_joined true None q qs = refl
-best_joined true (Some b) q qs = refl
-best_joined false best q qs = refl
+best_joined None q qs = refl
+best_joined (Some b) q qs = refl
 
-pub chooses_more : (columns c : ℕ) (rows : List WholeRow) (i basic : ℕ) (l : Line) (best : Option Ratio) → drop i rows ≡ whole_row basic l ∷ drop (suc i) rows → Chooses columns c rows i best
-    → Chooses columns c rows (i + 1) (with_row best i basic (number_at l.numbers columns) (number_at l.numbers c))
+pub chooses_taken : (columns c : ℕ) (rows : List WholeRow) (i basic : ℕ) (l : Line) (best : Option Ratio) → drop i rows ≡ whole_row basic l ∷ drop (suc i) rows → int_lt (pos 0) (number_at l.numbers c) ≡ true → Chooses columns c rows i best
+    → Chooses columns c rows (i + 1) (Some (better_of best (ratio_of i basic (over (number_at l.numbers columns) (unsigned_abs (number_at l.numbers c))))))
 unfolding whole_ratios
-chooses_more columns c rows i basic l best front h =
+chooses_taken columns c rows i basic l best front above h =
     let next : drop (i + 1) rows ≡ drop (suc i) rows = rw add-one refl in
-    let whole = rw front at h in
-    rw next
-    (sym (best_joined (int_lt (pos 0) (number_at l.numbers c)) best (ratio_of i basic (over (number_at l.numbers columns) (unsigned_abs (number_at l.numbers c)))) (whole_ratios columns c (i + 1) (drop (suc i) rows)))
-    ∙ whole)
+    let whole = rw above at (rw front at h) in
+    rw next (sym (best_joined best (ratio_of i basic (over (number_at l.numbers columns) (unsigned_abs (number_at l.numbers c)))) (whole_ratios columns c (i + 1) (drop (suc i) rows))) ∙ whole)
+
+pub chooses_passed : (columns c : ℕ) (rows : List WholeRow) (i basic : ℕ) (l : Line) (best : Option Ratio) → drop i rows ≡ whole_row basic l ∷ drop (suc i) rows → int_lt (pos 0) (number_at l.numbers c) ≡ false → Chooses columns c rows i best
+    → Chooses columns c rows (i + 1) best
+unfolding whole_ratios
+chooses_passed columns c rows i basic l best front below h =
+    let next : drop (i + 1) rows ≡ drop (suc i) rows = rw add-one refl in
+    rw next (rw below at (rw front at h))
 
 pub chooses_end : (columns c : ℕ) (rows : List WholeRow) (i : ℕ) (best : Option Ratio) → length rows ≤ i → Chooses columns c rows i best → best_with best [] ≡ best_with None (whole_ratios columns c 0 rows)
 unfolding whole_ratios
@@ -110,3 +114,20 @@ pub line_place : (w : ℕ) (rows : List (List ℤ)) (i : ℕ) (d : Line) → i <
 line_place w [] i d h = absurd (omega (arith, h))
 line_place w (x ∷ rows) zero d h = refl
 line_place w (x ∷ rows) (suc i) d h = line_place w rows i d (omega (arith, h))
+
+-- rows that are 0 in the column do not limit it
+pub chooses_on : (columns c : ℕ) (bs : List ℕ) (rows : List (List ℤ)) (i k : ℕ) (best : Option Ratio) → c < columns → length bs ≡ length rows → i ≤ k → k ≤ length rows
+    → ((j : ℕ) → i ≤ j → j < k → number_at (row_at rows j) (c + 1) ≡ pos 0) → Chooses columns c (beside_basics bs (lines_in (columns + 1) rows)) i best
+    → Chooses columns c (beside_basics bs (lines_in (columns + 1) rows)) k best
+chooses_on columns c bs rows i k best column same low high none g = on (k - i) i (omega (arith, low)) (λ j p q. none j p q) g
+  where
+    on : (d i : ℕ) → i + d ≡ k → ((j : ℕ) → i ≤ j → j < k → number_at (row_at rows j) (c + 1) ≡ pos 0) → Chooses columns c (beside_basics bs (lines_in (columns + 1) rows)) i best
+        → Chooses columns c (beside_basics bs (lines_in (columns + 1) rows)) k best
+    on zero i e none g = subst (λ (n : ℕ). Chooses columns c (beside_basics bs (lines_in (columns + 1) rows)) n best) (omega (arith, e)) g
+    on (suc d) i e none g =
+        let lines = lines_in (columns + 1) rows in
+        let inside : i < length rows = omega (arith, e, high) in
+        let front = front_beside bs lines i no_line (omega (arith, inside, same)) (omega (arith, inside, length-map rows (line_in (columns + 1)))) in
+        let zero_there = ap (λ (l : Line). number_at l.numbers c) (line_place (columns + 1) rows i no_line inside) ∙ in_line (columns + 1) (row_at rows i) c (omega (arith, column)) ∙ none i (omega arith) (omega (arith, e)) in
+        on d (i + 1) (omega (arith, e)) (λ j p q. none j (omega (arith, p)) q)
+        (chooses_passed columns c (beside_basics bs lines) i (get_or bs i 0) (get_or lines i no_line) best front (ap (int_lt (pos 0)) zero_there) g)

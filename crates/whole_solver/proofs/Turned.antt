@@ -1,5 +1,5 @@
 -- The rows of a turn.
-use Rattle.std.proofs.Common.{◌≡◌, ℕ, zero, suc, ◌+◌, ◌*◌, ◌<◌, ◌≤◌, List, [], ◌∷◌, length, take, drop, set, get_or, add-one, refl, sym, ◌∙◌, ap, subst, arith, Bool, true, false, ℤ, pos, unsigned_abs, length-set}
+use Rattle.std.proofs.Common.{◌≡◌, ℕ, zero, suc, ◌+◌, ◌-◌, ◌*◌, ◌<◌, ◌≤◌, List, [], ◌∷◌, length, take, drop, set, get_or, add-one, refl, sym, ◌∙◌, ap, subst, arith, Bool, true, false, ℤ, pos, unsigned_abs, length-set}
 use Rattle.std.specs.Prelude.{Some, nat_eq, if◌then◌else◌}
 use Rattle.std.proofs.lemmas.Bool.{le-leb, leb-true, eq-eqb}
 use Rattle.std.proofs.lemmas.List.{length-map, length-drop, length-take-le, map-set, get_or-set_same}
@@ -14,10 +14,10 @@ use Rattle.whole_rows.proofs.TurnSteps.{size_above, cut_above}
 use Rattle.whole_rows.proofs.CompactRun.{cleared_shaped}
 use Rattle.whole_rows.proofs.CompactFirst.{cleared_lines_fit, set_sizes}
 use Rattle.compact_run.proofs.Columns.{same_test, other_test}
-use Rattle.compact_table.proofs.ArenaSteps.{at_set_same}
+use Rattle.compact_table.proofs.ArenaSteps.{at_set_same, set_here}
 use Rattle.whole_solver.specs.Within.{kept}
 use Rattle.whole_solver.specs.Rows.{line_in, lines_in, row_at, pivot_line, line_after, lines_after, AreLinesIn, AreSizesIn, IsPivot}
-use Rattle.whole_solver.proofs.Numbers.{kept_some, written_more, written_all}
+use Rattle.whole_solver.proofs.Numbers.{kept_some, no_size, written_more, written_all}
 use Rattle.whole_solver.proofs.Choosing.{line_place}
 
 -- ---- the pivot row
@@ -101,6 +101,17 @@ front_sizes b w [] s = (none_at w, omega arith)
 front_sizes b w (d ∷ xs) s =
     let same = rw (add-one w) at s in
     (λ j. same (suc j), same 0)
+
+pub sizes_front : (b w : ℕ) (row : List ℤ) → IsLine b w (line_in w row) → AreSizes b (take (w + 1) row)
+sizes_front b w [] g = subst (λ (k : ℕ). AreSizes b (take k [])) (sym (add-one w)) (no_size b)
+sizes_front b w (d ∷ xs) g = subst (λ (k : ℕ). AreSizes b (take k (d ∷ xs))) (sym (add-one w)) at_place
+  where
+    at_place : (j : ℕ) → unsigned_abs (number_at (d ∷ take w xs) j) ≤ b
+    at_place zero = g.below
+    at_place (suc j) = g.sizes j
+
+pub line_resized : (b s w : ℕ) (l : Line) → IsLine b w l → l.denominator ≤ s → AreSizes s l.numbers → IsLine s w l
+line_resized b s w l g low sizes = record { positive = g.positive; below = low; sizes = sizes; count = g.count }
 
 -- the sizes of a line whose number in column c is exchanged for the denominator
 pub unset_sizes : (b c : ℕ) (v : ℤ) (zs : List ℤ) → AreSizes b (set zs c v) → unsigned_abs (number_at zs c) ≤ b → AreSizes b zs
@@ -206,6 +217,34 @@ after_zero w c a r i P row h none =
     either : (b : Bool) → (if b then line_in w row else line_in w row) ≡ line_in w row
     either true = refl
     either false = refl
+
+-- ---- the rows before i are cleared, and the others are as they were
+pub record AreCleared (w c a r i : ℕ) (P : List ℤ) (old rows : List (List ℤ)) : Type 0 where
+  pub left : (j : ℕ) → i ≤ j → row_at rows j ≡ row_at old j
+  pub cleared : take i (lines_in w rows) ≡ take i (lines_after c a r P 0 (lines_in w old))
+
+-- a row that stays as it is
+pub row_stays : (w c a r i : ℕ) (P : List ℤ) (old rows : List (List ℤ)) → length rows ≡ length old → i < length rows → line_in w (row_at old i) ≡ line_after c a r P i (line_in w (row_at old i)) → AreCleared w c a r i P old rows
+    → AreCleared w c a r (i + 1) P old rows
+row_stays w c a r i P old rows many low stays g =
+    record {
+      left = λ j p. g.left j (omega (arith, p));
+      cleared = subst (λ (s : List (List ℤ)). take (i + 1) (lines_in w s) ≡ take (i + 1) (lines_after c a r P 0 (lines_in w old))) (set_here rows i (row_at rows i) [] low refl)
+          (rows_more w c a r i old rows (row_at rows i) P low many (ap (line_in w) (g.left i (omega arith)) ∙ stays) g.cleared);
+    }
+
+-- rows that are 0 in the column
+pub rows_passed : (w c a r i k : ℕ) (P : List ℤ) (old rows : List (List ℤ)) → c < w → length rows ≡ length old → i ≤ k → k ≤ length rows → ((j : ℕ) → i ≤ j → j < k → number_at (row_at rows j) (c + 1) ≡ pos 0) → AreCleared w c a r i P old rows
+    → AreCleared w c a r k P old rows
+rows_passed w c a r i k P old rows column many low high none g = on (k - i) i (omega (arith, low)) (λ j p q. none j p q) g
+  where
+    on : (d i : ℕ) → i + d ≡ k → ((j : ℕ) → i ≤ j → j < k → number_at (row_at rows j) (c + 1) ≡ pos 0) → AreCleared w c a r i P old rows → AreCleared w c a r k P old rows
+    on zero i e none g = subst (λ (n : ℕ). AreCleared w c a r n P old rows) (omega (arith, e)) g
+    on (suc d) i e none g =
+        let same = g.left i (omega arith) in
+        let here : number_at (row_at old i) (c + 1) ≡ pos 0 = ap (λ (x : List ℤ). number_at x (c + 1)) (sym same) ∙ none i (omega arith) (omega (arith, e)) in
+        let stays = sym (after_zero w c a r i P (row_at old i) column here) in
+        on d (i + 1) (omega (arith, e)) (λ j p q. none j (omega (arith, p)) q) (row_stays w c a r i P old rows many (omega (arith, e, high)) stays g)
 
 -- the line of the pivot row stays
 pub after_pivot : (c a r i : ℕ) (P : List ℤ) (l : Line) → i ≡ r → line_after c a r P i l ≡ l

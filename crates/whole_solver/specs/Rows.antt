@@ -1,8 +1,6 @@
 -- The rows of an arena as lines: the denominator first, then the numbers, the right side last.
 use Rattle.std.specs.Prelude.{◌≡◌, ℕ, ◌+◌, ◌<◌, List, [], ◌∷◌, take, drop, map, length, ℤ, pos, unsigned_abs, slice_index_or, slice_set, if◌then◌else◌, nat_eq, int_lt, Option, Some, true}
-use Rattle.exact_num.specs.Fraction.{over, whole}
-use Rattle.table_run.specs.Choice.{Ratio, ratio_of}
-use Rattle.compact_table.specs.Candidates.{better_of}
+use Rattle.exact_num.specs.Fraction.{whole}
 use Rattle.compact_table.specs.Nonzero.{nonzero_places}
 use Rattle.whole_rows.specs.Lines.{Line, WholeRow, AreSizes, IsLine, line_of, whole_row, number_at}
 use Rattle.whole_rows.specs.Turning.{cut}
@@ -44,13 +42,7 @@ unfoldable pub lines_after : ℕ → ℕ → ℕ → List ℤ → ℕ → List L
 lines_after c a r pivot i [] = []
 lines_after c a r pivot i (l ∷ lines) = line_after c a r pivot i l ∷ lines_after c a r pivot (i + 1) lines
 
--- ---- the choices, one more row or column
--- the best so far, and the row at this place, where it limits the column
-abbrev pub with_row : Option Ratio → ℕ → ℕ → ℤ → ℤ → Option Ratio
-with_row best place basic right_side entry =
-    let next = Some (better_of best (ratio_of place basic (over right_side (unsigned_abs entry)))) in
-    if int_lt (pos 0) entry then next else best
-
+-- ---- the choice of the column, one more of them
 -- this column, where its number is below 0, or the best of later ones
 abbrev pub with_column : ℤ → Column → Option Column → Option Column
 with_column number column later = let here = Some (smaller column later) in if int_lt number (pos 0) then here else later

@@ -27,10 +27,12 @@ abbrev pub as_whole : WholeTable → CompactTable
 as_whole t = table_of t.names.items t.basics.items t.rows.rows t.objective.items
 
 -- each row is within the bound, and its numbers within the size that is kept with it. The objective row is within the limit
+-- and within its own size
 pub record IsWithin (bound limit : ℕ) (t : WholeTable) : Type 0 where
   pub rows : AreLinesIn bound (width_of t) t.rows.rows
   pub sizes : AreSizesIn t.sizes.items (width_of t) t.rows.rows
   pub objective : IsLine limit (width_of t) (line_in (width_of t) t.objective.items)
+  pub objective_size : IsLine t.objective_size (width_of t) (line_in (width_of t) t.objective.items)
 
 -- ---- room
 abbrev pub room_of : WholeTable → ℕ

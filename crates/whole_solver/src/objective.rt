@@ -1,11 +1,12 @@
 //! The clear of the objective row. Its numbers have 128 bits: the bound of the rows is none for it.
-ghost use Rattle.std.specs.Prelude.{◌≡◌, ◌≤ℤ◌, ◌<◌, ◌≤◌, ◌+◌, ◌-◌, ◌*◌, ◌/◌, ◌^◌, ◌*ℤ◌, ◌-ℤ◌, true, pos, unsigned_abs, length, map, int_div};
+ghost use Rattle.std.specs.Prelude.{◌≡◌, IfSome, slice_set, ◌≤ℤ◌, ◌<◌, ◌≤◌, ◌+◌, ◌-◌, ◌*◌, ◌/◌, ◌^◌, ◌*ℤ◌, ◌-ℤ◌, true, pos, unsigned_abs, length, map, int_div};
 ghost use Rattle.arithmetic.specs.Gcd.{gcd as gcd_of};
 ghost use Rattle.whole_rows.specs.Compact.{compact_cleared};
-ghost use Rattle.whole_rows.specs.Lines.{AreSizes, line_of, widest};
+ghost use Rattle.whole_rows.specs.Lines.{AreSizes, line_of, number_at, widest};
 ghost use Rattle.whole_rows.specs.Turning.{cross_difference, cut, cut_where_wide};
+ghost use Rattle.whole_solver.specs.Rows.{nonzero_in};
 
-use crate::line::{WIDEST, are_short, common, wide_quotient};
+use crate::line::{Known, Pivot, WIDEST, are_short, common, wide_quotient};
 use exact_num::gcd;
 
 /// Writes the numbers.
@@ -19,7 +20,7 @@ pub fn widen(out: &mut [i128], numbers: &[i64])
 }
 
 /// A size that none of the numbers is above.
-pub fn wide_size(numbers: &[i128]) -> u128
+fn wide_size(numbers: &[i128]) -> u128
     ensures { AreSizes result numbers.now }
 {
     let mut size = 0;
@@ -30,7 +31,7 @@ pub fn wide_size(numbers: &[i128]) -> u128
 }
 
 /// Whether a row of this size may be mixed with a pivot row of that one, within the limit.
-pub fn may_mix(size: u128, pivot_size: u64, limit: u128) -> bool
+fn may_mix(size: u128, pivot_size: u64, limit: u128) -> bool
     ensures { result ≡ true → 2 * (size * pivot_size) ≤ limit }
 {
     let Some(product) = size.checked_mul(pivot_size as u128) else {
@@ -40,6 +41,24 @@ pub fn may_mix(size: u128, pivot_size: u64, limit: u128) -> bool
         return false;
     };
     twice <= limit
+}
+
+/// A size of the line with which it may be mixed with a pivot row of that size: the one that is
+/// kept, or where it is too great one that is made anew.
+pub fn wide_size_to_mix(kept: u128, line: &[i128], pivot_size: u64, limit: u128) -> Option<u128>
+    requires { AreSizes kept line.now }
+    ensures sizes { IfSome result (λ size. AreSizes size line.now) }
+    ensures room { IfSome result (λ size. 2 * (size * pivot_size) ≤ limit) }
+{
+    if may_mix(kept, pivot_size, limit) {
+        return Some(kept);
+    }
+    let size = wide_size(line);
+    if may_mix(size, pivot_size, limit) {
+        Some(size)
+    } else {
+        None
+    }
 }
 
 /// The product, where 128 bits hold it.
@@ -60,20 +79,94 @@ fn wide_number(z: i128, p: i128, f: i128, q: i128) -> i128
     left - right
 }
 
-/// The numbers times `p`, less `f` times those of the pivot row, in 128 bits, which hold each step:
-/// the numbers are at most `size`, and those of the pivot row at most `pivot_size`.
-fn mix_wide(numbers: &mut [i128], pivot: &[i64], p: i128, f: i128, size: u128, pivot_size: u64)
+/// Multiplies the numbers, which are at most `size`, in 128 bits, which hold each product.
+fn multiply_each_wide(numbers: &mut [i128], p: i128, size: u128)
+    requires numbers { AreSizes size numbers.old }
+    requires room { size * unsigned_abs p ≤ 2 ^ 127 - 1 }
+    ensures { numbers.new ≡ map (λ z. z *ℤ p) numbers.old }
+{
+    for i in 0..numbers.len() {
+        let number = wide_product(numbers[i], p);
+        numbers[i] = number;
+    }
+}
+
+/// The same, and answers the size of the products. Mostly `p` is 1.
+fn multiply_sized_wide(numbers: &mut [i128], p: i128, size: u128) -> u128
+    requires numbers { AreSizes size numbers.old }
+    requires room { size * unsigned_abs p ≤ 2 ^ 127 - 1 }
+    ensures numbers { numbers.new ≡ map (λ z. z *ℤ p) numbers.old }
+    ensures size { result ≡ size * unsigned_abs p }
+{
+    if p == 1 {
+        return size;
+    }
+    multiply_each_wide(numbers, p, size);
+    size * p.unsigned_abs()
+}
+
+/// Takes `f` times the number of the pivot row from that of the line, both at place j.
+fn subtract_wide_at(numbers: &mut [i128], pivot: &[i64], f: i128, j: usize)
+    requires inside { (j < length numbers.old) × (j < length pivot.now) }
+    requires room { unsigned_abs (number_at numbers.old j) * 1
+        + unsigned_abs f * unsigned_abs (number_at pivot.now j) ≤ 2 ^ 127 - 1 }
+    ensures { numbers.new ≡ slice_set numbers.old j
+        ((number_at numbers.old j *ℤ pos 1) -ℤ (f *ℤ number_at pivot.now j)) }
+{
+    let number = wide_number(numbers[j], 1, f, pivot[j] as i128);
+    numbers[j] = number;
+}
+
+/// Takes `f` times the numbers of the pivot row from these, in 128 bits, which hold each step.
+/// `places` are those where the pivot row is not 0: the numbers elsewhere stay.
+fn subtract_wide_multiple(
+    numbers: &mut [i128],
+    pivot: &[i64],
+    places: &[usize],
+    f: i128,
+    size: u128,
+    pivot_size: u64,
+)
     requires width { length numbers.old ≡ length pivot.now }
+    requires places { places.now ≡ nonzero_in pivot.now }
+    requires numbers { AreSizes size numbers.old }
+    requires pivot { AreSizes pivot_size pivot.now }
+    requires room { size * 1 + unsigned_abs f * pivot_size ≤ 2 ^ 127 - 1 }
+    ensures { numbers.new ≡ cross_difference 1 f numbers.old pivot.now }
+{
+    for place in places {
+        subtract_wide_at(numbers, pivot, f, *place);
+    }
+}
+
+/// The numbers times `p`, less `f` times those of the pivot row, in 128 bits, which hold each step.
+fn mix_wide(
+    numbers: &mut [i128],
+    pivot: &[i64],
+    places: &[usize],
+    p: i128,
+    f: i128,
+    size: u128,
+    pivot_size: u64,
+)
+    requires width { length numbers.old ≡ length pivot.now }
+    requires places { places.now ≡ nonzero_in pivot.now }
     requires positive { pos 0 ≤ℤ p }
     requires numbers { AreSizes size numbers.old }
     requires pivot { AreSizes pivot_size pivot.now }
     requires room { size * unsigned_abs p + unsigned_abs f * pivot_size ≤ 2 ^ 127 - 1 }
     ensures { numbers.new ≡ cross_difference (unsigned_abs p) f numbers.old pivot.now }
 {
-    for i in 0..numbers.len() {
-        let number = wide_number(numbers[i], p, f, pivot[i] as i128);
-        numbers[i] = number;
-    }
+    let scaled = multiply_sized_wide(numbers, p, size);
+    subtract_wide_multiple(numbers, pivot, places, f, scaled, pivot_size);
+}
+
+/// The size of such numbers when they are mixed.
+fn wide_mixed_size(size: u128, p: u128, f: u128, pivot_size: u64) -> u128
+    requires { size * p + f * pivot_size ≤ 2 ^ 127 - 1 }
+    ensures { result ≡ size * p + f * pivot_size }
+{
+    size * p + f * pivot_size as u128
 }
 
 /// Divides the numbers.
@@ -100,7 +193,7 @@ fn divide_common(denominator: u128, numbers: &mut [i128]) -> u128
 }
 
 /// The same, where 64 bits do not hold the line. Any other stays as it is.
-fn cut_in_place(denominator: u128, numbers: &mut [i128]) -> u128
+fn cut_where_not_short(denominator: u128, numbers: &mut [i128]) -> u128
     requires above { 0 < denominator }
     requires below { denominator < 2 ^ 127 }
     ensures { line_of result numbers.new ≡ cut_where_wide (line_of denominator numbers.old) }
@@ -110,6 +203,25 @@ fn cut_in_place(denominator: u128, numbers: &mut [i128]) -> u128
     } else {
         divide_common(denominator, numbers)
     }
+}
+
+/// The same, where the size that is kept does not say that 64 bits hold the line. The line is sized
+/// anew then.
+fn cut_in_place(denominator: u128, numbers: &mut [i128], size: &mut u128) -> u128
+    requires above { 0 < denominator }
+    requires below { denominator < 2 ^ 127 }
+    requires sizes { AreSizes size.old numbers.old }
+    requires denominator { denominator ≤ size.old }
+    ensures line { line_of result numbers.new ≡ cut_where_wide (line_of denominator numbers.old) }
+    ensures sizes { AreSizes size.new numbers.new }
+    ensures denominator { result ≤ size.new }
+{
+    if *size <= WIDEST {
+        return denominator;
+    }
+    let below = cut_where_not_short(denominator, numbers);
+    *size = wide_size(numbers) | below;
+    below
 }
 
 /// `a` and `x` without what they have in common.
@@ -124,35 +236,39 @@ fn without_common_wide(a: u64, x: i128) -> (i128, i128)
     ((a as u128 / shared) as i128, x / shared as i128)
 }
 
-/// Clears column `c` of the line by the pivot row, whose number there was `a` and is now its old
-/// denominator, and answers the line's new denominator. The line is at most `size`, and the numbers
-/// of the pivot row at most `pivot_size`, so that 128 bits hold each step.
+/// Clears the pivot's column of the line, and answers the line's new denominator. The line is at
+/// most `size`, which is kept so: this and the size of the pivot's numbers are so small that 128
+/// bits hold each step.
 pub fn clear_wide_line(
     denominator: u128,
     numbers: &mut [i128],
-    size: u128,
-    pivot: &[i64],
-    pivot_size: u64,
-    c: usize,
-    a: u64,
+    size: &mut u128,
+    pivot: Pivot,
 ) -> u128
-    requires column { c < length numbers.old }
-    requires width { length numbers.old ≡ length pivot.now }
-    requires numbers { AreSizes size numbers.old }
-    requires denominator { (0 < denominator) × (denominator ≤ size) }
-    requires pivot { AreSizes pivot_size pivot.now }
-    requires above { (0 < a) × (a ≤ pivot_size) }
-    requires below { a ≤ widest }
-    requires room { 2 * (size * pivot_size) ≤ 2 ^ 127 - 1 }
-    ensures { line_of result numbers.new
-        ≡ compact_cleared c a pivot.now (line_of denominator numbers.old) }
+    requires column { pivot.known.c < length numbers.old }
+    requires width { length numbers.old ≡ length pivot.numbers.now }
+    requires numbers { AreSizes size.old numbers.old }
+    requires denominator { (0 < denominator) × (denominator ≤ size.old) }
+    requires pivot { AreSizes pivot.known.most pivot.numbers.now }
+    requires places { pivot.known.places.now ≡ nonzero_in pivot.numbers.now }
+    requires above { (0 < pivot.known.a) × (pivot.known.a ≤ pivot.known.most) }
+    requires below { pivot.known.a ≤ widest }
+    requires room { 2 * (size.old * pivot.known.most) ≤ 2 ^ 127 - 1 }
+    ensures line { line_of result numbers.new
+        ≡ compact_cleared pivot.entry.known.c pivot.entry.known.a pivot.entry.numbers.now
+        (line_of denominator numbers.old) }
+    ensures sizes { AreSizes size.new numbers.new }
+    ensures denominator { result ≤ size.new }
 {
+    let Known { c, a, most, places } = pivot.known;
     let x = numbers[c];
     if x == 0 {
         return denominator;
     }
     let (p, f) = without_common_wide(a, x);
     numbers[c] = 0;
-    mix_wide(numbers, pivot, p, f, size, pivot_size);
-    cut_in_place(denominator * p as u128, numbers)
+    mix_wide(numbers, pivot.numbers, places, p, f, *size, most);
+    let (times, less) = (p.unsigned_abs(), f.unsigned_abs());
+    *size = wide_mixed_size(*size, times, less, most);
+    cut_in_place(denominator * p as u128, numbers, size)
 }

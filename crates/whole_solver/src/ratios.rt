@@ -2,11 +2,12 @@
 ghost use Rattle.std.specs.Prelude.{◌≡◌, ◌+◌, ◌<◌, ◌*ℤ◌, length, pos};
 ghost use Rattle.std.specs.Option.{option_map};
 ghost use Rattle.table_run.specs.Choice.{lesser as lesser_of};
-ghost use Rattle.compact_table.specs.Candidates.{best_with};
+ghost use Rattle.compact_table.specs.Candidates.{best_with, better_of};
 ghost use Rattle.whole_rows.specs.Turning.{whole_ratios};
 ghost use Rattle.whole_solver.specs.Choices.{as_ratio};
-ghost use Rattle.whole_solver.specs.Rows.{beside_basics, lines_in, with_row as with_row_of};
+ghost use Rattle.whole_solver.specs.Rows.{beside_basics, lines_in};
 
+use crate::rows::next_nonzero;
 use row_arena::RowArena;
 use std::cmp::Ordering;
 
@@ -40,29 +41,13 @@ fn lesser(one: Candidate, other: Candidate) -> Candidate
     }
 }
 
-/// The best so far, and the row at `place` where it limits the variable.
-fn with_row(
-    best: Option<Candidate>,
-    place: usize,
-    basic: usize,
-    right_side: i64,
-    entry: i64,
-) -> Option<Candidate>
-    ensures { option_map as_ratio result
-        ≡ with_row_of (option_map as_ratio best) place basic right_side entry }
+/// The better of the best so far and the next.
+fn better(best: Option<Candidate>, next: Candidate) -> Candidate
+    ensures { as_ratio result ≡ better_of (option_map as_ratio best) (as_ratio next) }
 {
-    if entry <= 0 {
-        return best;
-    }
-    let next = Candidate {
-        place,
-        basic,
-        right_side,
-        entry: entry.unsigned_abs(),
-    };
     match best {
-        None => Some(next),
-        Some(best) => Some(lesser(best, next)),
+        None => next,
+        Some(best) => lesser(best, next),
     }
 }
 
@@ -75,9 +60,20 @@ pub fn leaving(basics: &[usize], rows: &RowArena<i64>, columns: usize, c: usize)
         (beside_basics basics.now (lines_in (columns + 1) rows.now.rows))) }
 {
     let mut best: Option<Candidate> = None;
-    for i in 0..rows.len() {
+    let mut i = next_nonzero(rows, 0, c);
+    while i < rows.len() {
         let row = rows.row(i);
-        best = with_row(best, i, basics[i], row[columns + 1], row[c + 1]);
+        let entry = row[c + 1];
+        if entry > 0 {
+            let next = Candidate {
+                place: i,
+                basic: basics[i],
+                right_side: row[columns + 1],
+                entry: entry.unsigned_abs(),
+            };
+            best = Some(better(best, next));
+        }
+        i = next_nonzero(rows, i + 1, c);
     }
     match best {
         None => None,

@@ -1,13 +1,13 @@
 //! The rows of a turn in an arena. A row is its denominator and then its numbers, the right side
 //! last.
-ghost use Rattle.std.specs.Prelude.{◌≡◌, ◌≢◌, ◌+◌, ◌-◌, ◌*◌, ◌^◌, ◌<◌, ◌≤◌, ℕ, List, ℤ, false, length, pos, true, unsigned_abs, slice_set, vec_capacity};
+ghost use Rattle.std.specs.Prelude.{◌≡◌, ◌+◌, ◌-◌, ◌*◌, ◌^◌, ◌<◌, ◌≤◌, ℕ, false, length, pos, true, unsigned_abs, slice_set, vec_capacity};
 ghost use Rattle.whole_rows.specs.Lines.{AreSizes, IsLine, line_size, number_at, widest};
 ghost use Rattle.whole_rows.specs.Compact.{compact_cleared};
 ghost use Rattle.whole_rows.specs.Turning.{cut, mix_fits};
-ghost use Rattle.whole_solver.specs.Rows.{AreLinesIn, AreSizesIn, IsPivot, IsTurned, line_after, line_in, lines_after, lines_in, nonzero_in, pivot_line, row_at};
+ghost use Rattle.whole_solver.specs.Rows.{AreLinesIn, AreSizesIn, IsPivot, IsTurned, line_in, lines_after, lines_in, nonzero_in, pivot_line, row_at};
 
-use crate::line::{clear_line, common_short, divide_numbers, list_nonzero, size_of};
-use crate::objective::{clear_wide_line, may_mix, wide_size};
+use crate::line::{Known, Pivot, clear_line, common_short, divide_numbers, list_nonzero, size_of};
+use crate::objective::{clear_wide_line, wide_size_to_mix};
 use row_arena::RowArena;
 
 /// Brings the line of so many numbers at the front of the row to lowest terms.
@@ -90,31 +90,29 @@ fn front_nonzero(row: &[i64], width: usize, places: &mut Vec<usize>)
     list_nonzero(&row[1..width + 1], places)
 }
 
-/// Clears column `c` of the line at the front of the row, and says whether it is within the bound.
-/// Its numbers are at most `most`, which is kept so, and those of the pivot row, which is not 0 at
-/// `places`, at most `pivot_most`. `room` has as many places as the line has numbers.
+/// Clears the pivot's column of the line at the front of the row, and says whether it is within the
+/// bound. Its numbers are at most `most`, which is kept so. `room` has as many places as the line
+/// has numbers.
 fn clear_sized(
     row: &mut [i64],
     most: &mut u64,
     pivot: &[i64],
-    pivot_most: u64,
-    places: &[usize],
+    known: Known,
     room: &mut [i128],
-    c: usize,
-    a: u64,
     bound: u64,
 ) -> bool
-    requires column { c < length room.old }
+    requires column { known.c < length room.old }
     requires widths { (length room.old < length row.old) × (length room.old < length pivot.now) }
     requires bound { bound ≤ widest }
     requires sizes { AreSizes most.old (line_in (length room.old) row.old).numbers }
     requires pivot { AreSizes bound (line_in (length room.old) pivot.now).numbers }
-    requires pivot_sizes { AreSizes pivot_most (line_in (length room.old) pivot.now).numbers }
-    requires places { places.now ≡ nonzero_in (line_in (length room.old) pivot.now).numbers }
-    requires above { (0 < a) × (a ≤ bound) }
+    requires pivot_sizes { AreSizes known.most (line_in (length room.old) pivot.now).numbers }
+    requires places { known.places.now ≡ nonzero_in (line_in (length room.old) pivot.now).numbers }
+    requires above { (0 < known.a) × (known.a ≤ bound) }
     requires line { IsLine bound (length room.old) (line_in (length room.old) row.old) }
     ensures cleared { result ≡ true → line_in (length room.old) row.new
-        ≡ compact_cleared c a (line_in (length room.old) pivot.now).numbers
+        ≡ compact_cleared known.entry.c known.entry.a
+        (line_in (length room.old) pivot.now).numbers
         (line_in (length room.old) row.old) }
     ensures line { result ≡ true
         → IsLine bound (length room.old) (line_in (length room.old) row.new) }
@@ -124,102 +122,110 @@ fn clear_sized(
     let width = room.len();
     let denominator = row[0].unsigned_abs();
     let numbers = &mut row[1..width + 1];
-    let Some(below) = clear_line(
-        denominator,
-        numbers,
-        most,
-        &pivot[1..width + 1],
-        pivot_most,
-        places,
-        room,
-        c,
-        a,
-        bound,
-    ) else {
+    let pivot = Pivot {
+        numbers: &pivot[1..width + 1],
+        known,
+    };
+    let Some(below) = clear_line(denominator, numbers, most, pivot, room, bound) else {
         return false;
     };
     row[0] = below as i64;
     true
 }
 
-/// Clears column `c` of the objective row, where the sizes of both rows say that it stays within
-/// the limit, and says whether they do. The numbers of the pivot row are at most `pivot_most`.
+/// Clears the pivot's column of the objective row, where the sizes of both rows say that it stays
+/// within the limit, and says whether they do. The row is at most `kept`, which is kept so.
 fn clear_objective(
     objective: &mut [i128],
+    kept: &mut u128,
     pivot: &[i64],
-    pivot_most: u64,
+    known: Known,
     width: usize,
-    c: usize,
-    a: u64,
     limit: u128,
 ) -> bool
-    requires column { c < width }
+    requires column { known.c < width }
     requires widths { (width < length objective.old) × (width < length pivot.now) }
-    requires pivot { AreSizes pivot_most (line_in width pivot.now).numbers }
-    requires above { (0 < a) × (a ≤ pivot_most) }
-    requires below { a ≤ widest }
+    requires pivot { AreSizes known.most (line_in width pivot.now).numbers }
+    requires places { known.places.now ≡ nonzero_in (line_in width pivot.now).numbers }
+    requires above { (0 < known.a) × (known.a ≤ known.most) }
+    requires below { known.a ≤ widest }
     requires limit { limit ≤ 2 ^ 127 - 1 }
     requires line { IsLine limit width (line_in width objective.old) }
+    requires kept { IsLine kept.old width (line_in width objective.old) }
     ensures fits { result ≡ true
-        → 2 * (line_size (line_in width objective.old) * pivot_most) ≤ limit }
+        → 2 * (line_size (line_in width objective.old) * known.entry.most) ≤ limit }
     ensures cleared { result ≡ true → line_in width objective.new
-        ≡ compact_cleared c a (line_in width pivot.now).numbers (line_in width objective.old) }
+        ≡ compact_cleared known.entry.c known.entry.a (line_in width pivot.now).numbers
+        (line_in width objective.old) }
     ensures line { result ≡ true → IsLine limit width (line_in width objective.new) }
+    ensures kept { result ≡ true → IsLine kept.new width (line_in width objective.new) }
 {
-    let size = wide_size(&objective[..width + 1]);
-    if !may_mix(size, pivot_most, limit) {
+    let Some(mut size) = wide_size_to_mix(*kept, &objective[..width + 1], known.most, limit) else {
         return false;
-    }
+    };
     let denominator = objective[0].unsigned_abs();
     let numbers = &mut objective[1..width + 1];
-    let pivot = &pivot[1..width + 1];
-    let below = clear_wide_line(denominator, numbers, size, pivot, pivot_most, c, a);
+    let pivot = Pivot {
+        numbers: &pivot[1..width + 1],
+        known,
+    };
+    let below = clear_wide_line(denominator, numbers, &mut size, pivot);
     objective[0] = below as i128;
+    *kept = size;
     true
 }
 
-/// Whether row i is to be cleared: another row than r, that is not 0 in column `c`.
-fn is_to_clear(rows: &RowArena<i64>, i: usize, r: usize, c: usize) -> bool
+/// Whether row i is not 0 in column `c`.
+fn is_nonzero(rows: &RowArena<i64>, i: usize, c: usize) -> bool
     requires row { i < length rows.now.rows }
     requires column { c + 1 < rows.now.width }
-    ensures apart { result ≡ true → r ≢ i }
-    ensures stays { result ≡ false → (w a : ℕ) → c < w → (pivot : List ℤ)
-        → line_after c a r pivot i (line_in w (row_at rows.now.rows i))
-        ≡ line_in w (row_at rows.now.rows i) }
+    ensures { result ≡ false → number_at (row_at rows.now.rows i) (c + 1) ≡ pos 0 }
 {
-    if i == r {
-        return false;
-    }
     rows.row(i)[c + 1] != 0
 }
 
+/// The first row from `from` on that is not 0 in column `c`, or the number of rows.
+pub fn next_nonzero(rows: &RowArena<i64>, from: usize, c: usize) -> usize
+    requires from { from ≤ length rows.now.rows }
+    requires column { c + 1 < rows.now.width }
+    ensures inside { (from ≤ result) × (result ≤ length rows.now.rows) }
+    ensures passed { (i : ℕ) → from ≤ i → i < result
+        → number_at (row_at rows.now.rows i) (c + 1) ≡ pos 0 }
+{
+    for i in from..rows.len() {
+        if is_nonzero(rows, i, c) {
+            return i;
+        }
+    }
+    rows.len()
+}
+
 /// Clears each row but the pivot row r, up to the first that is not within the bound, and says
-/// whether all are. The size that is kept with a row goes with it.
+/// whether all are. The size that is kept with a row goes with it. Rows that are 0 in the column are
+/// passed over.
 fn clear_rows(
     rows: &mut RowArena<i64>,
     sizes: &mut [u64],
-    pivot_most: u64,
-    places: &[usize],
+    known: Known,
     room: &mut [i128],
     r: usize,
-    c: usize,
-    a: u64,
     bound: u64,
 ) -> bool
     requires row { r < length rows.old.rows }
-    requires column { c < length room.old }
+    requires column { known.c < length room.old }
     requires width { length room.old < rows.old.width }
     requires bound { bound ≤ widest }
-    requires above { (0 < a) × (a ≤ bound) }
+    requires above { (0 < known.a) × (known.a ≤ bound) }
     requires lines { AreLinesIn bound (length room.old) rows.old.rows }
     requires sizes { AreSizesIn sizes.old (length room.old) rows.old.rows }
     requires count { length rows.old.rows ≤ length sizes.old }
-    requires pivot { AreSizes pivot_most
+    requires pivot { AreSizes known.most
         (line_in (length room.old) (row_at rows.old.rows r)).numbers }
-    requires places { places.now
+    requires places { known.places.now
         ≡ nonzero_in (line_in (length room.old) (row_at rows.old.rows r)).numbers }
     ensures cleared { result ≡ true → lines_in (length room.old) rows.new.rows
-        ≡ lines_after c a r (line_in (length room.old) (row_at rows.old.rows r)).numbers 0
+        ≡ lines_after known.entry.c known.entry.a r
+        (line_in (length room.old) (row_at rows.old.rows r)).numbers 0
         (lines_in (length room.old) rows.old.rows) }
     ensures lines { result ≡ true → AreLinesIn bound (length room.old) rows.new.rows }
     ensures sizes { result ≡ true → AreSizesIn sizes.new (length room.old) rows.new.rows }
@@ -227,77 +233,89 @@ fn clear_rows(
     ensures spare { rows.new.spare ≡ rows.old.spare }
     ensures count { length rows.new.rows ≡ length rows.old.rows }
 {
-    for i in 0..rows.len() {
-        if is_to_clear(rows, i, r, c) {
+    let mut i = next_nonzero(rows, 0, known.c);
+    while i < rows.len() {
+        if i != r {
             let (pivot, row) = rows.pair(r, i);
             let mut most = sizes[i];
-            if !clear_sized(row, &mut most, pivot, pivot_most, places, room, c, a, bound) {
+            if !clear_sized(row, &mut most, pivot, known, room, bound) {
                 return false;
             }
             sizes[i] = most;
         }
+        i = next_nonzero(rows, i + 1, known.c);
     }
     true
 }
 
-/// The rows of a turn and the objective row, where column `c` enters in row r, and the sizes that
-/// are kept with the rows. Says whether the rows are within the bound and the objective row within
-/// the limit. `room` has as many places as a
-/// line has numbers, and `places` room for them.
+/// A turn to be made: the row r that leaves, the column `c` that enters, the bound of the rows and
+/// the limit of the objective row.
+#[derive(Clone, Copy)]
+pub struct Step {
+    pub r: usize,
+    pub c: usize,
+    pub bound: u64,
+    pub limit: u128,
+}
+
+/// The rows of a turn and the objective row, and the sizes that are kept with them. Says whether
+/// the rows are within the bound and the objective row within the limit. `room` has as many places
+/// as a line has numbers, and `places` room for them.
 fn turn_lines(
     rows: &mut RowArena<i64>,
     sizes: &mut [u64],
     objective: &mut [i128],
+    objective_size: &mut u128,
     places: &mut Vec<usize>,
     room: &mut [i128],
-    r: usize,
-    c: usize,
-    bound: u64,
-    limit: u128,
+    step: Step,
 ) -> bool
-    requires column { c < length room.old }
+    requires column { step.c < length room.old }
     requires widths { (length room.old < rows.old.width)
         × (length room.old < length objective.old) }
-    requires bound { bound ≤ widest }
-    requires limit { limit ≤ 2 ^ 127 - 1 }
-    requires pivot { IsPivot (length room.old) c r rows.old.rows }
-    requires lines { AreLinesIn bound (length room.old) rows.old.rows }
+    requires bound { step.bound ≤ widest }
+    requires limit { step.limit ≤ 2 ^ 127 - 1 }
+    requires pivot { IsPivot (length room.old) step.c step.r rows.old.rows }
+    requires lines { AreLinesIn step.bound (length room.old) rows.old.rows }
     requires sizes { AreSizesIn sizes.old (length room.old) rows.old.rows }
     requires count { length rows.old.rows ≤ length sizes.old }
     requires capacity { length room.old ≤ vec_capacity places.old }
-    requires objective { IsLine limit (length room.old) (line_in (length room.old) objective.old) }
-    ensures fits { result ≡ true → mix_fits limit (line_in (length room.old) objective.old)
-        (cut (line_in (length room.old) (row_at rows.old.rows r))) ≡ true }
-    ensures turned { result ≡ true → IsTurned (length room.old) c r
+    requires objective { IsLine step.limit (length room.old)
+        (line_in (length room.old) objective.old) }
+    requires objective_size { IsLine objective_size.old (length room.old)
+        (line_in (length room.old) objective.old) }
+    ensures fits { result ≡ true → mix_fits step.limit (line_in (length room.old) objective.old)
+        (cut (line_in (length room.old) (row_at rows.old.rows step.r))) ≡ true }
+    ensures turned { result ≡ true → IsTurned (length room.old) step.c step.r
         rows.old.rows objective.old rows.new.rows objective.new }
-    ensures lines { result ≡ true → AreLinesIn bound (length room.old) rows.new.rows }
+    ensures lines { result ≡ true → AreLinesIn step.bound (length room.old) rows.new.rows }
     ensures sizes { result ≡ true → AreSizesIn sizes.new (length room.old) rows.new.rows }
     ensures objective { result ≡ true
-        → IsLine limit (length room.old) (line_in (length room.old) objective.new) }
+        → IsLine step.limit (length room.old) (line_in (length room.old) objective.new) }
+    ensures objective_size { result ≡ true → IsLine objective_size.new (length room.old)
+        (line_in (length room.old) objective.new) }
     ensures width { rows.new.width ≡ rows.old.width }
     ensures spare { rows.new.spare ≡ rows.old.spare }
     ensures count { length rows.new.rows ≡ length rows.old.rows }
     ensures capacity { vec_capacity places.old ≤ vec_capacity places.new }
 {
+    let Step { r, c, bound, limit } = step;
     let a = place_pivot(rows, room.len(), r, c);
     let pivot = rows.row(r);
     let pivot_most = front_size(pivot, room.len());
     sizes[r] = pivot_most;
     front_nonzero(pivot, room.len(), places);
-    if !clear_objective(objective, pivot, pivot_most, room.len(), c, a, limit) {
-        return false;
-    }
-    clear_rows(
-        rows,
-        sizes,
-        pivot_most,
-        places.as_slice(),
-        room,
-        r,
+    let places = places.as_slice();
+    let known = Known {
         c,
         a,
-        bound,
-    )
+        most: pivot_most,
+        places,
+    };
+    if !clear_objective(objective, objective_size, pivot, known, room.len(), limit) {
+        return false;
+    }
+    clear_rows(rows, sizes, known, room, r, bound)
 }
 
 /// The same, where a line has `width` numbers and there is room for more.
@@ -305,33 +323,34 @@ pub fn turn_rows(
     rows: &mut RowArena<i64>,
     sizes: &mut [u64],
     objective: &mut [i128],
+    objective_size: &mut u128,
     places: &mut Vec<usize>,
     room: &mut [i128],
     width: usize,
-    r: usize,
-    c: usize,
-    bound: u64,
-    limit: u128,
+    step: Step,
 ) -> bool
-    requires column { c < width }
+    requires column { step.c < width }
     requires room { width ≤ length room.old }
     requires widths { (width < rows.old.width) × (width < length objective.old) }
-    requires bound { bound ≤ widest }
-    requires limit { limit ≤ 2 ^ 127 - 1 }
-    requires pivot { IsPivot width c r rows.old.rows }
-    requires lines { AreLinesIn bound width rows.old.rows }
+    requires bound { step.bound ≤ widest }
+    requires limit { step.limit ≤ 2 ^ 127 - 1 }
+    requires pivot { IsPivot width step.c step.r rows.old.rows }
+    requires lines { AreLinesIn step.bound width rows.old.rows }
     requires sizes { AreSizesIn sizes.old width rows.old.rows }
     requires count { length rows.old.rows ≤ length sizes.old }
     requires capacity { width ≤ vec_capacity places.old }
-    requires objective { IsLine limit width (line_in width objective.old) }
-    ensures fits { result ≡ true → mix_fits limit (line_in width objective.old)
-        (cut (line_in width (row_at rows.old.rows r))) ≡ true }
-    ensures turned { result ≡ true → IsTurned width c r
+    requires objective { IsLine step.limit width (line_in width objective.old) }
+    requires objective_size { IsLine objective_size.old width (line_in width objective.old) }
+    ensures fits { result ≡ true → mix_fits step.limit (line_in width objective.old)
+        (cut (line_in width (row_at rows.old.rows step.r))) ≡ true }
+    ensures turned { result ≡ true → IsTurned width step.c step.r
         rows.old.rows objective.old rows.new.rows objective.new }
-    ensures lines { result ≡ true → AreLinesIn bound width rows.new.rows }
+    ensures lines { result ≡ true → AreLinesIn step.bound width rows.new.rows }
     ensures sizes { result ≡ true → AreSizesIn sizes.new width rows.new.rows }
     ensures objective { result ≡ true
-        → IsLine limit width (line_in width objective.new) }
+        → IsLine step.limit width (line_in width objective.new) }
+    ensures objective_size { result ≡ true
+        → IsLine objective_size.new width (line_in width objective.new) }
     ensures width { rows.new.width ≡ rows.old.width }
     ensures spare { rows.new.spare ≡ rows.old.spare }
     ensures count { length rows.new.rows ≡ length rows.old.rows }
@@ -341,11 +360,9 @@ pub fn turn_rows(
         rows,
         sizes,
         objective,
+        objective_size,
         places,
         &mut room[..width],
-        r,
-        c,
-        bound,
-        limit,
+        step,
     )
 }

@@ -14,7 +14,7 @@ use crate::columns::{Entering, least_column};
 use crate::fraction::{fraction, take_line, wide};
 use crate::objective::widen;
 use crate::ratios::leaving;
-use crate::rows::turn_rows;
+use crate::rows::{Step, turn_rows};
 use crate::turn::Turn;
 use compact_table::Table;
 use compact_table::room::{push_within, write_all};
@@ -32,8 +32,10 @@ pub struct WholeTable {
     // of each row, and of the objective row, the front counts
     rows: RowArena<i64>,
     objective: Vec<i128>,
-    // with each row a size that none of its numbers is above
+    // with each row a size that none of its numbers is above, and one for the objective row and its
+    // denominator
     sizes: Vec<u64>,
+    objective_size: u128,
     // room for the places where the pivot row is not 0
     places: Vec<usize>,
     // room for the numbers of a line before it is cut, in 128 bits, and for a row that comes
@@ -77,6 +79,7 @@ impl WholeTable {
             rows: arena,
             objective,
             sizes,
+            objective_size: 0,
             places,
             room,
             line,
@@ -146,7 +149,8 @@ impl WholeTable {
         true
     }
 
-    /// Keeps the bound of the rows as the size of each. The limit is not below it.
+    /// Keeps the bound of the rows as the size of each and of the objective row. The limit is not
+    /// below it.
     fn keep_sizes(&mut self, bound: u64, limit: u128)
         requires rows { AreLinesIn bound (width_of self.old) self.old.rows.rows }
         requires objective { IsLine bound (width_of self.old)
@@ -156,6 +160,7 @@ impl WholeTable {
         ensures within { IsWithin bound limit self.new }
     {
         self.sizes.as_mut_slice().fill(bound);
+        self.objective_size = bound as u128;
     }
 
     /// Becomes the table of these fractions, each row over the least common denominator, and says
@@ -227,13 +232,11 @@ impl WholeTable {
             &mut self.rows,
             self.sizes.as_mut_slice(),
             self.objective.as_mut_slice(),
+            &mut self.objective_size,
             &mut self.places,
             self.room.as_mut_slice(),
             width,
-            r,
-            c,
-            bound,
-            limit,
+            Step { r, c, bound, limit },
         )
     }
 
@@ -248,6 +251,7 @@ impl WholeTable {
         ensures rows { self.new.rows ≡ self.old.rows }
         ensures objective { self.new.objective.items ≡ self.old.objective.items }
         ensures sizes { self.new.sizes.items ≡ self.old.sizes.items }
+        ensures objective_size { self.new.objective_size ≡ self.old.objective_size }
     {
         let leaving = self.basics[r];
         self.basics[r] = self.names[c];

@@ -1,4 +1,4 @@
-use Rattle.std.proofs.Common.{◌≡◌, ◌+◌, ◌*◌, true, refl, sym, subst, arith, unsigned_abs, w64, List, ℤ}
+use Rattle.std.proofs.Common.{◌≡◌, ◌+◌, ◌*◌, true, refl, sym, subst, arith, unsigned_abs, rules, FitsSigned, w64, List, ℤ}
 use Rattle.std.proofs.lemmas.Bool.{le-leb}
 use Rattle.std.proofs.lemmas.Int.{to_z-of_z}
 use Rattle.whole_rows.specs.Lines.{AreSizes, numbers_fit}
@@ -9,14 +9,16 @@ use Rattle.whole_solver.proofs.line.mix_short.Goals as goal
 
 pub returns-clause-sizes : goal.returns-clause-sizes
 returns-clause-sizes c =
-    let p_is = to_z-of_z w64 c.args.p c.ranges.p in
-    let f_is = to_z-of_z w64 c.args.f c.ranges.f in
-    let times : c.unsigned_abs-times.result ≡ unsigned_abs c.args.p = rw p_is at c.unsigned_abs-times.ensures.value in
-    let less : c.unsigned_abs-less.result ≡ unsigned_abs c.args.f = rw f_is at c.unsigned_abs-less.ensures.value in
-    let size : c.mixed_size.result ≡ c.in-Some.size * unsigned_abs c.args.p + unsigned_abs c.args.f * c.args.pivot_most = rw (times, less) at c.mixed_size.ensures in
-    let written : c.mix_sized.new.numbers ≡ cross_difference (unsigned_abs c.args.p) c.args.f c.args.numbers.now c.args.pivot.now = rw (p_is, f_is) at c.mix_sized.ensures in
+    let p : FitsSigned w64 c.args.factors.p = search rules in
+    let f : FitsSigned w64 c.args.factors.f = search rules in
+    let p_is = to_z-of_z w64 c.args.factors.p p in
+    let f_is = to_z-of_z w64 c.args.factors.f f in
+    let times : c.unsigned_abs-times.result ≡ unsigned_abs c.args.factors.p = rw p_is at c.unsigned_abs-times.ensures.value in
+    let less : c.unsigned_abs-less.result ≡ unsigned_abs c.args.factors.f = rw f_is at c.unsigned_abs-less.ensures.value in
+    let size : c.mixed_size.result ≡ c.in-Some.size * unsigned_abs c.args.factors.p + unsigned_abs c.args.factors.f * c.args.pivot.known.most = rw (times, less) at c.mixed_size.ensures in
+    let written : c.mix_sized.new.numbers ≡ cross_difference (unsigned_abs c.args.factors.p) c.args.factors.f c.args.numbers.now c.args.pivot.numbers.now = rw (p_is, f_is) at c.mix_sized.ensures in
     subst (λ (zs : List ℤ). AreSizes c.mixed_size.result zs) (sym written)
-    (mixed_sizes (unsigned_abs c.args.p) c.in-Some.size c.args.pivot_most c.mixed_size.result c.args.f c.args.numbers.now c.args.pivot.now c.in-Some.ensures.sizes c.requires.pivot (omega (arith, size)))
+    (mixed_sizes (unsigned_abs c.args.factors.p) c.in-Some.size c.args.pivot.known.most c.mixed_size.result c.args.factors.f c.args.numbers.now c.args.pivot.numbers.now c.in-Some.ensures.sizes c.requires.pivot (omega (arith, size)))
 
 pub returns-clause-fits : goal.returns-clause-fits
 returns-clause-fits c =

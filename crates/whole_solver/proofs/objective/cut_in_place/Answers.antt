@@ -1,20 +1,23 @@
-use Rattle.std.proofs.Common.{◌<◌, ◌≤◌, ◌∙◌, sym, arith}
-use Rattle.whole_rows.specs.Lines.{widest}
-use Rattle.whole_solver.proofs.Cut.{short_stays, whole_is, wide_below, wide_numbers}
-use Rattle.whole_solver.proofs.objective.cut_in_place.Goals.{else-denominator-le-WIDEST-via-then-denominator-le-WIDEST+else-are_short, else-denominator-le-WIDEST-via-else-denominator-le-WIDEST}
+use Rattle.std.proofs.Common.{◌≡◌, ◌≤◌, ◌∙◌, sym, arith, true}
+use Rattle.std.proofs.lemmas.Nat.{le_or_l, le_or_r}
+use Rattle.whole_rows.specs.Lines.{numbers_fit, widest}
+use Rattle.whole_rows.proofs.LineSteps.{fit_of_sizes}
+use Rattle.whole_solver.proofs.Cut.{short_stays, whole_is}
 use Rattle.whole_solver.proofs.objective.cut_in_place.Goals as goal
 
-pub returns-then-are_short : goal.returns-then-are_short
-returns-then-are_short c =
-    let low : c.args.denominator ≤ widest = omega arith in
-    sym (whole_is c.args.denominator c.args.numbers.now) ∙ short_stays c.args.denominator c.args.numbers.now low (sym c.are_short.ensures ∙ c.if-are_short.true)
+pub returns-then-size-le-WIDEST-clause-line : goal.returns-then-size-le-WIDEST-clause-line
+returns-then-size-le-WIDEST-clause-line c =
+    let d = c.args.denominator in
+    let zs = c.args.numbers.now in
+    let low : d ≤ widest = omega (arith, c.requires.denominator) in
+    let short : numbers_fit widest zs ≡ true = fit_of_sizes widest zs (λ j _. (let small = c.requires.sizes j in omega (arith, small))) in
+    sym (whole_is d zs) ∙ short_stays d zs low short
 
-pub returns-else-denominator-le-WIDEST : goal.returns-else-denominator-le-WIDEST
-returns-else-denominator-le-WIDEST c =
-    elim c.else-denominator-le-WIDEST.branch [
-      | else-denominator-le-WIDEST-via-then-denominator-le-WIDEST+else-are_short w ↦
-          c.divide_common.ensures ∙ wide_numbers c.args.denominator c.args.numbers.now (sym w.are_short.ensures ∙ w.if-are_short.false)
-      | else-denominator-le-WIDEST-via-else-denominator-le-WIDEST w ↦
-          (let high : widest < c.args.denominator = omega (arith, w.if-denominator-le-WIDEST.false) in
-          c.divide_common.ensures ∙ wide_below c.args.denominator c.args.numbers.now high)
-    ]
+pub returns-clause-sizes : goal.returns-clause-sizes
+returns-clause-sizes c j =
+    let small = c.wide_size.ensures j in
+    let more = le_or_l c.wide_size.result c.cut_where_not_short-below.result in
+    omega (arith, small, more)
+
+pub returns-clause-denominator : goal.returns-clause-denominator
+returns-clause-denominator c = le_or_r c.wide_size.result c.cut_where_not_short-below.result

@@ -1,54 +1,33 @@
-use Rattle.std.proofs.Common.{rules, w64, refl, ◌∙◌, sym, subst, arith, FitsSigned, pos, slice_index_or, length, ◌≡◌, ◌<◌, ◌≤◌, ◌*ℤ◌, ◌-ℤ◌, unsigned_abs}
+use Rattle.std.proofs.Common.{◌≡◌, ◌*◌, ◌*ℤ◌, ◌∙◌, ℕ, ℤ, List, ap, arith, length, map, sym, subst, unsigned_abs}
 use mir.Syntax.{w128}
 use Rattle.std.proofs.lemmas.Int.{to_z-of_z}
-use Rattle.std.proofs.lemmas.List.{length-set, get_or-set_other}
+use Rattle.std.proofs.lemmas.List.{length-map}
+use Rattle.whole_rows.specs.Lines.{AreSizes}
 use Rattle.whole_rows.specs.Turning.{cross_difference}
-use Rattle.whole_rows.proofs.LineSteps.{length-mixed}
-use Rattle.whole_solver.proofs.Numbers.{held_wider, widened, written_more, written_all, mixed_at, sizes_room}
+use Rattle.whole_solver.proofs.Numbers.{mixed_after, product_sizes}
 use Rattle.whole_solver.proofs.objective.mix_wide.Goals as goal
 
-pub wide_number-number-requires : goal.wide_number-number-requires
-wide_number-number-requires c =
-    let i = c.loop-i.i in
-    let z = slice_index_or c.loop-i.numbers i (pos 0) in
-    let q = slice_index_or c.args.pivot.now i (pos 0) in
-    let fz : FitsSigned w128 z = search rules in
-    let fq : FitsSigned w64 q = search rules in
-    let most : unsigned_abs z ≤ c.args.size = subst (λ y. unsigned_abs y ≤ c.args.size) (sym (c.loop-i.invariant.left i (omega arith))) (c.requires.numbers i) in
-    rw (to_z-of_z w128 c.args.p c.ranges.p, to_z-of_z w128 c.args.f c.ranges.f, to_z-of_z w128 z fz, widened q fq)
-    (sizes_room (unsigned_abs z) (unsigned_abs c.args.p) (unsigned_abs c.args.f) (unsigned_abs q) _ _ _ most (c.requires.pivot i) c.requires.room)
+pub subtract_wide_multiple-requires-clause-width : goal.subtract_wide_multiple-requires-clause-width
+subtract_wide_multiple-requires-clause-width c = ap length c.multiply_sized_wide-scaled.ensures.numbers ∙ length-map _ _ ∙ c.requires.width
 
-pub loop-i-preserved : goal.loop-i-preserved
-loop-i-preserved c =
-    let i = c.loop-i.i in
-    let old = c.args.numbers.now in
-    let zs = c.loop-i.numbers in
-    let qs = c.args.pivot.now in
-    let z = slice_index_or zs i (pos 0) in
-    let q = slice_index_or qs i (pos 0) in
-    let v = c.wide_number-number.result in
-    let inv = c.loop-i.invariant in
-    let in_zs : i < length zs = omega arith in
-    let same = inv.width in
-    let in_old : i < length old = omega (arith, in_zs, same) in
-    let fz : FitsSigned w128 z = search rules in
-    let fq : FitsSigned w64 q = search rules in
-    let fv : FitsSigned w128 v = search rules in
-    let p_is = to_z-of_z w128 c.args.p c.ranges.p in
-    let f_is = to_z-of_z w128 c.args.f c.ranges.f in
-    let told : v ≡ (z *ℤ c.args.p) -ℤ (c.args.f *ℤ q) = rw (p_is, f_is, to_z-of_z w128 q (held_wider q fq)) at (simp to_z-of_z at c.wide_number-number.ensures) in
-    let wide = length-mixed (unsigned_abs c.args.p) c.args.f old qs c.requires.width in
-    let is_v = mixed_at c.args.p c.args.f z q v old qs i c.requires.positive c.requires.width in_old (inv.left i (omega arith)) refl told in
-    rw (p_is, f_is, to_z-of_z w128 v fv) (record {
-      width = length-set zs i v ∙ inv.width;
-      mixed = written_more (cross_difference (unsigned_abs c.args.p) c.args.f old qs) zs i v (pos 0) in_zs (omega (arith, wide, in_old)) (rw (p_is, f_is) at inv.mixed) is_v;
-      left = λ j p. get_or-set_other zs i j v (pos 0) (λ e. omega (arith, p, e)) ∙ inv.left j (omega (arith, p));
-    })
+pub subtract_wide_multiple-requires-clause-numbers : goal.subtract_wide_multiple-requires-clause-numbers
+subtract_wide_multiple-requires-clause-numbers c =
+    let p = c.args.p in
+    let p_is = to_z-of_z w128 p c.ranges.p in
+    let numbers : c.multiply_sized_wide-scaled.new.numbers ≡ map (λ z. z *ℤ p) c.args.numbers.now = rw p_is at c.multiply_sized_wide-scaled.ensures.numbers in
+    let size : c.multiply_sized_wide-scaled.result ≡ c.args.size * unsigned_abs p = rw p_is at c.multiply_sized_wide-scaled.ensures.size in
+    subst (AreSizes c.multiply_sized_wide-scaled.result) (sym numbers) (subst (λ (k : ℕ). AreSizes k (map (λ z. z *ℤ p) c.args.numbers.now)) (sym size) (product_sizes c.args.size p c.args.numbers.now c.requires.numbers))
+
+pub subtract_wide_multiple-requires-clause-room : goal.subtract_wide_multiple-requires-clause-room
+subtract_wide_multiple-requires-clause-room c =
+    let size : c.multiply_sized_wide-scaled.result ≡ c.args.size * unsigned_abs c.args.p = rw (to_z-of_z w128 c.args.p c.ranges.p) at c.multiply_sized_wide-scaled.ensures.size in
+    let room = c.requires.room in
+    rw (to_z-of_z w128 c.args.f c.ranges.f) (omega (arith, size, room))
 
 pub returns : goal.returns
 returns c =
-    let old = c.args.numbers.now in
-    let wide = length-mixed (unsigned_abs c.args.p) c.args.f old c.args.pivot.now c.requires.width in
-    let over : length c.loop-i.numbers ≤ c.loop-i.i = omega arith in
-    let same = c.loop-i.invariant.width in
-    written_all (cross_difference (unsigned_abs c.args.p) c.args.f old c.args.pivot.now) c.loop-i.numbers c.loop-i.i over (omega (arith, over, same, wide)) (rw (to_z-of_z w128 c.args.p c.ranges.p, to_z-of_z w128 c.args.f c.ranges.f) at c.loop-i.invariant.mixed)
+    let p = c.args.p in
+    let f = c.args.f in
+    let pivot = c.args.pivot.now in
+    let numbers : c.multiply_sized_wide-scaled.new.numbers ≡ map (λ z. z *ℤ p) c.args.numbers.now = rw (to_z-of_z w128 p c.ranges.p) at c.multiply_sized_wide-scaled.ensures.numbers in
+    (rw (to_z-of_z w128 f c.ranges.f) at c.subtract_wide_multiple.ensures) ∙ ap (λ (zs : List ℤ). cross_difference 1 f zs pivot) numbers ∙ mixed_after p f c.args.numbers.now pivot c.requires.positive

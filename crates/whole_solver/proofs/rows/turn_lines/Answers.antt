@@ -10,36 +10,36 @@ use Rattle.whole_solver.proofs.Turned.{line_wider, lines_set, placed, placed_siz
 use Rattle.whole_solver.proofs.rows.turn_lines.Goals as goal
 
 pub place_pivot-a-requires-clause-line : goal.place_pivot-a-requires-clause-line
-place_pivot-a-requires-clause-line c = line_wider c.args.bound widest (length c.args.room.now) _ c.requires.bound (c.requires.lines c.args.r c.requires.pivot.row)
+place_pivot-a-requires-clause-line c = line_wider c.args.step.bound widest (length c.args.room.now) _ c.requires.bound (c.requires.lines c.args.step.r c.requires.pivot.row)
 
 pub clear_objective-requires-clause-above : goal.clear_objective-requires-clause-above
 clear_objective-requires-clause-above c =
     let w = length c.args.room.now in
     let told = c.place_pivot-a.ensures in
-    let p = placed c.args.bound w c.args.c c.args.r c.place_pivot-a.result c.args.rows.now.rows (row_at c.place_pivot-a.new.rows.rows c.args.r) c.requires.column c.requires.pivot c.requires.lines told.denominator told.pivot in
+    let p = placed c.args.step.bound w c.args.step.c c.args.step.r c.place_pivot-a.result c.args.rows.now.rows (row_at c.place_pivot-a.new.rows.rows c.args.step.r) c.requires.column c.requires.pivot c.requires.lines told.denominator told.pivot in
     let most = c.front_size-pivot_most.result in
     (p.above, subst (λ (k : ℕ). k ≤ most) (ap (λ (m : Line). m.denominator) told.pivot) (subst (λ (z : List ℤ). (line_in w z).denominator ≤ most) c.row-pivot.ensures.row c.front_size-pivot_most.ensures.denominator))
 
 pub clear_objective-requires-clause-below : goal.clear_objective-requires-clause-below
 clear_objective-requires-clause-below c =
     let told = c.place_pivot-a.ensures in
-    let p = placed c.args.bound (length c.args.room.now) c.args.c c.args.r c.place_pivot-a.result c.args.rows.now.rows (row_at c.place_pivot-a.new.rows.rows c.args.r) c.requires.column c.requires.pivot c.requires.lines told.denominator told.pivot in
+    let p = placed c.args.step.bound (length c.args.room.now) c.args.step.c c.args.step.r c.place_pivot-a.result c.args.rows.now.rows (row_at c.place_pivot-a.new.rows.rows c.args.step.r) c.requires.column c.requires.pivot c.requires.lines told.denominator told.pivot in
     let low = p.below in
     omega (arith, low, c.requires.bound)
 
 pub clear_rows-requires-clause-above : goal.clear_rows-requires-clause-above
 clear_rows-requires-clause-above c =
     let told = c.place_pivot-a.ensures in
-    let p = placed c.args.bound (length c.args.room.now) c.args.c c.args.r c.place_pivot-a.result c.args.rows.now.rows (row_at c.place_pivot-a.new.rows.rows c.args.r) c.requires.column c.requires.pivot c.requires.lines told.denominator told.pivot in
+    let p = placed c.args.step.bound (length c.args.room.now) c.args.step.c c.args.step.r c.place_pivot-a.result c.args.rows.now.rows (row_at c.place_pivot-a.new.rows.rows c.args.step.r) c.requires.column c.requires.pivot c.requires.lines told.denominator told.pivot in
     (p.above, p.below)
 
 pub clear_rows-requires-clause-lines : goal.clear_rows-requires-clause-lines
 clear_rows-requires-clause-lines c =
     let w = length c.args.room.now in
     let told = c.place_pivot-a.ensures in
-    let y = row_at c.place_pivot-a.new.rows.rows c.args.r in
-    let p = placed c.args.bound w c.args.c c.args.r c.place_pivot-a.result c.args.rows.now.rows y c.requires.column c.requires.pivot c.requires.lines told.denominator told.pivot in
-    let all = subst (AreLinesIn c.args.bound w) (sym told.rows) (lines_set c.args.bound w c.args.rows.now.rows c.args.r y c.requires.lines p.line) in
+    let y = row_at c.place_pivot-a.new.rows.rows c.args.step.r in
+    let p = placed c.args.step.bound w c.args.step.c c.args.step.r c.place_pivot-a.result c.args.rows.now.rows y c.requires.column c.requires.pivot c.requires.lines told.denominator told.pivot in
+    let all = subst (AreLinesIn c.args.step.bound w) (sym told.rows) (lines_set c.args.step.bound w c.args.rows.now.rows c.args.step.r y c.requires.lines p.line) in
     all
 
 pub clear_rows-requires-clause-pivot : goal.clear_rows-requires-clause-pivot
@@ -48,12 +48,12 @@ clear_rows-requires-clause-pivot c =
 
 pub clear_rows-requires-clause-places : goal.clear_rows-requires-clause-places
 clear_rows-requires-clause-places c =
-    (c.as_slice.ensures.value ∙ c.front_nonzero.ensures.places ∙ ap (λ (z : List ℤ). nonzero_in (line_in (length c.args.room.now) z).numbers) c.row-pivot.ensures.row)
+    (c.as_slice-places.ensures.value ∙ c.front_nonzero.ensures.places ∙ ap (λ (z : List ℤ). nonzero_in (line_in (length c.args.room.now) z).numbers) c.row-pivot.ensures.row)
 
 pub clear_rows-requires-clause-sizes : goal.clear_rows-requires-clause-sizes
 clear_rows-requires-clause-sizes c =
     let w = length c.args.room.now in
-    let r = c.args.r in
+    let r = c.args.step.r in
     let old = c.args.rows.now.rows in
     let most = c.front_size-pivot_most.result in
     let sizes = c.args.sizes.now in
@@ -66,8 +66,8 @@ clear_rows-requires-clause-sizes c =
 pub returns-clause-turned : goal.returns-clause-turned
 returns-clause-turned c done =
     let w = length c.args.room.now in
-    let k = c.args.c in
-    let r = c.args.r in
+    let k = c.args.step.c in
+    let r = c.args.step.r in
     let old = c.args.rows.now.rows in
     let new = c.clear_rows.new.rows.rows in
     let from = c.place_pivot-a.new.rows.rows in
@@ -85,15 +85,15 @@ returns-clause-turned c done =
 pub returns-clause-fits : goal.returns-clause-fits
 returns-clause-fits c done =
     let w = length c.args.room.now in
-    let r = c.args.r in
+    let r = c.args.step.r in
     let x = line_in w (row_at c.args.rows.now.rows r) in
     let told = c.place_pivot-a.ensures in
     let y = row_at c.place_pivot-a.new.rows.rows r in
     let most = c.front_size-pivot_most.result in
     let sizes = subst (λ (z : List ℤ). AreSizes most (line_in w z).numbers) c.row-pivot.ensures.row c.front_size-pivot_most.ensures.numbers in
     let low = subst (λ (k : ℕ). k ≤ most) (ap (λ (m : Line). m.denominator) told.pivot) (subst (λ (z : List ℤ). (line_in w z).denominator ≤ most) c.row-pivot.ensures.row c.front_size-pivot_most.ensures.denominator) in
-    let small = placed_size c.args.bound w c.args.c c.place_pivot-a.result most (cut x) y (cut_within c.args.bound w x (c.requires.lines r c.requires.pivot.row)) c.requires.column told.denominator told.pivot sizes low in
+    let small = placed_size c.args.step.bound w c.args.step.c c.place_pivot-a.result most (cut x) y (cut_within c.args.step.bound w x (c.requires.lines r c.requires.pivot.row)) c.requires.column told.denominator told.pivot sizes low in
     let size = line_size (line_in w c.args.objective.now) in
     let less : size * line_size (cut x) ≤ size * most = mul-le-mul (omega arith) small in
     let room = c.clear_objective.ensures.fits c.if-not-clear_objective.false in
-    le-leb _ c.args.limit (omega (arith, less, room))
+    le-leb _ c.args.step.limit (omega (arith, less, room))

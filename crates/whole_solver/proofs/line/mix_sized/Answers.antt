@@ -1,0 +1,32 @@
+use Rattle.std.proofs.Common.{◌≡◌, ◌*◌, ◌*ℤ◌, ◌∙◌, w64, ℕ, ℤ, List, ap, arith, length, map, sym, subst, unsigned_abs}
+use Rattle.std.proofs.lemmas.Int.{to_z-of_z}
+use Rattle.std.proofs.lemmas.List.{length-map}
+use Rattle.whole_rows.specs.Lines.{AreSizes}
+use Rattle.whole_rows.specs.Turning.{cross_difference}
+use Rattle.whole_solver.proofs.Numbers.{mixed_after, product_sizes}
+use Rattle.whole_solver.proofs.line.mix_sized.Goals as goal
+
+pub subtract_multiple-requires-clause-width : goal.subtract_multiple-requires-clause-width
+subtract_multiple-requires-clause-width c = ap length c.multiply_sized-scaled.ensures.numbers ∙ length-map _ _ ∙ c.requires.width
+
+pub subtract_multiple-requires-clause-numbers : goal.subtract_multiple-requires-clause-numbers
+subtract_multiple-requires-clause-numbers c =
+    let p = c.args.p in
+    let p_is = to_z-of_z w64 p c.ranges.p in
+    let numbers : c.multiply_sized-scaled.new.numbers ≡ map (λ z. z *ℤ p) c.args.numbers.now = rw p_is at c.multiply_sized-scaled.ensures.numbers in
+    let size : c.multiply_sized-scaled.result ≡ c.args.most * unsigned_abs p = rw p_is at c.multiply_sized-scaled.ensures.size in
+    subst (AreSizes c.multiply_sized-scaled.result) (sym numbers) (subst (λ (k : ℕ). AreSizes k (map (λ z. z *ℤ p) c.args.numbers.now)) (sym size) (product_sizes c.args.most p c.args.numbers.now c.requires.numbers))
+
+pub subtract_multiple-requires-clause-room : goal.subtract_multiple-requires-clause-room
+subtract_multiple-requires-clause-room c =
+    let size : c.multiply_sized-scaled.result ≡ c.args.most * unsigned_abs c.args.p = rw (to_z-of_z w64 c.args.p c.ranges.p) at c.multiply_sized-scaled.ensures.size in
+    let room = c.requires.room in
+    rw (to_z-of_z w64 c.args.f c.ranges.f) (omega (arith, size, room))
+
+pub returns : goal.returns
+returns c =
+    let p = c.args.p in
+    let f = c.args.f in
+    let pivot = c.args.pivot.now in
+    let numbers : c.multiply_sized-scaled.new.numbers ≡ map (λ z. z *ℤ p) c.args.numbers.now = rw (to_z-of_z w64 p c.ranges.p) at c.multiply_sized-scaled.ensures.numbers in
+    (rw (to_z-of_z w64 f c.ranges.f) at c.subtract_multiple.ensures) ∙ ap (λ (zs : List ℤ). cross_difference 1 f zs pivot) numbers ∙ mixed_after p f c.args.numbers.now pivot c.requires.positive
