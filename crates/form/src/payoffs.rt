@@ -1,6 +1,6 @@
 //! What options and bundles pay at states.
 
-ghost use Rattle.std.specs.Prelude.{◌≡◌, ◌≤◌, ◌+◌, ◌^◌, Ok, unsigned_abs, option_and_then, if◌then◌else◌, IfOk, IfSome};
+ghost use Rattle.std.specs.Prelude.{◌≡◌, ◌≤◌, ◌≤ℤ◌, ◌+◌, ◌^◌, Ok, pos, unsigned_abs, option_and_then, if◌then◌else◌, IfOk, IfSome};
 ghost use Rattle.exact_num.specs.Fraction.{whole};
 ghost use Rattle.exact_num.specs.Limit.{limit};
 ghost use Rattle.exact_num.specs.Fits.{add_of, meaning, misfit, mul_of, size_fits};
@@ -34,14 +34,26 @@ fn short_payoff(form: &Form, state: &State) -> Option<i128>
     requires { form.now.count ≡ state.now.count }
     ensures payoff { IfSome result (λ h. Ok (whole h)
         ≡ payoff_of limit (option_of form.now) (vector_of state.now)) }
-    ensures fits { IfSome result (λ h. unsigned_abs h ≤ limit) }
+    ensures small { IfSome result (λ h. unsigned_abs h ≤ 2 ^ 98) }
 {
     let mut total: i128 = 0;
     for i in 0..form.count as usize {
-        let entry = i32::try_from(state.entries[i]).ok()?;
+        let entry = short(state.entries[i])?;
         total = add_short_product(total, form.entries[i], entry);
     }
     Some(total.max(0))
+}
+
+/// The number, where it is of 32 bits.
+fn short(number: i128) -> Option<i32>
+    requires { pos 0 ≤ℤ number }
+    ensures { IfSome result (λ n. n ≡ number) }
+{
+    if number <= i32::MAX.into() {
+        Some(number as i32)
+    } else {
+        None
+    }
 }
 
 /// The same, whatever the entries.
@@ -70,6 +82,55 @@ fn add_short_product(total: i128, a: i64, x: i32) -> i128
 /// What the bundle pays at the state: the sum of each leg's count times its payoff, which may be below 0. `Wide` comes
 /// exactly where a leg's payoff, its product with the count or the sum so far does not fit. Takes no memory.
 pub fn bundle_payoff(bundle: &Bundle, state: &State) -> Result<i128, Wide>
+    requires counts { IsOnCount state.now.count bundle.now }
+    ensures payoff { meaning whole result
+        ≡ bundle_payoff_of limit (bundle_legs bundle.now) (vector_of state.now) }
+    ensures fits { IfOk result (λ h. unsigned_abs h ≤ limit) }
+{
+    match short_bundle_payoff(bundle, state) {
+        Some(payoff) => Ok(payoff),
+        None => bundle_payoff_by_steps(bundle, state),
+    }
+}
+
+/// The same where each entry of the state is of 32 bits: then each step fits, and none is tested.
+fn short_bundle_payoff(bundle: &Bundle, state: &State) -> Option<i128>
+    requires counts { IsOnCount state.now.count bundle.now }
+    ensures payoff { IfSome result (λ h. Ok (whole h)
+        ≡ bundle_payoff_of limit (bundle_legs bundle.now) (vector_of state.now)) }
+    ensures fits { IfSome result (λ h. unsigned_abs h ≤ limit) }
+{
+    let mut total: i128 = 0;
+    for leg in bundle.as_slice() {
+        total = add_short_leg(total, leg, state)?;
+    }
+    Some(total)
+}
+
+/// The total and the count times the payoff of the leg, where each entry of the state is of 32 bits.
+fn add_short_leg(total: i128, leg: &Leg, state: &State) -> Option<i128>
+    requires count { leg.now.form.count ≡ state.now.count }
+    requires total { unsigned_abs total ≤ 2 ^ 126 }
+    ensures sum { IfSome result (λ s. Ok (whole s)
+        ≡ add_leg limit (vector_of state.now) (whole total) (leg_of leg.now)) }
+    ensures size { IfSome result (λ s. unsigned_abs s ≤ unsigned_abs total + 2 ^ 113) }
+{
+    let value = short_payoff(&leg.form, state)?;
+    Some(add_short_count(total, leg.count, value))
+}
+
+/// The total and the count times the value, which fit.
+fn add_short_count(total: i128, count: i16, value: i128) -> i128
+    requires total { unsigned_abs total ≤ 2 ^ 126 }
+    requires value { unsigned_abs value ≤ 2 ^ 98 }
+    ensures sum { Ok (whole result) ≡ plus_product limit (whole total) (whole count) (whole value) }
+    ensures size { unsigned_abs result ≤ unsigned_abs total + 2 ^ 113 }
+{
+    total + i128::from(count) * value
+}
+
+/// What the bundle pays, whatever the entries of the state.
+fn bundle_payoff_by_steps(bundle: &Bundle, state: &State) -> Result<i128, Wide>
     requires counts { IsOnCount state.now.count bundle.now }
     ensures payoff { meaning whole result
         ≡ bundle_payoff_of limit (bundle_legs bundle.now) (vector_of state.now) }

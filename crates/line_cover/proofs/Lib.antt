@@ -4,6 +4,8 @@ pub mod Inserted
 pub mod LineStates
 pub mod Counted
 pub mod BreakSteps
+pub mod Earlier
+pub mod Alike
 pub mod Sound
 pub mod Enough
 pub mod WorkedLines

@@ -1,5 +1,5 @@
 -- The check of a line, each step with a limit.
-use Rattle.std.specs.Prelude.{ℕ, ◌/◌, List, [], ◌∷◌, nat_abs, int_lt, Bool, true, not, ◌&&◌, ◌||◌, if◌then◌else◌, ℤ, pos, Option, Some, None, Result, Ok}
+use Rattle.std.specs.Prelude.{ℕ, ◌/◌, List, [], ◌∷◌, nat_abs, nat_eq, int_lt, Bool, true, not, ◌&&◌, ◌||◌, if◌then◌else◌, ℤ, pos, Option, Some, None, Result, Ok}
 use Rattle.std.specs.List.{filter_map, flat_map}
 use Rattle.arithmetic.specs.Gcd.{gcd}
 use Rattle.exact_num.specs.declared.misfit.Wide.{Wide}
@@ -28,6 +28,13 @@ breakpoint_of v =
     if bends (strike_entry v) (weight_entry v)
     then Some (lowest_state (nat_abs (weight_entry v)) (nat_abs (strike_entry v)))
     else None
+
+-- whether an option bends, and its entries have the sizes of those of another: then the other bends there or nowhere
+abbrev pub bends_alike : List ℤ → List ℤ → Bool
+bends_alike v other =
+    bends (strike_entry v) (weight_entry v)
+    && nat_eq (nat_abs (strike_entry v)) (nat_abs (strike_entry other))
+    && nat_eq (nat_abs (weight_entry v)) (nat_abs (weight_entry other))
 
 abbrev pub breakpoint_of_leg : BundleLeg → Option (List ℕ)
 breakpoint_of_leg leg = breakpoint_of leg.option

@@ -1,13 +1,13 @@
 //! The price where an option's payoff bends.
 
-ghost use Rattle.std.specs.Prelude.{◌≡◌, ◌<◌};
+ghost use Rattle.std.specs.Prelude.{◌≡◌, ◌<◌, ◌&&◌, nat_abs, nat_eq};
 ghost use Rattle.std.specs.Option.{option_map};
-ghost use Rattle.form.specs.Payoff.{option_of};
-ghost use Rattle.line_cover.specs.Line.{bends, breakpoint_of, lowest_state};
+ghost use Rattle.form.specs.Payoff.{first_option, option_of};
+ghost use Rattle.line_cover.specs.Line.{bends, bends_alike, breakpoint_of, lowest_state};
 ghost use Rattle.line_cover.specs.Prices.{price_vector};
 
 use crate::price::Price;
-use form::Form;
+use form::{Form, Order};
 use frac::gcd;
 
 /// The price in lowest terms.
@@ -27,6 +27,28 @@ fn bends(strike: i64, weight: i64) -> bool
     ensures { result ≡ bends strike weight }
 {
     (strike < 0 && weight > 0) || (strike > 0 && weight < 0)
+}
+
+/// Whether an option with this strike's entry and this weight bends, and the two have the sizes of the others.
+fn has_bend_of(strike: i64, weight: i64, other_strike: i64, other_weight: i64) -> bool
+    ensures { result
+        ≡ (bends strike weight
+        && nat_eq (nat_abs strike) (nat_abs other_strike)
+        && nat_eq (nat_abs weight) (nat_abs other_weight)) }
+{
+    bends(strike, weight)
+        && strike.unsigned_abs() == other_strike.unsigned_abs()
+        && weight.unsigned_abs() == other_weight.unsigned_abs()
+}
+
+/// Whether the order's first leg bends, and its entries have the sizes of the option's: then it bends where the option
+/// does, if that bends. Takes no memory.
+pub fn bends_alike(order: &Order, form: &Form) -> bool
+    ensures { result ≡ bends_alike (first_option order.now.bundle) (option_of form.now) }
+{
+    let first = &order.bundle.legs[0].form;
+    let (strike, weight) = (first.entries[0], first.entries[1]);
+    has_bend_of(strike, weight, form.entries[0], form.entries[1])
 }
 
 /// The price above 0 where the payoff of an option on one underlying bends, in lowest terms. Takes no memory.

@@ -1,21 +1,22 @@
 //! The check of a line.
 
-ghost use Rattle.std.specs.Prelude.{◌≡◌, ◌≤ℤ◌, All, length, map, pos, zip};
-ghost use Rattle.std.specs.List.{filter_map};
+ghost use Rattle.std.specs.Prelude.{◌≡◌, ◌≤ℤ◌, All, Ok, length, map, pos, true, zip};
+ghost use Rattle.std.specs.List.{filter_map, list_any};
 ghost use Rattle.exact_num.specs.Steps.{all_of};
 ghost use Rattle.frac.specs.Range.{limit};
 ghost use Rattle.frac.specs.Value.{fraction_of};
 ghost use Rattle.clearing_model.specs.Certificate.{LineCloses};
 ghost use Rattle.form.specs.Limits.{HasItsForms};
-ghost use Rattle.form.specs.Payoff.{IsOnCount, bundle_legs, option_of};
+ghost use Rattle.form.specs.Payoff.{IsOnCount, bundle_legs, first_option, option_of};
 ghost use Rattle.form.specs.States.{vector_of};
 ghost use Rattle.line_cover.specs.Laws.{IsEnoughOnLine};
-ghost use Rattle.line_cover.specs.Line.{breakpoint_of, breakpoint_of_leg, breakpoints_of};
+ghost use Rattle.line_cover.specs.Line.{bends_alike, breakpoint_of, breakpoint_of_leg};
+ghost use Rattle.line_cover.specs.Line.{breakpoints_of};
 ghost use Rattle.line_cover.specs.Line.{holds_at, holds_at_break, line_holds};
 ghost use Rattle.line_cover.specs.Verdict.{line_verdict};
 ghost use Rattle.line_cover.specs.declared.verdict.LineVerdict.TheVariants.{Fails, Holds};
 
-use crate::breakpoint::breakpoint;
+use crate::breakpoint::{bends_alike, breakpoint};
 use crate::net::excess;
 use crate::price::price_state;
 use exact_num::{Exact, Wide};
@@ -86,23 +87,28 @@ fn holds_at_breaks(orders: &[Order], fills: &[Frac128], liability: &Frac128) -> 
         result
         ≡ all_of (holds_at limit filled (fraction_of liability.now)) (breakpoints_of orders.now) }
 {
-    for order in orders {
-        if !holds_at_legs(orders, fills, liability, &order.bundle)? {
+    for i in 0..orders.len() {
+        let (earlier, order) = (&orders[..i], &orders[i]);
+        if !holds_at_legs(orders, fills, liability, earlier, &order.bundle)? {
             return Ok(false);
         }
     }
     Ok(true)
 }
 
-// Whether it holds at the breakpoint of each leg of the bundle.
+// Whether it holds at the breakpoint of each leg of the bundle, as it does at those of earlier orders.
 fn holds_at_legs(
     orders: &[Order],
     fills: &[Frac128],
     liability: &Frac128,
+    earlier: &[Order],
     bundle: &Bundle,
 ) -> Result<bool, Wide>
     requires fills { length fills.now ≡ length orders.now }
     requires forms { All (λ o. IsOnCount 2 o.bundle) orders.now }
+    requires earlier { let filled = zip orders.now (map fraction_of fills.now) in
+        all_of (holds_at limit filled (fraction_of liability.now)) (breakpoints_of earlier.now)
+        ≡ Ok true }
     requires bundle { IsOnCount 2 bundle.now }
     ensures { let filled = zip orders.now (map fraction_of fills.now) in
         result
@@ -110,32 +116,47 @@ fn holds_at_legs(
         (filter_map breakpoint_of_leg (bundle_legs bundle.now)) }
 {
     for leg in bundle.as_slice() {
-        if !holds_at_break(orders, fills, liability, &leg.form)? {
+        if !holds_at_break(orders, fills, liability, earlier, &leg.form)? {
             return Ok(false);
         }
     }
     Ok(true)
 }
 
-// Whether it holds where the option bends, if it does.
+// Whether it holds where the option bends, if it does. Where an earlier order bends there too, it is known to hold.
 fn holds_at_break(
     orders: &[Order],
     fills: &[Frac128],
     liability: &Frac128,
+    earlier: &[Order],
     form: &Form,
 ) -> Result<bool, Wide>
     requires fills { length fills.now ≡ length orders.now }
     requires forms { All (λ o. IsOnCount 2 o.bundle) orders.now }
+    requires earlier { let filled = zip orders.now (map fraction_of fills.now) in
+        all_of (holds_at limit filled (fraction_of liability.now)) (breakpoints_of earlier.now)
+        ≡ Ok true }
     requires form { form.now.count ≡ 2 }
     ensures { let filled = zip orders.now (map fraction_of fills.now) in
         result
         ≡ holds_at_break limit filled (fraction_of liability.now)
         (breakpoint_of (option_of form.now)) }
 {
+    if is_seen(earlier, form) {
+        return Ok(true);
+    }
     match breakpoint(form) {
         Some(price) => holds_at(orders, fills, liability, &price.state()),
         None => Ok(true),
     }
+}
+
+// Whether the first leg of an order bends where the option does, as their entries show.
+fn is_seen(earlier: &[Order], form: &Form) -> bool
+    ensures { let option = option_of form.now in
+        result ≡ list_any (λ order. bends_alike (first_option order.bundle) option) earlier.now }
+{
+    earlier.iter().any(|order| bends_alike(order, form))
 }
 
 // Whether the net is at most the liability times t at the state.

@@ -1,11 +1,20 @@
-use Rattle.std.proofs.Common.{rules, FitsSigned, w8}
+use Rattle.std.proofs.Common.{◌≡◌, inl, inr, ◌⊎◌, pos, rules, FitsSigned, w8}
 use Rattle.exact_num.proofs.Units.{limit_at_least_one}
 use Rattle.form.proofs.NothingAdded.{nothing_added, sign_zero}
 use Rattle.form.proofs.sides.add_for_side.Goals as goal
+use Rattle.form.proofs.sides.add_for_side.Goals.{then-sign-eq0-via-then-sign-eq0, then-sign-eq0-via-else-sign-eq0+then-sign-eq0-2}
 
 pub returns-then-sign-eq0 : goal.returns-then-sign-eq0
 returns-then-sign-eq0 g c =
-    let fits : FitsSigned w8 c.sign.result = search rules in
     let number = g.met.N.Exact in
-    nothing_added _ _ c.args.side _ _ (number.numerator_fits c.args.total) (number.denominator_fits c.args.total) (limit_at_least_one _ number.limit_positive) (number.lowest c.args.a) (number.lowest c.args.b)
-    (sign_zero c.sign.result _ c.sign.ensures fits c.if-sign-eq0.true)
+    let a = g.N.Exact.fraction c.args.a in
+    let b = g.N.Exact.fraction c.args.b in
+    let none : a.numerator ≡ pos 0 ⊎ b.numerator ≡ pos 0 = elim c.then-sign-eq0.branch [
+      | then-sign-eq0-via-then-sign-eq0 w ↦
+          let fits : FitsSigned w8 c.sign.result = search rules in
+          inl (sign_zero c.sign.result _ c.sign.ensures fits w.if-sign-eq0.true)
+      | then-sign-eq0-via-else-sign-eq0+then-sign-eq0-2 w ↦
+          let fits : FitsSigned w8 w.sign-else-sign-eq0.result = search rules in
+          inr (sign_zero w.sign-else-sign-eq0.result _ w.sign-else-sign-eq0.ensures fits w.if-sign-eq0-2.true)
+    ] in
+    nothing_added _ _ c.args.side a b (number.numerator_fits c.args.total) (number.denominator_fits c.args.total) (limit_at_least_one _ number.limit_positive) (number.lowest c.args.a) (number.lowest c.args.b) none

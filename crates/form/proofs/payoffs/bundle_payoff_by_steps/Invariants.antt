@@ -5,7 +5,7 @@ use Rattle.exact_num.specs.Steps.{fold_steps}
 use Rattle.form.specs.Payoff.{bundle_legs}
 use Rattle.form.specs.States.{vector_of}
 use Rattle.form.specs.Steps.{add_leg}
-use Rattle.form.proofs.payoffs.bundle_payoff.Given as goal
+use Rattle.form.proofs.payoffs.bundle_payoff_by_steps.Given as goal
 
 abbrev pub invariant-loop-leg : goal.invariant-loop-leg
 invariant-loop-leg l =
