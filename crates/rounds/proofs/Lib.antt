@@ -2,6 +2,7 @@ pub mod Certified
 pub mod Cleared
 pub mod FirstStates
 pub mod GivenMaster
+pub mod MovedOne
 pub mod JointRuns
 pub mod ReadOff
 pub mod Rooms

@@ -11,12 +11,12 @@ ghost use Rattle.pricing_oracle.specs.Filled.{HasMade};
 ghost use Rattle.pricing_oracle.specs.Programs.{HasGiven, HasSameSize, IsOpen};
 ghost use Rattle.rounds.specs.Parts.{units_given};
 
-use crate::master::{quantity, write_costs, write_state_row, write_unit_row};
+use crate::master::{move_one, quantity, write_costs, write_state_row, write_unit_row};
 use exact_num::{Exact, Wide};
 use form::{Order, State};
 use simplex::Space;
 
-/// Gives the rows of the quantities of the orders.
+/// Gives the rows of the quantities of the orders: each is the one before it with its 1 a place on.
 fn give_quantities<N: Exact>(
     space: &mut Space<N>,
     row: &mut Vec<N>,
@@ -31,11 +31,12 @@ fn give_quantities<N: Exact>(
     ensures size { HasSameSize space.old space.new }
     ensures capacity { vec_capacity row.old ≤ vec_capacity row.new }
 {
+    write_unit_row(row, orders.len() + 1, 0);
     for i in 0..orders.len() {
         let order = &orders[i];
         let quantity = quantity(order)?;
-        write_unit_row(row, orders.len() + 1, i);
         space.row(row.as_slice(), quantity);
+        move_one(row, i);
     }
     Ok(())
 }

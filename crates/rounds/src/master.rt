@@ -1,5 +1,5 @@
 //! The rows of the master program of a batch over the states of its market.
-ghost use Rattle.std.specs.Prelude.{◌≡◌, ◌≤◌, ◌+◌, ◌^◌, ◌-◌, ◌-ℤ◌, ◌*ℤ◌, [], true, IfOk, OnOk, pos, length, map, unsigned_abs, vec_capacity, vec_len};
+ghost use Rattle.std.specs.Prelude.{◌≡◌, ◌≤◌, ◌<◌, ◌+◌, ◌^◌, ◌-◌, ◌-ℤ◌, ◌*ℤ◌, true, IfOk, OnOk, pos, length, map, unsigned_abs, vec_capacity, vec_len};
 ghost use Rattle.std.specs.List.{All};
 ghost use Rattle.exact_num.specs.Fits.{meaning, whole_of};
 ghost use Rattle.exact_num.specs.Fraction.{IsNotBelowZero, whole};
@@ -209,6 +209,17 @@ pub(crate) fn write_unit_row<N: Exact>(row: &mut Vec<N>, count: usize, own: usiz
         let entry = if k == own { N::one() } else { N::zero() };
         push_within(row, entry);
     }
+}
+
+/// Moves the 1 of the row of a quantity to the place behind it.
+pub(crate) fn move_one<N: Exact>(row: &mut Vec<N>, own: usize)
+    requires place { own + 1 < length row.old.items }
+    requires unit { map N.fraction row.old.items ≡ unit_row (length row.old.items) own }
+    ensures row { map N.fraction row.new.items ≡ unit_row (length row.old.items) (own + 1) }
+    ensures capacity { vec_capacity row.old ≤ vec_capacity row.new }
+{
+    row[own] = N::zero();
+    row[own + 1] = N::one();
 }
 
 /// Adds the entries of the orders in the row of a state.
