@@ -12,13 +12,12 @@ use Rattle.command_text.specs.declared.asked.Fault.{Fault}
 use Rattle.command_text.specs.declared.asked.Fault.TheVariants.{Syntax}
 use Rattle.command_text.specs.declared.command.Command.{Command}
 use Rattle.command_text.specs.declared.ranges.TheConstants.{LEGS, HEAD}
-use Rattle.command_text.specs.declared.command.Body.{Body}
 use Rattle.command_text.specs.declared.numbers.NumberRead.{NumberRead}
 use Rattle.command_text.specs.declared.numbers.NumberRead.TheVariants.{NotNumber, Outside, Value}
 use Rattle.command_text.specs.Asked.{text_of, fault_in, natural_in, value_or_zero}
 use Rattle.command_text.specs.Bundles.{side_in, fields_each, fault_or_syntax, bundle_command, sized_command}
-use Rattle.command_text.specs.Commands.{body_of_fields, body_of_line, body_of_result, command_of_fields}
-use Rattle.command_text.specs.Fields.{fields_of_line, first_of_many}
+use Rattle.command_text.specs.Commands.{body_of_fields, body_of_result, command_of_fields}
+use Rattle.command_text.specs.Fields.{first_of_many}
 use Rattle.command_text.specs.Numbers.{number_in, IsWithin as IsRead}
 use Rattle.command_text.specs.Trades.{with_some}
 use Rattle.command_text.proofs.Bounds.{natural_between, number_within}
@@ -161,8 +160,3 @@ read_by_none read none (Some all) is = absurd (cc)
 pub same_body : (fields : Option (List (List ℕ))) → body_of_fields (option_map first_of_many fields) ≡ body_of_fields fields
 same_body None = refl
 same_body (Some fields) = ap body_of_result (same_command fields)
-
--- what the first fields of a line say is what it says
-pub said_by_first : (body : Body) (said : Result Command Fault) (fields : List (List ℕ)) (line : List ℕ) → body ≡ body_of_result said → said ≡ command_of_fields fields
-    → Some fields ≡ option_map first_of_many (fields_of_line line) → body ≡ body_of_line line
-said_by_first body said fields line told is first = told ∙ ap body_of_result is ∙ ap body_of_fields first ∙ same_body (fields_of_line line)

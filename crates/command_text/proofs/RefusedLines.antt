@@ -21,6 +21,7 @@ use Rattle.command_text.specs.Fields.{fields_of_line}
 use Rattle.command_text.specs.Refused.{word_read, reads_in, Shape, weight_place, trade_shape, or_else, leg_reads, leg_weight_place, legs_reads, legs_beyond, head_reads, legs_shape, bundle_shape, shape_of, has_unread, first_outside, fault_of_shape, fault_of_fields, fault_of_body, LinesAreRefused}
 use Rattle.command_text.specs.Trades.{unless, with_some, kind_in, is_weighted, weightless, weights_in, trade_command}
 use Rattle.command_text.proofs.Bounds.{natural_between, one_asked}
+use Rattle.command_text.proofs.PlainSays.{either_none}
 
 abbrev ranged : Option ℕ → Option Fault
 ranged place = option_map (λ p. Range p) place
@@ -31,11 +32,6 @@ fault_in_result (Ok command) = None
 fault_in_result (Err fault) = Some fault
 
 -- ---- the first of two faults
-either_none : (a : Option Fault) → either_fault a None ≡ a
-either_none None = refl
-either_none (Some Syntax) = refl
-either_none (Some (Range p)) = refl
-
 either_syntax : (a : Option Fault) → either_fault a (Some Syntax) ≡ Some Syntax
 either_syntax None = refl
 either_syntax (Some Syntax) = refl

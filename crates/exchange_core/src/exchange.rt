@@ -18,6 +18,7 @@ ghost use Rattle.exchange_core.specs.Refusals.{refusals, place_refusals};
 ghost use Rattle.exchange_core.specs.Held.{markets_of, positions_of};
 ghost use Rattle.exchange_core.specs.Reserves.{reserve_in};
 ghost use Rattle.exchange_core.specs.Step.{step, effect, place_effect, clear_effect, Does};
+ghost use Rattle.exchange_core.specs.Terms.{bundle_on, trade_on};
 ghost use Rattle.command_text.specs.Within.{IsWithin, IsAccount, IsAmount, IsBudget};
 ghost use Rattle.common_texts.specs.Between.{Between};
 ghost use Rattle.form.specs.declared.limits.TheConstants.{MAX_ORDERS, MAX_UNDERLYINGS};
@@ -28,10 +29,11 @@ use crate::failure::Failure;
 use crate::held::in_order;
 use crate::place::{cancel, place};
 use crate::settle::settle;
+use crate::terms::Terms;
 use crate::trade::one_option;
 use cash_ledger::{Ledger, LedgerRefusal};
-use command_text::Command;
-use form::Batch;
+use command_text::{Command, Kind};
+use form::{Batch, Bundle};
 use order_book::{Book, BookRefusal, MarketInfo, NewOrder};
 use settlement::{Position, Positions};
 use std::alloc::{AllocError, Global};
@@ -203,6 +205,50 @@ impl Exchange {
         Ok(Reply::Placed { order })
     }
 
+    // An order is large, and a function clears the places of its values when it is entered: so the order of a trade, and that
+    // for a bundle, are made in functions of their own, and no other command pays for them.
+    fn trade(
+        &mut self,
+        terms: &Terms,
+        kind: Kind,
+        strike: i64,
+        count: u8,
+        weights: &[i16; 8],
+    ) -> Result<Reply, Failure>
+        requires { IsWithin (trade_on terms.now kind strike count weights.now) }
+        ensures refused { TellsFirst unless_memory result
+            (refusals self.old (trade_on terms.now kind strike count weights.now)) }
+        ensures ok { Does result self.new
+            (effect self.old (trade_on terms.now kind strike count weights.now)) }
+        ensures err { OnErr result (self.new ≡ self.old) }
+    {
+        self.place(&NewOrder {
+            account: terms.account,
+            market: terms.market,
+            side: terms.side,
+            bundle: one_option(kind, strike, count, weights),
+            price: terms.price,
+            quantity: terms.quantity,
+        })
+    }
+
+    fn bundle(&mut self, terms: &Terms, bundle: &Bundle) -> Result<Reply, Failure>
+        requires { IsWithin (bundle_on terms.now bundle.now) }
+        ensures refused { TellsFirst unless_memory result
+            (refusals self.old (bundle_on terms.now bundle.now)) }
+        ensures ok { Does result self.new (effect self.old (bundle_on terms.now bundle.now)) }
+        ensures err { OnErr result (self.new ≡ self.old) }
+    {
+        self.place(&NewOrder {
+            account: terms.account,
+            market: terms.market,
+            side: terms.side,
+            bundle: *bundle,
+            price: terms.price,
+            quantity: terms.quantity,
+        })
+    }
+
     fn cancel(&mut self, account: u32, order: u64) -> Result<Reply, Failure>
         ensures refused { TellsFirst unless_memory result
             (refusals self.old (Command.Cancel account order)) }
@@ -291,14 +337,19 @@ impl Exchange {
                 quantity,
                 count,
                 weights,
-            } => self.place(&NewOrder {
-                account: *account,
-                market: *market,
-                side: *side,
-                bundle: one_option(*kind, *strike, *count, weights),
-                price: *price,
-                quantity: *quantity,
-            }),
+            } => self.trade(
+                &Terms {
+                    account: *account,
+                    market: *market,
+                    side: *side,
+                    price: *price,
+                    quantity: *quantity,
+                },
+                *kind,
+                *strike,
+                *count,
+                weights,
+            ),
             Command::Bundle {
                 side,
                 account,
@@ -306,14 +357,16 @@ impl Exchange {
                 price,
                 quantity,
                 bundle,
-            } => self.place(&NewOrder {
-                account: *account,
-                market: *market,
-                side: *side,
-                bundle: *bundle,
-                price: *price,
-                quantity: *quantity,
-            }),
+            } => self.bundle(
+                &Terms {
+                    account: *account,
+                    market: *market,
+                    side: *side,
+                    price: *price,
+                    quantity: *quantity,
+                },
+                bundle.get(),
+            ),
             Command::Cancel { account, order } => self.cancel(*account, *order),
             Command::Clear { market, budget } => self.clear(*market, *budget),
             Command::Balance { account } => self.tell_balance(*account),

@@ -1,6 +1,5 @@
 // What the orders of a cleared batch hold until their market is settled.
 ghost use Rattle.std.specs.Prelude.{◌≡◌, ◌+◌, ◌≤◌, ◌++◌, length};
-ghost use Rattle.std.specs.List.{All, zip};
 ghost use Rattle.frac.specs.Value.{fraction_of};
 ghost use Rattle.settlement.specs.Payout.{IsHolding};
 ghost use Rattle.exchange_core.specs.Kept.{AreHeld};

@@ -1,13 +1,23 @@
 //! The answer to one line.
-ghost use Rattle.std.specs.Prelude.{◌≡◌, ◌<◌, ◌==◌, false, length, IfOk};
+ghost use Rattle.std.specs.Prelude.{◌≡◌, ◌<◌, ◌==◌, ◌∷◌, ◌++◌, [], false, length, IfOk};
 ghost use Rattle.std.specs.List.{list_any};
+ghost use Rattle.reply_print.specs.ReplyPieces.{reply_line};
 ghost use Rattle.exchange_lines.specs.Output.{line_output};
 
 use command_text::body_of;
 use exchange_core::Exchange;
 use line_replies::reply_to;
-use reply_print::print;
+use reply_print::{Reply, print};
 use std::alloc::{AllocError, Global};
+
+// The line of a reply and a line feed. By reference, so that the reply is dropped at one place alone.
+fn print_line(alloc: Global, number: u32, reply: &Reply) -> Result<Vec<u8>, AllocError>
+    ensures { IfOk result (λ text. text.items ≡ reply_line number reply.now ++ 10 ∷ []) }
+{
+    let mut text = print(alloc, number, reply)?;
+    text.push(b'\n')?;
+    Ok(text)
+}
 
 /// Takes the exchange one line further, and answers what is written for a line of exactly these bytes with this number: its
 /// reply line and a line feed.
@@ -24,7 +34,5 @@ pub fn answer(
 {
     let said = body_of(alloc, line)?;
     let reply = reply_to(exchange, &said)?;
-    let mut text = print(alloc, number, &reply)?;
-    text.push(b'\n')?;
-    Ok(text)
+    print_line(alloc, number, &reply)
 }

@@ -13,7 +13,7 @@ use command_text::{Body, body_of};
 use std::alloc::{AllocError, Global};
 
 /// What a line says.
-#[derive(Clone, Copy, Debug, PartialEq, Eq)]
+#[derive(Debug, Drop)]
 pub enum QuotesBody {
     /// What a line of a run says: a command, or none. A line that would ask for a quote and has not its form is no command.
     Plain(Body),

@@ -5,7 +5,7 @@ use Rattle.command_text.specs.Asked.{either_fault, fault_in, natural_in}
 use Rattle.command_text.specs.Bundles.{bundle_fault, fields_each, legs_fault, legs_size, legs_weightless, too_many}
 use Rattle.command_text.proofs.Bounds.{none_both}
 use Rattle.command_text.proofs.LegsWithin.{legs_alike, legs_are}
-use Rattle.command_text.proofs.bundles.sized.Goals as goal
+use Rattle.command_text.proofs.bundles.sized_command.Goals as goal
 
 pub bundle_read-requires-clause-whole : goal.bundle_read-requires-clause-whole
 bundle_read-requires-clause-whole c =

@@ -1,0 +1,18 @@
+use Rattle.std.proofs.Common.{ℕ, ◌∷◌, ◌==◌, [], length, map}
+use Rattle.std.proofs.lemmas.Result.{err_from_is_err_and}
+use Rattle.command_text.specs.declared.command.Command.TheVariants.{Market}
+use Rattle.command_text.specs.declared.ranges.TheConstants.{MARKET, UNDERLYINGS}
+use Rattle.command_text.specs.Asked.{fault_in, natural_in}
+use Rattle.command_text.proofs.PlainSays.{command_made}
+use Rattle.command_text.proofs.plain.list.Goals as goal
+
+pub returns-in_err-market : goal.returns-in_err-market
+returns-in_err-market c =
+    let texts = map (λ f. f.now) c.args.fields.now in
+    let p = err_from_is_err_and c.from_residual.result c.from_residual.ensures.1 in
+    rw (p.1, p.2) (command_made (λ (n : ℕ × ℕ). Market n.0 n.1) (length texts == 3) (fault_in 0 (MARKET ∷ UNDERLYINGS ∷ []) texts) (natural_in texts MARKET, natural_in texts UNDERLYINGS) _ c.in_err-market.ensures.values)
+
+pub returns : goal.returns
+returns c =
+    let texts = map (λ f. f.now) c.args.fields.now in
+    command_made (λ (n : ℕ × ℕ). Market n.0 n.1) (length texts == 3) (fault_in 0 (MARKET ∷ UNDERLYINGS ∷ []) texts) (natural_in texts MARKET, natural_in texts UNDERLYINGS) _ c.in_ok-market.ensures.values
