@@ -194,7 +194,7 @@ fn enter(book: &mut Book, said: &Body) -> Result<()>
                 account: *account,
                 market: *market,
                 side: *side,
-                bundle: *bundle,
+                bundle: *bundle.get(),
                 price: *price,
                 quantity: *quantity,
             })?;
@@ -205,7 +205,7 @@ fn enter(book: &mut Book, said: &Body) -> Result<()>
 }
 
 // Takes a book one line further, or clears its batch in room of its own, and answers the text of the pass and the outcome.
-fn tried(alloc: Global, book: &mut Book, said: &Body) -> Result<Option<String>>
+fn line_outcome(alloc: Global, book: &mut Book, said: &Body) -> Result<Option<String>>
     requires { BodyIsWithin said.now }
 {
     let Body::Command(Command::Clear { market, budget }) = said else {
@@ -224,7 +224,7 @@ fn passes_so(alloc: Global, case: &str) -> Result<bool> {
     let mut book = Book::new(alloc);
     let mut last = None;
     for line in &commands(alloc, lines.as_bytes())? {
-        last = tried(alloc, &mut book, &line.body)?;
+        last = line_outcome(alloc, &mut book, &line.body)?;
     }
     let last = last.context("a batch that is cleared")?;
     Ok(last.as_str().trim() == outcome.trim())
@@ -295,7 +295,7 @@ fn print_live(text: &mut String, exchange: &Exchange, market: u32) -> Result<()>
 }
 
 // Balances, reserves, positions and live orders.
-fn shown(alloc: Global, exchange: &Exchange) -> Result<String> {
+fn exchange_text(alloc: Global, exchange: &Exchange) -> Result<String> {
     let mut text = String::new(alloc);
     print_account(&mut text, exchange, 0)?;
     print_account(&mut text, exchange, 1)?;
@@ -314,11 +314,11 @@ fn advance(alloc: Global, exchange: &mut Exchange, said: &Body) -> Result<()>
     let Body::Command(command) = said else {
         bail!("a command");
     };
-    let before = shown(alloc, exchange)?;
+    let before = exchange_text(alloc, exchange)?;
     if exchange.step(command).is_ok() {
         return Ok(());
     }
-    let after = shown(alloc, exchange)?;
+    let after = exchange_text(alloc, exchange)?;
     ensure!(before.as_str() == after.as_str(), "unchanged");
     match exchange.step(command)? {
         Reply::Refused { number, .. } => bail!("refused as {number}"),

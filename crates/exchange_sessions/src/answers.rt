@@ -1,5 +1,5 @@
 //! The answers to the lines of an input.
-ghost use Rattle.std.specs.Prelude.{◌≡◌, ◌≤◌, ◌+◌, false, map, length, OnOk, OnErr, IfOk, IsErrOf, IsTrue, string_bytes};
+ghost use Rattle.std.specs.Prelude.{◌≡◌, ◌≤◌, ◌+◌, false, map, length, OnOk, OnErr, IsErrOf, IsTrue};
 ghost use Rattle.std.specs.Io.KnownBytes.{Appends};
 ghost use Rattle.port_io.specs.Faults.{Rose};
 ghost use Rattle.port_io.specs.Writes.{AppendsFront};
@@ -109,7 +109,7 @@ fn write_told<K: Sink>(
 fn kept_reply(gate: &Gate, session: u32) -> &[u8]
     ensures { result.now ≡ kept_reply gate.now session }
 {
-    match gate.kept(session) {
+    match gate.last_reply(session) {
         Some(reply) => reply,
         None => &[],
     }

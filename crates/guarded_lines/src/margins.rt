@@ -1,5 +1,5 @@
 // The margin of an account in a market.
-ghost use Rattle.std.specs.Prelude.{◌≡◌, ◌≤◌, ◌+◌, IfOk, IfSome, length};
+ghost use Rattle.std.specs.Prelude.{◌≡◌, ◌≤◌, ◌+◌, IfOk};
 ghost use Rattle.std.specs.List.{All};
 ghost use Rattle.form.specs.Payoff.{IsOnCount};
 ghost use Rattle.form.specs.declared.limits.TheConstants.{MAX_UNDERLYINGS};

@@ -3,7 +3,6 @@ use Rattle.std.proofs.Common.{◌≡◌, ℕ, zero, suc, ◌^◌, ◌<◌, ◌�
 use Rattle.std.specs.List.{All, AllByRecursion}
 use Rattle.std.proofs.lemmas.Bool.{lt-ltb}
 use Rattle.exact_num.specs.Fraction.{over}
-use Rattle.exact_num.specs.declared.misfit.Operator.TheVariants as operator
 use Rattle.exact_num.specs.declared.misfit.Wide.{Wide}
 use Rattle.frac.specs.declared.frac128.Frac128.{Frac128}
 use Rattle.form.specs.declared.forms.Form.{Form}

@@ -1,5 +1,5 @@
 // The JSON values of certificates and of cleared batches.
-ghost use Rattle.std.specs.Prelude.{◌≡◌, IfOk, drop, take, unsigned_abs};
+ghost use Rattle.std.specs.Prelude.{◌≡◌, IfOk, drop, take};
 ghost use Rattle.serde_json.specs.View.{view};
 ghost use Rattle.reply_print.specs.BatchPieces.{each, whole_words};
 ghost use Rattle.reply_print.specs.OutcomePieces.{state_entries, point_piece, multiplier_piece, node_piece, node_pieces, count_of as count_is, cover_piece, certificate_piece, pair_words, wide_piece};

@@ -13,7 +13,7 @@ use std::alloc::{AllocError, Global};
 const ROOM: usize = 192;
 
 // These pieces one behind another.
-fn joined(alloc: Global, pieces: &[&str]) -> Result<Vec<u8>, AllocError>
+fn line_of(alloc: Global, pieces: &[&str]) -> Result<Vec<u8>, AllocError>
     ensures { IfOk result (λ text. text.items ≡ flat_map (λ piece. piece.now) pieces.now) }
 {
     let mut text = Vec::with_capacity(alloc, ROOM)?;
@@ -27,7 +27,7 @@ pub(crate) fn opened_line(alloc: Global, line: u32, account: u32) -> Result<Vec<
     ensures { IfOk result (λ text. text.items ≡ piece_text (opened_piece line account)) }
 {
     let (mut account_digits, mut line_digits) = (Buffer::new(), Buffer::new());
-    joined(
+    line_of(
         alloc,
         &[
             "{\"account\":",
@@ -55,7 +55,7 @@ pub(crate) fn moved_line(
         Buffer::new(),
         Buffer::new(),
     );
-    joined(
+    line_of(
         alloc,
         &[
             "{\"account\":",
@@ -84,7 +84,7 @@ pub(crate) fn listed_line(
         Buffer::new(),
         Buffer::new(),
     );
-    joined(
+    line_of(
         alloc,
         &[
             "{\"line\":",
@@ -108,7 +108,7 @@ pub(crate) fn ordered_line(
     ensures { IfOk result (λ text. text.items ≡ piece_text (ordered_piece reply.now line order)) }
 {
     let (mut line_digits, mut order_digits) = (Buffer::new(), Buffer::new());
-    joined(
+    line_of(
         alloc,
         &[
             "{\"line\":",
@@ -134,7 +134,7 @@ pub(crate) fn balance_line(
 {
     let (mut account_digits, mut balance_digits) = (Buffer::new(), Buffer::new());
     let (mut line_digits, mut reserve_digits) = (Buffer::new(), Buffer::new());
-    joined(
+    line_of(
         alloc,
         &[
             "{\"account\":",
@@ -156,7 +156,7 @@ fn reasoned_line(alloc: Global, line: u32, number: u32, reason: &str) -> Result<
         text.items ≡ piece_text (refused_with false line number 0 reason.now)) }
 {
     let (mut line_digits, mut number_digits) = (Buffer::new(), Buffer::new());
-    joined(
+    line_of(
         alloc,
         &[
             "{\"line\":",
@@ -186,7 +186,7 @@ fn ranged_line(
         Buffer::new(),
         Buffer::new(),
     );
-    joined(
+    line_of(
         alloc,
         &[
             "{\"field\":",

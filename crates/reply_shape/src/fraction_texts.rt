@@ -1,6 +1,6 @@
 //! Texts of fractions.
 ghost use Rattle.std.specs.Prelude.{◌≡◌, ◌-◌, ◌^◌, ◌==◌, min, Some, option_map, unsigned_abs};
-ghost use Rattle.reply_shape.specs.Numbers.{before_slash, behind_slash, fraction_from, fraction_value, has_fraction_parts, is_fraction_text, lowest_if_small, is_lowest_if_small, whole_value};
+ghost use Rattle.reply_shape.specs.Numbers.{before_slash, behind_slash, fraction_from, has_fraction_parts, is_fraction_text, lowest_if_small, is_lowest_if_small, whole_value};
 
 use crate::numbers::{is_natural, is_whole, value_of_digits};
 use exact_num::gcd;

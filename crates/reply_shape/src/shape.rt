@@ -3,7 +3,7 @@ ghost use Rattle.std.specs.Prelude.{◌≡◌, codes};
 ghost use Rattle.std.specs.List.{list_all};
 ghost use Rattle.serde_json.specs.View.{view};
 ghost use Rattle.reply_shape.specs.Look.{has_at, is_list};
-ghost use Rattle.reply_shape.specs.Shape.{opened_shape as opened_is, moved_shape as moved_is, listed_shape as listed_is, ordered_shape as ordered_is, paid_shape as paid_is, settled_shape as settled_is, balance_shape as balance_is, refused_shape as refused_is, refused_by, refused_as, has_its_field, shape_by as shape_is};
+ghost use Rattle.reply_shape.specs.Shape.{opened_shape as opened_is, moved_shape as moved_is, listed_shape as listed_is, ordered_shape as ordered_is, paid_shape as paid_is, settled_shape as settled_is, balance_shape as balance_is, refused_shape as refused_is, has_its_field, shape_by as shape_is};
 
 use crate::cleared_shape::cleared_shape;
 use crate::look::{has_members, has_text, has_whole, has_word, number_at};

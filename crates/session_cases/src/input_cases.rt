@@ -45,8 +45,8 @@ static BODIES: &str = r#"999999999,1,"open","1"
 static MALFORMED: &str =
     "7|7,1|7,1,|,1,a|7,,a|0,1,a|1000000000,1,a|7,0,a|7,1000001,a|07,1,a|-7,1,a|+7,1,a| 7,1,a|\"7\",1,a|7,1,\u{feff}a|7,1,\u{feff}|7,1,a\rb|7,1,a\r\r|\u{feff}7,1,a|\u{feff}";
 
-// What is written for an input, where the write of this number fails; none where it is 0.
-fn written(
+// How an input ends and what is written for it, where the write of this number fails; none where it is 0.
+fn outcome(
     alloc: Global,
     input: &[u8],
     write: u32,
@@ -74,7 +74,7 @@ fn messages_have_their_answers(rt: HostRuntime) -> Result<(), Fail> {
     let alloc = rt.alloc();
     for text in [SESSIONS, BODIES] {
         let (input, output) = text.split_once("==\n").ok_or("parts")?;
-        let (end, sink) = written(alloc, input.as_bytes(), 0)?;
+        let (end, sink) = outcome(alloc, input.as_bytes(), 0)?;
         assert_eq!(rt; end, Ok(()));
         assert_lines(&rt, sink.written(), output);
     }
@@ -86,7 +86,7 @@ fn other_lines_are_malformed(rt: HostRuntime) -> Result<(), Fail> {
     let alloc = rt.alloc();
     let wanted = "{\"line\":1,\"number\":15,\"reason\":\"Malformed\",\"reply\":\"gate\"}\n";
     for line in MALFORMED.split('|') {
-        let (end, sink) = written(alloc, line.as_bytes(), 0)?;
+        let (end, sink) = outcome(alloc, line.as_bytes(), 0)?;
         assert_eq!(rt; end, Ok(()), "at {line:?}");
         assert_eq!(rt;
             str::from_utf8(sink.written()).unwrap_or("no text"),
@@ -105,7 +105,7 @@ fn one_session_too_many_is_refused(rt: HostRuntime) -> Result<(), Fail> {
         input.push_str(&format!(in alloc; "{session},1,a\n")?)?;
     }
     input.push_str("1,2,a")?;
-    let (end, sink) = written(alloc, input.as_bytes(), 0)?;
+    let (end, sink) = outcome(alloc, input.as_bytes(), 0)?;
     assert_eq!(rt; end, Ok(()));
     let last =
         r#"{"number":1,"of":{"line":10000,"number":1,"reason":"Syntax","reply":"refused"},"session":10000}
@@ -123,7 +123,7 @@ fn a_failed_write_leaves_a_front(rt: HostRuntime) -> Result<(), Fail> {
     let mut before = 0;
     // Four accepted messages have three parts each, and the other four lines one.
     for write in 1..=16u32 {
-        let (end, sink) = written(alloc, input.as_bytes(), write)?;
+        let (end, sink) = outcome(alloc, input.as_bytes(), write)?;
         assert_eq!(rt; end, Err(AnswerStop::WriteFault), "at write {write}");
         assert!(rt;
             output.as_bytes().starts_with(sink.written()),
@@ -135,7 +135,7 @@ fn a_failed_write_leaves_a_front(rt: HostRuntime) -> Result<(), Fail> {
         );
         before = sink.written().len();
     }
-    let (end, _) = written(alloc, input.as_bytes(), 17)?;
+    let (end, _) = outcome(alloc, input.as_bytes(), 17)?;
     assert_eq!(rt; end, Ok(()));
     Ok(())
 }

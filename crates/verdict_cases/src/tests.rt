@@ -124,7 +124,7 @@ fn state(count: usize, t: u64, a: u64, b: u64, c: u64) -> Result<State> {
     }
 }
 
-fn weighted(text: &str) -> Result<Weighted> {
+fn point(text: &str) -> Result<Weighted> {
     let mut words = text.split_whitespace();
     let weight = number(words.next().context("a weight")?)?;
     let mut entries = [0; 4];
@@ -141,7 +141,7 @@ fn weighted(text: &str) -> Result<Weighted> {
 fn measure(alloc: Global, text: &str) -> Result<Measure> {
     let mut all = Vec::new(alloc);
     for piece in text.split_terminator(';') {
-        all.push(weighted(piece)?)?;
+        all.push(point(piece)?)?;
     }
     Ok(Measure {
         points: Points::from_vec(all),
@@ -218,7 +218,7 @@ fn name_of(judgement: Judgement) -> &'static str {
     }
 }
 
-fn judged(alloc: Global, text: &str) -> Result<Judgement> {
+fn case_judgement(alloc: Global, text: &str) -> Result<Judgement> {
     let mut parts = Vec::new(alloc);
     for part in text.split('|') {
         parts.push(part.trim())?;
@@ -253,7 +253,7 @@ fn judged(alloc: Global, text: &str) -> Result<Judgement> {
 fn is_judged_so(alloc: Global, line: &str) -> Result<bool> {
     let (_, case) = line.split_once(':').context("a name")?;
     let (case, judgement) = case.split_once('=').context("a judgement")?;
-    Ok(name_of(judged(alloc, case)?) == judgement.trim())
+    Ok(name_of(case_judgement(alloc, case)?) == judgement.trim())
 }
 
 #[test]

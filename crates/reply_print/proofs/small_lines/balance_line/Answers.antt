@@ -12,5 +12,5 @@ returns c =
     let fit : FitsSigned w128 c.args.reserved = search rules in
     let balance = c.format-2.ensures.text ∙ ap signed_decimal (to_z-of_z w128 c.args.balance fits) in
     let reserved = c.format-4.ensures.text ∙ ap signed_decimal (to_z-of_z w128 c.args.reserved fit) in
-    let joined = rw (c.format.ensures.text, balance, c.format-3.ensures.text, reserved) at c.joined.ensures in
-    IfOk-weaker c.joined.result _ _ (λ text is. is ∙ balance_joined c.args.line c.args.account c.args.balance c.args.reserved) joined
+    let joined = rw (c.format.ensures.text, balance, c.format-3.ensures.text, reserved) at c.line_of.ensures in
+    IfOk-weaker c.line_of.result _ _ (λ text is. is ∙ balance_joined c.args.line c.args.account c.args.balance c.args.reserved) joined

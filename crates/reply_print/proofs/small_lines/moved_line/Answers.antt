@@ -10,5 +10,5 @@ pub returns : goal.returns
 returns c =
     let fits : FitsSigned w128 c.args.balance = search rules in
     let balance = c.format-2.ensures.text ∙ ap signed_decimal (to_z-of_z w128 c.args.balance fits) in
-    let joined = rw (c.format.ensures.text, balance, c.format-3.ensures.text) at c.joined.ensures in
-    IfOk-weaker c.joined.result _ _ (λ text is. is ∙ moved_joined c.args.reply.now c.args.line c.args.account c.args.balance) joined
+    let joined = rw (c.format.ensures.text, balance, c.format-3.ensures.text) at c.line_of.ensures in
+    IfOk-weaker c.line_of.result _ _ (λ text is. is ∙ moved_joined c.args.reply.now c.args.line c.args.account c.args.balance) joined
