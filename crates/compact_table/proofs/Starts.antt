@@ -12,13 +12,13 @@ use Rattle.compact_table.specs.Lists.{front, fronts}
 use Rattle.compact_table.specs.Programs.{empty_program, with_row, coefficients_in, program_of}
 use Rattle.table_run.proofs.Listed.{listed_count}
 
-take_front : {A : Type 0} (xs : List A) (n : ℕ) (y : A) → length xs ≡ n → take n (xs ++ y ∷ []) ≡ xs
+pub take_front : {A : Type 0} (xs : List A) (n : ℕ) (y : A) → length xs ≡ n → take n (xs ++ y ∷ []) ≡ xs
 take_front [] zero y e = refl
 take_front [] (suc n) y e = absurd (omega (arith, e))
 take_front (x ∷ xs) zero y e = absurd (omega (arith, e))
 take_front (x ∷ xs) (suc n) y e = ap (λ zs. x ∷ zs) (take_front xs n y (omega (arith, e)))
 
-at_end : (xs : List Fraction) (n : ℕ) (y : Fraction) → length xs ≡ n → at (xs ++ y ∷ []) n ≡ y
+pub at_end : (xs : List Fraction) (n : ℕ) (y : Fraction) → length xs ≡ n → at (xs ++ y ∷ []) n ≡ y
 at_end [] zero y e = refl
 at_end [] (suc n) y e = absurd (omega (arith, e))
 at_end (x ∷ xs) zero y e = absurd (omega (arith, e))
@@ -50,7 +50,7 @@ coefficients_more n [] xs = append-nil (take n xs)
 coefficients_more n (ys ∷ lists) xs =
     ap (λ (l : List Fraction). take n ys ++ l) (coefficients_more n lists xs) ∙ sym (append_assoc (take n ys) (coefficients_in n lists) (take n xs))
 
-program_more : (n : ℕ) (lists : List (List Fraction)) (xs costs : List Fraction) → program_of n (lists ++ xs ∷ []) costs ≡ with_row (program_of n lists costs) (take n xs) (at xs n)
+pub program_more : (n : ℕ) (lists : List (List Fraction)) (xs costs : List Fraction) → program_of n (lists ++ xs ∷ []) costs ≡ with_row (program_of n lists costs) (take n xs) (at xs n)
 program_more n lists xs costs =
     let as_many : length (lists ++ xs ∷ []) ≡ length lists + 1 = length-append lists (xs ∷ []) in
     let sides : map (λ ys. at ys n) (lists ++ xs ∷ []) ≡ map (λ ys. at ys n) lists ++ at xs n ∷ [] = map-append (λ ys. at ys n) lists (xs ∷ []) in

@@ -10,4 +10,5 @@ mod row;
 mod rows;
 pub mod table;
 
+pub use entries::is_zero;
 pub use table::Table;

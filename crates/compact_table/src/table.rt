@@ -1,5 +1,5 @@
 //! The table of a run. Nothing outside this file knows how it is laid out.
-ghost use Rattle.std.specs.Prelude.{◌≡◌, ◌+◌, ◌<◌, ◌≤◌, ◌==◌, [], false, IfOk, IfSome, length, map, position, unsigned_abs, vec_capacity, vec_len, slice_index_or, slice_set, get_or};
+ghost use Rattle.std.specs.Prelude.{◌≡◌, ◌+◌, ◌<◌, ◌≤◌, ◌==◌, false, IfOk, IfSome, length, map, position, unsigned_abs, vec_capacity, vec_len, slice_index_or, slice_set, get_or};
 ghost use Rattle.exact_num.specs.Fits.{written_back};
 ghost use Rattle.table_run.specs.Table.{right_side, where_basic};
 ghost use Rattle.compact_run.specs.Compact.{compact_first, entering_place, remove_insert};
@@ -114,46 +114,6 @@ impl<N: Exact> Table<N> {
         ensures { result ≡ length self.now.kept.items }
     {
         self.kept.len()
-    }
-
-    /// The number of rows.
-    pub fn rows(&self) -> usize
-        ensures { result ≡ length self.now.rows.rows }
-    {
-        self.rows.len()
-    }
-
-    /// The variables of the kept columns.
-    pub fn kept(&self) -> &[usize]
-        ensures { result.now ≡ self.now.kept.items }
-    {
-        self.kept.as_slice()
-    }
-
-    /// The basic variable of row i.
-    pub fn basic(&self, i: usize) -> usize
-        requires { i < length self.now.rows.rows }
-        ensures { result ≡ slice_index_or self.now.basics.items i 0 }
-    {
-        self.basics[i]
-    }
-
-    /// The entries of row i, the right side last.
-    pub fn entries(&self, i: usize) -> &[N]
-        requires { i < length self.now.rows.rows }
-        ensures entries { map N.fraction result.now
-            ≡ slice_index_or (lists_of N.fraction self.now) i [] }
-        ensures width { length result.now ≡ length self.now.kept.items + 1 }
-    {
-        &self.rows.row(i)[..self.kept.len() + 1]
-    }
-
-    /// The objective row.
-    pub fn objective(&self) -> &[N]
-        ensures entries { map N.fraction result.now ≡ objective_of N.fraction self.now }
-        ensures width { length result.now ≡ length self.now.kept.items + 1 }
-    {
-        self.objective.as_slice()
     }
 
     /// The place of the entering column: that of the smallest variable whose objective entry is

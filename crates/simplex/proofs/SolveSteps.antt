@@ -142,3 +142,16 @@ all_rows p i e c r =
     let coefficients = ap (λ k. take (k * p.variables) p.coefficients) e ∙ take_all (p.rows * p.variables) p.coefficients (omega (arith, c)) in
     let sides = ap (λ k. take k p.right_sides) e ∙ take_all p.rows p.right_sides (omega (arith, r)) in
     λ j. record p { rows = e j; coefficients = coefficients j; right_sides = sides j }
+
+-- what stands there after the run
+pub found_after : (E : Ending Optimum) → Ok true ≡ answer_of E → IsFound (contents_after E)
+found_after (done answer spent) e = tt
+found_after (unbounded d spent) e = absurd cc
+found_after (wide_at spent wide) e = absurd cc
+found_after (no_unit_left spent) e = absurd cc
+
+pub rising_after : (E : Ending Optimum) → Ok false ≡ answer_of E → IsRising (contents_after E)
+rising_after (done answer spent) e = absurd cc
+rising_after (unbounded d spent) e = tt
+rising_after (wide_at spent wide) e = absurd cc
+rising_after (no_unit_left spent) e = absurd cc

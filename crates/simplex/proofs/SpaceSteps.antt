@@ -1,8 +1,9 @@
 -- A program that is given to a space, and what its run tells.
-use Rattle.std.proofs.Common.{◌≡◌, ℕ, zero, suc, ◌+◌, ◌<◌, ◌≤◌, List, [], ◌∷◌, ◌++◌, length, map, pos, refl, sym, ◌∙◌, ap, subst, arith}
-use Rattle.std.specs.Prelude.{Result, Err}
+use Rattle.std.proofs.Common.{◌≡◌, ℕ, zero, suc, ◌+◌, ◌*◌, ◌<◌, ◌≤◌, List, [], ◌∷◌, ◌++◌, length, map, take, pos, refl, sym, ◌∙◌, ap, subst, arith}
+use Rattle.std.specs.Prelude.{Result, Err, slice_index_or}
 use Rattle.std.proofs.lemmas.Int.{ints}
-use Rattle.std.proofs.lemmas.List.{length-map, length-append}
+use Rattle.std.proofs.lemmas.List.{length-map, length-append, take-map, take_more}
+use Rattle.std.proofs.lemmas.Nat.{mul-le}
 use Rattle.exact_num.specs.declared.misfit.Wide.{Wide}
 use Rattle.exact_num.specs.Fraction.{Fraction, IsLowest, IsNotBelowZero}
 use Rattle.exact_num.specs.Laws.{IsWithin}
@@ -19,7 +20,12 @@ use Rattle.compact_run.specs.Compact.{CompactTable, compact_first}
 use Rattle.compact_run.specs.Laws.{IsProgramWithin}
 use Rattle.compact_run.specs.Run.{compact_read_off, compact_run, compact_run_from}
 use Rattle.compact_run.proofs.Runs.{same_runs}
-use Rattle.compact_table.specs.Programs.{empty_program, with_row}
+use Rattle.compact_table.specs.Programs.{coefficients_in, empty_program, program_of, with_row}
+use Rattle.compact_table.proofs.EntrySteps.{at-map}
+use Rattle.compact_table.proofs.Starts.{program_more}
+use Rattle.sparse_program.specs.declared.sparse.SparseProgram.{SparseProgram}
+use Rattle.sparse_program.specs.Rows.{lists_of, HasRoom, KeepsRoom}
+use Rattle.sparse_program.proofs.Parts.{length-rows}
 use Rattle.simplex.specs.declared.run.End.{End}
 use Rattle.simplex.specs.declared.stop.RunStop.{RunStop}
 use Rattle.simplex.specs.declared.stop.RunStop.TheVariants.{Wide as RunWide, Budget as RunBudget}
@@ -142,48 +148,48 @@ stop_enough limit left before p (no_unit_left spent) g h e = out_of_units limit 
 
 -- ---- lists by place
 -- ---- what the contents say of the fields
-pub program_is_given : {A : Type 0} (value : A → Fraction) (limit : ℕ) (stage : Stage) (t : Table A) (w : WholeTable) (c : Contents) → contents_of value stage t w ≡ c → IsProgramGiven c → IsAt value limit stage t w
-    → (stage ≡ Given) × (program_given c ≡ program_in value t) × IsBeingGiven value limit t
-program_is_given value limit Empty t w c e h at_stage = absurd (subst IsProgramGiven (sym e) h)
-program_is_given value limit Given t w c e h at_stage = (refl, ap program_given (sym e), at_stage)
-program_is_given value limit Optimal t w c e h at_stage = absurd (subst IsProgramGiven (sym e) h)
-program_is_given value limit (Unbounded k) t w c e h at_stage = absurd (subst IsProgramGiven (sym e) h)
-program_is_given value limit WholeOptimal t w c e h at_stage = absurd (subst IsProgramGiven (sym e) h)
-program_is_given value limit (WholeUnbounded k) t w c e h at_stage = absurd (subst IsProgramGiven (sym e) h)
-program_is_given value limit Stopped t w c e h at_stage = absurd (subst IsProgramGiven (sym e) h)
+pub program_is_given : {A : Type 0} (value : A → Fraction) (limit : ℕ) (stage : Stage) (p : LinearProgram) (t : Table A) (w : WholeTable) (c : Contents) → contents_of value stage p t w ≡ c → IsProgramGiven c → IsAt limit stage p t w
+    → (stage ≡ Given) × (program_given c ≡ p) × IsBeingGiven limit p
+program_is_given value limit Empty p t w c e h at_stage = absurd (subst IsProgramGiven (sym e) h)
+program_is_given value limit Given p t w c e h at_stage = (refl, ap program_given (sym e), at_stage)
+program_is_given value limit Optimal p t w c e h at_stage = absurd (subst IsProgramGiven (sym e) h)
+program_is_given value limit (Unbounded k) p t w c e h at_stage = absurd (subst IsProgramGiven (sym e) h)
+program_is_given value limit WholeOptimal p t w c e h at_stage = absurd (subst IsProgramGiven (sym e) h)
+program_is_given value limit (WholeUnbounded k) p t w c e h at_stage = absurd (subst IsProgramGiven (sym e) h)
+program_is_given value limit Stopped p t w c e h at_stage = absurd (subst IsProgramGiven (sym e) h)
 
 -- an optimum of rows of whole numbers
-pub whole_is_there : {A : Type 0} (value : A → Fraction) (stage : Stage) (t : Table A) (w : WholeTable) (c : Contents) → contents_of value stage t w ≡ c → stage ≡ WholeOptimal
+pub whole_is_there : {A : Type 0} (value : A → Fraction) (stage : Stage) (p : LinearProgram) (t : Table A) (w : WholeTable) (c : Contents) → contents_of value stage p t w ≡ c → stage ≡ WholeOptimal
     → c ≡ found (whole_optimum_in (length w.names.items) (length w.rows.rows) (as_whole w))
-whole_is_there value stage t w c e is = sym e ∙ ap (λ (st : Stage). contents_of value st t w) is
+whole_is_there value stage p t w c e is = sym e ∙ ap (λ (st : Stage). contents_of value st p t w) is
 
 -- or else one of fractions
-pub optimum_is_there : {A : Type 0} (value : A → Fraction) (stage : Stage) (t : Table A) (w : WholeTable) (c : Contents) → contents_of value stage t w ≡ c → IsFound c → (stage ≡ WholeOptimal → ⊥)
+pub optimum_is_there : {A : Type 0} (value : A → Fraction) (stage : Stage) (p : LinearProgram) (t : Table A) (w : WholeTable) (c : Contents) → contents_of value stage p t w ≡ c → IsFound c → (stage ≡ WholeOptimal → ⊥)
     → c ≡ found (optimum_in (length t.kept.items) (length t.rows.rows) (as_compact value t))
-optimum_is_there value Empty t w c e h other = absurd (subst IsFound (sym e) h)
-optimum_is_there value Given t w c e h other = absurd (subst IsFound (sym e) h)
-optimum_is_there value Optimal t w c e h other = sym e
-optimum_is_there value (Unbounded k) t w c e h other = absurd (subst IsFound (sym e) h)
-optimum_is_there value WholeOptimal t w c e h other = absurd (other refl)
-optimum_is_there value (WholeUnbounded k) t w c e h other = absurd (subst IsFound (sym e) h)
-optimum_is_there value Stopped t w c e h other = absurd (subst IsFound (sym e) h)
+optimum_is_there value Empty p t w c e h other = absurd (subst IsFound (sym e) h)
+optimum_is_there value Given p t w c e h other = absurd (subst IsFound (sym e) h)
+optimum_is_there value Optimal p t w c e h other = sym e
+optimum_is_there value (Unbounded k) p t w c e h other = absurd (subst IsFound (sym e) h)
+optimum_is_there value WholeOptimal p t w c e h other = absurd (other refl)
+optimum_is_there value (WholeUnbounded k) p t w c e h other = absurd (subst IsFound (sym e) h)
+optimum_is_there value Stopped p t w c e h other = absurd (subst IsFound (sym e) h)
 
 no_direction : (j : ℕ) (c d : Contents) → d ≡ c → length (direction_of d) ≡ 0 → j < length (direction_of c) → ⊥
 no_direction j c d e none low = let q = ap (λ (x : Contents). length (direction_of x)) e in omega (arith, q, none, low)
 
 -- a direction is one of fractions or of rows of whole numbers
-pub direction_is_there : {A : Type 0} (value : A → Fraction) (stage : Stage) (t : Table A) (w : WholeTable) (c : Contents) (j : ℕ) → contents_of value stage t w ≡ c → j < length (direction_of c)
+pub direction_is_there : {A : Type 0} (value : A → Fraction) (stage : Stage) (p : LinearProgram) (t : Table A) (w : WholeTable) (c : Contents) (j : ℕ) → contents_of value stage p t w ≡ c → j < length (direction_of c)
     → ((h : ℕ) → stage ≡ Unbounded h → ⊥) → ((k : Entering) → stage ≡ WholeUnbounded k → ⊥) → ⊥
-direction_is_there value Empty t w c j e low not_plain not_whole = no_direction j c _ e refl low
-direction_is_there value Given t w c j e low not_plain not_whole = no_direction j c _ e refl low
-direction_is_there value Optimal t w c j e low not_plain not_whole = no_direction j c _ e refl low
-direction_is_there value (Unbounded h) t w c j e low not_plain not_whole = not_plain h refl
-direction_is_there value WholeOptimal t w c j e low not_plain not_whole = no_direction j c _ e refl low
-direction_is_there value (WholeUnbounded k) t w c j e low not_plain not_whole = not_whole k refl
-direction_is_there value Stopped t w c j e low not_plain not_whole = no_direction j c _ e refl low
+direction_is_there value Empty p t w c j e low not_plain not_whole = no_direction j c _ e refl low
+direction_is_there value Given p t w c j e low not_plain not_whole = no_direction j c _ e refl low
+direction_is_there value Optimal p t w c j e low not_plain not_whole = no_direction j c _ e refl low
+direction_is_there value (Unbounded h) p t w c j e low not_plain not_whole = not_plain h refl
+direction_is_there value WholeOptimal p t w c j e low not_plain not_whole = no_direction j c _ e refl low
+direction_is_there value (WholeUnbounded k) p t w c j e low not_plain not_whole = not_whole k refl
+direction_is_there value Stopped p t w c j e low not_plain not_whole = no_direction j c _ e refl low
 
 -- ---- the run in a space
-pub ending_is : {A : Type 0} (value : A → Fraction) (limit left spent after : ℕ) (t t1 t2 : Table A) (result : Result End RunStop) → 1 ≤ limit → IsBeingGiven value limit t
+pub ending_is : {A : Type 0} (value : A → Fraction) (limit left spent after : ℕ) (t t1 t2 : Table A) (result : Result End RunStop) → 1 ≤ limit → IsBeingGiven limit (program_in value t)
     → as_compact value t1 ≡ compact_first (program_in value t) → SameShape t t1 → SameShape t1 t2
     → ((n m : ℕ) → ending_of n m result after (as_compact value t2) ≡ compact_run_from limit n m left spent (as_compact value t1))
     → ending_of (length t2.kept.items) (length t2.rows.rows) result after (as_compact value t2) ≡ run limit (program_in value t) left spent
@@ -193,5 +199,40 @@ ending_is value limit left spent after t t1 t2 result one g first s1 s2 h =
     let m : length t2.rows.rows ≡ p.rows = s2.rows ∙ s1.rows ∙ sym (length-map t.rows.rows (front value (length t.kept.items + 1))) in
     run_is limit left spent after (length t2.kept.items) (length t2.rows.rows) p (as_compact value t1) (as_compact value t2) result one g.program g.within n m first (h (length t2.kept.items) (length t2.rows.rows))
 
-pub program_stands : {A : Type 0} (value : A → Fraction) (limit : ℕ) (t : Table A) (c : Contents) → IsBeingGiven value limit t → program_given c ≡ program_in value t → IsProgram (program_given c)
-program_stands value limit t c g same = subst IsProgram (sym same) g.program
+pub program_stands : (limit : ℕ) (p : LinearProgram) (c : Contents) → IsBeingGiven limit p → program_given c ≡ p → IsProgram (program_given c)
+program_stands limit p c g same = subst IsProgram (sym same) g.program
+
+-- ---- the program, given to a table
+pub none_given : {A : Type 0} (value : A → Fraction) (costs : List A) (lists : List (List Fraction)) → empty_program (map value costs) ≡ program_of (length costs) (take 0 lists) (map value costs)
+unfolding coefficients_in
+none_given value costs lists = let count = length-map costs value in rw count refl
+
+-- one row more, of those that are listed
+pub one_given : {A : Type 0} (value : A → Fraction) (n : ℕ) (lists : List (List Fraction)) (costs : List Fraction) (p new : LinearProgram) (line a : List A) (b : A) (i : ℕ) → p ≡ program_of n (take i lists) costs → new ≡ with_row p (map value a) (value b)
+    → i < length lists → map value line ≡ slice_index_or lists i [] → a ≡ take n line → n < length line → b ≡ slice_index_or line n b → new ≡ program_of n (take (i + 1) lists) costs
+one_given value n lists costs p new line a b i is more low row front wide last =
+    let first : map value a ≡ take n (slice_index_or lists i []) = ap (map value) front ∙ sym (take-map value n line) ∙ ap (take n) row in
+    let side : value b ≡ at (slice_index_or lists i []) n = sym (at-map value line n b wide last) ∙ ap (λ l. at l n) row in
+    more
+    ∙ (λ k. with_row (is k) (first k) (side k))
+    ∙ sym (program_more n (take i lists) (slice_index_or lists i []) costs)
+    ∙ ap (λ l. program_of n l costs) (sym (take_more lists i [] low))
+
+-- ---- its room
+pub room_kept : {A : Type 0} (rows columns : ℕ) (old new : SparseProgram A) → HasRoom rows columns old → KeepsRoom old new → HasRoom rows columns new
+room_kept rows columns old new h k =
+    let costs = h.costs in
+    let ends = h.ends in
+    let entries = h.entries in
+    record { costs = omega (arith, costs, k.costs); ends = omega (arith, ends, k.ends); entries = omega (arith, entries, k.entries) }
+
+pub room_for_row : (rows columns ends costs room : ℕ) → ends < rows → costs ≤ columns → rows * (columns + 1) ≤ room → (ends + 1) * (costs + 1) ≤ room
+room_for_row rows columns ends costs room low few h =
+    let product = mul-le (ends + 1) (costs + 1) rows (columns + 1) (omega (arith, low)) (omega (arith, few)) in
+    omega (arith, product, h)
+
+pub rows_listed : {A : Type 0} (value : A → Fraction) (p : SparseProgram A) → length (lists_of value p) ≡ length p.ends.items
+rows_listed value p = length-rows value (length p.costs.items + 1) p.entries.items 0 p.ends.items
+
+pub empty_is_not_given : Empty ≡ Given → ⊥
+empty_is_not_given e = cc

@@ -17,7 +17,6 @@ use Rattle.whole_solver.proofs.Pivoting.{rows_fit_in}
 use Rattle.whole_solver.proofs.Taken.{first_taken}
 use Rattle.compact_run.specs.Compact.{compact_first}
 use Rattle.compact_table.specs.declared.table.Table.{Table}
-use Rattle.compact_table.specs.Tables.{as_compact, program_in}
 use Rattle.table_run.proofs.Listed.{listed_count}
 use Rattle.exact_num.specs.Fraction.{Fraction}
 use Rattle.table_run.specs.Units.{units_of}
@@ -76,15 +75,15 @@ within_wider b c limit w low g =
     }
 
 -- ---- a run of the program that was taken in
-pub record IsStarted {A : Type 0} (value : A → Fraction) (limit b : ℕ) (t : Table A) (w : WholeTable) : Type 0 where
-  pub given : IsBeingGiven value limit t
+pub record IsStarted (limit b : ℕ) (p : LinearProgram) (w : WholeTable) : Type 0 where
+  pub given : IsBeingGiven limit p
   pub usable : IsUsable limit b
-  pub first : as_whole w ≡ first_compact_table (program_in value t)
+  pub first : as_whole w ≡ first_compact_table p
   pub within : IsWithin b limit w
 
-pub started_at : {A : Type 0} (value : A → Fraction) (limit held b : ℕ) (t t1 : Table A) (w : WholeTable) → held ≡ limit → IsBeingGiven value limit t → IsUsable limit b → as_compact value t1 ≡ compact_first (program_in value t) → as_whole w ≡ taken_from (as_compact value t1) → IsWithin b held w
-    → IsStarted value limit b t w
-started_at value limit held b t t1 w same g u first taken within = record { given = g; usable = u; first = taken ∙ ap taken_from first ∙ sym (first_taken (program_in value t)); within = subst (λ (l : ℕ). IsWithin b l w) same within }
+pub started_at : (limit held b : ℕ) (p : LinearProgram) (w : WholeTable) → held ≡ limit → IsBeingGiven limit p → IsUsable limit b → as_whole w ≡ taken_from (compact_first p) → IsWithin b held w
+    → IsStarted limit b p w
+started_at limit held b p w same g u taken within = record { given = g; usable = u; first = taken ∙ sym (first_taken p); within = subst (λ (l : ℕ). IsWithin b l w) same within }
 
 first_names : (q : LinearProgram) → length (first_compact_table q).names ≡ q.variables
 unfolding first_compact_table
@@ -95,32 +94,32 @@ unfolding first_compact_table
 first_columns q = refl
 
 -- the limit is that of the numbers, as the code holds it
-module _ {A : Type 0} (value : A → Fraction) (limit held b left spent after : ℕ) (t t1 : Table A) (w1 w2 : WholeTable) (g : IsStarted value limit b t w1) (same : held ≡ limit) (shape : SameShape w1 w2) where
-  is_run : (E : Ending Optimum) → compact_run_from b held (program_in value t).variables (program_in value t).rows left spent (as_whole w1) ≡ Some E → run limit (program_in value t) left spent ≡ E
+module _ {A : Type 0} (value : A → Fraction) (limit held b left spent after : ℕ) (p : LinearProgram) (t : Table A) (w1 w2 : WholeTable) (g : IsStarted limit b p w1) (same : held ≡ limit) (shape : SameShape w1 w2) where
+  is_run : (E : Ending Optimum) → compact_run_from b held p.variables p.rows left spent (as_whole w1) ≡ Some E → run limit p left spent ≡ E
   is_run E h =
       let fits = rows_fit_in b (length w1.names.items + 1) w1.basics.items w1.rows.rows g.within.rows in
-      let of_limit = ap (λ (l : ℕ). compact_run_from b l (program_in value t).variables (program_in value t).rows left spent (as_whole w1)) (sym same) in
-      whole_is_run b limit left spent (program_in value t) (as_whole w1) E g.given.program g.usable.room g.first fits (of_limit ∙ h)
+      let of_limit = ap (λ (l : ℕ). compact_run_from b l p.variables p.rows left spent (as_whole w1)) (sym same) in
+      whole_is_run b limit left spent p (as_whole w1) E g.given.program g.usable.room g.first fits (of_limit ∙ h)
 
   there : IsWithin b held w2 → IsReadable limit w2
   there h = record { read = g.usable.read; within = within_wider b widest limit w2 g.usable.below (subst (λ (l : ℕ). IsWithin b l w2) same h) }
 
-  variables : length w2.names.items ≡ (program_in value t).variables
-  variables = shape.columns ∙ ap (λ (x : CompactTable). length x.names) g.first ∙ first_names (program_in value t)
+  variables : length w2.names.items ≡ p.variables
+  variables = shape.columns ∙ ap (λ (x : CompactTable). length x.names) g.first ∙ first_names p
 
-  rows : length w2.rows.rows ≡ (program_in value t).rows
+  rows : length w2.rows.rows ≡ p.rows
   rows =
-      let columns = ap (λ (x : CompactTable). x.columns) g.first ∙ first_columns (program_in value t) in
+      let columns = ap (λ (x : CompactTable). x.columns) g.first ∙ first_columns p in
       let names = sym shape.columns ∙ variables in
       let many = shape.rows in
       omega (arith, columns, names, many)
 
-  pub whole_optimum : IsWholeEnd b held (program_in value t).variables (program_in value t).rows WholeOptimum after w2 (compact_run_from b held (program_in value t).variables (program_in value t).rows left spent (as_whole w1))
-      → IsStageOf value limit (run limit (program_in value t) left spent) WholeOptimal after t1 w2
+  pub whole_optimum : IsWholeEnd b held p.variables p.rows WholeOptimum after w2 (compact_run_from b held p.variables p.rows left spent (as_whole w1))
+      → IsStageOf value limit p (run limit p left spent) WholeOptimal after t w2
   whole_optimum h =
-      let found : run limit (program_in value t) left spent ≡ compact_read_off (length w2.names.items) (length w2.rows.rows) (as_whole w2) after =
+      let found : run limit p left spent ≡ compact_read_off (length w2.names.items) (length w2.rows.rows) (as_whole w2) after =
       is_run _ h.0 ∙ (λ i. compact_read_off (sym variables i) (sym rows i) (as_whole w2) after) in
-      let e : done (whole_optimum_in (length w2.names.items) (length w2.rows.rows) (as_whole w2)) after ≡ run limit (program_in value t) left spent =
+      let e : done (whole_optimum_in (length w2.names.items) (length w2.rows.rows) (as_whole w2)) after ≡ run limit p left spent =
       sym (whole_found_is (length w2.names.items) (length w2.rows.rows) after (as_whole w2) refl) ∙ sym found in
       record {
         answer = ap answer_of e;
@@ -129,10 +128,10 @@ module _ {A : Type 0} (value : A → Fraction) (limit held b left spent after : 
         there = there h.1;
       }
 
-  pub whole_ray : (c : Entering) → IsWholeEnd b held (program_in value t).variables (program_in value t).rows (WholeRay c) after w2 (compact_run_from b held (program_in value t).variables (program_in value t).rows left spent (as_whole w1))
-      → IsStageOf value limit (run limit (program_in value t) left spent) (WholeUnbounded c) after t1 w2
+  pub whole_ray : (c : Entering) → IsWholeEnd b held p.variables p.rows (WholeRay c) after w2 (compact_run_from b held p.variables p.rows left spent (as_whole w1))
+      → IsStageOf value limit p (run limit p left spent) (WholeUnbounded c) after t w2
   whole_ray c h =
-      let e : unbounded (compact_direction (length w2.names.items) (as_column c) (as_whole w2)) after ≡ run limit (program_in value t) left spent =
+      let e : unbounded (compact_direction (length w2.names.items) (as_column c) (as_whole w2)) after ≡ run limit p left spent =
       ap (λ n. unbounded (compact_direction n (as_column c) (as_whole w2)) after) variables ∙ sym (is_run _ h.0) in
       record {
         answer = ap answer_of e;
@@ -141,8 +140,8 @@ module _ {A : Type 0} (value : A → Fraction) (limit held b left spent after : 
         there = (there h.1, h.2);
       }
 
-  pub whole_no_unit : IsWholeEnd b held (program_in value t).variables (program_in value t).rows NoUnit after w2 (compact_run_from b held (program_in value t).variables (program_in value t).rows left spent (as_whole w1))
-      → EndsInStop (run limit (program_in value t) left spent) RunBudget after
+  pub whole_no_unit : IsWholeEnd b held p.variables p.rows NoUnit after w2 (compact_run_from b held p.variables p.rows left spent (as_whole w1))
+      → EndsInStop (run limit p left spent) RunBudget after
   whole_no_unit h =
-      let e : no_unit_left after ≡ run limit (program_in value t) left spent = sym (is_run _ h) in
+      let e : no_unit_left after ≡ run limit p left spent = sym (is_run _ h) in
       record { answer = ap answer_of e; contents = ap contents_after e; units = ap units_of e }

@@ -2,6 +2,7 @@
 use Rattle.std.specs.Prelude.{◌≡◌, ℕ, Bool, true, false, Option, Some, None, Result, Ok, Err}
 use Rattle.exact_num.specs.Fraction.{Fraction}
 use Rattle.table_run.specs.Ending.{Ending}
+use Rattle.table_run.specs.Program.{LinearProgram}
 use Rattle.table_run.specs.Run.{Optimum}
 use Rattle.table_run.specs.Units.{units_of}
 use Rattle.compact_table.specs.declared.table.Table.{Table}
@@ -21,23 +22,23 @@ is_optimum WholeOptimal = true
 is_optimum (WholeUnbounded c) = false
 is_optimum Stopped = false
 
--- the stage is that of a run that ended so
-pub record IsStageOf {A : Type 0} (value : A → Fraction) (limit : ℕ) (run : Ending Optimum) (stage : Stage) (spent : ℕ) (t : Table A) (w : WholeTable) : Type 0 where
+-- the stage is that of a run of the program that ended so
+pub record IsStageOf {A : Type 0} (value : A → Fraction) (limit : ℕ) (p : LinearProgram) (run : Ending Optimum) (stage : Stage) (spent : ℕ) (t : Table A) (w : WholeTable) : Type 0 where
   pub answer : Ok (is_optimum stage) ≡ answer_of run
-  pub contents : contents_of value stage t w ≡ contents_after run
+  pub contents : contents_of value stage p t w ≡ contents_after run
   pub units : spent ≡ units_of run
-  pub there : IsAt value limit stage t w
+  pub there : IsAt limit stage p t w
 
 pub record EndsInStop (run : Ending Optimum) (stop : RunStop) (spent : ℕ) : Type 0 where
   pub answer : Err stop ≡ answer_of run
   pub contents : stopped ≡ contents_after run
   pub units : spent ≡ units_of run
 
-abbrev pub IsEndOf : {A : Type 0} → (A → Fraction) → ℕ → Ending Optimum → Result Stage RunStop → ℕ → Table A → WholeTable → Type 0
-IsEndOf value limit run (Ok stage) spent t w = IsStageOf value limit run stage spent t w
-IsEndOf value limit run (Err stop) spent t w = EndsInStop run stop spent
+abbrev pub IsEndOf : {A : Type 0} → (A → Fraction) → ℕ → LinearProgram → Ending Optimum → Result Stage RunStop → ℕ → Table A → WholeTable → Type 0
+IsEndOf value limit p run (Ok stage) spent t w = IsStageOf value limit p run stage spent t w
+IsEndOf value limit p run (Err stop) spent t w = EndsInStop run stop spent
 
 -- the same, where it was not given up
-abbrev pub IsTried : {A : Type 0} → (A → Fraction) → ℕ → Ending Optimum → Option (Result Stage RunStop) → ℕ → Table A → WholeTable → Type 0
-IsTried value limit run (Some end) spent t w = IsEndOf value limit run end spent t w
-IsTried value limit run None spent t w = Unit {0}
+abbrev pub IsTried : {A : Type 0} → (A → Fraction) → ℕ → LinearProgram → Ending Optimum → Option (Result Stage RunStop) → ℕ → Table A → WholeTable → Type 0
+IsTried value limit p run (Some end) spent t w = IsEndOf value limit p run end spent t w
+IsTried value limit p run None spent t w = Unit {0}

@@ -12,7 +12,9 @@ use Rattle.compact_run.specs.Laws.{IsProgramWithin}
 use Rattle.compact_run.specs.Run.{compact_solution, compact_direction, price_of}
 use Rattle.compact_table.specs.declared.table.Table.{Table}
 use Rattle.compact_table.specs.Programs.{empty_program}
-use Rattle.compact_table.specs.Tables.{as_compact, program_in, room_of, IsGiven}
+use Rattle.compact_table.specs.Tables.{as_compact, room_of}
+use Rattle.sparse_program.specs.declared.sparse.SparseProgram.{SparseProgram}
+use Rattle.sparse_program.specs.Rows.{program_in, HasRoom}
 use Rattle.simplex.specs.declared.stop.RunStop.{RunStop}
 use Rattle.simplex.specs.declared.stop.RunStop.TheVariants.{Wide, Budget}
 use Rattle.simplex.specs.declared.stage.Stage.{Stage}
@@ -128,39 +130,44 @@ optimum_in n m c =
 abbrev pub whole_optimum_in : ℕ → ℕ → CompactRows → Optimum
 whole_optimum_in n m t = optimum (solution_in n t) (values_at (price_in t) n m) (values_at (price_in t) 0 n) (entry_of t.objective (length t.names))
 
-abbrev pub contents_of : {A : Type 0} → (A → Fraction) → Stage → Table A → WholeTable → Contents
-contents_of value Empty t w = nothing
-contents_of value Given t w = given (program_in value t)
-contents_of value Optimal t w = found (optimum_in (length t.kept.items) (length t.rows.rows) (as_compact value t))
-contents_of value (Unbounded h) t w = rising (compact_direction (length t.kept.items) h (as_compact value t))
-contents_of value WholeOptimal t w = found (whole_optimum_in (length w.names.items) (length w.rows.rows) (as_whole w))
-contents_of value (WholeUnbounded c) t w = rising (direction_in (length w.names.items) (as_column c) (as_whole w))
-contents_of value Stopped t w = stopped
+-- p is the program that is given
+abbrev pub contents_of : {A : Type 0} → (A → Fraction) → Stage → LinearProgram → Table A → WholeTable → Contents
+contents_of value Empty p t w = nothing
+contents_of value Given p t w = given p
+contents_of value Optimal p t w = found (optimum_in (length t.kept.items) (length t.rows.rows) (as_compact value t))
+contents_of value (Unbounded h) p t w = rising (compact_direction (length t.kept.items) h (as_compact value t))
+contents_of value WholeOptimal p t w = found (whole_optimum_in (length w.names.items) (length w.rows.rows) (as_whole w))
+contents_of value (WholeUnbounded c) p t w = rising (direction_in (length w.names.items) (as_column c) (as_whole w))
+contents_of value Stopped p t w = stopped
 
-abbrev pub workspace_of : {A : Type 0} → (A → Fraction) → ℕ → ℕ → Stage → Table A → WholeTable → Workspace
-workspace_of value rows columns stage t w = workspace rows columns (contents_of value stage t w)
+abbrev pub workspace_of : {A : Type 0} → (A → Fraction) → ℕ → ℕ → Stage → SparseProgram A → Table A → WholeTable → Workspace
+workspace_of value rows columns stage s t w = workspace rows columns (contents_of value stage (program_in value s) t w)
 
 -- the program that is being given is one, of numbers within the limit
-pub record IsBeingGiven {A : Type 0} (value : A → Fraction) (limit : ℕ) (t : Table A) : Type 0 where
-  pub given : IsGiven value t
-  pub program : IsProgram (program_in value t)
-  pub within : IsProgramWithin limit (program_in value t)
+pub record IsBeingGiven (limit : ℕ) (p : LinearProgram) : Type 0 where
+  pub program : IsProgram p
+  pub within : IsProgramWithin limit p
 
 -- a table of whole numbers that is read off as numbers within the limit
 pub record IsReadable (limit : ℕ) (w : WholeTable) : Type 0 where
   pub read : widest ≤ limit
   pub within : IsWithin widest limit w
 
-abbrev pub IsAt : {A : Type 0} → (A → Fraction) → ℕ → Stage → Table A → WholeTable → Type 0
-IsAt value limit Empty t w = Unit {0}
-IsAt value limit Given t w = IsBeingGiven value limit t
-IsAt value limit Optimal t w = Unit {0}
-IsAt value limit (Unbounded h) t w = h < length t.kept.items
-IsAt value limit WholeOptimal t w = IsReadable limit w
-IsAt value limit (WholeUnbounded c) t w = IsReadable limit w × (c.place < length w.names.items)
-IsAt value limit Stopped t w = Unit {0}
+abbrev pub IsAt : {A : Type 0} → ℕ → Stage → LinearProgram → Table A → WholeTable → Type 0
+IsAt limit Empty p t w = Unit {0}
+IsAt limit Given p t w = IsBeingGiven limit p
+IsAt limit Optimal p t w = Unit {0}
+IsAt limit (Unbounded h) p t w = h < length t.kept.items
+IsAt limit WholeOptimal p t w = IsReadable limit w
+IsAt limit (WholeUnbounded c) p t w = IsReadable limit w × (c.place < length w.names.items)
+IsAt limit Stopped p t w = Unit {0}
 
-pub record IsSpace {A : Type 0} (value : A → Fraction) (limit rows columns : ℕ) (here : Stage) (t : Table A) (w : WholeTable) : Type 0 where
+-- the program has room, and so has the table for a run over fractions; `buffer` is room for one row
+pub record IsSpace {A : Type 0} (value : A → Fraction) (limit rows columns : ℕ) (here : Stage) (s : SparseProgram A) (buffer : List A) (t : Table A) (w : WholeTable) : Type 0 where
+  pub program : HasRoom rows columns s
+  pub costs : here ≡ Given → length s.costs.items ≤ columns
+  pub ends : here ≡ Given → length s.ends.items ≤ rows
+  pub line : length buffer ≡ columns + 1
   pub width : t.rows.width ≡ columns + 1
   pub room : rows ≤ room_of t
-  pub stage : IsAt value limit here t w
+  pub stage : IsAt limit here (program_in value s) t w

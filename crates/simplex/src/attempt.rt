@@ -1,8 +1,8 @@
 //! The run of a program: over rows of whole numbers, or over fractions where those are given up.
-ghost use Rattle.std.specs.Prelude.{◌≡◌, ◌-◌, None, unsigned_abs};
+ghost use Rattle.std.specs.Prelude.{◌≡◌, ◌+◌, ◌-◌, ◌<◌, ◌≤◌, None, length, unsigned_abs};
 ghost use Rattle.table_run.specs.Run.{run as run_of};
-ghost use Rattle.compact_run.specs.Compact.{compact_first};
-ghost use Rattle.compact_table.specs.Tables.{as_compact, program_in, SameShape};
+ghost use Rattle.compact_table.specs.Tables.{program_in as program_in_table, room_of, IsGiven, SameRoom, SameShape};
+ghost use Rattle.sparse_program.specs.Rows.{program_in};
 ghost use Rattle.simplex.specs.Spaces.{IsBeingGiven};
 ghost use Rattle.simplex.specs.Attempts.{IsEndOf, IsTried};
 
@@ -13,21 +13,23 @@ use crate::stop::RunStop;
 use crate::whole_run::{WholeEnd, whole_run};
 use compact_table::Table;
 use exact_num::Exact;
+use sparse_program::SparseProgram;
 use whole_solver::{WholeTable, bound_for};
 
 /// The run over rows of whole numbers, or None where it is given up: then the budget is what it
 /// was.
 fn run_whole<N: Exact>(
-    table: &Table<N>,
+    program: &SparseProgram<N>,
+    line: &mut [N],
     whole: &mut WholeTable,
     budget: &mut Budget,
 ) -> Option<Result<Stage, RunStop>>
-    ensures tried { (t : _) → IsBeingGiven N.fraction (unsigned_abs N.LIMIT) t
-        → as_compact N.fraction table.now ≡ compact_first (program_in N.fraction t)
-        → IsTried N.fraction (unsigned_abs N.LIMIT)
-        (run_of (unsigned_abs N.LIMIT) (program_in N.fraction t)
+    requires { length line.old ≡ length program.now.costs.items + 1 }
+    ensures tried { (t : _) → IsBeingGiven (unsigned_abs N.LIMIT) (program_in N.fraction program.now)
+        → IsTried N.fraction (unsigned_abs N.LIMIT) (program_in N.fraction program.now)
+        (run_of (unsigned_abs N.LIMIT) (program_in N.fraction program.now)
         (budget.old.limit - budget.old.spent) budget.old.spent)
-        result budget.new.spent table.now whole.new }
+        result budget.new.spent t whole.new }
     ensures given_up { result ≡ None → budget.new ≡ budget.old }
     ensures limit { budget.new.limit ≡ budget.old.limit }
 {
@@ -35,7 +37,7 @@ fn run_whole<N: Exact>(
         return None;
     };
     let limit = N::LIMIT.unsigned_abs();
-    if !whole.take_in(table, bound, limit) {
+    if !whole.take_in(program, line, bound, limit) {
         return None;
     }
     let mut tried = *budget;
@@ -56,18 +58,37 @@ fn run_whole<N: Exact>(
     }
 }
 
-/// The run over fractions.
+/// Gives the program to the table, row by row.
+fn give<N: Exact>(program: &SparseProgram<N>, line: &mut [N], table: &mut Table<N>)
+    requires line { length line.old ≡ length program.now.costs.items + 1 }
+    requires costs { length program.now.costs.items < table.old.rows.width }
+    requires rows { length program.now.ends.items ≤ room_of table.old }
+    ensures program { program_in_table N.fraction table.new ≡ program_in N.fraction program.now }
+    ensures given { IsGiven N.fraction table.new }
+    ensures room { SameRoom table.old table.new }
+{
+    table.begin(program.costs());
+    let columns = program.variables();
+    for i in 0..program.rows() {
+        program.write_row(i, line);
+        let right_side = line[columns];
+        table.row(&line[..columns], right_side);
+    }
+}
+
+/// The run over fractions, of the program that was given to the table.
 fn run_fractions<N: Exact>(table: &mut Table<N>, budget: &mut Budget) -> Result<Stage, RunStop>
-    ensures ended { (t : _) (w : _) → IsBeingGiven N.fraction (unsigned_abs N.LIMIT) t
-        → as_compact N.fraction table.old ≡ compact_first (program_in N.fraction t)
-        → SameShape t table.old
-        → IsEndOf N.fraction (unsigned_abs N.LIMIT)
-        (run_of (unsigned_abs N.LIMIT) (program_in N.fraction t)
+    requires { IsGiven N.fraction table.old }
+    ensures ended { (w : _) → IsBeingGiven (unsigned_abs N.LIMIT)
+        (program_in_table N.fraction table.old)
+        → IsEndOf N.fraction (unsigned_abs N.LIMIT) (program_in_table N.fraction table.old)
+        (run_of (unsigned_abs N.LIMIT) (program_in_table N.fraction table.old)
         (budget.old.limit - budget.old.spent) budget.old.spent)
         result budget.new.spent table.new w }
     ensures shape { SameShape table.old table.new }
     ensures limit { budget.new.limit ≡ budget.old.limit }
 {
+    table.first();
     match run(table, budget) {
         Ok(End::Optimal) => Ok(Stage::Optimal),
         Ok(End::Unbounded { place }) => Ok(Stage::Unbounded { place }),
@@ -75,23 +96,31 @@ fn run_fractions<N: Exact>(table: &mut Table<N>, budget: &mut Budget) -> Result<
     }
 }
 
-/// The run of the program that was given.
+/// The run of the program that was given; `line` is room for one row.
 pub fn run_given<N: Exact>(
+    program: &SparseProgram<N>,
+    line: &mut [N],
     table: &mut Table<N>,
     whole: &mut WholeTable,
     budget: &mut Budget,
 ) -> Result<Stage, RunStop>
-    requires { IsBeingGiven N.fraction (unsigned_abs N.LIMIT) table.old }
-    ensures run { IsEndOf N.fraction (unsigned_abs N.LIMIT)
-        (run_of (unsigned_abs N.LIMIT) (program_in N.fraction table.old)
+    requires given { IsBeingGiven (unsigned_abs N.LIMIT) (program_in N.fraction program.now) }
+    requires line { length program.now.costs.items < length line.old }
+    requires costs { length program.now.costs.items < table.old.rows.width }
+    requires rows { length program.now.ends.items ≤ room_of table.old }
+    ensures run { IsEndOf N.fraction (unsigned_abs N.LIMIT) (program_in N.fraction program.now)
+        (run_of (unsigned_abs N.LIMIT) (program_in N.fraction program.now)
         (budget.old.limit - budget.old.spent) budget.old.spent)
         result budget.new.spent table.new whole.new }
-    ensures shape { SameShape table.old table.new }
+    ensures room { SameRoom table.old table.new }
     ensures limit { budget.new.limit ≡ budget.old.limit }
 {
-    table.first();
-    match run_whole(table, whole, budget) {
+    let width = program.variables() + 1;
+    match run_whole(program, &mut line[..width], whole, budget) {
         Some(ending) => ending,
-        None => run_fractions(table, budget),
+        None => {
+            give(program, &mut line[..width], table);
+            run_fractions(table, budget)
+        }
     }
 }

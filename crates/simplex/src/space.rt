@@ -1,5 +1,5 @@
 //! Room for the runs of programs, kept from one to the next.
-ghost use Rattle.std.specs.Prelude.{◌≡◌, ◌-◌, ◌<◌, ◌≤◌, Err, IfOk, OnOk, length, map, unsigned_abs};
+ghost use Rattle.std.specs.Prelude.{◌≡◌, ◌+◌, ◌-◌, ◌*◌, ◌^◌, ◌<◌, ◌≤◌, Err, IfOk, OnOk, length, map, unsigned_abs};
 ghost use Rattle.table_run.specs.Choose.{bases_of};
 ghost use Rattle.table_run.specs.Optimum.{IsAsSaid};
 ghost use Rattle.exact_num.specs.Fraction.{IsNotBelowZero};
@@ -10,10 +10,12 @@ ghost use Rattle.compact_table.specs.Programs.{empty_program, with_row};
 
 use crate::attempt::run_given;
 use crate::budget::Budget;
+use crate::fill::zeros;
 use crate::stage::Stage;
 use crate::stop::RunStop;
 use compact_table::Table;
 use exact_num::Exact;
+use sparse_program::SparseProgram;
 use std::alloc::{AllocError, Global};
 use std::marker::Model;
 use whole_solver::WholeTable;
@@ -27,8 +29,12 @@ pub struct Space<N: Exact> {
     rows: usize,
     columns: usize,
     stage: Stage,
+    program: SparseProgram<N>,
+    // for the run over fractions, and for that over rows of whole numbers
     table: Table<N>,
     whole: WholeTable,
+    // room for a row of the program
+    line: Vec<N>,
 }
 
 impl<N: Exact> Model for Space<N> {
@@ -37,10 +43,11 @@ impl<N: Exact> Model for Space<N> {
 
     ghost Value = { Workspace };
 
-    ghost view = { λ s. workspace_of N.fraction s.rows s.columns s.stage s.table s.whole };
+    ghost view = { λ s. workspace_of N.fraction
+        s.rows s.columns s.stage s.program s.table s.whole };
 
     ghost invariant = { λ s. IsSpace N.fraction (unsigned_abs N.LIMIT)
-        s.rows s.columns s.stage s.table s.whole };
+        s.rows s.columns s.stage s.program s.line.items s.table s.whole };
 }
 
 impl<N: Exact> Space<N> {
@@ -63,18 +70,23 @@ impl<N: Exact> Space<N> {
         rows: usize,
         columns: usize,
     ) -> Result<Space<N>, AllocError>
-        requires { columns ≤ 100000 }
+        requires columns { columns ≤ 100000 }
+        requires numbers { rows * (columns + 1) < 2 ^ 64 }
         ensures sizes { IfOk result (λ space. (space.rows ≡ rows) × (space.columns ≡ columns)) }
         ensures contents { IfOk result (λ space. space.contents ≡ nothing) }
     {
+        let program = SparseProgram::with_room(alloc, rows, columns)?;
         let table = Table::with_room(alloc, rows, columns)?;
         let whole = WholeTable::with_room(alloc, rows, columns)?;
+        let line = zeros(alloc, columns + 1)?;
         Ok(Space {
             rows,
             columns,
             stage: Stage::Empty,
+            program,
             table,
             whole,
+            line,
         })
     }
 
@@ -108,7 +120,7 @@ impl<N: Exact> Space<N> {
           contents = given (empty_program (map N.fraction costs.now));
         } }
     {
-        self.table.begin(costs);
+        self.program.begin(costs);
         self.stage = Stage::Given;
     }
 
@@ -123,7 +135,7 @@ impl<N: Exact> Space<N> {
               (with_row (program_given self.old.contents) (map N.fraction a.now) (N.fraction b));
         } }
     {
-        self.table.row(a, b);
+        self.program.row(a, b);
     }
 
     /// The run of the program, a unit of the budget a turn: true at an optimum, false where the
@@ -151,7 +163,13 @@ impl<N: Exact> Space<N> {
         ensures sizes { (self.new.rows ≡ self.old.rows) × (self.new.columns ≡ self.old.columns) }
         ensures limit { budget.new.limit ≡ budget.old.limit }
     {
-        match run_given(&mut self.table, &mut self.whole, budget) {
+        match run_given(
+            &self.program,
+            self.line.as_mut_slice(),
+            &mut self.table,
+            &mut self.whole,
+            budget,
+        ) {
             Ok(stage) => {
                 self.stage = stage;
                 Ok(stage.is_optimum())

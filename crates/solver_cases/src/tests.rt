@@ -1,7 +1,8 @@
 //! Each case, from the text of its program to the text of its end.
-ghost use Rattle.std.specs.Prelude.{◌≡◌, ◌*◌, ◌≤◌, IfOk, vec_len};
+ghost use Rattle.std.specs.Prelude.{◌≡◌, ◌*◌, ◌≤◌, IfOk, true, vec_len};
 ghost use Rattle.std.specs.List.{All};
 ghost use Rattle.exact_num.specs.Fraction.{IsNotBelowZero};
+ghost use Rattle.frac.specs.Narrow.{narrow_fraction};
 ghost use Rattle.frac.specs.Value.{fraction_of};
 
 use crate::cases::CASES;
@@ -202,10 +203,17 @@ fn a_space_serves_one_program_after_another(rt: HostRuntime) -> Result<()> {
     Ok(())
 }
 
+// Whether the number may be a right side.
+fn is_right_side(number: Frac64) -> bool
+    ensures { result ≡ true → IsNotBelowZero (narrow_fraction number) }
+{
+    number.sign() >= 0
+}
+
 // Whether max a x under a x <= a ends at its optimum after a turn, over narrow numbers.
 fn ends_after_a_turn(alloc: Global, number: i128) -> Result<bool> {
     let a = Frac64::from_whole(number).ok().context("a number")?;
-    ensure!(a.sign() >= 0, "a right side below 0");
+    ensure!(is_right_side(a), "a right side below 0");
     let mut space: Space<Frac64> = Space::new(alloc, 1, 1)?;
     let mut budget = Budget::new(20000);
     space.begin(&[a]);
@@ -224,11 +232,27 @@ fn narrow_rows_touch_their_bound(rt: HostRuntime) -> Result<()> {
     Ok(())
 }
 
+// Runs max x under a x <= 1 and x <= b, over narrow numbers.
+fn run_narrow(
+    space: &mut Space<Frac64>,
+    a: Frac64,
+    b: Frac64,
+    budget: &mut Budget,
+) -> Result<bool, RunStop>
+    requires room { (2 ≤ space.old.rows) × (1 ≤ space.old.columns) }
+    requires right_side { IsNotBelowZero (narrow_fraction b) }
+{
+    let one = Frac64::one();
+    space.begin(&[one]);
+    space.row(&[a], one);
+    space.row(&[one], b);
+    space.run(budget)
+}
+
 // max x under 2^62 x <= 1 and x <= 1 / (2^62 - 1): the step from one ratio to the other leaves 63
 // bits.
 #[test]
 fn narrow_numbers_stop_at_their_limit(rt: HostRuntime) -> Result<()> {
-    let one = Frac64::one();
     let great = Frac64::from_whole(4611686018427387904)
         .ok()
         .context("2^62")?;
@@ -236,14 +260,11 @@ fn narrow_numbers_stop_at_their_limit(rt: HostRuntime) -> Result<()> {
         .ok()
         .context("2^62 - 1")?;
     ensure!(less.sign() != 0, "a divisor of 0");
-    let part = one.div(less).ok().context("the part of it")?;
-    ensure!(part.sign() >= 0, "a right side below 0");
+    let part = Frac64::one().div(less).ok().context("the part of it")?;
+    ensure!(is_right_side(part), "a right side below 0");
     let mut space: Space<Frac64> = Space::new(rt.alloc(), 2, 1)?;
     let mut budget = Budget::new(20000);
-    space.begin(&[one]);
-    space.row(&[great], one);
-    space.row(&[one], part);
-    let stopped = space.run(&mut budget);
+    let stopped = run_narrow(&mut space, great, part, &mut budget);
     let wide = Wide {
         operator: Operator::Add,
         left: (1, 4611686018427387903),

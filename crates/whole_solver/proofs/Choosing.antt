@@ -13,6 +13,7 @@ use Rattle.whole_rows.specs.Compact.{Column, smaller, least_column}
 use Rattle.whole_solver.specs.declared.columns.Entering.{Entering}
 use Rattle.whole_solver.specs.Choices.{as_column}
 use Rattle.whole_solver.specs.Rows.{line_in, lines_in, row_at, beside_basics, with_column}
+use Rattle.whole_solver.proofs.Listed.{IsGap}
 
 -- ---- the entering column
 abbrev pub column : ℕ → ℕ → Column
@@ -116,18 +117,17 @@ line_place w (x ∷ rows) zero d h = refl
 line_place w (x ∷ rows) (suc i) d h = line_place w rows i d (omega (arith, h))
 
 -- rows that are 0 in the column do not limit it
-pub chooses_on : (columns c : ℕ) (bs : List ℕ) (rows : List (List ℤ)) (i k : ℕ) (best : Option Ratio) → c < columns → length bs ≡ length rows → i ≤ k → k ≤ length rows
-    → ((j : ℕ) → i ≤ j → j < k → number_at (row_at rows j) (c + 1) ≡ pos 0) → Chooses columns c (beside_basics bs (lines_in (columns + 1) rows)) i best
-    → Chooses columns c (beside_basics bs (lines_in (columns + 1) rows)) k best
-chooses_on columns c bs rows i k best column same low high none g = on (k - i) i (omega (arith, low)) (λ j p q. none j p q) g
+pub chooses_on : (columns c : ℕ) (bs : List ℕ) (rows : List (List ℤ)) (i k : ℕ) (best : Option Ratio) → c < columns → length bs ≡ length rows → IsGap c i k rows
+    → Chooses columns c (beside_basics bs (lines_in (columns + 1) rows)) i best → Chooses columns c (beside_basics bs (lines_in (columns + 1) rows)) k best
+chooses_on columns c bs rows i k best column same gap g = on (k - i) i (let low = gap.low in omega (arith, low)) gap g
   where
-    on : (d i : ℕ) → i + d ≡ k → ((j : ℕ) → i ≤ j → j < k → number_at (row_at rows j) (c + 1) ≡ pos 0) → Chooses columns c (beside_basics bs (lines_in (columns + 1) rows)) i best
-        → Chooses columns c (beside_basics bs (lines_in (columns + 1) rows)) k best
-    on zero i e none g = subst (λ (n : ℕ). Chooses columns c (beside_basics bs (lines_in (columns + 1) rows)) n best) (omega (arith, e)) g
-    on (suc d) i e none g =
+    on : (d i : ℕ) → i + d ≡ k → IsGap c i k rows → Chooses columns c (beside_basics bs (lines_in (columns + 1) rows)) i best → Chooses columns c (beside_basics bs (lines_in (columns + 1) rows)) k best
+    on zero i e gap g = subst (λ (n : ℕ). Chooses columns c (beside_basics bs (lines_in (columns + 1) rows)) n best) (omega (arith, e)) g
+    on (suc d) i e gap g =
         let lines = lines_in (columns + 1) rows in
+        let high = gap.high in
         let inside : i < length rows = omega (arith, e, high) in
         let front = front_beside bs lines i no_line (omega (arith, inside, same)) (omega (arith, inside, length-map rows (line_in (columns + 1)))) in
-        let zero_there = ap (λ (l : Line). number_at l.numbers c) (line_place (columns + 1) rows i no_line inside) ∙ in_line (columns + 1) (row_at rows i) c (omega (arith, column)) ∙ none i (omega arith) (omega (arith, e)) in
-        on d (i + 1) (omega (arith, e)) (λ j p q. none j (omega (arith, p)) q)
+        let zero_there = ap (λ (l : Line). number_at l.numbers c) (line_place (columns + 1) rows i no_line inside) ∙ in_line (columns + 1) (row_at rows i) c (omega (arith, column)) ∙ gap.zero i (omega arith) (omega (arith, e)) in
+        on d (i + 1) (omega (arith, e)) (record { low = omega (arith, e); high = high; zero = λ j p q. gap.zero j (omega (arith, p)) q })
         (chooses_passed columns c (beside_basics bs lines) i (get_or bs i 0) (get_or lines i no_line) best front (ap (int_lt (pos 0)) zero_there) g)

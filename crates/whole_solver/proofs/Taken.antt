@@ -2,11 +2,13 @@
 use Rattle.std.proofs.Common.{◌≡◌, ℕ, zero, suc, ◌+◌, ◌<◌, ◌≤◌, List, [], ◌∷◌, ◌++◌, length, map, take, drop, get_or, refl, sym, ◌∙◌, ap, arith, ℤ}
 use Rattle.std.specs.Prelude.{slice_index_or}
 use Rattle.std.proofs.lemmas.List.{drop_all, length-map, map-append, take_more, get_or-map}
-use Rattle.exact_num.specs.Fraction.{Fraction}
-use Rattle.table_run.specs.Places.{numbers}
+use Rattle.exact_num.specs.Fraction.{Fraction, negated}
+use Rattle.table_run.specs.Places.{fraction_zero, numbers}
 use Rattle.table_run.specs.Program.{LinearProgram}
 use Rattle.compact_run.specs.Compact.{compact_first, compact_row, compact_rows_from}
 use Rattle.compact_table.specs.Candidates.{beside_basics as beside_lists}
+use Rattle.compact_table.specs.Programs.{program_of}
+use Rattle.compact_table.proofs.Starts.{AreLong, none_long, rows_given, table_with as fractions_with}
 use Rattle.table_run.proofs.Listed.{listed_count, map_listed}
 use Rattle.whole_rows.specs.Lines.{Line, WholeRow, IsLine, taken_in, row_taken_in, multiple, least_multiple}
 use Rattle.whole_solver.specs.Within.{HasMultiple}
@@ -80,3 +82,12 @@ first_taken p =
     let columns : p.variables + p.rows ≡ length (numbers 0 p.variables) + length (compact_rows_from p 0 p.rows) = λ i. sym (listed_count (λ i. i) 0 p.variables) i + sym (listed_count (compact_row p) 0 p.rows) i in
     let rows = sym (map_listed row_taken_in (compact_row p) 0 p.rows) in
     λ i. table_with (columns i) (numbers 0 p.variables) (rows i) (first_compact_table p).objective
+
+-- that of lists, each with its right side last
+pub lists_first : (n : ℕ) (lists : List (List Fraction)) (costs : List Fraction) → AreLong n lists
+    → fractions_with (numbers 0 n) (beside_lists (numbers n (length lists)) lists) (map negated costs ++ fraction_zero ∷ []) ≡ compact_first (program_of n lists costs)
+unfolding compact_first
+lists_first n lists costs long =
+    let none : n ≡ n + 0 = omega arith in
+    let rows = ap (λ k. beside_lists (numbers k (length lists)) lists) none ∙ sym (rows_given n costs [] lists (none_long n) long) in
+    ap (λ r. fractions_with (numbers 0 n) r (map negated costs ++ fraction_zero ∷ [])) rows

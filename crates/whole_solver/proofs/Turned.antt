@@ -1,7 +1,7 @@
 -- The rows of a turn.
 use Rattle.std.proofs.Common.{◌≡◌, ℕ, zero, suc, ◌+◌, ◌-◌, ◌*◌, ◌<◌, ◌≤◌, List, [], ◌∷◌, length, take, drop, set, get_or, add-one, refl, sym, ◌∙◌, ap, subst, arith, Bool, true, false, ℤ, pos, unsigned_abs, length-set}
 use Rattle.std.specs.Prelude.{Some, nat_eq, if◌then◌else◌}
-use Rattle.std.proofs.lemmas.Bool.{le-leb, leb-true, eq-eqb}
+use Rattle.std.proofs.lemmas.Bool.{le-leb, leb-true, eq-eqb, ne_eqb}
 use Rattle.std.proofs.lemmas.List.{length-map, length-drop, length-take-le, map-set, get_or-set_same}
 use Rattle.std.proofs.Math.Nat.{mul-le-mul}
 use Rattle.std.proofs.lemmas.Slice.{take-put_mid}
@@ -16,9 +16,11 @@ use Rattle.whole_rows.proofs.CompactFirst.{cleared_lines_fit, set_sizes}
 use Rattle.compact_run.proofs.Columns.{same_test, other_test}
 use Rattle.compact_table.proofs.ArenaSteps.{at_set_same, set_here}
 use Rattle.whole_solver.specs.Within.{kept}
-use Rattle.whole_solver.specs.Rows.{line_in, lines_in, row_at, pivot_line, line_after, lines_after, AreLinesIn, AreSizesIn, IsPivot}
+use Rattle.whole_solver.specs.Rows.{column_in, line_in, lines_in, nonzero_in, row_at, pivot_line, line_after, lines_after, AreLinesIn, AreSizesIn, IsPivot}
 use Rattle.whole_solver.proofs.Numbers.{kept_some, no_size, written_more, written_all}
 use Rattle.whole_solver.proofs.Choosing.{line_place}
+use Rattle.whole_solver.proofs.Listed.{IsGap, column_number}
+use Rattle.whole_solver.proofs.Sparse.{nonzero_set}
 
 -- ---- the pivot row
 take_set : {A : Type 0} (w c : ℕ) (xs : List A) (v : A) → c < w → take w (set xs c v) ≡ set (take w xs) c v
@@ -234,17 +236,27 @@ row_stays w c a r i P old rows many low stays g =
     }
 
 -- rows that are 0 in the column
-pub rows_passed : (w c a r i k : ℕ) (P : List ℤ) (old rows : List (List ℤ)) → c < w → length rows ≡ length old → i ≤ k → k ≤ length rows → ((j : ℕ) → i ≤ j → j < k → number_at (row_at rows j) (c + 1) ≡ pos 0) → AreCleared w c a r i P old rows
-    → AreCleared w c a r k P old rows
-rows_passed w c a r i k P old rows column many low high none g = on (k - i) i (omega (arith, low)) (λ j p q. none j p q) g
+pub rows_passed : (w c a r i k : ℕ) (P : List ℤ) (old rows : List (List ℤ)) → c < w → length rows ≡ length old → IsGap c i k old → AreCleared w c a r i P old rows → AreCleared w c a r k P old rows
+rows_passed w c a r i k P old rows column many gap g = on (k - i) i (let low = gap.low in omega (arith, low)) gap g
   where
-    on : (d i : ℕ) → i + d ≡ k → ((j : ℕ) → i ≤ j → j < k → number_at (row_at rows j) (c + 1) ≡ pos 0) → AreCleared w c a r i P old rows → AreCleared w c a r k P old rows
-    on zero i e none g = subst (λ (n : ℕ). AreCleared w c a r n P old rows) (omega (arith, e)) g
-    on (suc d) i e none g =
-        let same = g.left i (omega arith) in
-        let here : number_at (row_at old i) (c + 1) ≡ pos 0 = ap (λ (x : List ℤ). number_at x (c + 1)) (sym same) ∙ none i (omega arith) (omega (arith, e)) in
-        let stays = sym (after_zero w c a r i P (row_at old i) column here) in
-        on d (i + 1) (omega (arith, e)) (λ j p q. none j (omega (arith, p)) q) (row_stays w c a r i P old rows many (omega (arith, e, high)) stays g)
+    on : (d i : ℕ) → i + d ≡ k → IsGap c i k old → AreCleared w c a r i P old rows → AreCleared w c a r k P old rows
+    on zero i e gap g = subst (λ (n : ℕ). AreCleared w c a r n P old rows) (omega (arith, e)) g
+    on (suc d) i e gap g =
+        let high = gap.high in
+        let stays = sym (after_zero w c a r i P (row_at old i) column (gap.zero i (omega arith) (omega (arith, e)))) in
+        on d (i + 1) (omega (arith, e)) (record { low = omega (arith, e); high = high; zero = λ j p q. gap.zero j (omega (arith, p)) q })
+        (row_stays w c a r i P old rows many (omega (arith, e, high, many)) stays g)
+
+-- the pivot row's number in the column is not 0 before it is placed, nor then
+pub listed_still : (w c r a : ℕ) (rows : List (List ℤ)) (y : List ℤ) (l : Line) → c < w → IsPivot w c r rows → line_in w y ≡ pivot_line c a l → 0 < l.denominator → length l.numbers ≡ w
+    → nonzero_in (column_in c (set rows r y)) ≡ nonzero_in (column_in c rows)
+listed_still w c r a rows y l column p is_pivot above wide =
+    let old : number_at (line_in w (row_at rows r)).numbers c ≡ number_at (column_in c rows) r = front_number w c (row_at rows r) column ∙ sym (column_number c rows r) in
+    let size = (size_above (number_at (line_in w (row_at rows r)).numbers c) p.above).1 in
+    let is_new : number_at y (c + 1) ≡ pos l.denominator = sym (front_number w c y column) ∙ ap (λ (m : Line). number_at m.numbers c) is_pivot ∙ get_or-set_same l.numbers c (pos l.denominator) (pos 0) (omega (arith, column, wide)) in
+    let new_size : unsigned_abs (number_at y (c + 1)) ≡ l.denominator = ap unsigned_abs is_new in
+    ap nonzero_in (map-set (λ row. number_at row (c + 1)) rows r y)
+    ∙ nonzero_set 0 (column_in c rows) r (number_at y (c + 1)) (ne_eqb _ 0 (λ e. omega (arith, e, new_size, above))) (ne_eqb _ 0 (λ e. omega (arith, e, size, ap unsigned_abs old)))
 
 -- the line of the pivot row stays
 pub after_pivot : (c a r i : ℕ) (P : List ℤ) (l : Line) → i ≡ r → line_after c a r P i l ≡ l

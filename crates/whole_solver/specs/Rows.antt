@@ -1,5 +1,5 @@
 -- The rows of an arena as lines: the denominator first, then the numbers, the right side last.
-use Rattle.std.specs.Prelude.{◌≡◌, ℕ, ◌+◌, ◌<◌, List, [], ◌∷◌, take, drop, map, length, ℤ, pos, unsigned_abs, slice_index_or, slice_set, if◌then◌else◌, nat_eq, int_lt, Option, Some, true}
+use Rattle.std.specs.Prelude.{◌≡◌, ℕ, ◌+◌, ◌<◌, List, [], ◌∷◌, ◌++◌, take, drop, map, length, ℤ, pos, unsigned_abs, slice_index_or, slice_set, if◌then◌else◌, nat_eq, int_lt, Option, Some, true}
 use Rattle.exact_num.specs.Fraction.{whole}
 use Rattle.compact_table.specs.Nonzero.{nonzero_places}
 use Rattle.whole_rows.specs.Lines.{Line, WholeRow, AreSizes, IsLine, line_of, whole_row, number_at}
@@ -29,6 +29,14 @@ AreLinesIn bound w rows = (i : ℕ) → i < length rows → IsLine bound w (line
 -- the places where the numbers are not 0
 abbrev pub nonzero_in : List ℤ → List ℕ
 nonzero_in zs = nonzero_places (map whole zs)
+
+-- the places and one more, where its number is not 0
+abbrev pub with_place : ℕ → ℤ → List ℕ → List ℕ
+with_place j z places = let more = places ++ j ∷ [] in if nat_eq (unsigned_abs z) 0 then places else more
+
+-- the numbers of the rows in column c
+abbrev pub column_in : ℕ → List (List ℤ) → List ℤ
+column_in c rows = map (λ row. number_at row (c + 1)) rows
 
 -- each size is one of the numbers in its row
 abbrev pub AreSizesIn : List ℕ → ℕ → List (List ℤ) → Type 0

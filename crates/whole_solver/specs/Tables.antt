@@ -1,5 +1,5 @@
 -- What the table of the code stands for.
-use Rattle.std.specs.Prelude.{◌≡◌, ℕ, ◌+◌, List, [], ◌∷◌, ◌++◌, ℤ, pos, neg_ℤ, length, map, if◌then◌else◌, nat_eq, true, Some, None}
+use Rattle.std.specs.Prelude.{◌≡◌, ℕ, ◌+◌, ◌≤◌, List, [], ◌∷◌, ◌++◌, ℤ, pos, neg_ℤ, length, map, take, if◌then◌else◌, nat_eq, true, Some, None}
 use Rattle.exact_num.specs.Fraction.{Fraction, whole, reduced}
 use Rattle.compact_run.specs.Compact.{CompactTable as FractionTable}
 use Rattle.whole_rows.specs.Lines.{IsLine, number_at, taken_in, row_taken_in}
@@ -8,7 +8,7 @@ use Rattle.whole_rows.specs.Compact.{CompactTable, Column, compact_turn, compact
 use Rattle.whole_solver.specs.declared.table.WholeTable.{WholeTable}
 use Rattle.whole_solver.specs.declared.turn.Turn.{Turn}
 use Rattle.whole_solver.specs.declared.turn.Turn.TheVariants.{Moved, Unlimited, GivenUp}
-use Rattle.whole_solver.specs.Rows.{line_in, lines_in, beside_basics, AreLinesIn, AreSizesIn}
+use Rattle.whole_solver.specs.Rows.{line_in, lines_in, beside_basics, column_in, nonzero_in, AreLinesIn, AreSizesIn}
 
 -- as many numbers a line as there are columns, and the right side
 abbrev pub width_of : WholeTable → ℕ
@@ -47,11 +47,16 @@ pub record SameShape (old new : WholeTable) : Type 0 where
   pub rows : length new.rows.rows ≡ length old.rows.rows
   pub room : SameRoom old new
 
+-- ---- count rows are listed: those that are not 0 in column c
+pub record IsListed (c count : ℕ) (t : WholeTable) : Type 0 where
+  pub places : take count t.column_places.items ≡ nonzero_in (column_in c t.rows.rows)
+  pub inside : count ≤ length t.column_places.items
+
 -- ---- a turn: the table after it, where it is not given up
 abbrev pub IsTurn : ℕ → ℕ → ℕ → Turn → WholeTable → WholeTable → Type 0
 IsTurn bound limit c Moved old new =
     (compact_turn c (as_whole old) ≡ Some (as_whole new)) × (compact_objective_fits limit c (as_whole old) ≡ true) × IsWithin bound limit new
-IsTurn bound limit c Unlimited old new = (compact_turn c (as_whole old) ≡ None) × (new ≡ old)
+IsTurn bound limit c Unlimited old new = (compact_turn c (as_whole old) ≡ None) × (as_whole new ≡ as_whole old) × IsWithin bound limit new
 IsTurn bound limit c GivenUp old new = Unit {0}
 
 -- ---- the first table: that of a table of fractions whose rows are over common denominators

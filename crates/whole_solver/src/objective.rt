@@ -6,8 +6,8 @@ ghost use Rattle.whole_rows.specs.Lines.{AreSizes, line_of, number_at, widest};
 ghost use Rattle.whole_rows.specs.Turning.{cross_difference, cut, cut_where_wide};
 ghost use Rattle.whole_solver.specs.Rows.{nonzero_in};
 
-use crate::line::{Known, Pivot, WIDEST, are_short, common, wide_quotient};
-use exact_num::gcd;
+use crate::divisor::{common, common_with_wide, divisor_of, whole_quotient, wide_quotient};
+use crate::line::{Known, Pivot, WIDEST, are_short};
 
 /// Writes the numbers.
 pub fn widen(out: &mut [i128], numbers: &[i64])
@@ -175,8 +175,9 @@ fn divide_wide(numbers: &mut [i128], divisor: u128)
     requires below { divisor < 2 ^ 127 }
     ensures { numbers.new ≡ map (λ z. int_div z (pos divisor)) numbers.old }
 {
+    let by = divisor_of(divisor);
     for i in 0..numbers.len() {
-        let number = wide_quotient(numbers[i], divisor);
+        let number = whole_quotient(numbers[i], by);
         numbers[i] = number;
     }
 }
@@ -232,8 +233,14 @@ fn without_common_wide(a: u64, x: i128) -> (i128, i128)
     ensures a { result.0 ≡ pos (a / gcd_of (unsigned_abs x) a) }
     ensures x { result.1 ≡ int_div x (pos (gcd_of (unsigned_abs x) a)) }
 {
-    let shared = gcd(x.unsigned_abs(), a as u128);
-    ((a as u128 / shared) as i128, x / shared as i128)
+    if a == 1 {
+        return (1, x);
+    }
+    let shared = common_with_wide(x.unsigned_abs(), a);
+    if shared == 1 {
+        return (a as i128, x);
+    }
+    ((a / shared) as i128, wide_quotient(x, shared as u128))
 }
 
 /// Clears the pivot's column of the line, and answers the line's new denominator. The line is at

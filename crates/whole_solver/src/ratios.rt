@@ -5,9 +5,8 @@ ghost use Rattle.table_run.specs.Choice.{lesser as lesser_of};
 ghost use Rattle.compact_table.specs.Candidates.{best_with, better_of};
 ghost use Rattle.whole_rows.specs.Turning.{whole_ratios};
 ghost use Rattle.whole_solver.specs.Choices.{as_ratio};
-ghost use Rattle.whole_solver.specs.Rows.{beside_basics, lines_in};
+ghost use Rattle.whole_solver.specs.Rows.{beside_basics, column_in, lines_in, nonzero_in};
 
-use crate::rows::next_nonzero;
 use row_arena::RowArena;
 use std::cmp::Ordering;
 
@@ -52,16 +51,24 @@ fn better(best: Option<Candidate>, next: Candidate) -> Candidate
 }
 
 /// The place of the row that leaves where column `c` enters: of the rows of least ratio that with
-/// the smallest basic variable. None where no row limits the variable.
-pub fn leaving(basics: &[usize], rows: &RowArena<i64>, columns: usize, c: usize) -> Option<usize>
+/// the smallest basic variable. None where no row limits the variable. `places` are the rows that
+/// are not 0 in the column.
+pub fn leaving(
+    basics: &[usize],
+    rows: &RowArena<i64>,
+    places: &[usize],
+    columns: usize,
+    c: usize,
+) -> Option<usize>
     requires count { length basics.now ≡ length rows.now.rows }
     requires columns { (c < columns) × (columns + 1 < rows.now.width) }
+    requires places { places.now ≡ nonzero_in (column_in c rows.now.rows) }
     ensures { result ≡ best_with None (whole_ratios columns c 0
         (beside_basics basics.now (lines_in (columns + 1) rows.now.rows))) }
 {
     let mut best: Option<Candidate> = None;
-    let mut i = next_nonzero(rows, 0, c);
-    while i < rows.len() {
+    for place in places {
+        let i = *place;
         let row = rows.row(i);
         let entry = row[c + 1];
         if entry > 0 {
@@ -73,7 +80,6 @@ pub fn leaving(basics: &[usize], rows: &RowArena<i64>, columns: usize, c: usize)
             };
             best = Some(better(best, next));
         }
-        i = next_nonzero(rows, i + 1, c);
     }
     match best {
         None => None,

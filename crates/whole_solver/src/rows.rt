@@ -1,12 +1,13 @@
 //! The rows of a turn in an arena. A row is its denominator and then its numbers, the right side
 //! last.
-ghost use Rattle.std.specs.Prelude.{◌≡◌, ◌+◌, ◌-◌, ◌*◌, ◌^◌, ◌<◌, ◌≤◌, ℕ, false, length, pos, true, unsigned_abs, slice_set, vec_capacity};
+ghost use Rattle.std.specs.Prelude.{◌≡◌, ◌+◌, ◌-◌, ◌*◌, ◌^◌, ◌<◌, ◌≤◌, false, length, pos, true, unsigned_abs, slice_set, take};
 ghost use Rattle.whole_rows.specs.Lines.{AreSizes, IsLine, line_size, number_at, widest};
 ghost use Rattle.whole_rows.specs.Compact.{compact_cleared};
 ghost use Rattle.whole_rows.specs.Turning.{cut, mix_fits};
-ghost use Rattle.whole_solver.specs.Rows.{AreLinesIn, AreSizesIn, IsPivot, IsTurned, line_in, lines_after, lines_in, nonzero_in, pivot_line, row_at};
+ghost use Rattle.whole_solver.specs.Rows.{AreLinesIn, AreSizesIn, IsPivot, IsTurned, column_in, line_in, lines_after, lines_in, nonzero_in, pivot_line, row_at};
 
-use crate::line::{Known, Pivot, clear_line, common_short, divide_numbers, list_nonzero, size_of};
+use crate::divisor::{common_short, divide_numbers};
+use crate::line::{Known, Pivot, clear_line, list_nonzero, list_place, size_of};
 use crate::objective::{clear_wide_line, wide_size_to_mix};
 use row_arena::RowArena;
 
@@ -80,12 +81,13 @@ fn front_size(row: &[i64], width: usize) -> u64
     size_of(&row[..width + 1])
 }
 
-/// Lists the places where the numbers at the front of the row are not 0.
-fn front_nonzero(row: &[i64], width: usize, places: &mut Vec<usize>)
+/// Lists the places where the numbers at the front of the row are not 0, and answers how many they
+/// are.
+fn front_nonzero(row: &[i64], width: usize, places: &mut [usize]) -> usize
     requires width { width < length row.now }
-    requires capacity { width ≤ vec_capacity places.old }
-    ensures places { places.new.items ≡ nonzero_in (line_in width row.now).numbers }
-    ensures capacity { vec_capacity places.old ≤ vec_capacity places.new }
+    requires room { width ≤ length places.old }
+    ensures places { take result places.new ≡ nonzero_in (line_in width row.now).numbers }
+    ensures count { result ≤ length places.new }
 {
     list_nonzero(&row[1..width + 1], places)
 }
@@ -175,37 +177,27 @@ fn clear_objective(
     true
 }
 
-/// Whether row i is not 0 in column `c`.
-fn is_nonzero(rows: &RowArena<i64>, i: usize, c: usize) -> bool
-    requires row { i < length rows.now.rows }
+/// Lists the rows that are not 0 in column `c`, and answers how many they are.
+pub fn list_column(rows: &RowArena<i64>, c: usize, places: &mut [usize]) -> usize
     requires column { c + 1 < rows.now.width }
-    ensures { result ≡ false → number_at (row_at rows.now.rows i) (c + 1) ≡ pos 0 }
+    requires room { length rows.now.rows ≤ length places.old }
+    ensures places { take result places.new ≡ nonzero_in (column_in c rows.now.rows) }
+    ensures count { result ≤ length places.new }
 {
-    rows.row(i)[c + 1] != 0
-}
-
-/// The first row from `from` on that is not 0 in column `c`, or the number of rows.
-pub fn next_nonzero(rows: &RowArena<i64>, from: usize, c: usize) -> usize
-    requires from { from ≤ length rows.now.rows }
-    requires column { c + 1 < rows.now.width }
-    ensures inside { (from ≤ result) × (result ≤ length rows.now.rows) }
-    ensures passed { (i : ℕ) → from ≤ i → i < result
-        → number_at (row_at rows.now.rows i) (c + 1) ≡ pos 0 }
-{
-    for i in from..rows.len() {
-        if is_nonzero(rows, i, c) {
-            return i;
-        }
+    let mut count = 0;
+    for i in 0..rows.len() {
+        count = list_place(places, count, i, rows.row(i)[c + 1]);
     }
-    rows.len()
+    count
 }
 
 /// Clears each row but the pivot row r, up to the first that is not within the bound, and says
-/// whether all are. The size that is kept with a row goes with it. Rows that are 0 in the column are
-/// passed over.
+/// whether all are. The size that is kept with a row goes with it. `column_places` are the rows
+/// that are not 0 in the column: the others stay.
 fn clear_rows(
     rows: &mut RowArena<i64>,
     sizes: &mut [u64],
+    column_places: &[usize],
     known: Known,
     room: &mut [i128],
     r: usize,
@@ -219,6 +211,7 @@ fn clear_rows(
     requires lines { AreLinesIn bound (length room.old) rows.old.rows }
     requires sizes { AreSizesIn sizes.old (length room.old) rows.old.rows }
     requires count { length rows.old.rows ≤ length sizes.old }
+    requires column_places { column_places.now ≡ nonzero_in (column_in known.c rows.old.rows) }
     requires pivot { AreSizes known.most
         (line_in (length room.old) (row_at rows.old.rows r)).numbers }
     requires places { known.places.now
@@ -233,8 +226,8 @@ fn clear_rows(
     ensures spare { rows.new.spare ≡ rows.old.spare }
     ensures count { length rows.new.rows ≡ length rows.old.rows }
 {
-    let mut i = next_nonzero(rows, 0, known.c);
-    while i < rows.len() {
+    for place in column_places {
+        let i = *place;
         if i != r {
             let (pivot, row) = rows.pair(r, i);
             let mut most = sizes[i];
@@ -243,30 +236,30 @@ fn clear_rows(
             }
             sizes[i] = most;
         }
-        i = next_nonzero(rows, i + 1, known.c);
     }
     true
 }
 
-/// A turn to be made: the row r that leaves, the column `c` that enters, the bound of the rows and
-/// the limit of the objective row.
+/// A turn to be made: the row r that leaves, the column `c` that enters with the places where it is
+/// not 0, the bound of the rows and the limit of the objective row.
 #[derive(Clone, Copy)]
-pub struct Step {
+pub struct Step<'a> {
     pub r: usize,
     pub c: usize,
+    pub column_places: &'a [usize],
     pub bound: u64,
     pub limit: u128,
 }
 
 /// The rows of a turn and the objective row, and the sizes that are kept with them. Says whether
 /// the rows are within the bound and the objective row within the limit. `room` has as many places
-/// as a line has numbers, and `places` room for them.
+/// as a line has numbers, and `places` no fewer.
 fn turn_lines(
     rows: &mut RowArena<i64>,
     sizes: &mut [u64],
     objective: &mut [i128],
     objective_size: &mut u128,
-    places: &mut Vec<usize>,
+    places: &mut [usize],
     room: &mut [i128],
     step: Step,
 ) -> bool
@@ -276,36 +269,43 @@ fn turn_lines(
     requires bound { step.bound ≤ widest }
     requires limit { step.limit ≤ 2 ^ 127 - 1 }
     requires pivot { IsPivot (length room.old) step.c step.r rows.old.rows }
+    requires column_places { step.column_places.now ≡ nonzero_in (column_in step.c rows.old.rows) }
     requires lines { AreLinesIn step.bound (length room.old) rows.old.rows }
     requires sizes { AreSizesIn sizes.old (length room.old) rows.old.rows }
     requires count { length rows.old.rows ≤ length sizes.old }
-    requires capacity { length room.old ≤ vec_capacity places.old }
+    requires places { length room.old ≤ length places.old }
     requires objective { IsLine step.limit (length room.old)
         (line_in (length room.old) objective.old) }
     requires objective_size { IsLine objective_size.old (length room.old)
         (line_in (length room.old) objective.old) }
-    ensures fits { result ≡ true → mix_fits step.limit (line_in (length room.old) objective.old)
-        (cut (line_in (length room.old) (row_at rows.old.rows step.r))) ≡ true }
-    ensures turned { result ≡ true → IsTurned (length room.old) step.c step.r
+    ensures fits { result ≡ true → mix_fits step.entry.limit
+        (line_in (length room.old) objective.old)
+        (cut (line_in (length room.old) (row_at rows.old.rows step.entry.r))) ≡ true }
+    ensures turned { result ≡ true → IsTurned (length room.old) step.entry.c step.entry.r
         rows.old.rows objective.old rows.new.rows objective.new }
-    ensures lines { result ≡ true → AreLinesIn step.bound (length room.old) rows.new.rows }
+    ensures lines { result ≡ true → AreLinesIn step.entry.bound (length room.old) rows.new.rows }
     ensures sizes { result ≡ true → AreSizesIn sizes.new (length room.old) rows.new.rows }
     ensures objective { result ≡ true
-        → IsLine step.limit (length room.old) (line_in (length room.old) objective.new) }
+        → IsLine step.entry.limit (length room.old) (line_in (length room.old) objective.new) }
     ensures objective_size { result ≡ true → IsLine objective_size.new (length room.old)
         (line_in (length room.old) objective.new) }
     ensures width { rows.new.width ≡ rows.old.width }
     ensures spare { rows.new.spare ≡ rows.old.spare }
     ensures count { length rows.new.rows ≡ length rows.old.rows }
-    ensures capacity { vec_capacity places.old ≤ vec_capacity places.new }
 {
-    let Step { r, c, bound, limit } = step;
+    let Step {
+        r,
+        c,
+        bound,
+        limit,
+        ..
+    } = step;
     let a = place_pivot(rows, room.len(), r, c);
     let pivot = rows.row(r);
     let pivot_most = front_size(pivot, room.len());
     sizes[r] = pivot_most;
-    front_nonzero(pivot, room.len(), places);
-    let places = places.as_slice();
+    let count = front_nonzero(pivot, room.len(), places);
+    let places = &places[..count];
     let known = Known {
         c,
         a,
@@ -315,7 +315,7 @@ fn turn_lines(
     if !clear_objective(objective, objective_size, pivot, known, room.len(), limit) {
         return false;
     }
-    clear_rows(rows, sizes, known, room, r, bound)
+    clear_rows(rows, sizes, step.column_places, known, room, r, bound)
 }
 
 /// The same, where a line has `width` numbers and there is room for more.
@@ -324,7 +324,7 @@ pub fn turn_rows(
     sizes: &mut [u64],
     objective: &mut [i128],
     objective_size: &mut u128,
-    places: &mut Vec<usize>,
+    places: &mut [usize],
     room: &mut [i128],
     width: usize,
     step: Step,
@@ -335,26 +335,26 @@ pub fn turn_rows(
     requires bound { step.bound ≤ widest }
     requires limit { step.limit ≤ 2 ^ 127 - 1 }
     requires pivot { IsPivot width step.c step.r rows.old.rows }
+    requires column_places { step.column_places.now ≡ nonzero_in (column_in step.c rows.old.rows) }
     requires lines { AreLinesIn step.bound width rows.old.rows }
     requires sizes { AreSizesIn sizes.old width rows.old.rows }
     requires count { length rows.old.rows ≤ length sizes.old }
-    requires capacity { width ≤ vec_capacity places.old }
+    requires places { width ≤ length places.old }
     requires objective { IsLine step.limit width (line_in width objective.old) }
     requires objective_size { IsLine objective_size.old width (line_in width objective.old) }
-    ensures fits { result ≡ true → mix_fits step.limit (line_in width objective.old)
-        (cut (line_in width (row_at rows.old.rows step.r))) ≡ true }
-    ensures turned { result ≡ true → IsTurned width step.c step.r
+    ensures fits { result ≡ true → mix_fits step.entry.limit (line_in width objective.old)
+        (cut (line_in width (row_at rows.old.rows step.entry.r))) ≡ true }
+    ensures turned { result ≡ true → IsTurned width step.entry.c step.entry.r
         rows.old.rows objective.old rows.new.rows objective.new }
-    ensures lines { result ≡ true → AreLinesIn step.bound width rows.new.rows }
+    ensures lines { result ≡ true → AreLinesIn step.entry.bound width rows.new.rows }
     ensures sizes { result ≡ true → AreSizesIn sizes.new width rows.new.rows }
     ensures objective { result ≡ true
-        → IsLine step.limit width (line_in width objective.new) }
+        → IsLine step.entry.limit width (line_in width objective.new) }
     ensures objective_size { result ≡ true
         → IsLine objective_size.new width (line_in width objective.new) }
     ensures width { rows.new.width ≡ rows.old.width }
     ensures spare { rows.new.spare ≡ rows.old.spare }
     ensures count { length rows.new.rows ≡ length rows.old.rows }
-    ensures capacity { vec_capacity places.old ≤ vec_capacity places.new }
 {
     turn_lines(
         rows,

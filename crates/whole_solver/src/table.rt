@@ -1,8 +1,9 @@
 //! The table of a run. Nothing outside this file knows how it is laid out.
-ghost use Rattle.std.specs.Prelude.{◌≡◌, ◌+◌, ◌-◌, ◌^◌, ◌<◌, ◌≤◌, IfSome, [], length, map, position, true, unsigned_abs, vec_capacity, vec_len, slice_index_or, slice_set, ◌==◌};
+ghost use Rattle.std.specs.Prelude.{◌≡◌, ◌+◌, ◌-◌, ◌^◌, ◌<◌, ◌≤◌, ℕ, IfOk, IfSome, [], length, map, position, true, unsigned_abs, vec_capacity, vec_len, slice_index_or, slice_set, ◌==◌};
 ghost use Rattle.std.specs.Option.{option_map};
 ghost use Rattle.compact_table.specs.Candidates.{best_with};
-ghost use Rattle.compact_table.specs.Tables.{as_compact};
+ghost use Rattle.table_run.specs.Places.{numbers};
+ghost use Rattle.compact_run.specs.Compact.{compact_first};
 ghost use Rattle.whole_rows.specs.Compact.{compact_entering, compact_pivoted, price_of};
 ghost use Rattle.whole_rows.specs.Lines.{IsLine, entry_of, taken_in, widest};
 ghost use Rattle.whole_rows.specs.Running.{whole_where_basic};
@@ -14,12 +15,12 @@ use crate::columns::{Entering, least_column};
 use crate::fraction::{fraction, take_line, wide};
 use crate::objective::widen;
 use crate::ratios::leaving;
-use crate::rows::{Step, turn_rows};
+use crate::rows::{Step, list_column, turn_rows};
 use crate::turn::Turn;
-use compact_table::Table;
-use compact_table::room::{push_within, write_all};
+use compact_table::room::{push_within, write_numbers};
 use exact_num::Exact;
 use row_arena::RowArena;
+use sparse_program::SparseProgram;
 use std::alloc::{AllocError, Global};
 
 /// A table of rows of whole numbers. Each row is a denominator and the numbers of the columns that
@@ -36,8 +37,10 @@ pub struct WholeTable {
     // denominator
     sizes: Vec<u64>,
     objective_size: u128,
-    // room for the places where the pivot row is not 0
+    // room for the places where the pivot row is not 0, and for those where the entering column is
+    // not
     places: Vec<usize>,
+    column_places: Vec<usize>,
     // room for the numbers of a line before it is cut, in 128 bits, and for a row that comes
     room: Vec<i128>,
     line: Vec<i64>,
@@ -47,17 +50,22 @@ pub struct WholeTable {
     ghost names_room: { rows.width ≤ vec_capacity names + 2 },
     ghost basics_room: { vec_len basics + rows.spare ≤ vec_capacity basics },
     ghost sizes_count: { vec_len sizes ≡ length rows.rows + rows.spare },
-    ghost places_room: { rows.width ≤ vec_capacity places },
+    ghost places_width: { vec_len places ≡ rows.width },
+    ghost column_places_count: { vec_len column_places ≡ length rows.rows + rows.spare },
     ghost room_width: { vec_len room + 1 ≡ rows.width },
     ghost line_width: { vec_len line ≡ rows.width },
 }
 
 impl WholeTable {
-    ghost use Rattle.whole_solver.specs.Tables.{as_whole, direction_entry, width_of, room_of, taken_from, HasRow, IsTurn, IsWithin, SameRoom, SameShape};
+    ghost use Rattle.sparse_program.specs.Rows.{program_in};
+    ghost use Rattle.whole_solver.specs.Tables.{as_whole, direction_entry, width_of, room_of, taken_from, HasRow, IsListed, IsTurn, IsWithin, SameRoom, SameShape};
 
     /// A table with room for as many rows of as many columns. It is that of no program yet.
     pub fn with_room(alloc: Global, rows: usize, columns: usize) -> Result<WholeTable, AllocError>
         requires { columns ≤ 100000 }
+        ensures rows { IfOk result (λ table. rows ≤ room_of table) }
+        ensures width { IfOk result (λ table. table.rows.width ≡ columns + 2) }
+        ensures empty { IfOk result (λ table. (table.names.items ≡ []) × (table.rows.rows ≡ [])) }
     {
         let width = columns + 2;
         let mut arena = RowArena::new(alloc, width);
@@ -68,7 +76,10 @@ impl WholeTable {
         objective.resize(width, 0)?;
         let mut sizes = Vec::with_capacity(alloc, arena.spare())?;
         sizes.resize(arena.spare(), 0)?;
-        let places = Vec::with_capacity(alloc, width)?;
+        let mut places = Vec::with_capacity(alloc, width)?;
+        places.resize(width, 0)?;
+        let mut column_places = Vec::with_capacity(alloc, arena.spare())?;
+        column_places.resize(arena.spare(), 0)?;
         let mut room = Vec::with_capacity(alloc, columns + 1)?;
         room.resize(columns + 1, 0)?;
         let mut line = Vec::with_capacity(alloc, width)?;
@@ -81,6 +92,7 @@ impl WholeTable {
             sizes,
             objective_size: 0,
             places,
+            column_places,
             room,
             line,
         })
@@ -97,17 +109,18 @@ impl WholeTable {
         rows <= self.basics.len() + self.rows.spare()
     }
 
-    /// Starts a table of these columns, with no row.
-    fn begin(&mut self, names: &[usize])
-        requires { length names.now + 2 ≤ self.old.rows.width }
-        ensures names { self.new.names.items ≡ names.now }
+    /// Starts a table of the columns 0, 1 and so on, `columns` of them, with no row.
+    fn begin(&mut self, columns: usize)
+        requires { columns + 2 ≤ self.old.rows.width }
+        ensures names { self.new.names.items ≡ numbers 0 columns }
+        ensures columns { length self.new.names.items ≡ columns }
         ensures basics { self.new.basics.items ≡ [] }
         ensures rows { self.new.rows.rows ≡ [] }
         ensures room { SameRoom self.old self.new }
     {
         self.rows.release_from(0);
         self.basics.clear();
-        write_all(&mut self.names, names);
+        write_numbers(&mut self.names, columns);
     }
 
     /// Writes the objective row, and says whether it is within the bound.
@@ -163,24 +176,34 @@ impl WholeTable {
         self.objective_size = bound as u128;
     }
 
-    /// Becomes the table of these fractions, each row over the least common denominator, and says
-    /// whether it has room and is within the bound.
-    pub fn take_in<N: Exact>(&mut self, table: &Table<N>, bound: u64, limit: u128) -> bool
+    /// Becomes the first table of the program, each row over the least common denominator, and
+    /// says whether it has room and is within the bound. `line` is room for a row that comes.
+    pub fn take_in<N: Exact>(
+        &mut self,
+        program: &SparseProgram<N>,
+        line: &mut [N],
+        bound: u64,
+        limit: u128,
+    ) -> bool
+        requires line { length line.old ≡ length program.now.costs.items + 1 }
         requires bound { (1 ≤ bound) × (bound ≤ widest) }
         requires objective { (bound ≤ limit) × (limit ≤ 2 ^ 127 - 1) }
         ensures table { result ≡ true
-            → as_whole self.new ≡ taken_from (as_compact N.fraction table.now) }
+            → as_whole self.new ≡ taken_from (compact_first (program_in N.fraction program.now)) }
         ensures within { result ≡ true → IsWithin bound limit self.new }
     {
-        if !self.has_room(table.rows(), table.variables()) {
+        let columns = program.variables();
+        if !self.has_room(program.rows(), columns) {
             return false;
         }
-        self.begin(table.kept());
-        if !self.take_objective(table.objective(), bound) {
+        self.begin(columns);
+        program.write_objective(line);
+        if !self.take_objective(line, bound) {
             return false;
         }
-        for i in 0..table.rows() {
-            if !self.take_row(table.entries(i), table.basic(i), bound) {
+        for i in 0..program.rows() {
+            program.write_row(i, line);
+            if !self.take_row(line, columns + i, bound) {
                 return false;
             }
         }
@@ -199,19 +222,41 @@ impl WholeTable {
         least_column(self.names.as_slice(), &self.objective[1..width + 1])
     }
 
+    /// Lists the rows that are not 0 in column `c`, and answers how many they are.
+    fn list_column(&mut self, c: usize) -> usize
+        requires { c < length self.old.names.items }
+        ensures listed { IsListed c result self.new }
+        ensures table { as_whole self.new ≡ as_whole self.old }
+        ensures within { (bound limit : ℕ) → IsWithin bound limit self.old
+            → IsWithin bound limit self.new }
+        ensures shape { SameShape self.old self.new }
+    {
+        list_column(&self.rows, c, self.column_places.as_mut_slice())
+    }
+
     /// The place of the row that leaves where column `c` enters, or None where nothing limits it.
-    fn leaving(&self, c: usize) -> Option<usize>
-        requires { c < length self.now.names.items }
+    /// `count` rows are listed: those that are not 0 in the column.
+    fn leaving(&self, c: usize, count: usize) -> Option<usize>
+        requires column { c < length self.now.names.items }
+        requires listed { IsListed c count self.now }
         ensures { result ≡ best_with None (whole_ratios (length self.now.names.items) c 0
             (as_whole self.now).rows) }
     {
-        leaving(self.basics.as_slice(), &self.rows, self.names.len(), c)
+        let places = &self.column_places[..count];
+        leaving(
+            self.basics.as_slice(),
+            &self.rows,
+            places,
+            self.names.len(),
+            c,
+        )
     }
 
     /// The rows of a turn and the objective row. Says whether they are within the bound and the
-    /// limit.
-    fn turn_rows(&mut self, c: usize, r: usize, bound: u64, limit: u128) -> bool
+    /// limit. `count` rows are listed: those that are not 0 in the column.
+    fn turn_rows(&mut self, c: usize, count: usize, r: usize, bound: u64, limit: u128) -> bool
         requires column { c < length self.old.names.items }
+        requires listed { IsListed c count self.old }
         requires pivot { IsPivot (width_of self.old) c r self.old.rows.rows }
         requires bound { bound ≤ widest }
         requires objective { limit ≤ 2 ^ 127 - 1 }
@@ -233,10 +278,16 @@ impl WholeTable {
             self.sizes.as_mut_slice(),
             self.objective.as_mut_slice(),
             &mut self.objective_size,
-            &mut self.places,
+            self.places.as_mut_slice(),
             self.room.as_mut_slice(),
             width,
-            Step { r, c, bound, limit },
+            Step {
+                r,
+                c,
+                column_places: &self.column_places[..count],
+                bound,
+                limit,
+            },
         )
     }
 
@@ -259,9 +310,10 @@ impl WholeTable {
     }
 
     /// The variable of column `c` becomes basic in row r, where the table is within both bounds
-    /// then. Says whether it is.
-    fn pivot(&mut self, c: usize, r: usize, bound: u64, limit: u128) -> bool
+    /// then. Says whether it is. `count` rows are listed: those that are not 0 in the column.
+    fn pivot(&mut self, c: usize, count: usize, r: usize, bound: u64, limit: u128) -> bool
         requires column { c < length self.old.names.items }
+        requires listed { IsListed c count self.old }
         requires pivot { IsPivot (width_of self.old) c r self.old.rows.rows }
         requires bound { bound ≤ widest }
         requires objective { limit ≤ 2 ^ 127 - 1 }
@@ -274,7 +326,7 @@ impl WholeTable {
         ensures within { result ≡ true → IsWithin bound limit self.new }
         ensures shape { SameShape self.old self.new }
     {
-        if !self.turn_rows(c, r, bound, limit) {
+        if !self.turn_rows(c, count, r, bound, limit) {
             return false;
         }
         self.exchange(c, r);
@@ -291,10 +343,11 @@ impl WholeTable {
         ensures turn { IsTurn bound limit c result self.old self.new }
         ensures shape { SameShape self.old self.new }
     {
-        match self.leaving(c) {
+        let count = self.list_column(c);
+        match self.leaving(c, count) {
             None => Turn::Unlimited,
             Some(r) => {
-                if self.pivot(c, r, bound, limit) {
+                if self.pivot(c, count, r, bound, limit) {
                     Turn::Moved
                 } else {
                     Turn::GivenUp

@@ -12,15 +12,16 @@ use Rattle.simplex.proofs.SpaceSteps.{ending_is, found_is, stop_answer}
 use Rattle.simplex.proofs.attempt.run_fractions.Goals as goal
 
 pub returns-in-Ok-Optimal-clause-ended : goal.returns-in-Ok-Optimal-clause-ended
-returns-in-Ok-Optimal-clause-ended g c t0 w given first shape =
+returns-in-Ok-Optimal-clause-ended g c w given =
     let value = g.N.Exact.fraction in
     let L = unsigned_abs g.N.Exact.LIMIT in
     let one = limit_at_least_one g.N.Exact.LIMIT g.met.N.Exact.limit_positive in
     let left = c.args.budget.now.limit - c.args.budget.now.spent in
     let spent = c.args.budget.now.spent in
     let after = c.run.new.budget.spent in
+    let t0 = c.args.table.now in
     let t = c.run.new.table in
-    let ending = ending_is value L left spent after t0 c.args.table.now t c.run.result one given first shape c.run.ensures.shape c.run.ensures.run in
+    let ending = ending_is value L left spent after t0 c.first.new.self t c.run.result one given c.first.ensures.table c.first.ensures.shape c.run.ensures.shape c.run.ensures.run in
     let was = c.in-Ok-Optimal.is ∙ ap Ok c.in-Ok-Optimal.field-0-is in
     let n = length t.kept.items in
     let m = length t.rows.rows in
@@ -30,15 +31,16 @@ returns-in-Ok-Optimal-clause-ended g c t0 w given first shape =
     record { answer = ap answer_of e; contents = ap contents_after e; units = ap units_of e; there = tt }
 
 pub returns-in-Ok-Unbounded-clause-ended : goal.returns-in-Ok-Unbounded-clause-ended
-returns-in-Ok-Unbounded-clause-ended g c t0 w given first shape =
+returns-in-Ok-Unbounded-clause-ended g c w given =
     let value = g.N.Exact.fraction in
     let L = unsigned_abs g.N.Exact.LIMIT in
     let one = limit_at_least_one g.N.Exact.LIMIT g.met.N.Exact.limit_positive in
     let left = c.args.budget.now.limit - c.args.budget.now.spent in
     let spent = c.args.budget.now.spent in
     let after = c.run.new.budget.spent in
+    let t0 = c.args.table.now in
     let t = c.run.new.table in
-    let ending = ending_is value L left spent after t0 c.args.table.now t c.run.result one given first shape c.run.ensures.shape c.run.ensures.run in
+    let ending = ending_is value L left spent after t0 c.first.new.self t c.run.result one given c.first.ensures.table c.first.ensures.shape c.run.ensures.shape c.run.ensures.run in
     let was = c.in-Ok-Unbounded.is ∙ ap Ok c.in-Ok-Unbounded.field-0-is in
     let n = length t.kept.items in
     let table = as_compact value t in
@@ -47,14 +49,15 @@ returns-in-Ok-Unbounded-clause-ended g c t0 w given first shape =
     record { answer = ap answer_of e; contents = ap contents_after e; units = ap units_of e; there = c.run.ensures.place c.in-Ok-Unbounded.place was }
 
 pub returns-in-Err-clause-ended : goal.returns-in-Err-clause-ended
-returns-in-Err-clause-ended g c t0 w given first shape =
+returns-in-Err-clause-ended g c w given =
     let value = g.N.Exact.fraction in
     let L = unsigned_abs g.N.Exact.LIMIT in
     let one = limit_at_least_one g.N.Exact.LIMIT g.met.N.Exact.limit_positive in
     let left = c.args.budget.now.limit - c.args.budget.now.spent in
     let spent = c.args.budget.now.spent in
     let after = c.run.new.budget.spent in
+    let t0 = c.args.table.now in
     let t = c.run.new.table in
-    let ending = ending_is value L left spent after t0 c.args.table.now t c.run.result one given first shape c.run.ensures.shape c.run.ensures.run in
+    let ending = ending_is value L left spent after t0 c.first.new.self t c.run.result one given c.first.ensures.table c.first.ensures.shape c.run.ensures.shape c.run.ensures.run in
     let told = stop_answer (length t.kept.items) (length t.rows.rows) after (as_compact value t) c.run.result c.in-Err.stop (run L (program_in value t0) left spent) c.in-Err.is ending c.run.ensures.unit in
     record { answer = told.0; contents = told.1; units = told.2 }

@@ -1,11 +1,11 @@
 use Rattle.std.proofs.Common.{◌≡◌, ◌-◌, rules, unsigned_abs}
-use Rattle.compact_table.specs.Tables.{program_in}
+use Rattle.sparse_program.specs.Rows.{program_in}
 use Rattle.whole_solver.specs.Within.{IsUsable}
 use Rattle.simplex.proofs.WholeSteps.{started_at, whole_optimum, whole_ray, whole_no_unit}
 use Rattle.simplex.proofs.attempt.run_whole.Goals as goal
 
 pub returns-in-Optimal-clause-tried : goal.returns-in-Optimal-clause-tried
-returns-in-Optimal-clause-tried g c t given first =
+returns-in-Optimal-clause-tried g c t given =
     let value = g.N.Exact.fraction in
     let L = unsigned_abs g.N.Exact.LIMIT in
     let b = c.in-Some.bound in
@@ -18,13 +18,13 @@ returns-in-Optimal-clause-tried g c t given first =
     let same : held ≡ L = search rules in
     let usable : IsUsable L b = search rules in
     let taken = c.if-not-take_in.false in
-    let start = started_at value L held b t c.args.table.now w1 same given usable first (c.take_in.ensures.table taken) (c.take_in.ensures.within taken) in
-    let p = program_in value t in
+    let p = program_in value c.args.program.now in
+    let start = started_at L held b p w1 same given usable (c.take_in.ensures.table taken) (c.take_in.ensures.within taken) in
     let told = c.in-Optimal.ensures.run p.variables p.rows in
-    whole_optimum value L held b left spent after t c.args.table.now w1 w2 start same c.whole_run.ensures.shape told
+    whole_optimum value L held b left spent after p t w1 w2 start same c.whole_run.ensures.shape told
 
 pub returns-in-Unbounded-clause-tried : goal.returns-in-Unbounded-clause-tried
-returns-in-Unbounded-clause-tried g c t given first =
+returns-in-Unbounded-clause-tried g c t given =
     let value = g.N.Exact.fraction in
     let L = unsigned_abs g.N.Exact.LIMIT in
     let b = c.in-Some.bound in
@@ -37,13 +37,13 @@ returns-in-Unbounded-clause-tried g c t given first =
     let same : held ≡ L = search rules in
     let usable : IsUsable L b = search rules in
     let taken = c.if-not-take_in.false in
-    let start = started_at value L held b t c.args.table.now w1 same given usable first (c.take_in.ensures.table taken) (c.take_in.ensures.within taken) in
-    let p = program_in value t in
+    let p = program_in value c.args.program.now in
+    let start = started_at L held b p w1 same given usable (c.take_in.ensures.table taken) (c.take_in.ensures.within taken) in
     let told = c.in-Unbounded.ensures.run p.variables p.rows in
-    whole_ray value L held b left spent after t c.args.table.now w1 w2 start same c.whole_run.ensures.shape c.in-Unbounded.column told
+    whole_ray value L held b left spent after p t w1 w2 start same c.whole_run.ensures.shape c.in-Unbounded.column told
 
 pub returns-in-NoUnit-clause-tried : goal.returns-in-NoUnit-clause-tried
-returns-in-NoUnit-clause-tried g c t given first =
+returns-in-NoUnit-clause-tried g c t given =
     let value = g.N.Exact.fraction in
     let L = unsigned_abs g.N.Exact.LIMIT in
     let b = c.in-Some.bound in
@@ -56,7 +56,7 @@ returns-in-NoUnit-clause-tried g c t given first =
     let same : held ≡ L = search rules in
     let usable : IsUsable L b = search rules in
     let taken = c.if-not-take_in.false in
-    let start = started_at value L held b t c.args.table.now w1 same given usable first (c.take_in.ensures.table taken) (c.take_in.ensures.within taken) in
-    let p = program_in value t in
+    let p = program_in value c.args.program.now in
+    let start = started_at L held b p w1 same given usable (c.take_in.ensures.table taken) (c.take_in.ensures.within taken) in
     let told = c.in-NoUnit.ensures.run p.variables p.rows in
-    whole_no_unit value L held b left spent after t c.args.table.now w1 w2 start same c.whole_run.ensures.shape told
+    whole_no_unit value L held b left spent after p t w1 w2 start same c.whole_run.ensures.shape told

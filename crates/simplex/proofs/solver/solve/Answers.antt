@@ -6,8 +6,8 @@ use Rattle.table_run.specs.Program.{LinearProgram}
 use Rattle.table_run.specs.Run.{run}
 use Rattle.simplex.specs.Answers.{IsAnswer, HoldsOf}
 use Rattle.simplex.specs.Stops.{stop_of}
-use Rattle.simplex.specs.Spaces.{program_given, IsProgramGiven}
-use Rattle.simplex.proofs.SolveSteps.{solved_is, stop_is, budget_is, holds, err_same, has_optimum, has_direction}
+use Rattle.simplex.specs.Spaces.{program_given, IsFound, IsProgramGiven, IsRising}
+use Rattle.simplex.proofs.SolveSteps.{solved_is, stop_is, budget_is, holds, err_same, has_optimum, has_direction, found_after, rising_after}
 use Rattle.simplex.proofs.solver.solve.Goals as goal
 
 pub run-requires : goal.run-requires
@@ -31,6 +31,18 @@ returns-in_err-run-clause-enough g c out =
     let stop = budget_is c.in_err-run.field-0.0 (sym q.2 ∙ err_same c.from_residual-in_err-run.result _ _ q.1 out) in
     let low = c.run.ensures.enough (c.in_err-run.was ∙ ap Err stop) in
     subst (λ (p : LinearProgram). c.args.budget.now.limit - c.args.budget.now.spent < bases_of p) same low
+
+pub optimum-requires-clause-found : goal.optimum-requires-clause-found
+optimum-requires-clause-found g c =
+    let E = run (unsigned_abs g.N.Exact.LIMIT) (program_given c.in_ok-space.space.contents) (c.args.budget.now.limit - c.args.budget.now.spent) c.args.budget.now.spent in
+    let told = sym (c.in_ok-run.was ∙ ap Ok c.if-branch.true) ∙ c.run.ensures.answer in
+    subst IsFound (sym c.run.ensures.contents) (found_after E told)
+
+pub without_limit-requires-clause-rising : goal.without_limit-requires-clause-rising
+without_limit-requires-clause-rising g c =
+    let E = run (unsigned_abs g.N.Exact.LIMIT) (program_given c.in_ok-space.space.contents) (c.args.budget.now.limit - c.args.budget.now.spent) c.args.budget.now.spent in
+    let told = sym (c.in_ok-run.was ∙ ap Ok c.if-branch.false) ∙ c.run.ensures.answer in
+    subst IsRising (sym c.run.ensures.contents) (rising_after E told)
 
 pub optimum-requires-clause-x : goal.optimum-requires-clause-x
 optimum-requires-clause-x g c =

@@ -2,12 +2,11 @@ use Rattle.std.proofs.Common.{◌≡◌, ◌+◌, ◌-◌, ◌<◌, ℕ, ◌∙�
 use Rattle.std.specs.Prelude.{Option, Some}
 use Rattle.std.specs.Option.{option_map}
 use Rattle.table_run.specs.Ending.{no_unit_left, unbounded}
-use Rattle.whole_rows.specs.Compact.{compact_direction, compact_run_from}
-use Rattle.whole_solver.specs.declared.table.WholeTable.{WholeTable}
+use Rattle.whole_rows.specs.Compact.{CompactTable, compact_direction, compact_run_from}
 use Rattle.whole_solver.specs.declared.turn.Turn.{Turn}
 use Rattle.whole_solver.specs.declared.columns.Entering.{Entering}
 use Rattle.whole_solver.specs.Choices.{as_column}
-use Rattle.whole_solver.specs.Tables.{as_whole, IsTurn, IsWithin}
+use Rattle.whole_solver.specs.Tables.{as_whole, IsTurn}
 use Rattle.whole_solver.proofs.Pivoting.{rows_fit_in}
 use Rattle.simplex.proofs.RunSteps.{spent_one, spent_none}
 use Rattle.simplex.proofs.WholeSteps.{whole_ends, whole_out, whole_moves, whole_unlimited}
@@ -34,9 +33,11 @@ returns-in-Unlimited-clause-run c n m =
     let ends = sym (c.loop-column.invariant.rest n m)
     ∙ whole_unlimited c.args.bound c.args.limit n m (c.loop-column.budget.limit - c.loop-column.budget.spent) _ _ _ enters told.0 (omega (arith, s.0))
     ∙ ap (λ (k : ℕ). Some (unbounded (compact_direction n (as_column column) (as_whole c.loop-column.table)) k)) (sym s.1) in
-    let inside : column.place < length c.loop-column.table.names.items = search rules in
-    subst (λ (t : WholeTable). (run0 ≡ Some (unbounded (compact_direction n (as_column column) (as_whole t)) c.spend.new.self.spent)) × IsWithin c.args.bound c.args.limit t × (column.place < length t.names.items)) (sym told.1)
-    (ends, c.loop-column.invariant.within, inside)
+    let inside : column.place < length c.loop-column.table.names.items = search rules in (
+      subst (λ (t : CompactTable). run0 ≡ Some (unbounded (compact_direction n (as_column column) t) c.spend.new.self.spent)) (sym told.1) ends,
+      told.2,
+      omega (arith, inside, c.turn.ensures.shape.columns),
+    )
 
 pub loop-column-preserved : goal.loop-column-preserved
 loop-column-preserved c =

@@ -1,4 +1,4 @@
-use Rattle.std.proofs.Common.{◌≡◌, ◌≤◌, ◌++◌, map, drop, vec_len, vec_capacity}
+use Rattle.std.proofs.Common.{◌≡◌, ◌≤◌, ◌++◌, length, map, drop, take}
 use Rattle.exact_num.specs.Fraction.{whole}
 use Rattle.compact_table.specs.Nonzero.{nonzero_from}
 use Rattle.whole_solver.specs.Rows.{nonzero_in}
@@ -8,7 +8,7 @@ use Rattle.whole_solver.proofs.line.list_nonzero.Given as goal
 abbrev pub invariant-loop-j : goal.invariant-loop-j
 invariant-loop-j l =
     record {
-      places : l.places.items ++ nonzero_from l.j (drop l.j (map whole l.numbers)) ≡ nonzero_in l.numbers;
-      few : vec_len l.places ≤ l.j;
-      room : vec_capacity l.fn.places ≤ vec_capacity l.places;
+      places : take l.count l.places ++ nonzero_from l.j (drop l.j (map whole l.numbers)) ≡ nonzero_in l.numbers;
+      few : l.count ≤ l.j;
+      room : length l.places ≡ length l.fn.places;
     }

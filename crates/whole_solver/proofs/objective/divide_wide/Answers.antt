@@ -11,7 +11,7 @@ loop-i-preserved c =
     let old = c.args.numbers.now in
     let zs = c.loop-i.numbers in
     let z = slice_index_or zs i (pos 0) in
-    let v = c.wide_quotient-number.result in
+    let v = c.whole_quotient-number.result in
     let inv = c.loop-i.invariant in
     let in_zs : i < length zs = omega arith in
     let same = inv.width in
@@ -19,7 +19,7 @@ loop-i-preserved c =
     let many : length (map (λ (y : ℤ). int_div y (pos c.args.divisor)) old) ≡ length old = length-map _ _ in
     let fz : FitsSigned w128 z = search rules in
     let fv : FitsSigned w128 v = search rules in
-    let told : v ≡ int_div z (pos c.args.divisor) = simp to_z-of_z at c.wide_quotient-number.ensures in
+    let told : v ≡ int_div z (pos c.args.divisor) = rw c.divisor_of-by.ensures at (simp to_z-of_z at c.whole_quotient-number.ensures) in
     let is_v = told ∙ ap (λ (y : ℤ). int_div y (pos c.args.divisor)) (inv.left i (omega arith)) ∙ at_map (λ (y : ℤ). int_div y (pos c.args.divisor)) old i in_old in
     rw (to_z-of_z w128 v fv) (record {
       width = length-set zs i v ∙ inv.width;

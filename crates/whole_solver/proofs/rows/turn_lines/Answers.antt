@@ -5,8 +5,8 @@ use Rattle.std.proofs.Math.Nat.{mul-le-mul}
 use Rattle.whole_rows.proofs.LineSteps.{cut_within}
 use Rattle.whole_rows.specs.Compact.{compact_cleared, turned_in}
 use Rattle.whole_rows.specs.Turning.{cut}
-use Rattle.whole_solver.specs.Rows.{line_in, lines_in, lines_after, row_at, pivot_line, AreLinesIn, AreSizesIn, nonzero_in}
-use Rattle.whole_solver.proofs.Turned.{line_wider, lines_set, placed, placed_size, sizes_in_set, turned_rows}
+use Rattle.whole_solver.specs.Rows.{column_in, line_in, lines_in, lines_after, row_at, pivot_line, AreLinesIn, AreSizesIn, nonzero_in}
+use Rattle.whole_solver.proofs.Turned.{line_wider, lines_set, listed_still, placed, placed_size, sizes_in_set, turned_rows}
 use Rattle.whole_solver.proofs.rows.turn_lines.Goals as goal
 
 pub place_pivot-a-requires-clause-line : goal.place_pivot-a-requires-clause-line
@@ -48,7 +48,18 @@ clear_rows-requires-clause-pivot c =
 
 pub clear_rows-requires-clause-places : goal.clear_rows-requires-clause-places
 clear_rows-requires-clause-places c =
-    (c.as_slice-places.ensures.value ∙ c.front_nonzero.ensures.places ∙ ap (λ (z : List ℤ). nonzero_in (line_in (length c.args.room.now) z).numbers) c.row-pivot.ensures.row)
+    (c.front_nonzero-count.ensures.places ∙ ap (λ (z : List ℤ). nonzero_in (line_in (length c.args.room.now) z).numbers) c.row-pivot.ensures.row)
+
+pub clear_rows-requires-clause-column_places : goal.clear_rows-requires-clause-column_places
+clear_rows-requires-clause-column_places c =
+    let w = length c.args.room.now in
+    let k = c.args.step.c in
+    let r = c.args.step.r in
+    let old = c.args.rows.now.rows in
+    let told = c.place_pivot-a.ensures in
+    let l = cut_within c.args.step.bound w (line_in w (row_at old r)) (c.requires.lines r c.requires.pivot.row) in
+    let still = listed_still w k r c.place_pivot-a.result old (row_at c.place_pivot-a.new.rows.rows r) (cut (line_in w (row_at old r))) c.requires.column c.requires.pivot told.pivot l.positive l.count in
+    c.requires.column_places ∙ sym (ap (λ (s : List (List ℤ)). nonzero_in (column_in k s)) told.rows ∙ still)
 
 pub clear_rows-requires-clause-sizes : goal.clear_rows-requires-clause-sizes
 clear_rows-requires-clause-sizes c =

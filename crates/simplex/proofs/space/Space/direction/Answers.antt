@@ -6,6 +6,7 @@ use Rattle.compact_table.specs.Tables.{as_compact, direction_entry}
 use Rattle.whole_rows.specs.Compact.{compact_direction as direction_in}
 use Rattle.whole_solver.specs.Choices.{as_column}
 use Rattle.whole_solver.specs.Tables.{as_whole, direction_entry as whole_entry}
+use Rattle.sparse_program.specs.Rows.{program_in}
 use Rattle.simplex.specs.declared.stage.Stage.{Stage}
 use Rattle.simplex.specs.Spaces.{Workspace, Contents, contents_of, direction_of, IsAt}
 use Rattle.simplex.proofs.SpaceSteps.{direction_is_there}
@@ -13,7 +14,7 @@ use Rattle.simplex.proofs.space.Space.direction.Goals as goal
 
 pub direction_at-requires : goal.direction_at-requires
 direction_at-requires g c =
-    subst (λ (st : Stage). IsAt g.N.Exact.fraction (unsigned_abs g.N.Exact.LIMIT) st c.self.inside.table c.self.inside.whole) c.in-Unbounded.is c.self.invariant.stage
+    subst (λ (st : Stage). IsAt (unsigned_abs g.N.Exact.LIMIT) st (program_in g.N.Exact.fraction c.self.inside.program) c.self.inside.table c.self.inside.whole) c.in-Unbounded.is c.self.invariant.stage
 
 pub returns-in-Unbounded : goal.returns-in-Unbounded
 unfolding compact_direction
@@ -23,7 +24,7 @@ returns-in-Unbounded g c =
     let n = length t.kept.items in
     let j = c.args.j in
     let f = direction_entry c.in-Unbounded.place (as_compact value t) in
-    let there = sym (ap (λ (st : Stage). contents_of value st t c.self.inside.whole) (sym c.in-Unbounded.is) ∙ ap (λ (w : Workspace). w.contents) c.self.view_is) in
+    let there = sym (ap (λ (st : Stage). contents_of value st (program_in value c.self.inside.program) t c.self.inside.whole) (sym c.in-Unbounded.is) ∙ ap (λ (w : Workspace). w.contents) c.self.view_is) in
     let low = subst (λ (d : Contents). j < length (direction_of d)) there c.requires in
     c.direction_at.ensures ∙ sym (ap (λ (d : Contents). at (direction_of d) j) there ∙ listed_at f n j (omega (arith, low, listed_count f 0 n)))
 
@@ -35,12 +36,12 @@ returns-in-WholeUnbounded g c =
     let n = length w.names.items in
     let j = c.args.j in
     let f = whole_entry (as_column c.in-WholeUnbounded.column) (as_whole w) in
-    let there = sym (ap (λ (st : Stage). contents_of value st c.self.inside.table w) (sym c.in-WholeUnbounded.is) ∙ ap (λ (w : Workspace). w.contents) c.self.view_is) in
+    let there = sym (ap (λ (st : Stage). contents_of value st (program_in value c.self.inside.program) c.self.inside.table w) (sym c.in-WholeUnbounded.is) ∙ ap (λ (w : Workspace). w.contents) c.self.view_is) in
     let low = subst (λ (d : Contents). j < length (direction_of d)) there c.requires in
     c.direction_at-in-WholeUnbounded.ensures ∙ sym (ap (λ (d : Contents). at (direction_of d) j) there ∙ listed_at f n j (omega (arith, low, listed_count f 0 n)))
 
 pub returns-in_default : goal.returns-in_default
 returns-in_default g c =
     let s = c.self.inside in
-    absurd (direction_is_there g.N.Exact.fraction s.stage s.table s.whole c.args.self.now.contents c.args.j (ap (λ (w : Workspace). w.contents) c.self.view_is) c.requires
+    absurd (direction_is_there g.N.Exact.fraction s.stage (program_in g.N.Exact.fraction s.program) s.table s.whole c.args.self.now.contents c.args.j (ap (λ (w : Workspace). w.contents) c.self.view_is) c.requires
     c.in_default.not-Unbounded c.in_default.not-WholeUnbounded)

@@ -1,10 +1,10 @@
-use Rattle.std.proofs.Common.{◌≡◌, ◌-◌, ◌∙◌, sym, ap, subst, refl, unsigned_abs}
+use Rattle.std.proofs.Common.{◌≡◌, ◌-◌, ◌∙◌, sym, ap, subst, refl, arith, length, unsigned_abs}
 use Rattle.std.specs.Prelude.{Ok, Err, Result}
 use Rattle.table_run.specs.Program.{LinearProgram}
 use Rattle.table_run.specs.Run.{run}
 use Rattle.table_run.specs.Units.{units_of}
 use Rattle.table_run.proofs.Optima.{ends_are_as_said}
-use Rattle.compact_table.specs.Tables.{program_in}
+use Rattle.sparse_program.specs.Rows.{program_in}
 use Rattle.simplex.specs.declared.stage.Stage.{Stage}
 use Rattle.simplex.specs.declared.stop.RunStop.{RunStop}
 use Rattle.simplex.specs.declared.stop.RunStop.TheVariants.{Budget}
@@ -18,18 +18,26 @@ run_given-requires g c =
     let value = g.N.Exact.fraction in
     let L = unsigned_abs g.N.Exact.LIMIT in
     let s = c.self.inside in
-    let there = program_is_given value L s.stage s.table s.whole c.args.self.now.contents (ap (λ (w : Workspace). w.contents) c.self.view_is) c.requires c.self.invariant.stage in
-    there.2
+    let there = program_is_given value L s.stage (program_in value s.program) s.table s.whole c.args.self.now.contents (ap (λ (w : Workspace). w.contents) c.self.view_is) c.requires c.self.invariant.stage in
+    let inv = c.self.invariant in
+    let few = inv.costs there.0 in
+    let short = inv.ends there.0 in
+    record {
+      given = there.2;
+      line = omega (arith, ap length c.as_mut_slice.ensures.value, few, inv.line);
+      costs = omega (arith, few, inv.width);
+      rows = omega (arith, short, inv.room);
+    }
 
 pub returns-in-Ok-clause-answer : goal.returns-in-Ok-clause-answer
 returns-in-Ok-clause-answer g c =
     let value = g.N.Exact.fraction in
     let L = unsigned_abs g.N.Exact.LIMIT in
     let s = c.self.inside in
-    let there = program_is_given value L s.stage s.table s.whole c.args.self.now.contents (ap (λ (w : Workspace). w.contents) c.self.view_is) c.requires c.self.invariant.stage in
+    let there = program_is_given value L s.stage (program_in value s.program) s.table s.whole c.args.self.now.contents (ap (λ (w : Workspace). w.contents) c.self.view_is) c.requires c.self.invariant.stage in
     let left = c.args.budget.now.limit - c.args.budget.now.spent in
     let spent = c.args.budget.now.spent in
-    let told = subst (λ (r : Result Stage RunStop). IsEndOf value L (run L (program_in value s.table) left spent) r c.run_given.new.budget.spent c.run_given.new.table c.run_given.new.whole) c.in-Ok.is c.run_given.ensures.run in
+    let told = subst (λ (r : Result Stage RunStop). IsEndOf value L (program_in value s.program) (run L (program_in value s.program) left spent) r c.run_given.new.budget.spent c.run_given.new.table c.run_given.new.whole) c.in-Ok.is c.run_given.ensures.run in
     ap Ok c.is_optimum.ensures ∙ told.answer ∙ ap (λ (q : LinearProgram). answer_of (run L q left spent)) (sym there.1)
 
 pub returns-in-Ok-clause-contents : goal.returns-in-Ok-clause-contents
@@ -37,10 +45,10 @@ returns-in-Ok-clause-contents g c =
     let value = g.N.Exact.fraction in
     let L = unsigned_abs g.N.Exact.LIMIT in
     let s = c.self.inside in
-    let there = program_is_given value L s.stage s.table s.whole c.args.self.now.contents (ap (λ (w : Workspace). w.contents) c.self.view_is) c.requires c.self.invariant.stage in
+    let there = program_is_given value L s.stage (program_in value s.program) s.table s.whole c.args.self.now.contents (ap (λ (w : Workspace). w.contents) c.self.view_is) c.requires c.self.invariant.stage in
     let left = c.args.budget.now.limit - c.args.budget.now.spent in
     let spent = c.args.budget.now.spent in
-    let told = subst (λ (r : Result Stage RunStop). IsEndOf value L (run L (program_in value s.table) left spent) r c.run_given.new.budget.spent c.run_given.new.table c.run_given.new.whole) c.in-Ok.is c.run_given.ensures.run in
+    let told = subst (λ (r : Result Stage RunStop). IsEndOf value L (program_in value s.program) (run L (program_in value s.program) left spent) r c.run_given.new.budget.spent c.run_given.new.table c.run_given.new.whole) c.in-Ok.is c.run_given.ensures.run in
     told.contents ∙ ap (λ (q : LinearProgram). contents_after (run L q left spent)) (sym there.1)
 
 pub returns-in-Ok-clause-units : goal.returns-in-Ok-clause-units
@@ -48,10 +56,10 @@ returns-in-Ok-clause-units g c =
     let value = g.N.Exact.fraction in
     let L = unsigned_abs g.N.Exact.LIMIT in
     let s = c.self.inside in
-    let there = program_is_given value L s.stage s.table s.whole c.args.self.now.contents (ap (λ (w : Workspace). w.contents) c.self.view_is) c.requires c.self.invariant.stage in
+    let there = program_is_given value L s.stage (program_in value s.program) s.table s.whole c.args.self.now.contents (ap (λ (w : Workspace). w.contents) c.self.view_is) c.requires c.self.invariant.stage in
     let left = c.args.budget.now.limit - c.args.budget.now.spent in
     let spent = c.args.budget.now.spent in
-    let told = subst (λ (r : Result Stage RunStop). IsEndOf value L (run L (program_in value s.table) left spent) r c.run_given.new.budget.spent c.run_given.new.table c.run_given.new.whole) c.in-Ok.is c.run_given.ensures.run in
+    let told = subst (λ (r : Result Stage RunStop). IsEndOf value L (program_in value s.program) (run L (program_in value s.program) left spent) r c.run_given.new.budget.spent c.run_given.new.table c.run_given.new.whole) c.in-Ok.is c.run_given.ensures.run in
     told.units ∙ ap (λ (q : LinearProgram). units_of (run L q left spent)) (sym there.1)
 
 pub returns-in-Ok-clause-holds : goal.returns-in-Ok-clause-holds
@@ -59,18 +67,18 @@ returns-in-Ok-clause-holds g c =
     let value = g.N.Exact.fraction in
     let L = unsigned_abs g.N.Exact.LIMIT in
     let s = c.self.inside in
-    let there = program_is_given value L s.stage s.table s.whole c.args.self.now.contents (ap (λ (w : Workspace). w.contents) c.self.view_is) c.requires c.self.invariant.stage in
-    ends_are_as_said L (program_given c.args.self.now.contents) (c.args.budget.now.limit - c.args.budget.now.spent) c.args.budget.now.spent (program_stands value L s.table c.args.self.now.contents there.2 there.1)
+    let there = program_is_given value L s.stage (program_in value s.program) s.table s.whole c.args.self.now.contents (ap (λ (w : Workspace). w.contents) c.self.view_is) c.requires c.self.invariant.stage in
+    ends_are_as_said L (program_given c.args.self.now.contents) (c.args.budget.now.limit - c.args.budget.now.spent) c.args.budget.now.spent (program_stands L (program_in value s.program) c.args.self.now.contents there.2 there.1)
 
 pub returns-in-Err-clause-answer : goal.returns-in-Err-clause-answer
 returns-in-Err-clause-answer g c =
     let value = g.N.Exact.fraction in
     let L = unsigned_abs g.N.Exact.LIMIT in
     let s = c.self.inside in
-    let there = program_is_given value L s.stage s.table s.whole c.args.self.now.contents (ap (λ (w : Workspace). w.contents) c.self.view_is) c.requires c.self.invariant.stage in
+    let there = program_is_given value L s.stage (program_in value s.program) s.table s.whole c.args.self.now.contents (ap (λ (w : Workspace). w.contents) c.self.view_is) c.requires c.self.invariant.stage in
     let left = c.args.budget.now.limit - c.args.budget.now.spent in
     let spent = c.args.budget.now.spent in
-    let told = subst (λ (r : Result Stage RunStop). IsEndOf value L (run L (program_in value s.table) left spent) r c.run_given.new.budget.spent c.run_given.new.table c.run_given.new.whole) c.in-Err.is c.run_given.ensures.run in
+    let told = subst (λ (r : Result Stage RunStop). IsEndOf value L (program_in value s.program) (run L (program_in value s.program) left spent) r c.run_given.new.budget.spent c.run_given.new.table c.run_given.new.whole) c.in-Err.is c.run_given.ensures.run in
     told.answer ∙ ap (λ (q : LinearProgram). answer_of (run L q left spent)) (sym there.1)
 
 pub returns-in-Err-clause-contents : goal.returns-in-Err-clause-contents
@@ -78,10 +86,10 @@ returns-in-Err-clause-contents g c =
     let value = g.N.Exact.fraction in
     let L = unsigned_abs g.N.Exact.LIMIT in
     let s = c.self.inside in
-    let there = program_is_given value L s.stage s.table s.whole c.args.self.now.contents (ap (λ (w : Workspace). w.contents) c.self.view_is) c.requires c.self.invariant.stage in
+    let there = program_is_given value L s.stage (program_in value s.program) s.table s.whole c.args.self.now.contents (ap (λ (w : Workspace). w.contents) c.self.view_is) c.requires c.self.invariant.stage in
     let left = c.args.budget.now.limit - c.args.budget.now.spent in
     let spent = c.args.budget.now.spent in
-    let told = subst (λ (r : Result Stage RunStop). IsEndOf value L (run L (program_in value s.table) left spent) r c.run_given.new.budget.spent c.run_given.new.table c.run_given.new.whole) c.in-Err.is c.run_given.ensures.run in
+    let told = subst (λ (r : Result Stage RunStop). IsEndOf value L (program_in value s.program) (run L (program_in value s.program) left spent) r c.run_given.new.budget.spent c.run_given.new.table c.run_given.new.whole) c.in-Err.is c.run_given.ensures.run in
     told.contents ∙ ap (λ (q : LinearProgram). contents_after (run L q left spent)) (sym there.1)
 
 pub returns-in-Err-clause-units : goal.returns-in-Err-clause-units
@@ -89,10 +97,10 @@ returns-in-Err-clause-units g c =
     let value = g.N.Exact.fraction in
     let L = unsigned_abs g.N.Exact.LIMIT in
     let s = c.self.inside in
-    let there = program_is_given value L s.stage s.table s.whole c.args.self.now.contents (ap (λ (w : Workspace). w.contents) c.self.view_is) c.requires c.self.invariant.stage in
+    let there = program_is_given value L s.stage (program_in value s.program) s.table s.whole c.args.self.now.contents (ap (λ (w : Workspace). w.contents) c.self.view_is) c.requires c.self.invariant.stage in
     let left = c.args.budget.now.limit - c.args.budget.now.spent in
     let spent = c.args.budget.now.spent in
-    let told = subst (λ (r : Result Stage RunStop). IsEndOf value L (run L (program_in value s.table) left spent) r c.run_given.new.budget.spent c.run_given.new.table c.run_given.new.whole) c.in-Err.is c.run_given.ensures.run in
+    let told = subst (λ (r : Result Stage RunStop). IsEndOf value L (program_in value s.program) (run L (program_in value s.program) left spent) r c.run_given.new.budget.spent c.run_given.new.table c.run_given.new.whole) c.in-Err.is c.run_given.ensures.run in
     told.units ∙ ap (λ (q : LinearProgram). units_of (run L q left spent)) (sym there.1)
 
 pub returns-in-Err-clause-holds : goal.returns-in-Err-clause-holds
@@ -100,18 +108,18 @@ returns-in-Err-clause-holds g c =
     let value = g.N.Exact.fraction in
     let L = unsigned_abs g.N.Exact.LIMIT in
     let s = c.self.inside in
-    let there = program_is_given value L s.stage s.table s.whole c.args.self.now.contents (ap (λ (w : Workspace). w.contents) c.self.view_is) c.requires c.self.invariant.stage in
-    ends_are_as_said L (program_given c.args.self.now.contents) (c.args.budget.now.limit - c.args.budget.now.spent) c.args.budget.now.spent (program_stands value L s.table c.args.self.now.contents there.2 there.1)
+    let there = program_is_given value L s.stage (program_in value s.program) s.table s.whole c.args.self.now.contents (ap (λ (w : Workspace). w.contents) c.self.view_is) c.requires c.self.invariant.stage in
+    ends_are_as_said L (program_given c.args.self.now.contents) (c.args.budget.now.limit - c.args.budget.now.spent) c.args.budget.now.spent (program_stands L (program_in value s.program) c.args.self.now.contents there.2 there.1)
 
 pub returns-in-Err-clause-enough : goal.returns-in-Err-clause-enough
 returns-in-Err-clause-enough g c out =
     let value = g.N.Exact.fraction in
     let L = unsigned_abs g.N.Exact.LIMIT in
     let s = c.self.inside in
-    let there = program_is_given value L s.stage s.table s.whole c.args.self.now.contents (ap (λ (w : Workspace). w.contents) c.self.view_is) c.requires c.self.invariant.stage in
+    let there = program_is_given value L s.stage (program_in value s.program) s.table s.whole c.args.self.now.contents (ap (λ (w : Workspace). w.contents) c.self.view_is) c.requires c.self.invariant.stage in
     let left = c.args.budget.now.limit - c.args.budget.now.spent in
     let spent = c.args.budget.now.spent in
-    let told = subst (λ (r : Result Stage RunStop). IsEndOf value L (run L (program_in value s.table) left spent) r c.run_given.new.budget.spent c.run_given.new.table c.run_given.new.whole) c.in-Err.is c.run_given.ensures.run in
+    let told = subst (λ (r : Result Stage RunStop). IsEndOf value L (program_in value s.program) (run L (program_in value s.program) left spent) r c.run_given.new.budget.spent c.run_given.new.table c.run_given.new.whole) c.in-Err.is c.run_given.ensures.run in
     let answer = told.answer ∙ ap (λ (q : LinearProgram). answer_of (run L q left spent)) (sym there.1) in
     let budget : c.in-Err.stop ≡ Budget = cc in
-    stop_enough L left spent (program_given c.args.self.now.contents) _ (program_stands value L s.table c.args.self.now.contents there.2 there.1) refl (ap Err (sym budget) ∙ answer)
+    stop_enough L left spent (program_given c.args.self.now.contents) _ (program_stands L (program_in value s.program) c.args.self.now.contents there.2 there.1) refl (ap Err (sym budget) ∙ answer)

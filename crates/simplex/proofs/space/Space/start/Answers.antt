@@ -1,14 +1,15 @@
-use Rattle.std.proofs.Common.{◌∙◌, sym, ap, subst, arith, unsigned_abs}
+use Rattle.std.proofs.Common.{sym, ap, subst, arith, unsigned_abs}
+use Rattle.std.proofs.lemmas.List.{length-map}
 use Rattle.exact_num.proofs.Units.{limit_at_least_one}
 use Rattle.table_run.specs.Program.{LinearProgram}
 use Rattle.table_run.specs.Optimum.{IsProgram}
 use Rattle.compact_run.specs.Laws.{IsProgramWithin}
 use Rattle.simplex.specs.Spaces.{Workspace, workspace, given}
-use Rattle.simplex.proofs.SpaceSteps.{empty_is_program, empty_is_within}
+use Rattle.simplex.proofs.SpaceSteps.{empty_is_program, empty_is_within, room_kept, rows_listed}
 use Rattle.simplex.proofs.space.Space.start.Goals as goal
 
 pub begin-requires : goal.begin-requires
-begin-requires g c = omega (arith, ap (λ (w : Workspace). w.columns) c.self.view_is, c.self.invariant.width, c.requires)
+begin-requires g c = omega (arith, ap (λ (w : Workspace). w.columns) c.self.view_is, c.self.invariant.program.costs, c.requires)
 
 pub invariant_of-self : goal.invariant_of-self
 invariant_of-self g c =
@@ -18,11 +19,17 @@ invariant_of-self g c =
     let costs = c.args.costs.now in
     let one = limit_at_least_one g.N.Exact.LIMIT laws.limit_positive in
     let program = c.begin.ensures.program in
+    let inv = c.self.invariant in
+    let variables = ap (λ (p : LinearProgram). p.variables) program in
+    let rows = ap (λ (p : LinearProgram). p.rows) program in
     record {
-      width = c.begin.ensures.room.width ∙ c.self.invariant.width;
-      room = omega (arith, c.begin.ensures.room.rows, c.self.invariant.room);
+      program = room_kept _ _ _ _ inv.program c.begin.ensures.room;
+      costs = λ e. omega (arith, ap (λ (w : Workspace). w.columns) c.self.view_is, variables, length-map costs value, c.requires);
+      ends = λ e. omega (arith, rows, rows_listed value c.begin.new.self);
+      line = inv.line;
+      width = inv.width;
+      room = inv.room;
       stage = record {
-        given = c.begin.ensures.given;
         program = subst IsProgram (sym program) (empty_is_program value costs laws.lowest);
         within = subst (λ (p : LinearProgram). IsProgramWithin L p) (sym program) (empty_is_within value L costs one (λ a. record { above = laws.numerator_fits a; below = laws.denominator_fits a }));
       };

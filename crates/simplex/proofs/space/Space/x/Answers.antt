@@ -3,6 +3,7 @@ use Rattle.table_run.specs.Places.{at}
 use Rattle.table_run.proofs.Listed.{listed_count, listed_at}
 use Rattle.compact_table.specs.Tables.{as_compact}
 use Rattle.whole_solver.specs.Tables.{as_whole}
+use Rattle.sparse_program.specs.Rows.{program_in}
 use Rattle.simplex.specs.declared.stage.Stage.{Stage}
 use Rattle.table_run.specs.Table.{right_side, where_basic}
 use Rattle.whole_rows.specs.Lines.{entry_of}
@@ -14,7 +15,7 @@ use Rattle.simplex.proofs.space.Space.x.Goals as goal
 pub value_at-requires : goal.value_at-requires
 value_at-requires g c =
     let s = c.self.inside in
-    let r = subst (λ (st : Stage). IsAt g.N.Exact.fraction (unsigned_abs g.N.Exact.LIMIT) st s.table s.whole) c.in-WholeOptimal.is c.self.invariant.stage in
+    let r = subst (λ (st : Stage). IsAt (unsigned_abs g.N.Exact.LIMIT) st (program_in g.N.Exact.fraction s.program) s.table s.whole) c.in-WholeOptimal.is c.self.invariant.stage in
     record { limit = r.read; within = r.within }
 
 pub returns-in-WholeOptimal : goal.returns-in-WholeOptimal
@@ -24,7 +25,7 @@ returns-in-WholeOptimal g c =
     let t = s.whole in
     let n = length t.names.items in
     let j = c.args.j in
-    let there = whole_is_there value s.stage s.table t c.args.self.now.contents (ap (λ (w : Workspace). w.contents) c.self.view_is) c.in-WholeOptimal.is in
+    let there = whole_is_there value s.stage (program_in value s.program) s.table t c.args.self.now.contents (ap (λ (w : Workspace). w.contents) c.self.view_is) c.in-WholeOptimal.is in
     let f = λ (k : ℕ). whole_where_basic (λ row. entry_of row.line n) k (as_whole t).rows in
     let low = subst (λ (d : Contents). j < length (x_of d)) there c.requires.place in
     c.value_at.ensures ∙ sym (ap (λ (d : Contents). at (x_of d) j) there ∙ listed_at f n j (omega (arith, low, listed_count f 0 n)))
@@ -36,7 +37,7 @@ returns-in_default g c =
     let t = s.table in
     let n = length t.kept.items in
     let j = c.args.j in
-    let there = optimum_is_there value s.stage t s.whole c.args.self.now.contents (ap (λ (w : Workspace). w.contents) c.self.view_is) c.requires.found c.in_default.not-WholeOptimal in
+    let there = optimum_is_there value s.stage (program_in value s.program) t s.whole c.args.self.now.contents (ap (λ (w : Workspace). w.contents) c.self.view_is) c.requires.found c.in_default.not-WholeOptimal in
     let f = λ (k : ℕ). where_basic (λ row. right_side n row.entries) k (as_compact value t).rows in
     let low = subst (λ (d : Contents). j < length (x_of d)) there c.requires.place in
     c.value_at-in_default.ensures ∙ sym (ap (λ (d : Contents). at (x_of d) j) there ∙ listed_at f n j (omega (arith, low, listed_count f 0 n)))

@@ -3,6 +3,7 @@ use Rattle.table_run.specs.Places.{at}
 use Rattle.table_run.proofs.Listed.{listed_count, listed_from}
 use Rattle.compact_table.specs.Tables.{as_compact}
 use Rattle.whole_solver.specs.Tables.{as_whole}
+use Rattle.sparse_program.specs.Rows.{program_in}
 use Rattle.simplex.specs.declared.stage.Stage.{Stage}
 use Rattle.compact_run.specs.Run.{price_of}
 use Rattle.whole_rows.specs.Compact.{price_of as price_in}
@@ -13,12 +14,12 @@ use Rattle.simplex.proofs.space.Space.y.Goals as goal
 pub price_at-requires : goal.price_at-requires
 price_at-requires g c =
     let s = c.self.inside in
-    let r = subst (λ (st : Stage). IsAt g.N.Exact.fraction (unsigned_abs g.N.Exact.LIMIT) st s.table s.whole) c.in-WholeOptimal.is c.self.invariant.stage in
+    let r = subst (λ (st : Stage). IsAt (unsigned_abs g.N.Exact.LIMIT) st (program_in g.N.Exact.fraction s.program) s.table s.whole) c.in-WholeOptimal.is c.self.invariant.stage in
     let t = s.whole in
     let n = length t.names.items in
     let m = length t.rows.rows in
     let i = c.args.i in
-    let there = whole_is_there g.N.Exact.fraction s.stage s.table t c.args.self.now.contents (ap (λ (w : Workspace). w.contents) c.self.view_is) c.in-WholeOptimal.is in
+    let there = whole_is_there g.N.Exact.fraction s.stage (program_in g.N.Exact.fraction s.program) s.table t c.args.self.now.contents (ap (λ (w : Workspace). w.contents) c.self.view_is) c.in-WholeOptimal.is in
     let f = price_in (as_whole t) in
     let low = subst (λ (d : Contents). i < length (y_of d)) there c.requires.place in
     record { limit = r.read; within = r.within; variable = omega (arith, low, listed_count f n m, c.variables.ensures) }
@@ -30,7 +31,7 @@ overflow_add-variables g c =
     let n = length t.names.items in
     let m = length t.rows.rows in
     let i = c.args.i in
-    let there = whole_is_there g.N.Exact.fraction s.stage s.table t c.args.self.now.contents (ap (λ (w : Workspace). w.contents) c.self.view_is) c.in-WholeOptimal.is in
+    let there = whole_is_there g.N.Exact.fraction s.stage (program_in g.N.Exact.fraction s.program) s.table t c.args.self.now.contents (ap (λ (w : Workspace). w.contents) c.self.view_is) c.in-WholeOptimal.is in
     let f = price_in (as_whole t) in
     let low = subst (λ (d : Contents). i < length (y_of d)) there c.requires.place in
     omega (arith, low, listed_count f n m, c.variables.ensures, t.count, t.basics.ok, t.basics.small, t.names.ok, t.names.small)
@@ -42,7 +43,7 @@ returns-in-WholeOptimal g c =
     let n = length t.names.items in
     let m = length t.rows.rows in
     let i = c.args.i in
-    let there = whole_is_there g.N.Exact.fraction s.stage s.table t c.args.self.now.contents (ap (λ (w : Workspace). w.contents) c.self.view_is) c.in-WholeOptimal.is in
+    let there = whole_is_there g.N.Exact.fraction s.stage (program_in g.N.Exact.fraction s.program) s.table t c.args.self.now.contents (ap (λ (w : Workspace). w.contents) c.self.view_is) c.in-WholeOptimal.is in
     let f = price_in (as_whole t) in
     let low = subst (λ (d : Contents). i < length (y_of d)) there c.requires.place in
     c.price_at.ensures ∙ ap (λ (k : ℕ). f (k + i)) c.variables.ensures
@@ -56,7 +57,7 @@ returns-in_default g c =
     let n = length t.kept.items in
     let m = length t.rows.rows in
     let i = c.args.i in
-    let there = optimum_is_there value s.stage t s.whole c.args.self.now.contents (ap (λ (w : Workspace). w.contents) c.self.view_is) c.requires.found c.in_default.not-WholeOptimal in
+    let there = optimum_is_there value s.stage (program_in value s.program) t s.whole c.args.self.now.contents (ap (λ (w : Workspace). w.contents) c.self.view_is) c.requires.found c.in_default.not-WholeOptimal in
     let f = price_of (as_compact value t) in
     let low = subst (λ (d : Contents). i < length (y_of d)) there c.requires.place in
     c.price_at-in_default.ensures ∙ ap (λ (k : ℕ). f (k + i)) c.variables-in_default.ensures
@@ -69,7 +70,7 @@ overflow_add-variables-in_default g c =
     let t = s.table in
     let n = length t.kept.items in
     let m = length t.rows.rows in
-    let there = optimum_is_there value s.stage t s.whole c.args.self.now.contents (ap (λ (w : Workspace). w.contents) c.self.view_is) c.requires.found c.in_default.not-WholeOptimal in
+    let there = optimum_is_there value s.stage (program_in value s.program) t s.whole c.args.self.now.contents (ap (λ (w : Workspace). w.contents) c.self.view_is) c.requires.found c.in_default.not-WholeOptimal in
     let f = price_of (as_compact value t) in
     let low = subst (λ (d : Contents). c.args.i < length (y_of d)) there c.requires.place in
     omega (arith, low, listed_count f n m, c.variables-in_default.ensures, t.count, t.basics.ok, t.basics.small, t.kept.ok, t.kept.small)

@@ -1,6 +1,8 @@
-use Rattle.std.proofs.Common.{◌≡◌, ◌≤◌, length, map, take}
+use Rattle.std.proofs.Common.{◌≡◌, ◌+◌, ◌≤◌, [], ◌∷◌, ◌++◌, length, map, take}
+use Rattle.exact_num.specs.Fraction.{negated}
+use Rattle.table_run.specs.Places.{fraction_zero, numbers}
 use Rattle.whole_rows.specs.Lines.{IsLine, taken_in}
-use Rattle.compact_table.specs.Tables.{lists_of, objective_of}
+use Rattle.sparse_program.specs.Rows.{lists_of}
 use Rattle.whole_solver.specs.Rows.{line_in, lines_in, AreLinesIn}
 use Rattle.whole_solver.specs.Tables.{width_of, room_of}
 use Rattle.whole_solver.proofs.table.WholeTable.take_in.Given as goal
@@ -8,13 +10,16 @@ use Rattle.whole_solver.proofs.table.WholeTable.take_in.Given as goal
 -- the rows before i are taken in
 abbrev pub invariant-loop-i : goal.invariant-loop-i
 invariant-loop-i g l =
+    let f = g.N.Exact.fraction in
     record {
-      names : l.self.names.items ≡ l.table.kept.items;
-      basics : l.self.basics.items ≡ take l.i l.table.basics.items;
-      rows : lines_in (width_of l.self) l.self.rows.rows ≡ take l.i (map taken_in (lists_of g.N.Exact.fraction l.table));
-      objective : line_in (width_of l.self) l.self.objective.items ≡ taken_in (objective_of g.N.Exact.fraction l.table);
+      names : l.self.names.items ≡ numbers 0 l.columns;
+      columns : length l.self.names.items ≡ l.columns;
+      basics : l.self.basics.items ≡ numbers l.columns l.i;
+      rows : lines_in (width_of l.self) l.self.rows.rows ≡ take l.i (map taken_in (lists_of f l.program));
+      objective : line_in (width_of l.self) l.self.objective.items ≡ taken_in (map negated (map f l.program.costs.items) ++ fraction_zero ∷ []);
       lines : AreLinesIn l.bound (width_of l.self) l.self.rows.rows;
       last : IsLine l.bound (width_of l.self) (line_in (width_of l.self) l.self.objective.items);
       count : length l.self.rows.rows ≡ l.i;
-      room : length l.table.rows.rows ≤ room_of l.self;
+      room : length l.program.ends.items ≤ room_of l.self;
+      line : length l.line ≡ l.columns + 1;
     }
