@@ -1,6 +1,0 @@
-use Rattle.std.proofs.Common.{rules}
-use Rattle.solver_cases.proofs.Found.{found_if}
-use Rattle.solver_cases.proofs.tests.value_of_both.Goals as goal
-
-pub value-requires : goal.value-requires
-value-requires g = found_if _ _ _ _ g.run-found.ensures.holds g.run-found.ensures.answer g.run-found.ensures.contents (search rules)
