@@ -1,7 +1,5 @@
 //! Tells of each clear of a session which numbers its run fits: a word a clear, from command lines on standard input. The
 //! session itself clears nothing, so its orders stay for the next clear.
-#![tactic(auto)]
-
 ghost use Rattle.command_text.specs.Within.{BodyIsWithin};
 
 use anyhow::{Context, Result, bail};
@@ -40,7 +38,8 @@ fn word_of(pass: &Pass) -> &'static str {
     }
 }
 
-fn main(rt: HostRuntime) -> Result<()> {
+/// Prints the pass of each clear.
+pub fn print_passes(rt: &HostRuntime) -> Result<()> {
     let alloc = rt.alloc();
     let mut source = StdSource::new(rt.reader());
     let input = read_all(alloc, &mut source, MAX_INPUT)
