@@ -4,7 +4,7 @@ use Rattle.std.proofs.lemmas.List.{drop_more}
 use Rattle.command_text.specs.declared.command.Line.{Line}
 use Rattle.reply_print.specs.declared.replies.Reply.{Reply}
 use Rattle.exchange_core.specs.ExchangeState.{ExchangeState}
-use Rattle.line_replies.specs.Replies.{reply_to, replies_from}
+use Rattle.exchange_core.specs.LineReplies.{reply_to, replies_from}
 use Rattle.demo_run.specs.declared.tally.Tally.{Tally}
 use Rattle.demo_run.specs.Tally.{tally_of, with_reply}
 use Rattle.demo_run.proofs.Counting.{replies_are_counted}

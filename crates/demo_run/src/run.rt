@@ -2,13 +2,12 @@
 ghost use Rattle.std.specs.Prelude.{◌≡◌, map, IfOk, OnOk};
 ghost use Rattle.std.specs.List.{All};
 ghost use Rattle.command_text.specs.Lines.{IsPlaceIn, line_at};
-ghost use Rattle.line_replies.specs.Replies.{replies_from};
+ghost use Rattle.exchange_core.specs.LineReplies.{replies_from};
 ghost use Rattle.demo_run.specs.Tally.{tally_of};
 
 use crate::tally::Tally;
 use command_text::{RawLine, body_of};
-use exchange_core::Exchange;
-use line_replies::reply_to;
+use exchange_core::{Exchange, reply_to};
 use std::alloc::{AllocError, Global};
 
 // Counts the replies to the lines at these places, in order.

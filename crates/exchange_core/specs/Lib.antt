@@ -4,6 +4,7 @@ pub mod Failures
 pub mod Held
 pub mod Kept
 pub mod Laws
+pub mod LineReplies
 pub mod Orders
 pub mod Payoffs
 pub mod Positions

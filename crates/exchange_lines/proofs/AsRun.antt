@@ -9,7 +9,7 @@ use Rattle.command_text.specs.Within.{IsLineWithin}
 use Rattle.command_text.proofs.LinePlaces.{lines_are_at_their_places}
 use Rattle.command_text.proofs.ReadWithin.{lines_are_within}
 use Rattle.exchange_core.specs.ExchangeState.{ExchangeState, empty_exchange}
-use Rattle.line_replies.specs.Replies.{reply_to}
+use Rattle.exchange_core.specs.LineReplies.{reply_to}
 use Rattle.exchange_lines.specs.LineSteps.{AnswersAsRun, InputLine, LineStep, RunsAreByLines, input_line, input_lines, output_by, output_of}
 use Rattle.exchange_lines.specs.Output.{line_output, output, output_from}
 use Rattle.exchange_lines.specs.Promises.{GainsInEach, IsNoText, IsToldBy, KeepsPromises, LineAnswer, beside, replied, TellAnswers, replied_in, told_texts}

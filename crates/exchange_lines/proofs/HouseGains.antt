@@ -16,7 +16,7 @@ use Rattle.house_gain.proofs.RunGains.{gains_run}
 use Rattle.house_gain.proofs.Replies.{settled_weaker}
 use Rattle.house_gain.proofs.RunStates.{empty_runs}
 use Rattle.house_gain.proofs.Steps.{IsTrader, StepsTo, refusal_steps, command_steps}
-use Rattle.line_replies.specs.Replies.{reply_to}
+use Rattle.exchange_core.specs.LineReplies.{reply_to}
 use Rattle.exchange_lines.specs.Promises.{AnswersGain, GainsInEach, line_reply, replies_of}
 use Rattle.exchange_lines.specs.Replies.{answers_from}
 

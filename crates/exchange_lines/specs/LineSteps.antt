@@ -8,7 +8,7 @@ use Rattle.exchange_core.specs.declared.refusal.Refusal.{Refusal}
 use Rattle.exchange_core.specs.ExchangeState.{ExchangeState, empty_exchange}
 use Rattle.exchange_core.specs.Reply.{refused_with}
 use Rattle.exchange_lines.specs.Output.{line_output, output, written_line}
-use Rattle.line_replies.specs.Replies.{reply_to}
+use Rattle.exchange_core.specs.LineReplies.{reply_to}
 use Rattle.reply_print.specs.ReplyPieces.{reply_line}
 
 -- what is written for a line with its number in a state, and the state after it

@@ -5,7 +5,7 @@ use Rattle.command_text.specs.Commands.{body_of_line}
 use Rattle.command_text.specs.Lines.{commands_in}
 use Rattle.reply_print.specs.declared.replies.Reply.{Reply}
 use Rattle.exchange_core.specs.ExchangeState.{ExchangeState, empty_exchange}
-use Rattle.line_replies.specs.Replies.{reply_to}
+use Rattle.exchange_core.specs.LineReplies.{reply_to}
 use Rattle.reply_print.specs.ReplyPieces.{reply_line}
 
 -- the reply line, with its line feed

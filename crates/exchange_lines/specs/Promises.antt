@@ -16,7 +16,7 @@ use Rattle.exchange_core.specs.ExchangeState.{ExchangeState, empty_exchange}
 use Rattle.house_gain.specs.Gain.{GainsSurplus}
 use Rattle.house_gain.specs.Runs.{HouseGains, OfEachSettled, state_by}
 use Rattle.exchange_lines.specs.Output.{output}
-use Rattle.line_replies.specs.Replies.{reply_to}
+use Rattle.exchange_core.specs.LineReplies.{reply_to}
 use Rattle.exchange_lines.specs.Replies.{Answer, IsMarkedAs, answers, answers_text}
 
 -- ---- of each answer

@@ -5,8 +5,7 @@ ghost use Rattle.reply_print.specs.ReplyPieces.{reply_line};
 ghost use Rattle.exchange_lines.specs.Output.{line_output};
 
 use command_text::body_of;
-use exchange_core::Exchange;
-use line_replies::reply_to;
+use exchange_core::{Exchange, reply_to};
 use reply_print::{Reply, print};
 use std::alloc::{AllocError, Global};
 

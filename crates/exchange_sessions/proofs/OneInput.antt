@@ -11,7 +11,7 @@ use Rattle.command_text.specs.Fields.{begins_with_mark}
 use Rattle.command_text.specs.Lines.{mark_size, without_last_empty, without_return, line_in, lines_from, commands_in}
 use Rattle.exchange_core.specs.ExchangeState.{empty_exchange}
 use Rattle.exchange_lines.specs.Output.{output_from, output}
-use Rattle.line_replies.specs.Replies.{reply_to}
+use Rattle.exchange_core.specs.LineReplies.{reply_to}
 use Rattle.reply_print.specs.ReplyPieces.{reply_line}
 use Rattle.session_gate.specs.Bodies.{is_body, byte_order_mark}
 use Rattle.session_gate.specs.Runs.{Replies}

@@ -4,7 +4,7 @@ use Rattle.std.proofs.lemmas.List.{take_at}
 use Rattle.command_text.specs.Commands.{body_of_line}
 use Rattle.exchange_core.specs.ExchangeState.{ExchangeState, empty_exchange}
 use Rattle.exchange_lines.specs.Output.{line_output}
-use Rattle.line_replies.specs.Replies.{reply_to}
+use Rattle.exchange_core.specs.LineReplies.{reply_to}
 use Rattle.reply_print.specs.ReplyPieces.{reply_line}
 use Rattle.exchange_sessions.specs.Served.{exchange_after, last_reply, exchange_reply}
 

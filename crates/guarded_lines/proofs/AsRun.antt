@@ -15,13 +15,13 @@ use Rattle.exchange_core.specs.declared.refusal.Refusal.TheVariants as refusal
 use Rattle.exchange_core.specs.ExchangeState.{ExchangeState}
 use Rattle.exchange_core.specs.Reply.{refused_with}
 use Rattle.exchange_lines.specs.LineSteps.{IsAsRun}
-use Rattle.margin_text.specs.declared.bodies.GuardedBody.TheVariants.{Plain}
-use Rattle.margin_text.specs.declared.margins.ToldMargin.{ToldMargin}
-use Rattle.margin_text.specs.declared.needs.Need.{Need}
-use Rattle.margin_text.specs.declared.requests.MarginRequest.{MarginRequest}
-use Rattle.margin_text.specs.Bodies.{body_of_request, guarded_body_of_fields}
-use Rattle.margin_text.specs.Requests.{request_of}
-use Rattle.margin_text.proofs.Words.{margin_is_no_command}
+use Rattle.guarded_lines.specs.declared.bodies.GuardedBody.TheVariants.{Plain}
+use Rattle.guarded_lines.specs.declared.told.ToldMargin.{ToldMargin}
+use Rattle.guarded_lines.specs.declared.told.Need.{Need}
+use Rattle.guarded_lines.specs.declared.requests.MarginRequest.{MarginRequest}
+use Rattle.guarded_lines.specs.Bodies.{body_of_request, guarded_body_of_fields}
+use Rattle.guarded_lines.specs.Requests.{request_of}
+use Rattle.guarded_lines.proofs.Words.{margin_is_no_command}
 use Rattle.refusals.specs.Refusals.{first_of}
 use Rattle.guarded_lines.specs.declared.replies.GuardedReply.TheVariants as reply
 use Rattle.guarded_lines.specs.Laws.{GuardedAnswerAsRun}

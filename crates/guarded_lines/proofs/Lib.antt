@@ -1,3 +1,7 @@
+pub mod Words
+pub mod FirstFields
+pub mod RequestsWithin
+pub mod PlainLines
 pub mod AsRun
 pub mod ToldMargins
 pub mod MarginReplies

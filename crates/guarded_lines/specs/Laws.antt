@@ -7,7 +7,7 @@ use Rattle.exchange_core.specs.ExchangeState.{ExchangeState}
 use Rattle.exchange_core.specs.Held.{markets_of}
 use Rattle.exchange_core.specs.Kept.{IsKept}
 use Rattle.exchange_lines.specs.LineSteps.{AnswersAsRun}
-use Rattle.margin_text.specs.declared.bodies.GuardedBody.TheVariants as said
+use Rattle.guarded_lines.specs.declared.bodies.GuardedBody.TheVariants as said
 use Rattle.reply_print.specs.declared.replies.Reply.TheVariants.{Withdrawn}
 use Rattle.guarded_lines.specs.declared.replies.GuardedReply.{GuardedReply}
 use Rattle.guarded_lines.specs.declared.replies.GuardedReply.TheVariants.{Plain}

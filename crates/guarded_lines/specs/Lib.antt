@@ -1,3 +1,8 @@
+pub mod Requests
+pub mod Bodies
+pub mod Within
+pub mod Told
+pub mod RequestLaws
 pub mod Margins
 pub mod Needs
 pub mod Withdrawals

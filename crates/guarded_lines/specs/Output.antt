@@ -2,11 +2,11 @@
 use Rattle.std.specs.Prelude.{◌≡◌, ◌⊎◌, ℕ, List, [], ◌∷◌, ◌++◌}
 use Rattle.exchange_core.specs.ExchangeState.{ExchangeState}
 use Rattle.exchange_lines.specs.LineSteps.{IsRefusalText}
-use Rattle.margin_text.specs.declared.margins.ToldMargin.{ToldMargin}
-use Rattle.margin_text.specs.declared.needs.Need.{Need}
-use Rattle.margin_text.specs.declared.requests.MarginRequest.{MarginRequest}
-use Rattle.margin_text.specs.Bodies.{guarded_body_of}
-use Rattle.margin_text.specs.Told.{margin_line, uncovered_line}
+use Rattle.guarded_lines.specs.declared.told.ToldMargin.{ToldMargin}
+use Rattle.guarded_lines.specs.declared.told.Need.{Need}
+use Rattle.guarded_lines.specs.declared.requests.MarginRequest.{MarginRequest}
+use Rattle.guarded_lines.specs.Bodies.{guarded_body_of}
+use Rattle.guarded_lines.specs.Told.{margin_line, uncovered_line}
 use Rattle.guarded_lines.specs.declared.replies.GuardedReply.{GuardedReply}
 use Rattle.guarded_lines.specs.Replies.{guarded_reply_line, guarded_reply_to}
 

@@ -3,10 +3,10 @@ use Rattle.std.specs.Prelude.{ℕ, List}
 use Rattle.std.specs.Option.{option_map_or}
 use Rattle.command_text.specs.declared.command.Body.{Body}
 use Rattle.exchange_core.specs.ExchangeState.{ExchangeState}
-use Rattle.line_replies.specs.Replies.{reply_to}
-use Rattle.margin_text.specs.declared.bodies.GuardedBody.{GuardedBody}
-use Rattle.margin_text.specs.declared.bodies.GuardedBody.TheVariants as body
-use Rattle.margin_text.specs.Told.{margin_line, uncovered_line}
+use Rattle.exchange_core.specs.LineReplies.{reply_to}
+use Rattle.guarded_lines.specs.declared.bodies.GuardedBody.{GuardedBody}
+use Rattle.guarded_lines.specs.declared.bodies.GuardedBody.TheVariants as body
+use Rattle.guarded_lines.specs.Told.{margin_line, uncovered_line}
 use Rattle.reply_print.specs.ReplyPieces.{reply_line}
 use Rattle.guarded_lines.specs.declared.replies.GuardedReply.{GuardedReply}
 use Rattle.guarded_lines.specs.declared.replies.GuardedReply.TheVariants.{Plain, Margin, Uncovered}

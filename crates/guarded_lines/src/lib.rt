@@ -1,13 +1,19 @@
-//! The answers to lines that may ask for a margin: those of a run, what is told of margins, and withdrawals that an account's
+//! Lines that may ask for a margin, and their answers: those of a run, what is told of margins, and withdrawals that an account's
 //! margins do not leave room for.
 #![tactic(auto)]
 
 mod answers;
+mod bodies;
 pub mod laws;
 mod margins;
 mod needs;
 mod replies;
+mod requests;
+mod told;
 mod withdrawals;
 
 pub use answers::answer;
+pub use bodies::{GuardedBody, guarded_body_of};
 pub use replies::{GuardedReply, reply_to};
+pub use requests::MarginRequest;
+pub use told::{Need, ToldMargin};

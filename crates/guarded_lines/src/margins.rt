@@ -9,9 +9,10 @@ ghost use Rattle.exchange_core.specs.Held.{positions_of};
 ghost use Rattle.guarded_lines.specs.Margins.{IsMarginIn, market_refusals, margin_reply, told_by, underlyings_in};
 
 use crate::replies::GuardedReply;
+use crate::requests::MarginRequest;
+use crate::told::ToldMargin;
 use exchange_core::{Exchange, Refusal};
 use form::MAX_ORDERS;
-use margin_text::{MarginRequest, ToldMargin};
 use order_book::MarketInfo;
 use portfolio_margin::{LeastMargin, margin};
 use settlement::Position;

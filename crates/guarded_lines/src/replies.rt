@@ -1,12 +1,14 @@
 // The reply to what a line says.
 ghost use Rattle.std.specs.Prelude.{◌≡◌, IfOk, OnErr};
-ghost use Rattle.margin_text.specs.Within.{GuardedBodyIsWithin};
+ghost use Rattle.guarded_lines.specs.Within.{GuardedBodyIsWithin};
 ghost use Rattle.guarded_lines.specs.Replies.{guarded_reply_line, guarded_reply_to};
 
+use crate::bodies::GuardedBody;
 use crate::margins::margin_reply;
+use crate::requests::MarginRequest;
+use crate::told::{Need, ToldMargin, print_margin, print_uncovered};
 use crate::withdrawals::uncovered_by;
 use exchange_core::{Exchange, Reply};
-use margin_text::{GuardedBody, MarginRequest, Need, ToldMargin, print_margin, print_uncovered};
 use std::alloc::{AllocError, Global};
 
 /// What a line is answered where it may ask for a margin.
@@ -42,7 +44,7 @@ pub fn reply_to(
     match said {
         GuardedBody::Plain(body) => match uncovered_by(alloc, exchange, body)? {
             Some(need) => Ok(GuardedReply::Uncovered { need }),
-            None => Ok(GuardedReply::Plain(line_replies::reply_to(exchange, body)?)),
+            None => Ok(GuardedReply::Plain(exchange_core::reply_to(exchange, body)?)),
         },
         GuardedBody::Margin(request) => margin_reply(alloc, exchange, request),
     }

@@ -17,11 +17,11 @@ use Rattle.exchange_core.specs.ExchangeState.{ExchangeState}
 use Rattle.exchange_core.specs.Reply.{refused_with}
 use Rattle.exchange_core.specs.Step.{batch_in}
 use Rattle.exchange_lines.specs.LineSteps.{IsAsRun}
-use Rattle.quote_text.specs.declared.bodies.QuotesBody.TheVariants.{Plain}
-use Rattle.quote_text.specs.declared.requests.QuoteRequest.{QuoteRequest}
-use Rattle.quote_text.specs.Bodies.{body_of_request, quotes_body_of_fields}
-use Rattle.quote_text.specs.Requests.{request_of}
-use Rattle.quote_text.proofs.Words.{quote_is_no_command}
+use Rattle.quote_lines.specs.declared.bodies.QuotesBody.TheVariants.{Plain}
+use Rattle.quote_lines.specs.declared.requests.QuoteRequest.{QuoteRequest}
+use Rattle.quote_lines.specs.Bodies.{body_of_request, quotes_body_of_fields}
+use Rattle.quote_lines.specs.Requests.{request_of}
+use Rattle.quote_lines.proofs.Words.{quote_is_no_command}
 use Rattle.refusals.specs.Refusals.{first_of}
 use Rattle.quote_lines.specs.declared.replies.QuotesReply.TheVariants as told
 use Rattle.quote_lines.specs.Laws.{QuotesAnswerAsRun}

@@ -19,7 +19,7 @@ use Rattle.exchange_core.specs.ExchangeState.{ExchangeState}
 use Rattle.exchange_core.specs.Kept.{IsKept}
 use Rattle.exchange_core.specs.Reply.{refused_with}
 use Rattle.exchange_core.specs.Step.{batch_in}
-use Rattle.quote_text.specs.declared.requests.QuoteRequest.{QuoteRequest}
+use Rattle.quote_lines.specs.declared.requests.QuoteRequest.{QuoteRequest}
 use Rattle.refusals.specs.Refusals.{first_of}
 use Rattle.refusals.proofs.FirstRefusal.{first_behind, first_in_front}
 use Rattle.quote_lines.specs.declared.replies.QuotesReply.{QuotesReply}

@@ -1,3 +1,8 @@
+pub mod Requests
+pub mod Bodies
+pub mod Within
+pub mod Quoted
+pub mod RequestLaws
 pub mod Refusals
 pub mod Replies
 pub mod Output

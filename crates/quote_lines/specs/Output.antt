@@ -2,9 +2,9 @@
 use Rattle.std.specs.Prelude.{◌≡◌, ◌⊎◌, ℕ, List, [], ◌∷◌, ◌++◌}
 use Rattle.exchange_core.specs.ExchangeState.{ExchangeState}
 use Rattle.exchange_lines.specs.LineSteps.{IsRefusalText}
-use Rattle.quote_text.specs.declared.prices.QuotedPrice.{QuotedPrice}
-use Rattle.quote_text.specs.Bodies.{quotes_body_of}
-use Rattle.quote_text.specs.Quoted.{quoted_line}
+use Rattle.quote_lines.specs.declared.prices.QuotedPrice.{QuotedPrice}
+use Rattle.quote_lines.specs.Bodies.{quotes_body_of}
+use Rattle.quote_lines.specs.Quoted.{quoted_line}
 use Rattle.quote_lines.specs.declared.replies.QuotesReply.{QuotesReply}
 use Rattle.quote_lines.specs.Replies.{quotes_reply_line, quotes_reply_to}
 

@@ -7,17 +7,17 @@ use Rattle.form.specs.declared.orders.Side.TheVariants.{Buy, Sell}
 use Rattle.exchange_core.specs.ExchangeState.{ExchangeState}
 use Rattle.exchange_core.specs.Reply.{refused_with}
 use Rattle.exchange_core.specs.Step.{batch_in}
-use Rattle.line_replies.specs.Replies.{reply_to}
+use Rattle.exchange_core.specs.LineReplies.{reply_to}
 use Rattle.option_quotes.specs.declared.quotes.Quoted.{Quoted}
 use Rattle.option_quotes.specs.declared.quotes.Quoted.TheVariants as quoted
 use Rattle.option_quotes.specs.ByProbes.{quoted_of}
 use Rattle.option_quotes.specs.Probes.{further}
-use Rattle.quote_text.specs.declared.bodies.QuotesBody.{QuotesBody}
-use Rattle.quote_text.specs.declared.bodies.QuotesBody.TheVariants as body
-use Rattle.quote_text.specs.declared.prices.QuotedPrice.{QuotedPrice}
-use Rattle.quote_text.specs.declared.prices.QuotedPrice.TheVariants as told
-use Rattle.quote_text.specs.declared.requests.QuoteRequest.{QuoteRequest}
-use Rattle.quote_text.specs.Quoted.{quoted_line}
+use Rattle.quote_lines.specs.declared.bodies.QuotesBody.{QuotesBody}
+use Rattle.quote_lines.specs.declared.bodies.QuotesBody.TheVariants as body
+use Rattle.quote_lines.specs.declared.prices.QuotedPrice.{QuotedPrice}
+use Rattle.quote_lines.specs.declared.prices.QuotedPrice.TheVariants as told
+use Rattle.quote_lines.specs.declared.requests.QuoteRequest.{QuoteRequest}
+use Rattle.quote_lines.specs.Quoted.{quoted_line}
 use Rattle.refusals.specs.Refusals.{first_of}
 use Rattle.reply_print.specs.ReplyPieces.{reply_line}
 use Rattle.quote_lines.specs.declared.replies.QuotesReply.{QuotesReply}

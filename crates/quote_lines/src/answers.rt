@@ -3,9 +3,9 @@ ghost use Rattle.std.specs.Prelude.{◌≡◌, ◌<◌, ◌==◌, false, length,
 ghost use Rattle.std.specs.List.{list_any};
 ghost use Rattle.quote_lines.specs.Output.{quotes_line};
 
+use crate::bodies::quotes_body_of;
 use crate::replies::{print, reply_to};
 use exchange_core::Exchange;
-use quote_text::quotes_body_of;
 use std::alloc::{AllocError, Global};
 
 /// Takes the exchange one line further, and answers what is written for a line of exactly these bytes with this number: the line

@@ -6,16 +6,17 @@ ghost use Rattle.form.specs.declared.limits.TheConstants.{MAX_UNDERLYINGS};
 ghost use Rattle.order_book.specs.Book.{info_in};
 ghost use Rattle.exchange_core.specs.Kept.{IsKept};
 ghost use Rattle.refusals.specs.Refusals.{first_of};
-ghost use Rattle.quote_text.specs.Within.{IsRequestWithin};
+ghost use Rattle.quote_lines.specs.Within.{IsRequestWithin};
 ghost use Rattle.quote_lines.specs.Replies.{price_of, quote_reply, quoted_for, quoted_price};
 ghost use Rattle.quote_lines.specs.Refusals.{info_refusals};
 
+use crate::prices::QuotedPrice;
 use crate::replies::QuotesReply;
+use crate::requests::QuoteRequest;
 use exchange_core::{Exchange, Refusal};
 use form::{Batch, MAX_ORDERS, Side};
 use option_quotes::{Quoted, quote};
 use order_book::{BookRefusal, MarketInfo};
-use quote_text::{QuoteRequest, QuotedPrice};
 use std::alloc::{AllocError, Global};
 
 // The price that a quote tells.

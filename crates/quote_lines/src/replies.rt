@@ -1,11 +1,12 @@
 // The reply to what a line says.
 ghost use Rattle.std.specs.Prelude.{◌≡◌, IfOk, OnErr};
-ghost use Rattle.quote_text.specs.Within.{QuotesBodyIsWithin};
+ghost use Rattle.quote_lines.specs.Within.{QuotesBodyIsWithin};
 ghost use Rattle.quote_lines.specs.Replies.{quotes_reply_line, quotes_reply_to};
 
+use crate::bodies::QuotesBody;
+use crate::prices::{QuotedPrice, print_quoted};
 use crate::quoting::quote_reply;
 use exchange_core::{Exchange, Reply};
-use quote_text::{QuotedPrice, QuotesBody, print_quoted};
 use std::alloc::{AllocError, Global};
 
 /// What a line is answered where it may ask for a quote.
@@ -35,7 +36,7 @@ pub fn reply_to(
     ensures err { OnErr result (exchange.new ≡ exchange.old) }
 {
     match said {
-        QuotesBody::Plain(body) => Ok(QuotesReply::Plain(line_replies::reply_to(exchange, body)?)),
+        QuotesBody::Plain(body) => Ok(QuotesReply::Plain(exchange_core::reply_to(exchange, body)?)),
         QuotesBody::Quote(request) => quote_reply(alloc, exchange, request),
     }
 }

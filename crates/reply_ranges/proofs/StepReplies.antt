@@ -33,7 +33,7 @@ use Rattle.exchange_core.specs.Reserves.{reserve_in}
 use Rattle.exchange_core.specs.Step.{batch_in, effect, refusal_effect, step}
 use Rattle.exchange_core.proofs.FirstRefusal.{batch_none, close_none, place_none}
 use Rattle.exchange_core.proofs.ReserveSums.{reserve_of-small}
-use Rattle.line_replies.specs.Replies.{reply_to}
+use Rattle.exchange_core.specs.LineReplies.{reply_to}
 use Rattle.house_gain.proofs.RunStates.{IsRunning}
 use Rattle.reply_ranges.specs.Laws.{HasField}
 use Rattle.reply_ranges.proofs.Entries.{balance_small}

@@ -1,4 +1,5 @@
-//! Laws of the replies of runs: each is the contract of a function that does nothing.
+//! Laws of the replies of runs, and of the journals that they are: each is the contract of a function that does nothing.
+ghost use Rattle.reply_ranges.specs.Accepted.{AnswersAreWithin, RunsAreAccepted};
 ghost use Rattle.reply_ranges.specs.Laws.{FieldsAreWithin, OutcomesAreRanged, RepliesAreWithin};
 
 /// Whatever its bytes are, a line that is refused for a number tells of a field from 2 to 51.
@@ -16,4 +17,15 @@ pub fn outcomes_are_ranged()
 /// the numbers of accounts, markets, orders and batches; balances, reserves and payouts; the batch and its outcome.
 pub fn replies_are_within()
     ensures { RepliesAreWithin }
+{}
+
+/// Each line that a run writes, whatever its input, is within the ranges that the reader of lines tests: the numbers of lines,
+/// accounts, markets, orders and batches, balances and amounts, units, places of trees, entries of states, and operands.
+pub fn answers_are_within()
+    ensures { AnswersAreWithin }
+{}
+
+/// What a run writes, whatever its input, is a sound journal, with the counts of its replies.
+pub fn runs_are_accepted()
+    ensures { RunsAreAccepted }
 {}

@@ -3,7 +3,7 @@ use Rattle.std.proofs.lemmas.List.{get_or-map, length-map}
 use Rattle.command_text.specs.declared.lines.RawLine.{RawLine}
 use Rattle.command_text.specs.Commands.{body_of_line}
 use Rattle.command_text.specs.Lines.{line_at}
-use Rattle.line_replies.specs.Replies.{reply_to}
+use Rattle.exchange_core.specs.LineReplies.{reply_to}
 use Rattle.demo_run.proofs.Progress.{line_replied}
 use Rattle.demo_run.proofs.run.tally_replies.Goals as goal
 

@@ -1,2 +1,0 @@
--- The modules of definitions.
-pub mod Replies

@@ -1,4 +1,0 @@
-pub mod Words
-pub mod FirstFields
-pub mod RequestsWithin
-pub mod PlainLines

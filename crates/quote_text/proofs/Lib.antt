@@ -1,5 +1,0 @@
-pub mod Words
-pub mod QuotedPlain
-pub mod FirstFields
-pub mod RequestSays
-pub mod RequestsWithin
