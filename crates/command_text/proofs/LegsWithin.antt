@@ -12,7 +12,7 @@ use Rattle.command_text.specs.Asked.{text_of, either_fault, fault_in, value_in}
 use Rattle.command_text.specs.Bundles.{legs_fault, legs_weightless, legs_size, fields_each, leg_fields, has_leg, leg_fault, leg_of, leg_at, fault_at, weightless_at, size_at, kind_fault, kind_or_call, first_of_four, four_legs_of, legs_of}
 use Rattle.command_text.specs.Trades.{kind_in, weights_in, weightless}
 use Rattle.command_text.specs.Within.{IsBundleOf}
-use Rattle.common_texts.specs.Between.{Between}
+use Rattle.form.specs.Between.{Between}
 use Rattle.command_text.proofs.Bounds.{around_zero, size_within, none_both, asked_first, field_nonzero}
 use Rattle.std.proofs.lemmas.List.Elements.{All-head, All-weaker}
 use Rattle.std.proofs.lemmas.List.Sums.{sum-map, sum_by-take-le}

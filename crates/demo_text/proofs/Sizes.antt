@@ -11,7 +11,7 @@ use Rattle.demo_text.specs.declared.order.Weights.{Weights}
 use Rattle.demo_text.specs.declared.order.Weights.TheVariants.{First, Second, Both}
 use Rattle.demo_text.specs.Draws.{after, drawn}
 use Rattle.demo_text.specs.Orders.{kind_text, weights_text, strike_step, order_from, option_text, terms_text, order_line}
-use Rattle.common_texts.specs.Sides.{side_word}
+use Rattle.form.specs.Sides.{side_word}
 use Rattle.demo_text.specs.Text.{each, clear_line, order_lines, settle_line, opening_text, made_text}
 
 each_size : (text : ℕ → List ℕ) (size n : ℕ) → ((k : ℕ) → k < n → length (text k) ≤ size) → length (each text n) ≤ n * size

@@ -8,7 +8,7 @@ use Rattle.demo_text.specs.declared.order.Weights.{Weights}
 use Rattle.demo_text.specs.declared.order.Weights.TheVariants.{First, Second, Both}
 use Rattle.demo_text.specs.declared.order.DrawnOrder.{DrawnOrder}
 use Rattle.demo_text.specs.Draws.{drawn}
-use Rattle.common_texts.specs.Sides.{side_word}
+use Rattle.form.specs.Sides.{side_word}
 
 -- ---- what a draw says
 abbrev pub side_of : ℕ → Side

@@ -5,8 +5,7 @@ ghost use Rattle.demo_text.specs.Orders.{side_of, kind_of, weights_of, strike_st
 
 use crate::draws::Draws;
 use command_text::Kind;
-use common_texts::word_of;
-use form::Side;
+use form::{Side, word_of};
 use std::alloc::{AllocError, Global};
 
 // Which of the two underlyings an option is on.

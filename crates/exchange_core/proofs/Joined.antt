@@ -11,7 +11,7 @@ use Rattle.order_book.specs.Refusals.{market_refusals, place_refusals, batch_ref
 use Rattle.refusals.specs.Refusals.{first_of}
 use Rattle.form.specs.declared.limits.TheConstants.{MAX_UNDERLYINGS}
 use Rattle.order_book.specs.Within.{IsNewOrderWithin}
-use Rattle.common_texts.specs.Between.{Between}
+use Rattle.form.specs.Between.{Between}
 use Rattle.order_book.proofs.Accepting.{accepts, finishable}
 use Rattle.order_book.proofs.AllLive.{live-without_in_each, live-with_market}
 use Rattle.exchange_core.specs.Kept.{AreOrdersKept, AreJoined}

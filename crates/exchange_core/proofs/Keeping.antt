@@ -37,7 +37,7 @@ use Rattle.exchange_core.specs.Orders.{order_by, order_for}
 use Rattle.exchange_core.specs.Refusals.{place_refusals, refusal_of}
 use Rattle.exchange_core.specs.Step.{place_effect, effect, refusal_effect}
 use Rattle.command_text.specs.Within.{IsWithin, IsOffer, IsBundleOf}
-use Rattle.common_texts.specs.Between.{Between}
+use Rattle.form.specs.Between.{Between}
 use Rattle.command_text.proofs.Listing.{IsSmall, form_listed}
 use Rattle.exchange_core.proofs.FirstRefusal.{market_none, place_none, batch_none, close_none}
 use Rattle.exchange_core.proofs.NewPositions.{cleared-kept}

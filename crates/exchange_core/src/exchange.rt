@@ -20,7 +20,7 @@ ghost use Rattle.exchange_core.specs.Reserves.{reserve_in};
 ghost use Rattle.exchange_core.specs.Step.{step, effect, place_effect, clear_effect, Does};
 ghost use Rattle.exchange_core.specs.Terms.{bundle_on, trade_on};
 ghost use Rattle.command_text.specs.Within.{IsWithin, IsAccount, IsAmount, IsBudget};
-ghost use Rattle.common_texts.specs.Between.{Between};
+ghost use Rattle.form.specs.Between.{Between};
 ghost use Rattle.form.specs.declared.limits.TheConstants.{MAX_ORDERS, MAX_UNDERLYINGS};
 
 use crate::Reply;

@@ -13,3 +13,6 @@ pub mod Primitive
 pub mod Worked
 pub mod BundleOf
 pub mod OneOption
+pub mod Between
+pub mod Naturals
+pub mod Sides

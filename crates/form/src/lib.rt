@@ -14,6 +14,7 @@ pub mod payoffs;
 pub mod primitives;
 pub mod sides;
 pub mod states;
+pub mod words;
 
 pub use bundles::Bundle;
 pub use forms::Form;
@@ -29,3 +30,4 @@ pub use payoffs::{bundle_payoff, payoff};
 pub use primitives::primitive;
 pub use sides::add_for_side;
 pub use states::State;
+pub use words::word_of;

@@ -9,7 +9,7 @@ use Rattle.std.specs.List.{list_all}
 use Rattle.command_text.specs.declared.numbers.NumberRead.{NumberRead}
 use Rattle.command_text.specs.declared.numbers.NumberRead.TheVariants.{NotNumber, Outside, Value}
 use Rattle.command_text.specs.Numbers.{placed_in, number_in}
-use Rattle.common_texts.specs.Naturals.{is_empty, is_natural, natural_value}
+use Rattle.form.specs.Naturals.{is_empty, is_natural, natural_value}
 use Rattle.program_words.specs.Requests.{natural_in}
 
 -- what is read, as a number that is not below 0

@@ -31,7 +31,7 @@ use Rattle.reply_print.specs.OutcomePieces.{state_entries, point_piece, multipli
 use Rattle.reply_print.specs.Piece.{Piece, whole, words, list, object, Pieces, no_pieces, piece, Fields, no_fields, field}
 use Rattle.reply_print.specs.ReplyPieces.{reply_piece, signed_amount, paid_piece, refused_with, cleared_with, cleared_middle, cleared_end}
 use Rattle.reply_print.specs.Words.{reason_word, mark_word, operator_word}
-use Rattle.common_texts.specs.Sides.{side_word}
+use Rattle.form.specs.Sides.{side_word}
 use Rattle.reply_print.specs.Written.{is_plain}
 use Rattle.reply_print.proofs.Digits.{either_plain, plain-signed_decimal, plain-fraction_text}
 

@@ -12,7 +12,7 @@ use Rattle.form.specs.declared.legs.Leg.{Leg}
 use Rattle.form.specs.declared.orders.Order.{Order}
 use Rattle.reply_print.specs.Numbers.{fraction_text}
 use Rattle.reply_print.specs.Piece.{Piece, whole, words, list, object, Pieces, no_pieces, piece, Fields, no_fields, field}
-use Rattle.common_texts.specs.Sides.{side_word}
+use Rattle.form.specs.Sides.{side_word}
 
 abbrev pub natural : ℕ → Piece
 natural n = whole (pos n)

@@ -21,7 +21,7 @@ use Rattle.form.specs.declared.orders.Order.{Order}
 use Rattle.settlement.specs.declared.position.PaidOut.{PaidOut}
 use Rattle.reply_print.specs.declared.replies.Reply.{Reply}
 use Rattle.reply_print.specs.declared.replies.Reply.TheVariants.{Opened, Deposited, Withdrawn, Listed, Placed, Cancelled, Cleared, Settled, Balance, Refused}
-use Rattle.common_texts.specs.Between.{Between}
+use Rattle.form.specs.Between.{Between}
 
 abbrev pub IsLine : ℕ → Type 0
 IsLine line = Between 1 16777216 line

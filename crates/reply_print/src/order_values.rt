@@ -10,9 +10,8 @@ ghost use Rattle.reply_print.specs.PieceData.{piece_data};
 ghost use Rattle.reply_print.specs.ReplyPieces.{paid_piece, signed_amount};
 
 use crate::small_values::whole_text;
-use common_texts::word_of;
 use exact_num::Exact;
-use form::{Form, Leg, Order, Side};
+use form::{Form, Leg, Order, Side, word_of};
 use frac::Frac128;
 use serde_json::{Value, json};
 use settlement::PaidOut;

@@ -18,7 +18,7 @@ use Rattle.command_text.specs.Fields.{fields_of_line}
 use Rattle.command_text.specs.Refused.{Shape, reads_in, settle_shape, weight_place, trade_shape, or_else, leg_reads, leg_weight_place, legs_reads, legs_beyond, head_reads, legs_shape, bundle_shape, shape_of, is_outside, first_outside, has_unread, fault_of_shape, fault_of_fields, fault_of_body, word_read}
 use Rattle.command_text.specs.Trades.{kind_in, is_weighted, weights_in}
 use Rattle.command_text.proofs.RefusedLines.{lines_are_refused}
-use Rattle.common_texts.specs.Between.{Between}
+use Rattle.form.specs.Between.{Between}
 use Rattle.reply_ranges.specs.Laws.{HasField, FieldsAreWithin}
 
 abbrev IsPlace : ℕ → Type 0

@@ -4,7 +4,7 @@ use Rattle.std.proofs.lemmas.List.{length-drop}
 use Rattle.command_text.specs.declared.command.Line.{Line}
 use Rattle.command_text.specs.Commands.{body_of_line}
 use Rattle.command_text.specs.Lines.{commands_in, lines_from, mark_size, pieces_of, span, without_last_empty, without_return}
-use Rattle.common_texts.specs.Naturals.{is_empty}
+use Rattle.form.specs.Naturals.{is_empty}
 use Rattle.command_text.proofs.LineParts.{cut_parts, span_cut}
 
 -- each number is above the one before it, and none above a bound

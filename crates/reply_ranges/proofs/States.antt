@@ -52,7 +52,7 @@ use Rattle.house_gain.proofs.RunStates.{IsRunning}
 use Rattle.house_gain.proofs.Steps.{IsTrader}
 use Rattle.house_gain.proofs.ZeroPrices.{worth-with_zero_prices}
 use Rattle.reply_ranges.proofs.Entries.{AreBounded-append, IsAmountSmall, batch_counts, payoffs_bounded, premiums_bounded, settled_counts}
-use Rattle.common_texts.specs.Between.{Between}
+use Rattle.form.specs.Between.{Between}
 
 -- a position of an order that was accepted, in a batch that was finished
 abbrev pub IsNumbered : BookState → Position → Type 0

@@ -13,7 +13,7 @@ use Rattle.form.specs.declared.orders.Batch.{Batch}
 use Rattle.form.specs.Limits.{IsWithinLimits}
 use Rattle.house_gain.specs.Runs.{replies_by}
 use Rattle.reply_print.specs.Within.{IsOutcomeWithin, IsReplyWithin}
-use Rattle.common_texts.specs.Between.{Between}
+use Rattle.form.specs.Between.{Between}
 
 -- the field of a line that is refused for a number
 abbrev pub HasField : Body → Type 0

@@ -2,7 +2,7 @@
 use Rattle.std.proofs.Common.{◌≡◌, ℕ, ◌≤◌, List, [], ◌∷◌, length, get_or, Bool, true, false, not, ◌==◌, ◌||◌, refl, arith}
 use Rattle.std.specs.Char.{is_ascii_digit}
 use Rattle.std.specs.List.{list_all}
-use Rattle.common_texts.specs.Naturals.{is_natural}
+use Rattle.form.specs.Naturals.{is_natural}
 
 or_false : (b : Bool) → (b || false) ≡ b
 or_false true = refl

@@ -4,7 +4,7 @@ use Rattle.std.specs.Str.{bytes_eq}
 use Rattle.arithmetic.specs.Gcd.{gcd}
 use Rattle.exact_num.specs.Fraction.{Fraction, over}
 use Rattle.frac.specs.Range.{limit}
-use Rattle.common_texts.specs.Naturals.{is_natural, natural_value}
+use Rattle.form.specs.Naturals.{is_natural, natural_value}
 
 -- a natural number, or `-` before one that is not 0
 abbrev pub is_whole_text : List ℕ → Bool

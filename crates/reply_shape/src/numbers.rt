@@ -3,7 +3,7 @@ ghost use Rattle.std.specs.Prelude.{◌≡◌, ◌-◌, ◌^◌, min};
 ghost use Rattle.std.specs.Char.{is_ascii_digit};
 ghost use Rattle.std.specs.List.{list_all};
 ghost use Rattle.reply_shape.specs.Numbers.{is_whole_text as whole_text};
-ghost use Rattle.common_texts.specs.Naturals.{is_natural as natural_text, natural_value};
+ghost use Rattle.form.specs.Naturals.{is_natural as natural_text, natural_value};
 
 /// The value of digits, or 2^128 - 1 where it is larger.
 pub fn value_of_digits(digits: &[u8]) -> u128

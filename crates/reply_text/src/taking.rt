@@ -2,7 +2,7 @@
 ghost use Rattle.std.specs.Prelude.{◌≡◌, ◌≤◌, ◌<◌, ◌^◌, IfSome, codes, option_map};
 ghost use Rattle.serde_json.specs.View.{view, items_view};
 ghost use Rattle.reply_shape.specs.Numbers.{whole_value, signed_value};
-ghost use Rattle.common_texts.specs.Naturals.{natural_value};
+ghost use Rattle.form.specs.Naturals.{natural_value};
 ghost use Rattle.reply_text.specs.BatchValues.{size_within, whole_from};
 ghost use Rattle.reply_text.specs.ReplyValues.{account_at as account_found, market_at as market_found, size_at as size_found};
 ghost use Rattle.reply_text.specs.Taking.{natural_at as natural_found, take_at, from_to as number_from_to, items_at as items_found};

@@ -1,5 +1,5 @@
 use Rattle.std.proofs.Common.{◌≡◌, ◌-◌, ◌^◌, min, take}
-use Rattle.common_texts.specs.Naturals.{natural_value}
+use Rattle.form.specs.Naturals.{natural_value}
 use Rattle.reply_shape.proofs.numbers.value_of_digits.Given as goal
 
 abbrev pub invariant-loop-digit : goal.invariant-loop-digit

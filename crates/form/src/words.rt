@@ -1,10 +1,8 @@
-//! What commands and replies have in common: which texts are numbers, the word of a side, and numbers from a least to a greatest.
-#![tactic(auto)]
-
+//! The words of sides, as commands and replies have them.
 ghost use Rattle.std.specs.Prelude.{◌≡◌};
-ghost use Rattle.common_texts.specs.Sides.{side_word};
+ghost use Rattle.form.specs.Sides.{side_word};
 
-use form::Side;
+use crate::orders::Side;
 
 /// `buy` or `sell`.
 pub fn word_of(side: Side) -> &'static str
