@@ -2,50 +2,12 @@
 
 use exact_num::Wide;
 use frac::Frac128;
+use lists::List;
 use measure::Measure;
 use sign_tree::SignTree;
-use std::marker::Model;
 
 /// The fills of a batch, one for each order, which contracts see as their list.
-#[derive(Debug, Drop)]
-pub struct Fills {
-    items: Vec<Frac128>,
-}
-
-impl Model for Fills {
-    ghost use Rattle.std.specs.Prelude.{List};
-    ghost use Rattle.frac.specs.declared.frac128.Frac128.{Frac128};
-
-    ghost Value = { List Frac128 };
-
-    ghost view = { λ fills. fills.items.items };
-}
-
-impl Fills {
-    ghost use Rattle.std.specs.Prelude.{◌≡◌};
-
-    /// The list of these fills. Takes no memory.
-    pub fn from_vec(items: Vec<Frac128>) -> Self
-        ensures { result ≡ items.items }
-    {
-        Fills { items }
-    }
-
-    /// The fills. Takes no memory.
-    pub fn as_slice(&self) -> &[Frac128]
-        ensures { result.now ≡ self.now }
-    {
-        &self.items
-    }
-
-    /// The fills as they were put in. Takes no memory.
-    pub fn into_vec(self) -> Vec<Frac128>
-        ensures { result.items ≡ self }
-    {
-        let Fills { items } = self;
-        items
-    }
-}
+pub type Fills = List<Frac128>;
 
 /// What a cleared batch claims: the most that the house can owe, and what is left to it at every settlement.
 #[derive(Clone, Copy, Debug, PartialEq, Eq)]

@@ -15,7 +15,7 @@ use cert_check::{Claim, Fills, Mark, Outcome};
 use each_match::match_each;
 use form::{Batch, Order, Side};
 use frac::{Frac128, whole};
-use pricing_oracle::filling::take_list;
+use lists::take_list;
 use std::alloc::{AllocError, Global};
 
 /// What a fill pays, in ticks, where its order is on the side, and else 0.

@@ -7,8 +7,8 @@ ghost use Rattle.table_run.specs.Pivot.{each, each_pair};
 ghost use Rattle.compact_run.specs.Steps.{is_zero as is_zero_of, short_quotient, short_difference, short_less};
 ghost use Rattle.compact_table.specs.Nonzero.{entry_after, nonzero_places};
 
-use crate::room::push_within;
 use exact_num::{Exact, Wide};
+use lists::push_within;
 
 /// Whether a number is 0.
 pub fn is_zero<N: Exact>(x: N) -> bool

@@ -12,9 +12,10 @@ ghost use Rattle.compact_table.specs.Programs.{empty_program, with_row};
 use crate::columns::{move_column, place_without};
 use crate::entries::first_below_zero;
 use crate::ratios::leaving;
-use crate::room::{push_within, turn_signs, write_front, write_items, write_numbers};
+use crate::room::{turn_signs, write_numbers};
 use crate::rows::turn_rows;
 use exact_num::{Exact, Wide};
+use lists::{push_within, write_front, write_items};
 use row_arena::RowArena;
 use std::alloc::{AllocError, Global};
 

@@ -12,9 +12,9 @@ ghost use Rattle.pricing_oracle.specs.Searches.{HasSearched, after_split, asked_
 
 use crate::legs::Asked;
 use crate::node::{Shown, TreeParts, open_node};
-use compact_table::room::push_within;
 use exact_num::Exact;
 use form::State;
+use lists::push_within;
 use sign_tree::Node;
 use simplex::{Budget, RunStop, Space};
 

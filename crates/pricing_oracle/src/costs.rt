@@ -12,8 +12,8 @@ ghost use Rattle.pricing_oracle.specs.Programs.{costs_steps};
 ghost use Rattle.pricing_oracle.specs.Nodes.{MayBeAsked, add_earned_by, legs_asked, role_leg_as};
 
 use crate::legs::{Asked, NodeLeg, Role, entry, first_of, legs_of};
-use compact_table::room::push_within;
 use exact_num::{Exact, Wide, plus_product};
+use lists::push_within;
 use sign_tree::BatchLeg;
 
 // The fill of a leg: that of its order times the size of its count.

@@ -1,12 +1,10 @@
-//! Rows that are written into room, and lists that are taken out of it.
-ghost use Rattle.std.specs.Prelude.{◌≡◌, ◌<◌, ◌≤◌, [], OnOk, length, map, take, vec_capacity};
+//! Rows that are written into room.
+ghost use Rattle.std.specs.Prelude.{◌≡◌, ◌≤◌, length, map, take, vec_capacity};
 ghost use Rattle.simplex.specs.Spaces.{IsFound, x_of};
 
-use compact_table::room::push_within;
 use exact_num::Exact;
+use lists::push_within;
 use simplex::Space;
-use std::alloc::AllocError;
-use std::mem::replace;
 
 /// Writes the values of the first variables at the optimum that the last run found.
 pub fn write_values<N: Exact>(row: &mut Vec<N>, space: &Space<N>, count: usize)
@@ -20,22 +18,4 @@ pub fn write_values<N: Exact>(row: &mut Vec<N>, space: &Space<N>, count: usize)
     for j in 0..count {
         push_within(row, space.x(j));
     }
-}
-
-/// Makes room for so many items in the list, which has none then. The error is want of memory.
-pub fn make_room<T: Drop>(list: &mut Vec<T>, count: usize) -> Result<(), AllocError>
-    ensures room { OnOk result (count ≤ vec_capacity list.new) }
-    ensures none { list.new.items ≡ [] }
-{
-    list.clear();
-    list.reserve_exact(count)
-}
-
-/// Takes the list out of its place, where a list with no item and no room is left.
-pub fn take_list<T>(list: &mut Vec<T>) -> Vec<T>
-    ensures taken { result ≡ list.old }
-    ensures none { list.new.items ≡ [] }
-{
-    let alloc = *list.allocator();
-    replace(list, Vec::new(alloc))
 }

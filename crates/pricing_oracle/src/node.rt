@@ -20,9 +20,9 @@ use crate::legs::Asked;
 use crate::reading::{add_multipliers, state_of};
 use crate::rows::cover_count;
 use crate::splitting::split_place;
-use compact_table::room::push_within;
 use exact_num::Exact;
 use form::State;
+use lists::push_within;
 use sign_tree::{Multiplier, Node};
 use simplex::{Budget, RunStop, Space};
 

@@ -14,10 +14,10 @@ ghost use Rattle.pricing_oracle.specs.Multipliers.{HasRow, multiplier_in, rows_a
 
 use crate::filling::write_values;
 use crate::legs::{Asked, Role, first_of, legs_of};
-use compact_table::room::push_within;
 use exact_num::{Exact, Wide};
 use form::{State, primitive};
 use frac::Frac128;
+use lists::push_within;
 use sign_tree::Multiplier;
 use simplex::Space;
 

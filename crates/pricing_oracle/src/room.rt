@@ -10,12 +10,11 @@ ghost use Rattle.pricing_oracle.specs.Rooms.{HasSameRoom};
 ghost use Rattle.pricing_oracle.specs.Searches.{HasSearched, asked_within, no_parts, parts_in};
 
 use crate::branches::branch;
-use crate::filling::{make_room, take_list};
 use crate::legs::Asked;
 use crate::node::TreeParts;
-use compact_table::room::push_within;
 use exact_num::Exact;
 use form::State;
+use lists::{make_room, push_within, take_list};
 use sign_tree::{Multipliers, Nodes, SignTree};
 use simplex::{Budget, RunStop, Space};
 use std::alloc::{AllocError, Global};

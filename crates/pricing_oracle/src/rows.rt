@@ -14,9 +14,9 @@ ghost use Rattle.pricing_oracle.specs.Nodes.{MayBeAsked, legs_asked, role_as};
 ghost use Rattle.pricing_oracle.specs.Programs.{signed_entries, unit_at};
 
 use crate::legs::{Asked, Role, entry, first_of, legs_of};
-use compact_table::room::push_within;
 use exact_num::{Exact, Wide};
 use form::Form;
+use lists::push_within;
 
 // What an option has at entry i.
 fn entry_of<N: Exact>(form: &Form, i: usize) -> Result<N, Wide>

@@ -5,8 +5,8 @@ ghost use Rattle.form.specs.States.{vector_of};
 ghost use Rattle.master_program.specs.Master.{zero_prices};
 ghost use Rattle.node_program.specs.Rounds.{axis_rays};
 
-use compact_table::room::push_within;
 use form::State;
+use lists::push_within;
 
 /// The state of so many entries whose entry at a place is 1, and the others 0.
 fn unit_state(count: u8, place: usize) -> State

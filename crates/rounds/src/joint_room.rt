@@ -9,8 +9,8 @@ use crate::solve_room::SolveRoom;
 use exact_num::Exact;
 use form::{Batch, State};
 use line_cover::breakpoints;
+use lists::make_room;
 use pricing_oracle::SearchRoom;
-use pricing_oracle::filling::make_room;
 use sign_tree::leg_count;
 use std::alloc::{AllocError, Global};
 

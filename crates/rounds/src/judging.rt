@@ -13,12 +13,11 @@ ghost use Rattle.rounds.specs.Rooms.{IsSumsRoom};
 
 use crate::joint::Joint;
 use cert_check::{Claim, Cover, bound_holds, cover_holds, measure_holds, surplus_holds};
-use compact_table::room::push_within;
 use exact_num::{Exact, Wide};
 use form::Batch;
 use frac::Frac128;
+use lists::{make_room, push_within, take_list};
 use measure::Measure;
-use pricing_oracle::filling::{make_room, take_list};
 use sign_tree::leg_count;
 use simplex::RunStop;
 use std::alloc::{AllocError, Global};

@@ -12,9 +12,9 @@ ghost use Rattle.pricing_oracle.specs.Filled.{HasFilled, HasMade};
 ghost use Rattle.rounds.specs.Entry.{entry_over, put_aside, whole_less};
 ghost use Rattle.rounds.specs.Parts.{costs_steps};
 
-use compact_table::room::push_within;
 use exact_num::{Exact, Wide};
 use form::{Form, Leg, Order, Side, State, bundle_payoff};
+use lists::push_within;
 
 /// The most states of a master program, the one where all prices are 0 among them.
 pub const MAX_STATES: usize = 99_744;

@@ -14,11 +14,11 @@ ghost use Rattle.rounds.specs.Optima.{optimum_of};
 ghost use Rattle.rounds.specs.Readings.{reading_in_lists};
 
 use crate::master::{exact_at_zero, for_side};
-use compact_table::room::push_within;
 use exact_num::sums::plus_product;
 use exact_num::{Exact, Wide};
 use form::{Order, State};
 use frac::Frac128;
+use lists::push_within;
 use measure::{Measure, Weighted};
 use pricing_oracle::filling::write_values;
 use simplex::Space;

@@ -12,9 +12,9 @@ use crate::reading::Read;
 use crate::round::{RoundEnd, round};
 use crate::solve_room::{SolveRoom, reading_in};
 use cert_check::Cover;
-use compact_table::room::push_within;
 use exact_num::Exact;
 use form::{Batch, State};
+use lists::push_within;
 use pricing_oracle::SearchRoom;
 use simplex::{Budget, RunStop};
 

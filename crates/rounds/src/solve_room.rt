@@ -7,8 +7,8 @@ ghost use Rattle.rounds.specs.Rooms.{IsSolveRoom};
 
 use crate::reading::{Read, Reading};
 use exact_num::Exact;
+use lists::{make_room, take_list};
 use measure::{Measure, Points, Weighted};
-use pricing_oracle::filling::{make_room, take_list};
 use simplex::Space;
 use std::alloc::{AllocError, Global};
 

@@ -3,7 +3,6 @@
 
 pub mod laws;
 mod limits;
-mod paid_outs;
 pub mod payouts;
 mod position;
 mod positions;
@@ -11,8 +10,7 @@ pub mod premiums;
 mod rounding;
 
 pub use limits::{MAX_GAIN, MAX_PAYOFF, MAX_SETTLEMENT_PRICE};
-pub use paid_outs::Payouts;
 pub use payouts::payout;
-pub use position::{PaidOut, Position};
+pub use position::{PaidOut, Payouts, Position};
 pub use positions::Positions;
 pub use premiums::premium;

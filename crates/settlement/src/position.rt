@@ -2,6 +2,7 @@
 
 use form::{Bundle, Side};
 use frac::Frac128;
+use lists::List;
 
 /// What an order holds of its bundle after a batch in which it was filled, until its market is settled.
 #[derive(Clone, Copy, Debug, PartialEq, Eq)]
@@ -25,3 +26,6 @@ pub struct PaidOut {
     pub side: Side,
     pub amount: u64,
 }
+
+/// What a settlement pays out, which contracts see as their list.
+pub type Payouts = List<PaidOut>;

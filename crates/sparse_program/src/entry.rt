@@ -5,8 +5,8 @@ ghost use Rattle.table_run.specs.Places.{fraction_zero};
 ghost use Rattle.sparse_program.specs.Entries.{HasAdded, written};
 
 use compact_table::is_zero;
-use compact_table::room::push_within;
 use exact_num::Exact;
+use lists::push_within;
 
 /// A number at its place in a row.
 #[derive(Clone, Copy)]

@@ -7,8 +7,9 @@ ghost use Rattle.compact_table.specs.Programs.{empty_program, with_row};
 ghost use Rattle.sparse_program.specs.Ends.{AreEnds};
 
 use crate::entry::{Entry, push_nonzero, write_entries, write_zeros};
-use compact_table::room::{push_within, turn_signs, write_all, write_front};
+use compact_table::room::turn_signs;
 use exact_num::Exact;
+use lists::{push_within, write_all, write_front};
 use std::alloc::{AllocError, Global};
 
 /// A program without its zeros. All its memory is taken when it is made.

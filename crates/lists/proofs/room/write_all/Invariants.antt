@@ -1,5 +1,5 @@
 use Rattle.std.proofs.Common.{◌≡◌, ◌≤◌, take, vec_len, vec_capacity}
-use Rattle.compact_table.proofs.room.write_all.Given as goal
+use Rattle.lists.proofs.room.write_all.Given as goal
 
 -- the items before this one are there
 abbrev pub invariant-loop-item : goal.invariant-loop-item
