@@ -12,6 +12,10 @@ balance_of-push account [] entry = +ℤ_comm (amount_for account entry) (pos 0)
 balance_of-push account (e ∷ entries) entry =
     ap (λ z. amount_for account e +ℤ z) (balance_of-push account entries entry) ∙ sym (+ℤ_assoc (amount_for account e) (balance_of account entries) (amount_for account entry))
 
+pub balance_of-append : (account : ℕ) (xs ys : List Entry) → balance_of account (xs ++ ys) ≡ balance_of account xs +ℤ balance_of account ys
+balance_of-append account [] ys = omega (arith, ints)
+balance_of-append account (entry ∷ xs) ys = omega (arith, ints, balance_of-append account xs ys)
+
 pub AreBounded-push : (entries : List Entry) (entry : Entry) → AreBounded entries → IsBounded entry → AreBounded (entries ++ entry ∷ [])
 AreBounded-push [] entry all one = (one, tt)
 AreBounded-push (e ∷ entries) entry all one = (all.0, AreBounded-push entries entry all.1 one)

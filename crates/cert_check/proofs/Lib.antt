@@ -5,3 +5,7 @@ pub mod Decided
 pub mod Certified
 pub mod Yes
 pub mod WorkedVerdicts
+pub use Rattle.market_laws.proofs.Certificate
+pub use Rattle.market_laws.proofs.Duality
+pub use Rattle.line_cover.proofs.Fills
+pub use Rattle.line_cover.proofs.LineStates

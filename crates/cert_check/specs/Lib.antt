@@ -5,3 +5,6 @@ pub mod Events
 pub mod Conditions
 pub mod Laws
 pub mod Worked
+pub use Rattle.line_cover.specs.Breakpoints
+pub use Rattle.measure.specs.declared.measures.Measure
+pub use Rattle.measure.specs.Points

@@ -37,7 +37,7 @@ use Rattle.master_program.specs.Reading.{Reading}
 use Rattle.master_program.specs.Certified.{IsGreatestByMeasure}
 use Rattle.master_program.specs.Verdict.{IsOutcomeOf, IsNotRefused}
 use Rattle.master_program.proofs.Verdict.{line_readings_are_not_refused}
-use Rattle.search_laws.proofs.Rounds.{rounds_are_not_refused}
+use Rattle.rounds.proofs.Rounds.{rounds_are_not_refused}
 use Rattle.rounds.proofs.JointRuns.{cleared_is_greatest}
 use Rattle.rounds.specs.Answers.{IsCoverAs, limits_of}
 use Rattle.rounds.specs.Laws.{IsGreatestBy}

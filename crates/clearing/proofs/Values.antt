@@ -13,10 +13,9 @@ use Rattle.sign_tree.specs.declared.trees.Node.TheVariants.{Split, Leaf}
 use Rattle.sign_tree.specs.declared.trees.Multiplier.{Multiplier}
 use Rattle.sign_tree.specs.declared.trees.SignTree.{SignTree}
 use Rattle.sign_tree.specs.Read.{node_of, placed_of}
-use Rattle.pricing_oracle.specs.Answers.{IsTreeAs}
 use Rattle.cert_check.specs.declared.outcome.Cover.{Cover}
 use Rattle.cert_check.specs.declared.outcome.Cover.TheVariants.{Line, Tree}
-use Rattle.rounds.specs.Answers.{IsCoverAs}
+use Rattle.rounds.specs.Answers.{IsCoverAs, IsTreeAs}
 use Rattle.rounds.specs.Run.{WrittenCover, by_line, by_tree}
 use Rattle.measure.specs.declared.measures.Weighted.{Weighted}
 use Rattle.measure.specs.Points.{point_of}

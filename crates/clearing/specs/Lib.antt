@@ -3,3 +3,4 @@ pub mod Premiums
 pub mod Passes
 pub mod Rooms
 pub mod Laws
+pub mod RunSteps

@@ -1,8 +1,8 @@
 -- What a certificate of fractions says of a batch.
 use Rattle.std.specs.Prelude.{ℕ, ◌*◌, ◌≡◌, List, ◌∷◌, ◌++◌, map, length, replicate, pos, ◌-ℤ◌, ◌≤ℤ◌}
 use Rattle.std.specs.List.{zip, All}
-use Rattle.exact_num.specs.Fraction.{Fraction, IsDefined}
-use Rattle.exact_num.specs.CommonDenominator.{common_denominator, amount_over, amounts_over, amounts_of, signed_amounts_over, IsRatio}
+use Rattle.form.specs.Fraction.{Fraction, IsDefined}
+use Rattle.form.specs.CommonDenominator.{common_denominator, amount_over, amounts_over, amounts_of, signed_amounts_over, IsRatio}
 use Rattle.form.specs.declared.orders.Order.{Order}
 use Rattle.form.specs.Payoff.{IsState}
 use Rattle.clearing_model.specs.Clearing.{Filled, SignedFill, signed_premium, Covers}

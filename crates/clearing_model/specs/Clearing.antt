@@ -1,8 +1,8 @@
 -- Fills of a batch, what they earn and owe, and the surplus that they cover.
 use Rattle.std.specs.Prelude.{ℕ, ◌*◌, ◌≡◌, ◌≤◌, List, ◌∷◌, length, map, ℤ, pos, neg_ℤ, ◌-ℤ◌, ◌*ℤ◌, ◌≤ℤ◌}
 use Rattle.std.specs.List.{zip, All}
-use Rattle.arithmetic.specs.Sums.{weigh_ℤ, total}
-use Rattle.exact_num.specs.Fraction.{Fraction, IsDefined, AtMost}
+use Rattle.form.specs.Sums.{weigh_ℤ, total}
+use Rattle.form.specs.Fraction.{Fraction, IsDefined, AtMost}
 use Rattle.form.specs.declared.orders.Side.{Side}
 use Rattle.form.specs.declared.orders.Side.TheVariants.{Buy, Sell}
 use Rattle.form.specs.declared.orders.Order.{Order}

@@ -1,9 +1,9 @@
 -- Weighted states, the prices that they give, and the bound on every surplus.
 use Rattle.std.specs.Prelude.{ℕ, ◌*◌, ◌≡◌, ◌≤◌, List, ℤ, pos, ◌-ℤ◌, ◌*ℤ◌, ◌≤ℤ◌}
 use Rattle.std.specs.List.{All}
-use Rattle.arithmetic.specs.Sums.{weigh, total}
-use Rattle.exact_num.specs.Fraction.{Fraction}
-use Rattle.exact_num.specs.CommonDenominator.{IsRatio}
+use Rattle.form.specs.Sums.{weigh, total}
+use Rattle.form.specs.Fraction.{Fraction}
+use Rattle.form.specs.CommonDenominator.{IsRatio}
 use Rattle.form.specs.declared.orders.Side.{Side}
 use Rattle.form.specs.declared.orders.Side.TheVariants.{Buy, Sell}
 use Rattle.form.specs.declared.orders.Order.{Order}

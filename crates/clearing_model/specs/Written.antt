@@ -1,8 +1,8 @@
 -- A tree of signs as it is written: a list of nodes in preorder, and the multipliers of its leaves one leaf after another.
 use Rattle.std.specs.Prelude.{ℕ, suc, zero, ◌+◌, ◌-◌, ◌≡◌, ◌<◌, ◌≤◌, ◌==◌, cond, List, [], ◌∷◌, ◌++◌, length, slice_set, pos, ◌≤ℤ◌}
 use Rattle.std.specs.List.{All, AllPairs}
-use Rattle.exact_num.specs.Fraction.{Fraction}
-use Rattle.exact_num.specs.CommonDenominator.{amount_over}
+use Rattle.form.specs.Fraction.{Fraction}
+use Rattle.form.specs.CommonDenominator.{amount_over}
 use Rattle.form.specs.Payoff.{positive_part}
 use Rattle.clearing_model.specs.Legs.{Exposure, Long, Short, FilledLeg}
 use Rattle.clearing_model.specs.Tree.{Sign, Unsigned, Plus, Minus, Tree, Leaf, Split}

@@ -9,6 +9,7 @@ use Rattle.cert_check.specs.Laws.{IsCovered, IsMeasured, IsProved}
 use Rattle.clearing.specs.Laws as clearing
 use Rattle.clearing.specs.Outcome.{IsMarked, outcome_of}
 use Rattle.clearing.proofs.Marks.{outcomes_are_marked}
+pub use Rattle.clearing.proofs.Yes.{outcomes_are_judged_yes}
 use Rattle.clearing.proofs.Outcomes.{outcomes_are_covered, outcomes_are_measured, optimal_is_greatest}
 use Rattle.form.specs.declared.orders.Batch.{Batch}
 use Rattle.form.specs.Limits.{IsWithinLimits}

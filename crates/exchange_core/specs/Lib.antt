@@ -16,3 +16,4 @@ pub mod Reserves
 pub mod Step
 pub mod Terms
 pub mod Worked
+pub mod RunSteps

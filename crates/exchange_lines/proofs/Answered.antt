@@ -3,7 +3,6 @@ use Rattle.std.proofs.Common.{◌≡◌, ℕ, List, [], ◌∷◌, ◌++◌, All
 use Rattle.std.proofs.lemmas.List.Elements.{All-nil, All-cons, All-head, All-tail}
 use Rattle.cert_check.specs.declared.outcome.Outcome.{Outcome}
 use Rattle.cert_check.specs.Laws.{IsCovered}
-use Rattle.clearing.proofs.Yes.{outcomes_are_judged_yes}
 use Rattle.command_text.specs.declared.command.Body.{Body}
 use Rattle.command_text.specs.declared.command.Body.TheVariants.{Command, Syntax, Range}
 use Rattle.command_text.specs.declared.command.Line.{Line}
@@ -14,7 +13,7 @@ use Rattle.reply_print.specs.declared.replies.Reply.{Reply}
 use Rattle.exchange_core.specs.Covered.{IfCleared, OfEachCleared, IsProvedGreatest}
 use Rattle.exchange_core.specs.ExchangeState.{ExchangeState, empty_exchange}
 use Rattle.exchange_core.specs.Kept.{IsKept}
-use Rattle.exchange_core.proofs.Covered.{step_has, step_is_covered, step_is_optimal, step_is_marked}
+use Rattle.exchange_core.proofs.Covered.{outcomes_are_judged_yes, step_has, step_is_covered, step_is_optimal, step_is_marked}
 use Rattle.exchange_core.proofs.Keeping.{empty_is_kept, step_keeps}
 use Rattle.form.specs.declared.orders.Batch.{Batch}
 use Rattle.exchange_lines.specs.Output.{output_from}

@@ -1,5 +1,5 @@
 -- One step of a payoff.
-use Rattle.std.proofs.Common.{◌≡◌, ℕ, negsuc, ◌+◌, ◌<◌, ◌≤◌, List, [], ◌∷◌, length, get_or, take, drop, zip, arith, ℤ, pos, ◌+ℤ◌, ◌*ℤ◌, Ok, ap, sym, ◌∙◌}
+use Rattle.std.proofs.Common.{◌≡◌, ℕ, zero, suc, replicate, refl, negsuc, ◌+◌, ◌<◌, ◌≤◌, List, [], ◌∷◌, length, get_or, take, drop, zip, arith, ℤ, pos, ◌+ℤ◌, ◌*ℤ◌, Ok, ap, sym, ◌∙◌}
 use Rattle.std.proofs.lemmas.List.{get_or-take, get_or-map, length-map, length-take-le}
 use Rattle.arithmetic.proofs.Parts.{part_above}
 use Rattle.exact_num.specs.Fraction.{Fraction, whole}
@@ -17,6 +17,11 @@ use Rattle.exact_num.proofs.WholeNumbers.{mul_whole_is, add_whole_is}
 use Rattle.exact_num.proofs.After.{after_value}
 use Rattle.arithmetic.proofs.Lists.{pair_at, pairs_end}
 use Rattle.form.proofs.Vectors.{length-option_of}
+
+pub zero_dot : (v : List ℤ) (n : ℕ) → dot v (replicate n 0) ≡ pos 0
+zero_dot [] n = refl
+zero_dot (a ∷ v) zero = refl
+zero_dot (a ∷ v) (suc n) = omega (arith, ints, zero_dot v n)
 
 pub length-vector_of : (state : State) → length (vector_of state) ≡ state.count
 length-vector_of state =

@@ -16,3 +16,6 @@ pub mod OneOption
 pub mod Between
 pub mod Naturals
 pub mod Sides
+pub use Rattle.arithmetic.specs.Sums
+pub use Rattle.exact_num.specs.Fraction
+pub use Rattle.exact_num.specs.CommonDenominator

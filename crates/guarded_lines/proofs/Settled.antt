@@ -15,7 +15,7 @@ use Rattle.exchange_core.specs.ExchangeState.{ExchangeState}
 use Rattle.exchange_core.specs.Held.{is_held_by, positions_of}
 use Rattle.exchange_core.specs.Payoffs.{payoff_entries, payoff_of, payoff_transfer}
 use Rattle.exchange_core.specs.Step.{settle_effect}
-use Rattle.house_gain.proofs.HouseEntries.{balance_of-append}
+use Rattle.cash_ledger.proofs.Balances.{balance_of-append}
 use Rattle.guarded_lines.specs.Margins.{held_by}
 use Rattle.guarded_lines.specs.Settlements.{after_settling}
 use Rattle.guarded_lines.proofs.Rising.{AreRising}

@@ -12,6 +12,7 @@ use Rattle.cash_ledger.specs.declared.entry.Cause.{Cause}
 use Rattle.cash_ledger.specs.declared.entry.Cause.TheVariants.{Premium, Payoff}
 use Rattle.cash_ledger.specs.declared.entry.Entry.{Entry}
 use Rattle.cash_ledger.specs.Entries.{balance_of, deposit_of, transfer_of, withdrawal_of}
+use Rattle.cash_ledger.proofs.Balances.{balance_of-append}
 use Rattle.clearing_model.specs.Certificate.{IsFill}
 use Rattle.clearing_model.specs.Clearing.{for_side}
 use Rattle.form.specs.declared.orders.Order.{Order}
@@ -27,10 +28,6 @@ use Rattle.exchange_core.specs.Premiums.{premium_entries, premium_transfer, prem
 use Rattle.house_gain.specs.Gain.{house_total, is_entry_for, is_for_batch, is_payout_of, paid_to_trader, paid_to_traders, premium_gain, premium_gains}
 
 -- ---- entries one after another
-pub balance_of-append : (account : ℕ) (xs ys : List Entry) → balance_of account (xs ++ ys) ≡ balance_of account xs +ℤ balance_of account ys
-balance_of-append account [] ys = omega (arith, ints)
-balance_of-append account (entry ∷ xs) ys = omega (arith, ints, balance_of-append account xs ys)
-
 module _ (number : ℕ) where
   pub house_total-append : (xs ys : List Entry) → house_total number (xs ++ ys) ≡ house_total number xs +ℤ house_total number ys
   house_total-append xs ys = ap (balance_of 0) (filter-append (is_entry_for number) xs ys) ∙ balance_of-append 0 (filter (is_entry_for number) xs) (filter (is_entry_for number) ys)

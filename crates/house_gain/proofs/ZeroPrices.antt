@@ -3,7 +3,7 @@ use Rattle.std.proofs.Common.{◌≡◌, ℕ, ◌+◌, ◌-◌, ◌≤◌, List,
 use Rattle.std.proofs.lemmas.List.{length-append, length-replicate}
 use Rattle.form.specs.Payoff.{BundleLeg, dot}
 use Rattle.settlement.specs.Payout.{worth_at}
-use Rattle.master_program.proofs.Steps.{zero_dot}
+use Rattle.form.proofs.DotSteps.{zero_dot}
 
 dot-with_zero_prices : (v : List ℤ) (z : List ℕ) (k : ℕ) → dot v (z ++ replicate k 0) ≡ dot v z
 dot-with_zero_prices [] z k = refl

@@ -1,6 +1,6 @@
 -- The house's gain of a batch, worked by hand.
 use Rattle.std.specs.Prelude.{List, [], ◌∷◌, pos, negsuc, ◌≡◌}
-use Rattle.clearing.specs.Outcome.{outcome_of}
+use Rattle.exchange_core.specs.RunSteps.{outcome_of}
 use Rattle.cert_check.specs.declared.outcome.Outcome.{Outcome}
 use Rattle.command_text.specs.declared.command.Command.{Command}
 use Rattle.command_text.specs.declared.command.Command.TheVariants.{Open, Deposit, Market, Clear}

@@ -8,8 +8,8 @@ use Rattle.exact_num.specs.CommonDenominator.{common_denominator, amount_over, s
 use Rattle.form.specs.Vector.{IsState, scale_of}
 use Rattle.clearing_model.specs.Measure.{WeightedState, mass_of, bound_of, Proves}
 use Rattle.clearing_model.specs.Certificate.{Point, fraction_weight, points_over, HasUnitMass, IsFractionMeasure}
-use Rattle.market_laws.proofs.Duality.{duality}
-use Rattle.market_laws.proofs.Certificate.{are_fills, is_measure}
+use Rattle.cert_check.proofs.Duality.{duality}
+use Rattle.cert_check.proofs.Certificate.{are_fills, is_measure}
 use Rattle.master_program.specs.OptimumLaws.{measure_points, MasterCertifies}
 use Rattle.master_program.proofs.Primal.{primal}
 use Rattle.master_program.proofs.Dual.{dual}

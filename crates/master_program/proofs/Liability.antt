@@ -19,7 +19,7 @@ use Rattle.form.specs.declared.orders.Side.TheVariants.{Buy, Sell}
 use Rattle.form.specs.declared.orders.Order.{Order}
 use Rattle.clearing_model.specs.Clearing.{for_side, signed_sum, signed_net}
 use Rattle.clearing_model.specs.Certificate.{signed_over}
-use Rattle.line_cover.proofs.Fills.{fills_stand}
+use Rattle.cert_check.proofs.Fills.{fills_stand}
 use Rattle.master_program.specs.Master.{zero_prices, payoff_at_zero, signed_for}
 use Rattle.master_program.specs.Reading.{add_owed, owed_of, liability_of}
 use Rattle.master_program.specs.Certified.{IsLiability}

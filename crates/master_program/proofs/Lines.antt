@@ -3,9 +3,9 @@ use Rattle.std.proofs.Common.{List, All}
 use Rattle.arithmetic.proofs.Sums.{All-tail}
 use Rattle.form.specs.declared.orders.Order.{Order}
 use Rattle.form.specs.Vector.{IsState}
-use Rattle.market_laws.proofs.Certificate.{line_certificate_covers}
-use Rattle.line_cover.specs.Breakpoints.{first_state, later_states, line_states}
-use Rattle.line_cover.proofs.LineStates.{lines_close_at_states, line_states_are_states}
+use Rattle.cert_check.proofs.Certificate.{line_certificate_covers}
+use Rattle.cert_check.specs.Breakpoints.{first_state, later_states, line_states}
+use Rattle.cert_check.proofs.LineStates.{lines_close_at_states, line_states_are_states}
 use Rattle.master_program.specs.Reading.{Reading}
 use Rattle.master_program.specs.Certified.{IsCertifiedAt, IsGreatestByLine}
 use Rattle.master_program.specs.OptimumLaws.{LineReadingsAreGreatest}

@@ -16,7 +16,7 @@ use Rattle.table_run.proofs.Optima.{ends_are_as_said}
 use Rattle.form.specs.declared.orders.Order.{Order}
 use Rattle.form.specs.Vector.{IsState}
 use Rattle.clearing_model.specs.Certificate.{Point}
-use Rattle.market_laws.proofs.Certificate.{cover_and_measure_are_optimal}
+use Rattle.cert_check.proofs.Certificate.{cover_and_measure_are_optimal}
 use Rattle.master_program.specs.Master.{zero_prices, plain_master, master}
 use Rattle.master_program.specs.Reading.{Reading, reading_with, liability_of, points_with_weight}
 use Rattle.master_program.proofs.Bounded.{master_is_program, master_is_bounded}

@@ -7,7 +7,7 @@ use Rattle.table_run.specs.Run.{Optimum, run, optimum}
 use Rattle.table_run.proofs.Endings.{EndsWith, ends_with, on_answer-ends, on_steps-ends}
 use Rattle.form.specs.declared.orders.Order.{Order}
 use Rattle.form.specs.Vector.{IsState}
-use Rattle.line_cover.specs.Breakpoints.{later_states}
+use Rattle.cert_check.specs.Breakpoints.{later_states}
 use Rattle.master_program.specs.Master.{zero_prices, master}
 use Rattle.master_program.specs.Reading.{Reading}
 use Rattle.master_program.specs.Solve.{reading_at, on_optimum, master_run, master_solve}

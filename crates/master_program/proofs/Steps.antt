@@ -18,6 +18,7 @@ use Rattle.form.specs.declared.orders.Order.{Order}
 use Rattle.form.specs.Vector.{scale_of, dot, strike_entry, over_legs}
 use Rattle.form.specs.Payoff.{bundle_of}
 use Rattle.clearing_model.specs.Clearing.{for_side}
+use Rattle.form.proofs.DotSteps.{zero_dot}
 use Rattle.form.proofs.LegSteps.{bundle_payoffs_are_exact}
 use Rattle.master_program.specs.Master.{zero_prices, pays, order_cost, order_entry, costs_of, quantity_rows, state_row, rows_of, right_sides_of, plain_master, map_steps, signed_for, payoff_at_zero, order_payoff, cost_steps, entry_steps, row_steps, rows_steps, quantity_steps, master}
 use Rattle.master_program.specs.Laws.{StepsGiveMaster}
@@ -56,11 +57,6 @@ all_give f g (x ∷ xs) h =
     (gives_after (map_steps f xs) (λ ys. Ok (g x ∷ ys)) (map g xs) goal (all_give f g xs h) (gives_ok goal goal refl))
 
 -- ---- payoffs
-pub zero_dot : (v : List ℤ) (n : ℕ) → dot v (replicate n 0) ≡ pos 0
-zero_dot [] n = refl
-zero_dot (a ∷ v) zero = refl
-zero_dot (a ∷ v) (suc n) = omega (arith, ints, zero_dot v n)
-
 first_dot : (v : List ℤ) (n : ℕ) → strike_entry v ≡ dot v (zero_prices n)
 first_dot [] n = refl
 first_dot (a ∷ v) n = omega (arith, ints, zero_dot v n)

@@ -7,8 +7,8 @@ use Rattle.form.specs.declared.orders.Batch.{Batch}
 use Rattle.form.specs.Payoff.{IsState}
 use Rattle.clearing_model.specs.Clearing.{AreOn}
 use Rattle.clearing_model.specs.Certificate.{AreFractionFills, IsPremiumLessLiability, Point, HasUnitMass, IsFractionMeasure, MeasureProves}
-use Rattle.measure.specs.declared.measures.Measure.{Measure}
-use Rattle.measure.specs.Points.{point_of}
+use Rattle.cert_check.specs.Measure.{Measure}
+use Rattle.cert_check.specs.Points.{point_of}
 use Rattle.cert_check.specs.declared.outcome.Cover.{Cover}
 use Rattle.cert_check.specs.declared.outcome.Cover.TheVariants.{Line}
 use Rattle.cert_check.specs.declared.outcome.Mark.{Mark}

@@ -12,7 +12,7 @@ use Rattle.clearing_model.specs.Certificate.{Point, FillsCover, IsFractionMeasur
 use Rattle.master_program.specs.Master.{zero_prices, plain_master, master}
 use Rattle.master_program.specs.Reading.{Reading, reading_with, reading_of, points_with_weight}
 use Rattle.master_program.specs.Solve.{master_solve}
-use Rattle.line_cover.specs.Breakpoints.{later_states}
+use Rattle.cert_check.specs.Breakpoints.{later_states}
 use Rattle.master_program.specs.Certified.{IsSolved, IsCertifiedAt, IsGreatestByMeasure, IsGreatestByLine}
 
 -- the states, each with its weight

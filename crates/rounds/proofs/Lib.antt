@@ -13,3 +13,4 @@ pub mod WorkedRuns
 pub mod Wider
 pub mod EnoughUnits
 pub mod ShortEntry
+pub use Rattle.search_laws.proofs.Placed

@@ -12,6 +12,7 @@ use Rattle.node_program.specs.Search.{Found, closed, found, search}
 use Rattle.node_program.specs.Rounds.{Limits, Cleared, question_of, on_search, rounds_from, rounds, axis_rays}
 use Rattle.node_program.proofs.Wider.{next_round}
 use Rattle.search_laws.proofs.Rounds.{all_rounds_end}
+pub use Rattle.search_laws.proofs.Rounds.{rounds_are_not_refused}
 use Rattle.simplex.specs.declared.stop.RunStop.{RunStop}
 use Rattle.rounds.specs.Stops.{IsStopOf}
 use Rattle.search_laws.specs.Sizes.{one_round}

@@ -10,7 +10,7 @@ use Rattle.form.specs.declared.orders.Batch.{Batch}
 use Rattle.cert_check.specs.declared.outcome.Cover.{Cover}
 use Rattle.cert_check.specs.declared.outcome.Cover.TheVariants.{Line, Tree}
 use Rattle.node_program.specs.Rounds.{Limits}
-use Rattle.pricing_oracle.specs.Answers.{IsTreeAs}
+pub use Rattle.pricing_oracle.specs.Answers.{IsTreeAs}
 use Rattle.rounds.specs.Run.{WrittenCover, by_line, by_tree, Solution, sums_of}
 use Rattle.cert_check.specs.Conditions.{IsCoverOn}
 use Rattle.measure.specs.Points.{point_of, IsOnStates}

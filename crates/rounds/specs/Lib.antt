@@ -11,3 +11,4 @@ pub mod Readings
 pub mod Rooms
 pub mod Round
 pub mod Stops
+pub mod RunSteps

@@ -12,7 +12,8 @@ use Rattle.master_program.specs.Solve.{master_solve}
 use Rattle.master_program.specs.Verdict.{sums_with}
 use Rattle.clearing_model.specs.Written.{WrittenTree}
 use Rattle.node_program.specs.Rounds.{Limits, Cleared, rounds}
-use Rattle.search_laws.specs.Run.{sums_hold as tree_sums_hold}
+pub use Rattle.search_laws.specs.Run.{sums_hold as tree_sums_hold}
+unfoldable pub use Rattle.search_laws.specs.Run.{tree_run}
 
 -- the sums of the verdict on what was read off, in order: surplus, line, measure and bound
 abbrev pub sums_hold : ℕ → List Order → Reading → Result Bool Wide

@@ -20,7 +20,7 @@ use Rattle.sign_tree.specs.Legs.{FractionLeg, fraction_legs, leg_fill}
 use Rattle.sign_tree.specs.Walk.{SignedLeg, add_leg, add_term, are_placed, closes_of, entries_close, entry_sum, first_at, is_within, is_within_at, keeps_within, leaf_closes, left_after, less_liability, may_split, plus_filled, signed_legs, walk}
 use Rattle.node_program.specs.Rounds.{Cleared, rounds}
 use Rattle.rounds.specs.Answers.{limits_of}
-use Rattle.search_laws.specs.Run.{sums_hold, tree_run}
+use Rattle.rounds.specs.Run.{tree_sums_hold as sums_hold, tree_run}
 use Rattle.table_run.specs.Ending.{done, where_fits}
 use Rattle.run_values.specs.Values.{Ends, IsPlacedOf, IsTreeOf, IsValue}
 use Rattle.run_values.proofs.Nodes.{IsLegOf, entry_low, legs_are, less_has, read_entry}

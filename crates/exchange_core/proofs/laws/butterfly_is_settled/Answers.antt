@@ -1,15 +1,9 @@
 use Rattle.std.proofs.Common.{refl}
 use Rattle.exact_num.specs.Fits.{operations}
-use Rattle.table_run.specs.Run.{table_run}
 use Rattle.form.specs.BundleOf.{bundle_one}
 use Rattle.form.specs.FormOf.{form_of}
 use Rattle.frac.specs.ValueOf.{value_of}
-use Rattle.line_cover.specs.Breakpoints.{insert, in_rising_price}
-use Rattle.master_program.specs.Master.{master_steps}
-use Rattle.master_program.specs.Reading.{reading_steps}
-use Rattle.master_program.specs.Solve.{solve_steps}
-use Rattle.rounds.specs.Run.{joint_run, line_run}
-use Rattle.clearing.specs.Outcome.{optimal_outcome, outcome_of}
+use Rattle.clearing.specs.RunSteps.{optimal_outcome, outcome_of, table_run, insert, in_rising_price, master_steps, reading_steps, solve_steps, joint_run, line_run}
 use Rattle.exchange_core.proofs.laws.butterfly_is_settled.Goals as goal
 
 pub returns : goal.returns
