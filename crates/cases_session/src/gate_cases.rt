@@ -74,7 +74,7 @@ fn send_all<V: Server>(
 
 // Whether the kept reply of a session is the one to the body of this number.
 fn keeps(gate: &Gate, session: u32, number: u8) -> bool {
-    match gate.last_reply(session) {
+    match gate.kept(session) {
         Some(reply) => reply == [0, 0, 0, number].as_slice(),
         None => false,
     }
@@ -134,7 +134,7 @@ static SECOND_ANSWERS: [Answer; 4] = [
 fn are_served_once(gate: &Gate, took: &[Vec<u8>]) -> bool {
     keeps(gate, 7, 3)
         && keeps(gate, 8, 2)
-        && gate.last_reply(9).is_none()
+        && gate.kept(9).is_none()
         && took.len() == 3
         && took[2].as_slice() == b"balance,2".as_slice()
 }
@@ -190,7 +190,7 @@ fn ten_thousand_sessions_are_known(rt: HostRuntime) -> Result<(), Fail> {
     let answers = send_all(&rt, alloc, &mut gate, &mut server, &messages)?;
     assert!(rt; answers.len() == 10_002);
     assert!(rt; is_last_refused(&answers));
-    assert!(rt; gate.last_reply(10_001).is_none());
+    assert!(rt; gate.kept(10_001).is_none());
     Ok(())
 }
 
@@ -242,7 +242,7 @@ fn want_of_memory_leaves_the_gate(rt: HostRuntime) -> Result<(), Fail> {
     assert!(rt; server.spent);
     assert!(rt; server.took.len() == 2);
     assert!(rt; keeps(&gate, 7, 1));
-    assert!(rt; gate.last_reply(8).is_none());
+    assert!(rt; gate.kept(8).is_none());
     Ok(())
 }
 

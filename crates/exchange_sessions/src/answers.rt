@@ -109,7 +109,7 @@ fn write_told<K: Sink>(
 fn kept_reply(gate: &Gate, session: u32) -> &[u8]
     ensures { result.now ≡ kept_reply gate.now session }
 {
-    match gate.last_reply(session) {
+    match gate.kept(session) {
         Some(reply) => reply,
         None => &[],
     }
