@@ -1,7 +1,14 @@
-//! A law over the definition of the answers: the contract of a function that does nothing.
-ghost use Rattle.quote_lines.specs.Laws.{QuotesAnswerAsRun};
+//! Laws over the definition of the answers: each is the contract of a function that does nothing.
+ghost use Rattle.quote_lines.specs.Laws.{QuotedLinesAreThresholds, QuotesAnswerAsRun};
 
 /// Each line is answered as in a run, or by a refusal or by what is quoted, and then the exchange is as it was.
 pub fn quotes_answer_as_run()
     ensures { QuotesAnswerAsRun }
+{}
+
+/// A line that asks for a quote and meets no refusal is answered by a quoted line. Its bid is the price from which on a further
+/// buy raises the greatest surplus of the market's live orders, and its ask that of a further sell: `never` where no price
+/// raises it, `unmarked` where a clear that would have told it is not marked optimal.
+pub fn quoted_lines_are_thresholds()
+    ensures { QuotedLinesAreThresholds }
 {}
