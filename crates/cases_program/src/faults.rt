@@ -93,15 +93,21 @@ fn messages_take_effect_once(rt: HostRuntime) -> Result<(), Fail> {
 }
 
 #[test]
-fn a_demo_is_summarised(rt: HostRuntime) -> Result<(), Fail> {
-    let alloc = rt.alloc();
-    let (status, sink) = run(alloc, "demo 1 1", b"open,1", 1, 0)?;
-    assert_eq!(rt; status, Status::Done);
-    assert_lines(
-        &rt,
-        sink.written(),
-        "{\"batches\":1,\"budget\":0,\"house\":\"0\",\"lines\":84,\"optimal\":1,\"refused\":0,\"wide\":0}\n",
-    );
+fn demos_are_summarised(rt: HostRuntime) -> Result<(), Fail> {
+    for (words, summary) in [
+        (
+            "demo 1 1",
+            "{\"batches\":1,\"budget\":0,\"house\":\"0\",\"lines\":84,\"optimal\":1,\"refused\":0,\"wide\":0}\n",
+        ),
+        (
+            "demo 1 60",
+            "{\"batches\":3,\"budget\":0,\"house\":\"7716\",\"lines\":145,\"optimal\":3,\"refused\":0,\"wide\":0}\n",
+        ),
+    ] {
+        let (status, sink) = run(rt.alloc(), words, b"open,1", 1, 0)?;
+        assert_eq!(rt; status, Status::Done, "at {words}");
+        assert_lines(&rt, sink.written(), summary);
+    }
     Ok(())
 }
 

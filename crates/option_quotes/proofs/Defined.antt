@@ -24,7 +24,7 @@ use Rattle.option_quotes.proofs.Middles.{halved, middle_within, middles_end, mid
 use Rattle.option_quotes.proofs.Raising.{from_best, raises_where_raised, raised_where_raises}
 
 -- ---- probes that are all marked
-none_unmarked : (probe : Probe) (rest : List Probe) → first_unmarked (probe ∷ rest) ≡ None → (is_optimal probe.1 ≡ true) × (first_unmarked rest ≡ None)
+pub none_unmarked : (probe : Probe) (rest : List Probe) → first_unmarked (probe ∷ rest) ≡ None → (is_optimal probe.1 ≡ true) × (first_unmarked rest ≡ None)
 none_unmarked probe rest e =
     let P : Bool → Type 0 = λ t. is_optimal probe.1 ≡ t → (if t then first_unmarked rest else Some probe) ≡ None → (is_optimal probe.1 ≡ true) × (first_unmarked rest ≡ None) in
     (elim (is_optimal probe.1) as P [ true ↦ λ is none. (is, none) | false ↦ λ is none. absurd (cc) ]) refl e

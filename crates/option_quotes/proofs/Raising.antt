@@ -133,7 +133,7 @@ if_optimal (Optimal cover measure) P h e = h
 if_optimal (Wide wide) P h e = cc
 if_optimal Budget P h e = cc
 
-proved : (batch : Batch) (limit : ℕ) (outcome : Outcome) → IsWithinLimits batch → outcome ≡ outcome_of batch limit → is_optimal outcome ≡ true → IsProved batch outcome
+pub proved : (batch : Batch) (limit : ℕ) (outcome : Outcome) → IsWithinLimits batch → outcome ≡ outcome_of batch limit → is_optimal outcome ≡ true → IsProved batch outcome
 proved batch limit outcome within is optimal =
     let known = subst (λ (o : Outcome). IfOptimal o.mark (λ cover measure. IsProved batch o)) (sym is) (optimal_is_greatest batch limit within) in
     if_optimal outcome.mark (IsProved batch outcome) known optimal

@@ -26,10 +26,13 @@ abbrev pub CoversAbove : ℕ → List Order → Fraction → Type 0
 CoversAbove n orders s =
     (g : List ℕ) × (F : ℕ) × (S : Fraction) × IsDefined S × IsBelow s S × FillsCoverAt n orders g F S
 
--- some fill of the batch with the order at this price covers a number above the base's surplus
+-- some fills of the batch with the order at this price cover a number above s
+abbrev pub RaisesAbove : Batch → Order → Fraction → ℕ → Type 0
+RaisesAbove batch order s price = CoversAbove batch.underlyings (with_order batch (at_price order price)).orders s
+
+-- a number above the base's surplus
 abbrev pub Raises : Batch → Order → Outcome → ℕ → Type 0
-Raises batch order base price =
-    CoversAbove batch.underlyings (with_order batch (at_price order price)).orders (fraction_of base.claim.surplus)
+Raises batch order base price = RaisesAbove batch order (fraction_of base.claim.surplus) price
 
 -- a whole price raises the surplus exactly where it is no worse for a match than this one
 abbrev pub RaisesFrom : Batch → Order → Outcome → ℕ → Type 0

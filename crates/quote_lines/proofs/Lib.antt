@@ -5,3 +5,4 @@ pub mod RequestSays
 pub mod RequestsWithin
 pub mod AsRun
 pub mod MayQuote
+pub mod Thresholds

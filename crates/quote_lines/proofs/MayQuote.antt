@@ -1,10 +1,12 @@
 -- What a request meets: a batch that may be quoted, or its first refusal.
-use Rattle.std.proofs.Common.{◌≡◌, ◌+◌, ◌≤◌, ◌<◌, [], ◌∷◌, length, All, Bool, true, false, not, nat_eq, nat_le, Option, Some, None, is_some, if◌then◌else◌, refl, sym, ap, subst, ◌∙◌, arith}
+use Rattle.std.proofs.Common.{◌≡◌, ◌+◌, ◌≤◌, ◌<◌, [], ◌∷◌, Bool, true, false, not, nat_eq, nat_le, Option, Some, None, is_some, if◌then◌else◌, refl, sym, ap, subst, ◌∙◌, arith}
 use Rattle.std.specs.Option.{option_map, option_map_or}
 use Rattle.std.proofs.lemmas.Bool.Decides.{nat_tests}
 use Rattle.std.proofs.lemmas.List.Elements.{All-weaker}
 use Rattle.form.specs.declared.orders.Batch.{Batch}
 use Rattle.form.specs.declared.orders.Order.{Order}
+use Rattle.form.specs.Limits.{IsListed}
+use Rattle.form.specs.Payoff.{option_of}
 use Rattle.order_book.specs.declared.limits.TheConstants.{MAX_BATCHES}
 use Rattle.order_book.specs.declared.market.MarketInfo.{MarketInfo}
 use Rattle.order_book.specs.declared.refusal.BookRefusal.TheVariants as book
@@ -12,13 +14,14 @@ use Rattle.order_book.specs.Book.{batch_of, info_in, info_of, market_of}
 use Rattle.order_book.specs.Kept.{IsLive}
 use Rattle.order_book.specs.Markets.{MarketState}
 use Rattle.order_book.specs.Refusals.{batch_refusals, is_full}
-use Rattle.order_book.proofs.BookKept.{market_kept}
+use Rattle.order_book.proofs.BookKept.{batch_within, market_kept}
 use Rattle.exchange_core.specs.declared.refusal.Refusal.{Refusal}
 use Rattle.exchange_core.specs.declared.refusal.Refusal.TheVariants.{Settled, WeightCount, BookFull, TooMany}
 use Rattle.exchange_core.specs.ExchangeState.{ExchangeState}
 use Rattle.exchange_core.specs.Kept.{IsKept}
 use Rattle.exchange_core.specs.Reply.{refused_with}
 use Rattle.exchange_core.specs.Step.{batch_in}
+use Rattle.option_quotes.specs.Thresholds.{MayBeQuoted}
 use Rattle.quote_lines.specs.declared.requests.QuoteRequest.{QuoteRequest}
 use Rattle.refusals.specs.Refusals.{first_of}
 use Rattle.refusals.proofs.FirstRefusal.{first_behind, first_in_front}
@@ -28,46 +31,47 @@ use Rattle.quote_lines.specs.Refusals.{info_refusals, quote_refusals}
 use Rattle.quote_lines.specs.Replies.{quote_reply, quoted_for}
 
 -- ---- a batch that may be quoted
-pub record MayQuote (batch : Batch) (request : QuoteRequest) : Type 0 where
-  pub room : length batch.orders ≤ 255
-  pub ids : All (λ (order : Order). order.id ≤ 1000000) batch.orders
-  pub on : request.form.count ≡ batch.underlyings + 1
-
 none_of : (a b c : Bool) → first_of ((a, Settled) ∷ (b, WeightCount) ∷ (c, BookFull) ∷ []) ≡ None → (a ≡ false) × (b ≡ false) × (c ≡ false)
 none_of true b c none = absurd (cc)
 none_of false true c none = absurd (cc)
 none_of false false true none = absurd (cc)
 none_of false false false none = (refl, refl, refl)
 
-market_may : (state : ExchangeState) (request : QuoteRequest) (m : MarketState) → IsKept state → market_of state.book request.market ≡ Some m
-    → first_of (info_refusals (Some (info_of m)) request) ≡ None → MayQuote (batch_of m) request
-market_may state request m kept found none =
+market_may : (state : ExchangeState) (request : QuoteRequest) (m : MarketState) → IsKept state → IsListed (option_of request.form) → market_of state.book request.market ≡ Some m
+    → first_of (info_refusals (Some (info_of m)) request) ≡ None → MayBeQuoted (batch_of m) request.form
+market_may state request m kept listed found none =
     let book_kept = kept.orders.book in
     let market = market_kept state.book book_kept request.market m found in
     let tests = none_of m.settled (not (nat_eq request.form.count (m.underlyings + 1))) (is_full (info_of m)) none in
     let most = book_kept.accepted in
     record {
+      within = batch_within state.book.accepted m market;
       room = grind (arith, nat_tests, tests.2);
       ids = All-weaker (IsLive m.underlyings state.book.accepted) (λ (order : Order). order.id ≤ 1000000) (λ order live. omega (arith, live.number, most)) m.live market.live;
+      listed = listed;
       on = grind (arith, nat_tests, tests.1);
     }
 
-by_market : (state : ExchangeState) (request : QuoteRequest) (batch : Batch) → IsKept state → (found : Option MarketState) → market_of state.book request.market ≡ found → option_map batch_of found ≡ Some batch
-    → first_of (info_refusals (option_map info_of found) request) ≡ None → MayQuote batch request
-by_market state request batch kept None found is none = absurd (cc)
-by_market state request batch kept (Some m) found is none =
-    let same : batch_of m ≡ batch = cc in
-    subst (λ (b : Batch). MayQuote b request) same (market_may state request m kept found none)
+-- the live orders of the market of a request that its market does not refuse
+pub live_may : (state : ExchangeState) (request : QuoteRequest) → IsKept state → IsListed (option_of request.form) → first_of (info_refusals (info_in state.book request.market) request) ≡ None
+    → MayBeQuoted (batch_in state request.market) request.form
+live_may state request kept listed none = by (market_of state.book request.market) refl none
+  where
+    by : (found : Option MarketState) → market_of state.book request.market ≡ found → first_of (info_refusals (option_map info_of found) request) ≡ None
+        → MayBeQuoted (option_map_or batch_of found (record { underlyings = 0; orders = [] })) request.form
+    by None found none = absurd (cc)
+    by (Some m) found none = market_may state request m kept listed found none
 
-pub may_quote : (state : ExchangeState) (request : QuoteRequest) (batch : Batch) → IsKept state → option_map batch_of (market_of state.book request.market) ≡ Some batch
-    → first_of (info_refusals (info_in state.book request.market) request) ≡ None → MayQuote batch request
-may_quote state request batch kept is none = by_market state request batch kept (market_of state.book request.market) refl is none
-
--- ---- the reply
 batch_is : (found : Option MarketState) (batch other : Batch) → option_map batch_of found ≡ Some batch → option_map_or batch_of found other ≡ batch
 batch_is None batch other is = absurd (cc)
 batch_is (Some m) batch other is = cc
 
+pub may_quote : (state : ExchangeState) (request : QuoteRequest) (batch : Batch) → IsKept state → IsListed (option_of request.form) → option_map batch_of (market_of state.book request.market) ≡ Some batch
+    → first_of (info_refusals (info_in state.book request.market) request) ≡ None → MayBeQuoted batch request.form
+may_quote state request batch kept listed is none =
+    subst (λ (b : Batch). MayBeQuoted b request.form) (batch_is (market_of state.book request.market) batch _ is) (live_may state request kept listed none)
+
+-- ---- the reply
 -- by the number of batches, where nothing that is told of the market refuses
 by_batches : (state : ExchangeState) (request : QuoteRequest) → first_of (info_refusals (info_in state.book request.market) request) ≡ None
     → first_of (quote_refusals state.book request) ≡ (if nat_le MAX_BATCHES state.book.finished then Some TooMany else None)

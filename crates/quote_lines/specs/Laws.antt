@@ -1,7 +1,47 @@
 -- What holds of each answer.
+use Rattle.std.specs.Prelude.{◌≡◌, ℕ, List, [], ◌∷◌, ◌++◌, None}
+use Rattle.form.specs.declared.orders.Batch.{Batch}
+use Rattle.form.specs.declared.orders.Order.{Order}
+use Rattle.form.specs.declared.orders.Side.{Side}
+use Rattle.form.specs.declared.orders.Side.TheVariants.{Buy, Sell}
+use Rattle.option_quotes.specs.Probes.{Probe, further}
+use Rattle.option_quotes.specs.Thresholds.{IsUnmarked, NeverRaisesGreatest, RaisesGreatestFrom}
+use Rattle.exchange_core.specs.ExchangeState.{ExchangeState}
+use Rattle.exchange_core.specs.Kept.{IsKept}
+use Rattle.exchange_core.specs.Step.{batch_in}
 use Rattle.exchange_lines.specs.LineSteps.{AnswersAsRun}
+use Rattle.quote_text.specs.declared.bodies.QuotesBody.TheVariants.{Quote}
+use Rattle.quote_text.specs.declared.prices.QuotedPrice.{QuotedPrice}
+use Rattle.quote_text.specs.declared.prices.QuotedPrice.TheVariants.{At, Never, Unmarked}
+use Rattle.quote_text.specs.declared.requests.QuoteRequest.{QuoteRequest}
+use Rattle.quote_text.specs.Bodies.{quotes_body_of}
+use Rattle.quote_text.specs.Quoted.{quoted_line}
+use Rattle.refusals.specs.Refusals.{first_of}
 use Rattle.quote_lines.specs.Output.{IsQuoteText, quotes_line}
+use Rattle.quote_lines.specs.Refusals.{quote_refusals}
 
 -- each line is answered as in a run, or by a refusal or by what is quoted, and then the exchange is as it was
 abbrev pub QuotesAnswerAsRun : Type 0
 QuotesAnswerAsRun = AnswersAsRun IsQuoteText quotes_line
+
+-- ---- what a quoted line tells
+-- a price: from it on the order raises the greatest surplus of the batch; `never`: at no price; `unmarked`: a clear of at most so
+-- many units, of the batch or of the batch with the order at some price, is not marked optimal
+abbrev pub TellsPrice : Batch → Order → ℕ → QuotedPrice → Type 0
+TellsPrice batch order budget (At price) = RaisesGreatestFrom batch order price
+TellsPrice batch order budget Never = NeverRaisesGreatest batch order
+TellsPrice batch order budget Unmarked = (probe : Probe) × IsUnmarked batch order budget probe
+
+-- of a further order on the side for the option that is asked for, and the live orders of the market
+abbrev pub TellsOf : ExchangeState → QuoteRequest → Side → QuotedPrice → Type 0
+TellsOf state request side price = TellsPrice (batch_in state request.market) (further request.form side) request.budget price
+
+-- a line that asks for a quote and meets no refusal is answered by a quoted line, whose bid tells this of a further buy and
+-- whose ask of a further sell, and the exchange is as it was
+abbrev pub QuotedLinesAreThresholds : Type 0
+QuotedLinesAreThresholds =
+    (number : ℕ) (state : ExchangeState) (line : List ℕ) (request : QuoteRequest) → IsKept state
+    → quotes_body_of line ≡ Quote request → first_of (quote_refusals state.book request) ≡ None
+    → (bid : QuotedPrice) × (ask : QuotedPrice)
+    × (quotes_line number state line ≡ (quoted_line number request.market bid ask ++ 10 ∷ [], state))
+    × TellsOf state request Buy bid × TellsOf state request Sell ask

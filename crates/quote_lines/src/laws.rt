@@ -1,5 +1,5 @@
 //! Laws over the definitions: each is the contract of a function that does nothing.
-ghost use Rattle.quote_lines.specs.Laws.{QuotesAnswerAsRun};
+ghost use Rattle.quote_lines.specs.Laws.{QuotedLinesAreThresholds, QuotesAnswerAsRun};
 ghost use Rattle.quote_lines.specs.RequestLaws.{OtherLinesAreRuns, RequestsAreWithin, WorkedRequests};
 
 /// A line whose first field is not `quote` says what it says to a run.
@@ -20,4 +20,11 @@ pub fn worked_requests()
 /// Each line is answered as in a run, or by a refusal or by what is quoted, and then the exchange is as it was.
 pub fn quotes_answer_as_run()
     ensures { QuotesAnswerAsRun }
+{}
+
+/// A line that asks for a quote and meets no refusal is answered by a quoted line. Its bid is the price from which on a further
+/// buy raises the greatest surplus of the market's live orders, and its ask that of a further sell: `never` where no price
+/// raises it, `unmarked` where a clear that would have told it is not marked optimal.
+pub fn quoted_lines_are_thresholds()
+    ensures { QuotedLinesAreThresholds }
 {}

@@ -6,13 +6,13 @@ use Rattle.quote_lines.proofs.MayQuote.{may_quote, reply_quoted, reply_too_many}
 use Rattle.quote_lines.proofs.quoting.quote_live.Goals as goal
 
 pub quoted_for-requires-clause-room : goal.quoted_for-requires-clause-room
-quoted_for-requires-clause-room c = (may_quote c.args.exchange.now c.args.request.now c.in-Ok.batch c.requires.kept c.in-Ok.ensures.batch c.requires.told).room
+quoted_for-requires-clause-room c = (may_quote c.args.exchange.now c.args.request.now c.in-Ok.batch c.requires.kept c.requires.request.listed c.in-Ok.ensures.batch c.requires.told).room
 
 pub quoted_for-requires-clause-ids : goal.quoted_for-requires-clause-ids
-quoted_for-requires-clause-ids c = (may_quote c.args.exchange.now c.args.request.now c.in-Ok.batch c.requires.kept c.in-Ok.ensures.batch c.requires.told).ids
+quoted_for-requires-clause-ids c = (may_quote c.args.exchange.now c.args.request.now c.in-Ok.batch c.requires.kept c.requires.request.listed c.in-Ok.ensures.batch c.requires.told).ids
 
 pub quoted_for-requires-clause-on : goal.quoted_for-requires-clause-on
-quoted_for-requires-clause-on c = (may_quote c.args.exchange.now c.args.request.now c.in-Ok.batch c.requires.kept c.in-Ok.ensures.batch c.requires.told).on
+quoted_for-requires-clause-on c = (may_quote c.args.exchange.now c.args.request.now c.in-Ok.batch c.requires.kept c.requires.request.listed c.in-Ok.ensures.batch c.requires.told).on
 
 pub returns-in-Ok : goal.returns-in-Ok
 returns-in-Ok c =
