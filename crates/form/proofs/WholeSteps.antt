@@ -85,25 +85,43 @@ pub add_counted_is : (t a x : ℤ) → unsigned_abs t ≤ 2 ^ 126 → FitsSigned
 add_counted_is t a x small p q = add_small_is t a x small (counted_product a x p q)
 
 -- ---- what is read of them in 128 bits
+factors_read : (x y a b : ℤ) → unsigned_abs a ≤ 2 ^ 63 → unsigned_abs b ≤ 2 ^ 98 → x ≡ a → y ≡ b → to_z w128 (of_z w128 x) *ℤ to_z w128 (of_z w128 y) ≡ a *ℤ b
+factors_read x y a b p q x_is y_is =
+    let left : FitsSigned w128 a = fits_signed_from_abs w128 a (omega (arith, p)) in
+    let right : FitsSigned w128 b = fits_signed_from_abs w128 b (omega (arith, q)) in
+    rw (x_is, y_is, to_z-of_z w128 a left, to_z-of_z w128 b right) refl
+
+product_fits : (x y a b : ℤ) → unsigned_abs a ≤ 2 ^ 63 → unsigned_abs b ≤ 2 ^ 98 → unsigned_abs (a *ℤ b) ≤ 2 ^ 126 → x ≡ a → y ≡ b
+    → FitsSigned w128 (to_z w128 (of_z w128 x) *ℤ to_z w128 (of_z w128 y))
+product_fits x y a b p q product x_is y_is = rw (factors_read x y a b p q x_is y_is) (fits_signed_from_abs w128 (a *ℤ b) (omega (arith, product)))
+
 product_read : (x y a b : ℤ) → unsigned_abs a ≤ 2 ^ 63 → unsigned_abs b ≤ 2 ^ 98 → unsigned_abs (a *ℤ b) ≤ 2 ^ 126 → x ≡ a → y ≡ b
     → to_z w128 (of_z w128 (to_z w128 (of_z w128 x) *ℤ to_z w128 (of_z w128 y))) ≡ a *ℤ b
 product_read x y a b p q product x_is y_is =
-    let left : FitsSigned w128 a = fits_signed_from_abs w128 a (omega (arith, p)) in
-    let right : FitsSigned w128 b = fits_signed_from_abs w128 b (omega (arith, q)) in
     let all : FitsSigned w128 (a *ℤ b) = fits_signed_from_abs w128 (a *ℤ b) (omega (arith, product)) in
-    rw (x_is, y_is, to_z-of_z w128 a left, to_z-of_z w128 b right) (to_z-of_z w128 (a *ℤ b) all)
+    rw (factors_read x y a b p q x_is y_is) (to_z-of_z w128 (a *ℤ b) all)
 
 pub short_product_read : (x y a b : ℤ) → FitsSigned w64 a → FitsSigned w64 b → x ≡ to_z w64 (of_z w64 a) → y ≡ to_z w64 (of_z w64 b)
     → to_z w128 (of_z w128 (to_z w128 (of_z w128 x) *ℤ to_z w128 (of_z w128 y))) ≡ a *ℤ b
 short_product_read x y a b p q x_is y_is = let shorter = size_64 b q in product_read x y a b (size_64 a p) (omega (arith, shorter)) (short_product a b p q) (x_is ∙ to_z-of_z w64 a p) (y_is ∙ to_z-of_z w64 b q)
 
+terms_read : (t x y a b : ℤ) → unsigned_abs t ≤ 2 ^ 126 → unsigned_abs a ≤ 2 ^ 63 → unsigned_abs b ≤ 2 ^ 98 → unsigned_abs (a *ℤ b) ≤ 2 ^ 113 → x ≡ a → y ≡ b
+    → to_z w128 (of_z w128 t) +ℤ to_z w128 (of_z w128 (to_z w128 (of_z w128 x) *ℤ to_z w128 (of_z w128 y))) ≡ t +ℤ (a *ℤ b)
+terms_read t x y a b small p q product x_is y_is =
+    let total : FitsSigned w128 t = fits_signed_from_abs w128 t (omega (arith, small)) in
+    rw (product_read x y a b p q (omega (arith, product)) x_is y_is, to_z-of_z w128 t total) refl
+
+small_sum_fits : (t p : ℤ) → unsigned_abs t ≤ 2 ^ 126 → unsigned_abs p ≤ 2 ^ 113 → FitsSigned w128 (t +ℤ p)
+small_sum_fits t p small shorter = fits_signed_from_abs w128 _ (omega (arith, ints, small, shorter))
+
+add_small_fits : (t x y a b : ℤ) → unsigned_abs t ≤ 2 ^ 126 → unsigned_abs a ≤ 2 ^ 63 → unsigned_abs b ≤ 2 ^ 98 → unsigned_abs (a *ℤ b) ≤ 2 ^ 113
+    → x ≡ a → y ≡ b → FitsSigned w128 (to_z w128 (of_z w128 t) +ℤ to_z w128 (of_z w128 (to_z w128 (of_z w128 x) *ℤ to_z w128 (of_z w128 y))))
+add_small_fits t x y a b small p q product x_is y_is = rw (terms_read t x y a b small p q product x_is y_is) (small_sum_fits t (a *ℤ b) small product)
+
 add_small_read : (t x y a b : ℤ) → unsigned_abs t ≤ 2 ^ 126 → unsigned_abs a ≤ 2 ^ 63 → unsigned_abs b ≤ 2 ^ 98 → unsigned_abs (a *ℤ b) ≤ 2 ^ 113 → x ≡ a → y ≡ b
     → to_z w128 (of_z w128 (to_z w128 (of_z w128 t) +ℤ to_z w128 (of_z w128 (to_z w128 (of_z w128 x) *ℤ to_z w128 (of_z w128 y))))) ≡ t +ℤ (a *ℤ b)
 add_small_read t x y a b small p q product x_is y_is =
-    let total : FitsSigned w128 t = fits_signed_from_abs w128 t (omega (arith, small)) in
-    let all : FitsSigned w128 (t +ℤ (a *ℤ b)) = fits_signed_from_abs w128 _ (omega (arith, ints, small, product)) in
-    rw (product_read x y a b (omega (arith, p)) (omega (arith, q)) (omega (arith, product)) x_is y_is, to_z-of_z w128 t total)
-    (to_z-of_z w128 (t +ℤ (a *ℤ b)) all)
+    rw (terms_read t x y a b small p q product x_is y_is) (to_z-of_z w128 (t +ℤ (a *ℤ b)) (small_sum_fits t (a *ℤ b) small product))
 
 pub add_shorter_read : (t x y a b : ℤ) → unsigned_abs t ≤ 2 ^ 126 → FitsSigned w64 a → FitsSigned w32 b → x ≡ to_z w64 (of_z w64 a) → y ≡ to_z w32 (of_z w32 b)
     → to_z w128 (of_z w128 (to_z w128 (of_z w128 t) +ℤ to_z w128 (of_z w128 (to_z w128 (of_z w128 x) *ℤ to_z w128 (of_z w128 y))))) ≡ t +ℤ (a *ℤ b)
@@ -117,3 +135,31 @@ pub add_counted_read : (t x a b : ℤ) → unsigned_abs t ≤ 2 ^ 126 → FitsSi
 add_counted_read t x a b small p q x_is =
     let shorter = size_16 a p in
     add_small_read t x b a b small (omega (arith, shorter)) q (counted_product a b p q) (x_is ∙ to_z-of_z w16 a p) refl
+
+-- ---- and that it fits there
+pub shorter_fits : (x y a b : ℤ) → FitsSigned w64 a → FitsSigned w32 b → x ≡ to_z w64 (of_z w64 a) → y ≡ to_z w32 (of_z w32 b)
+    → FitsSigned w128 (to_z w128 (of_z w128 x) *ℤ to_z w128 (of_z w128 y))
+shorter_fits x y a b p q x_is y_is =
+    let product = shorter_product a b p q in
+    let shorter = size_32 b q in
+    product_fits x y a b (size_64 a p) (omega (arith, shorter)) (omega (arith, product)) (x_is ∙ to_z-of_z w64 a p) (y_is ∙ to_z-of_z w32 b q)
+
+pub add_shorter_fits : (t x y a b : ℤ) → unsigned_abs t ≤ 2 ^ 126 → FitsSigned w64 a → FitsSigned w32 b → x ≡ to_z w64 (of_z w64 a) → y ≡ to_z w32 (of_z w32 b)
+    → FitsSigned w128 (to_z w128 (of_z w128 t) +ℤ to_z w128 (of_z w128 (to_z w128 (of_z w128 x) *ℤ to_z w128 (of_z w128 y))))
+add_shorter_fits t x y a b small p q x_is y_is =
+    let product = shorter_product a b p q in
+    let shorter = size_32 b q in
+    add_small_fits t x y a b small (size_64 a p) (omega (arith, shorter)) (omega (arith, product)) (x_is ∙ to_z-of_z w64 a p) (y_is ∙ to_z-of_z w32 b q)
+
+pub counted_fits : (x a b : ℤ) → FitsSigned w16 a → unsigned_abs b ≤ 2 ^ 98 → x ≡ to_z w16 (of_z w16 a)
+    → FitsSigned w128 (to_z w128 (of_z w128 x) *ℤ to_z w128 (of_z w128 b))
+counted_fits x a b p q x_is =
+    let shorter = size_16 a p in
+    let product = counted_product a b p q in
+    product_fits x b a b (omega (arith, shorter)) q (omega (arith, product)) (x_is ∙ to_z-of_z w16 a p) refl
+
+pub add_counted_fits : (t x a b : ℤ) → unsigned_abs t ≤ 2 ^ 126 → FitsSigned w16 a → unsigned_abs b ≤ 2 ^ 98 → x ≡ to_z w16 (of_z w16 a)
+    → FitsSigned w128 (to_z w128 (of_z w128 t) +ℤ to_z w128 (of_z w128 (to_z w128 (of_z w128 x) *ℤ to_z w128 (of_z w128 b))))
+add_counted_fits t x a b small p q x_is =
+    let shorter = size_16 a p in
+    add_small_fits t x b a b small (omega (arith, shorter)) q (counted_product a b p q) (x_is ∙ to_z-of_z w16 a p) refl

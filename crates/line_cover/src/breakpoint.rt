@@ -1,6 +1,6 @@
 //! The price where an option's payoff bends.
 
-ghost use Rattle.std.specs.Prelude.{◌≡◌, ◌<◌, ◌&&◌, nat_abs, nat_eq};
+ghost use Rattle.std.specs.Prelude.{◌≡◌, ◌<◌, ◌&&◌, int_lt, nat_abs, nat_eq, pos};
 ghost use Rattle.std.specs.Option.{option_map};
 ghost use Rattle.form.specs.Payoff.{first_option, option_of};
 ghost use Rattle.line_cover.specs.Line.{bends, bends_alike, breakpoint_of, lowest_state};
@@ -26,7 +26,21 @@ fn lowest(t: u64, s: u64) -> Price
 fn bends(strike: i64, weight: i64) -> bool
     ensures { result ≡ bends strike weight }
 {
-    (strike < 0 && weight > 0) || (strike > 0 && weight < 0)
+    is_rising(strike, weight) || is_falling(strike, weight)
+}
+
+/// Whether the first number is below 0, and the second above.
+fn is_rising(first: i64, second: i64) -> bool
+    ensures { result ≡ (int_lt first (pos 0) && int_lt (pos 0) second) }
+{
+    first < 0 && second > 0
+}
+
+/// Whether the first number is above 0, and the second below.
+fn is_falling(first: i64, second: i64) -> bool
+    ensures { result ≡ (int_lt (pos 0) first && int_lt second (pos 0)) }
+{
+    first > 0 && second < 0
 }
 
 /// Whether an option with this strike's entry and this weight bends, and the two have the sizes of the others.
