@@ -1,4 +1,5 @@
 pub mod Cuts
+pub mod FirstByte
 pub mod Fronts
 pub mod OneLine
 pub mod Outputs

@@ -19,7 +19,8 @@ module _ {S : Type 0} (step : ℕ → S → List ℕ → List ℕ × S) (skips :
       ∙ ap (λ (r : List ℕ × S). r.0) (sym (output_append step skips 1 start out.1 more.1 lines (cut rest) out.0 more.0 refl refl))
 
   -- of lines alone
-  pub lines_alone : (lines : List (List ℕ)) → AreWithin skips 1 lines → output_of step skips start (with_feeds lines) ≡ (lines_output step skips 1 start lines).0
+  pub lines_alone : (lines : List (List ℕ)) → AreWithin skips 1 lines
+      → output_of step skips start (with_feeds lines) ≡ (lines_output step skips 1 start lines).0
   lines_alone lines within =
       let out = lines_output step skips 1 start lines in
       ap (output_of step skips start) (sym (append-nil (with_feeds lines))) ∙ lines_then lines [] within
@@ -46,11 +47,13 @@ module _ {S : Type 0} (step : ℕ → S → List ℕ → List ℕ × S) (skips :
       ∙ sym (lines_and_rest h.lines line.rest h.within h.open_within.0) ∙ ap (output_of step skips start) (sym same)
 
   -- before the end: what was written is the output of the complete lines
-  pub lines_written : (state : S) (line : Open) (bytes text : List ℕ) (h : Took step start (new_open skips) state line bytes text) → text ≡ output_of step skips start (with_feeds h.lines)
+  pub lines_written : (state : S) (line : Open) (bytes text : List ℕ) (h : Took step start (new_open skips) state line bytes text)
+      → text ≡ output_of step skips start (with_feeds h.lines)
   lines_written state line bytes text h = ap (λ (r : List ℕ × S). r.0) h.answers ∙ sym (lines_alone h.lines h.within)
 
   -- it is a front of the output of all that comes
-  pub completed_front : (bytes more text : List ℕ) → Completes step start (new_open skips) bytes text → (rest : List ℕ) × (output_of step skips start (bytes ++ more) ≡ text ++ rest)
+  pub completed_front : (bytes more text : List ℕ) → Completes step start (new_open skips) bytes text
+      → (rest : List ℕ) × (output_of step skips start (bytes ++ more) ≡ text ++ rest)
   completed_front bytes more text h =
       let out = lines_output step skips 1 start h.lines in
       let same : bytes ++ more ≡ with_feeds h.lines ++ (h.rest ++ more) = ap (λ l. l ++ more) h.split ∙ append_assoc (with_feeds h.lines) h.rest more in

@@ -27,7 +27,8 @@ module _ {S : Type 0} (step : ℕ → S → List ℕ → List ℕ × S) (old : S
       says : (turn : Option ℕ) → used ≡ turn → Turned step mid open_line new next (drop start piece) text after turn
       says turn is = subst (Turned step mid open_line new next (drop start piece) text after) is (subst (λ bytes. Turned step mid open_line new next bytes text after used) (take_rest piece start) turned)
 
-      pub one_more : (count : ℕ) → used ≡ Some count → (start + count ≤ length piece) × Answered step old line new next written now (take (start + count) piece) after
+      pub one_more : (count : ℕ) → used ≡ Some count
+          → (start + count ≤ length piece) × Answered step old line new next written now (take (start + count) piece) after
       one_more count is =
           let h = says (Some count) is in
           let told = before.told in
@@ -48,14 +49,17 @@ module _ {S : Type 0} (step : ℕ → S → List ℕ → List ℕ × S) (old : S
           subst (λ bytes. Stops step old line bytes (before.told ++ after)) (take-append-drop start piece)
           (subst (Stops step old line (take start piece ++ drop start piece)) (append-nil (before.told ++ text) ∙ ap (λ l. before.told ++ l) (sym h.0)) more)
 
-      pub stopped_told : used ≡ None → (new : Option (List ℕ)) → Appends now new after → (all : List ℕ) × Appends written new all × Stops step old line piece all
+      pub stopped_told : used ≡ None → (new : Option (List ℕ)) → Appends now new after
+          → (all : List ℕ) × Appends written new all × Stops step old line piece all
       stopped_told is new adds = (before.told ++ after, Appends-trans written now new before.told after before.wrote adds, stopped is)
 
-      pub stopped_front : used ≡ None → (new : Option (List ℕ)) → AppendsFront now new after → (all : List ℕ) × AppendsFront written new all × Completes step old line piece all
+      pub stopped_front : used ≡ None → (new : Option (List ℕ)) → AppendsFront now new after
+          → (all : List ℕ) × AppendsFront written new all × Completes step old line piece all
       stopped_front is new front = (before.told ++ after, front_behind written now new before.told after before.wrote front, stops_complete step old line piece _ (stopped is))
 
     -- some of the text, or all, is written
-    pub wrote_more : (more kept : List ℕ) (new : Option (List ℕ)) → text ≡ more ++ kept → Appends now new more → Answered step old line mid open_line written new (take start piece) kept
+    pub wrote_more : (more kept : List ℕ) (new : Option (List ℕ)) → text ≡ more ++ kept → Appends now new more
+        → Answered step old line mid open_line written new (take start piece) kept
     wrote_more more kept new parts adds = record {
       told = before.told ++ more;
       wrote = Appends-trans written now new before.told more before.wrote adds;
@@ -75,7 +79,8 @@ module _ {S : Type 0} (step : ℕ → S → List ℕ → List ℕ × S) (old : S
     no_more new same = some_front new (no_front now new text same)
 
     -- all of the piece was taken
-    pub all_told : (new : Option (List ℕ)) → length piece ≤ start → Appends now new text → (all : List ℕ) × Appends written new all × Took step old line mid open_line piece all
+    pub all_told : (new : Option (List ℕ)) → length piece ≤ start → Appends now new text
+        → (all : List ℕ) × Appends written new all × Took step old line mid open_line piece all
     all_told new ends adds = (
       before.told ++ text,
       Appends-trans written now new before.told text before.wrote adds,

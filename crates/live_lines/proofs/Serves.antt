@@ -28,12 +28,14 @@ abbrev pub known_of : Option (List ℕ) → Option (List ℕ) → Option (List �
 known_of left still written writes = record { left = left; still = still; written = written; writes = writes }
 
 -- ---- the bytes that were left
-of_more : (left still : Option (List ℕ)) (bytes : List ℕ) (P : List ℕ → Type 0) → Consumes left still bytes → ((more : List ℕ) → P (bytes ++ more)) → IfSome left P
+of_more : (left still : Option (List ℕ)) (bytes : List ℕ) (P : List ℕ → Type 0) → Consumes left still bytes → ((more : List ℕ) → P (bytes ++ more))
+    → IfSome left P
 of_more None still bytes P gave all = tt
 of_more (Some xs) None bytes P gave all = absurd gave
 of_more (Some xs) (Some ys) bytes P gave all = subst P (sym gave) (all ys)
 
-taken_whole : (left still stays : Option (List ℕ)) (bytes : List ℕ) → Consumes left still bytes → Keeps still stays → IsAtEnd still → IfSome left (λ input. (bytes ≡ input) × (stays ≡ Some []))
+taken_whole : (left still stays : Option (List ℕ)) (bytes : List ℕ) → Consumes left still bytes → Keeps still stays → IsAtEnd still
+    → IfSome left (λ input. (bytes ≡ input) × (stays ≡ Some []))
 taken_whole None still stays bytes gave kept at_end = tt
 taken_whole (Some xs) None stays bytes gave kept at_end = absurd gave
 taken_whole (Some xs) (Some ys) None bytes gave kept at_end = absurd kept
@@ -69,7 +71,8 @@ module _ {S : Type 0} (step : ℕ → S → List ℕ → List ℕ × S) (skips :
     }
 
     -- ---- after a piece
-    pub long_after : (stays adds : Option (List ℕ)) (piece tells : List ℕ) → Consumes still stays piece → Appends writes adds tells → Stops step state line piece tells
+    pub long_after : (stays adds : Option (List ℕ)) (piece tells : List ℕ) → Consumes still stays piece → Appends writes adds tells
+        → Stops step state line piece tells
         → WroteBefore step skips start (known_of left stays written adds)
     long_after stays adds piece tells gave wrote stops =
         let all = stops_more step start state (new_open skips) line came.bytes piece came.text tells came.took stops in
@@ -82,7 +85,8 @@ module _ {S : Type 0} (step : ℕ → S → List ℕ → List ℕ × S) (skips :
           subst (Appends written adds) text (Appends-trans written writes adds came.text tells came.wrote wrote),
         )
 
-    pub front_after : (stays adds : Option (List ℕ)) (piece tells : List ℕ) → Consumes still stays piece → AppendsFront writes adds tells → Completes step state line piece tells
+    pub front_after : (stays adds : Option (List ℕ)) (piece tells : List ℕ) → Consumes still stays piece → AppendsFront writes adds tells
+        → Completes step state line piece tells
         → WroteFront step skips start (known_of left stays written adds)
     front_after stays adds piece tells gave wrote completes =
         let all = completes_more step start state (new_open skips) line came.bytes piece came.text tells came.took completes in
@@ -101,7 +105,8 @@ module _ {S : Type 0} (step : ℕ → S → List ℕ → List ℕ × S) (skips :
     abbrev last : List ℕ
     last = (answer_to step line.number state (line_text line.skips line.number line.rest)).0
 
-    pub all_after : (stays adds : Option (List ℕ)) → Keeps still stays → IsAtEnd still → Appends writes adds last → WroteAll step skips start (known_of left stays written adds)
+    pub all_after : (stays adds : Option (List ℕ)) → Keeps still stays → IsAtEnd still → Appends writes adds last
+        → WroteAll step skips start (known_of left stays written adds)
     all_after stays adds kept at_end wrote = (
       came.bytes,
       Consumes-kept left still stays came.bytes came.gave kept,
@@ -109,7 +114,8 @@ module _ {S : Type 0} (step : ℕ → S → List ℕ → List ℕ × S) (skips :
       subst (Appends written adds) (whole_output step skips start state line came.bytes came.text came.took) (Appends-trans written writes adds came.text last came.wrote wrote),
     )
 
-    pub last_front : (stays adds : Option (List ℕ)) → Keeps still stays → IsAtEnd still → AppendsFront writes adds last → WroteFront step skips start (known_of left stays written adds)
+    pub last_front : (stays adds : Option (List ℕ)) → Keeps still stays → IsAtEnd still → AppendsFront writes adds last
+        → WroteFront step skips start (known_of left stays written adds)
     last_front stays adds kept at_end wrote =
         let front = subst (AppendsFront written adds) (whole_output step skips start state line came.bytes came.text came.took) (front_behind written writes adds came.text last came.wrote wrote) in (
           came.bytes,
@@ -130,8 +136,10 @@ module _ {S : Type 0} (step : ℕ → S → List ℕ → List ℕ × S) (skips :
     )
 
   -- ---- which end a stop makes
-  pub ends_by : (still writes : Option (List ℕ)) (read reads wrote wrotes : ℕ) (stop : LiveStop) → WroteFront step skips start (known_of left still written writes) → (stop ≡ WriteFault → Rose wrote wrotes)
-      → (stop ≡ TooLong → WroteBefore step skips start (known_of left still written writes)) → Ends step skips start (known_of left still written writes) read reads wrote wrotes (ended_by stop)
+  pub ends_by : (still writes : Option (List ℕ)) (read reads wrote wrotes : ℕ) (stop : LiveStop)
+      → WroteFront step skips start (known_of left still written writes) → (stop ≡ WriteFault → Rose wrote wrotes)
+      → (stop ≡ TooLong → WroteBefore step skips start (known_of left still written writes) × (reads ≡ read))
+      → Ends step skips start (known_of left still written writes) read reads wrote wrotes (ended_by stop)
   ends_by still writes read reads wrote wrotes WriteFault front rose long = (front, rose refl)
   ends_by still writes read reads wrote wrotes TooLong front rose long = long refl
   ends_by still writes read reads wrote wrotes Memory front rose long = front
@@ -149,15 +157,18 @@ bare_size : (skips : Bool) (number : ℕ) (line : List ℕ) → length line ≤ 
 bare_size true number line = size_if (number == 1) (mark_size line) line (mark_small_if (begins_with_mark line))
 bare_size false number line = omega arith
 
-count_within : (skips : Bool) (number : ℕ) (lines : List (List ℕ)) → AreWithin skips number lines → number ≤ count_limit + 1 → number + length lines ≤ count_limit + 1
+count_within : (skips : Bool) (number : ℕ) (lines : List (List ℕ)) → AreWithin skips number lines → number ≤ count_limit + 1
+    → number + length lines ≤ count_limit + 1
 count_within skips number [] within le = omega arith
 count_within skips number (line ∷ lines) within le = omega (arith, count_within skips (number + 1) lines within.3 (omega (arith, within.0)))
 
-grows : (lines : List (List ℕ)) (rest bytes next : List ℕ) → rest ++ bytes ≡ with_feeds lines ++ next → length lines ≡ 0 → length next ≡ length rest + length bytes
+grows : (lines : List (List ℕ)) (rest bytes next : List ℕ) → rest ++ bytes ≡ with_feeds lines ++ next → length lines ≡ 0
+    → length next ≡ length rest + length bytes
 grows [] rest bytes next is e = sym (ap length is) ∙ length-append rest bytes
 grows (line ∷ lines) rest bytes next is e = absurd (omega arith)
 
-falls : (number next lines rest size bytes : ℕ) → next ≡ number + lines → next ≤ 16777217 → rest ≤ 16777219 → size ≤ 16777219 → 1 ≤ bytes → (lines ≡ 0 → size ≡ rest + bytes)
+falls : (number next lines rest size bytes : ℕ) → next ≡ number + lines → next ≤ 16777217 → rest ≤ 16777219 → size ≤ 16777219 → 1 ≤ bytes
+    → (lines ≡ 0 → size ≡ rest + bytes)
     → 16777220 * (16777218 - next) + (16777220 - size) < 16777220 * (16777218 - number) + (16777220 - rest)
 falls number next zero rest size bytes is few low within some g = let e : size ≡ rest + bytes = g refl in omega arith
 falls number next (suc lines) rest size bytes is few low within some g = omega arith
@@ -185,21 +196,25 @@ without_append (line ∷ []) first rest = refl
 without_append (line ∷ next ∷ a) first rest = ap (λ l. line ∷ l) (without_append (next ∷ a) first rest)
 
 -- the first line of bytes that are not empty is a line
-first_within : (skips : Bool) (number b : ℕ) (line : List ℕ) (rest : List (List ℕ)) → AreWithin skips number (without_last_empty ((b ∷ line) ∷ rest)) → (number ≤ count_limit) × FitsLine skips number (b ∷ line)
+first_within : (skips : Bool) (number b : ℕ) (line : List ℕ) (rest : List (List ℕ)) → AreWithin skips number (without_last_empty ((b ∷ line) ∷ rest))
+    → (number ≤ count_limit) × FitsLine skips number (b ∷ line)
 first_within skips number b line [] w = (w.0, w.2)
 first_within skips number b line (next ∷ rest) w = (w.0, w.2)
 
-number_within : (skips : Bool) (number : ℕ) (line : List ℕ) (rest : List (List ℕ)) → 0 < length line ⊎ (0 < length rest) → AreWithin skips number (without_last_empty (line ∷ rest)) → number ≤ count_limit
+number_within : (skips : Bool) (number : ℕ) (line : List ℕ) (rest : List (List ℕ)) → 0 < length line ⊎ (0 < length rest)
+    → AreWithin skips number (without_last_empty (line ∷ rest)) → number ≤ count_limit
 number_within skips number [] [] some w = absurd (elim some [ inl lt ↦ omega arith | inr lt ↦ omega arith ])
 number_within skips number [] (next ∷ rest) some w = w.0
 number_within skips number (b ∷ line) rest some w = (first_within skips number b line rest w).0
 
-first_fits : (skips : Bool) (number : ℕ) (line : List ℕ) (rest : List (List ℕ)) → 0 < length line → AreWithin skips number (without_last_empty (line ∷ rest)) → FitsLine skips number line
+first_fits : (skips : Bool) (number : ℕ) (line : List ℕ) (rest : List (List ℕ)) → 0 < length line → AreWithin skips number (without_last_empty (line ∷ rest))
+    → FitsLine skips number line
 first_fits skips number [] rest some w = absurd (omega arith)
 first_fits skips number (b ∷ line) rest some w = (first_within skips number b line rest w).1
 
 -- bytes that are not empty are cut to a line that is not, or to more than one
-some_cut : (bytes : List ℕ) → 0 < length bytes → (first : List ℕ) × (rest : List (List ℕ)) × (cut bytes ≡ first ∷ rest) × ((0 < length first) ⊎ (0 < length rest))
+some_cut : (bytes : List ℕ) → 0 < length bytes
+    → (first : List ℕ) × (rest : List (List ℕ)) × (cut bytes ≡ first ∷ rest) × ((0 < length first) ⊎ (0 < length rest))
 some_cut [] lt = absurd (omega arith)
 some_cut (b ∷ bytes) lt =
     let p = cut_parts bytes in
@@ -208,7 +223,8 @@ some_cut (b ∷ bytes) lt =
       | inr other ↦ (b ∷ p.0, p.1, cut_other b bytes p.0 p.1 other p.2, inl (omega arith))
     ]
 
-wider_if : (b : Bool) (line more : List ℕ) → line_limit < length (if b then drop (mark_size line) line else line) → line_limit < length (if b then drop (mark_size (line ++ more)) (line ++ more) else (line ++ more))
+wider_if : (b : Bool) (line more : List ℕ) → line_limit < length (if b then drop (mark_size line) line else line)
+    → line_limit < length (if b then drop (mark_size (line ++ more)) (line ++ more) else (line ++ more))
 wider_if true [] more lt = absurd (omega arith)
 wider_if true (a ∷ []) more lt = absurd (omega arith)
 wider_if true (a ∷ b ∷ []) more lt = absurd (omega arith)
@@ -224,14 +240,16 @@ shorter_if true n line = omega (arith, length-drop n line)
 shorter_if false n line = omega arith
 
 -- behind these lines
-behind : (skips : Bool) (lines : List (List ℕ)) (bytes first : List ℕ) (rest : List (List ℕ)) → AreWithin skips 1 lines → cut bytes ≡ first ∷ rest → IsInputWithin skips (with_feeds lines ++ bytes)
+behind : (skips : Bool) (lines : List (List ℕ)) (bytes first : List ℕ) (rest : List (List ℕ)) → AreWithin skips 1 lines → cut bytes ≡ first ∷ rest
+    → IsInputWithin skips (with_feeds lines ++ bytes)
     → AreWithin skips (1 + length lines) (without_last_empty (first ∷ rest))
 behind skips lines bytes first rest within is all =
     let parts : without_last_empty (cut (with_feeds lines ++ bytes)) ≡ lines ++ without_last_empty (first ∷ rest) =
     ap without_last_empty (cut_lines skips 1 lines bytes within ∙ ap (λ l. lines ++ l) is) ∙ without_append lines first rest in
     within_part skips 1 lines (without_last_empty (first ∷ rest)) (subst (λ l. AreWithin skips 1 l) parts all)
 
-tells_none : (skips : Bool) (lines : List (List ℕ)) (rest more : List ℕ) → AreWithin skips 1 lines → IsTooLong skips (1 + length lines) rest → IsInputWithin skips (with_feeds lines ++ (rest ++ more)) → ⊥
+tells_none : (skips : Bool) (lines : List (List ℕ)) (rest more : List ℕ) → AreWithin skips 1 lines → IsTooLong skips (1 + length lines) rest
+    → IsInputWithin skips (with_feeds lines ++ (rest ++ more)) → ⊥
 tells_none skips lines rest more within too_long all = elim too_long [
   | inl many ↦
       let some : 0 < length (rest ++ more) = omega (arith, many.1, length-append rest more) in
@@ -249,7 +267,8 @@ tells_none skips lines rest more within too_long all = elim too_long [
       omega (arith, fits, wider_if (skips && (number == 1)) line p.0 wide)
 ]
 
-not_within : {S : Type 0} (step : ℕ → S → List ℕ → List ℕ × S) (skips : Bool) (start : S) (left still written writes : Option (List ℕ)) → WroteBefore step skips start (known_of left still written writes)
+not_within : {S : Type 0} (step : ℕ → S → List ℕ → List ℕ × S) (skips : Bool) (start : S) (left still written writes : Option (List ℕ))
+    → WroteBefore step skips start (known_of left still written writes)
     → IsSomeAnd left (IsInputWithin skips) → ⊥
 not_within step skips start None still written writes h within = within
 not_within step skips start (Some xs) None written writes h within = h.2
@@ -259,10 +278,12 @@ not_within step skips start (Some xs) (Some ys) written writes h within =
 -- ---- what the ends say
 module _ {S : Type 0} (step : ℕ → S → List ℕ → List ℕ × S) (skips : Bool) (start : S) (known : Known) (read reads wrote wrotes : ℕ) where
   -- from the line and the answers that stand at the start
-  pub ends_from : (line : Open) (answers : S) (e : Ended) → line ≡ new_open skips → answers ≡ start → Ends step line.skips answers known read reads wrote wrotes e → Ends step skips start known read reads wrote wrotes e
+  pub ends_from : (line : Open) (answers : S) (e : Ended) → line ≡ new_open skips → answers ≡ start
+      → Ends step line.skips answers known read reads wrote wrotes e → Ends step skips start known read reads wrote wrotes e
   ends_from line answers e is same h = subst (λ a. Ends step skips a known read reads wrote wrotes e) same (subst (λ (l : Open). Ends step l.skips answers known read reads wrote wrotes e) is h)
 
-  pub front : (e : Ended) → Ends step skips start known read reads wrote wrotes e → (e ≡ ended.WriteFault) ⊎ (e ≡ ended.Memory) → WroteFront step skips start known
+  pub front : (e : Ended) → Ends step skips start known read reads wrote wrotes e → (e ≡ ended.WriteFault) ⊎ (e ≡ ended.Memory)
+      → WroteFront step skips start known
   front e h which =
       let EndsAs : Ended → Type 0 = λ x. Ends step skips start known read reads wrote wrotes x in
       elim which [
@@ -271,9 +292,10 @@ module _ {S : Type 0} (step : ℕ → S → List ℕ → List ℕ × S) (skips :
       ]
 
   -- within the limits, and without a fault
-  pub complete : (e : Ended) → Ends step skips start known read reads wrote wrotes e → IsSomeAnd known.left (IsInputWithin skips) → ¬ (Rose read reads) → ¬ (Rose wrote wrotes) → (e ≡ ended.Done) ⊎ (e ≡ ended.Memory)
+  pub complete : (e : Ended) → Ends step skips start known read reads wrote wrotes e → IsSomeAnd known.left (IsInputWithin skips) → ¬ (Rose read reads)
+      → ¬ (Rose wrote wrotes) → (e ≡ ended.Done) ⊎ (e ≡ ended.Memory)
   complete ended.Done h within r w = inl refl
   complete ended.ReadFault h within r w = absurd (r h.1)
   complete ended.WriteFault h within r w = absurd (w h.1)
-  complete ended.TooLong h within r w = absurd (not_within step skips start known.left known.still known.written known.writes h within)
+  complete ended.TooLong h within r w = absurd (not_within step skips start known.left known.still known.written known.writes h.0 within)
   complete ended.Memory h within r w = inr refl

@@ -6,14 +6,16 @@ use Rattle.live_lines.specs.Taken.{AreWithin, Completes, IsOpenWithin, IsTooLong
 use Rattle.live_lines.proofs.Cuts.{feeds_append}
 
 -- ---- lines, and then lines
-pub within_append : (skips : Bool) (number : ℕ) (a b : List (List ℕ)) → AreWithin skips number a → AreWithin skips (number + length a) b → AreWithin skips number (a ++ b)
+pub within_append : (skips : Bool) (number : ℕ) (a b : List (List ℕ)) → AreWithin skips number a → AreWithin skips (number + length a) b
+    → AreWithin skips number (a ++ b)
 within_append skips number [] b p q = let same : number + 0 ≡ number = omega arith in subst (λ n. AreWithin skips n b) same q
 within_append skips number (line ∷ a) b p q =
     let moved : number + suc (length a) ≡ number + 1 + length a = omega arith in
     (p.0, p.1, p.2, within_append skips (number + 1) a b p.3 (subst (λ n. AreWithin skips n b) moved q))
 
 module _ {S : Type 0} (step : ℕ → S → List ℕ → List ℕ × S) (skips : Bool) where
-  pub output_append : (number : ℕ) (state middle last : S) (a b : List (List ℕ)) (first second : List ℕ) → (first, middle) ≡ lines_output step skips number state a
+  pub output_append : (number : ℕ) (state middle last : S) (a b : List (List ℕ)) (first second : List ℕ)
+      → (first, middle) ≡ lines_output step skips number state a
       → (second, last) ≡ lines_output step skips (number + length a) middle b → (first ++ second, last) ≡ lines_output step skips number state (a ++ b)
   output_append number state middle last [] b first second p q =
       let same : number + 0 ≡ number = omega arith in
@@ -42,14 +44,16 @@ module _ {S : Type 0} (step : ℕ → S → List ℕ → List ℕ × S) (skips :
   }
 
 -- what is kept of a text is all of it
-same_output : {S : Type 0} (now : List ℕ × S) (text : List ℕ) (after : S) → text ≡ now.0 → after ≡ now.1 → ◌≡◌ {A = List ℕ × S} (text, after) (now.0 ++ [], now.1)
+same_output : {S : Type 0} (now : List ℕ × S) (text : List ℕ) (after : S) → text ≡ now.0 → after ≡ now.1
+    → ◌≡◌ {A = List ℕ × S} (text, after) (now.0 ++ [], now.1)
 same_output {S} now text after p q =
     let Is : List ℕ → S → Type 0 = λ t s. ◌≡◌ {A = List ℕ × S} (text, after) (t, s) in
     subst (λ t. Is t now.1) (p ∙ sym (append-nil now.0)) (subst (Is text) q refl)
 
 module _ {S : Type 0} (step : ℕ → S → List ℕ → List ℕ × S) where
   -- bytes that end no line
-  pub kept : (state : S) (line next : Open) (bytes : List ℕ) → next ≡ record line { rest = line.rest ++ bytes } → IsOpenWithin next → Took step state line state next bytes []
+  pub kept : (state : S) (line next : Open) (bytes : List ℕ) → next ≡ record line { rest = line.rest ++ bytes } → IsOpenWithin next
+      → Took step state line state next bytes []
   kept state line next bytes is within = record {
     lines = [];
     split = sym (ap (λ (l : Open). l.rest) is);
@@ -61,9 +65,11 @@ module _ {S : Type 0} (step : ℕ → S → List ℕ → List ℕ × S) where
   }
 
   -- bytes that end one line, with its line feed
-  pub ended : (state after : S) (line whole next : Open) (front text : List ℕ) → whole ≡ record line { rest = line.rest ++ front } → next ≡ record whole { number = whole.number + 1; rest = [] }
+  pub ended : (state after : S) (line whole next : Open) (front text : List ℕ) → whole ≡ record line { rest = line.rest ++ front }
+      → next ≡ record whole { number = whole.number + 1; rest = [] }
       → line.number ≤ count_limit → IsOneLine whole.rest → FitsLine whole.skips whole.number whole.rest
-      → text ≡ (answer_to step whole.number state (line_text whole.skips whole.number whole.rest)).0 → after ≡ (answer_to step whole.number state (line_text whole.skips whole.number whole.rest)).1
+      → text ≡ (answer_to step whole.number state (line_text whole.skips whole.number whole.rest)).0
+      → after ≡ (answer_to step whole.number state (line_text whole.skips whole.number whole.rest)).1
       → Took step state line after next (front ++ 10 ∷ []) text
   ended state after line whole next front text is then few one fits told went =
       let skips : whole.skips ≡ line.skips = ap (λ (l : Open). l.skips) is in
@@ -97,7 +103,8 @@ module _ {S : Type 0} (step : ℕ → S → List ℕ → List ℕ × S) where
   }
 
   -- a line is too long
-  pub too_wide : (state : S) (line next : Open) (bytes front more : List ℕ) → bytes ≡ front ++ more → next ≡ record line { rest = line.rest ++ front } → IsOneLine next.rest
+  pub too_wide : (state : S) (line next : Open) (bytes front more : List ℕ) → bytes ≡ front ++ more → next ≡ record line { rest = line.rest ++ front }
+      → IsOneLine next.rest
       → ¬ (FitsLine next.skips next.number next.rest) → Stops step state line bytes []
   too_wide state line next bytes front more parts is one wide =
       let P : Open → Type 0 = λ l. ¬ (FitsLine l.skips l.number l.rest) in
@@ -120,14 +127,16 @@ module _ {S : Type 0} (step : ℕ → S → List ℕ → List ℕ × S) where
         answers = refl;
       }
 
-  joined : (rest first second : List ℕ) (a b : List (List ℕ)) (middle last : List ℕ) → rest ++ first ≡ with_feeds a ++ middle → middle ++ second ≡ with_feeds b ++ last
+  joined : (rest first second : List ℕ) (a b : List (List ℕ)) (middle last : List ℕ) → rest ++ first ≡ with_feeds a ++ middle
+      → middle ++ second ≡ with_feeds b ++ last
       → rest ++ (first ++ second) ≡ with_feeds (a ++ b) ++ last
   joined rest first second a b middle last p q =
       sym (append_assoc rest first second) ∙ ap (λ l. l ++ second) p ∙ append_assoc (with_feeds a) middle second ∙ ap (λ l. with_feeds a ++ l) q
       ∙ sym (append_assoc (with_feeds a) (with_feeds b) last) ∙ ap (λ l. l ++ last) (sym (feeds_append a b))
 
   -- bytes, and then bytes
-  pub took_more : (start middle last : S) (line mid next : Open) (first second told tells : List ℕ) → Took step start line middle mid first told → Took step middle mid last next second tells
+  pub took_more : (start middle last : S) (line mid next : Open) (first second told tells : List ℕ) → Took step start line middle mid first told
+      → Took step middle mid last next second tells
       → Took step start line last next (first ++ second) (told ++ tells)
   took_more start middle last line mid next first second told tells p q =
       let within = λ (s : Bool) (n : ℕ). AreWithin s n q.lines in
@@ -143,7 +152,8 @@ module _ {S : Type 0} (step : ℕ → S → List ℕ → List ℕ × S) where
       }
 
   -- bytes, and then bytes that tell a line that is too long
-  pub stops_more : (start middle : S) (line mid : Open) (first second told tells : List ℕ) → Took step start line middle mid first told → Stops step middle mid second tells
+  pub stops_more : (start middle : S) (line mid : Open) (first second told tells : List ℕ) → Took step start line middle mid first told
+      → Stops step middle mid second tells
       → Stops step start line (first ++ second) (told ++ tells)
   stops_more start middle line mid first second told tells p q =
       let within = λ (s : Bool) (n : ℕ). AreWithin s n q.lines in
@@ -161,7 +171,8 @@ module _ {S : Type 0} (step : ℕ → S → List ℕ → List ℕ × S) where
       }
 
   -- bytes, and then bytes that complete lines
-  pub completes_more : (start middle : S) (line mid : Open) (first second told tells : List ℕ) → Took step start line middle mid first told → Completes step middle mid second tells
+  pub completes_more : (start middle : S) (line mid : Open) (first second told tells : List ℕ) → Took step start line middle mid first told
+      → Completes step middle mid second tells
       → Completes step start line (first ++ second) (told ++ tells)
   completes_more start middle line mid first second told tells p q =
       let within = λ (s : Bool) (n : ℕ). AreWithin s n q.lines in
@@ -176,7 +187,8 @@ module _ {S : Type 0} (step : ℕ → S → List ℕ → List ℕ × S) where
       }
 
   -- what bytes completed, whatever is behind them
-  pub took_complete : (start middle : S) (line mid : Open) (first more told : List ℕ) → Took step start line middle mid first told → Completes step start line (first ++ more) told
+  pub took_complete : (start middle : S) (line mid : Open) (first more told : List ℕ) → Took step start line middle mid first told
+      → Completes step start line (first ++ more) told
   took_complete start middle line mid first more told p = record {
     lines = p.lines;
     rest = mid.rest ++ more;

@@ -19,7 +19,8 @@ returns-in-Err g c =
     (g.S.Source.faults c.args.source.now) (g.S.Source.faults c.read.new.self) (g.K.Sink.faults c.args.sink.now) (g.K.Sink.faults c.take.new.sink) c.in-Err.stop
     (front_after _ _ _ _ _ c.reads.live.answers c.reads.live.line _ _ came _ _ _ _ gave cut.1 cut.2)
     (λ is. subst (λ n. Rose n (g.K.Sink.faults c.take.new.sink)) c.reads.invariant.write_calm (c.in-Err.ensures.fault (ap Err is)))
-    (λ is. let told = c.in-Err.ensures.too_long (ap Err is) in long_after _ _ _ _ _ c.reads.live.answers c.reads.live.line _ _ came _ _ _ _ gave told.1 told.2))
+    (λ is. let told = c.in-Err.ensures.too_long (ap Err is) in
+    (long_after _ _ _ _ _ c.reads.live.answers c.reads.live.line _ _ came _ _ _ _ gave told.1 told.2, c.in-Got.ensures.cause ∙ c.reads.invariant.read_calm)))
 
 pub reads-smaller : goal.reads-smaller
 reads-smaller g c =
