@@ -1,0 +1,3 @@
+pub mod AsRun
+pub mod FirstWords
+pub mod Outputs

@@ -1,0 +1,94 @@
+// A client that waits: a source and a sink over one count of the bytes of its replies.
+ghost use Rattle.std.specs.Prelude.{None};
+ghost use Rattle.std.proofs.Common.{lit≤};
+ghost use Rattle.std.proofs.Math.Nat.{min-le_right};
+ghost use Rattle.port_io.specs.Faults.{as_count, last_count};
+
+use port_io::{ReadAnswer, Sink, Source, WriteAnswer};
+use std::cell::Cell;
+
+// What the client sends, and how many bytes of replies it awaits then, those before among them.
+#[derive(Clone, Copy, Debug)]
+pub struct Sent {
+    pub piece: &'static [u8],
+    pub awaits: usize,
+}
+
+// Sends its pieces, one in each read, and sees at each whether the replies that it awaits were written.
+#[derive(Drop)]
+pub struct Client<'a> {
+    sends: &'a [Sent],
+    next: usize,
+    taken: u64,
+    awaits: usize,
+    replied: &'a Cell<usize>,
+    was_early: bool,
+}
+
+impl<'a> Client<'a> {
+    pub fn new(sends: &'a [Sent], replied: &'a Cell<usize>) -> Self {
+        Client {
+            sends,
+            next: 0,
+            taken: 0,
+            awaits: 0,
+            replied,
+            was_early: false,
+        }
+    }
+
+    // Whether a piece was asked for before the replies to those before it were written, or after more than these.
+    pub fn was_early(&self) -> bool {
+        self.was_early
+    }
+}
+
+impl Source for Client<'_> {
+    ghost left = { λ _. None };
+
+    ghost taken = { λ s. as_count s.taken };
+
+    ghost faults = { λ _. 0 };
+
+    ghost taken_stops = { λ s. min-le_right s.taken last_count };
+
+    ghost faults_stop = { λ _. lit≤ tt };
+
+    fn read(&mut self, buf: &mut [u8]) -> ReadAnswer {
+        if self.replied.get() != self.awaits {
+            self.was_early = true;
+        }
+        let Some(sent) = self.sends.get(self.next) else {
+            return ReadAnswer::End;
+        };
+        let count = sent.piece.len().min(buf.len());
+        if count == 0 {
+            return ReadAnswer::End;
+        }
+        buf[..count].copy_from_slice(&sent.piece[..count]);
+        self.next += 1;
+        self.awaits = sent.awaits;
+        self.taken = self.taken.saturating_add(count as u64);
+        ReadAnswer::Got(count)
+    }
+}
+
+// Counts the bytes of the replies.
+#[derive(Drop)]
+pub struct Replies<'a> {
+    pub replied: &'a Cell<usize>,
+}
+
+impl Sink for Replies<'_> {
+    ghost written = { λ _. None };
+
+    ghost faults = { λ _. 0 };
+
+    ghost faults_stop = { λ _. lit≤ tt };
+
+    fn write(&mut self, piece: &[u8]) -> WriteAnswer {
+        let before = self.replied.get();
+        self.replied.set(before.saturating_add(piece.len()));
+        WriteAnswer::Took(piece.len())
+    }
+}
