@@ -14,10 +14,10 @@ use Rattle.option_quotes.specs.ByProbes.{quoted_of}
 use Rattle.option_quotes.specs.Probes.{further}
 use Rattle.option_quotes.specs.Thresholds.{Tells}
 use Rattle.option_quotes.proofs.Thresholds.{quotes_are_thresholds}
-use Rattle.quote_text.specs.declared.bodies.QuotesBody.{QuotesBody}
-use Rattle.quote_text.specs.declared.bodies.QuotesBody.TheVariants.{Quote}
-use Rattle.quote_text.specs.Within.{QuotesBodyIsWithin}
-use Rattle.quote_text.proofs.RequestsWithin.{requests_are_within}
+use Rattle.quote_lines.specs.declared.bodies.QuotesBody.{QuotesBody}
+use Rattle.quote_lines.specs.declared.bodies.QuotesBody.TheVariants.{Quote}
+use Rattle.quote_lines.specs.Within.{QuotesBodyIsWithin}
+use Rattle.quote_lines.proofs.RequestsWithin.{requests_are_within}
 use Rattle.order_book.specs.Book.{info_in}
 use Rattle.refusals.proofs.FirstRefusal.{none_in_both}
 use Rattle.quote_lines.specs.declared.replies.QuotesReply.TheVariants.{Plain}

@@ -10,12 +10,12 @@ use Rattle.exchange_core.specs.ExchangeState.{ExchangeState}
 use Rattle.exchange_core.specs.Kept.{IsKept}
 use Rattle.exchange_core.specs.Step.{batch_in}
 use Rattle.exchange_lines.specs.LineSteps.{AnswersAsRun}
-use Rattle.quote_text.specs.declared.bodies.QuotesBody.TheVariants.{Quote}
-use Rattle.quote_text.specs.declared.prices.QuotedPrice.{QuotedPrice}
-use Rattle.quote_text.specs.declared.prices.QuotedPrice.TheVariants.{At, Never, Unmarked}
-use Rattle.quote_text.specs.declared.requests.QuoteRequest.{QuoteRequest}
-use Rattle.quote_text.specs.Bodies.{quotes_body_of}
-use Rattle.quote_text.specs.Quoted.{quoted_line}
+use Rattle.quote_lines.specs.declared.bodies.QuotesBody.TheVariants.{Quote}
+use Rattle.quote_lines.specs.declared.prices.QuotedPrice.{QuotedPrice}
+use Rattle.quote_lines.specs.declared.prices.QuotedPrice.TheVariants.{At, Never, Unmarked}
+use Rattle.quote_lines.specs.declared.requests.QuoteRequest.{QuoteRequest}
+use Rattle.quote_lines.specs.Bodies.{quotes_body_of}
+use Rattle.quote_lines.specs.Quoted.{quoted_line}
 use Rattle.refusals.specs.Refusals.{first_of}
 use Rattle.quote_lines.specs.Output.{IsQuoteText, quotes_line}
 use Rattle.quote_lines.specs.Refusals.{quote_refusals}
