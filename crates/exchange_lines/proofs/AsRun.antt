@@ -9,30 +9,28 @@ use Rattle.command_text.specs.Within.{IsLineWithin}
 use Rattle.command_text.proofs.LinePlaces.{lines_are_at_their_places}
 use Rattle.command_text.proofs.ReadWithin.{lines_are_within}
 use Rattle.exchange_core.specs.ExchangeState.{ExchangeState, empty_exchange}
+use Rattle.house_gain.specs.Runs.{HouseGains, state_by}
 use Rattle.exchange_core.specs.LineReplies.{reply_to}
-use Rattle.exchange_lines.specs.LineSteps.{AnswersAsRun, InputLine, LineStep, RunsAreByLines, input_line, input_lines, output_by, output_of}
-use Rattle.exchange_lines.specs.Output.{line_output, output, output_from}
-use Rattle.exchange_lines.specs.Promises.{GainsInEach, IsNoText, IsToldBy, KeepsPromises, LineAnswer, beside, replied, TellAnswers, replied_in, told_texts}
+use Rattle.exchange_lines.specs.LineSteps.{AnswersAsRun, InputLine, LineStep, RunsAreByLines, exchange_by, input_line, input_lines, line_of, output_by}
+use Rattle.exchange_lines.specs.Output.{line_output, output_from}
+use Rattle.exchange_lines.specs.Promises.{AreAnswersTo, IsNoText, KeepsPromises, LineAnswer, OutputTells, RunsTellAnswers, TellAnswers, beside, line_reply, replied, replied_in, replies_of, told_texts}
 use Rattle.exchange_lines.specs.Replies.{answer_to, answers_from}
 use Rattle.exchange_lines.proofs.Answered.{answers_keep}
-use Rattle.exchange_lines.proofs.HouseGains.{gains_told}
-
--- what a line says as a command
-abbrev line_of : InputLine → Line
-line_of line = record { number = line.number; body = body_of_line line.bytes }
+use Rattle.exchange_lines.proofs.HouseGains.{lines_gain}
 
 module _ (IsBeside : ℕ → List ℕ → Type 0) (step : LineStep) (as_run : AnswersAsRun IsBeside step) where
   -- the answers to lines, of which a run's are its answers to some of the lines
   record LinesTold (state : ExchangeState) (lines : List InputLine) : Type 0 where
     answers : List LineAnswer
+    to_lines : AreAnswersTo IsBeside step state lines answers
     text : output_by step state lines ≡ told_texts answers
-    told : All (IsToldBy IsBeside) answers
     ran : List Line
     within : All IsLineWithin ran
     replies : replied_in answers ≡ answers_from state ran
+    end : exchange_by step state lines ≡ state_by line_reply state ran
 
   none_told : (state : ExchangeState) → LinesTold state []
-  none_told state = record { answers = []; text = refl; told = All-nil (IsToldBy IsBeside); ran = []; within = All-nil IsLineWithin; replies = refl }
+  none_told state = record { answers = []; to_lines = refl; text = refl; ran = []; within = All-nil IsLineWithin; replies = refl; end = refl }
 
   one_replied : (state : ExchangeState) (line : InputLine) (lines : List InputLine) → step line.number state line.bytes ≡ line_output line.number state line.bytes
       → LinesTold (reply_to state (body_of_line line.bytes)).1 lines → LinesTold state (line ∷ lines)
@@ -40,12 +38,13 @@ module _ (IsBeside : ℕ → List ℕ → Type 0) (step : LineStep) (as_run : An
       let answer = answer_to state (line_of line) in
       record {
         answers = replied answer ∷ later.answers;
+        to_lines = ((refl, is), subst (λ (now : List ℕ × ExchangeState). AreAnswersTo IsBeside step now.1 lines later.answers) (sym is) later.to_lines);
         text = ap (λ (now : List ℕ × ExchangeState). now.0 ++ output_by step now.1 lines) is
             ∙ ap (λ l. (line_output line.number state line.bytes).0 ++ l) later.text;
-        told = All-cons (IsToldBy IsBeside) (replied answer) later.answers tt later.told;
         ran = line_of line ∷ later.ran;
         within = All-cons IsLineWithin (line_of line) later.ran (lines_are_within line.bytes) later.within;
         replies = ap (λ l. answer ∷ l) later.replies;
+        end = ap (λ (now : List ℕ × ExchangeState). exchange_by step now.1 lines) is ∙ later.end;
       }
 
   one_beside : (state : ExchangeState) (line : InputLine) (lines : List InputLine) → IsBeside line.number (step line.number state line.bytes).0
@@ -54,11 +53,12 @@ module _ (IsBeside : ℕ → List ℕ → Type 0) (step : LineStep) (as_run : An
       let text = (step line.number state line.bytes).0 in
       record {
         answers = beside line.number text ∷ later.answers;
+        to_lines = ((refl, is, ap (λ s. (text, s)) same), subst (λ s. AreAnswersTo IsBeside step s lines later.answers) (sym same) later.to_lines);
         text = ap (λ s. text ++ output_by step s lines) same ∙ ap (λ l. text ++ l) later.text;
-        told = All-cons (IsToldBy IsBeside) (beside line.number text) later.answers is later.told;
         ran = later.ran;
         within = later.within;
         replies = later.replies;
+        end = ap (λ s. exchange_by step s lines) same ∙ later.end;
       }
 
   all_told : (lines : List InputLine) (state : ExchangeState) → LinesTold state lines
@@ -69,15 +69,16 @@ module _ (IsBeside : ℕ → List ℕ → Type 0) (step : LineStep) (as_run : An
   ]
 
   -- what is written for an input keeps what is promised
-  pub output_tells : (input : List ℕ) → TellAnswers IsBeside (output_of step input)
+  pub output_tells : OutputTells IsBeside step
   output_tells input =
       let told = all_told (input_lines input) empty_exchange in
       record {
         answers = told.answers;
+        to_lines = told.to_lines;
         text = told.text;
-        told = told.told;
         promises = subst (All KeepsPromises) (sym told.replies) (answers_keep told.ran told.within);
-        gains = subst GainsInEach (sym told.replies) (gains_told told.ran told.within);
+        gains = subst (λ (state : ExchangeState). HouseGains state.entries (replies_of (replied_in told.answers))) (sym told.end)
+            (subst (λ given. HouseGains (state_by line_reply empty_exchange told.ran).entries (replies_of given)) (sym told.replies) (lines_gain told.ran told.within));
       }
 
 -- ---- a run
@@ -91,5 +92,6 @@ places_are_written input (place ∷ places) state =
 pub runs_are_by_lines : RunsAreByLines
 runs_are_by_lines input = places_are_written input (raw_lines_in input) empty_exchange ∙ ap (output_from empty_exchange) (sym (lines_are_at_their_places input))
 
-pub run_tells : (input : List ℕ) → TellAnswers IsNoText (output input)
-run_tells input = subst (TellAnswers IsNoText) (runs_are_by_lines input) (output_tells IsNoText line_output (λ number state line. inl refl) input)
+pub runs_tell_answers : RunsTellAnswers
+runs_tell_answers input =
+    subst (TellAnswers IsNoText line_output input) (runs_are_by_lines input) (output_tells IsNoText line_output (λ number state line. inl refl) input)

@@ -10,14 +10,12 @@ use Rattle.command_text.proofs.ReadWithin.{inputs_are_within}
 use Rattle.exchange_core.specs.declared.refusal.Refusal.TheVariants as refusal
 use Rattle.exchange_core.specs.ExchangeState.{ExchangeState, all_live, empty_exchange}
 use Rattle.exchange_core.specs.Kept.{IsKept}
-use Rattle.house_gain.specs.Gain.{GainsSurplus, IsGained}
 use Rattle.house_gain.specs.Runs.{HouseGains, replies_by, state_by}
 use Rattle.house_gain.proofs.RunGains.{gains_run}
-use Rattle.house_gain.proofs.Replies.{settled_weaker}
 use Rattle.house_gain.proofs.RunStates.{empty_runs}
 use Rattle.house_gain.proofs.Steps.{IsTrader, StepsTo, refusal_steps, command_steps}
 use Rattle.exchange_core.specs.LineReplies.{reply_to}
-use Rattle.exchange_lines.specs.Promises.{AnswersGain, GainsInEach, line_reply, replies_of}
+use Rattle.exchange_lines.specs.Promises.{AnswersGain, line_reply, replies_of}
 use Rattle.exchange_lines.specs.Replies.{answers_from}
 
 pub body_steps : (state : ExchangeState) (said : Body) → BodyIsWithin said → IsKept state → All IsTrader (all_live state) → StepsTo state (reply_to state said)
@@ -29,16 +27,10 @@ replies_are : (state : ExchangeState) (lines : List Line) → replies_of (answer
 replies_are state [] = refl
 replies_are state (line ∷ lines) = ap (λ l. (line_reply state line).0 ∷ l) (replies_are (line_reply state line).1 lines)
 
-lines_gain : (lines : List Line) → All IsLineWithin lines → HouseGains (state_by line_reply empty_exchange lines).entries (replies_of (answers_from empty_exchange lines))
+pub lines_gain : (lines : List Line) → All IsLineWithin lines → HouseGains (state_by line_reply empty_exchange lines).entries (replies_of (answers_from empty_exchange lines))
 lines_gain lines within =
     subst (HouseGains (state_by line_reply empty_exchange lines).entries) (sym (replies_are empty_exchange lines))
     (gains_run line_reply IsLineWithin (λ state line. body_steps state line.body) lines empty_exchange within empty_runs)
 
 pub answers_gain : AnswersGain
 answers_gain input = lines_gain (commands_in input) (inputs_are_within input)
-
--- as far as the answers tell
-pub gains_told : (lines : List Line) → All IsLineWithin lines → GainsInEach (answers_from empty_exchange lines)
-gains_told lines within =
-    settled_weaker (IsGained (state_by line_reply empty_exchange lines).entries) GainsSurplus (λ number batch outcome payouts gained. gained.surplus)
-    (replies_of (answers_from empty_exchange lines)) (lines_gain lines within)

@@ -1,6 +1,7 @@
 -- What is written for an input by any way of answering its lines; a run's is one.
 use Rattle.std.specs.Prelude.{◌≡◌, ◌⊎◌, ℕ, List, [], ◌∷◌, ◌++◌, map, slice_range}
 use Rattle.command_text.specs.declared.command.Body.{Body}
+use Rattle.command_text.specs.declared.command.Line.{Line}
 use Rattle.command_text.specs.declared.lines.RawLine.{RawLine}
 use Rattle.command_text.specs.Commands.{body_of_line}
 use Rattle.command_text.specs.Lines.{raw_lines_in}
@@ -27,6 +28,10 @@ input_line input place = record { number = place.number; bytes = slice_range inp
 abbrev pub input_lines : List ℕ → List InputLine
 input_lines input = map (input_line input) (raw_lines_in input)
 
+-- a line with what it says
+abbrev pub line_of : InputLine → Line
+line_of line = record { number = line.number; body = body_of_line line.bytes }
+
 -- what is written for lines, from a state on
 abbrev pub output_by : LineStep → ExchangeState → List InputLine → List ℕ
 output_by step state [] = []
@@ -35,6 +40,15 @@ output_by step state (line ∷ lines) = let now = step line.number state line.by
 -- what is written for an input
 abbrev pub output_of : LineStep → List ℕ → List ℕ
 output_of step input = output_by step empty_exchange (input_lines input)
+
+-- the exchange after lines, from a state on
+abbrev pub exchange_by : LineStep → ExchangeState → List InputLine → ExchangeState
+exchange_by step state [] = state
+exchange_by step state (line ∷ lines) = exchange_by step (step line.number state line.bytes).1 lines
+
+-- the exchange after an input
+abbrev pub exchange_of : LineStep → List ℕ → ExchangeState
+exchange_of step input = exchange_by step empty_exchange (input_lines input)
 
 -- line by line a run writes its output
 abbrev pub RunsAreByLines : Type 0

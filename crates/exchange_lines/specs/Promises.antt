@@ -1,5 +1,5 @@
 -- What a run promises of the bytes that it writes.
-use Rattle.std.specs.Prelude.{◌≡◌, List, [], ◌∷◌, ◌++◌, ℕ, map, ⊤}
+use Rattle.std.specs.Prelude.{◌≡◌, List, [], ◌∷◌, ◌++◌, ℕ, map}
 use Rattle.std.specs.List.{All}
 use Rattle.frac.specs.Range.{limit}
 use Rattle.form.specs.declared.orders.Batch.{Batch}
@@ -13,11 +13,11 @@ use Rattle.exchange_core.specs.Covered.{IfCleared, IsProvedGreatest}
 use Rattle.reply_print.specs.declared.replies.Reply.{Reply}
 use Rattle.reply_print.specs.ReplyPieces.{reply_line}
 use Rattle.exchange_core.specs.ExchangeState.{ExchangeState, empty_exchange}
-use Rattle.house_gain.specs.Gain.{GainsSurplus}
-use Rattle.house_gain.specs.Runs.{HouseGains, OfEachSettled, state_by}
-use Rattle.exchange_lines.specs.Output.{output}
+use Rattle.house_gain.specs.Runs.{HouseGains, state_by}
+use Rattle.exchange_lines.specs.LineSteps.{InputLine, LineStep, exchange_of, input_lines, line_of, output_of}
+use Rattle.exchange_lines.specs.Output.{line_output, output}
 use Rattle.exchange_core.specs.LineReplies.{reply_to}
-use Rattle.exchange_lines.specs.Replies.{Answer, IsMarkedAs, answers, answers_text}
+use Rattle.exchange_lines.specs.Replies.{Answer, IsMarkedAs, answer_to, answers, answers_text}
 
 -- ---- of each answer
 -- where it clears a batch, the fills cover its surplus at every settlement, and it is not below 0
@@ -56,12 +56,8 @@ line_reply state line = reply_to state line.body
 abbrev pub state_after : List ℕ → ExchangeState
 state_after input = state_by line_reply empty_exchange (commands_in input)
 
--- where the market of a cleared batch is settled later, the house gains at least the surplus that the batch's reply tells
-abbrev pub GainsInEach : List Answer → Type 0
-GainsInEach answers = OfEachSettled GainsSurplus (replies_of answers)
-
--- ---- of the bytes
--- what is told for a line: a run's answer, or a text beside these that clears and settles nothing
+-- ---- of the lines of an input
+-- what is told for a line: a run's answer, or a text beside these
 pub data LineAnswer : Type 0 where
   replied : Answer → LineAnswer
   beside : (line : ℕ) (text : List ℕ) → LineAnswer
@@ -80,24 +76,41 @@ abbrev pub told_texts : List LineAnswer → List ℕ
 told_texts [] = []
 told_texts (answer ∷ more) = told_text answer ++ told_texts more
 
--- what is told beside a run's answers is one of these texts
-abbrev pub IsToldBy : (ℕ → List ℕ → Type 0) → LineAnswer → Type 0
-IsToldBy IsBeside (replied answer) = ⊤
-IsToldBy IsBeside (beside line text) = IsBeside line text
+-- the step tells this for the line in the state: a run's answer to what the line says, or one of the texts beside these, by which
+-- the state stays
+abbrev pub IsAnswerTo : (ℕ → List ℕ → Type 0) → LineStep → ExchangeState → InputLine → LineAnswer → Type 0
+IsAnswerTo IsBeside step state line (replied answer) =
+    (answer ≡ answer_to state (line_of line)) × (step line.number state line.bytes ≡ line_output line.number state line.bytes)
+IsAnswerTo IsBeside step state line (beside number text) =
+    (number ≡ line.number) × IsBeside number text × (step line.number state line.bytes ≡ (text, state))
 
--- they are the text of answers and of such texts beside them; each answer keeps what is promised, and they leave the house its gains
-pub record TellAnswers (IsBeside : ℕ → List ℕ → Type 0) (bytes : List ℕ) : Type 0 where
+-- one for each line, in order, each in the state that the lines before it left
+abbrev pub AreAnswersTo : (ℕ → List ℕ → Type 0) → LineStep → ExchangeState → List InputLine → List LineAnswer → Type 0
+AreAnswersTo IsBeside step state [] answers = answers ≡ []
+AreAnswersTo IsBeside step state (line ∷ lines) [] = ⊥
+AreAnswersTo IsBeside step state (line ∷ lines) (answer ∷ answers) =
+    IsAnswerTo IsBeside step state line answer × AreAnswersTo IsBeside step (step line.number state line.bytes).1 lines answers
+
+-- the bytes are the text of the answers to the lines of the input; each keeps what is promised, and they leave the house its gains
+pub record TellAnswers (IsBeside : ℕ → List ℕ → Type 0) (step : LineStep) (input bytes : List ℕ) : Type 0 where
   pub answers : List LineAnswer
+  pub to_lines : AreAnswersTo IsBeside step empty_exchange (input_lines input) answers
   pub text : bytes ≡ told_texts answers
-  pub told : All (IsToldBy IsBeside) answers
   pub promises : All KeepsPromises (replied_in answers)
-  pub gains : GainsInEach (replied_in answers)
+  pub gains : HouseGains (exchange_of step input).entries (replies_of (replied_in answers))
 
 -- a run writes nothing beside its answers
 abbrev pub IsNoText : ℕ → List ℕ → Type 0
 IsNoText line text = ⊥
 
 -- ---- of the defined output, whatever the input
+-- what is written by this step, with these texts beside a run's answers, tells answers
+abbrev pub OutputTells : (ℕ → List ℕ → Type 0) → LineStep → Type 0
+OutputTells IsBeside step = (input : List ℕ) → TellAnswers IsBeside step input (output_of step input)
+
+abbrev pub RunsTellAnswers : Type 0
+RunsTellAnswers = (input : List ℕ) → TellAnswers IsNoText line_output input (output input)
+
 abbrev pub OutputIsAnswers : Type 0
 OutputIsAnswers = (input : List ℕ) → output input ≡ answers_text (answers input)
 

@@ -1,7 +1,7 @@
 //! Laws over the definition of the output: each is the contract of a function that does nothing.
 
 ghost use Rattle.exchange_lines.specs.LineSteps.{RunsAreByLines};
-ghost use Rattle.exchange_lines.specs.Promises.{AnswersGain, OutputIsAnswers, OfEachAnswer, IsCoveredIn, IsGreatestIn, IsJudgedYesIn, IsMarkedIn};
+ghost use Rattle.exchange_lines.specs.Promises.{AnswersGain, OutputIsAnswers, OfEachAnswer, IsCoveredIn, IsGreatestIn, IsJudgedYesIn, IsMarkedIn, RunsTellAnswers};
 
 /// The output of an input is the text of the answers to its lines.
 pub fn output_is_answers()
@@ -37,4 +37,10 @@ pub fn answers_gain()
 /// What a run's step writes line by line is the output of the run.
 pub fn runs_are_by_lines()
     ensures { RunsAreByLines }
+{}
+
+/// What a run writes is the text of its answers to the lines of its input, each of which keeps what is promised, and which leave
+/// the house its gains.
+pub fn runs_tell_answers()
+    ensures { RunsTellAnswers }
 {}

@@ -11,47 +11,63 @@ use Rattle.journal_check.specs.declared.reports.Report.{Report}
 use Rattle.journal_check.specs.declared.reports.Report.TheVariants.{Sound, Faulty}
 use Rattle.journal_check.proofs.ReportsSay.{reports_say}
 use Rattle.exchange_lines.specs.Promises.{TellAnswers}
-use Rattle.exchange_lines.proofs.AsRun.{output_tells, run_tells}
+use Rattle.exchange_lines.proofs.AsRun.{runs_tell_answers}
 use Rattle.exchange_sessions.proofs.TellLaws.{output_tells_once}
-use Rattle.guarded_lines.specs.Output.{IsMarginText, guarded_line}
-use Rattle.guarded_lines.proofs.AsRun.{guarded_answer_as_run}
+use Rattle.guarded_lines.proofs.AsRun.{guarded_tell_answers}
 use Rattle.program_words.specs.declared.requests.Mode.{Mode}
 use Rattle.program_words.specs.declared.requests.Mode.TheVariants.{Run, Quotes, Guarded}
 use Rattle.program_words.specs.declared.requests.Request.{Request}
 use Rattle.program_words.specs.declared.requests.Request.TheVariants.{Lines, Check, Sessions, Demo}
-use Rattle.quote_lines.specs.Output.{IsQuoteText, quotes_line}
-use Rattle.quote_lines.proofs.AsRun.{quotes_answer_as_run}
-use Rattle.exchange_program.specs.Modes.{IsBesideIn, mode_output}
-use Rattle.exchange_program.specs.Requests.{NamesFault, OfInput, Promised, WhereCheck, output_for, status_by, status_for}
+use Rattle.quote_lines.proofs.AsRun.{quotes_tell_answers}
+use Rattle.exchange_program.specs.Modes.{IsBesideIn, mode_output, step_in}
+use Rattle.exchange_program.specs.Requests.{NamesFault, OfInput, OfSomeInput, Promised, WhereCheck, output_for, status_by, status_for}
 use Rattle.exchange_program.specs.Wrote.{Wrote, WroteFront}
 use Rattle.exchange_program.specs.declared.status.Status.{Status}
 use Rattle.exchange_program.specs.declared.status.Status.TheVariants.{Done, Usage, CheckNo}
 
 -- ---- what is promised of the bytes that are written
-told_in : (mode : Mode) (input : List ℕ) → TellAnswers (IsBesideIn mode) (mode_output mode input)
-told_in Run input = run_tells input
-told_in Quotes input = output_tells IsQuoteText quotes_line quotes_answer_as_run input
-told_in Guarded input = output_tells IsMarginText guarded_line guarded_answer_as_run input
+told_in : (mode : Mode) (input : List ℕ) → TellAnswers (IsBesideIn mode) (step_in mode) input (mode_output mode input)
+told_in Run input = runs_tell_answers input
+told_in Quotes input = quotes_tell_answers input
+told_in Guarded input = guarded_tell_answers input
 
-promised : (request : Request) (input : List ℕ) → Promised request (output_for request input)
+promised : (request : Request) (input : List ℕ) → Promised request input (output_for request input)
 promised (Lines mode) input = told_in mode input
 promised Check input = tt
 promised Sessions input = output_tells_once input
 promised (Demo seed count) input = tt
 
-pub told : (request : Request) (old new : Option (List ℕ)) (input : List ℕ) → Appends old new (output_for request input) → Wrote old new (Promised request)
-told request old new input wrote = (output_for request input, promised request input, wrote)
+-- some bytes are read
+abbrev IsInput : Request → Option (List ℕ) → List ℕ → Type 0
+IsInput request left input = OfInput request left (λ told. input ≡ told)
 
-pub told_front : (request : Request) (old new : Option (List ℕ)) (input : List ℕ) → AppendsFront old new (output_for request input) → WroteFront old new (Promised request)
-told_front request old new input wrote = (output_for request input, promised request input, wrote)
+pub told : (request : Request) (left old new : Option (List ℕ)) (input : List ℕ) → IsInput request left input → Appends old new (output_for request input)
+    → OfSomeInput request left (λ input. Wrote old new (Promised request input))
+told request left old new input is wrote = (input, is, (output_for request input, promised request input, wrote))
+
+pub told_front : (request : Request) (left old new : Option (List ℕ)) (input : List ℕ) → IsInput request left input → AppendsFront old new (output_for request input)
+    → OfSomeInput request left (λ input. WroteFront old new (Promised request input))
+told_front request left old new input is wrote = (input, is, (output_for request input, promised request input, wrote))
+
+-- some input there is
+if_told : (left : Option (List ℕ)) → (input : List ℕ) × IfSome left (λ told. input ≡ told)
+if_told None = ([], tt)
+if_told (Some input) = (input, refl)
+
+some_input : (request : Request) (left : Option (List ℕ)) → (input : List ℕ) × IsInput request left input
+some_input (Lines mode) left = if_told left
+some_input Check left = if_told left
+some_input Sessions left = if_told left
+some_input (Demo seed count) left = ([], refl)
 
 -- nothing at all is a front of it
-pub nothing_told : (request : Request) (old : Option (List ℕ)) → WroteFront old old (Promised request)
-nothing_told request old = told_front request old old [] (0, omega arith, Appends-nil old)
+pub nothing_told : (request : Request) (left old : Option (List ℕ)) → OfSomeInput request left (λ input. WroteFront old old (Promised request input))
+nothing_told request left old =
+    let some = some_input request left in told_front request left old old some.0 some.1 (0, omega arith, Appends-nil old)
 
-pub nothing_told_yet : (asked : Option Request) (old : Option (List ℕ)) → IfSome asked (λ request. WroteFront old old (Promised request))
-nothing_told_yet None old = tt
-nothing_told_yet (Some request) old = nothing_told request old
+pub nothing_told_yet : (asked : Option Request) (left old : Option (List ℕ)) → IfSome asked (λ request. OfSomeInput request left (λ input. WroteFront old old (Promised request input)))
+nothing_told_yet None left old = tt
+nothing_told_yet (Some request) left old = nothing_told request left old
 
 -- ---- what a check found
 all_sound : (texts : List (List ℕ)) (report : Report) → Says texts report → status_by report ≡ Done → All IsSoundLine texts

@@ -1,12 +1,18 @@
 -- What each mode of answering command lines writes and tells.
 use Rattle.std.specs.Prelude.{ℕ, List}
-use Rattle.exchange_lines.specs.LineSteps.{output_of}
-use Rattle.exchange_lines.specs.Output.{output}
+use Rattle.exchange_lines.specs.LineSteps.{LineStep, output_of}
+use Rattle.exchange_lines.specs.Output.{line_output, output}
 use Rattle.exchange_lines.specs.Promises.{IsNoText}
 use Rattle.guarded_lines.specs.Output.{IsMarginText, guarded_line}
 use Rattle.program_words.specs.declared.requests.Mode.{Mode}
 use Rattle.program_words.specs.declared.requests.Mode.TheVariants.{Run, Quotes, Guarded}
 use Rattle.quote_lines.specs.Output.{IsQuoteText, quotes_line}
+
+-- how a line is answered
+abbrev pub step_in : Mode → LineStep
+step_in Run = line_output
+step_in Quotes = quotes_line
+step_in Guarded = guarded_line
 
 -- what is written for an input
 abbrev pub mode_output : Mode → List ℕ → List ℕ

@@ -13,7 +13,7 @@ use Rattle.journal_check.specs.Reports.{report_of, report_text}
 use Rattle.program_words.specs.declared.requests.Request.{Request}
 use Rattle.program_words.specs.declared.requests.Request.TheVariants.{Lines, Check, Sessions, Demo}
 use Rattle.program_words.specs.Requests.{request_of}
-use Rattle.exchange_program.specs.Modes.{IsBesideIn, mode_output}
+use Rattle.exchange_program.specs.Modes.{IsBesideIn, mode_output, step_in}
 use Rattle.exchange_program.specs.declared.lines.TheConstants.{MAX_INPUT}
 use Rattle.exchange_program.specs.declared.check.TheConstants.{MAX_JOURNAL}
 use Rattle.exchange_program.specs.declared.status.Status.{Status}
@@ -33,6 +33,10 @@ OfInput (Lines mode) left P = IfSome left P
 OfInput Check left P = IfSome left P
 OfInput Sessions left P = IfSome left P
 OfInput (Demo seed count) left P = P []
+
+-- a fact of some bytes, which are those that are read, as far as they are told
+abbrev pub OfSomeInput : Request → Option (List ℕ) → (List ℕ → Type 0) → Type 0
+OfSomeInput request left P = (input : List ℕ) × OfInput request left (λ told. input ≡ told) × P input
 
 -- all that was left is read, where the input is read
 abbrev pub IsReadWhole : Request → Option (List ℕ) → Option (List ℕ) → Type 0
@@ -76,12 +80,12 @@ abbrev pub HasEnded : Status → Type 0
 HasEnded status = (status ≡ Done) ⊎ (status ≡ CheckNo)
 
 -- ---- facts of one request alone
--- what is promised of the bytes that are written: command lines are told their answers, and sessions tell each message once
-abbrev pub Promised : Request → List ℕ → Type 0
-Promised (Lines mode) bytes = TellAnswers (IsBesideIn mode) bytes
-Promised Check bytes = Unit {0}
-Promised Sessions bytes = TellOnce bytes
-Promised (Demo seed count) bytes = Unit {0}
+-- what is promised of the bytes that are written for an input: its lines are told their answers, and its messages each once
+abbrev pub Promised : Request → List ℕ → List ℕ → Type 0
+Promised (Lines mode) input bytes = TellAnswers (IsBesideIn mode) (step_in mode) input bytes
+Promised Check input bytes = Unit {0}
+Promised Sessions input bytes = TellOnce input bytes
+Promised (Demo seed count) input bytes = Unit {0}
 
 abbrev pub WhereCheck : Request → Type 0 → Type 0
 WhereCheck (Lines mode) P = Unit {0}

@@ -8,7 +8,7 @@ ghost use Rattle.port_io.specs.Writes.{AppendsFront};
 ghost use Rattle.journal_check.specs.JournalLines.{lines_of};
 ghost use Rattle.journal_check.specs.Laws.{IsSoundLine};
 ghost use Rattle.program_words.specs.Requests.{request_of};
-ghost use Rattle.exchange_program.specs.Requests.{Asked, HasEnded, IsInputWithin, IsReadWhole, NamesFault, OfInput, Promised, WhereCheck, WhereDemo, input_limit, output_for, status_for};
+ghost use Rattle.exchange_program.specs.Requests.{Asked, HasEnded, IsInputWithin, IsReadWhole, NamesFault, OfInput, OfSomeInput, Promised, WhereCheck, WhereDemo, input_limit, output_for, status_for};
 ghost use Rattle.exchange_program.specs.Wrote.{Wrote, WroteFront};
 
 use crate::serving::serve;
@@ -51,13 +51,15 @@ pub fn exchange<S: Source, K: Sink>(
         OfInput request (S.left source.old) (λ input.
         AppendsFront (K.written sink.old) (K.written sink.new) (output_for request input))) }
 
-    // It keeps what the request promises of it: command lines are told answers that keep what is promised.
+    // It keeps what the request promises of it: each line is told its answer, and the answers keep what is promised.
     ensures told { result ≡ Status.Done →
         Asked (map string_bytes words.now) (λ request.
-        Wrote (K.written sink.old) (K.written sink.new) (Promised request)) }
+        OfSomeInput request (S.left source.old) (λ input.
+        Wrote (K.written sink.old) (K.written sink.new) (Promised request input))) }
     ensures told_front { (result ≡ Status.WriteFault) ⊎ (result ≡ Status.Memory) →
         Asked (map string_bytes words.now) (λ request.
-        WroteFront (K.written sink.old) (K.written sink.new) (Promised request)) }
+        OfSomeInput request (S.left source.old) (λ input.
+        WroteFront (K.written sink.old) (K.written sink.new) (Promised request input))) }
 
     // Where a check is done every line is sound, and else its report names the first that is not.
     ensures sound { result ≡ Status.Done →
@@ -71,9 +73,12 @@ pub fn exchange<S: Source, K: Sink>(
         Asked (map string_bytes words.now) (λ request.
         request ≡ Request.Check) }
 
-    // A demo reads nothing.
+    // A demo reads nothing, so no read of it fails.
     ensures unread { Asked (map string_bytes words.now) (λ request.
         WhereDemo request (source.new ≡ source.old)) }
+    ensures no_read_fault { result ≡ Status.ReadFault →
+        Asked (map string_bytes words.now) (λ request.
+        WhereDemo request ⊥) }
 
     // Each other status has its cause.
     ensures read_fault { result ≡ Status.ReadFault →

@@ -8,7 +8,7 @@ ghost use Rattle.port_io.specs.Writes.{AppendsFront};
 ghost use Rattle.journal_check.specs.JournalLines.{lines_of};
 ghost use Rattle.journal_check.specs.Laws.{IsSoundLine};
 ghost use Rattle.program_words.specs.Requests.{IsRequestWithin};
-ghost use Rattle.exchange_program.specs.Requests.{HasEnded, IsInputWithin, IsReadWhole, NamesFault, OfInput, Promised, WhereCheck, WhereDemo, input_limit, output_for, status_for};
+ghost use Rattle.exchange_program.specs.Requests.{HasEnded, IsInputWithin, IsReadWhole, NamesFault, OfInput, OfSomeInput, Promised, WhereCheck, WhereDemo, input_limit, output_for, status_for};
 ghost use Rattle.exchange_program.specs.Wrote.{Wrote, WroteFront};
 
 use crate::check::{MAX_JOURNAL, report_on};
@@ -29,6 +29,7 @@ fn input_of<S: Source>(alloc: Global, request: Request, source: &mut S) -> Resul
     ensures within { IfOk result (λ bytes. length bytes.items ≤ input_limit request) }
     ensures calm { OnOk result (S.faults source.new ≡ S.faults source.old) }
     ensures unread { WhereDemo request (source.new ≡ source.old) }
+    ensures no_fault { IsErrOf result ReadStop.ReadFault → WhereDemo request ⊥ }
     ensures fault { IsErrOf result ReadStop.ReadFault →
         Rose (S.faults source.old) (S.faults source.new) }
     ensures in_time { IsErrOf result ReadStop.ReadFault →
@@ -103,11 +104,13 @@ pub(crate) fn serve<S: Source, K: Sink>(
         OfInput request (S.left source.old) (λ input.
         AppendsFront (K.written sink.old) (K.written sink.new) (output_for request input)) }
 
-    // It keeps what the request promises of it: command lines are told answers that keep what is promised.
+    // It keeps what the request promises of it: each line is told its answer, and the answers keep what is promised.
     ensures told { result ≡ Status.Done →
-        Wrote (K.written sink.old) (K.written sink.new) (Promised request) }
+        OfSomeInput request (S.left source.old) (λ input.
+        Wrote (K.written sink.old) (K.written sink.new) (Promised request input)) }
     ensures told_front { (result ≡ Status.WriteFault) ⊎ (result ≡ Status.Memory) →
-        WroteFront (K.written sink.old) (K.written sink.new) (Promised request) }
+        OfSomeInput request (S.left source.old) (λ input.
+        WroteFront (K.written sink.old) (K.written sink.new) (Promised request input)) }
 
     // Where a check is done every line is sound, and else its report names the first that is not.
     ensures sound { result ≡ Status.Done →
@@ -118,8 +121,10 @@ pub(crate) fn serve<S: Source, K: Sink>(
     ensures check_alone { result ≡ Status.CheckNo →
         request ≡ Request.Check }
 
-    // A demo reads nothing.
+    // A demo reads nothing, so no read of it fails.
     ensures unread { WhereDemo request (source.new ≡ source.old) }
+    ensures no_read_fault { result ≡ Status.ReadFault →
+        WhereDemo request ⊥ }
 
     // Each other status has its cause.
     ensures read_fault { result ≡ Status.ReadFault →

@@ -1,11 +1,13 @@
 -- What is promised of the answers to any input.
 use Rattle.std.specs.Prelude.{◌≡◌, ℕ, Bool, true, false, List, [], ◌∷◌, ◌++◌, map, Option, None, Some, Contains, if◌then◌else◌}
+use Rattle.std.specs.Option.{option_map}
 use Rattle.session_gate.specs.declared.answer.Answer.{Answer}
 use Rattle.session_gate.specs.declared.answer.Answer.TheVariants.{First, Repeat, Old, Ahead, Changed, Sessions}
 use Rattle.session_gate.specs.Gate.{Message}
 use Rattle.session_gate.specs.Laws.{bodies_of, numbers_of, AreFrom}
 use Rattle.session_gate.specs.Runs.{Replies, Served, nothing_served}
-use Rattle.exchange_lines.specs.Output.{output}
+use Rattle.exchange_lines.specs.Output.{line_output, output}
+use Rattle.exchange_lines.specs.Promises.{IsNoText, TellAnswers}
 use Rattle.exchange_sessions.specs.Answers.{Told, LineAnswer, told_of, after_said, answers_text, answers, sessions_output}
 use Rattle.exchange_sessions.specs.Lines.{NumberedLine, lines_in}
 use Rattle.exchange_sessions.specs.Messages.{message_in}
@@ -71,17 +73,29 @@ AreRepeats given = (before later : List LineAnswer) (answer : LineAnswer) (told 
 abbrev pub RepeatsTellTheSame : Type 0
 RepeatsTellTheSame = (input : List ℕ) → AreRepeats (answers input)
 
--- ---- of the bytes
--- they are the text of answers, by which each message takes effect once, in its session's order
-pub record TellOnce (bytes : List ℕ) : Type 0 where
-  pub answers : List LineAnswer
-  pub text : bytes ≡ answers_text answers
+-- ---- of the bytes that are written for an input
+-- the number of a line and the message that it says, where it says one
+abbrev pub line_message : NumberedLine → ℕ × Option Message
+line_message line = (line.number, message_in line.text)
+
+-- those that an answer is to
+abbrev pub answered_message : LineAnswer → ℕ × Option Message
+answered_message answer = (answer.line, option_map (λ (told : Told). told.message) answer.told)
+
+-- they are the text of the answers to its lines, by which each message takes effect once, in its session's order
+pub record TellOnce (input bytes : List ℕ) : Type 0 where
+  pub text : bytes ≡ answers_text (answers input)
+  -- to each line of the input one, in order, to the message that the line says
+  pub to_lines : map answered_message (answers input) ≡ map line_message (lines_in input)
   -- the messages answered First have, session by session, the numbers 1, 2, 3 and so on
-  pub in_order : (session : ℕ) → AreFrom 1 (numbers_of session (accepted_messages answers))
-  -- their replies are the output of their bodies as one input
-  pub replies : replies_text (told_first answers) ≡ output (as_input (accepted_bodies answers))
-  pub repeats : AreRepeats answers
+  pub in_order : (session : ℕ) → AreFrom 1 (numbers_of session (accepted_messages (answers input)))
+  -- the exchange took their bodies
+  pub taken : (after_lines exchange_reply nothing_served (lines_in input)).bodies ≡ accepted_bodies (answers input)
+  -- their replies are the output of these as one input, and keep what is promised of it
+  pub replies : replies_text (told_first (answers input)) ≡ output (as_input (accepted_bodies (answers input)))
+  pub promises : TellAnswers IsNoText line_output (as_input (accepted_bodies (answers input))) (replies_text (told_first (answers input)))
+  pub repeats : AreRepeats (answers input)
 
 -- What is written for an input tells each message once.
 abbrev pub OutputTellsOnce : Type 0
-OutputTellsOnce = (input : List ℕ) → TellOnce (sessions_output input)
+OutputTellsOnce = (input : List ℕ) → TellOnce input (sessions_output input)

@@ -22,7 +22,8 @@ pub fn repeats_tell_the_same()
     ensures { RepeatsTellTheSame }
 {}
 
-/// What is written for an input is the text of answers of which all this holds.
+/// What is written for an input is the text of the answers to its lines, of which all this holds; and the replies told to the
+/// messages answered First keep what is promised of the output of a run.
 pub fn output_tells_once()
     ensures { OutputTellsOnce }
 {}

@@ -15,6 +15,7 @@ use Rattle.exchange_core.specs.declared.refusal.Refusal.TheVariants as refusal
 use Rattle.exchange_core.specs.ExchangeState.{ExchangeState}
 use Rattle.exchange_core.specs.Reply.{refused_with}
 use Rattle.exchange_lines.specs.LineSteps.{IsAsRun}
+use Rattle.exchange_lines.proofs.AsRun.{output_tells}
 use Rattle.guarded_lines.specs.declared.bodies.GuardedBody.TheVariants.{Plain}
 use Rattle.guarded_lines.specs.declared.told.ToldMargin.{ToldMargin}
 use Rattle.guarded_lines.specs.declared.told.Need.{Need}
@@ -24,9 +25,9 @@ use Rattle.guarded_lines.specs.Requests.{request_of}
 use Rattle.guarded_lines.proofs.Words.{margin_is_no_command}
 use Rattle.refusals.specs.Refusals.{first_of}
 use Rattle.guarded_lines.specs.declared.replies.GuardedReply.TheVariants as reply
-use Rattle.guarded_lines.specs.Laws.{GuardedAnswerAsRun}
+use Rattle.guarded_lines.specs.Laws.{GuardedAnswerAsRun, GuardedTellAnswers}
 use Rattle.guarded_lines.specs.Margins.{run_in, margin_refusals, told_of}
-use Rattle.guarded_lines.specs.Output.{IsMarginText, written_reply}
+use Rattle.guarded_lines.specs.Output.{IsMarginText, guarded_line, written_reply}
 use Rattle.guarded_lines.specs.Replies.{guarded_reply_line, guarded_reply_to, plain_reply_to}
 use Rattle.guarded_lines.specs.Withdrawals.{uncovered_by}
 
@@ -66,3 +67,6 @@ by_fields number state (Some fields) = by_word number state fields (bytes_eq (te
 
 pub guarded_answer_as_run : GuardedAnswerAsRun
 guarded_answer_as_run number state line = by_fields number state (fields_of_line line)
+
+pub guarded_tell_answers : GuardedTellAnswers
+guarded_tell_answers = output_tells IsMarginText guarded_line guarded_answer_as_run

@@ -1,4 +1,4 @@
--- What holds of each answer.
+-- What holds of the answers.
 use Rattle.std.specs.Prelude.{◌≡◌, ◌≤◌, ℕ, ℤ, pos, ◌≤ℤ◌, List, length}
 use Rattle.cash_ledger.specs.Entries.{balance_of}
 use Rattle.command_text.specs.declared.command.Body.TheVariants.{Command}
@@ -7,6 +7,7 @@ use Rattle.exchange_core.specs.ExchangeState.{ExchangeState}
 use Rattle.exchange_core.specs.Held.{markets_of}
 use Rattle.exchange_core.specs.Kept.{IsKept}
 use Rattle.exchange_lines.specs.LineSteps.{AnswersAsRun}
+use Rattle.exchange_lines.specs.Promises.{OutputTells}
 use Rattle.guarded_lines.specs.declared.bodies.GuardedBody.TheVariants as said
 use Rattle.reply_print.specs.declared.replies.Reply.TheVariants.{Withdrawn}
 use Rattle.guarded_lines.specs.declared.replies.GuardedReply.{GuardedReply}
@@ -19,6 +20,10 @@ use Rattle.guarded_lines.specs.Settlements.{after_settling}
 -- each line is answered as in a run, or by a refusal or by what is told of a margin, and then the exchange is as it was
 abbrev pub GuardedAnswerAsRun : Type 0
 GuardedAnswerAsRun = AnswersAsRun IsMarginText guarded_line
+
+-- what is written for an input is the text of the answers to its lines, which keep what is promised and leave the house its gains
+abbrev pub GuardedTellAnswers : Type 0
+GuardedTellAnswers = OutputTells IsMarginText guarded_line
 
 -- ---- withdrawals
 -- the answer to a withdrawal, and the exchange after it

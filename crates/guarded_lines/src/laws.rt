@@ -1,5 +1,5 @@
 //! Laws over the definitions: each is the contract of a function that does nothing.
-ghost use Rattle.guarded_lines.specs.Laws.{GuardedAnswerAsRun, WithdrawalsAreCovered};
+ghost use Rattle.guarded_lines.specs.Laws.{GuardedAnswerAsRun, GuardedTellAnswers, WithdrawalsAreCovered};
 ghost use Rattle.guarded_lines.specs.RequestLaws.{OtherLinesAreRuns, RequestsAreWithin, WorkedRequests};
 
 /// A line whose first field is not `margin` says what it says to a run.
@@ -20,6 +20,12 @@ pub fn worked_requests()
 /// Each line is answered as in a run, or by a refusal or by what is told of a margin, and then the exchange is as it was.
 pub fn guarded_answer_as_run()
     ensures { GuardedAnswerAsRun }
+{}
+
+/// What is written for an input is the text of the answers to its lines: those of a run, each of which keeps what is promised of a
+/// run and which leave the house its gains, and refusals and margins beside them.
+pub fn guarded_tell_answers()
+    ensures { GuardedTellAnswers }
 {}
 
 /// After a withdrawal that is accepted, were all markets in which the account has positions settled next, in rising number and at

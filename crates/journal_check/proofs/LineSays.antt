@@ -10,7 +10,7 @@ use Rattle.cert_check.specs.declared.outcome.Judgement.TheVariants as judgement
 use Rattle.cert_check.specs.declared.outcome.Outcome.{Outcome}
 use Rattle.cert_check.specs.Conditions.{IsFirstUnmet}
 use Rattle.cert_check.specs.Events.{verdict_of}
-use Rattle.cert_check.proofs.Yes.{said, yes_covers, yes_on_optimal_proves}
+use Rattle.cert_check.proofs.Yes.{said, yes_covers, yes_has_its_measure, yes_on_optimal_proves}
 use Rattle.serde_json.specs.Data.{Data}
 use Rattle.reply_print.specs.declared.replies.Reply.{Reply}
 use Rattle.reply_print.specs.declared.replies.Reply.TheVariants.{Opened, Deposited, Withdrawn, Listed, Placed, Cancelled, Cleared as ClearedReply, Settled, Balance, Refused}
@@ -83,7 +83,12 @@ judged text line number market batch outcome judgement.Yes h e = record {
   line = line;
   reply = ClearedReply number market batch outcome;
   is_line = h;
-  certified = record { covered = yes_covers batch outcome e; proved = yes_on_optimal_proves batch outcome e };
+  certified = record {
+    yes = e;
+    covered = yes_covers batch outcome e;
+    proved = yes_on_optimal_proves batch outcome e;
+    measured = yes_has_its_measure batch outcome e;
+  };
 }
 judged text line number market batch outcome (judgement.No condition) h e =
     unmet text line number market batch outcome condition h (said batch outcome (judgement.No condition) e).1

@@ -8,9 +8,9 @@ use Rattle.cert_check.specs.declared.outcome.No.{No}
 use Rattle.cert_check.specs.declared.outcome.No.TheVariants as no
 use Rattle.cert_check.specs.declared.outcome.Judgement.TheVariants as judgement
 use Rattle.cert_check.specs.declared.outcome.Outcome.{Outcome}
-use Rattle.cert_check.specs.Conditions.{IfOptimal, IsFirstUnmet}
+use Rattle.cert_check.specs.Conditions.{IsFirstUnmet}
 use Rattle.cert_check.specs.Events.{verdict_of}
-use Rattle.cert_check.specs.Laws.{IsCovered, IsProved}
+use Rattle.cert_check.specs.Laws.{IsCovered, IsMeasuredIfOptimal, IsProvedIfOptimal}
 use Rattle.reply_print.specs.declared.replies.Reply.{Reply}
 use Rattle.reply_print.specs.declared.replies.Reply.TheVariants as reply
 use Rattle.reply_text.specs.declared.faults.LineFault.TheVariants as fault
@@ -25,10 +25,12 @@ use Rattle.reply_print.specs.Within.{IsWithin}
 use Rattle.journal_check.specs.Findings.{fault_in, reply_finding}
 use Rattle.journal_check.specs.Reports.{sound_report, report_of}
 
--- the fills cover the claimed surplus, and with the mark optimal no fills cover more
+-- the verdict is yes: so the fills cover the claimed surplus, and with the mark optimal no fills cover more, as the measure proves
 pub record IsCertified (batch : Batch) (outcome : Outcome) : Type 0 where
+  pub yes : verdict_of limit batch outcome ≡ judgement.Yes
   pub covered : IsCovered batch outcome
-  pub proved : IfOptimal outcome.mark (λ cover measure. IsProved batch outcome)
+  pub proved : IsProvedIfOptimal batch outcome
+  pub measured : IsMeasuredIfOptimal batch outcome
 
 abbrev pub IfCleared : Reply → (Batch → Outcome → Type 0) → Type 0
 IfCleared (reply.Cleared number market batch outcome) P = P batch outcome

@@ -17,6 +17,7 @@ use Rattle.exchange_core.specs.ExchangeState.{ExchangeState}
 use Rattle.exchange_core.specs.Reply.{refused_with}
 use Rattle.exchange_core.specs.Step.{batch_in}
 use Rattle.exchange_lines.specs.LineSteps.{IsAsRun}
+use Rattle.exchange_lines.proofs.AsRun.{output_tells}
 use Rattle.quote_lines.specs.declared.bodies.QuotesBody.TheVariants.{Plain}
 use Rattle.quote_lines.specs.declared.requests.QuoteRequest.{QuoteRequest}
 use Rattle.quote_lines.specs.Bodies.{body_of_request, quotes_body_of_fields}
@@ -24,8 +25,8 @@ use Rattle.quote_lines.specs.Requests.{request_of}
 use Rattle.quote_lines.proofs.Words.{quote_is_no_command}
 use Rattle.refusals.specs.Refusals.{first_of}
 use Rattle.quote_lines.specs.declared.replies.QuotesReply.TheVariants as told
-use Rattle.quote_lines.specs.Laws.{QuotesAnswerAsRun}
-use Rattle.quote_lines.specs.Output.{IsQuoteText, written_reply}
+use Rattle.quote_lines.specs.Laws.{QuotesAnswerAsRun, QuotesTellAnswers}
+use Rattle.quote_lines.specs.Output.{IsQuoteText, quotes_line, written_reply}
 use Rattle.quote_lines.specs.Refusals.{quote_refusals}
 use Rattle.quote_lines.specs.Replies.{quoted_for, quoted_price, quotes_reply_to}
 
@@ -58,3 +59,6 @@ by_fields number state (Some fields) =
 
 pub quotes_answer_as_run : QuotesAnswerAsRun
 quotes_answer_as_run number state line = by_fields number state (fields_of_line line)
+
+pub quotes_tell_answers : QuotesTellAnswers
+quotes_tell_answers = output_tells IsQuoteText quotes_line quotes_answer_as_run

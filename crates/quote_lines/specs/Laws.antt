@@ -10,6 +10,7 @@ use Rattle.exchange_core.specs.ExchangeState.{ExchangeState}
 use Rattle.exchange_core.specs.Kept.{IsKept}
 use Rattle.exchange_core.specs.Step.{batch_in}
 use Rattle.exchange_lines.specs.LineSteps.{AnswersAsRun}
+use Rattle.exchange_lines.specs.Promises.{OutputTells}
 use Rattle.quote_lines.specs.declared.bodies.QuotesBody.TheVariants.{Quote}
 use Rattle.quote_lines.specs.declared.prices.QuotedPrice.{QuotedPrice}
 use Rattle.quote_lines.specs.declared.prices.QuotedPrice.TheVariants.{At, Never, Unmarked}
@@ -23,6 +24,10 @@ use Rattle.quote_lines.specs.Refusals.{quote_refusals}
 -- each line is answered as in a run, or by a refusal or by what is quoted, and then the exchange is as it was
 abbrev pub QuotesAnswerAsRun : Type 0
 QuotesAnswerAsRun = AnswersAsRun IsQuoteText quotes_line
+
+-- what is written for an input is the text of the answers to its lines, which keep what is promised and leave the house its gains
+abbrev pub QuotesTellAnswers : Type 0
+QuotesTellAnswers = OutputTells IsQuoteText quotes_line
 
 -- ---- what a quoted line tells
 -- a price: from it on the order raises the greatest surplus of the batch; `never`: at no price; `unmarked`: a clear of at most so

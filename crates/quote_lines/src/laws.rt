@@ -1,5 +1,5 @@
 //! Laws over the definitions: each is the contract of a function that does nothing.
-ghost use Rattle.quote_lines.specs.Laws.{QuotedLinesAreThresholds, QuotesAnswerAsRun};
+ghost use Rattle.quote_lines.specs.Laws.{QuotedLinesAreThresholds, QuotesAnswerAsRun, QuotesTellAnswers};
 ghost use Rattle.quote_lines.specs.RequestLaws.{OtherLinesAreRuns, RequestsAreWithin, WorkedRequests};
 
 /// A line whose first field is not `quote` says what it says to a run.
@@ -27,4 +27,10 @@ pub fn quotes_answer_as_run()
 /// raises it, `unmarked` where a clear that would have told it is not marked optimal.
 pub fn quoted_lines_are_thresholds()
     ensures { QuotedLinesAreThresholds }
+{}
+
+/// What is written for an input is the text of the answers to its lines: those of a run, each of which keeps what is promised of a
+/// run and which leave the house its gains, and refusals and quotes beside them.
+pub fn quotes_tell_answers()
+    ensures { QuotesTellAnswers }
 {}

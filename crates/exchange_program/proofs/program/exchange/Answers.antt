@@ -7,4 +7,5 @@ pub returns-in-Ok-clause-usage : goal.returns-in-Ok-clause-usage
 returns-in-Ok-clause-usage g c = λ usage. absurd (c.serve.ensures.known usage)
 
 pub returns-in-Err-Memory-clause-told_front : goal.returns-in-Err-Memory-clause-told_front
-returns-in-Err-Memory-clause-told_front g c = λ ended. nothing_told_yet (request_of (map string_bytes c.args.words.now)) (g.K.Sink.written c.args.sink.now)
+returns-in-Err-Memory-clause-told_front g c = λ ended.
+    nothing_told_yet (request_of (map string_bytes c.args.words.now)) (g.S.Source.left c.args.source.now) (g.K.Sink.written c.args.sink.now)
