@@ -14,6 +14,6 @@ AllAnswerAsRun = AnswersAsRun IsBesideText all_line
 abbrev pub OutputsAreOfLines : Type 0
 OutputsAreOfLines = (step : LineStep) (input : List ℕ) → live.output_of step true empty_exchange input ≡ output_of step input
 
--- it tells a run's answers, which keep what is promised, and texts beside them
+-- it tells the answers to the lines of the input: a run's, which keep what is promised, and texts beside them
 abbrev pub OutputsTell : Type 0
-OutputsTell = (input : List ℕ) → TellAnswers IsBesideText (live.output_of all_line true empty_exchange input)
+OutputsTell = (input : List ℕ) → TellAnswers IsBesideText all_line input (live.output_of all_line true empty_exchange input)
