@@ -1,11 +1,9 @@
-//! Batches and the outcomes of their clears, quotes and margins.
+//! The numbers in which batches are cleared, and an exchange whose steps find no memory.
 #![tactic(auto)]
 
 #[cfg(test)]
 mod cases;
 #[cfg(test)]
-mod margins;
+mod growth;
 #[cfg(test)]
-mod quotes;
-#[cfg(test)]
-mod tests;
+mod passes;

@@ -1,6 +1,8 @@
-//! Whole calls of the program, its words, its journals and its demos.
+//! Whole calls of the program, its words and its demos.
 #![tactic(auto)]
 
+#[cfg(test)]
+mod clears;
 #[cfg(test)]
 mod demos;
 #[cfg(test)]
@@ -9,8 +11,6 @@ mod endings;
 mod faults;
 #[cfg(test)]
 mod journals;
-#[cfg(test)]
-mod reports;
 #[cfg(test)]
 mod running;
 #[cfg(test)]

@@ -37,17 +37,40 @@ pub(crate) fn run(
     Ok((status, sink))
 }
 
-// The command lines of a session, and its reply lines.
-pub(crate) fn session(alloc: Global, text: &str) -> Result<(String, String), AllocError> {
+// Appends the lines behind a number, apart by semicolons, that often, with the number of the time for each `#`.
+fn push_repeated(alloc: Global, input: &mut String, text: &str) -> Result<(), AllocError> {
+    let (times, lines) = text.split_once(' ').unwrap_or(("0", ""));
+    let lines = lines.replace(alloc, ";", "\n")?;
+    for time in 0..times.parse::<u32>().unwrap_or(0) {
+        let number = format!(in alloc; "{}", time + 1)?;
+        input.push_str(&lines.replace(alloc, "#", &number)?)?;
+    }
+    Ok(())
+}
+
+// The input of a session, and what is wanted of its output.
+fn session(alloc: Global, text: &str) -> Result<(String, String), AllocError> {
     let mut input = String::new(alloc);
     let mut output = String::new(alloc);
     for line in text.split_inclusive('\n') {
-        match line.strip_prefix("= ") {
-            Some(reply) => output.push_str(reply)?,
-            None => input.push_str(line)?,
+        if let Some(reply) = line.strip_prefix("= ") {
+            output.push_str(reply)?;
+        } else if let Some(repeated) = line.strip_prefix("* ") {
+            push_repeated(alloc, &mut input, repeated)?;
+        } else {
+            input.push_str(line)?;
         }
     }
     Ok((input, output))
+}
+
+// What is written in the session of a text, under the words in its first line, and what is wanted.
+pub(crate) fn answered(alloc: Global, text: &str) -> Result<(MemSink, String), AllocError> {
+    let (head, lines) = text.split_once('\n').unwrap_or((text, ""));
+    let (words, _) = head.split_once(':').unwrap_or((head, ""));
+    let (input, wanted) = session(alloc, lines)?;
+    let (_, sink) = run(alloc, words, input.as_bytes(), 0, 0)?;
+    Ok((sink, wanted))
 }
 
 // Compares what was written with what is wanted: at the first line that differs the test tells the two.

@@ -1,10 +1,7 @@
-// Sessions: command lines, and behind `= ` the reply line that each is answered; `==` stands before each session.
-//
-// In order: nothing at all; lines that are no command, empty ones, numbers at and past their limits; the reserve;
-// refusals in their order; two markets, whose orders and batches are counted together; a batch with fractional fills and one
-// whose surplus is too wide; bundles, refused in their order, cleared and settled; a batch that is settled for good; and
-// settlements on eight underlyings at price 0 and at the highest price.
-pub(crate) static SESSIONS: &str = r#"==
+// Sessions: `== `, the words of the program and a name stand before each, command lines follow, and behind `= ` each line that is
+// answered.
+pub(crate) static SESSIONS: &str = r#"== run: nothing at all
+== run: lines that are no command, empty ones, numbers at and past their limits
 fly,1
 = {"line":1,"number":1,"reason":"Syntax","reply":"refused"}
  
@@ -118,7 +115,7 @@ settle,1,1,1
 = {"line":56,"number":6,"reason":"Settled","reply":"refused"}
 balance,0
 = {"account":0,"balance":"999000001000000","line":57,"reply":"balance","reserved":"0"}
-==
+== run: the reserve
 open,1
 = {"account":1,"line":1,"reply":"opened"}
 open,2
@@ -157,7 +154,7 @@ sell,1,1,call,10,1000000000000,1000000,1
 = {"line":18,"order":4,"reply":"placed"}
 balance,1
 = {"account":1,"balance":"0","line":19,"reply":"balance","reserved":"0"}
-==
+== run: refusals in their order
 open,1
 = {"account":1,"line":1,"reply":"opened"}
 open,2
@@ -208,7 +205,7 @@ clear,9,1
 = {"line":24,"number":4,"reason":"NoMarket","reply":"refused"}
 balance,9
 = {"line":25,"number":2,"reason":"NoAccount","reply":"refused"}
-==
+== run: two markets, whose orders and batches are counted together
 open,1
 = {"account":1,"line":1,"reply":"opened"}
 open,2
@@ -247,7 +244,7 @@ balance,2
 = {"account":2,"balance":"6","line":18,"reply":"balance","reserved":"0"}
 balance,0
 = {"account":0,"balance":"6","line":19,"reply":"balance","reserved":"0"}
-==
+== run: fractional fills, and a surplus that is too wide
 open,1
 = {"account":1,"line":1,"reply":"opened"}
 open,2
@@ -286,7 +283,7 @@ clear,1,20000
 = {"batch":2,"fills":["0","0","0","0","0"],"liability":"0","line":18,"mark":"wide","market":1,"orders":[{"account":1,"form":[-500001,1],"order":4,"price":400000000,"quantity":999999,"side":"buy"},{"account":1,"form":[-899999999,1],"order":5,"price":200000,"quantity":1,"side":"buy"},{"account":2,"form":[0,1000],"order":6,"price":1501501501,"quantity":1000000,"side":"sell"},{"account":2,"form":[-1000000000,999],"order":7,"price":1000000000,"quantity":1000000,"side":"sell"},{"account":2,"form":[-999999999,1],"order":8,"price":0,"quantity":1000000,"side":"sell"}],"reply":"cleared","surplus":"0","underlyings":1,"units":6,"version":1,"wide":{"left":"398748100250250500749500501/1000000000000","operator":"add","right":"99599999800200000/997999999001"}}
 balance,0
 = {"account":0,"balance":"2","line":19,"reply":"balance","reserved":"0"}
-==
+== run: bundles, refused in their order, cleared and settled
 open,1
 = {"account":1,"line":1,"reply":"opened"}
 open,2
@@ -333,7 +330,7 @@ balance,2
 = {"account":2,"balance":"5","line":22,"reply":"balance","reserved":"0"}
 balance,0
 = {"account":0,"balance":"1","line":23,"reply":"balance","reserved":"0"}
-==
+== run: a batch that is settled for good
 open,1
 = {"account":1,"line":1,"reply":"opened"}
 open,2
@@ -368,7 +365,7 @@ clear,1,1
 = {"line":16,"number":6,"reason":"Settled","reply":"refused"}
 buy,1,1,call,10,7,1,1
 = {"line":17,"number":6,"reason":"Settled","reply":"refused"}
-==
+== run: settlements on eight underlyings at price 0 and at the highest price
 open,1
 = {"account":1,"line":1,"reply":"opened"}
 open,2
@@ -409,10 +406,7 @@ balance,2
 = {"account":2,"balance":"-7999999999968","line":19,"reply":"balance","reserved":"0"}
 balance,0
 = {"account":0,"balance":"4","line":20,"reply":"balance","reserved":"0"}
-"#;
-
-// The same of the word `quotes`: between two sells only a bid raises the surplus, and one unit is too few for its first probe.
-pub(crate) static QUOTES: &str = r#"==
+== quotes: between two sells only a bid raises the surplus, and one unit is too few for its first probe
 open,1
 = {"account":1,"line":1,"reply":"opened"}
 open,2
@@ -439,10 +433,7 @@ margin,1,1,100
 = {"line":12,"number":1,"reason":"Syntax","reply":"refused"}
 buy,1,1,call,10,6,1,1
 = {"line":13,"order":3,"reply":"placed"}
-"#;
-
-// The same of the word `guarded`: a sold put needs what it may owe, and a sold call alone has no margin.
-pub(crate) static GUARDED: &str = r#"==
+== guarded: a sold put needs what it may owe
 open,1
 = {"account":1,"line":1,"reply":"opened"}
 open,2
@@ -473,7 +464,7 @@ balance,2
 = {"account":2,"balance":"1","line":14,"reply":"balance","reserved":"0"}
 quote,1,1,call,10,1
 = {"line":15,"number":1,"reason":"Syntax","reply":"refused"}
-==
+== guarded: a sold call alone has no margin
 open,1
 = {"account":1,"line":1,"reply":"opened"}
 open,2

@@ -1,0 +1,98 @@
+//! In which numbers a batch is cleared, from its command lines.
+ghost use Rattle.std.specs.Prelude.{◌≤◌};
+ghost use Rattle.form.specs.Limits.{IsWithinLimits};
+ghost use Rattle.command_text.specs.Within.{BodyIsWithin};
+
+use crate::cases::PASSES;
+use anyhow::{Context, Result, bail, ensure};
+use command_text::{Body, Command, commands};
+use exact_num::Exact;
+use form::Batch;
+use clearing::{Pass, Room, clear_in};
+use order_book::{Book, NewOrder};
+use std::alloc::{AllocError, Global};
+
+// Clears a batch in room of its own, and answers the pass, the surplus and the units.
+fn pass_text(alloc: Global, batch: &Batch, limit: u32) -> Result<String, AllocError>
+    requires within { IsWithinLimits batch.now }
+    requires limit { (1 ≤ limit) × (limit ≤ 20000) }
+{
+    let room = Room::new(alloc, batch, limit)?;
+    let (outcome, pass) = clear_in(batch, limit, room);
+    let name = match pass {
+        Pass::Narrow => "narrow",
+        Pass::Broad => "broad",
+    };
+    let (above, below) = outcome.claim.surplus.parts();
+    let units = outcome.units;
+    format!(in alloc; "{name} {above}/{below} {units}")
+}
+
+// Takes a book one line further: it lists a market or takes an order for a bundle.
+fn enter(book: &mut Book, said: &Body) -> Result<()>
+    requires { BodyIsWithin said.now }
+{
+    match said {
+        Body::Command(
+            Command::Market {
+                market,
+                underlyings,
+            },
+        ) => book.market(*market, *underlyings)?,
+        Body::Command(
+            Command::Bundle {
+                side,
+                account,
+                market,
+                price,
+                quantity,
+                bundle,
+            },
+        ) => {
+            book.place(&NewOrder {
+                account: *account,
+                market: *market,
+                side: *side,
+                bundle: *bundle.get(),
+                price: *price,
+                quantity: *quantity,
+            })?;
+        }
+        _ => bail!("a market or a bundle"),
+    }
+    Ok(())
+}
+
+// Takes a book one line further, or clears its batch, and answers the text of the pass.
+fn line_pass(alloc: Global, book: &mut Book, said: &Body) -> Result<Option<String>>
+    requires { BodyIsWithin said.now }
+{
+    let Body::Command(Command::Clear { market, budget }) = said else {
+        enter(book, said)?;
+        return Ok(None);
+    };
+    let batch = book.batch(*market)?;
+    Ok(Some(pass_text(alloc, &batch, *budget)?))
+}
+
+// Whether the batch of a case is cleared as the case says.
+fn is_cleared_so(alloc: Global, case: &str) -> Result<bool> {
+    let (input, wanted) = case.split_once("= ").context("a pass")?;
+    let (_, lines) = input.split_once('\n').context("a name")?;
+    ensure!(lines.len() <= 16_777_216, "a text");
+    let mut book = Book::new(alloc);
+    let mut last = None;
+    for line in &commands(alloc, lines.as_bytes())? {
+        last = line_pass(alloc, &mut book, &line.body)?;
+    }
+    Ok(last.context("a batch that is cleared")?.as_str() == wanted.trim())
+}
+
+#[test]
+fn each_pass_is_as_it_says(rt: HostRuntime) -> Result<()> {
+    for case in PASSES.split("== ").skip(1) {
+        let so = is_cleared_so(rt.alloc(), case)?;
+        assert!(rt; so, "{case}");
+    }
+    Ok(())
+}
