@@ -24,4 +24,4 @@ outputs_are_of_lines step input = by_places step input empty_exchange (raw_lines
 pub outputs_tell : OutputsTell
 outputs_tell input =
     subst (TellAnswers IsBesideText all_line input) (sym (outputs_are_of_lines all_line input))
-        (output_tells IsBesideText all_line all_answer_as_run input)
+    (output_tells IsBesideText all_line all_answer_as_run input)
