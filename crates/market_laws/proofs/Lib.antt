@@ -11,4 +11,5 @@ pub mod Written
 pub mod Certificate
 pub mod Single
 pub mod Limits
+pub mod Slopes
 pub mod Examples

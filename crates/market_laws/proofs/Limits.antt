@@ -7,7 +7,7 @@ use Rattle.form.specs.declared.orders.Side.{Side}
 use Rattle.form.specs.declared.orders.Side.TheVariants.{Buy, Sell}
 use Rattle.form.specs.declared.orders.Order.{Order}
 use Rattle.form.specs.Payoff.{bundle_of, bundle_payoff}
-use Rattle.clearing_model.specs.Clearing.{Filled, bought, sold, if_buy, if_sell, net, premium}
+use Rattle.clearing_model.specs.Clearing.{Filled, bought, sold, if_buy, if_sell, net, premium, AreFills}
 use Rattle.arithmetic.proofs.Integers.{*ℤ_mono, *ℤ_mono_left}
 use Rattle.arithmetic.proofs.Sums.{All-head}
 use Rattle.market_laws.specs.Limits.{at_price, IsNoWorse, BetterLimitsCover, GreatestDoesNotFall}
@@ -29,7 +29,7 @@ weigh_grows c f o q h (p ∷ front) back [] = omega (arith, ints)
 weigh_grows c f o q h (p ∷ front) back (a ∷ g) = omega (arith, ints, weigh_grows c f o q h front back g)
 
 -- what is owed is the same at each state
-net_kept : (o : Order) (price : ℕ) (front back : List Order) (g z : List ℕ) → net (zip (front ++ at_price o price ∷ back) g) z ≡ net (zip (front ++ o ∷ back) g) z
+pub net_kept : (o : Order) (price : ℕ) (front back : List Order) (g z : List ℕ) → net (zip (front ++ at_price o price ∷ back) g) z ≡ net (zip (front ++ o ∷ back) g) z
 unfolding bundle_of
 net_kept o price front back g z =
     let f : Filled → ℤ = λ (fill : Filled). bundle_payoff (bundle_of fill.0) z in
@@ -70,19 +70,23 @@ within_kept P o q h (p ∷ front) back (a ∷ g) all =
     All-cons P (p, a) (zip (front ++ q ∷ back) g) (All-head P (p, a) (zip (front ++ o ∷ back) g) all)
     (within_kept P o q h front back g (All-tail P (p, a) (zip (front ++ o ∷ back) g) all))
 
-pub better_limits_cover : BetterLimitsCover
-better_limits_cover n front back o price better g F S (fills, covers) =
+-- they are fills of the orders whatever the limits
+pub fills_kept : (o : Order) (price : ℕ) (front back : List Order) (g : List ℕ) (F : ℕ) → AreFills (front ++ o ∷ back) g F → AreFills (front ++ at_price o price ∷ back) g F
+fills_kept o price front back g F fills =
     let size : length (front ++ at_price o price ∷ back) ≡ length (front ++ o ∷ back) = length-append front (at_price o price ∷ back) ∙ sym (length-append front (o ∷ back)) in (
-      (
-        fills.0,
-        fills.1 ∙ sym size,
-        within_kept (λ (fill : Filled). fill.1 ≤ fill.0.quantity * F) o (at_price o price) (λ a h. h) front back g fills.2,
-      ),
-      λ t s one len.
-          cover_grows (premium (zip (front ++ o ∷ back) g)) (premium (zip (front ++ at_price o price ∷ back) g))
-          (net (zip (front ++ o ∷ back) g) (t ∷ s)) (net (zip (front ++ at_price o price ∷ back) g) (t ∷ s)) S.numerator S.denominator t (F * t)
-          (premium_kept o price better front back g) (net_kept o price front back g (t ∷ s)) (covers t s one len),
+      fills.0,
+      fills.1 ∙ sym size,
+      within_kept (λ (fill : Filled). fill.1 ≤ fill.0.quantity * F) o (at_price o price) (λ a h. h) front back g fills.2,
     )
+
+pub better_limits_cover : BetterLimitsCover
+better_limits_cover n front back o price better g F S (fills, covers) = (
+  fills_kept o price front back g F fills,
+  λ t s one len.
+      cover_grows (premium (zip (front ++ o ∷ back) g)) (premium (zip (front ++ at_price o price ∷ back) g))
+      (net (zip (front ++ o ∷ back) g) (t ∷ s)) (net (zip (front ++ at_price o price ∷ back) g) (t ∷ s)) S.numerator S.denominator t (F * t)
+      (premium_kept o price better front back g) (net_kept o price front back g (t ∷ s)) (covers t s one len),
+)
 
 pub greatest_does_not_fall : GreatestDoesNotFall
 greatest_does_not_fall n front back o price better S T s t =

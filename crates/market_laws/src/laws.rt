@@ -2,6 +2,7 @@
 
 ghost use Rattle.market_laws.specs.Laws.{CallsAndPutsPay, SignedSumsAgree, BalancedOwesNothing, BalancedFillsCover, NothingOwedAtRays, WeakDuality, ProvedIsGreatest, LiabilityGivesCover, CoverIsOfFractions, LineCoversHold, HoldsAtMultiples, ClosedTreesHold, TreesReadOneWay, TreeCertificateCovers, WrittenTreeCovers, LineCertificateCovers, CoverAndMeasureAreOptimal};
 ghost use Rattle.market_laws.specs.Limits.{BetterLimitsCover, GreatestDoesNotFall};
+ghost use Rattle.market_laws.specs.Slopes.{FillsCoverAlongLines, GreatestIsAboveLines, GreatestIsConvex};
 ghost use Rattle.market_laws.specs.Single.{OneLegPaysItsOption, GainsAreDifferences, LegsAreOrders, NetIsOfOptions};
 
 /// A call pays what the basket is worth above the strike, and a put what it is worth below.
@@ -117,4 +118,19 @@ pub fn better_limits_cover()
 /// So the greatest surplus does not fall when a bid rises or an ask falls.
 pub fn greatest_does_not_fall()
     ensures { GreatestDoesNotFall }
+{}
+
+/// What fills cover changes with one order's limit by what its fill earns more.
+pub fn fills_cover_along_lines()
+    ensures { FillsCoverAlongLines }
+{}
+
+/// So the greatest surplus at any limit is on the line through an optimum, whose slope is the order's fill, or above it.
+pub fn greatest_is_above_lines()
+    ensures { GreatestIsAboveLines }
+{}
+
+/// And the greatest surplus is convex in the limit.
+pub fn greatest_is_convex()
+    ensures { GreatestIsConvex }
 {}
