@@ -9,6 +9,7 @@ pub mod Tree
 pub mod Line
 pub mod Written
 pub mod Certificate
+pub mod Bounds
 pub mod Single
 pub mod Limits
 pub mod Slopes

@@ -1,6 +1,7 @@
 //! Laws over the definitions: each is the contract of a function that does nothing.
 
 ghost use Rattle.market_laws.specs.Laws.{CallsAndPutsPay, SignedSumsAgree, BalancedOwesNothing, BalancedFillsCover, NothingOwedAtRays, WeakDuality, ProvedIsGreatest, LiabilityGivesCover, CoverIsOfFractions, LineCoversHold, HoldsAtMultiples, ClosedTreesHold, TreesReadOneWay, TreeCertificateCovers, WrittenTreeCovers, LineCertificateCovers, CoverAndMeasureAreOptimal};
+ghost use Rattle.market_laws.specs.Bounds.{CoverAndMeasureBound};
 ghost use Rattle.market_laws.specs.Limits.{BetterLimitsCover, GreatestDoesNotFall};
 ghost use Rattle.market_laws.specs.Slopes.{FillsCoverAlongLines, GreatestIsAboveLines, GreatestIsConvex};
 ghost use Rattle.market_laws.specs.Single.{OneLegPaysItsOption, GainsAreDifferences, LegsAreOrders, NetIsOfOptions};
@@ -83,6 +84,11 @@ pub fn line_certificate_covers()
 /// A surplus that fills cover and a measure proves is the greatest of the batch.
 pub fn cover_and_measure_are_optimal()
     ensures { CoverAndMeasureAreOptimal }
+{}
+
+/// A surplus that fills cover and the bound of a measure hold the greatest surplus between them.
+pub fn cover_and_measure_bound()
+    ensures { CoverAndMeasureBound }
 {}
 
 /// A line holds at a state exactly where it holds at a multiple.

@@ -46,7 +46,7 @@ weights_lowest [] = All-nil IsLowest
 weights_lowest (p ∷ ps) = All-cons IsLowest (fraction_of p.weight) (map fraction_weight (map point_of ps)) p.weight.lowest (weights_lowest ps)
 
 -- a common denominator of numbers in lowest terms is above 0
-pub denominator_is_positive : (points : List Point) → All IsLowest (map fraction_weight points) → 1 ≤ common_denominator (map fraction_weight points)
+denominator_is_positive : (points : List Point) → All IsLowest (map fraction_weight points) → 1 ≤ common_denominator (map fraction_weight points)
 denominator_is_positive points low = common_positive (map fraction_weight points) (lowest_are_defined (map fraction_weight points) low)
 
 -- each weight stands over the common denominator

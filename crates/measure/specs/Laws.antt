@@ -1,7 +1,7 @@
 -- What the checks of a measure show.
 use Rattle.std.specs.Prelude.{ℕ, ◌≡◌, List, map, true, false, Ok}
 use Rattle.std.specs.List.{All}
-use Rattle.exact_num.specs.Fraction.{Fraction, IsDefined, IsLowest, IsSameValue, AtMost}
+use Rattle.exact_num.specs.Fraction.{Fraction, IsLowest, IsSameValue}
 use Rattle.exact_num.specs.CommonDenominator.{common_denominator, IsRatio}
 use Rattle.frac.specs.declared.frac128.Frac128.{Frac128}
 use Rattle.frac.specs.Value.{fraction_of}
@@ -9,7 +9,8 @@ use Rattle.form.specs.declared.orders.Order.{Order}
 use Rattle.form.specs.declared.orders.Batch.{Batch}
 use Rattle.form.specs.Payoff.{BundleLeg}
 use Rattle.clearing_model.specs.Measure.{price_of as model_price}
-use Rattle.clearing_model.specs.Certificate.{FillsCover, Point, fraction_weight, points_over, HasUnitMass, IsFractionMeasure, MeasureProves}
+use Rattle.clearing_model.specs.Certificate.{Point, fraction_weight, points_over, HasUnitMass, IsFractionMeasure, MeasureProves}
+use Rattle.market_laws.specs.Bounds.{NoCoverIsAbove}
 use Rattle.measure.specs.declared.measures.Measure.{Measure}
 use Rattle.measure.specs.Points.{points_of}
 use Rattle.measure.specs.Sums.{has_unit_mass, price_of, bound_of}
@@ -19,11 +20,6 @@ abbrev pub IsPrice : List BundleLeg → List Point → Fraction → Type 0
 IsPrice bundle points price =
     let W = common_denominator (map fraction_weight points) in
     IsRatio price (model_price bundle (points_over W points)) W
-
--- no fractional fills of the orders cover a surplus above the bound
-abbrev pub NoCoverIsAbove : ℕ → List Order → Fraction → Type 0
-NoCoverIsAbove n orders bound =
-    (fills : List Fraction) (S : Fraction) → IsDefined S → FillsCover n orders fills S → AtMost S bound
 
 -- the measure's bound of the batch is this number
 abbrev pub IsBoundOf : Batch → Measure → Frac128 → Type 0

@@ -1,7 +1,7 @@
 use Rattle.std.proofs.Common.{map, rules}
 use Rattle.frac.specs.Range.{limit}
 use Rattle.clearing_model.specs.Certificate.{IsFractionMeasure, MeasureProves}
-use Rattle.measure.specs.Laws.{NoCoverIsAbove}
+use Rattle.market_laws.specs.Bounds.{NoCoverIsAbove}
 use Rattle.measure.specs.Points.{point_of}
 use Rattle.measure.specs.Sums.{bound_of}
 use Rattle.measure.proofs.Sound.{of_value, bounds_are_exact, weights_lowest}
