@@ -1,5 +1,5 @@
 -- The bytes before the first one that is searched for.
-use Rattle.std.proofs.Common.{◌≡◌, ◌≤◌, ◌<◌, ℕ, List, Bool, false, ◌==◌, length, take, get_or, All, None, ap, ◌∙◌, arith, get_or-take, length-take-le}
+use Rattle.std.proofs.Common.{◌≡◌, ◌≤◌, ◌<◌, ℕ, List, false, ◌==◌, length, take, get_or, All, None, ap, ◌∙◌, arith, get_or-take, length-take-le}
 use Rattle.std.proofs.lemmas.Bool.{false_from_ne_true}
 use Rattle.std.proofs.lemmas.List.{get_or_default}
 use Rattle.memchr.specs.Find.{IsFirstByte, is_byte, Nowhere, Passes}

@@ -7,3 +7,4 @@ pub mod Pieces
 pub mod Places
 pub mod Serves
 pub mod Takes
+pub mod Within

@@ -1,9 +1,9 @@
 -- The output of what came so far.
-use Rattle.std.proofs.Common.{◌≡◌, ℕ, ◌+◌, List, [], ◌++◌, Bool, length, refl, sym, ap, ◌∙◌, append-nil, append_assoc}
+use Rattle.std.proofs.Common.{◌≡◌, ℕ, ◌+◌, List, [], ◌++◌, Bool, length, refl, sym, ap, ◌∙◌, append-nil}
 use Rattle.command_text.proofs.LineParts.{cut}
 use Rattle.live_lines.specs.Open.{IsOneLine, Open, line_text, new_open}
 use Rattle.live_lines.specs.Output.{answer_to, lines_output, output_of}
-use Rattle.live_lines.specs.Taken.{AreWithin, Completes, Took, with_feeds}
+use Rattle.live_lines.specs.Taken.{AreWithin, Took, with_feeds}
 use Rattle.live_lines.proofs.Cuts.{cut_lines, cut_one}
 use Rattle.live_lines.proofs.Places.{no_answer, output_is}
 use Rattle.live_lines.proofs.Takes.{output_append}
@@ -52,10 +52,9 @@ module _ {S : Type 0} (step : ℕ → S → List ℕ → List ℕ × S) (skips :
   lines_written state line bytes text h = ap (λ (r : List ℕ × S). r.0) h.answers ∙ sym (lines_alone h.lines h.within)
 
   -- it is a front of the output of all that comes
-  pub completed_front : (bytes more text : List ℕ) → Completes step start (new_open skips) bytes text
-      → (rest : List ℕ) × (output_of step skips start (bytes ++ more) ≡ text ++ rest)
-  completed_front bytes more text h =
-      let out = lines_output step skips 1 start h.lines in
-      let same : bytes ++ more ≡ with_feeds h.lines ++ (h.rest ++ more) = ap (λ l. l ++ more) h.split ∙ append_assoc (with_feeds h.lines) h.rest more in
-      let rest = (lines_output step skips (1 + length h.lines) out.1 (cut (h.rest ++ more))).0 in
-      (rest, ap (output_of step skips start) same ∙ lines_then h.lines (h.rest ++ more) h.within ∙ ap (λ l. l ++ rest) (sym h.answers))
+  pub lines_begin : (lines : List (List ℕ)) (more : List ℕ) → AreWithin skips 1 lines
+      → (rest : List ℕ) × (output_of step skips start (with_feeds lines ++ more) ≡ output_of step skips start (with_feeds lines) ++ rest)
+  lines_begin lines more within =
+      let out = lines_output step skips 1 start lines in
+      let rest = (lines_output step skips (1 + length lines) out.1 (cut more)).0 in
+      (rest, lines_then lines more within ∙ ap (λ l. l ++ rest) (sym (lines_alone lines within)))

@@ -1,27 +1,25 @@
 -- How the answers to an input go on, and how they end.
-use Rattle.std.proofs.Common.{◌≡◌, ◌≤◌, ◌<◌, ◌⊎◌, ℕ, zero, suc, ◌+◌, ◌-◌, ◌*◌, List, [], ◌∷◌, ◌++◌, Bool, true, false, ◌==◌, ◌&&◌, length, drop, refl, sym, ap, ◌∙◌, subst, inl, inr, arith, append-nil, append_assoc, length-append, length-drop, Option, Some, None, IfSome, if◌then◌else◌}
-use Rattle.std.proofs.KnownBytes.{Appends-nil, Appends-trans, Consumes-kept, Consumes-nil, Consumes-trans, Consumes-whole}
-use Rattle.std.proofs.lemmas.Bool.{cases_Bool}
+use Rattle.std.proofs.Common.{◌≡◌, ◌≤◌, ◌<◌, ◌⊎◌, ℕ, zero, suc, ◌+◌, ◌-◌, ◌*◌, List, [], ◌∷◌, ◌++◌, Bool, true, false, ◌==◌, length, drop, refl, sym, ap, ◌∙◌, subst, inl, inr, arith, append-nil, append_assoc, length-append, length-drop, Option, Some, None, IfSome, if◌then◌else◌}
+use Rattle.std.proofs.KnownBytes.{Appends-nil, Appends-trans, Consumes-kept, Consumes-nil, Consumes-trans}
 use Rattle.std.specs.Io.KnownBytes.{Appends, Consumes, IsAtEnd, Keeps}
-use Rattle.std.specs.Prelude.{IsSomeAnd, nat_eq}
+use Rattle.std.specs.Prelude.{IsSomeAnd}
 use Rattle.port_io.specs.Faults.{Rose}
 use Rattle.port_io.specs.Writes.{AppendsFront}
 use Rattle.command_text.specs.Fields.{begins_with_mark}
-use Rattle.command_text.specs.Lines.{mark_size, without_last_empty}
-use Rattle.command_text.proofs.LineParts.{cut, cut_feed, cut_other, cut_parts}
+use Rattle.command_text.specs.Lines.{mark_size}
 use Rattle.live_lines.specs.Ended.{ended_by}
-use Rattle.live_lines.specs.Open.{FitsLine, Open, count_limit, line_limit, line_text, new_open, unmarked}
+use Rattle.live_lines.specs.Open.{Open, count_limit, line_text, new_open, unmarked}
 use Rattle.live_lines.specs.Output.{answer_to, output_of}
 use Rattle.live_lines.specs.Serving.{Came, Ends, IsInputWithin, Known, WroteAll, WroteBefore, WroteFront, WroteLines}
-use Rattle.live_lines.specs.Taken.{AreWithin, Completes, IsOpenWithin, IsTooLong, Stops, Took, with_feeds}
+use Rattle.live_lines.specs.Taken.{AreWithin, Completes, IsOpenWithin, Stops, Took, with_feeds}
 use Rattle.live_lines.specs.declared.ended.Ended.{Ended}
 use Rattle.live_lines.specs.declared.ended.Ended.TheVariants as ended
 use Rattle.live_lines.specs.declared.stop.LiveStop.{LiveStop}
 use Rattle.live_lines.specs.declared.stop.LiveStop.TheVariants.{WriteFault, TooLong, Memory}
-use Rattle.live_lines.proofs.Cuts.{cut_front, cut_lines}
 use Rattle.live_lines.proofs.Fronts.{front_behind, front_longer}
-use Rattle.live_lines.proofs.Outputs.{completed_front, lines_alone, lines_written, whole_output}
+use Rattle.live_lines.proofs.Outputs.{lines_alone, lines_begin, lines_written, whole_output}
 use Rattle.live_lines.proofs.Takes.{completes_more, stops_more, took_more, took_none}
+use Rattle.live_lines.proofs.Within.{tells_none, took_within}
 
 -- what was left and written at the start, and now
 abbrev pub known_of : Option (List ℕ) → Option (List ℕ) → Option (List ℕ) → Option (List ℕ) → Known
@@ -41,6 +39,10 @@ taken_whole (Some xs) None stays bytes gave kept at_end = absurd gave
 taken_whole (Some xs) (Some ys) None bytes gave kept at_end = absurd kept
 taken_whole (Some xs) (Some ys) (Some zs) bytes gave kept at_end =
     (sym (gave ∙ ap (λ l. bytes ++ l) at_end ∙ append-nil bytes), ap (λ (l : List ℕ). Some l) (kept ∙ at_end))
+
+of_whole : (left : Option (List ℕ)) (bytes : List ℕ) (Q : Type 0) (P : List ℕ → Type 0) → IfSome left (λ input. (bytes ≡ input) × Q) → P bytes → IfSome left P
+of_whole None bytes Q P all p = tt
+of_whole (Some input) bytes Q P all p = subst P all.0 p
 
 pub open_within : (skips : Bool) → IsOpenWithin (new_open skips)
 open_within true = (refl, omega arith, λ lt. absurd (omega arith))
@@ -90,15 +92,13 @@ module _ {S : Type 0} (step : ℕ → S → List ℕ → List ℕ × S) (skips :
         → WroteFront step skips start (known_of left stays written adds)
     front_after stays adds piece tells gave wrote completes =
         let all = completes_more step start state (new_open skips) line came.bytes piece came.text tells came.took completes in
-        let taken = came.bytes ++ piece in
-        let took = Consumes-trans left still stays came.bytes piece came.gave gave in
-        let front = front_behind written writes adds came.text tells came.wrote wrote in
-        let longer : (more : List ℕ) → AppendsFront written adds (output_of step skips start (taken ++ more)) =
-        λ more. let on = completed_front step skips start taken more (came.text ++ tells) all in front_longer written adds (came.text ++ tells) (output_of step skips start (taken ++ more)) on.0 front on.1 in (
-          taken,
-          took,
-          subst (λ b. AppendsFront written adds (output_of step skips start b)) (append-nil taken) (longer []),
-          of_more left stays taken (λ input. AppendsFront written adds (output_of step skips start input)) took longer,
+        let text = all.answers ∙ sym (lines_alone step skips start all.lines all.within) in
+        inl (
+          all.lines,
+          all.rest,
+          subst (Consumes left stays) all.split (Consumes-trans left still stays came.bytes piece came.gave gave),
+          all.within,
+          subst (AppendsFront written adds) text (front_behind written writes adds came.text tells came.wrote wrote),
         )
 
     -- ---- at the end
@@ -109,19 +109,18 @@ module _ {S : Type 0} (step : ℕ → S → List ℕ → List ℕ × S) (skips :
         → WroteAll step skips start (known_of left stays written adds)
     all_after stays adds kept at_end wrote = (
       came.bytes,
-      Consumes-kept left still stays came.bytes came.gave kept,
-      taken_whole left still stays came.bytes came.gave kept at_end,
+      (Consumes-kept left still stays came.bytes came.gave kept, taken_whole left still stays came.bytes came.gave kept at_end),
+      took_within step skips start state line came.bytes came.text came.took,
       subst (Appends written adds) (whole_output step skips start state line came.bytes came.text came.took) (Appends-trans written writes adds came.text last came.wrote wrote),
     )
 
     pub last_front : (stays adds : Option (List ℕ)) → Keeps still stays → IsAtEnd still → AppendsFront writes adds last
         → WroteFront step skips start (known_of left stays written adds)
     last_front stays adds kept at_end wrote =
-        let front = subst (AppendsFront written adds) (whole_output step skips start state line came.bytes came.text came.took) (front_behind written writes adds came.text last came.wrote wrote) in (
+        inr (
           came.bytes,
-          Consumes-kept left still stays came.bytes came.gave kept,
-          front,
-          Consumes-whole left still came.bytes (λ input. AppendsFront written adds (output_of step skips start input)) came.gave at_end front,
+          (Consumes-kept left still stays came.bytes came.gave kept, taken_whole left still stays came.bytes came.gave kept at_end),
+          subst (AppendsFront written adds) (whole_output step skips start state line came.bytes came.text came.took) (front_behind written writes adds came.text last came.wrote wrote),
         )
 
     -- ---- at a fault of a read
@@ -184,96 +183,17 @@ smaller step start state after skips line next before told bytes tells p q some 
     (grows q.lines line.rest bytes next.rest q.split)
 
 -- ---- an input within the limits tells no line that is too long
-within_part : (skips : Bool) (number : ℕ) (a b : List (List ℕ)) → AreWithin skips number (a ++ b) → AreWithin skips (number + length a) b
-within_part skips number [] b w = let same : number ≡ number + 0 = omega arith in subst (λ n. AreWithin skips n b) same w
-within_part skips number (line ∷ a) b w =
-    let moved : number + 1 + length a ≡ number + suc (length a) = omega arith in
-    subst (λ n. AreWithin skips n b) moved (within_part skips (number + 1) a b w.3)
-
-without_append : (a : List (List ℕ)) (first : List ℕ) (rest : List (List ℕ)) → without_last_empty (a ++ first ∷ rest) ≡ a ++ without_last_empty (first ∷ rest)
-without_append [] first rest = refl
-without_append (line ∷ []) first rest = refl
-without_append (line ∷ next ∷ a) first rest = ap (λ l. line ∷ l) (without_append (next ∷ a) first rest)
-
--- the first line of bytes that are not empty is a line
-first_within : (skips : Bool) (number b : ℕ) (line : List ℕ) (rest : List (List ℕ)) → AreWithin skips number (without_last_empty ((b ∷ line) ∷ rest))
-    → (number ≤ count_limit) × FitsLine skips number (b ∷ line)
-first_within skips number b line [] w = (w.0, w.2)
-first_within skips number b line (next ∷ rest) w = (w.0, w.2)
-
-number_within : (skips : Bool) (number : ℕ) (line : List ℕ) (rest : List (List ℕ)) → 0 < length line ⊎ (0 < length rest)
-    → AreWithin skips number (without_last_empty (line ∷ rest)) → number ≤ count_limit
-number_within skips number [] [] some w = absurd (elim some [ inl lt ↦ omega arith | inr lt ↦ omega arith ])
-number_within skips number [] (next ∷ rest) some w = w.0
-number_within skips number (b ∷ line) rest some w = (first_within skips number b line rest w).0
-
-first_fits : (skips : Bool) (number : ℕ) (line : List ℕ) (rest : List (List ℕ)) → 0 < length line → AreWithin skips number (without_last_empty (line ∷ rest))
-    → FitsLine skips number line
-first_fits skips number [] rest some w = absurd (omega arith)
-first_fits skips number (b ∷ line) rest some w = (first_within skips number b line rest w).1
-
--- bytes that are not empty are cut to a line that is not, or to more than one
-some_cut : (bytes : List ℕ) → 0 < length bytes
-    → (first : List ℕ) × (rest : List (List ℕ)) × (cut bytes ≡ first ∷ rest) × ((0 < length first) ⊎ (0 < length rest))
-some_cut [] lt = absurd (omega arith)
-some_cut (b ∷ bytes) lt =
-    let p = cut_parts bytes in
-    elim (cases_Bool (nat_eq b 10)) [
-      | inl feed ↦ ([], p.0 ∷ p.1, cut_feed b bytes feed ∙ ap (λ (l : List (List ℕ)). [] ∷ l) p.2, inr (omega arith))
-      | inr other ↦ (b ∷ p.0, p.1, cut_other b bytes p.0 p.1 other p.2, inl (omega arith))
-    ]
-
-wider_if : (b : Bool) (line more : List ℕ) → line_limit < length (if b then drop (mark_size line) line else line)
-    → line_limit < length (if b then drop (mark_size (line ++ more)) (line ++ more) else (line ++ more))
-wider_if true [] more lt = absurd (omega arith)
-wider_if true (a ∷ []) more lt = absurd (omega arith)
-wider_if true (a ∷ b ∷ []) more lt = absurd (omega arith)
-wider_if true (a ∷ b ∷ c ∷ line) more lt =
-    let m : ℕ = mark_size (a ∷ b ∷ c ∷ line) in
-    let size : length (drop m (a ∷ b ∷ c ∷ line)) ≤ length (drop m (a ∷ b ∷ c ∷ (line ++ more))) =
-    omega (arith, length-drop m (a ∷ b ∷ c ∷ line), length-drop m (a ∷ b ∷ c ∷ (line ++ more)), length-append line more) in
-    omega (arith, size, lt)
-wider_if false line more lt = omega (arith, length-append line more)
-
-shorter_if : (b : Bool) (n : ℕ) (line : List ℕ) → length (if b then drop n line else line) ≤ length line
-shorter_if true n line = omega (arith, length-drop n line)
-shorter_if false n line = omega arith
-
--- behind these lines
-behind : (skips : Bool) (lines : List (List ℕ)) (bytes first : List ℕ) (rest : List (List ℕ)) → AreWithin skips 1 lines → cut bytes ≡ first ∷ rest
-    → IsInputWithin skips (with_feeds lines ++ bytes)
-    → AreWithin skips (1 + length lines) (without_last_empty (first ∷ rest))
-behind skips lines bytes first rest within is all =
-    let parts : without_last_empty (cut (with_feeds lines ++ bytes)) ≡ lines ++ without_last_empty (first ∷ rest) =
-    ap without_last_empty (cut_lines skips 1 lines bytes within ∙ ap (λ l. lines ++ l) is) ∙ without_append lines first rest in
-    within_part skips 1 lines (without_last_empty (first ∷ rest)) (subst (λ l. AreWithin skips 1 l) parts all)
-
-tells_none : (skips : Bool) (lines : List (List ℕ)) (rest more : List ℕ) → AreWithin skips 1 lines → IsTooLong skips (1 + length lines) rest
-    → IsInputWithin skips (with_feeds lines ++ (rest ++ more)) → ⊥
-tells_none skips lines rest more within too_long all = elim too_long [
-  | inl many ↦
-      let some : 0 < length (rest ++ more) = omega (arith, many.1, length-append rest more) in
-      let p = some_cut (rest ++ more) some in
-      let few : 1 + length lines ≤ count_limit = number_within skips (1 + length lines) p.0 p.1 p.3 (behind skips lines (rest ++ more) p.0 p.1 within p.2 all) in
-      omega (arith, many.0, few)
-  | inr long ↦
-      let line = long.0 in
-      let p = cut_parts (long.1 ++ more) in
-      let number = 1 + length lines in
-      let wide = long.4 in
-      let same : cut (rest ++ more) ≡ (line ++ p.0) ∷ p.1 = ap (λ l. cut (l ++ more)) long.2 ∙ ap cut (append_assoc line long.1 more) ∙ cut_front line (long.1 ++ more) p.0 p.1 long.3 p.2 in
-      let some : 0 < length (line ++ p.0) = omega (arith, length-append line p.0, wide, shorter_if (skips && (number == 1)) (mark_size line) line) in
-      let fits : FitsLine skips number (line ++ p.0) = first_fits skips number (line ++ p.0) p.1 some (behind skips lines (rest ++ more) (line ++ p.0) p.1 within same all) in
-      omega (arith, fits, wider_if (skips && (number == 1)) line p.0 wide)
-]
-
-not_within : {S : Type 0} (step : ℕ → S → List ℕ → List ℕ × S) (skips : Bool) (start : S) (left still written writes : Option (List ℕ))
+past_limits : {S : Type 0} (step : ℕ → S → List ℕ → List ℕ × S) (skips : Bool) (start : S) (left still written writes : Option (List ℕ))
     → WroteBefore step skips start (known_of left still written writes)
-    → IsSomeAnd left (IsInputWithin skips) → ⊥
-not_within step skips start None still written writes h within = within
-not_within step skips start (Some xs) None written writes h within = h.2
-not_within step skips start (Some xs) (Some ys) written writes h within =
-    tells_none skips h.0 h.1 ys h.3 h.4 (subst (IsInputWithin skips) (h.2 ∙ append_assoc (with_feeds h.0) h.1 ys) within)
+    → IfSome left (λ input. ¬ (IsInputWithin skips input))
+past_limits step skips start None still written writes h = tt
+past_limits step skips start (Some xs) None written writes h = absurd h.2
+past_limits step skips start (Some xs) (Some ys) written writes h =
+    λ within. tells_none skips h.0 h.1 ys h.3 h.4 (subst (IsInputWithin skips) (h.2 ∙ append_assoc (with_feeds h.0) h.1 ys) within)
+
+not_within : (left : Option (List ℕ)) (P : List ℕ → Type 0) → IfSome left (λ input. ¬ (P input)) → IsSomeAnd left P → ⊥
+not_within None P none some = some
+not_within (Some input) P none some = none some
 
 -- ---- what the ends say
 module _ {S : Type 0} (step : ℕ → S → List ℕ → List ℕ × S) (skips : Bool) (start : S) (known : Known) (read reads wrote wrotes : ℕ) where
@@ -291,11 +211,26 @@ module _ {S : Type 0} (step : ℕ → S → List ℕ → List ℕ × S) (skips :
         | inr is ↦ subst EndsAs is h
       ]
 
+  -- it is a front of the output of all bytes that were left
+  pub front_of_all : (e : Ended) → Ends step skips start known read reads wrote wrotes e → (e ≡ ended.WriteFault) ⊎ (e ≡ ended.Memory)
+      → IfSome known.left (λ input. AppendsFront known.written known.writes (output_of step skips start input))
+  front_of_all e h which =
+      let Is : List ℕ → Type 0 = λ input. AppendsFront known.written known.writes (output_of step skips start input) in
+      elim (front e h which) [
+        | inl some ↦ of_more known.left known.still (with_feeds some.0 ++ some.1) Is some.2 (λ more.
+            let on = lines_begin step skips start some.0 (some.1 ++ more) some.3 in
+            subst Is (sym (append_assoc (with_feeds some.0) some.1 more)) (front_longer known.written known.writes _ _ on.0 some.4 on.1))
+        | inr all ↦ of_whole known.left all.0 (known.still ≡ Some []) Is all.1.1 all.2
+      ]
+
+  pub past : (e : Ended) → Ends step skips start known read reads wrote wrotes e → e ≡ ended.TooLong → IfSome known.left (λ input. ¬ (IsInputWithin skips input))
+  past e h is = past_limits step skips start known.left known.still known.written known.writes (subst (λ x. Ends step skips start known read reads wrote wrotes x) is h).0
+
   -- within the limits, and without a fault
   pub complete : (e : Ended) → Ends step skips start known read reads wrote wrotes e → IsSomeAnd known.left (IsInputWithin skips) → ¬ (Rose read reads)
       → ¬ (Rose wrote wrotes) → (e ≡ ended.Done) ⊎ (e ≡ ended.Memory)
   complete ended.Done h within r w = inl refl
   complete ended.ReadFault h within r w = absurd (r h.1)
   complete ended.WriteFault h within r w = absurd (w h.1)
-  complete ended.TooLong h within r w = absurd (not_within step skips start known.left known.still known.written known.writes h.0 within)
+  complete ended.TooLong h within r w = absurd (not_within known.left (IsInputWithin skips) (past_limits step skips start known.left known.still known.written known.writes h.0) within)
   complete ended.Memory h within r w = inr refl
