@@ -3,7 +3,7 @@ use Rattle.std.specs.Prelude.{ℕ, ◌≤◌, ⊤, List, [], ◌∷◌, ◌&&◌
 use Rattle.std.specs.Str.{bytes_eq}
 use Rattle.form.specs.Naturals.{is_natural, natural_value}
 use Rattle.program_words.specs.declared.requests.Request.{Request}
-use Rattle.program_words.specs.declared.requests.Request.TheVariants.{Lines, Check, Sessions, Demo}
+use Rattle.program_words.specs.declared.requests.Request.TheVariants.{Lines, Check, Sessions, Serve, Demo}
 use Rattle.program_words.specs.declared.requests.Mode.TheVariants.{Run, Quotes, Guarded}
 use Rattle.program_words.specs.declared.requests.TheConstants.{MAX_SEED, MAX_COUNT}
 
@@ -24,13 +24,14 @@ one_word word =
     else if bytes_eq word (codes "guarded") then Some (Lines Guarded)
     else if bytes_eq word (codes "check") then Some Check
     else if bytes_eq word (codes "sessions") then Some Sessions
+    else if bytes_eq word (codes "serve") then Some Serve
     else None
 
 abbrev pub three_words : List ℕ → List ℕ → List ℕ → Option Request
 three_words word seed count =
     if bytes_eq word (codes "demo") then demo_of (natural_in 0 MAX_SEED seed) (natural_in 1 MAX_COUNT count) else None
 
--- `run`, `quotes`, `guarded`, `check`, `sessions`, or `demo` with a seed and a number of orders
+-- `run`, `quotes`, `guarded`, `check`, `sessions`, `serve`, or `demo` with a seed and a number of orders
 abbrev pub request_of : List (List ℕ) → Option Request
 request_of [] = None
 request_of (word ∷ []) = one_word word
@@ -43,4 +44,5 @@ abbrev pub IsRequestWithin : Request → Type 0
 IsRequestWithin (Lines mode) = ⊤
 IsRequestWithin Check = ⊤
 IsRequestWithin Sessions = ⊤
+IsRequestWithin Serve = ⊤
 IsRequestWithin (Demo seed count) = (1 ≤ count) × (count ≤ MAX_COUNT)

@@ -31,6 +31,8 @@ pub enum Request {
     Check,
     /// Reads messages of many sessions and answers each.
     Sessions,
+    /// Reads lines of every kind and answers each between two reads.
+    Serve,
     /// Runs a text of `count` orders that is made from the seed, and writes its summary.
     Demo { seed: u32, count: u32 },
 }

@@ -36,6 +36,9 @@ fn one_word(word: &str) -> Option<Request>
     if word == "sessions" {
         return Some(Request::Sessions);
     }
+    if word == "serve" {
+        return Some(Request::Serve);
+    }
     None
 }
 
@@ -79,8 +82,8 @@ fn are_positional(words: &[String]) -> bool
     }
 }
 
-/// What the words after the program's name ask for: `run`, `quotes`, `guarded`, `check`, `sessions`, or `demo` with a seed and a
-/// number of orders, each of which is `0` or digits that do not begin with 0.
+/// What the words after the program's name ask for: `run`, `quotes`, `guarded`, `check`, `sessions`, `serve`, or `demo` with a seed
+/// and a number of orders, each of which is `0` or digits that do not begin with 0.
 ///
 /// Usage where they have none of these forms, and Memory for want of memory alone.
 pub fn request(alloc: Global, words: &[String]) -> Result<Request, WordsFault>
