@@ -1,0 +1,7 @@
+pub mod Answers
+pub mod Laws
+pub mod Lines
+pub mod Messages
+pub mod Served
+pub mod Sessions
+pub mod Texts

@@ -1,0 +1,9 @@
+//! Messages of many sessions to one way of answering lines: each line of an input is a message or none, and has one answer.
+#![tactic(auto)]
+
+pub mod laws;
+pub mod messages;
+mod sessions;
+pub mod texts;
+
+pub use sessions::{SessionLines, kept_reply, without_feed};

@@ -1,0 +1,115 @@
+// The messages of sessions, each answered as a line.
+ghost use Rattle.std.specs.Prelude.{◌≡◌, ◌<◌, ◌==◌, false, length, IfOk, IsTrue, OnOk, Some};
+ghost use Rattle.std.specs.List.{list_any};
+ghost use Rattle.session_gate.specs.Bodies.{is_body};
+ghost use Rattle.session_gate.specs.Gate.{IsNumber, message_of};
+ghost use Rattle.session_lines.specs.Answers.{kept_reply};
+ghost use Rattle.session_lines.specs.Served.{without_feed};
+ghost use Rattle.session_lines.specs.Sessions.{after_answered, after_message, new_sessions, said_step, session_step};
+
+use crate::messages::{Sent, message};
+use crate::texts::{print_malformed, print_told};
+use live_lines::LineAnswers;
+use session_gate::{Answer, Gate, MAX_BODIES};
+use std::alloc::{AllocError, Global};
+use std::marker::Model;
+
+/// The known sessions, and what answers the bodies of their messages, each as the next line of one input.
+#[derive(Drop)]
+pub struct SessionLines<A: LineAnswers> {
+    gate: Gate,
+    bodies: A,
+}
+
+impl<A: LineAnswers> Model for SessionLines<A> {
+    ghost use Rattle.session_lines.specs.Sessions.{SessionsState};
+
+    ghost Value = { SessionsState A };
+
+    ghost view = { λ s. (s.gate, s.bodies) };
+}
+
+/// A line without its line feed.
+pub fn without_feed(line: Vec<u8>) -> Vec<u8>
+    ensures { result.items ≡ without_feed line.items }
+{
+    let mut bytes = line;
+    bytes.pop();
+    bytes
+}
+
+/// The kept reply of a session, and nothing where it is not known.
+pub fn kept_reply(gate: &Gate, session: u32) -> &[u8]
+    ensures { result.now ≡ kept_reply gate.now session }
+{
+    match gate.kept(session) {
+        Some(reply) => reply,
+        None => &[],
+    }
+}
+
+impl<A: LineAnswers> SessionLines<A> {
+    /// No session is known; what answers the bodies stands before its first line. Takes no memory.
+    pub fn new(alloc: Global, bodies: A) -> Self
+        ensures { result ≡ new_sessions bodies }
+    {
+        SessionLines {
+            gate: Gate::new(alloc),
+            bodies,
+        }
+    }
+
+    // Has the body of a message answered, and keeps the reply.
+    fn take(&mut self, alloc: Global, sent: &Sent) -> Result<(), AllocError>
+        requires number { IsNumber sent.now.number }
+        requires body { IsTrue (is_body sent.now.body.now) }
+        ensures { OnOk result (self.new ≡ after_answered A.step self.old
+            (message_of sent.now.session sent.now.number sent.now.body.now)) }
+    {
+        // Not reached between two reads: there are no more bodies than lines.
+        if self.gate.served() >= MAX_BODIES {
+            return Err(AllocError);
+        }
+        let text = self
+            .bodies
+            .answer(alloc, self.gate.served() + 1, sent.body)?;
+        self.gate
+            .keep(sent.session, sent.number, sent.body, without_feed(text))
+    }
+
+    // Answers a message.
+    fn answer_message(
+        &mut self,
+        alloc: Global,
+        line: u32,
+        sent: &Sent,
+    ) -> Result<Vec<u8>, AllocError>
+        requires number { IsNumber sent.now.number }
+        requires body { IsTrue (is_body sent.now.body.now) }
+        ensures { IfOk result (λ text. (text.items, self.new) ≡ said_step A.step line self.old
+            (Some (message_of sent.now.session sent.now.number sent.now.body.now))) }
+    {
+        let answer = self.gate.answer(sent.session, sent.number, sent.body);
+        if matches!(answer, Answer::First) {
+            self.take(alloc, sent)?;
+        }
+        print_told(
+            alloc,
+            line,
+            sent,
+            answer,
+            kept_reply(&self.gate, sent.session),
+        )
+    }
+}
+
+impl<A: LineAnswers> LineAnswers for SessionLines<A> {
+    ghost step = { session_step A.step };
+
+    fn answer(&mut self, alloc: Global, number: u32, line: &[u8]) -> Result<Vec<u8>, AllocError> {
+        match message(line) {
+            Some(sent) => self.answer_message(alloc, number, &sent),
+            None => Ok(print_malformed(alloc, number)?.into_bytes()),
+        }
+    }
+}
