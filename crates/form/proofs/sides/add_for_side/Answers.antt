@@ -1,5 +1,6 @@
-use Rattle.std.proofs.Common.{◌≡◌, inl, inr, ◌⊎◌, pos, rules, FitsSigned, w8}
+use Rattle.std.proofs.Common.{◌≡◌, inl, inr, ◌⊎◌, pos, refl, rules, FitsSigned, w8, ◌∙◌}
 use Rattle.exact_num.proofs.Units.{limit_at_least_one}
+use Rattle.form.specs.declared.orders.Side.TheVariants.{Buy, Sell}
 use Rattle.form.proofs.NothingAdded.{nothing_added, sign_zero}
 use Rattle.form.proofs.sides.add_for_side.Goals as goal
 use Rattle.form.proofs.sides.add_for_side.Goals.{then-sign-eq0-via-then-sign-eq0, then-sign-eq0-via-else-sign-eq0+then-sign-eq0-2}
@@ -18,3 +19,13 @@ returns-then-sign-eq0 g c =
           inr (sign_zero w.sign-else-sign-eq0.result _ w.sign-else-sign-eq0.ensures fits w.if-sign-eq0-2.true)
     ] in
     nothing_added _ _ c.args.side a b (number.numerator_fits c.args.total) (number.denominator_fits c.args.total) (limit_at_least_one _ number.limit_positive) (number.lowest c.args.a) (number.lowest c.args.b) none
+
+pub returns-in-Buy : goal.returns-in-Buy
+returns-in-Buy g c =
+    let side : c.args.side ≡ Buy = c.in-Buy.is in
+    c.plus_product.ensures ∙ rw side refl
+
+pub returns-in-Sell : goal.returns-in-Sell
+returns-in-Sell g c =
+    let side : c.args.side ≡ Sell = c.in-Sell.is in
+    c.less_product.ensures ∙ rw side refl
