@@ -3,14 +3,14 @@ use Rattle.std.proofs.Common.{◌≡◌, ◌≤◌, ◌<◌, ◌⊎◌, ℕ, zer
 use Rattle.std.proofs.KnownBytes.{Appends-nil, Appends-trans, Consumes-kept, Consumes-nil, Consumes-trans}
 use Rattle.std.specs.Io.KnownBytes.{Appends, Consumes, IsAtEnd, Keeps}
 use Rattle.std.specs.Prelude.{IsSomeAnd}
-use Rattle.port_io.specs.Faults.{Rose}
+use Rattle.port_io.specs.Faults.{Rose, raised_by}
 use Rattle.port_io.specs.Writes.{AppendsFront}
 use Rattle.command_text.specs.Fields.{begins_with_mark}
 use Rattle.command_text.specs.Lines.{mark_size}
 use Rattle.live_lines.specs.Ended.{ended_by}
-use Rattle.live_lines.specs.Open.{Open, count_limit, line_text, new_open, unmarked}
+use Rattle.live_lines.specs.Open.{Open, count_limit, line_limit, line_text, new_open, unmarked}
 use Rattle.live_lines.specs.Output.{answer_to, output_of}
-use Rattle.live_lines.specs.Serving.{Came, Ends, IsInputWithin, Known, WroteAll, WroteBefore, WroteFront, WroteLines}
+use Rattle.live_lines.specs.Serving.{Came, Counts, Ends, IsInputWithin, Known, WroteAll, WroteBefore, WroteFront, WroteLines, piece_limit}
 use Rattle.live_lines.specs.Taken.{AreWithin, Completes, IsOpenWithin, Stops, Took, with_feeds}
 use Rattle.live_lines.specs.declared.ended.Ended.{Ended}
 use Rattle.live_lines.specs.declared.ended.Ended.TheVariants as ended
@@ -19,11 +19,21 @@ use Rattle.live_lines.specs.declared.stop.LiveStop.TheVariants.{WriteFault, TooL
 use Rattle.live_lines.proofs.Fronts.{front_behind, front_longer}
 use Rattle.live_lines.proofs.Outputs.{lines_alone, lines_begin, lines_written, whole_output}
 use Rattle.live_lines.proofs.Takes.{completes_more, stops_more, took_more, took_none}
-use Rattle.live_lines.proofs.Within.{tells_none, took_within}
+use Rattle.live_lines.proofs.Within.{more_than_limit, tells_none, took_within}
 
 -- what was left and written at the start, and now
 abbrev pub known_of : Option (List ℕ) → Option (List ℕ) → Option (List ℕ) → Option (List ℕ) → Known
 known_of left still written writes = record { left = left; still = still; written = written; writes = writes }
+
+abbrev pub counts_of : ℕ → ℕ → ℕ → ℕ → ℕ → ℕ → Counts
+counts_of read reads write writes taken takes = record { read = read; reads = reads; write = write; writes = writes; taken = taken; takes = takes }
+
+-- ---- the bytes that are counted
+counted_more : (taken takes now a b : ℕ) → raised_by taken a ≤ takes → now ≡ raised_by takes b → raised_by taken (a + b) ≤ now
+counted_more taken takes now a b h is = omega (arith, h, is)
+
+counted_less : (taken takes a b : ℕ) → a ≤ b → raised_by taken b ≤ takes → raised_by taken a ≤ takes
+counted_less taken takes a b le h = omega (arith, le, h)
 
 -- ---- the bytes that were left
 of_more : (left still : Option (List ℕ)) (bytes : List ℕ) (P : List ℕ → Type 0) → Consumes left still bytes → ((more : List ℕ) → P (bytes ++ more))
@@ -48,43 +58,53 @@ pub open_within : (skips : Bool) → IsOpenWithin (new_open skips)
 open_within true = (refl, omega arith, λ lt. absurd (omega arith))
 open_within false = (refl, omega arith, λ lt. absurd (omega arith))
 
-module _ {S : Type 0} (step : ℕ → S → List ℕ → List ℕ × S) (skips : Bool) (start : S) (left written : Option (List ℕ)) where
-  abbrev pub Has : S → Open → Option (List ℕ) → Option (List ℕ) → Type 0
-  Has state line still writes = Came step skips start state line (known_of left still written writes)
+module _ {S : Type 0} (step : ℕ → S → List ℕ → List ℕ × S) (skips : Bool) (start : S) (left written : Option (List ℕ)) (taken : ℕ) where
+  abbrev pub Has : S → Open → Option (List ℕ) → Option (List ℕ) → ℕ → Type 0
+  Has state line still writes takes = Came step skips start state line (known_of left still written writes) taken takes
 
-  pub came_none : (line : Open) → line ≡ new_open skips → Has start line left written
+  pub came_none : (line : Open) → line ≡ new_open skips → Has start line left written taken
   came_none line is = record {
     bytes = [];
     text = [];
     gave = Consumes-nil left;
+    counted = omega arith;
     wrote = Appends-nil written;
     took = subst (λ l. Took step start (new_open skips) start l [] []) (sym is) (took_none step skips start (new_open skips) refl (open_within skips));
   }
 
-  module _ (state : S) (line : Open) (still writes : Option (List ℕ)) (came : Has state line still writes) where
-    pub came_more : (after : S) (next : Open) (stays adds : Option (List ℕ)) (piece tells : List ℕ) → Consumes still stays piece → Appends writes adds tells
-        → Took step state line after next piece tells → Has after next stays adds
-    came_more after next stays adds piece tells gave wrote took = record {
+  module _ (state : S) (line : Open) (still writes : Option (List ℕ)) (takes : ℕ) (came : Has state line still writes takes) where
+    now_counted : (now : ℕ) (piece : List ℕ) → now ≡ raised_by takes (length piece) → raised_by taken (length (came.bytes ++ piece)) ≤ now
+    now_counted now piece is = subst (λ n. raised_by taken n ≤ now) (sym (length-append came.bytes piece)) (counted_more taken takes now (length came.bytes) (length piece) came.counted is)
+
+    pub came_more : (after : S) (next : Open) (stays adds : Option (List ℕ)) (now : ℕ) (piece tells : List ℕ) → Consumes still stays piece → now ≡ raised_by takes (length piece)
+        → Appends writes adds tells → Took step state line after next piece tells → Has after next stays adds now
+    came_more after next stays adds now piece tells gave count wrote took = record {
       bytes = came.bytes ++ piece;
       text = came.text ++ tells;
       gave = Consumes-trans left still stays came.bytes piece came.gave gave;
+      counted = now_counted now piece count;
       wrote = Appends-trans written writes adds came.text tells came.wrote wrote;
       took = took_more step start state after (new_open skips) line next came.bytes piece came.text tells came.took took;
     }
 
     -- ---- after a piece
-    pub long_after : (stays adds : Option (List ℕ)) (piece tells : List ℕ) → Consumes still stays piece → Appends writes adds tells
-        → Stops step state line piece tells
-        → WroteBefore step skips start (known_of left stays written adds)
-    long_after stays adds piece tells gave wrote stops =
+    pub long_after : (stays adds : Option (List ℕ)) (now : ℕ) (piece tells : List ℕ) → Consumes still stays piece → now ≡ raised_by takes (length piece)
+        → length piece ≤ piece_limit → Appends writes adds tells → Stops step state line piece tells
+        → WroteBefore step skips start (known_of left stays written adds) × (raised_by taken (line_limit + 1) ≤ now)
+    long_after stays adds now piece tells gave count few wrote stops =
         let all = stops_more step start state (new_open skips) line came.bytes piece came.text tells came.took stops in
-        let text = all.answers ∙ sym (lines_alone step skips start all.lines all.within) in (
-          all.lines,
-          all.rest,
-          subst (Consumes left stays) all.split (Consumes-trans left still stays came.bytes piece came.gave gave),
-          all.within,
-          all.too_long,
-          subst (Appends written adds) text (Appends-trans written writes adds came.text tells came.wrote wrote),
+        let text = all.answers ∙ sym (lines_alone step skips start all.lines all.within) in
+        let many = more_than_limit skips all.lines all.rest all.too_long in (
+          (
+            all.lines,
+            all.rest,
+            subst (Consumes left stays) all.split (Consumes-trans left still stays came.bytes piece came.gave gave),
+            all.within,
+            all.too_long,
+            subst (Appends written adds) text (Appends-trans written writes adds came.text tells came.wrote wrote),
+            (came.bytes, piece, sym all.split, few, took_within step skips start state line came.bytes came.text came.took),
+          ),
+          counted_less taken now (line_limit + 1) (length (came.bytes ++ piece)) (omega (arith, many, ap length all.split)) (now_counted now piece count),
         )
 
     pub front_after : (stays adds : Option (List ℕ)) (piece tells : List ℕ) → Consumes still stays piece → AppendsFront writes adds tells
@@ -135,13 +155,14 @@ module _ {S : Type 0} (step : ℕ → S → List ℕ → List ℕ × S) (skips :
     )
 
   -- ---- which end a stop makes
-  pub ends_by : (still writes : Option (List ℕ)) (read reads wrote wrotes : ℕ) (stop : LiveStop)
-      → WroteFront step skips start (known_of left still written writes) → (stop ≡ WriteFault → Rose wrote wrotes)
-      → (stop ≡ TooLong → WroteBefore step skips start (known_of left still written writes) × (reads ≡ read))
-      → Ends step skips start (known_of left still written writes) read reads wrote wrotes (ended_by stop)
-  ends_by still writes read reads wrote wrotes WriteFault front rose long = (front, rose refl)
-  ends_by still writes read reads wrote wrotes TooLong front rose long = long refl
-  ends_by still writes read reads wrote wrotes Memory front rose long = front
+  pub ends_by : (still writes : Option (List ℕ)) (counts : Counts) (stop : LiveStop)
+      → WroteFront step skips start (known_of left still written writes) → (stop ≡ WriteFault → Rose counts.write counts.writes)
+      → (stop ≡ TooLong → WroteBefore step skips start (known_of left still written writes) × (counts.reads ≡ counts.read)
+      × (raised_by counts.taken (line_limit + 1) ≤ counts.takes))
+      → Ends step skips start (known_of left still written writes) counts (ended_by stop)
+  ends_by still writes counts WriteFault front rose long = (front, rose refl)
+  ends_by still writes counts TooLong front rose long = long refl
+  ends_by still writes counts Memory front rose long = front
 
 -- ---- each piece makes the rest smaller
 size_if : (b : Bool) (n : ℕ) (line : List ℕ) → n ≤ 3 → length line ≤ length (if b then drop n line else line) + 3
@@ -196,23 +217,23 @@ not_within None P none some = some
 not_within (Some input) P none some = none some
 
 -- ---- what the ends say
-module _ {S : Type 0} (step : ℕ → S → List ℕ → List ℕ × S) (skips : Bool) (start : S) (known : Known) (read reads wrote wrotes : ℕ) where
+module _ {S : Type 0} (step : ℕ → S → List ℕ → List ℕ × S) (skips : Bool) (start : S) (known : Known) (counts : Counts) where
   -- from the line and the answers that stand at the start
   pub ends_from : (line : Open) (answers : S) (e : Ended) → line ≡ new_open skips → answers ≡ start
-      → Ends step line.skips answers known read reads wrote wrotes e → Ends step skips start known read reads wrote wrotes e
-  ends_from line answers e is same h = subst (λ a. Ends step skips a known read reads wrote wrotes e) same (subst (λ (l : Open). Ends step l.skips answers known read reads wrote wrotes e) is h)
+      → Ends step line.skips answers known counts e → Ends step skips start known counts e
+  ends_from line answers e is same h = subst (λ a. Ends step skips a known counts e) same (subst (λ (l : Open). Ends step l.skips answers known counts e) is h)
 
-  pub front : (e : Ended) → Ends step skips start known read reads wrote wrotes e → (e ≡ ended.WriteFault) ⊎ (e ≡ ended.Memory)
+  pub front : (e : Ended) → Ends step skips start known counts e → (e ≡ ended.WriteFault) ⊎ (e ≡ ended.Memory)
       → WroteFront step skips start known
   front e h which =
-      let EndsAs : Ended → Type 0 = λ x. Ends step skips start known read reads wrote wrotes x in
+      let EndsAs : Ended → Type 0 = λ x. Ends step skips start known counts x in
       elim which [
         | inl is ↦ (subst EndsAs is h).0
         | inr is ↦ subst EndsAs is h
       ]
 
   -- it is a front of the output of all bytes that were left
-  pub front_of_all : (e : Ended) → Ends step skips start known read reads wrote wrotes e → (e ≡ ended.WriteFault) ⊎ (e ≡ ended.Memory)
+  pub front_of_all : (e : Ended) → Ends step skips start known counts e → (e ≡ ended.WriteFault) ⊎ (e ≡ ended.Memory)
       → IfSome known.left (λ input. AppendsFront known.written known.writes (output_of step skips start input))
   front_of_all e h which =
       let Is : List ℕ → Type 0 = λ input. AppendsFront known.written known.writes (output_of step skips start input) in
@@ -223,12 +244,12 @@ module _ {S : Type 0} (step : ℕ → S → List ℕ → List ℕ × S) (skips :
         | inr all ↦ of_whole known.left all.0 (known.still ≡ Some []) Is all.1.1 all.2
       ]
 
-  pub past : (e : Ended) → Ends step skips start known read reads wrote wrotes e → e ≡ ended.TooLong → IfSome known.left (λ input. ¬ (IsInputWithin skips input))
-  past e h is = past_limits step skips start known.left known.still known.written known.writes (subst (λ x. Ends step skips start known read reads wrote wrotes x) is h).0
+  pub past : (e : Ended) → Ends step skips start known counts e → e ≡ ended.TooLong → IfSome known.left (λ input. ¬ (IsInputWithin skips input))
+  past e h is = past_limits step skips start known.left known.still known.written known.writes (subst (λ x. Ends step skips start known counts x) is h).0
 
   -- within the limits, and without a fault
-  pub complete : (e : Ended) → Ends step skips start known read reads wrote wrotes e → IsSomeAnd known.left (IsInputWithin skips) → ¬ (Rose read reads)
-      → ¬ (Rose wrote wrotes) → (e ≡ ended.Done) ⊎ (e ≡ ended.Memory)
+  pub complete : (e : Ended) → Ends step skips start known counts e → IsSomeAnd known.left (IsInputWithin skips) → ¬ (Rose counts.read counts.reads)
+      → ¬ (Rose counts.write counts.writes) → (e ≡ ended.Done) ⊎ (e ≡ ended.Memory)
   complete ended.Done h within r w = inl refl
   complete ended.ReadFault h within r w = absurd (r h.1)
   complete ended.WriteFault h within r w = absurd (w h.1)

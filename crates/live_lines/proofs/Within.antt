@@ -110,3 +110,16 @@ took_within step skips start state line bytes text h =
     ap (λ b. without_last_empty (cut b)) h.split
     ∙ ap without_last_empty (cut_lines skips 1 h.lines line.rest h.within ∙ ap (λ l. h.lines ++ l) (cut_one line.rest h.open_within.0)) ∙ without_append h.lines line.rest [] in
     subst (λ l. AreWithin skips 1 l) (sym parts) (within_append skips 1 h.lines (without_last_empty (line.rest ∷ [])) h.within last)
+
+-- ---- what tells a line past the limits is more than they are
+feeds_size : (lines : List (List ℕ)) → length lines ≤ length (with_feeds lines)
+feeds_size [] = omega arith
+feeds_size (line ∷ lines) = omega (arith, feeds_size lines, length-append line (10 ∷ with_feeds lines))
+
+pub more_than_limit : (skips : Bool) (lines : List (List ℕ)) (rest : List ℕ) → IsTooLong skips (1 + length lines) rest
+    → line_limit + 1 ≤ length (with_feeds lines ++ rest)
+more_than_limit skips lines rest too_long = elim too_long [
+  | inl many ↦ omega (arith, many.0, many.1, feeds_size lines, length-append (with_feeds lines) rest)
+  | inr long ↦
+      omega (arith, long.4, shorter_if (skips && (1 + length lines == 1)) (mark_size long.0) long.0, ap length long.2, length-append long.0 long.1, length-append (with_feeds lines) rest)
+]
