@@ -1,10 +1,12 @@
 //! Looking into the value of a line.
-ghost use Rattle.std.specs.Prelude.{◌≡◌};
+ghost use Rattle.std.specs.Prelude.{◌≡◌, Bool};
+ghost use Rattle.std.specs.List.{list_all};
+ghost use Rattle.serde_json.specs.Data.{Data};
 ghost use Rattle.serde_json.specs.View.{view};
-ghost use Rattle.reply_shape.specs.Look.{has_members as members_are, has_at, is_whole as whole_number, is_text as text_value, is_word as word_is, word_at as word_found, number_at as number_found};
+ghost use Rattle.reply_shape.specs.Look.{Decides, has_members as members_are, has_at as passes_at, is_list as list_passes, is_list_of as list_passes_of, length_between, is_whole as whole_number, is_text as text_value, is_word as word_is, word_at as word_found, number_at as number_found};
 ghost use Rattle.reply_shape.specs.NumberTexts.{is_whole_number as whole_text};
 
-use crate::numbers::is_whole as is_whole_text;
+use crate::numbers;
 use serde_json::Value;
 
 pub(crate) fn has_members(value: &Value, count: usize) -> bool
@@ -14,6 +16,63 @@ pub(crate) fn has_members(value: &Value, count: usize) -> bool
         Some(map) => map.len() == count,
         None => false,
     }
+}
+
+/// Whether the key is there, and its value passes a test.
+pub(crate) fn has_at<F: Fn(&Value) -> bool>(value: &Value, key: &str, passes: F) -> bool
+    requires { F.IsAlwaysCallable passes }
+    ensures { (test : Data → Bool) → Decides F.Fn passes test
+        → result ≡ passes_at key.now test (view value.now) }
+{
+    match value.get(key) {
+        Some(found) => passes(found),
+        None => false,
+    }
+}
+
+fn all_pass<F: Fn(&Value) -> bool>(items: &[Value], passes: F) -> bool
+    requires { F.IsAlwaysCallable passes }
+    ensures { (test : Data → Bool) → Decides F.Fn passes test
+        → result ≡ list_all (λ item. test (view item)) items.now }
+{
+    items.iter().all(passes)
+}
+
+/// Whether the value is a list whose items pass a test.
+pub(crate) fn is_list<F: Fn(&Value) -> bool>(value: &Value, passes: F) -> bool
+    requires { F.IsAlwaysCallable passes }
+    ensures { (test : Data → Bool) → Decides F.Fn passes test
+        → result ≡ list_passes test (view value.now) }
+{
+    match value.as_array() {
+        Some(items) => all_pass(items, passes),
+        None => false,
+    }
+}
+
+fn has_length(value: &Value, low: usize, high: usize) -> bool
+    ensures { result ≡ length_between low high (view value.now) }
+{
+    match value.as_array() {
+        Some(items) => {
+            if items.len() < low {
+                return false;
+            }
+            items.len() <= high
+        }
+        None => false,
+    }
+}
+
+/// The same, with `low` to `high` items.
+pub(crate) fn is_list_of<F>(value: &Value, low: usize, high: usize, passes: F) -> bool
+where
+    F: Fn(&Value) -> bool,
+    requires { F.IsAlwaysCallable passes }
+    ensures { (test : Data → Bool) → Decides F.Fn passes test
+        → result ≡ list_passes_of low high test (view value.now) }
+{
+    is_list(value, passes) && has_length(value, low, high)
 }
 
 // A whole number of 64 bits.
@@ -27,21 +86,21 @@ pub(crate) fn is_whole(value: &Value) -> bool
 }
 
 pub(crate) fn has_whole(value: &Value, key: &str) -> bool
-    ensures { result ≡ has_at key.now whole_number (view value.now) }
+    ensures { result ≡ passes_at key.now whole_number (view value.now) }
 {
-    match value.get(key) {
-        Some(found) => is_whole(found),
-        None => false,
-    }
+    has_at(value, key, is_whole)
+}
+
+pub(crate) fn is_text(value: &Value) -> bool
+    ensures { result ≡ text_value (view value.now) }
+{
+    value.is_string()
 }
 
 pub(crate) fn has_text(value: &Value, key: &str) -> bool
-    ensures { result ≡ has_at key.now text_value (view value.now) }
+    ensures { result ≡ passes_at key.now text_value (view value.now) }
 {
-    match value.get(key) {
-        Some(found) => found.is_string(),
-        None => false,
-    }
+    has_at(value, key, is_text)
 }
 
 /// Whether the value is this text.
@@ -55,12 +114,9 @@ pub fn is_word(value: &Value, word: &str) -> bool
 }
 
 pub(crate) fn has_word(value: &Value, key: &str, word: &str) -> bool
-    ensures { result ≡ has_at key.now (word_is word.now) (view value.now) }
+    ensures { result ≡ passes_at key.now (word_is word.now) (view value.now) }
 {
-    match value.get(key) {
-        Some(found) => is_word(found, word),
-        None => false,
-    }
+    has_at(value, key, |found| is_word(found, word))
 }
 
 /// The text at a key, empty where there is none.
@@ -83,11 +139,17 @@ pub fn number_at(value: &Value, key: &str) -> u64
     }
 }
 
-pub(crate) fn has_whole_number(value: &Value, key: &str) -> bool
-    ensures { result ≡ has_at key.now whole_text (view value.now) }
+pub(crate) fn is_whole_text(value: &Value) -> bool
+    ensures { result ≡ whole_text (view value.now) }
 {
-    match value.get(key).and_then(Value::as_str) {
-        Some(text) => is_whole_text(text.as_bytes()),
+    match value.as_str() {
+        Some(text) => numbers::is_whole(text.as_bytes()),
         None => false,
     }
+}
+
+pub(crate) fn has_whole_text(value: &Value, key: &str) -> bool
+    ensures { result ≡ passes_at key.now whole_text (view value.now) }
+{
+    has_at(value, key, is_whole_text)
 }

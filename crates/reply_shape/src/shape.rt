@@ -1,12 +1,11 @@
 //! The shape of a line.
-ghost use Rattle.std.specs.Prelude.{◌≡◌, codes};
-ghost use Rattle.std.specs.List.{list_all};
+ghost use Rattle.std.specs.Prelude.{◌≡◌};
 ghost use Rattle.serde_json.specs.View.{view};
-ghost use Rattle.reply_shape.specs.Look.{has_at, is_list};
+ghost use Rattle.reply_shape.specs.Look.{is_list as list_passes};
 ghost use Rattle.reply_shape.specs.Shape.{opened_shape as opened_is, moved_shape as moved_is, listed_shape as listed_is, ordered_shape as ordered_is, paid_shape as paid_is, settled_shape as settled_is, balance_shape as balance_is, refused_shape as refused_is, has_its_field, shape_by as shape_is};
 
 use crate::cleared_shape::cleared_shape;
-use crate::look::{has_members, has_text, has_whole, has_word, number_at};
+use crate::look::{has_at, has_members, has_text, has_whole, has_word, is_list, number_at};
 use reply_print::words::reason;
 use serde_json::Value;
 
@@ -52,28 +51,10 @@ fn paid_shape(value: &Value) -> bool
         && has_whole(value, "order")
 }
 
-fn all_payouts(items: &[Value]) -> bool
-    ensures { result ≡ list_all (λ item. paid_is (view item)) items.now }
-{
-    items.iter().all(|item| paid_shape(item))
-}
-
 fn are_payouts(value: &Value) -> bool
-    ensures { result ≡ is_list paid_is (view value.now) }
+    ensures { result ≡ list_passes paid_is (view value.now) }
 {
-    match value.as_array() {
-        Some(items) => all_payouts(items),
-        None => false,
-    }
-}
-
-fn has_payouts(value: &Value) -> bool
-    ensures { result ≡ has_at (codes "payouts") (is_list paid_is) (view value.now) }
-{
-    match value.get("payouts") {
-        Some(found) => are_payouts(found),
-        None => false,
-    }
+    is_list(value, paid_shape)
 }
 
 fn settled_shape(value: &Value) -> bool
@@ -83,7 +64,7 @@ fn settled_shape(value: &Value) -> bool
         && has_whole(value, "lapsed")
         && has_whole(value, "line")
         && has_whole(value, "market")
-        && has_payouts(value)
+        && has_at(value, "payouts", are_payouts)
 }
 
 fn balance_shape(value: &Value) -> bool

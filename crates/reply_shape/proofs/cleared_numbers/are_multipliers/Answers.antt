@@ -1,10 +1,6 @@
-use Rattle.std.proofs.Common.{ap, ◌∙◌}
-use Rattle.std.specs.List.{list_all}
-use Rattle.serde_json.specs.View.{view}
-use Rattle.reply_shape.specs.NumberTexts.{multiplier_numbers as multiplier_is}
-use Rattle.reply_shape.proofs.Items.{is_list-items}
+use Rattle.std.proofs.Common.{rules}
+use Rattle.reply_shape.specs.NumberTexts.{multiplier_numbers}
 use Rattle.reply_shape.proofs.cleared_numbers.are_multipliers.Goals as goal
 
-pub returns-in-Some : goal.returns-in-Some
-returns-in-Some c =
-    c.all_multipliers.ensures ∙ ap (list_all (λ v. multiplier_is (view v))) c.deref.ensures.value ∙ is_list-items multiplier_is (view c.args.value.now) c.in-Some.items.now.items c.in-Some.ensures
+pub returns : goal.returns
+returns c = c.is_list.ensures multiplier_numbers (search rules)

@@ -1,10 +1,6 @@
-use Rattle.std.proofs.Common.{ap, ◌∙◌}
-use Rattle.std.specs.List.{list_all}
-use Rattle.serde_json.specs.View.{view}
-use Rattle.reply_shape.specs.ClearedShape.{leg_shape as leg_is}
-use Rattle.reply_shape.proofs.Items.{is_list-items}
+use Rattle.std.proofs.Common.{rules}
+use Rattle.reply_shape.specs.ClearedShape.{leg_shape}
 use Rattle.reply_shape.proofs.cleared_shape.are_legs.Goals as goal
 
-pub returns-in-Some : goal.returns-in-Some
-returns-in-Some c =
-    c.all_legs.ensures ∙ ap (list_all (λ v. leg_is (view v))) c.deref.ensures.value ∙ is_list-items leg_is (view c.args.value.now) c.in-Some.items.now.items c.in-Some.ensures
+pub returns : goal.returns
+returns c = c.is_list_of.ensures leg_shape (search rules)

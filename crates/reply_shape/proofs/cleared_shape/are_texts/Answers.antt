@@ -1,10 +1,6 @@
-use Rattle.std.proofs.Common.{ap, ◌∙◌}
-use Rattle.std.specs.List.{list_all}
-use Rattle.serde_json.specs.View.{view}
-use Rattle.reply_shape.specs.Look.{is_text as text_value}
-use Rattle.reply_shape.proofs.Items.{is_list-items}
+use Rattle.std.proofs.Common.{rules}
+use Rattle.reply_shape.specs.Look.{is_text}
 use Rattle.reply_shape.proofs.cleared_shape.are_texts.Goals as goal
 
-pub returns-in-Some : goal.returns-in-Some
-returns-in-Some c =
-    c.all_texts.ensures ∙ ap (list_all (λ v. text_value (view v))) c.deref.ensures.value ∙ is_list-items text_value (view c.args.value.now) c.in-Some.items.now.items c.in-Some.ensures
+pub returns : goal.returns
+returns c = c.is_list.ensures is_text (search rules)

@@ -1,7 +1,7 @@
 use Rattle.std.proofs.Common.{rules, ◌≡◌, length, nat_le, ap, sym, ◌∙◌, arith}
 use Rattle.serde_json.specs.View.{view}
 use Rattle.reply_shape.proofs.Items.{too_short, long_enough}
-use Rattle.reply_shape.proofs.cleared_shape.has_length.Goals as goal
+use Rattle.reply_shape.proofs.look.has_length.Goals as goal
 
 pub returns-then-len-low : goal.returns-then-len-low
 returns-then-len-low c =
