@@ -1,9 +1,15 @@
 -- What is taken out of the value of a line.
-use Rattle.std.specs.Prelude.{ℕ, List, [], ◌∷◌, ◌&&◌, nat_le, Option, Some, None, option_map, option_and_then, if◌then◌else◌}
+use Rattle.std.specs.Prelude.{◌≡◌, Result, IfOk, ℕ, List, [], ◌∷◌, ◌&&◌, nat_le, Option, Some, None, option_map, option_and_then, if◌then◌else◌}
 use Rattle.serde_json.specs.Data.{Data, Items, no_items, item}
-use Rattle.serde_json.specs.View.{items_view}
+use Rattle.std.specs.Fn.{Shared, FnReturnsAt}
+use Rattle.serde_json.specs.View.{view}
+use denote.Ref.{Bor}
 use Rattle.serde_json.specs.declared.value.Value.{Value}
 use Rattle.serde_json.specs.Find.{get, as_number, as_u64, as_array}
+
+-- what the code takes out of a value is this definition's, where memory is not wanting
+abbrev pub TakesOut : {F A E : Type 0} → Shared F (Bor Value × Unit {0}) (Result (Option A) E) → F → (Data → Option A) → Type 0
+TakesOut {F} {A} {E} calls f take_out = (value : Value) (answer : Result (Option A) E) → FnReturnsAt calls f value answer → IfOk answer (λ o. o ≡ take_out (view value))
 
 -- the number, where it is from low to high
 abbrev pub from_to : ℕ → ℕ → ℕ → Option ℕ
@@ -16,10 +22,6 @@ natural_at low high key d = option_and_then (from_to low high) (option_and_then 
 abbrev pub items_map : {A : Type 0} → (Data → Option A) → Items → Option (List A)
 items_map take_out no_items = Some []
 items_map take_out (item d ds) = option_and_then (λ x. option_map (λ xs. x ∷ xs) (items_map take_out ds)) (take_out d)
-
--- what is taken from each value of a list
-abbrev pub values_map : {A : Type 0} → (Data → Option A) → List Value → Option (List A)
-values_map take_out values = items_map take_out (items_view values)
 
 abbrev pub items_at : List ℕ → Data → Option Items
 items_at key d = option_and_then as_array (get key d)

@@ -1,14 +1,14 @@
 // The orders and the batch that are taken out of a line, where they are within their ranges.
-ghost use Rattle.std.specs.Prelude.{◌≡◌, ◌≤◌, ◌*◌, IfOk, length, map, option_map, unsigned_abs, nat_le};
+ghost use Rattle.std.specs.Prelude.{◌≡◌, ◌≤◌, ◌*◌, IfOk, codes, length, map, option_map, unsigned_abs, nat_le};
 ghost use Rattle.std.specs.List.{list_all, sum};
 ghost use Rattle.serde_json.specs.View.{view};
 ghost use Rattle.form.specs.BundleOf.{bundle_one};
 ghost use Rattle.form.specs.Bundles.{count_sizes};
 ghost use Rattle.reply_text.specs.BatchValues.{entry_from as entry_found, is_zero, has_limits as limits_kept, listed_form as form_listed, form_at as form_found, count_at as count_found, leg_from as leg_found, bundle_by, bundle_from as bundle_found, side_at as side_found, order_for as order_for_bundle, order_from as order_found};
 ghost use Rattle.reply_text.specs.ReplyValues.{batch_from as batch_found};
-ghost use Rattle.reply_text.specs.Taking.{values_map};
+ghost use Rattle.reply_text.specs.Taking.{list_at as list_found};
 
-use crate::taking::{account_at, items_at, natural_at, order_at, size_at};
+use crate::taking::{account_at, list_at, natural_at, order_at, size_at};
 use form::{
     Batch, Bundle, Form, Leg, MAX_COUNT, MAX_OPTIONS, MAX_ORDERS, MAX_PRICE, MAX_QUANTITY,
     MAX_STRIKE, MAX_WEIGHT, Order, Orders, Side, are_legs,
@@ -23,17 +23,11 @@ fn entry_from(value: &Value) -> Option<i64>
     value.as_i64()
 }
 
-fn all_entries(alloc: Global, items: &[Value]) -> Result<Option<Vec<i64>>, AllocError>
-    ensures { IfOk result (λ o. option_map (λ v. v.items) o ≡ values_map entry_found items.now) }
+fn entries_at(alloc: Global, value: &Value) -> Result<Option<Vec<i64>>, AllocError>
+    ensures { IfOk result (λ o. option_map (λ v. v.items) o
+        ≡ list_found (codes "form") entry_found (view value.now)) }
 {
-    let mut entries = Vec::new(alloc);
-    for item in items {
-        let Some(entry) = entry_from(item) else {
-            return Ok(None);
-        };
-        entries.push(entry)?;
-    }
-    Ok(Some(entries))
+    list_at(alloc, value, "form", |entry| Ok(entry_from(entry)))
 }
 
 fn are_small(weights: &[i64]) -> bool
@@ -75,10 +69,7 @@ fn listed_form(entries: &[i64]) -> Option<Form>
 fn form_at(alloc: Global, value: &Value) -> Result<Option<Form>, AllocError>
     ensures { IfOk result (λ o. o ≡ form_found (view value.now)) }
 {
-    let Some(items) = items_at(value, "form") else {
-        return Ok(None);
-    };
-    let Some(entries) = all_entries(alloc, items)? else {
+    let Some(entries) = entries_at(alloc, value)? else {
         return Ok(None);
     };
     Ok(listed_form(entries.as_slice()))
@@ -108,17 +99,11 @@ fn leg_from(alloc: Global, value: &Value) -> Result<Option<Leg>, AllocError>
     Ok(Some(Leg { count, form }))
 }
 
-fn all_legs(alloc: Global, items: &[Value]) -> Result<Option<Vec<Leg>>, AllocError>
-    ensures { IfOk result (λ o. option_map (λ v. v.items) o ≡ values_map leg_found items.now) }
+fn legs_at(alloc: Global, value: &Value) -> Result<Option<Vec<Leg>>, AllocError>
+    ensures { IfOk result (λ o. option_map (λ v. v.items) o
+        ≡ list_found (codes "legs") leg_found (view value.now)) }
 {
-    let mut legs = Vec::new(alloc);
-    for item in items {
-        let Some(leg) = leg_from(alloc, item)? else {
-            return Ok(None);
-        };
-        legs.push(leg)?;
-    }
-    Ok(Some(legs))
+    list_at(alloc, value, "legs", |leg| leg_from(alloc, leg))
 }
 
 fn bundle_by(legs: &[Leg]) -> Option<Bundle>
@@ -145,10 +130,7 @@ fn bundle_from(alloc: Global, value: &Value, single: bool) -> Result<Option<Bund
     if single {
         Ok(form_at(alloc, value)?.map(one_option))
     } else {
-        let Some(items) = items_at(value, "legs") else {
-            return Ok(None);
-        };
-        let Some(legs) = all_legs(alloc, items)? else {
+        let Some(legs) = legs_at(alloc, value)? else {
             return Ok(None);
         };
         Ok(bundle_by(legs.as_slice()))
@@ -219,22 +201,16 @@ fn order_for(value: &Value, account: u32, bundle: Bundle) -> Option<Order>
     })
 }
 
-fn all_orders(
-    alloc: Global,
-    items: &[Value],
-    single: bool,
-) -> Result<Option<Vec<Order>>, AllocError>
+fn orders_at(alloc: Global, value: &Value, single: bool) -> Result<Option<Vec<Order>>, AllocError>
     ensures { IfOk result (λ o. option_map (λ v. v.items) o
-        ≡ values_map (order_found single) items.now) }
+        ≡ list_found (codes "orders") (order_found single) (view value.now)) }
 {
-    let mut orders = Vec::new(alloc);
-    for item in items {
-        let Some(order) = order_from(alloc, item, single)? else {
-            return Ok(None);
-        };
-        orders.push(order)?;
-    }
-    Ok(Some(orders))
+    list_at(
+        alloc,
+        value,
+        "orders",
+        |order| order_from(alloc, order, single),
+    )
 }
 
 pub(crate) fn batch_from(alloc: Global, value: &Value) -> Result<Option<Batch>, AllocError>
@@ -243,10 +219,7 @@ pub(crate) fn batch_from(alloc: Global, value: &Value) -> Result<Option<Batch>, 
     let Some(underlyings) = size_at(value) else {
         return Ok(None);
     };
-    let Some(items) = items_at(value, "orders") else {
-        return Ok(None);
-    };
-    let Some(orders) = all_orders(alloc, items, number_at(value, "version") == 1)? else {
+    let Some(orders) = orders_at(alloc, value, number_at(value, "version") == 1)? else {
         return Ok(None);
     };
     if orders.len() > MAX_ORDERS {

@@ -6,9 +6,9 @@ ghost use Rattle.reply_shape.specs.Numbers.{fraction_from as fraction_read};
 ghost use Rattle.frac.specs.ValueOf.{value_from};
 ghost use Rattle.reply_text.specs.BatchValues.{fraction_from as fraction_found, whole_from};
 ghost use Rattle.reply_text.specs.OutcomeValues.{state_at as state_found, point_from as point_found, multiplier_from as multiplier_found, leaf_from as leaf_found, node_from as node_found, nodes_from, signs_of, cover_from as cover_found, certificate_from as certificate_found, pair_from as pair_found, operator_of as operator_named, wide_from as wide_found};
-ghost use Rattle.reply_text.specs.Taking.{values_map, take_at};
+ghost use Rattle.reply_text.specs.Taking.{list_at as list_found, take_at};
 
-use crate::taking::{LIMIT, items_at, natural_at, whole_within};
+use crate::taking::{LIMIT, list_at, natural_at, whole_within};
 use cert_check::{Cover, Mark};
 use exact_num::{Exact, Operator, Wide};
 use form::State;
@@ -55,20 +55,11 @@ pub(crate) fn fraction_at(value: &Value, key: &str) -> Option<Frac128>
     fraction_from(found)
 }
 
-pub(crate) fn all_fractions(
-    alloc: Global,
-    items: &[Value],
-) -> Result<Option<Vec<Frac128>>, AllocError>
-    ensures { IfOk result (λ o. option_map (λ v. v.items) o ≡ values_map fraction_found items.now) }
+pub(crate) fn fills_at(alloc: Global, value: &Value) -> Result<Option<Vec<Frac128>>, AllocError>
+    ensures { IfOk result (λ o. option_map (λ v. v.items) o
+        ≡ list_found (codes "fills") fraction_found (view value.now)) }
 {
-    let mut fractions = Vec::new(alloc);
-    for item in items {
-        let Some(fraction) = fraction_from(item) else {
-            return Ok(None);
-        };
-        fractions.push(fraction)?;
-    }
-    Ok(Some(fractions))
+    list_at(alloc, value, "fills", |fill| Ok(fraction_from(fill)))
 }
 
 fn entry_from(value: &Value) -> Option<i128>
@@ -78,27 +69,17 @@ fn entry_from(value: &Value) -> Option<i128>
     whole_within(text.as_bytes(), LIMIT)
 }
 
-fn all_entries(alloc: Global, items: &[Value]) -> Result<Option<Vec<i128>>, AllocError>
+fn entries_at(alloc: Global, value: &Value) -> Result<Option<Vec<i128>>, AllocError>
     ensures { IfOk result (λ o. option_map (λ v. v.items) o
-        ≡ values_map (whole_from limit) items.now) }
+        ≡ list_found (codes "state") (whole_from limit) (view value.now)) }
 {
-    let mut entries = Vec::new(alloc);
-    for item in items {
-        let Some(entry) = entry_from(item) else {
-            return Ok(None);
-        };
-        entries.push(entry)?;
-    }
-    Ok(Some(entries))
+    list_at(alloc, value, "state", |entry| Ok(entry_from(entry)))
 }
 
 fn state_at(alloc: Global, value: &Value) -> Result<Option<State>, AllocError>
     ensures { IfOk result (λ o. o ≡ state_found (view value.now)) }
 {
-    let Some(items) = items_at(value, "state") else {
-        return Ok(None);
-    };
-    let Some(entries) = all_entries(alloc, items)? else {
+    let Some(entries) = entries_at(alloc, value)? else {
         return Ok(None);
     };
     Ok(State::from_entries(entries.as_slice()))
@@ -116,17 +97,11 @@ fn point_from(alloc: Global, value: &Value) -> Result<Option<Weighted>, AllocErr
     Ok(Some(Weighted { state, weight }))
 }
 
-fn all_points(alloc: Global, items: &[Value]) -> Result<Option<Vec<Weighted>>, AllocError>
-    ensures { IfOk result (λ o. option_map (λ v. v.items) o ≡ values_map point_found items.now) }
+fn points_at(alloc: Global, value: &Value) -> Result<Option<Vec<Weighted>>, AllocError>
+    ensures { IfOk result (λ o. option_map (λ v. v.items) o
+        ≡ list_found (codes "measure") point_found (view value.now)) }
 {
-    let mut points = Vec::new(alloc);
-    for item in items {
-        let Some(point) = point_from(alloc, item)? else {
-            return Ok(None);
-        };
-        points.push(point)?;
-    }
-    Ok(Some(points))
+    list_at(alloc, value, "measure", |point| point_from(alloc, point))
 }
 
 fn multiplier_from(value: &Value) -> Option<Multiplier>
@@ -137,18 +112,16 @@ fn multiplier_from(value: &Value) -> Option<Multiplier>
     Some(Multiplier { place, by })
 }
 
-fn all_multipliers(alloc: Global, items: &[Value]) -> Result<Option<Vec<Multiplier>>, AllocError>
+fn multipliers_at(alloc: Global, value: &Value) -> Result<Option<Vec<Multiplier>>, AllocError>
     ensures { IfOk result (λ o. option_map (λ v. v.items) o
-        ≡ values_map multiplier_found items.now) }
+        ≡ list_found (codes "leaf") multiplier_found (view value.now)) }
 {
-    let mut multipliers = Vec::new(alloc);
-    for item in items {
-        let Some(multiplier) = multiplier_from(item) else {
-            return Ok(None);
-        };
-        multipliers.push(multiplier)?;
-    }
-    Ok(Some(multipliers))
+    list_at(
+        alloc,
+        value,
+        "leaf",
+        |multiplier| Ok(multiplier_from(multiplier)),
+    )
 }
 
 // A leaf and its multipliers. More of them than its count can hold are want of memory.
@@ -156,10 +129,7 @@ fn leaf_from(alloc: Global, value: &Value) -> Result<Option<(Node, Vec<Multiplie
     ensures { IfOk result (λ o. option_map (λ p. (p.0, p.1.items)) o
         ≡ leaf_found (view value.now)) }
 {
-    let Some(items) = items_at(value, "leaf") else {
-        return Ok(None);
-    };
-    let Some(multipliers) = all_multipliers(alloc, items)? else {
+    let Some(multipliers) = multipliers_at(alloc, value)? else {
         return Ok(None);
     };
     if multipliers.len() > u32::MAX as usize {
@@ -233,10 +203,7 @@ fn certificate_from(alloc: Global, value: &Value) -> Result<Option<Mark>, AllocE
     let Some(cover) = cover_at(alloc, value)? else {
         return Ok(None);
     };
-    let Some(items) = items_at(value, "measure") else {
-        return Ok(None);
-    };
-    let Some(points) = all_points(alloc, items)? else {
+    let Some(points) = points_at(alloc, value)? else {
         return Ok(None);
     };
     let measure = Measure {

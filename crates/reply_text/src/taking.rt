@@ -1,15 +1,17 @@
 // What is taken out of the value of a line.
-ghost use Rattle.std.specs.Prelude.{◌≡◌, ◌≤◌, ◌<◌, ◌^◌, IfSome, codes, option_map};
+ghost use Rattle.std.specs.Prelude.{◌≡◌, ◌≤◌, ◌<◌, ◌^◌, IfOk, IfSome, Option, codes, option_map};
+ghost use Rattle.serde_json.specs.Data.{Data};
 ghost use Rattle.serde_json.specs.View.{view, items_view};
 ghost use Rattle.reply_shape.specs.Numbers.{whole_value, signed_value};
 ghost use Rattle.form.specs.Naturals.{natural_value};
 ghost use Rattle.reply_text.specs.BatchValues.{size_within, whole_from};
 ghost use Rattle.reply_text.specs.ReplyValues.{account_at as account_found, market_at as market_found, size_at as size_found};
-ghost use Rattle.reply_text.specs.Taking.{natural_at as natural_found, take_at, from_to as number_from_to, items_at as items_found};
+ghost use Rattle.reply_text.specs.Taking.{natural_at as natural_found, take_at, from_to as number_from_to, items_at as items_found, items_map, list_at as list_found, TakesOut};
 
 use form::MAX_UNDERLYINGS;
 use reply_shape::numbers::value_of_digits;
 use serde_json::Value;
+use std::alloc::{AllocError, Global};
 
 // The largest size of a part of a text.
 pub(crate) const LIMIT: u128 = (1 << 127) - 1;
@@ -100,10 +102,53 @@ pub(crate) fn order_at(value: &Value) -> Option<u64>
 }
 
 // The items of the list at a key.
-pub(crate) fn items_at<'a>(value: &'a Value, key: &str) -> Option<&'a [Value]>
+fn items_at<'a>(value: &'a Value, key: &str) -> Option<&'a [Value]>
     ensures { option_map (λ items. items_view items.now) result
         ≡ items_found key.now (view value.now) }
 {
     let items = value.get(key).and_then(Value::as_array)?;
     Some(items.as_slice())
+}
+
+fn take_each<T, F>(
+    alloc: Global,
+    items: &[Value],
+    take_out: F,
+) -> Result<Option<Vec<T>>, AllocError>
+where
+    T: Copy,
+    F: Fn(&Value) -> Result<Option<T>, AllocError>,
+    requires { F.IsAlwaysCallable take_out }
+    ensures { (found : Data → Option T) → TakesOut F.Fn take_out found
+        → IfOk result (λ o. option_map (λ v. v.items) o ≡ items_map found (items_view items.now)) }
+{
+    let mut taken = Vec::new(alloc);
+    for item in items {
+        let Some(one) = take_out(item)? else {
+            return Ok(None);
+        };
+        taken.push(one)?;
+    }
+    Ok(Some(taken))
+}
+
+// What is taken out of each item of the list at a key.
+pub(crate) fn list_at<T, F>(
+    alloc: Global,
+    value: &Value,
+    key: &str,
+    take_out: F,
+) -> Result<Option<Vec<T>>, AllocError>
+where
+    T: Copy,
+    F: Fn(&Value) -> Result<Option<T>, AllocError>,
+    requires { F.IsAlwaysCallable take_out }
+    ensures { (found : Data → Option T) → TakesOut F.Fn take_out found
+        → IfOk result (λ o. option_map (λ v. v.items) o
+        ≡ list_found key.now found (view value.now)) }
+{
+    match items_at(value, key) {
+        Some(items) => take_each(alloc, items, take_out),
+        None => Ok(None),
+    }
 }
