@@ -116,7 +116,7 @@ check_says says k (Ok true) next holds fails wide = holds refl
 check_says says k (Ok false) next holds fails wide = fails refl
 check_says says k (Err w) next holds fails wide = wide w
 
-is_true : (b t : Bool) → ◌≡◌ {A = Result Bool Misfit} (Ok b) (Ok t) → b ≡ t
+pub is_true : (b t : Bool) → ◌≡◌ {A = Result Bool Misfit} (Ok b) (Ok t) → b ≡ t
 is_true b t h = cc
 
 -- a fact of the mark optimal, and of a mark that is none

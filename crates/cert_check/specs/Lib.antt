@@ -4,6 +4,8 @@ pub mod Cover
 pub mod Events
 pub mod Conditions
 pub mod Laws
+pub mod Proposals
+pub mod ProposalLaws
 pub mod Worked
 pub use Rattle.line_cover.specs.Breakpoints
 pub use Rattle.measure.specs.declared.measures.Measure

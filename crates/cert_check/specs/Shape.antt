@@ -9,6 +9,7 @@ use Rattle.form.specs.declared.orders.Order.{Order}
 use Rattle.form.specs.declared.orders.Batch.{Batch}
 use Rattle.form.specs.Payoff.{is_on_count}
 use Rattle.measure.specs.declared.measures.Weighted.{Weighted}
+use Rattle.measure.specs.declared.measures.Measure.{Measure}
 use Rattle.measure.specs.Points.{IsOnStates}
 use Rattle.cert_check.specs.declared.outcome.Cover.{Cover}
 use Rattle.cert_check.specs.declared.outcome.Cover.TheVariants.{Line, Tree}
@@ -29,8 +30,12 @@ abbrev pub cover_fits : ℕ → Cover → Bool
 cover_fits n Line = n == 1
 cover_fits n (Tree tree) = nat_lt 1 n
 
+-- the cover and the states of a certificate are those of n underlyings
+abbrev pub certificate_fits : ℕ → Cover → Measure → Bool
+certificate_fits n cover measure = cover_fits n cover && states_have (n + 1) measure.points
+
 abbrev pub mark_fits : ℕ → Mark → Bool
-mark_fits n (Optimal cover measure) = cover_fits n cover && states_have (n + 1) measure.points
+mark_fits n (Optimal cover measure) = certificate_fits n cover measure
 mark_fits n (Wide w) = true
 mark_fits n Budget = true
 
@@ -39,12 +44,13 @@ abbrev pub IsMarkOn : ℕ → Mark → Type 0
 IsMarkOn n mark =
     IfOptimal mark (λ cover measure. IsCoverOn n cover × IsOnStates n measure)
 
--- whether there are as many fills as orders, and forms, states and cover are those of the batch's underlyings
+-- whether there are as many fills as orders, and the forms are those of the batch's underlyings
+abbrev pub has_fills : Batch → List Frac128 → Bool
+has_fills batch fills = length fills == length batch.orders && forms_have (batch.underlyings + 1) batch.orders
+
+-- and states and cover too
 abbrev pub has_shape : Batch → Outcome → Bool
-has_shape batch outcome =
-    length outcome.fills == length batch.orders
-    && forms_have (batch.underlyings + 1) batch.orders
-    && mark_fits batch.underlyings outcome.mark
+has_shape batch outcome = has_fills batch outcome.fills && mark_fits batch.underlyings outcome.mark
 
 -- whether a fill is from 0 to the order's quantity
 abbrev pub is_fill : Order → Fraction → Bool

@@ -2,21 +2,36 @@
 
 ghost use Rattle.std.specs.Prelude.{◌≡◌, ◌+◌, length};
 ghost use Rattle.frac.specs.Value.{fraction_of};
-ghost use Rattle.cert_check.specs.Shape.{are_fills, cover_fits, forms_have, has_shape, is_fill, mark_fits, states_have};
+ghost use Rattle.cert_check.specs.Shape.{are_fills, certificate_fits, cover_fits, forms_have, has_fills, has_shape, is_fill, mark_fits, states_have};
+ghost use Rattle.cert_check.specs.Proposals.{as_optimal};
 
-use crate::outcome::{Cover, Mark, Outcome};
+use crate::outcome::{Cover, Mark, Outcome, Proposal};
 use exact_num::Exact;
 use form::{Batch, Order};
 use frac::{Frac128, whole};
-use measure::Weighted;
+use measure::{Measure, Weighted};
 
 // Whether there are as many fills as orders, and forms, states and cover are those of the batch's underlyings.
 pub(crate) fn has_shape(batch: &Batch, outcome: &Outcome) -> bool
     ensures { result ≡ has_shape batch.now outcome.now }
 {
-    outcome.fills.as_slice().len() == batch.orders.as_slice().len()
+    has_fills(batch, outcome.fills.as_slice()) && mark_fits(batch.underlyings, &outcome.mark)
+}
+
+// The same of a proposal, as of an outcome marked optimal.
+pub(crate) fn has_proposal_shape(batch: &Batch, proposal: &Proposal) -> bool
+    ensures { result ≡ has_shape batch.now (as_optimal proposal.now) }
+{
+    has_fills(batch, proposal.fills.as_slice())
+        && certificate_fits(batch.underlyings, &proposal.cover, &proposal.measure)
+}
+
+// Whether there are as many fills as orders, and the forms are those of the batch's underlyings.
+fn has_fills(batch: &Batch, fills: &[Frac128]) -> bool
+    ensures { result ≡ has_fills batch.now fills.now }
+{
+    fills.len() == batch.orders.as_slice().len()
         && are_on(batch.underlyings, batch.orders.as_slice())
-        && mark_fits(batch.underlyings, &outcome.mark)
 }
 
 // Whether each leg of each order is on so many underlyings.
@@ -35,17 +50,22 @@ fn states_have(entries: u16, points: &[Weighted]) -> bool
         .all(|point| u16::from(point.state.count) == entries)
 }
 
-// Whether the cover and the states of the measure are those of so many underlyings.
+// Whether a certificate of the mark is one of so many underlyings.
 fn mark_fits(underlyings: u8, mark: &Mark) -> bool
     ensures { result ≡ mark_fits underlyings mark.now }
 {
     match mark {
-        Mark::Optimal { cover, measure } => {
-            cover_fits(underlyings, cover)
-                && states_have(u16::from(underlyings) + 1, measure.points.as_slice())
-        }
+        Mark::Optimal { cover, measure } => certificate_fits(underlyings, cover, measure),
         Mark::Wide(_) | Mark::Budget => true,
     }
+}
+
+// Whether the cover and the states are those of so many underlyings.
+fn certificate_fits(underlyings: u8, cover: &Cover, measure: &Measure) -> bool
+    ensures { result ≡ certificate_fits underlyings cover.now measure.now }
+{
+    cover_fits(underlyings, cover)
+        && states_have(u16::from(underlyings) + 1, measure.points.as_slice())
 }
 
 // Whether a line is the cover of one underlying, and a tree of several.
