@@ -7,7 +7,7 @@ use Rattle.std.proofs.lemmas.List.Sums.{sum-map}
 use Rattle.arithmetic.specs.Sums.{positive_part}
 use Rattle.exact_num.specs.Fraction.{Fraction}
 use Rattle.frac.specs.Value.{fraction_of}
-use Rattle.cases_form.proofs.tests.is_direction.Goals as goal
+use Rattle.cases_sums.proofs.payoffs.is_direction.Goals as goal
 
 abbrev part : Fraction → ℕ
 part f = positive_part f.numerator

@@ -4,11 +4,11 @@ ghost use Rattle.form.specs.Primitive.{IsDirection};
 ghost use Rattle.frac.specs.Value.{fraction_of};
 ghost use Rattle.settlement.specs.Premium.{IsOrderFill};
 
-use crate::cases::{BUNDLES, PAYOFFS, PREMIUMS, PRIMITIVES};
+use crate::payoff_table::{BUNDLES, PAYOFFS, PREMIUMS, PRIMITIVES};
+use crate::printing::{print_number, print_wide};
+use crate::reading::{number, numbers};
+use crate::signs::{is_any_above_zero, is_none_below_zero};
 use anyhow::{Context, Result, bail, ensure};
-use cases_texts::{
-    is_any_above_zero, is_none_below_zero, number, numbers, print_number, print_wide,
-};
 use exact_num::{Exact, Wide};
 use form::{
     Bundle, Form, Leg, MAX_PRICE, Side, State, are_legs, bundle_payoff, call, payoff, primitive,

@@ -5,9 +5,11 @@ ghost use Rattle.exact_num.specs.Fraction.{IsNotBelowZero};
 ghost use Rattle.frac.specs.Narrow.{narrow_fraction};
 ghost use Rattle.frac.specs.Value.{fraction_of};
 
-use crate::cases::CASES;
+use crate::printing::{print_number, print_wide};
+use crate::program_table::CASES;
+use crate::reading::numbers;
+use crate::signs::is_none_below_zero;
 use anyhow::{Context, Result, ensure};
-use cases_texts::{is_none_below_zero, numbers, print_number, print_wide};
 use exact_num::{Exact, Operator, Wide};
 use frac::{Frac64, Frac128};
 use simplex::{Budget, Program, RunStop, Solved, Space, Stop, choices, solve};

@@ -2,9 +2,11 @@
 ghost use Rattle.std.specs.Prelude.{◌<◌, ◌*◌, ◌^◌};
 ghost use Rattle.std.specs.Int.{div_ceil};
 
-use crate::cases::{DIVISORS, LIMITS, NARROW_NUMBERS, NARROW_OPERATIONS, OPERATIONS, ORDERS};
+use crate::fraction_table::{
+    DIVISORS, LIMITS, NARROW_NUMBERS, NARROW_OPERATIONS, OPERATIONS, ORDERS,
+};
+use crate::reading::parts;
 use anyhow::{Context, Result, bail};
-use cases_texts::parts;
 use exact_num::{Exact, Operator, Wide};
 use frac::{Frac64, Frac128, gcd, mul_div_ceil, mul_div_floor, widen};
 use std::cmp::Ordering;

@@ -2,7 +2,7 @@
 //! fit with its operands.
 
 /// An option's entries, the entries of a primitive state, and what the option pays there.
-pub const PAYOFFS: &str = "\
+pub static PAYOFFS: &str = "\
 -10 1 | 1 12 = 2
 -10 1 | 2 15 = 0
 -10 1 | 2 25 = 5
@@ -55,7 +55,7 @@ pub const PAYOFFS: &str = "\
 
 /// A bundle's legs, each with its count and its option's entries, the entries of a primitive state, and what the bundle
 /// pays there.
-pub const BUNDLES: &str = "\
+pub static BUNDLES: &str = "\
 1 : -10 1 ; -1 : -12 1 | 1 15 = 2
 -1 : -10 1 ; 1 : -12 1 | 1 15 = -2
 -1 : -10 1 ; 1 : -12 1 | 0 1 = 0
@@ -75,7 +75,7 @@ pub const BUNDLES: &str = "\
 ";
 
 /// The entries of a direction, and those of its primitive state.
-pub const PRIMITIVES: &str = "\
+pub static PRIMITIVES: &str = "\
 3/2 9/4 = 2 3
 1/2 1/3 = 3 2
 4 6 = 2 3
@@ -119,7 +119,7 @@ pub const PRIMITIVES: &str = "\
 ";
 
 /// A side, a fill and a price, and the premium in ticks.
-pub const PREMIUMS: &str = "\
+pub static PREMIUMS: &str = "\
 buy 1 6 = 6
 sell 2/7 8 = 2
 sell 5/7 4 = 2
