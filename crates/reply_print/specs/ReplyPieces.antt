@@ -1,5 +1,5 @@
 -- What a reply is written as, and its line.
-use Rattle.std.specs.Prelude.{ℕ, ℤ, pos, neg_ℤ, List, Bool, true, false, ◌==◌, codes}
+use Rattle.std.specs.Prelude.{ℕ, ℤ, pos, neg_ℤ, List, Bool, true, false, codes}
 use Rattle.form.specs.declared.orders.Side.{Side}
 use Rattle.form.specs.declared.orders.Side.TheVariants.{Buy, Sell}
 use Rattle.cert_check.specs.declared.outcome.Mark.{Mark}
@@ -11,7 +11,7 @@ use Rattle.reply_print.specs.declared.replies.Reply.TheVariants.{Opened, Deposit
 use Rattle.reply_print.specs.BatchPieces.{natural, whole_words, fraction, each, are_single, order_piece, version_of}
 use Rattle.reply_print.specs.OutcomePieces.{certificate_field, wide_field}
 use Rattle.reply_print.specs.Piece.{Piece, words, object, Fields, no_fields, field, piece_text}
-use Rattle.reply_print.specs.Words.{mark_word, reason_word}
+use Rattle.reply_print.specs.Words.{mark_word, is_range_refusal, reason_word}
 
 abbrev pub opened_piece : ℕ → ℕ → Piece
 opened_piece line account =
@@ -45,7 +45,7 @@ balance_piece line account balance reserved =
     (field (codes "reply") (words (codes "balance"))
     (field (codes "reserved") (whole_words reserved) no_fields)))))
 
--- the field is told of refusal 8 alone
+-- the field is told of the refusal Range alone
 abbrev pub field_field : Bool → ℕ → Fields → Fields
 field_field true place more = field (codes "field") (natural place) more
 field_field false place more = more
@@ -60,7 +60,7 @@ refused_with is_range line number place reason =
     (field (codes "reply") (words (codes "refused")) no_fields)))))
 
 abbrev pub refused_piece : ℕ → ℕ → ℕ → Piece
-refused_piece line number place = refused_with (number == 8) line number place (reason_word number)
+refused_piece line number place = refused_with (is_range_refusal number) line number place (reason_word number)
 
 -- what is paid, with a minus where a seller pays
 abbrev pub signed_amount : Side → ℕ → ℤ

@@ -1,11 +1,12 @@
 -- Replies within their ranges.
-use Rattle.std.specs.Prelude.{◌≡◌, ℕ, ◌+◌, ◌^◌, ◌<◌, ◌≤◌, ℤ, pos, ◌≤ℤ◌, unsigned_abs, List, [], ◌∷◌, length, Bool, true, ◌==◌, ⊤, false}
+use Rattle.std.specs.Prelude.{◌≡◌, ℕ, ◌+◌, ◌^◌, ◌<◌, ◌≤◌, ℤ, pos, ◌≤ℤ◌, unsigned_abs, List, [], ◌∷◌, length, Bool, true, ⊤, false}
 use Rattle.std.specs.List.{AllByRecursion}
 use Rattle.exact_num.specs.Fraction.{IsLowest, over}
 use Rattle.form.specs.declared.orders.Side.{Side}
 use Rattle.form.specs.declared.orders.Side.TheVariants.{Buy, Sell}
 use Rattle.form.specs.declared.limits.TheConstants.{MAX_UNDERLYINGS, MAX_ORDERS}
 use Rattle.form.specs.Limits as limits
+use Rattle.settlement.specs.declared.limits.TheConstants.{MAX_GAIN}
 use Rattle.measure.specs.declared.measures.Weighted.{Weighted}
 use Rattle.sign_tree.specs.declared.trees.Node.{Node}
 use Rattle.sign_tree.specs.declared.trees.Node.TheVariants.{Split, Leaf}
@@ -15,6 +16,8 @@ use Rattle.cert_check.specs.declared.outcome.Cover.TheVariants.{Line, Tree}
 use Rattle.cert_check.specs.declared.outcome.Mark.{Mark}
 use Rattle.cert_check.specs.declared.outcome.Mark.TheVariants as mark
 use Rattle.cert_check.specs.declared.outcome.Outcome.{Outcome}
+use Rattle.reply_print.specs.declared.limits.TheConstants.{MAX_LINE, MAX_ACCOUNT, MAX_MARKET, MAX_ORDER, MAX_BATCH, MAX_PLACE, MAX_BUDGET, MAX_LAPSED, MAX_REFUSAL, MIN_FIELD, MAX_FIELD}
+use Rattle.reply_print.specs.Words.{is_range_refusal}
 use Rattle.reply_print.specs.OutcomePieces.{state_entries, count_of}
 use Rattle.form.specs.declared.orders.Batch.{Batch}
 use Rattle.form.specs.declared.orders.Order.{Order}
@@ -24,19 +27,19 @@ use Rattle.reply_print.specs.declared.replies.Reply.TheVariants.{Opened, Deposit
 use Rattle.form.specs.Between.{Between}
 
 abbrev pub IsLine : ℕ → Type 0
-IsLine line = Between 1 16777216 line
+IsLine line = Between 1 MAX_LINE line
 
 abbrev pub IsAccount : ℕ → Type 0
-IsAccount account = Between 1 999999999 account
+IsAccount account = Between 1 MAX_ACCOUNT account
 
 abbrev pub IsMarket : ℕ → Type 0
-IsMarket market = Between 1 999999999 market
+IsMarket market = Between 1 MAX_MARKET market
 
 abbrev pub IsOrderNumber : ℕ → Type 0
-IsOrderNumber order = Between 1 1000000 order
+IsOrderNumber order = Between 1 MAX_ORDER order
 
 abbrev pub IsBatchNumber : ℕ → Type 0
-IsBatchNumber number = Between 1 2000000 number
+IsBatchNumber number = Between 1 MAX_BATCH number
 
 abbrev pub IsMarketSize : ℕ → Type 0
 IsMarketSize underlyings = Between 1 MAX_UNDERLYINGS underlyings
@@ -53,7 +56,7 @@ IsOrderWithin order = IsOrderNumber order.id × IsAccount order.account × limit
 -- ---- certificates
 
 abbrev pub IsPlace : ℕ → Type 0
-IsPlace place = Between 1 1024 place
+IsPlace place = Between 1 MAX_PLACE place
 
 abbrev pub IsNodeWithin : Node → Type 0
 IsNodeWithin (Split place) = IsPlace place
@@ -84,7 +87,7 @@ IsMarkWithin (mark.Wide w) = IsPair w.left × IsPair w.right
 IsMarkWithin mark.Budget = ⊤
 
 abbrev pub IsOutcomeWithin : Outcome → Type 0
-IsOutcomeWithin outcome = (outcome.units ≤ 20000) × IsMarkWithin outcome.mark
+IsOutcomeWithin outcome = (outcome.units ≤ MAX_BUDGET) × IsMarkWithin outcome.mark
 
 abbrev pub IsBatchWithin : Batch → Type 0
 IsBatchWithin batch = IsMarketSize batch.underlyings × (length batch.orders ≤ MAX_ORDERS) × AllByRecursion IsOrderWithin batch.orders
@@ -97,11 +100,11 @@ HasItsSide Buy amount = ⊤
 HasItsSide Sell amount = 1 ≤ amount
 
 abbrev pub IsPaidWithin : PaidOut → Type 0
-IsPaidWithin paid = IsBatchNumber paid.batch × IsOrderNumber paid.order × IsAccount paid.account × (paid.amount ≤ 8001000000000000000) × HasItsSide paid.side paid.amount
+IsPaidWithin paid = IsBatchNumber paid.batch × IsOrderNumber paid.order × IsAccount paid.account × (paid.amount ≤ MAX_GAIN) × HasItsSide paid.side paid.amount
 
--- a field from 2 to 51 with number 8, and none else
+-- a field with the refusal Range, and none else
 abbrev pub IsRefusal : ℕ → ℕ → Bool → Type 0
-IsRefusal number place true = Between 2 51 place
+IsRefusal number place true = Between MIN_FIELD MAX_FIELD place
 IsRefusal number place false = place ≡ 0
 
 abbrev pub IsReplyWithin : Reply → Type 0
@@ -112,9 +115,9 @@ IsReplyWithin (Listed market underlyings) = IsMarket market × IsMarketSize unde
 IsReplyWithin (Placed order) = IsOrderNumber order
 IsReplyWithin (Cancelled order) = IsOrderNumber order
 IsReplyWithin (Cleared number market batch outcome) = IsBatchNumber number × IsMarket market × IsBatchWithin batch × IsOutcomeWithin outcome
-IsReplyWithin (Settled market lapsed payouts) = IsMarket market × (lapsed ≤ 256) × AllByRecursion IsPaidWithin payouts
-IsReplyWithin (Balance account balance reserved) = (account ≤ 999999999) × IsSmall balance × IsSmall reserved × (pos 0 ≤ℤ reserved)
-IsReplyWithin (Refused number place) = Between 1 13 number × IsRefusal number place (number == 8)
+IsReplyWithin (Settled market lapsed payouts) = IsMarket market × (lapsed ≤ MAX_LAPSED) × AllByRecursion IsPaidWithin payouts
+IsReplyWithin (Balance account balance reserved) = (account ≤ MAX_ACCOUNT) × IsSmall balance × IsSmall reserved × (pos 0 ≤ℤ reserved)
+IsReplyWithin (Refused number place) = Between 1 MAX_REFUSAL number × IsRefusal number place (is_range_refusal number)
 
 -- a line and its reply
 abbrev pub IsWithin : ℕ → Reply → Type 0

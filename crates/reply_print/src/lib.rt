@@ -3,6 +3,7 @@
 
 mod cleared_values;
 pub mod laws;
+pub mod limits;
 mod lines;
 mod order_values;
 mod outcome_values;

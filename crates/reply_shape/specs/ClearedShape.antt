@@ -1,19 +1,27 @@
 -- The shape of a cleared line.
-use Rattle.std.specs.Prelude.{ℕ, List, Bool, true, false, ◌&&◌, ◌||◌, ◌==◌, codes, if◌then◌else◌}
+use Rattle.std.specs.Prelude.{ℕ, ◌+◌, List, Bool, true, false, ◌&&◌, ◌||◌, ◌==◌, codes, if◌then◌else◌}
 use Rattle.std.specs.Str.{bytes_eq}
 use Rattle.serde_json.specs.Data.{Data}
+use Rattle.form.specs.declared.limits.TheConstants.{MAX_LEGS, MAX_UNDERLYINGS}
 use Rattle.reply_shape.specs.Look.{has_members, has_at, is_whole, is_text, is_word, is_list, is_list_of, word_at, number_at}
 
+-- the most entries of an option or a state
+abbrev pub max_entries : ℕ
+max_entries = MAX_UNDERLYINGS + 1
+
 abbrev pub is_form : Data → Bool
-is_form d = is_list_of 2 9 is_whole d
+is_form d = is_list_of 2 max_entries is_whole d
 
 abbrev pub leg_shape : Data → Bool
 leg_shape d = has_members 2 d && (has_at (codes "count") is_whole d && has_at (codes "form") is_form d)
 
--- a form in version 1, one to four legs in version 2
+abbrev pub are_legs : Data → Bool
+are_legs d = is_list_of 1 MAX_LEGS leg_shape d
+
+-- a form in version 1, legs in version 2
 abbrev pub bundle_shape : Bool → Data → Bool
 bundle_shape true d = has_at (codes "form") is_form d
-bundle_shape false d = has_at (codes "legs") (is_list_of 1 4 leg_shape) d
+bundle_shape false d = has_at (codes "legs") are_legs d
 
 abbrev pub is_side : Data → Bool
 is_side d = is_word (codes "buy") d || is_word (codes "sell") d
@@ -26,8 +34,11 @@ order_shape single d =
     && (has_at (codes "order") is_whole d
     && (has_at (codes "price") is_whole d && (has_at (codes "quantity") is_whole d && has_at (codes "side") is_side d)))))
 
+abbrev pub is_state : Data → Bool
+is_state d = is_list_of 2 max_entries is_text d
+
 abbrev pub point_shape : Data → Bool
-point_shape d = has_members 2 d && (has_at (codes "state") (is_list_of 2 9 is_text) d && has_at (codes "weight") is_text d)
+point_shape d = has_members 2 d && (has_at (codes "state") is_state d && has_at (codes "weight") is_text d)
 
 abbrev pub multiplier_shape : Data → Bool
 multiplier_shape d = has_members 2 d && (has_at (codes "at") is_whole d && has_at (codes "by") is_text d)

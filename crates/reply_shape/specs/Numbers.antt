@@ -1,5 +1,5 @@
 -- Which texts are numbers, and what their values are: whole texts and fraction texts, of any size.
-use Rattle.std.specs.Prelude.{ℕ, ℤ, pos, neg_ℤ, unsigned_abs, List, [], ◌∷◌, Bool, true, false, not, ◌&&◌, ◌||◌, ◌==◌, nat_le, nat_lt, Option, Some, None, if◌then◌else◌}
+use Rattle.std.specs.Prelude.{ℕ, ◌-◌, ◌^◌, ℤ, pos, neg_ℤ, unsigned_abs, List, [], ◌∷◌, Bool, true, false, not, ◌&&◌, ◌||◌, ◌==◌, nat_le, nat_lt, Option, Some, None, if◌then◌else◌}
 use Rattle.std.specs.Str.{bytes_eq}
 use Rattle.arithmetic.specs.Gcd.{gcd}
 use Rattle.exact_num.specs.Fraction.{Fraction, over}
@@ -18,6 +18,10 @@ signed_value false size = pos size
 abbrev pub whole_value : List ℕ → ℤ
 whole_value [] = pos 0
 whole_value (c ∷ cs) = if c == 45 then signed_value true (natural_value cs) else signed_value false (natural_value (c ∷ cs))
+
+-- the largest size that the code reads
+abbrev pub largest_size : ℕ
+largest_size = 2 ^ 128 - 1
 
 -- what stands before the first `/`
 abbrev pub before_slash : List ℕ → List ℕ

@@ -1,10 +1,11 @@
 -- The shape of a line: exactly the keys of one reply, with kinds as said, and its words.
-use Rattle.std.specs.Prelude.{ℕ, List, Bool, true, false, ◌&&◌, ◌==◌, nat_le, codes, if◌then◌else◌}
+use Rattle.std.specs.Prelude.{ℕ, List, Bool, true, false, ◌&&◌, nat_le, codes, if◌then◌else◌}
 use Rattle.std.specs.Str.{bytes_eq}
 use Rattle.serde_json.specs.Data.{Data}
 use Rattle.reply_shape.specs.ClearedShape.{cleared_shape}
 use Rattle.reply_shape.specs.Look.{has_members, has_at, is_whole, is_text, is_word, is_list, word_at, number_at}
-use Rattle.reply_print.specs.Words.{reason_word}
+use Rattle.reply_print.specs.declared.limits.TheConstants.{MAX_REFUSAL}
+use Rattle.reply_print.specs.Words.{is_range_refusal, reason_word}
 
 abbrev pub opened_shape : Data → Bool
 opened_shape d = has_members 3 d && (has_at (codes "account") is_whole d && has_at (codes "line") is_whole d)
@@ -37,7 +38,7 @@ balance_shape d =
     && (has_at (codes "account") is_whole d
     && (has_at (codes "balance") is_text d && (has_at (codes "line") is_whole d && has_at (codes "reserved") is_text d)))
 
--- the field stands with refusal 8 alone
+-- the field stands with the refusal Range alone
 abbrev pub has_its_field : Bool → Data → Bool
 has_its_field true d = has_members 5 d && has_at (codes "field") is_whole d
 has_its_field false d = has_members 4 d
@@ -45,10 +46,10 @@ has_its_field false d = has_members 4 d
 -- with this reason, which is that of the number
 abbrev pub refused_as : Bool → ℕ → List ℕ → Data → Bool
 refused_as is_range number reason d =
-    has_its_field is_range d && (has_at (codes "line") is_whole d && (nat_le 1 number && (nat_le number 13 && has_at (codes "reason") (is_word reason) d)))
+    has_its_field is_range d && (has_at (codes "line") is_whole d && (nat_le 1 number && (nat_le number MAX_REFUSAL && has_at (codes "reason") (is_word reason) d)))
 
 abbrev pub refused_by : ℕ → Data → Bool
-refused_by number d = refused_as (number == 8) number (reason_word number) d
+refused_by number d = refused_as (is_range_refusal number) number (reason_word number) d
 
 abbrev pub refused_shape : Data → Bool
 refused_shape d = refused_by (number_at (codes "number") d) d

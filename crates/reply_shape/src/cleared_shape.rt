@@ -1,19 +1,26 @@
 // The shape of a cleared line.
 ghost use Rattle.std.specs.Prelude.{◌≡◌, ◌&&◌, codes};
 ghost use Rattle.serde_json.specs.View.{view};
-ghost use Rattle.reply_shape.specs.ClearedShape.{is_form as form_is, leg_shape as leg_is, bundle_shape as bundle_is, is_side as side_is, order_shape as order_is, point_shape as point_is, multiplier_shape as multiplier_is, node_shape as node_is, cover_shape as cover_is, certificate_shape as certificate_is, is_operator as operator_is, wide_shape as wide_is, mark_shape as mark_is, orders_shape as orders_are, cleared_shape as cleared_is};
-ghost use Rattle.reply_shape.specs.Look.{has_at as passes_at, is_list as list_passes, is_list_of as list_passes_of, is_whole as whole_number, is_text as text_value};
+ghost use Rattle.reply_shape.specs.ClearedShape.{is_form as form_is, leg_shape as leg_is, are_legs as legs_are, is_state as state_is, bundle_shape as bundle_is, is_side as side_is, order_shape as order_is, point_shape as point_is, multiplier_shape as multiplier_is, node_shape as node_is, cover_shape as cover_is, certificate_shape as certificate_is, is_operator as operator_is, wide_shape as wide_is, mark_shape as mark_is, orders_shape as orders_are, cleared_shape as cleared_is};
+ghost use Rattle.reply_shape.specs.Look.{has_at as passes_at, is_list as list_passes, is_whole as whole_number, is_text as text_value};
 
 use crate::look::{
     has_at, has_members, has_text, has_whole, is_list, is_list_of, is_text, is_whole, is_word,
     number_at, word_at,
 };
+use form::{MAX_LEGS, MAX_UNDERLYINGS};
 use serde_json::Value;
+
+// The most entries of an option or a state: one more than the underlyings.
+const MAX_ENTRIES: usize = MAX_UNDERLYINGS as usize + 1;
+
+// The most legs of a bundle.
+const MOST_LEGS: usize = MAX_LEGS as usize;
 
 fn is_form(value: &Value) -> bool
     ensures { result ≡ form_is (view value.now) }
 {
-    is_list_of(value, 2, 9, is_whole)
+    is_list_of(value, 2, MAX_ENTRIES, is_whole)
 }
 
 fn leg_shape(value: &Value) -> bool
@@ -23,9 +30,9 @@ fn leg_shape(value: &Value) -> bool
 }
 
 fn are_legs(value: &Value) -> bool
-    ensures { result ≡ list_passes_of 1 4 leg_is (view value.now) }
+    ensures { result ≡ legs_are (view value.now) }
 {
-    is_list_of(value, 1, 4, leg_shape)
+    is_list_of(value, 1, MOST_LEGS, leg_shape)
 }
 
 fn bundle_shape(value: &Value, single: bool) -> bool
@@ -69,9 +76,9 @@ fn are_texts(value: &Value) -> bool
 }
 
 fn is_state(value: &Value) -> bool
-    ensures { result ≡ list_passes_of 2 9 text_value (view value.now) }
+    ensures { result ≡ state_is (view value.now) }
 {
-    is_list_of(value, 2, 9, is_text)
+    is_list_of(value, 2, MAX_ENTRIES, is_text)
 }
 
 fn point_shape(value: &Value) -> bool

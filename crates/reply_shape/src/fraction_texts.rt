@@ -1,12 +1,12 @@
 //! Texts of fractions.
-ghost use Rattle.std.specs.Prelude.{◌≡◌, ◌-◌, ◌^◌, ◌==◌, min, Some, option_map, unsigned_abs};
-ghost use Rattle.reply_shape.specs.Numbers.{before_slash, behind_slash, fraction_from, has_fraction_parts, is_fraction_text, lowest_if_small, is_lowest_if_small, whole_value};
+ghost use Rattle.std.specs.Prelude.{◌≡◌, ◌==◌, min, Some, option_map, unsigned_abs};
+ghost use Rattle.reply_shape.specs.Numbers.{before_slash, behind_slash, fraction_from, has_fraction_parts, is_fraction_text, lowest_if_small, is_lowest_if_small, largest_size, whole_value};
 
 use crate::numbers::{is_natural, is_whole, value_of_digits};
 use exact_num::gcd;
 
-// The largest size of a part.
-const LIMIT: u128 = (1 << 127) - 1;
+/// The largest size of a part of a fraction, and of a whole number.
+pub const LIMIT: u128 = (1 << 127) - 1;
 
 /// What stands before the first `/`, and what stands behind it.
 #[derive(Clone, Copy)]
@@ -42,7 +42,7 @@ fn has_denominator(above: &[u8], below: &[u8]) -> bool
 
 // The size of a whole text, or 2^128 - 1 where it is larger.
 fn size_of(text: &[u8]) -> u128
-    ensures { result ≡ min (unsigned_abs (whole_value text.now)) (2 ^ 128 - 1) }
+    ensures { result ≡ min (unsigned_abs (whole_value text.now)) largest_size }
 {
     match text {
         [b'-', digits @ ..] => value_of_digits(digits),

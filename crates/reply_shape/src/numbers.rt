@@ -1,13 +1,13 @@
 //! Texts of numbers.
-ghost use Rattle.std.specs.Prelude.{◌≡◌, ◌-◌, ◌^◌, min};
+ghost use Rattle.std.specs.Prelude.{◌≡◌, min};
 ghost use Rattle.std.specs.Char.{is_ascii_digit};
 ghost use Rattle.std.specs.List.{list_all};
-ghost use Rattle.reply_shape.specs.Numbers.{is_whole_text as whole_text};
+ghost use Rattle.reply_shape.specs.Numbers.{is_whole_text as whole_text, largest_size};
 ghost use Rattle.form.specs.Naturals.{is_natural as natural_text, natural_value};
 
 /// The value of digits, or 2^128 - 1 where it is larger.
 pub fn value_of_digits(digits: &[u8]) -> u128
-    ensures { result ≡ min (natural_value digits.now) (2 ^ 128 - 1) }
+    ensures { result ≡ min (natural_value digits.now) largest_size }
 {
     let mut value = 0u128;
     for digit in digits {

@@ -6,6 +6,7 @@ ghost use Rattle.reply_shape.specs.Shape.{opened_shape as opened_is, moved_shape
 
 use crate::cleared_shape::cleared_shape;
 use crate::look::{has_at, has_members, has_text, has_whole, has_word, is_list, number_at};
+use reply_print::limits::MAX_REFUSAL;
 use reply_print::words::reason;
 use serde_json::Value;
 
@@ -94,7 +95,7 @@ fn refused_shape(value: &Value) -> bool
     has_field(value, number == 8)
         && has_whole(value, "line")
         && 1 <= number
-        && number <= 13
+        && number <= MAX_REFUSAL
         && has_word(value, "reason", reason(number as u32))
 }
 

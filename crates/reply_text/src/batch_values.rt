@@ -75,7 +75,7 @@ fn form_at(alloc: Global, value: &Value) -> Result<Option<Form>, AllocError>
     Ok(listed_form(entries.as_slice()))
 }
 
-// The count of a leg, at most 1000 in size.
+// The count of a leg.
 fn count_at(value: &Value) -> Option<i16>
     ensures { result ≡ count_found (view value.now) }
 {

@@ -1,24 +1,24 @@
 // What is taken out of the value of a line.
-ghost use Rattle.std.specs.Prelude.{◌≡◌, ◌≤◌, ◌<◌, ◌^◌, IfOk, IfSome, Option, codes, option_map};
+ghost use Rattle.std.specs.Prelude.{◌≡◌, ◌≤◌, IfOk, IfSome, Option, codes, option_map};
 ghost use Rattle.serde_json.specs.Data.{Data};
 ghost use Rattle.serde_json.specs.View.{view, items_view};
 ghost use Rattle.reply_shape.specs.Numbers.{whole_value, signed_value};
+ghost use Rattle.frac.specs.Range.{limit};
+ghost use Rattle.reply_print.specs.declared.limits.TheConstants.{MAX_BATCH, MAX_ORDER};
 ghost use Rattle.form.specs.Naturals.{natural_value};
 ghost use Rattle.reply_text.specs.BatchValues.{size_within, whole_from};
 ghost use Rattle.reply_text.specs.ReplyValues.{account_at as account_found, market_at as market_found, size_at as size_found};
 ghost use Rattle.reply_text.specs.Taking.{natural_at as natural_found, take_at, from_to as number_from_to, items_at as items_found, items_map, list_at as list_found, TakesOut};
 
 use form::MAX_UNDERLYINGS;
+use reply_print::limits::{MAX_ACCOUNT, MAX_BATCH, MAX_MARKET, MAX_ORDER};
 use reply_shape::numbers::value_of_digits;
 use serde_json::Value;
 use std::alloc::{AllocError, Global};
 
-// The largest size of a part of a text.
-pub(crate) const LIMIT: u128 = (1 << 127) - 1;
-
 // The number of this size and sign, where the size is at most a bound.
 fn signed_within(is_negative: bool, digits: &[u8], bound: u128) -> Option<i128>
-    requires { bound < 2 ^ 127 }
+    requires { bound ≤ limit }
     ensures { result ≡ size_within bound (signed_value is_negative (natural_value digits.now)) }
 {
     let size = value_of_digits(digits);
@@ -31,7 +31,7 @@ fn signed_within(is_negative: bool, digits: &[u8], bound: u128) -> Option<i128>
 
 // The whole number of a text, where its size is at most a bound.
 pub(crate) fn whole_within(text: &[u8], bound: u128) -> Option<i128>
-    requires { bound < 2 ^ 127 }
+    requires { bound ≤ limit }
     ensures { result ≡ size_within bound (whole_value text.now) }
 {
     match text {
@@ -58,7 +58,7 @@ pub(crate) fn natural_at(value: &Value, low: u64, high: u64, key: &str) -> Optio
 
 // The whole number of the text at a key, where its size is at most a bound.
 pub(crate) fn whole_at(value: &Value, key: &str, bound: u128) -> Option<i128>
-    requires { bound < 2 ^ 127 }
+    requires { bound ≤ limit }
     ensures { result ≡ take_at key.now (whole_from bound) (view value.now) }
 {
     let text = value.get(key).and_then(Value::as_str)?;
@@ -68,14 +68,14 @@ pub(crate) fn whole_at(value: &Value, key: &str, bound: u128) -> Option<i128>
 pub(crate) fn account_at(value: &Value) -> Option<u32>
     ensures { result ≡ account_found (view value.now) }
 {
-    let account = natural_at(value, 1, 999_999_999, "account")?;
+    let account = natural_at(value, 1, MAX_ACCOUNT, "account")?;
     Some(account as u32)
 }
 
 pub(crate) fn market_at(value: &Value) -> Option<u32>
     ensures { result ≡ market_found (view value.now) }
 {
-    let market = natural_at(value, 1, 999_999_999, "market")?;
+    let market = natural_at(value, 1, MAX_MARKET, "market")?;
     Some(market as u32)
 }
 
@@ -88,17 +88,17 @@ pub(crate) fn size_at(value: &Value) -> Option<u8>
 
 // The number of a batch.
 pub(crate) fn batch_at(value: &Value) -> Option<u32>
-    ensures { result ≡ natural_found 1 2000000 (codes "batch") (view value.now) }
+    ensures { result ≡ natural_found 1 MAX_BATCH (codes "batch") (view value.now) }
 {
-    let batch = natural_at(value, 1, 2_000_000, "batch")?;
+    let batch = natural_at(value, 1, MAX_BATCH, "batch")?;
     Some(batch as u32)
 }
 
 // The number of an order.
 pub(crate) fn order_at(value: &Value) -> Option<u64>
-    ensures { result ≡ natural_found 1 1000000 (codes "order") (view value.now) }
+    ensures { result ≡ natural_found 1 MAX_ORDER (codes "order") (view value.now) }
 {
-    natural_at(value, 1, 1_000_000, "order")
+    natural_at(value, 1, MAX_ORDER, "order")
 }
 
 // The items of the list at a key.
