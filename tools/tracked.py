@@ -4,6 +4,8 @@ import subprocess
 
 
 def is_tracked(path: pathlib.Path) -> bool:
-    folder, name = path.resolve().parent, path.resolve().name
-    asked = subprocess.run(["git", "ls-files", "--error-unmatch", name], cwd=folder, capture_output=True)
+    file = path.resolve()
+    if not file.is_file():
+        return False
+    asked = subprocess.run(["git", "ls-files", "--error-unmatch", file.name], cwd=file.parent, capture_output=True)
     return asked.returncode == 0
