@@ -1,9 +1,5 @@
-pub mod AcceptedLaws
-pub mod Commas
 pub mod LineByLine
 pub mod OneInput
-pub mod RepeatLaws
-pub mod ReplyLaws
 pub mod Served
 pub mod TellLaws
 pub mod Written

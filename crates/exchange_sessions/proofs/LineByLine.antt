@@ -6,7 +6,7 @@ use Rattle.std.specs.List.{slice_split}
 use Rattle.std.specs.Prelude.{slice_index}
 use Rattle.command_text.specs.Lines.{without_return, span}
 use Rattle.command_text.proofs.LineParts.{cut_parts, length_span, span_cut}
-use Rattle.exchange_sessions.specs.Lines.{NumberedLine, line_of, line_in, lines_from, lines_in}
+use Rattle.session_lines.specs.Lines.{NumberedLine, line_of, line_in, lines_from, lines_in}
 
 -- one line more
 pub line_more : (texts : List (List ℕ)) (place : ℕ) (piece : List ℕ) → place < length texts → get_or texts place [] ≡ piece → (all items new : List NumberedLine)

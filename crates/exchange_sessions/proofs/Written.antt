@@ -5,9 +5,9 @@ use Rattle.std.proofs.KnownBytes.{Appends-nil, Appends-trans}
 use Rattle.std.specs.Io.KnownBytes.{Appends}
 use Rattle.port_io.specs.Writes.{AppendsFront}
 use Rattle.session_gate.specs.Runs.{Replies, Served}
-use Rattle.exchange_sessions.specs.Answers.{answer_in, answers_from, answers_text, after_said, line_text}
-use Rattle.exchange_sessions.specs.Lines.{NumberedLine}
-use Rattle.exchange_sessions.specs.Messages.{message_in}
+use Rattle.session_lines.specs.Answers.{answer_in, answers_from, answers_text, after_said, line_text}
+use Rattle.session_lines.specs.Lines.{NumberedLine}
+use Rattle.session_lines.specs.Messages.{message_in}
 use Rattle.exchange_sessions.specs.Progress.{HasWritten}
 
 pub none_written : (old : Option (List ℕ)) (all : List ℕ) → HasWritten old old all all

@@ -1,100 +1,45 @@
--- What is promised of the answers to any input.
-use Rattle.std.specs.Prelude.{◌≡◌, ℕ, Bool, true, false, List, [], ◌∷◌, ◌++◌, map, Option, None, Some, Contains, if◌then◌else◌}
-use Rattle.std.specs.Option.{option_map}
-use Rattle.session_gate.specs.declared.answer.Answer.{Answer}
-use Rattle.session_gate.specs.declared.answer.Answer.TheVariants.{First, Repeat, Old, Ahead, Changed, Sessions}
-use Rattle.session_gate.specs.Gate.{Message}
-use Rattle.session_gate.specs.Laws.{bodies_of, numbers_of, AreFrom}
-use Rattle.session_gate.specs.Runs.{Replies, Served, nothing_served}
+-- What is promised of the answers of an exchange to any input.
+use Rattle.std.specs.Prelude.{◌≡◌, ℕ, List}
+use Rattle.exchange_core.specs.ExchangeState.{empty_exchange}
+use Rattle.exchange_lines.specs.LineSteps.{LineStep}
 use Rattle.exchange_lines.specs.Output.{line_output, output}
 use Rattle.exchange_lines.specs.Promises.{IsNoText, TellAnswers}
-use Rattle.exchange_sessions.specs.Answers.{Told, LineAnswer, told_of, after_said, answers_text, answers, sessions_output}
-use Rattle.exchange_sessions.specs.Lines.{NumberedLine, lines_in}
-use Rattle.exchange_sessions.specs.Messages.{message_in}
+use Rattle.session_lines.specs.Answers.{answers_by}
+use Rattle.session_lines.specs.Laws as lines
+use Rattle.session_lines.specs.Laws.{accepted_bodies, as_input, replies_text, told_first}
+use Rattle.session_lines.specs.Served.{reply_by}
+use Rattle.exchange_sessions.specs.Answers.{answers, sessions_output}
 use Rattle.exchange_sessions.specs.Served.{exchange_reply}
 
-abbrev pub is_first : Answer → Bool
-is_first First = true
-is_first Repeat = false
-is_first (Old expected) = false
-is_first (Ahead expected) = false
-is_first (Changed expected) = false
-is_first Sessions = false
+-- ---- by any way of answering lines of an exchange
+-- Bytes are the text of the answers to the lines of an input, by which each message takes effect once, in its session's order. The
+-- bodies as the lines of one input have this output, which keeps what is promised of the answers of this step, with such texts beside a
+-- run's.
+pub record SessionsTold (IsBeside : ℕ → List ℕ → Type 0) (step : LineStep) (output_by : List ℕ → List ℕ) (input bytes : List ℕ) : Type 0 where
+  pub once : lines.TellOnce (reply_by step empty_exchange) output_by input bytes
+  pub promises : TellAnswers IsBeside step (as_input (accepted_bodies (answers_by (reply_by step empty_exchange) input)))
+      (replies_text (told_first (answers_by (reply_by step empty_exchange) input)))
 
-abbrev pub first_in : Option Told → List Told
-first_in None = []
-first_in (Some told) = if is_first told.answer then told ∷ [] else []
-
--- what was told to the messages that were answered First, in order
-abbrev pub told_first : List LineAnswer → List Told
-told_first [] = []
-told_first (answer ∷ more) = first_in answer.told ++ told_first more
-
-abbrev pub accepted_messages : List LineAnswer → List Message
-accepted_messages given = map (λ (told : Told). told.message) (told_first given)
-
-abbrev pub accepted_bodies : List LineAnswer → List (List ℕ)
-accepted_bodies given = bodies_of (accepted_messages given)
-
--- after the lines of an input
-abbrev pub after_lines : Replies → Served → List NumberedLine → Served
-after_lines reply served [] = served
-after_lines reply served (line ∷ lines) = after_lines reply (after_said reply served (message_in line.text)) lines
-
+-- ---- by a run's
 -- The exchange took the bodies of the messages that were answered First, in order.
 abbrev pub TakesAccepted : Type 0
-TakesAccepted = (input : List ℕ) → (after_lines exchange_reply nothing_served (lines_in input)).bodies ≡ accepted_bodies (answers input)
+TakesAccepted = lines.TakesAccepted exchange_reply
 
 -- Those of one session have the numbers 1, 2, 3 and so on, each once.
 abbrev pub AcceptsInOrder : Type 0
-AcceptsInOrder = (input : List ℕ) (session : ℕ) → AreFrom 1 (numbers_of session (accepted_messages (answers input)))
-
--- bodies as the lines of one input
-abbrev pub as_input : List (List ℕ) → List ℕ
-as_input [] = []
-as_input (body ∷ bodies) = body ++ 10 ∷ as_input bodies
-
--- the replies that are told, each with a line feed
-abbrev pub replies_text : List Told → List ℕ
-replies_text [] = []
-replies_text (told ∷ more) = told.reply ++ 10 ∷ replies_text more
+AcceptsInOrder = lines.AcceptsInOrder exchange_reply
 
 -- The replies told to the messages answered First are the output of their bodies as one input.
 abbrev pub RepliesAreOfOneInput : Type 0
 RepliesAreOfOneInput = (input : List ℕ) → replies_text (told_first (answers input)) ≡ output (as_input (accepted_bodies (answers input)))
 
--- a message that is answered Repeat was answered First before, with the same reply
-abbrev pub AreRepeats : List LineAnswer → Type 0
-AreRepeats given = (before later : List LineAnswer) (answer : LineAnswer) (told : Told)
-    → given ≡ before ++ answer ∷ later → answer.told ≡ Some told → told.answer ≡ Repeat
-    → Contains (told_first before) (told_of told.message First told.reply)
-
 -- A Repeat tells the reply that was told to its First.
 abbrev pub RepeatsTellTheSame : Type 0
-RepeatsTellTheSame = (input : List ℕ) → AreRepeats (answers input)
+RepeatsTellTheSame = lines.RepeatsTellTheSame exchange_reply
 
--- ---- of the bytes that are written for an input
--- the number of a line and the message that it says, where it says one
-abbrev pub line_message : NumberedLine → ℕ × Option Message
-line_message line = (line.number, message_in line.text)
-
--- those that an answer is to
-abbrev pub answered_message : LineAnswer → ℕ × Option Message
-answered_message answer = (answer.line, option_map (λ (told : Told). told.message) answer.told)
-
--- they are the text of the answers to its lines, by which each message takes effect once, in its session's order
-pub record TellOnce (input bytes : List ℕ) : Type 0 where
-  pub text : bytes ≡ answers_text (answers input)
-  -- to each line of the input one, in order, to the message that the line says
-  pub to_lines : map answered_message (answers input) ≡ map line_message (lines_in input)
-  -- the messages answered First have, session by session, the numbers 1, 2, 3 and so on
-  pub in_order : (session : ℕ) → AreFrom 1 (numbers_of session (accepted_messages (answers input)))
-  -- the exchange took their bodies
-  pub taken : (after_lines exchange_reply nothing_served (lines_in input)).bodies ≡ accepted_bodies (answers input)
-  -- their replies are the output of these as one input, and keep what is promised of it
-  pub replies : replies_text (told_first (answers input)) ≡ output (as_input (accepted_bodies (answers input)))
-  pub promises : TellAnswers IsNoText line_output (as_input (accepted_bodies (answers input))) (replies_text (told_first (answers input)))
-  pub repeats : AreRepeats (answers input)
+-- they tell each message once, and the bodies are answered as a run's lines
+abbrev pub TellOnce : List ℕ → List ℕ → Type 0
+TellOnce input bytes = SessionsTold IsNoText line_output output input bytes
 
 -- What is written for an input tells each message once.
 abbrev pub OutputTellsOnce : Type 0

@@ -7,20 +7,22 @@ ghost use Rattle.session_gate.specs.declared.limits.TheConstants.{MAX_BODIES};
 ghost use Rattle.session_gate.specs.Bodies.{is_body};
 ghost use Rattle.session_gate.specs.Gate.{IsSession, IsNumber, message_of};
 ghost use Rattle.session_gate.specs.Runs.{with_bodies, after};
-ghost use Rattle.exchange_sessions.specs.Lines.{line_of};
-ghost use Rattle.exchange_sessions.specs.Messages.{message_in};
-ghost use Rattle.exchange_sessions.specs.Texts.{accepted_text, answer_text};
-ghost use Rattle.exchange_sessions.specs.Answers.{kept_reply, after_said, told_text, told_to, line_text, answer_in, answers_from, answers_text, sessions_output};
+ghost use Rattle.session_lines.specs.Lines.{line_of};
+ghost use Rattle.session_lines.specs.Messages.{message_in};
+ghost use Rattle.session_lines.specs.Texts.{accepted_text, answer_text};
+ghost use Rattle.session_lines.specs.Answers.{after_said, told_text, told_to, line_text, answer_in, answers_from, answers_text};
+ghost use Rattle.exchange_sessions.specs.Answers.{sessions_output};
 ghost use Rattle.exchange_sessions.specs.declared.lines.SentLine.{SentLine};
 ghost use Rattle.std.specs.Prelude.{Some};
 
 use crate::lines::{SentLine, sent_lines};
-use crate::messages::{Sent, message};
 use crate::server::ExchangeServer;
 use crate::stop::AnswerStop;
-use crate::texts::{print_expecting, print_head, print_malformed, print_sessions, print_tail};
 use port_io::{Sink, write_all};
 use session_gate::{Answer, Gate, Server};
+use session_lines::kept_reply;
+use session_lines::messages::{Sent, message};
+use session_lines::texts::{print_head, print_malformed, print_refused, print_tail};
 use std::alloc::Global;
 
 // Writes a text whole.
@@ -82,36 +84,9 @@ fn write_told<K: Sink>(
         Rose (K.faults sink.old) (K.faults sink.new) }
     ensures later { K.faults sink.old ≤ K.faults sink.new }
 {
-    let Sent {
-        session,
-        number,
-        ..
-    } = *sent;
-    match answer {
-        Answer::First | Answer::Repeat => write_accepted(alloc, session, number, reply, sink),
-        Answer::Old { expected } => {
-            let text = print_expecting(alloc, line, session, expected, 16, "Old")?;
-            write_text(&text, sink)
-        }
-        Answer::Ahead { expected } => {
-            let text = print_expecting(alloc, line, session, expected, 17, "Ahead")?;
-            write_text(&text, sink)
-        }
-        Answer::Changed { expected } => {
-            let text = print_expecting(alloc, line, session, expected, 18, "Changed")?;
-            write_text(&text, sink)
-        }
-        Answer::Sessions => write_text(&print_sessions(alloc, line, session)?, sink),
-    }
-}
-
-// The kept reply of a session, and nothing where it is not known.
-fn kept_reply(gate: &Gate, session: u32) -> &[u8]
-    ensures { result.now ≡ kept_reply gate.now session }
-{
-    match gate.kept(session) {
-        Some(reply) => reply,
-        None => &[],
+    match print_refused(alloc, line, sent, answer)? {
+        Some(text) => write_text(&text, sink),
+        None => write_accepted(alloc, sent.session, sent.number, reply, sink),
     }
 }
 

@@ -4,10 +4,8 @@
 mod answers;
 pub mod laws;
 mod lines;
-mod messages;
 mod server;
 mod stop;
-mod texts;
 
 pub use answers::answer_messages;
 pub use server::ExchangeServer;

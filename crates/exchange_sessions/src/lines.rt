@@ -2,7 +2,7 @@
 ghost use Rattle.std.specs.Prelude.{◌≡◌, ◌≤◌, ◌++◌, ◌==◌, length, map, IfOk, OnOk};
 ghost use Rattle.std.specs.List.{slice_split};
 ghost use Rattle.command_text.specs.Lines.{without_return};
-ghost use Rattle.exchange_sessions.specs.Lines.{line_of, line_in, lines_from, lines_in};
+ghost use Rattle.session_lines.specs.Lines.{line_of, line_in, lines_from, lines_in};
 ghost use Rattle.exchange_sessions.specs.declared.lines.SentLine.{SentLine};
 
 use std::alloc::{AllocError, Global};

@@ -1,10 +1,11 @@
 // The exchange as a server of bodies.
-ghost use Rattle.std.specs.Prelude.{◌≡◌, ◌-◌, [], false, length, take};
+ghost use Rattle.std.specs.Prelude.{◌≡◌, [], false};
 ghost use Rattle.exchange_sessions.specs.Served.{exchange_reply};
 
 use exchange_core::Exchange;
 use exchange_lines::answer;
 use session_gate::Server;
+use session_lines::without_feed;
 use std::alloc::{AllocError, Global};
 use std::marker::Model;
 
@@ -30,15 +31,6 @@ impl Model for ExchangeServer {
 
     ghost invariant = { λ s.
         IsServing s.is_spent s.exchange (map (λ body. body.items) s.took.items) };
-}
-
-// A line without its line feed.
-fn without_feed(line: Vec<u8>) -> Vec<u8>
-    ensures { result.items ≡ take (length line.items - 1) line.items }
-{
-    let mut bytes = line;
-    bytes.pop();
-    bytes
 }
 
 impl ExchangeServer {

@@ -1,7 +1,7 @@
 use Rattle.std.proofs.Common.{◌<◌, length, map, ◌∙◌, arith}
 use Rattle.std.proofs.lemmas.List.{get_or-map, length-map}
 use Rattle.session_gate.specs.Runs.{with_bodies}
-use Rattle.exchange_sessions.specs.Lines.{line_of}
+use Rattle.session_lines.specs.Lines.{line_of}
 use Rattle.exchange_sessions.specs.declared.lines.SentLine.{SentLine}
 use Rattle.exchange_sessions.proofs.Written.{line_written, line_cut, on_err}
 use Rattle.exchange_sessions.proofs.answers.answer_lines.Goals as goal

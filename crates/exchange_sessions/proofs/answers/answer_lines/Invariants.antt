@@ -1,7 +1,7 @@
 use Rattle.std.proofs.Common.{◌≡◌, ◌≤◌, ◌+◌, false, length, map, drop}
 use Rattle.session_gate.specs.Runs.{with_bodies}
-use Rattle.exchange_sessions.specs.Answers.{answers_from, answers_text}
-use Rattle.exchange_sessions.specs.Lines.{line_of}
+use Rattle.session_lines.specs.Answers.{answers_from, answers_text}
+use Rattle.session_lines.specs.Lines.{line_of}
 use Rattle.exchange_sessions.specs.Progress.{HasWritten}
 use Rattle.exchange_sessions.specs.declared.lines.SentLine.{SentLine}
 use Rattle.exchange_sessions.proofs.answers.answer_lines.Given as goal

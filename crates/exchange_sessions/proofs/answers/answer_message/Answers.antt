@@ -1,8 +1,8 @@
 use Rattle.std.proofs.Common.{OnErr, ap, subst, ◌∙◌}
 use Rattle.port_io.specs.Writes.{AppendsFront}
 use Rattle.session_gate.specs.Gate.{message_of}
-use Rattle.exchange_sessions.specs.Answers.{kept_reply}
-use Rattle.exchange_sessions.specs.Texts.{answer_text}
+use Rattle.session_lines.specs.Answers.{kept_reply}
+use Rattle.session_lines.specs.Texts.{answer_text}
 use Rattle.exchange_sessions.proofs.answers.answer_message.Goals as goal
 
 pub returns-clause-front : goal.returns-clause-front

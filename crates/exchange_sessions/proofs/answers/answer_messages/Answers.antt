@@ -1,8 +1,8 @@
 use Rattle.std.proofs.Common.{OnErr, map, ap, subst, ◌∙◌}
 use Rattle.port_io.specs.Writes.{AppendsFront}
 use Rattle.session_gate.specs.Runs.{with_bodies}
-use Rattle.exchange_sessions.specs.Answers.{answers_from, answers_text}
-use Rattle.exchange_sessions.specs.Lines.{line_of}
+use Rattle.session_lines.specs.Answers.{answers_from, answers_text}
+use Rattle.session_lines.specs.Lines.{line_of}
 use Rattle.exchange_sessions.specs.Served.{exchange_reply}
 use Rattle.exchange_sessions.specs.declared.lines.SentLine.{SentLine}
 use Rattle.exchange_sessions.proofs.answers.answer_messages.Goals as goal

@@ -1,7 +1,7 @@
 use Rattle.std.proofs.Common.{◌≡◌, [], ◌++◌, refl, sym, subst, append-nil, ◌∙◌}
 use Rattle.std.specs.Io.KnownBytes.{Appends}
 use Rattle.port_io.specs.Writes.{AppendsFront}
-use Rattle.exchange_sessions.specs.Texts.{accepted_text, accepted_head, accepted_tail}
+use Rattle.session_lines.specs.Texts.{accepted_text, accepted_head, accepted_tail}
 use Rattle.exchange_sessions.proofs.Written.{none_written, more_written, text_cut, on_err}
 use Rattle.exchange_sessions.proofs.answers.write_accepted.Goals as goal
 

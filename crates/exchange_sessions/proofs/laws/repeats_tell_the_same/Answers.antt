@@ -1,5 +1,6 @@
-use Rattle.exchange_sessions.proofs.RepeatLaws.{repeats_tell_the_same}
+use Rattle.exchange_sessions.specs.Served.{exchange_reply}
 use Rattle.exchange_sessions.proofs.laws.repeats_tell_the_same.Goals as goal
+use Rattle.session_lines.proofs.RepeatLaws.{repeats_tell_the_same}
 
 pub returns : goal.returns
-returns c = repeats_tell_the_same
+returns c = repeats_tell_the_same exchange_reply

@@ -1,6 +1,6 @@
 use Rattle.std.proofs.Common.{◌<◌, [], length, map, arith}
 use Rattle.std.proofs.lemmas.List.{get_or-map, length-map}
-use Rattle.exchange_sessions.specs.Lines.{line_of, lines_from}
+use Rattle.session_lines.specs.Lines.{line_of, lines_from}
 use Rattle.exchange_sessions.specs.declared.lines.SentLine.{SentLine}
 use Rattle.exchange_sessions.proofs.LineByLine.{line_more}
 use Rattle.exchange_sessions.proofs.lines.number_lines.Goals as goal

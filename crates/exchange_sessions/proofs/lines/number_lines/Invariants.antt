@@ -1,5 +1,5 @@
 use Rattle.std.proofs.Common.{◌≡◌, ◌+◌, ◌++◌, map, drop}
-use Rattle.exchange_sessions.specs.Lines.{line_of, lines_from}
+use Rattle.session_lines.specs.Lines.{line_of, lines_from}
 use Rattle.exchange_sessions.specs.declared.lines.SentLine.{SentLine}
 use Rattle.exchange_sessions.proofs.lines.number_lines.Given as goal
 

@@ -1,9 +1,9 @@
 use Rattle.std.proofs.Common.{length, map, ap, ◌∙◌, arith}
 use Rattle.std.proofs.lemmas.List.{length-map}
 use Rattle.std.proofs.lemmas.Result.{IfOk-weaker}
-use Rattle.exchange_sessions.specs.Lines.{line_of}
+use Rattle.session_lines.specs.Lines.{line_of}
 use Rattle.exchange_sessions.specs.declared.lines.SentLine.{SentLine}
-use Rattle.exchange_sessions.specs.Lines.{lines_from}
+use Rattle.session_lines.specs.Lines.{lines_from}
 use Rattle.exchange_sessions.proofs.LineByLine.{length-pieces, length-lines_in}
 use Rattle.exchange_sessions.proofs.lines.sent_lines.Goals as goal
 
