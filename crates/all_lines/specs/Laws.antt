@@ -10,7 +10,8 @@ use Rattle.all_lines.specs.Output.{IsBesideText, all_line}
 abbrev pub AllAnswerAsRun : Type 0
 AllAnswerAsRun = AnswersAsRun IsBesideText all_line
 
--- between two reads the output of an input, whose mark is skipped, is that of its lines
+-- by any way of answering, what is written for an input that is answered between two reads, its mark at the start skipped, is what is
+-- written for its lines one after another
 abbrev pub OutputsAreOfLines : Type 0
 OutputsAreOfLines = (step : LineStep) (input : List ℕ) → live.output_of step true empty_exchange input ≡ output_of step input
 

@@ -17,7 +17,7 @@ is_quote fields = bytes_eq (text_of fields 1) (codes "quote")
 abbrev pub asks_quote : List ℕ → Bool
 asks_quote line = option_map_or is_quote (fields_of_line line) false
 
--- a line that asks for one begins with the letter q or with a quotation mark
+-- it begins with the letter q or with a quotation mark, as each line does that asks for one; no other need be read to its first field
 abbrev pub may_ask_quote : List ℕ → Bool
 may_ask_quote [] = false
 may_ask_quote (b ∷ bs) = (b == 113) || (b == 34)

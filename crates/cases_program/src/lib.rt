@@ -14,6 +14,8 @@ mod journals;
 #[cfg(test)]
 mod running;
 #[cfg(test)]
+mod served;
+#[cfg(test)]
 mod session_texts;
 #[cfg(test)]
 mod sessions;

@@ -1,2 +1,3 @@
+pub mod AnsweredLive
 pub mod Served
 pub mod Written

@@ -10,6 +10,7 @@ use Rattle.journal_check.specs.Reports.{report_of}
 use Rattle.journal_check.specs.declared.reports.Report.{Report}
 use Rattle.journal_check.specs.declared.reports.Report.TheVariants.{Sound, Faulty}
 use Rattle.journal_check.proofs.ReportsSay.{reports_say}
+use Rattle.all_lines.proofs.Outputs.{outputs_tell}
 use Rattle.exchange_lines.specs.Promises.{TellAnswers}
 use Rattle.exchange_lines.proofs.AsRun.{runs_tell_answers}
 use Rattle.exchange_sessions.proofs.TellLaws.{output_tells_once}
@@ -17,7 +18,7 @@ use Rattle.guarded_lines.proofs.AsRun.{guarded_tell_answers}
 use Rattle.program_words.specs.declared.requests.Mode.{Mode}
 use Rattle.program_words.specs.declared.requests.Mode.TheVariants.{Run, Quotes, Guarded}
 use Rattle.program_words.specs.declared.requests.Request.{Request}
-use Rattle.program_words.specs.declared.requests.Request.TheVariants.{Lines, Check, Sessions, Demo}
+use Rattle.program_words.specs.declared.requests.Request.TheVariants.{Lines, Check, Sessions, Serve, Demo}
 use Rattle.quote_lines.proofs.AsRun.{quotes_tell_answers}
 use Rattle.exchange_program.specs.Modes.{IsBesideIn, mode_output, step_in}
 use Rattle.exchange_program.specs.Requests.{NamesFault, OfInput, OfSomeInput, Promised, WhereCheck, output_for, status_by, status_for}
@@ -35,6 +36,7 @@ promised : (request : Request) (input : List ℕ) → Promised request input (ou
 promised (Lines mode) input = told_in mode input
 promised Check input = tt
 promised Sessions input = output_tells_once input
+promised Serve input = outputs_tell input
 promised (Demo seed count) input = tt
 
 -- some bytes are read
@@ -58,6 +60,7 @@ some_input : (request : Request) (left : Option (List ℕ)) → (input : List �
 some_input (Lines mode) left = if_told left
 some_input Check left = if_told left
 some_input Sessions left = if_told left
+some_input Serve left = if_told left
 some_input (Demo seed count) left = ([], refl)
 
 -- nothing at all is a front of it
@@ -86,6 +89,7 @@ module _ (status : Status) (bytes : List ℕ) where
   sound Check (Some input) all is done =
       subst (λ (b : List ℕ). All IsSoundLine (lines_of b)) all (all_sound (lines_of bytes) (report_of bytes) (reports_say bytes) (sym is ∙ done))
   sound Sessions left all is done = tt
+  sound Serve left all is done = tt
   sound (Demo seed count) left all is done = tt
 
   pub faulty : (request : Request) (left : Option (List ℕ)) → OfInput request left (λ input. bytes ≡ input) → status ≡ status_for request bytes → status ≡ CheckNo
@@ -94,6 +98,7 @@ module _ (status : Status) (bytes : List ℕ) where
   faulty Check None all is failed = tt
   faulty Check (Some input) all is failed = subst NamesFault all (names_fault bytes (report_of bytes) refl (reports_say bytes) (sym is ∙ failed))
   faulty Sessions left all is failed = tt
+  faulty Serve left all is failed = tt
   faulty (Demo seed count) left all is failed = tt
 
 -- ---- no answer to a request is Usage
@@ -105,4 +110,5 @@ pub known : (request : Request) (input : List ℕ) (status : Status) → status 
 known (Lines mode) input status is usage = cc
 known Check input status is usage = report_known (report_of input) (sym is ∙ usage)
 known Sessions input status is usage = cc
+known Serve input status is usage = cc
 known (Demo seed count) input status is usage = cc

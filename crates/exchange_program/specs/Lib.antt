@@ -1,4 +1,5 @@
 pub mod Failures
+pub mod Live
 pub mod Modes
 pub mod Requests
 pub mod Status

@@ -5,6 +5,7 @@ mod check;
 mod demo;
 mod failure;
 mod lines;
+mod live;
 mod modes;
 mod program;
 mod serving;

@@ -8,9 +8,11 @@ ghost use Rattle.port_io.specs.Writes.{AppendsFront};
 ghost use Rattle.journal_check.specs.JournalLines.{lines_of};
 ghost use Rattle.journal_check.specs.Laws.{IsSoundLine};
 ghost use Rattle.program_words.specs.Requests.{request_of};
-ghost use Rattle.exchange_program.specs.Requests.{Asked, HasEnded, IsInputWithin, IsReadWhole, NamesFault, OfInput, OfSomeInput, Promised, WhereCheck, WhereDemo, input_limit, output_for, status_for};
+ghost use Rattle.exchange_program.specs.Live.{ServedAt};
+ghost use Rattle.exchange_program.specs.Requests.{Asked, HasEnded, IsInputWithin, IsPastLimit, IsReadFirst, IsReadWhole, NamesFault, OfInput, OfSomeInput, Promised, WhereCheck, WhereDemo, WhereServe, WithLimit, output_for, past_size, status_for};
 ghost use Rattle.exchange_program.specs.Wrote.{Wrote, WroteFront};
 
+use crate::live::answer_live;
 use crate::serving::serve;
 use crate::status::Status;
 use port_io::{Sink, Source};
@@ -23,8 +25,9 @@ use std::alloc::Global;
 /// answers at which prices a further order raises the greatest surplus. `guarded` does the same as `run` and also answers which
 /// liability covers an account's positions, and it refuses a withdrawal below what the account needs. `check` reads reply lines
 /// to their end and writes one report line: that all are sound, with their counts, or the first that is not, and why.
-/// `sessions` reads messages to their end and answers each, once and in its session's order. `demo` with a seed and a number of
-/// orders reads nothing, runs the text that it makes from them, and writes one summary line.
+/// `sessions` reads messages to their end and answers each, once and in its session's order. `serve` answers lines of every kind,
+/// those of `quotes` and of `guarded`, and has written the answers to all lines that are complete before it reads on. `demo` with
+/// a seed and a number of orders reads nothing, runs the text that it makes from them, and writes one summary line.
 pub fn exchange<S: Source, K: Sink>(
     alloc: Global,
     words: &[String],
@@ -84,23 +87,35 @@ pub fn exchange<S: Source, K: Sink>(
     ensures read_fault { result ≡ Status.ReadFault →
         Rose (S.faults source.old) (S.faults source.new) }
     ensures read_fault_in_time { result ≡ Status.ReadFault →
+        Asked (map string_bytes words.now) (λ request. WithLimit request (λ limit.
+        (S.taken source.new ≤ S.taken source.old + limit)
+        × TakesUpTo (S.left source.old) (S.left source.new) limit)) }
+    ensures silent { (result ≡ Status.ReadFault) ⊎ (result ≡ Status.TooLong) →
         Asked (map string_bytes words.now) (λ request.
-        (S.taken source.new ≤ S.taken source.old + input_limit request)
-        × TakesUpTo (S.left source.old) (S.left source.new) (input_limit request)) }
-    ensures silent { (result ≡ Status.ReadFault) ⊎ (result ≡ Status.TooLong) → sink.new ≡ sink.old }
+        IsReadFirst request → sink.new ≡ sink.old) }
     ensures write_fault { result ≡ Status.WriteFault →
         Rose (K.faults sink.old) (K.faults sink.new) }
     ensures too_long { result ≡ Status.TooLong →
         Asked (map string_bytes words.now) (λ request.
-        OfInput request (S.left source.old) (λ input. input_limit request < length input)) }
+        OfInput request (S.left source.old) (IsPastLimit request)) }
     ensures too_long_no_fault { result ≡ Status.TooLong →
         S.faults source.new ≡ S.faults source.old }
     ensures too_many { result ≡ Status.TooLong →
         Asked (map string_bytes words.now) (λ request.
-        raised_by (S.taken source.old) (input_limit request + 1) ≤ S.taken source.new) }
+        raised_by (S.taken source.old) (past_size request) ≤ S.taken source.new) }
     ensures within { HasEnded result ⊎ (result ≡ Status.WriteFault) →
         Asked (map string_bytes words.now) (λ request.
-        OfInput request (S.left source.old) (λ input. length input ≤ input_limit request)) }
+        OfInput request (S.left source.old) (λ input.
+        WithLimit request (λ limit. length input ≤ limit))) }
+
+    // Between two reads the output of the complete lines was written, so it is at each status what it was then.
+    ensures served { Asked (map string_bytes words.now) (λ request.
+        WhereServe request (ServedAt result (record {
+          left = S.left source.old;
+          still = S.left source.new;
+          written = K.written sink.old;
+          writes = K.written sink.new;
+        }))) }
 
     // Within the limit and without a fault, the output is written, or there was no memory.
     ensures complete { Asked (map string_bytes words.now) (λ request.
@@ -110,6 +125,7 @@ pub fn exchange<S: Source, K: Sink>(
         HasEnded result ⊎ (result ≡ Status.Memory)) }
 {
     match request(alloc, words) {
+        Ok(Request::Serve) => answer_live(alloc, source, sink),
         Ok(request) => serve(alloc, request, source, sink),
         Err(WordsFault::Usage) => Status::Usage,
         Err(WordsFault::Memory) => Status::Memory,

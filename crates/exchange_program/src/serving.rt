@@ -8,7 +8,7 @@ ghost use Rattle.port_io.specs.Writes.{AppendsFront};
 ghost use Rattle.journal_check.specs.JournalLines.{lines_of};
 ghost use Rattle.journal_check.specs.Laws.{IsSoundLine};
 ghost use Rattle.program_words.specs.Requests.{IsRequestWithin};
-ghost use Rattle.exchange_program.specs.Requests.{HasEnded, IsInputWithin, IsReadWhole, NamesFault, OfInput, OfSomeInput, Promised, WhereCheck, WhereDemo, input_limit, output_for, status_for};
+ghost use Rattle.exchange_program.specs.Requests.{HasEnded, IsInputWithin, IsPastLimit, IsReadFirst, IsReadWhole, NamesFault, OfInput, OfSomeInput, Promised, WhereCheck, WhereDemo, WithLimit, output_for, past_size, status_for};
 ghost use Rattle.exchange_program.specs.Wrote.{Wrote, WroteFront};
 
 use crate::check::{MAX_JOURNAL, report_on};
@@ -23,29 +23,32 @@ use std::alloc::Global;
 
 // The bytes that the request is about: those that were left, or none.
 fn input_of<S: Source>(alloc: Global, request: Request, source: &mut S) -> Result<Vec<u8>, ReadStop>
+    requires { IsReadFirst request }
     ensures all { IfOk result (λ bytes.
         OfInput request (S.left source.old) (λ input. bytes.items ≡ input)) }
     ensures whole { OnOk result (IsReadWhole request (S.left source.old) (S.left source.new)) }
-    ensures within { IfOk result (λ bytes. length bytes.items ≤ input_limit request) }
+    ensures within { IfOk result (λ bytes.
+        WithLimit request (λ limit. length bytes.items ≤ limit)) }
     ensures calm { OnOk result (S.faults source.new ≡ S.faults source.old) }
     ensures unread { WhereDemo request (source.new ≡ source.old) }
     ensures no_fault { IsErrOf result ReadStop.ReadFault → WhereDemo request ⊥ }
     ensures fault { IsErrOf result ReadStop.ReadFault →
         Rose (S.faults source.old) (S.faults source.new) }
-    ensures in_time { IsErrOf result ReadStop.ReadFault →
-        (S.taken source.new ≤ S.taken source.old + input_limit request)
-        × TakesUpTo (S.left source.old) (S.left source.new) (input_limit request) }
+    ensures in_time { IsErrOf result ReadStop.ReadFault → WithLimit request (λ limit.
+        (S.taken source.new ≤ S.taken source.old + limit)
+        × TakesUpTo (S.left source.old) (S.left source.new) limit) }
     ensures too_long { IsErrOf result ReadStop.TooLong →
-        OfInput request (S.left source.old) (λ input. input_limit request < length input) }
+        OfInput request (S.left source.old) (IsPastLimit request) }
     ensures no_fault_before { IsErrOf result ReadStop.TooLong →
         S.faults source.new ≡ S.faults source.old }
     ensures too_many { IsErrOf result ReadStop.TooLong →
-        raised_by (S.taken source.old) (input_limit request + 1) ≤ S.taken source.new }
+        raised_by (S.taken source.old) (past_size request) ≤ S.taken source.new }
 {
     match request {
         Request::Lines(_) | Request::Sessions => read_all(alloc, source, MAX_INPUT),
         Request::Check => read_all(alloc, source, MAX_JOURNAL),
         Request::Demo { .. } => Ok(Vec::new(alloc)),
+        Request::Serve => unreachable!(),
     }
 }
 
@@ -57,7 +60,8 @@ fn respond<K: Sink>(
     sink: &mut K,
 ) -> Result<Status, AnswerFailure>
     requires asked { IsRequestWithin request }
-    requires within { length input.now ≤ input_limit request }
+    requires first { IsReadFirst request }
+    requires within { WithLimit request (λ limit. length input.now ≤ limit) }
     ensures status { IfOk result (λ status. status ≡ status_for request input.now) }
     ensures ok { OnOk result
         (Appends (K.written sink.old) (K.written sink.new) (output_for request input.now)) }
@@ -81,17 +85,19 @@ fn respond<K: Sink>(
             write_demo(alloc, seed, count, sink)?;
             Ok(Status::Done)
         }
+        Request::Serve => unreachable!(),
     }
 }
 
-// Reads the input of a request, and writes what it asks for.
+// Reads the input of a request, and then writes what it asks for.
 pub(crate) fn serve<S: Source, K: Sink>(
     alloc: Global,
     request: Request,
     source: &mut S,
     sink: &mut K,
 ) -> Status
-    requires { IsRequestWithin request }
+    requires asked { IsRequestWithin request }
+    requires first { IsReadFirst request }
     ensures known { result ≢ Status.Usage }
 
     // What is written is the defined output of all bytes that were left, and the status is theirs.
@@ -129,20 +135,21 @@ pub(crate) fn serve<S: Source, K: Sink>(
     // Each other status has its cause.
     ensures read_fault { result ≡ Status.ReadFault →
         Rose (S.faults source.old) (S.faults source.new) }
-    ensures read_fault_in_time { result ≡ Status.ReadFault →
-        (S.taken source.new ≤ S.taken source.old + input_limit request)
-        × TakesUpTo (S.left source.old) (S.left source.new) (input_limit request) }
+    ensures read_fault_in_time { result ≡ Status.ReadFault → WithLimit request (λ limit.
+        (S.taken source.new ≤ S.taken source.old + limit)
+        × TakesUpTo (S.left source.old) (S.left source.new) limit) }
     ensures silent { (result ≡ Status.ReadFault) ⊎ (result ≡ Status.TooLong) → sink.new ≡ sink.old }
     ensures write_fault { result ≡ Status.WriteFault →
         Rose (K.faults sink.old) (K.faults sink.new) }
     ensures too_long { result ≡ Status.TooLong →
-        OfInput request (S.left source.old) (λ input. input_limit request < length input) }
+        OfInput request (S.left source.old) (IsPastLimit request) }
     ensures too_long_no_fault { result ≡ Status.TooLong →
         S.faults source.new ≡ S.faults source.old }
     ensures too_many { result ≡ Status.TooLong →
-        raised_by (S.taken source.old) (input_limit request + 1) ≤ S.taken source.new }
+        raised_by (S.taken source.old) (past_size request) ≤ S.taken source.new }
     ensures within { HasEnded result ⊎ (result ≡ Status.WriteFault) →
-        OfInput request (S.left source.old) (λ input. length input ≤ input_limit request) }
+        OfInput request (S.left source.old) (λ input.
+        WithLimit request (λ limit. length input ≤ limit)) }
 
     // Within the limit and without a fault, the output is written, or there was no memory.
     ensures complete { IsInputWithin request (S.left source.old) →

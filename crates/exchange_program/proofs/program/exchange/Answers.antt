@@ -1,5 +1,8 @@
-use Rattle.std.proofs.Common.{map, string_bytes}
+use Rattle.std.proofs.Common.{Some, map, string_bytes, ap, ◌∙◌}
 use Rattle.program_words.specs.Requests.{request_of}
+use Rattle.program_words.specs.declared.requests.Request.TheVariants.{Serve}
+use Rattle.live_lines.proofs.Serves.{known_of}
+use Rattle.exchange_program.proofs.AnsweredLive.{asked, nothing_served_yet, told_all, told_part}
 use Rattle.exchange_program.proofs.Served.{nothing_told_yet}
 use Rattle.exchange_program.proofs.program.exchange.Goals as goal
 
@@ -9,3 +12,24 @@ returns-in-Ok-clause-usage g c = λ usage. absurd (c.serve.ensures.known usage)
 pub returns-in-Err-Memory-clause-told_front : goal.returns-in-Err-Memory-clause-told_front
 returns-in-Err-Memory-clause-told_front g c = λ ended.
     nothing_told_yet (request_of (map string_bytes c.args.words.now)) (g.S.Source.left c.args.source.now) (g.K.Sink.written c.args.sink.now)
+
+pub returns-in-Err-Memory-clause-served : goal.returns-in-Err-Memory-clause-served
+returns-in-Err-Memory-clause-served g c =
+    nothing_served_yet (request_of (map string_bytes c.args.words.now)) (g.S.Source.left c.args.source.now) (g.K.Sink.written c.args.sink.now)
+
+-- ---- lines answered between two reads
+pub returns-in-Ok-Serve-clause-front : goal.returns-in-Ok-Serve-clause-front
+returns-in-Ok-Serve-clause-front g c = λ which.
+    asked (request_of (map string_bytes c.args.words.now)) Serve _ (c.in-Ok-Serve.ensures.ok ∙ ap Some c.in-Ok-Serve.field-0-is) (c.answer_live.ensures.front which)
+
+pub returns-in-Ok-Serve-clause-told : goal.returns-in-Ok-Serve-clause-told
+returns-in-Ok-Serve-clause-told g c = λ is.
+    let known = known_of (g.S.Source.left c.args.source.now) (g.S.Source.left c.answer_live.new.source) (g.K.Sink.written c.args.sink.now) (g.K.Sink.written c.answer_live.new.sink) in
+    asked (request_of (map string_bytes c.args.words.now)) Serve _ (c.in-Ok-Serve.ensures.ok ∙ ap Some c.in-Ok-Serve.field-0-is)
+    (told_all known c.answer_live.result c.answer_live.ensures.served is)
+
+pub returns-in-Ok-Serve-clause-told_front : goal.returns-in-Ok-Serve-clause-told_front
+returns-in-Ok-Serve-clause-told_front g c = λ which.
+    let known = known_of (g.S.Source.left c.args.source.now) (g.S.Source.left c.answer_live.new.source) (g.K.Sink.written c.args.sink.now) (g.K.Sink.written c.answer_live.new.sink) in
+    asked (request_of (map string_bytes c.args.words.now)) Serve _ (c.in-Ok-Serve.ensures.ok ∙ ap Some c.in-Ok-Serve.field-0-is)
+    (told_part known c.answer_live.result c.answer_live.ensures.served which (c.answer_live.ensures.front which))
