@@ -3,10 +3,10 @@
 ghost use Rattle.command_text.specs.Within.{BodyIsWithin};
 
 use anyhow::{Context, Result, bail};
-use clearing::{Pass, clear_first};
 use command_text::{Body, Command, commands};
 use exchange_core::{Exchange, Reply};
 use frac::Frac64;
+use narrow_clearing::{Pass, clear_first};
 use port_io::{StdSource, read_all};
 use std::alloc::Global;
 

@@ -5,10 +5,10 @@ ghost use Rattle.command_text.specs.Within.{BodyIsWithin};
 
 use crate::cases::PASSES;
 use anyhow::{Context, Result, bail, ensure};
-use clearing::{Pass, Room, clear_in};
 use command_text::{Body, Command, commands};
 use exact_num::Exact;
 use form::Batch;
+use narrow_clearing::{Pass, Room, clear_in};
 use order_book::{Book, NewOrder};
 use std::alloc::{AllocError, Global};
 

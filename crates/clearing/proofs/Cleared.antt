@@ -10,11 +10,10 @@ use Rattle.cert_check.specs.declared.outcome.Judgement.TheVariants.{Yes}
 use Rattle.cert_check.specs.Conditions.{IfOptimal}
 use Rattle.cert_check.specs.Events.{verdict_of}
 use Rattle.cert_check.specs.Laws.{IsCovered, IsMeasured, IsProved}
-use Rattle.clearing.specs.Outcome.{IsMarked, outcome_of}
-use Rattle.clearing.specs.Passes.{HasEnoughUnits}
+use Rattle.clearing.specs.Outcome.{HasEnoughUnits, IsMarked, outcome_of}
 use Rattle.clearing.proofs.Marks.{outcomes_are_marked}
 use Rattle.clearing.proofs.Outcomes.{outcomes_are_within, outcomes_are_covered, outcomes_are_measured, optimal_is_greatest}
-use Rattle.clearing.proofs.NarrowRuns.{units_suffice}
+use Rattle.clearing.proofs.EnoughUnits.{units_suffice}
 use Rattle.clearing.proofs.Yes.{outcomes_are_judged_yes}
 
 pub record IsCleared (batch : Batch) (units : ℕ) (outcome : Outcome) : Type 0 where

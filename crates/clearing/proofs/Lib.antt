@@ -7,5 +7,5 @@ pub mod Judged
 pub mod Fitting
 pub mod Yes
 pub mod Marks
-pub mod NarrowRuns
+pub mod EnoughUnits
 pub mod Cleared

@@ -11,8 +11,7 @@ use Rattle.cert_check.specs.declared.outcome.Judgement.TheVariants.{Yes}
 use Rattle.cert_check.specs.Conditions.{IfOptimal, Meets, conditions}
 use Rattle.cert_check.specs.Events.{verdict_of}
 use Rattle.cert_check.specs.Laws.{IsCovered, IsMeasured, IsProved}
-use Rattle.clearing.specs.Outcome.{IsMarked, outcome_of}
-use Rattle.clearing.specs.Passes.{HasEnoughUnits}
+use Rattle.clearing.specs.Outcome.{HasEnoughUnits, IsMarked, outcome_of}
 
 -- a fact of the outcome of each batch within the limits of the exchange, with any number of units
 abbrev pub OfEachOutcome : (Batch → Outcome → Type 0) → Type 0

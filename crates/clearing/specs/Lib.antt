@@ -1,6 +1,5 @@
 pub mod Outcome
 pub mod Premiums
-pub mod Passes
 pub mod Rooms
 pub mod Laws
 pub mod RunSteps

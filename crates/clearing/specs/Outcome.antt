@@ -1,5 +1,5 @@
 -- The outcome of a batch: what the reference run clears, or where it stops, the match of each bundle by itself.
-use Rattle.std.specs.Prelude.{ℕ, ◌≡◌, List, [], ◌∷◌, map, pos, Bool, true, ◌&&◌, if◌then◌else◌}
+use Rattle.std.specs.Prelude.{ℕ, ◌≡◌, ◌≤◌, List, [], ◌∷◌, map, pos, Bool, true, ◌&&◌, if◌then◌else◌}
 use Rattle.exact_num.specs.Fraction.{Fraction, whole}
 use Rattle.frac.specs.declared.frac128.Frac128.{Frac128}
 use Rattle.frac.specs.Range.{limit as largest}
@@ -28,8 +28,9 @@ use Rattle.each_match.specs.Laws.{match_of}
 use Rattle.master_program.specs.Reading.{Reading}
 use Rattle.rounds.specs.declared.joint.Joint.{Joint}
 use Rattle.rounds.specs.Answers.{IsCoverAs, claimed_in, limits_of, reading_in}
-use Rattle.rounds.specs.Run.{WrittenCover, by_line, by_tree, Solution, joint_run}
-use Rattle.table_run.specs.Ending.{Ending, done, wide_at, no_unit_left, unbounded}
+use Rattle.rounds.specs.Laws.{choices_of}
+use Rattle.rounds.specs.Run.{WrittenCover, by_line, by_tree, Solution, joint_run, sums_of}
+use Rattle.table_run.specs.Ending.{Ending, done, wide_at, no_unit_left, unbounded, on_answer, where_fits}
 
 -- a point of the model as one of the code
 abbrev pub weighted_of : Point → Weighted
@@ -109,6 +110,10 @@ outcome_at orders units (wide_at spent wide) = fallback orders (Wide wide) spent
 outcome_at orders units (no_unit_left spent) = fallback orders Budget units
 outcome_at orders units (unbounded d spent) = fallback orders Budget units
 
+-- the end of a run of the batch after the sums of the verdict
+abbrev pub judged : Batch → Ending Solution → Ending Solution
+judged batch end = on_answer end (where_fits (sums_of largest batch.underlyings batch.orders))
+
 -- the run of a batch with at most so many units
 abbrev pub run_of : Batch → ℕ → Ending Solution
 run_of batch units = joint_run (limits_of largest units) batch.underlyings batch.orders 0
@@ -135,3 +140,8 @@ EndsAs end units outcome Budget = ((spent : ℕ) × (end ≡ no_unit_left spent)
 
 abbrev pub IsMarked : Batch → ℕ → Outcome → Type 0
 IsMarked batch units outcome = EndsAs (run_of batch units) units outcome outcome.mark
+
+-- on one underlying the mark is not for want of a unit, where there are as many as ways to choose the basic variables of the
+-- batch's master program
+abbrev pub HasEnoughUnits : Batch → ℕ → Outcome → Type 0
+HasEnoughUnits batch units outcome = batch.underlyings ≡ 1 → choices_of batch.orders ≤ units → outcome.mark ≡ Budget → ⊥

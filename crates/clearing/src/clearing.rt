@@ -1,6 +1,6 @@
-//! The clearing of a batch: in narrow numbers first, and where one does not fit, in 128 bits.
-ghost use Rattle.std.specs.Prelude.{◌≡◌, ◌≤◌, IfOk, map, unsigned_abs};
-ghost use Rattle.frac.specs.Range.{limit as largest, narrow_limit};
+//! The clearing of a batch: a run, and at its end the outcome that it proves, or the match of each bundle by itself.
+ghost use Rattle.std.specs.Prelude.{◌≡◌, ◌≤◌, IfOk, length, map};
+ghost use Rattle.frac.specs.Range.{limit as largest};
 ghost use Rattle.frac.specs.Value.{fraction_of};
 ghost use Rattle.clearing_model.specs.Certificate.{AreFractionFills};
 ghost use Rattle.form.specs.Limits.{IsWithinLimits};
@@ -8,19 +8,19 @@ ghost use Rattle.cert_check.specs.declared.outcome.Judgement.TheVariants.{Yes};
 ghost use Rattle.cert_check.specs.Conditions.{IfOptimal};
 ghost use Rattle.cert_check.specs.Events.{verdict_of};
 ghost use Rattle.cert_check.specs.Laws.{IsCovered, IsMeasured, IsProved};
-ghost use Rattle.rounds.specs.Answers.{IsJointAnswer, as_stopped};
-ghost use Rattle.clearing.specs.Outcome.{IsMarked, IsOptimalOutcome, outcome_of, run_of};
-ghost use Rattle.clearing.specs.Passes.{HasEnoughUnits, IsPass, unjudged_in};
-ghost use Rattle.clearing.specs.Rooms.{IsBroadRoom, IsFirstRoom, IsMatchOf};
+ghost use Rattle.cert_check.specs.Tests.{AreSigns};
+ghost use Rattle.rounds.specs.Answers.{IsJointAnswer, IsJointOf, as_stopped};
+ghost use Rattle.rounds.specs.Run.{Solution};
+ghost use Rattle.table_run.specs.Ending.{Ending};
+ghost use Rattle.clearing.specs.Outcome.{HasEnoughUnits, IsMarked, IsOptimalOutcome, judged, outcome_of, run_of};
+ghost use Rattle.clearing.specs.Rooms.{IsClearRoom, IsEndRoom, IsMatchOf};
 
 use crate::fallback::{Matched, fallback};
-use crate::passes::Pass;
-use crate::room::{BroadRoom, FirstRoom, Room};
+use crate::room::ClearRoom;
 use cert_check::{Claim, Fills, Mark, Outcome};
-use exact_num::Exact;
 use form::Batch;
 use frac::Frac128;
-use rounds::{Joint, judge_in, solve_unjudged_in};
+use rounds::{Joint, judge};
 use simplex::{Budget, RunStop};
 use std::alloc::{AllocError, Global};
 
@@ -61,107 +61,61 @@ fn outcome_at(
     }
 }
 
-/// The outcome of a batch by a run in 128 bits.
-fn broad_outcome(batch: &Batch, limit: u32, room: &mut BroadRoom) -> Outcome
-    requires within { IsWithinLimits batch.now }
-    requires limit { limit ≤ 20000 }
-    requires room { IsBroadRoom batch.now limit room.old }
-    ensures { result ≡ outcome_of batch.now limit }
-{
-    let mut budget = Budget::new(limit);
-    let end = room.run.solve(batch, &mut budget, &mut room.sums);
-    outcome_at(limit, end, budget.spent, room.matched.take())
-}
-
-/// The outcome of a batch by a run in these numbers, where each number before the sums of the verdict fits, and else by a run
-/// in 128 bits. The sums are in 128 bits.
-fn outcome_first<N: Exact>(batch: &Batch, limit: u32, room: FirstRoom<N>) -> (Outcome, Pass)
-    requires within { IsWithinLimits batch.now }
-    requires limit { limit ≤ 20000 }
-    requires narrow { unsigned_abs N.LIMIT ≤ largest }
-    requires room { IsFirstRoom batch.now limit room }
-    ensures outcome { result.0 ≡ outcome_of batch.now limit }
-    ensures pass { IsPass (unjudged_in (unsigned_abs N.LIMIT) batch.now limit) result.1 }
-{
-    let FirstRoom { first, mut broad } = room;
-    let mut budget = Budget::new(limit);
-    match solve_unjudged_in(batch, &mut budget, first) {
-        Ok(joint) => {
-            let end = judge_in(batch, joint, budget.spent, broad.sums);
-            let outcome = outcome_at(limit, end, budget.spent, broad.matched);
-            (outcome, Pass::Narrow)
-        }
-        Err(RunStop::Budget) => {
-            let outcome = fallback(broad.matched, Mark::Budget, limit);
-            (outcome, Pass::Narrow)
-        }
-        Err(RunStop::Wide { .. }) => (broad_outcome(batch, limit, &mut broad), Pass::Broad),
-    }
-}
-
-/// Clears a batch in given room as `clear` does, and tells in which numbers: the master programs, searches and rounds are run
-/// in 64 bits first. It takes no memory, and has no other answer.
-pub fn clear_in(batch: &Batch, limit: u32, room: Room) -> (Outcome, Pass)
-    requires within { IsWithinLimits batch.now }
-    requires limit { (1 ≤ limit) × (limit ≤ 20000) }
-    requires room { IsFirstRoom batch.now limit room }
-
-    // The clauses of `clear`.
-    ensures outcome { result.0 ≡ outcome_of batch.now limit }
-    ensures marked { IsMarked batch.now limit result.0 }
-    ensures within { AreFractionFills batch.now.orders (map fraction_of result.0.fills) }
-    ensures covers { IsCovered batch.now result.0 }
-    ensures measured { IfOptimal result.0.mark
-        (λ cover measure. IsMeasured batch.now result.0 measure) }
-    ensures greatest { IfOptimal result.0.mark
-        (λ cover measure. IsProved batch.now result.0) }
-    ensures yes { verdict_of largest batch.now result.0 ≡ Yes }
-    ensures choices { HasEnoughUnits batch.now limit result.0 }
-
-    // Narrow exactly where the run in 64 bits before the sums meets no misfit.
-    ensures pass { IsPass (unjudged_in narrow_limit batch.now limit) result.1 }
-{
-    outcome_first(batch, limit, room)
-}
-
-/// Clears a batch as `clear` does, and tells in which numbers: the master programs, searches and rounds are run in N first.
-/// Where each of their numbers fits, the pass is narrow, and only the sums of the verdict are in 128 bits. Where one does
-/// not, the whole run is done again in 128 bits, from no unit spent, and the pass is broad. The outcome is the same in both.
-/// All memory is taken before the first step.
-pub fn clear_first<N: Exact>(
-    alloc: Global,
+/// The end of a run after the sums of the verdict, which are done where it has found a solution; `units` are spent.
+fn judged(
     batch: &Batch,
-    limit: u32,
-) -> Result<(Outcome, Pass), AllocError>
+    solved: Result<Joint<Frac128>, RunStop>,
+    units: u32,
+    signs: &mut [i8],
+) -> Result<Joint<Frac128>, RunStop>
     requires within { IsWithinLimits batch.now }
-    requires limit { (1 ≤ limit) × (limit ≤ 20000) }
-    requires narrow { unsigned_abs N.LIMIT ≤ largest }
-
-    // The clauses of `clear`.
-    ensures outcome { IfOk result (λ cleared. cleared.0 ≡ outcome_of batch.now limit) }
-    ensures marked { IfOk result (λ cleared. IsMarked batch.now limit cleared.0) }
-    ensures within { IfOk result (λ cleared.
-        AreFractionFills batch.now.orders (map fraction_of cleared.0.fills)) }
-    ensures covers { IfOk result (λ cleared. IsCovered batch.now cleared.0) }
-    ensures measured { IfOk result (λ cleared. IfOptimal cleared.0.mark
-        (λ cover measure. IsMeasured batch.now cleared.0 measure)) }
-    ensures greatest { IfOk result (λ cleared. IfOptimal cleared.0.mark
-        (λ cover measure. IsProved batch.now cleared.0)) }
-    ensures yes { IfOk result (λ cleared. verdict_of largest batch.now cleared.0 ≡ Yes) }
-    ensures choices { IfOk result (λ cleared. HasEnoughUnits batch.now limit cleared.0) }
-
-    // Narrow exactly where the run in N before the sums meets no misfit.
-    ensures pass { IfOk result (λ cleared.
-        IsPass (unjudged_in (unsigned_abs N.LIMIT) batch.now limit) cleared.1) }
+    requires joint { IfOk solved (IsJointOf batch.now) }
+    requires signs { AreSigns batch.now.orders (length signs.old) }
+    ensures { (end : Ending Solution) → IsJointAnswer fraction_of end (as_stopped solved) units
+        → IsJointAnswer fraction_of (judged batch.now end) (as_stopped result) units }
 {
-    let room = FirstRoom::<N>::new(alloc, batch, limit)?;
-    Ok(outcome_first(batch, limit, room))
+    judge(batch, solved?, units, signs)
+}
+
+impl ClearRoom {
+    /// Clears the batch in this room by a run in 128 bits: the solver tries rows of whole numbers first, and a run in narrow
+    /// fractions before it would only cost time. What more there is to say of the outcome follows from its definition by the
+    /// laws. It takes no memory, and has no other answer.
+    pub fn clear(&mut self, batch: &Batch, limit: u32) -> Outcome
+        requires within { IsWithinLimits batch.now }
+        requires limit { limit ≤ 20000 }
+        requires room { IsClearRoom batch.now limit self.old }
+        ensures { result ≡ outcome_of batch.now limit }
+    {
+        let mut budget = Budget::new(limit);
+        let solved = self.run.solve_unjudged(batch, &mut budget);
+        self.outcome_after(batch, limit, solved, budget.spent)
+    }
+
+    /// The outcome of the batch after a run before the sums of the verdict has ended so, with `units` of `limit` units spent:
+    /// the sums come last, in 128 bits, and where the run or one of them stops, the outcome is the match. It takes no memory.
+    pub fn outcome_after(
+        &mut self,
+        batch: &Batch,
+        limit: u32,
+        solved: Result<Joint<Frac128>, RunStop>,
+        units: u32,
+    ) -> Outcome
+        requires within { IsWithinLimits batch.now }
+        requires joint { IfOk solved (IsJointOf batch.now) }
+        requires room { IsEndRoom batch.now self.old }
+        ensures { (end : Ending Solution) → IsJointAnswer fraction_of end (as_stopped solved) units
+            → run_of batch.now limit ≡ judged batch.now end → result ≡ outcome_of batch.now limit }
+    {
+        let end = judged(batch, solved, units, &mut self.signs);
+        outcome_at(limit, end, units, self.matched.take())
+    }
 }
 
 /// Clears a batch: the fills that earn the greatest surplus with their proof, or where the run stops, at a number that does
 /// not fit or for want of a unit, the match of each bundle by itself. The batch is within the limits of the exchange, on 1 to
-/// 8 underlyings, and at most `limit` units of work are spent. All memory is taken before
-/// the first step. The only error is want of memory.
+/// 8 underlyings, and at most `limit` units of work are spent. All memory is taken before the first step. The only error is
+/// want of memory.
 pub fn clear(alloc: Global, batch: &Batch, limit: u32) -> Result<Outcome, AllocError>
     requires within { IsWithinLimits batch.now }
     requires limit { (1 ≤ limit) × (limit ≤ 20000) }
@@ -187,69 +141,6 @@ pub fn clear(alloc: Global, batch: &Batch, limit: u32) -> Result<Outcome, AllocE
     // budget.
     ensures choices { IfOk result (HasEnoughUnits batch.now limit) }
 {
-    let room = Room::new(alloc, batch, limit)?;
-    let (outcome, _pass) = clear_in(batch, limit, room);
-    Ok(outcome)
-}
-
-impl BroadRoom {
-    /// Clears the batch in this room by a run in 128 bits alone: the outcome of `clear` with all that is said of it there. The
-    /// solver tries rows of whole numbers first, and a run in narrow fractions before it would only cost time. It takes no
-    /// memory, and has no other answer.
-    pub fn clear(&mut self, batch: &Batch, limit: u32) -> Outcome
-        requires within { IsWithinLimits batch.now }
-        requires limit { (1 ≤ limit) × (limit ≤ 20000) }
-        requires room { IsBroadRoom batch.now limit self.old }
-        ensures outcome { result ≡ outcome_of batch.now limit }
-        ensures marked { IsMarked batch.now limit result }
-        ensures within { AreFractionFills batch.now.orders (map fraction_of result.fills) }
-        ensures covers { IsCovered batch.now result }
-        ensures measured { IfOptimal result.mark
-            (λ cover measure. IsMeasured batch.now result measure) }
-        ensures greatest { IfOptimal result.mark
-            (λ cover measure. IsProved batch.now result) }
-        ensures yes { verdict_of largest batch.now result ≡ Yes }
-        ensures choices { HasEnoughUnits batch.now limit result }
-    {
-        broad_outcome(batch, limit, self)
-    }
-}
-
-/// The same in room that is used up.
-pub fn clear_broad_in(batch: &Batch, limit: u32, mut room: BroadRoom) -> Outcome
-    requires within { IsWithinLimits batch.now }
-    requires limit { (1 ≤ limit) × (limit ≤ 20000) }
-    requires room { IsBroadRoom batch.now limit room }
-    ensures outcome { result ≡ outcome_of batch.now limit }
-    ensures marked { IsMarked batch.now limit result }
-    ensures within { AreFractionFills batch.now.orders (map fraction_of result.fills) }
-    ensures covers { IsCovered batch.now result }
-    ensures measured { IfOptimal result.mark
-        (λ cover measure. IsMeasured batch.now result measure) }
-    ensures greatest { IfOptimal result.mark
-        (λ cover measure. IsProved batch.now result) }
-    ensures yes { verdict_of largest batch.now result ≡ Yes }
-    ensures choices { HasEnoughUnits batch.now limit result }
-{
-    room.clear(batch, limit)
-}
-
-/// The same in room of its own, which is taken before the first step. The only error is want of memory.
-pub fn clear_broad(alloc: Global, batch: &Batch, limit: u32) -> Result<Outcome, AllocError>
-    requires within { IsWithinLimits batch.now }
-    requires limit { (1 ≤ limit) × (limit ≤ 20000) }
-    ensures outcome { IfOk result (λ outcome. outcome ≡ outcome_of batch.now limit) }
-    ensures marked { IfOk result (IsMarked batch.now limit) }
-    ensures within { IfOk result (λ outcome.
-        AreFractionFills batch.now.orders (map fraction_of outcome.fills)) }
-    ensures covers { IfOk result (IsCovered batch.now) }
-    ensures measured { IfOk result (λ outcome.
-        IfOptimal outcome.mark (λ cover measure. IsMeasured batch.now outcome measure)) }
-    ensures greatest { IfOk result (λ outcome.
-        IfOptimal outcome.mark (λ cover measure. IsProved batch.now outcome)) }
-    ensures yes { IfOk result (λ outcome. verdict_of largest batch.now outcome ≡ Yes) }
-    ensures choices { IfOk result (HasEnoughUnits batch.now limit) }
-{
-    let room = BroadRoom::new(alloc, batch, limit)?;
-    Ok(clear_broad_in(batch, limit, room))
+    let mut room = ClearRoom::new(alloc, batch, limit)?;
+    Ok(room.clear(batch, limit))
 }

@@ -4,9 +4,7 @@
 mod clearing;
 mod fallback;
 pub mod laws;
-mod passes;
 mod room;
 
-pub use clearing::{clear, clear_broad, clear_broad_in, clear_first, clear_in};
-pub use passes::Pass;
-pub use room::{BroadRoom, FirstRoom, Room};
+pub use clearing::clear;
+pub use room::ClearRoom;

@@ -93,7 +93,7 @@ pub(crate) fn clear(
         ≡ state_of ledger.old book.old positions.old.list) }
 {
     let batch = book.batch(market)?;
-    let outcome = clearing::clear_broad(alloc, &batch, budget)?;
+    let outcome = clearing::clear(alloc, &batch, budget)?;
     let orders = batch.orders.as_slice();
     ledger.room(2 * orders.len())?;
     positions.room(orders.len())?;

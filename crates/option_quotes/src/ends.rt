@@ -8,7 +8,7 @@ ghost use Rattle.option_quotes.specs.Quotes.{IsQuote, IsShown, unmarked_of};
 use crate::probes::{is_optimal, is_raised, probe};
 use crate::quotes::Quoted;
 use cert_check::Outcome;
-use clearing::BroadRoom;
+use clearing::ClearRoom;
 use form::{Batch, Order};
 use std::alloc::{AllocError, Global};
 
@@ -34,7 +34,7 @@ pub(crate) fn between(
     limit: u32,
     base: Outcome,
     mut ends: Ends,
-    room: &mut BroadRoom,
+    room: &mut ClearRoom,
 ) -> Result<Quoted, AllocError>
     requires within { IsWithinLimits (with_order batch.now order) }
     requires limit { (1 ≤ limit) × (limit ≤ 20000) }

@@ -1,16 +1,13 @@
 //! One probe: what clears where the batch has one order more. All probes of a quote are cleared in one room.
 ghost use Rattle.std.specs.Prelude.{◌≡◌, ◌≤◌, IfOk, length};
-ghost use Rattle.frac.specs.Range.{limit as largest};
 ghost use Rattle.form.specs.Limits.{IsWithinLimits};
 ghost use Rattle.form.specs.declared.limits.TheConstants.{MAX_ORDERS};
-ghost use Rattle.cert_check.specs.declared.outcome.Judgement.TheVariants.{Yes};
-ghost use Rattle.cert_check.specs.Events.{verdict_of};
 ghost use Rattle.clearing.specs.Outcome.{outcome_of};
-ghost use Rattle.clearing.specs.Rooms.{IsBroadRoom};
+ghost use Rattle.clearing.specs.Rooms.{IsClearRoom};
 ghost use Rattle.option_quotes.specs.Probes.{best_price, further, is_optimal, is_raised, probe_outcome, with_order, worst_price};
 
 use cert_check::{Mark, Outcome};
-use clearing::BroadRoom;
+use clearing::ClearRoom;
 use form::{Batch, Bundle, Form, MAX_PRICE, Order, Orders, Side};
 use std::alloc::{AllocError, Global};
 
@@ -54,13 +51,13 @@ pub(crate) fn room_with(
     batch: &Batch,
     order: Order,
     limit: u32,
-) -> Result<BroadRoom, AllocError>
+) -> Result<ClearRoom, AllocError>
     requires within { IsWithinLimits (with_order batch.now order) }
     requires limit { limit ≤ 20000 }
-    ensures { IfOk result (IsBroadRoom (with_order batch.now order) limit) }
+    ensures { IfOk result (IsClearRoom (with_order batch.now order) limit) }
 {
     let extended = with_order(alloc, batch, order)?;
-    BroadRoom::new(alloc, &extended, limit)
+    ClearRoom::new(alloc, &extended, limit)
 }
 
 /// The outcome of the batch, cleared in the room: its tables stay, and only the lists of this clear are taken before its first
@@ -69,12 +66,11 @@ pub(crate) fn outcome_in(
     alloc: Global,
     batch: &Batch,
     limit: u32,
-    room: &mut BroadRoom,
+    room: &mut ClearRoom,
 ) -> Result<Outcome, AllocError>
     requires within { IsWithinLimits batch.now }
     requires limit { (1 ≤ limit) × (limit ≤ 20000) }
-    ensures outcome { IfOk result (λ outcome. outcome ≡ outcome_of batch.now limit) }
-    ensures yes { IfOk result (λ outcome. verdict_of largest batch.now outcome ≡ Yes) }
+    ensures { IfOk result (λ outcome. outcome ≡ outcome_of batch.now limit) }
 {
     room.renew(alloc, batch, limit)?;
     Ok(room.clear(batch, limit))
@@ -87,7 +83,7 @@ pub(crate) fn probe(
     order: Order,
     price: u64,
     limit: u32,
-    room: &mut BroadRoom,
+    room: &mut ClearRoom,
 ) -> Result<Outcome, AllocError>
     requires within { IsWithinLimits (with_order batch.now order) }
     requires price { price ≤ MAX_PRICE }

@@ -14,7 +14,7 @@ use crate::probes::{
 };
 use crate::quotes::Quoted;
 use cert_check::Outcome;
-use clearing::BroadRoom;
+use clearing::ClearRoom;
 use form::{Batch, Form, Order, Side};
 use std::alloc::{AllocError, Global};
 
@@ -26,7 +26,7 @@ fn from_worst(
     limit: u32,
     base: Outcome,
     best: Probed,
-    room: &mut BroadRoom,
+    room: &mut ClearRoom,
 ) -> Result<Quoted, AllocError>
     requires within { IsWithinLimits (with_order batch.now order) }
     requires limit { (1 ≤ limit) × (limit ≤ 20000) }
@@ -69,7 +69,7 @@ fn from_best(
     order: Order,
     limit: u32,
     base: Outcome,
-    room: &mut BroadRoom,
+    room: &mut ClearRoom,
 ) -> Result<Quoted, AllocError>
     requires within { IsWithinLimits (with_order batch.now order) }
     requires limit { (1 ≤ limit) × (limit ≤ 20000) }

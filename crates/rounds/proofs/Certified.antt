@@ -19,7 +19,6 @@ use Rattle.master_program.specs.Verdict.{sums_on, sums_with}
 use Rattle.node_program.specs.Rounds.{Limits, rounds}
 use Rattle.rounds.specs.declared.joint.Joint.{Joint}
 use Rattle.rounds.specs.Answers.{IsCoverAs, IsJointAnswer, IsJudgedAnswer, OfSolution, reading_in}
-use Rattle.rounds.specs.Passed.{ArePassed}
 use Rattle.rounds.specs.Run.{Solution, WrittenCover, by_line, by_tree, on_line, on_tree, sums_of, unjudged_run, joint_run}
 use Rattle.rounds.proofs.JointRuns.{cleared_by}
 
@@ -58,23 +57,20 @@ same_sums batch r (by_tree written) (Tree tree) is =
     λ j. sums_with largest batch.orders r (closes_of largest batch.underlyings (fraction_legs batch.orders r.fills) r.liability (sym is.0 j) (sym is.1 j))
 
 -- a solution whose sums fit
-pub passed : {A B : Type 0} (before : A → Fraction) (after : B → Fraction) (batch : Batch) (joint : Joint A) (wide : Joint B) (spent : ℕ) (holds : Bool)
-    → wide.cover ≡ joint.cover → reading_in after wide ≡ reading_in before joint → sums_on batch (reading_in before joint) joint.cover ≡ Ok holds
-    → IsJudgedAnswer before after batch joint (Ok wide) spent
-passed before after batch joint wide spent holds cover same fits written is =
-    let r = reading_in before joint in
-    let sums = same_sums batch r written joint.cover is ∙ fits in
+pub passed : {A : Type 0} (value : A → Fraction) (batch : Batch) (joint : Joint A) (spent : ℕ) (holds : Bool)
+    → sums_on batch (reading_in value joint) joint.cover ≡ Ok holds → IsJudgedAnswer value batch joint (Ok joint) spent
+passed value batch joint spent holds fits written is =
+    let r = reading_in value joint in
     let ended : Result Bool Misfit → Ending Solution = cleared_by spent r written in
-    (written, subst (IsCoverAs written) (sym cover) is, ap ended sums ∙ (λ j. done (sym same j, written) spent))
+    (written, is, ap ended (same_sums batch r written joint.cover is ∙ fits))
 
 -- and one of which a step does not fit
-pub not_passed : {A B : Type 0} (before : A → Fraction) (after : B → Fraction) (batch : Batch) (joint : Joint A) (spent : ℕ) (w : Misfit)
-    → ArePassed {A = Joint B} (sums_on batch (reading_in before joint) joint.cover) (Err w) → IsJudgedAnswer {B = B} before after batch joint (Err (Wide spent w)) spent
-not_passed before after batch joint spent w fits written is =
-    let r = reading_in before joint in
-    let sums = same_sums batch r written joint.cover is ∙ fits in
+pub not_passed : {A : Type 0} (value : A → Fraction) (batch : Batch) (joint : Joint A) (spent : ℕ) (w : Misfit)
+    → sums_on batch (reading_in value joint) joint.cover ≡ Err w → IsJudgedAnswer value batch joint (Err (Wide spent w)) spent
+not_passed value batch joint spent w fits written is =
+    let r = reading_in value joint in
     let ended : Result Bool Misfit → Ending Solution = cleared_by spent r written in
-    (ap ended sums, refl)
+    (ap ended (same_sums batch r written joint.cover is ∙ fits), refl)
 
 -- ---- the whole run
 pub then_sums : (limits : Limits) (n : ℕ) (orders : List Order) (spent : ℕ) → joint_run limits n orders spent ≡ on_answer (unjudged_run limits n orders spent) (where_fits (sums_of limits.payoff_limit n orders))
@@ -82,16 +78,16 @@ unfolding joint_run
 then_sums limits n orders spent = refl
 
 -- a run that stops before the sums stops,
-pub stops_before : {A B : Type 0} (before : A → Fraction) (after : B → Fraction) (whole ending : Ending Solution) (next : Solution → ℕ → Ending Solution) (stop : Stop) (units : ℕ)
-    → whole ≡ on_answer ending next → IsJointAnswer before ending (Err stop) units → IsJointAnswer after whole (Err stop) units
-stops_before before after whole ending next (Wide unit w) units e is = let go : Ending Solution → Ending Solution = λ x. on_answer x next in (e ∙ ap go is.0, is.1)
-stops_before before after whole ending next Budget units e is = let go : Ending Solution → Ending Solution = λ x. on_answer x next in e ∙ ap go is
-stops_before before after whole ending next Memory units e is = tt
+pub stops_before : {A : Type 0} (value : A → Fraction) (whole ending : Ending Solution) (next : Solution → ℕ → Ending Solution) (stop : Stop) (units : ℕ)
+    → whole ≡ on_answer ending next → IsJointAnswer value ending (Err stop) units → IsJointAnswer value whole (Err stop) units
+stops_before value whole ending next (Wide unit w) units e is = let go : Ending Solution → Ending Solution = λ x. on_answer x next in (e ∙ ap go is.0, is.1)
+stops_before value whole ending next Budget units e is = let go : Ending Solution → Ending Solution = λ x. on_answer x next in e ∙ ap go is
+stops_before value whole ending next Memory units e is = tt
 
 -- and one that does not is judged
-pub judged_after : {A B : Type 0} (before : A → Fraction) (after : B → Fraction) (batch : Batch) (whole ending : Ending Solution) (joint : Joint A) (result : Result (Joint B) Stop) (units : ℕ)
-    → whole ≡ on_answer ending (where_fits (sums_of largest batch.underlyings batch.orders)) → OfSolution before (λ s. ending ≡ done s units) joint
-    → IsJudgedAnswer before after batch joint result units → IsJointAnswer after whole result units
-judged_after before after batch whole ending joint result units e found judged =
+pub judged_after : {A : Type 0} (value : A → Fraction) (batch : Batch) (whole ending : Ending Solution) (joint : Joint A) (result : Result (Joint A) Stop) (units : ℕ)
+    → whole ≡ on_answer ending (where_fits (sums_of largest batch.underlyings batch.orders)) → OfSolution value (λ s. ending ≡ done s units) joint
+    → IsJudgedAnswer value batch joint result units → IsJointAnswer value whole result units
+judged_after value batch whole ending joint result units e found judged =
     let go : Ending Solution → Ending Solution = λ x. on_answer x (where_fits (sums_of largest batch.underlyings batch.orders)) in
-    joint_answer_as after whole _ result units (e ∙ ap go found.2) (judged found.0 found.1)
+    joint_answer_as value whole _ result units (e ∙ ap go found.2) (judged found.0 found.1)

@@ -18,9 +18,9 @@ use Rattle.master_program.specs.Solve.{master_solve}
 use Rattle.node_program.specs.Rounds.{Limits, Cleared, rounds}
 use Rattle.search_laws.specs.Run.{tree_run, sums_hold as tree_sums}
 use Rattle.search_laws.proofs.Run.{cleared_is_greatest as tree_is_greatest, each_run_ends as tree_run_ends, cleared_passes_the_verdict as tree_passes}
-use Rattle.simplex.specs.declared.stop.RunStop.{RunStop}
+use Rattle.simplex.specs.declared.stop.Stop.{Stop}
 use Rattle.rounds.specs.declared.joint.Joint.{Joint}
-use Rattle.rounds.specs.Answers.{IsCoverAs, IsJointAnswer, OfSolution, as_stopped, reading_in}
+use Rattle.rounds.specs.Answers.{IsCoverAs, IsJointAnswer, OfSolution, reading_in}
 use Rattle.rounds.specs.Laws.{IsGreatestBy, IsYesWith, PassesTheVerdict, ClearedIsGreatest, NoRunIsWithoutEnd, ClearedPassesTheVerdict}
 use Rattle.rounds.specs.Run.{Solution, WrittenCover, by_line, by_tree, on_line, on_tree, line_run, sums_hold, sums_of, joint_run}
 use Rattle.rounds.proofs.Cleared.{line_run_is_greatest, line_run_ends, line_run_passes}
@@ -135,15 +135,15 @@ cleared_passes_the_verdict limits spent units batch s some few on le wide h = by
         subst (PassesTheVerdict batch) (on_tree-is c.answer s c.spent units c.rest) (tree c.answer c.spent (several batch.underlyings some is) c.first)
 
 -- ---- what the answer of a joint solve has shown
-pub answer_is_greatest : {A : Type 0} (value : A → Fraction) (limits : Limits) (n spent units : ℕ) (orders : List Order) (result : Result (Joint A) RunStop)
-    → 1 ≤ n → n ≤ 8 → spent ≤ limits.budget → IsJointAnswer value (joint_run limits n orders spent) (as_stopped result) units → IfOk result (OfSolution value (IsGreatestBy n orders))
+pub answer_is_greatest : {A : Type 0} (value : A → Fraction) (limits : Limits) (n spent units : ℕ) (orders : List Order) (result : Result (Joint A) Stop)
+    → 1 ≤ n → n ≤ 8 → spent ≤ limits.budget → IsJointAnswer value (joint_run limits n orders spent) result units → IfOk result (OfSolution value (IsGreatestBy n orders))
 answer_is_greatest value limits n spent units orders (Ok joint) some few le is =
     (is.0, is.1, cleared_is_greatest limits n spent units orders (reading_in value joint, is.0) some few le is.2)
 answer_is_greatest value limits n spent units orders (Err stop) some few le is = tt
 
-pub answer_passes : {A : Type 0} (value : A → Fraction) (limits : Limits) (spent units : ℕ) (batch : Batch) (result : Result (Joint A) RunStop)
+pub answer_passes : {A : Type 0} (value : A → Fraction) (limits : Limits) (spent units : ℕ) (batch : Batch) (result : Result (Joint A) Stop)
     → 1 ≤ batch.underlyings → batch.underlyings ≤ 8 → AreOn batch.underlyings batch.orders → spent ≤ limits.budget → limits.payoff_limit ≡ limit
-    → IsJointAnswer value (joint_run limits batch.underlyings batch.orders spent) (as_stopped result) units → IfOk result (λ joint. IsYesWith batch (reading_in value joint) joint.cover)
+    → IsJointAnswer value (joint_run limits batch.underlyings batch.orders spent) result units → IfOk result (λ joint. IsYesWith batch (reading_in value joint) joint.cover)
 answer_passes value limits spent units batch (Ok joint) some few on le wide is =
     cleared_passes_the_verdict limits spent units batch (reading_in value joint, is.0) some few on le wide is.2 joint.cover is.1
 answer_passes value limits spent units batch (Err stop) some few on le wide is = tt

@@ -59,12 +59,11 @@ abbrev pub as_stopped : {X : Type 0} → Result X RunStop → Result X Stop
 as_stopped (Ok x) = Ok x
 as_stopped (Err stop) = Err (stop_of stop)
 
--- the answer is the end of the sums on a solution, whose numbers are of one type before and of another after, when so many units
--- are spent
-abbrev pub IsJudgedAnswer : {A B : Type 0} → (A → Fraction) → (B → Fraction) → Batch → Joint A → Result (Joint B) Stop → ℕ → Type 0
-IsJudgedAnswer before after batch joint result spent =
+-- the answer is the end of the sums on a solution, when so many units are spent
+abbrev pub IsJudgedAnswer : {A : Type 0} → (A → Fraction) → Batch → Joint A → Result (Joint A) Stop → ℕ → Type 0
+IsJudgedAnswer value batch joint result spent =
     (cover : WrittenCover) → IsCoverAs cover joint.cover
-    → IsJointAnswer after (where_fits (sums_of largest batch.underlyings batch.orders) (reading_in before joint, cover) spent) result spent
+    → IsJointAnswer value (where_fits (sums_of largest batch.underlyings batch.orders) (reading_in value joint, cover) spent) result spent
 
 -- the limits of a run in numbers of the code: payoffs and the sums of the verdict have 128 bits
 abbrev pub limits_of : (limit budget : ℕ) → Limits

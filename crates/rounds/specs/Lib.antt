@@ -2,11 +2,9 @@ pub mod Run
 pub mod Entry
 pub mod Parts
 pub mod Answers
-pub mod Covered
 pub mod Laws
 pub mod Worked
 pub mod Optima
-pub mod Passed
 pub mod Readings
 pub mod Rooms
 pub mod Round

@@ -7,7 +7,6 @@ use Rattle.form.specs.States.{vector_of}
 use Rattle.line_cover.specs.Breakpoints.{line_states}
 use Rattle.node_program.specs.Rounds.{axis_rays}
 use Rattle.sign_tree.specs.Legs.{leg_count}
-use Rattle.cert_check.specs.Tests.{AreSigns}
 use Rattle.pricing_oracle.specs.Rooms.{SearchSpace}
 use Rattle.exact_num.specs.Fraction.{Fraction}
 use Rattle.table_run.specs.Ending.{Ending, done}
@@ -17,7 +16,6 @@ use Rattle.simplex.specs.declared.stop.RunStop.{RunStop}
 use Rattle.rounds.specs.declared.reading.Read.{Read}
 use Rattle.rounds.specs.declared.master.TheConstants.{MAX_STATES}
 use Rattle.rounds.specs.declared.joint_room.JointRoom.{JointRoom}
-use Rattle.rounds.specs.declared.judging.SumsRoom.{SumsRoom}
 use Rattle.rounds.specs.declared.solve_room.SolveRoom.{SolveRoom}
 use Rattle.rounds.specs.Readings.{reading_in_lists}
 use Rattle.rounds.specs.Stops.{IsStopOf}
@@ -41,11 +39,6 @@ pub record KeepsSolveRoom {A : Type 0} (old new : SolveRoom A) : Type 0 where
 abbrev pub IsReadAnswer : {A : Type 0} → (A → Fraction) → Ending Reading → SolveRoom A → Result (Read A) RunStop → ℕ → Type 0
 IsReadAnswer value ending room (Ok read) spent = ending ≡ done (reading_in_lists value room.fills.items room.points.items read) spent
 IsReadAnswer value ending room (Err stop) spent = IsStopOf ending stop spent
-
--- ---- the room of the sums of the verdict: for a fill of each order, and signs for the walk of a tree
-pub record IsSumsRoom (batch : Batch) (room : SumsRoom) : Type 0 where
-  pub fills : length batch.orders ≤ vec_capacity room.fills
-  pub signs : AreSigns batch.orders (length room.signs.items)
 
 -- ---- the whole room
 -- on one underlying: the states of the line, and room for a master program over them

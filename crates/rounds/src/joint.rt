@@ -1,8 +1,5 @@
 //! What a joint solve finds.
-ghost use Rattle.std.specs.Prelude.{◌≡◌};
-ghost use Rattle.rounds.specs.Covered.{joint_with};
 
-use crate::reading::Reading;
 use cert_check::Cover;
 use measure::Measure;
 
@@ -19,23 +16,4 @@ pub struct Joint<N> {
     pub cover: Cover,
     /// The measure whose bound is the surplus.
     pub measure: Measure,
-}
-
-/// What was read off, with its cover.
-pub(crate) fn joint_with<N>(reading: Reading<N>, cover: Cover) -> Joint<N>
-    ensures { result ≡ joint_with reading cover }
-{
-    let Reading {
-        fills,
-        liability,
-        surplus,
-        measure,
-    } = reading;
-    Joint {
-        fills,
-        liability,
-        surplus,
-        cover,
-        measure,
-    }
 }

@@ -19,5 +19,5 @@ mod solving;
 
 pub use joint::Joint;
 pub use joint_room::JointRoom;
-pub use judging::{SumsRoom, judge_in};
-pub use solving::{solve_joint, solve_joint_in, solve_unjudged_in};
+pub use judging::{judge, widened};
+pub use solving::solve_joint;

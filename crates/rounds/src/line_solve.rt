@@ -5,9 +5,9 @@ ghost use Rattle.rounds.specs.Answers.{IsJointAnswer, IsJointOf, as_stopped, lim
 ghost use Rattle.rounds.specs.Rooms.{IsLineRoom};
 ghost use Rattle.rounds.specs.Run.{unjudged_run};
 
-use crate::joint::{Joint, joint_with};
+use crate::joint::Joint;
 use crate::master_solve::solve_over;
-use crate::solve_room::{SolveRoom, reading_in};
+use crate::solve_room::{SolveRoom, take_joint};
 use cert_check::Cover;
 use exact_num::Exact;
 use form::{Batch, State};
@@ -31,5 +31,5 @@ pub(crate) fn solve_line<N: Exact>(
 {
     let (_first, later) = states.split_at(1);
     let read = solve_over(batch, later, budget, solve)?;
-    Ok(joint_with(reading_in(solve, read), Cover::Line))
+    Ok(take_joint(solve, read, Cover::Line))
 }

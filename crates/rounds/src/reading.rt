@@ -19,7 +19,7 @@ use exact_num::{Exact, Wide};
 use form::{Order, State};
 use frac::Frac128;
 use lists::push_within;
-use measure::{Measure, Weighted};
+use measure::Weighted;
 use pricing_oracle::filling::write_values;
 use simplex::Space;
 
@@ -103,15 +103,6 @@ fn add_points<N: Exact>(
 pub(crate) struct Read<N> {
     pub(crate) liability: N,
     pub(crate) surplus: N,
-}
-
-/// What is read off: the fills, the most that the house owes on them, what is left to it, and the states that show it.
-#[derive(Drop)]
-pub(crate) struct Reading<N> {
-    pub(crate) fills: Vec<N>,
-    pub(crate) liability: N,
-    pub(crate) surplus: N,
-    pub(crate) measure: Measure,
 }
 
 /// Reads off what the optimum in the space, over a first state and later ones, earns and what shows it: the fills and the

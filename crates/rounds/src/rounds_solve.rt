@@ -7,10 +7,10 @@ ghost use Rattle.rounds.specs.Rooms.{IsRoundsRoom};
 ghost use Rattle.rounds.specs.Round.{IsClearedAnswer};
 ghost use Rattle.rounds.specs.Run.{unjudged_run};
 
-use crate::joint::{Joint, joint_with};
+use crate::joint::Joint;
 use crate::reading::Read;
 use crate::round::{RoundEnd, round};
-use crate::solve_room::{SolveRoom, reading_in};
+use crate::solve_room::{SolveRoom, take_joint};
 use cert_check::Cover;
 use exact_num::Exact;
 use form::{Batch, State};
@@ -63,6 +63,6 @@ pub(crate) fn solve_rounds<N: Exact>(
     ensures limit { budget.new.limit ≡ budget.old.limit }
 {
     let read = close(batch, budget, states, solve, search)?;
-    let reading = reading_in(solve, read);
-    Ok(joint_with(reading, Cover::Tree(search.take_tree())))
+    let tree = search.take_tree();
+    Ok(take_joint(solve, read, Cover::Tree(tree)))
 }

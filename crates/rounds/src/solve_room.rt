@@ -2,10 +2,13 @@
 ghost use Rattle.std.specs.Prelude.{◌≡◌, ◌≤◌, ◌+◌, IfOk, OnOk};
 ghost use Rattle.form.specs.declared.limits.TheConstants.{MAX_ORDERS};
 ghost use Rattle.rounds.specs.declared.master.TheConstants.{MAX_STATES};
-ghost use Rattle.rounds.specs.Readings.{reading_as, reading_in_lists};
+ghost use Rattle.rounds.specs.Answers.{reading_in};
+ghost use Rattle.rounds.specs.Readings.{reading_in_lists};
 ghost use Rattle.rounds.specs.Rooms.{IsSolveRoom};
 
-use crate::reading::{Read, Reading};
+use crate::joint::Joint;
+use crate::reading::Read;
+use cert_check::Cover;
 use exact_num::Exact;
 use lists::{make_room, take_list};
 use measure::{Measure, Points, Weighted};
@@ -60,15 +63,17 @@ impl<N: Exact> SolveRoom<N> {
     }
 }
 
-/// What was read off, with its lists, which are taken out of the room.
-pub(crate) fn reading_in<N: Exact>(room: &mut SolveRoom<N>, read: Read<N>) -> Reading<N>
-    ensures { reading_as N.fraction result
+/// What was read off, with its cover and with its lists, which are taken out of the room.
+pub(crate) fn take_joint<N: Exact>(room: &mut SolveRoom<N>, read: Read<N>, cover: Cover) -> Joint<N>
+    ensures reading { reading_in N.fraction result
         ≡ reading_in_lists N.fraction room.old.fills.items room.old.points.items read }
+    ensures cover { result.cover ≡ cover }
 {
-    Reading {
+    Joint {
         fills: take_list(&mut room.fills),
         liability: read.liability,
         surplus: read.surplus,
+        cover,
         measure: Measure {
             points: Points::from_vec(take_list(&mut room.points)),
         },

@@ -1,25 +1,28 @@
 //! The joint solve.
-ghost use Rattle.std.specs.Prelude.{◌≡◌, IfOk, unsigned_abs};
+ghost use Rattle.std.specs.Prelude.{◌≡◌, ◌≤◌, Err, IfOk, length, unsigned_abs, vec_capacity};
 ghost use Rattle.form.specs.Limits.{IsWithinLimits};
+ghost use Rattle.cert_check.specs.Tests.{AreSigns};
 ghost use Rattle.rounds.specs.Answers.{IsJointAnswer, IsJointOf, OfSolution, as_stopped, limits_of, reading_in};
-ghost use Rattle.rounds.specs.Rooms.{IsJointRoom, IsSumsRoom};
+ghost use Rattle.rounds.specs.Rooms.{IsJointRoom};
 ghost use Rattle.rounds.specs.Laws.{IsGreatestBy, IsYesWith};
 ghost use Rattle.rounds.specs.Run.{joint_run, unjudged_run};
 
 use crate::joint::Joint;
-use crate::joint_room::{JointRoom, MAX_UNITS};
-use crate::judging::{SumsRoom, certify};
+use crate::joint_room::JointRoom;
+use crate::judging::judge_widened;
 use crate::line_solve::solve_line;
 use crate::rounds_solve::solve_rounds;
 use exact_num::Exact;
 use form::Batch;
+use frac::Frac128;
+use sign_tree::leg_count;
 use simplex::{Budget, RunStop, Stop};
 use std::alloc::Global;
 
 impl<N: Exact> JointRoom<N> {
     /// The run before the sums of the verdict: on one underlying one master program over the states of the line is solved; on
     /// several a master program over some states and a search for a state at which its liability is not enough take turns,
-    /// until a tree closes. What it finds is for `judge_in`.
+    /// until a tree closes. What it finds is for `judge`.
     ///
     /// `Wide` comes at the first step that does not fit, `Budget` where the run wants one unit more than the budget has; units
     /// that were spent stay spent. It takes no memory. The batch is within the limits.
@@ -43,83 +46,43 @@ impl<N: Exact> JointRoom<N> {
             Some(search) => solve_rounds(batch, budget, &mut self.states, solve, search),
         }
     }
-
-    /// The fills of the batch with the greatest surplus, in ticks, and the certificate that shows it: the reference run. It is
-    /// the run of `solve_unjudged`, and last come the sums of the verdict in 128 bits.
-    ///
-    /// The fills are from 0 to their quantities and cover the surplus at every settlement, and no fractional fills cover more;
-    /// the verdict on them, with the cover and the measure, is yes. `Wide` and `Budget` come as there, and `Wide` at the first
-    /// step of the sums that does not fit. It takes no memory.
-    pub fn solve(
-        &mut self,
-        batch: &Batch,
-        budget: &mut Budget,
-        sums: &mut SumsRoom,
-    ) -> Result<Joint<N>, RunStop>
-        requires limits { IsWithinLimits batch.now }
-        requires room { IsJointRoom batch.now budget.old.limit self.old }
-        requires sums { IsSumsRoom batch.now sums.old }
-        ensures run { IsJointAnswer N.fraction (joint_run
-            (limits_of (unsigned_abs N.LIMIT) budget.old.limit) batch.now.underlyings
-            batch.now.orders budget.old.spent) (as_stopped result) budget.new.spent }
-        ensures greatest { IfOk result (OfSolution N.fraction
-            (IsGreatestBy batch.now.underlyings batch.now.orders)) }
-        ensures yes { IfOk result (λ joint.
-            IsYesWith batch.now (reading_in N.fraction joint) joint.cover) }
-        ensures limit { budget.new.limit ≡ budget.old.limit }
-    {
-        let joint = self.solve_unjudged(batch, budget)?;
-        certify(batch, joint, budget.spent, sums)
-    }
 }
 
-/// The run of `JointRoom::solve_unjudged`, in room that is used up.
-pub fn solve_unjudged_in<N: Exact>(
+/// The whole run in given room: the run of `solve_unjudged`, and last the sums of the verdict, for which there are a list for
+/// the fills in 128 bits and a sign for each leg.
+fn solve_judged<N: Exact>(
     batch: &Batch,
     budget: &mut Budget,
     mut room: JointRoom<N>,
+    fills: Vec<Frac128>,
+    signs: &mut [i8],
 ) -> Result<Joint<N>, RunStop>
     requires limits { IsWithinLimits batch.now }
     requires room { IsJointRoom batch.now budget.old.limit room }
-    ensures run { IsJointAnswer N.fraction (unjudged_run
-        (limits_of (unsigned_abs N.LIMIT) budget.old.limit) batch.now.underlyings
-        batch.now.orders budget.old.spent) (as_stopped result) budget.new.spent }
-    ensures joint { IfOk result (IsJointOf batch.now) }
-    ensures limit { budget.new.limit ≡ budget.old.limit }
-{
-    room.solve_unjudged(batch, budget)
-}
-
-/// The run of `JointRoom::solve`, in rooms that are used up.
-pub fn solve_joint_in<N: Exact>(
-    batch: &Batch,
-    budget: &mut Budget,
-    mut room: JointRoom<N>,
-    mut sums: SumsRoom,
-) -> Result<Joint<N>, RunStop>
-    requires limits { IsWithinLimits batch.now }
-    requires room { IsJointRoom batch.now budget.old.limit room }
-    requires sums { IsSumsRoom batch.now sums }
+    requires fills { length batch.now.orders ≤ vec_capacity fills }
+    requires signs { AreSigns batch.now.orders (length signs.old) }
     ensures run { IsJointAnswer N.fraction (joint_run
         (limits_of (unsigned_abs N.LIMIT) budget.old.limit) batch.now.underlyings
         batch.now.orders budget.old.spent) (as_stopped result) budget.new.spent }
-    ensures greatest { IfOk result (OfSolution N.fraction
-        (IsGreatestBy batch.now.underlyings batch.now.orders)) }
-    ensures yes { IfOk result (λ joint.
-        IsYesWith batch.now (reading_in N.fraction joint) joint.cover) }
     ensures limit { budget.new.limit ≡ budget.old.limit }
 {
-    room.solve(batch, budget, &mut sums)
+    let joint = room.solve_unjudged(batch, budget)?;
+    judge_widened(batch, joint, budget.spent, fills, signs)
 }
 
-/// The same in room of its own, for want of which `Memory` comes before the first unit, and where the budget has more than
-/// 199,000 units.
+/// The fills of the batch with the greatest surplus, in ticks, and the certificate that shows it: the reference run, which is
+/// that of `JointRoom::solve_unjudged` and last the sums of the verdict in 128 bits.
+///
+/// The fills are from 0 to their quantities and cover the surplus at every settlement, and no fractional fills cover more;
+/// the verdict on them, with the cover and the measure, is yes. `Wide` and `Budget` come as there, and `Wide` at the first
+/// step of the sums that does not fit. All room is taken first, and for want of it `Memory` comes before the first unit.
 pub fn solve_joint<N: Exact>(
     alloc: Global,
     batch: &Batch,
     budget: &mut Budget,
 ) -> Result<Joint<N>, Stop>
     requires limits { IsWithinLimits batch.now }
+    requires units { budget.old.limit ≤ 20000 }
     ensures run { IsJointAnswer N.fraction (joint_run
         (limits_of (unsigned_abs N.LIMIT) budget.old.limit) batch.now.underlyings
         batch.now.orders budget.old.spent) result budget.new.spent }
@@ -127,12 +90,12 @@ pub fn solve_joint<N: Exact>(
         (IsGreatestBy batch.now.underlyings batch.now.orders)) }
     ensures yes { IfOk result (λ joint.
         IsYesWith batch.now (reading_in N.fraction joint) joint.cover) }
+    ensures memory { result ≡ Err Stop.Memory → budget.new.spent ≡ budget.old.spent }
     ensures limit { budget.new.limit ≡ budget.old.limit }
 {
-    if budget.limit > MAX_UNITS {
-        return Err(Stop::Memory);
-    }
+    let orders = batch.orders.as_slice();
     let room = JointRoom::new(alloc, batch, budget.limit)?;
-    let sums = SumsRoom::new(alloc, batch)?;
-    Ok(solve_joint_in(batch, budget, room, sums)?)
+    let fills = Vec::with_capacity(alloc, orders.len())?;
+    let mut signs = vec![in alloc; 0_i8; leg_count(orders)]?;
+    Ok(solve_judged(batch, budget, room, fills, &mut signs)?)
 }

@@ -1,4 +1,4 @@
-use Rattle.std.proofs.Common.{◌≡◌, ◌+◌, ◌-◌, ◌∷◌, length, map, ap, sym, arith, unsigned_abs, ◌∙◌, subst}
+use Rattle.std.proofs.Common.{◌+◌, ◌-◌, ◌∷◌, length, map, ap, sym, arith, unsigned_abs, ◌∙◌, subst}
 use Rattle.std.proofs.lemmas.Result.{err_from_is_err_and}
 use Rattle.std.proofs.lemmas.List.{length-drop, length-map}
 use Rattle.frac.specs.Range.{limit}
@@ -9,9 +9,10 @@ use Rattle.master_program.specs.Certified.{IsCertifiedAt}
 use Rattle.master_program.specs.Master.{zero_prices}
 use Rattle.master_program.specs.Reading.{Reading}
 use Rattle.master_program.specs.Solve.{master_solve}
-use Rattle.rounds.specs.Answers.{IsJointOf, OfSolution, limits_of}
+use Rattle.cert_check.specs.Conditions.{IsCoverOn}
+use Rattle.rounds.specs.Answers.{IsCoverAs, limits_of}
 use Rattle.rounds.specs.Readings.{reading_in_lists}
-use Rattle.rounds.specs.Run.{Solution, by_line, on_line, unjudged_run}
+use Rattle.rounds.specs.Run.{by_line, on_line}
 use Rattle.rounds.proofs.Certified.{on_one}
 use Rattle.rounds.proofs.Rooms.{fewer_states}
 use Rattle.rounds.proofs.Solve.{counted, later_are, on_states}
@@ -58,19 +59,18 @@ returns-clause-run g c =
     let ending = master_solve limit limits.limit (limits.budget - before) before n orders states in
     let r = reading_in_lists value c.solve_over.new.room.fills.items c.solve_over.new.room.points.items c.in_ok-read.read in
     let run = goes_on _ ending on_line r spent (on_one limits n orders before states c.requires.room.one later) c.in_ok-read.ensures.run
-    ∙ ap (λ (r : Reading). done (r, by_line) spent) (sym c.reading_in.ensures) in
-    subst (OfSolution value (λ (s : Solution). unjudged_run limits n orders before ≡ done s spent)) (sym c.joint_with.ensures) (by_line, tt, run)
+    ∙ ap (λ (r : Reading). done (r, by_line) spent) (sym c.take_joint.ensures.reading) in
+    (by_line, subst (IsCoverAs by_line) (sym c.take_joint.ensures.cover) tt, run)
 
 pub returns-clause-joint : goal.returns-clause-joint
 returns-clause-joint g c =
     let value = g.N.Exact.fraction in
     let n = c.args.batch.now.underlyings in
     let orders = c.args.batch.now.orders in
-    let reading = c.reading_in.result in
-    let certified = subst (IsCertifiedAt n orders (zero_prices n ∷ map vector_of c.split_at.result.1.now)) (sym c.reading_in.ensures) c.in_ok-read.ensures.certified in
-    subst (IsJointOf c.args.batch.now) (sym c.joint_with.ensures)
-    (record {
-      fills = counted value reading.fills (length orders) certified.fills.0;
-      cover = c.requires.room.one;
-      states = on_states n reading.measure.points certified.measure;
-    })
+    let joint = c.take_joint.result in
+    let certified = subst (IsCertifiedAt n orders (zero_prices n ∷ map vector_of c.split_at.result.1.now)) (sym c.take_joint.ensures.reading) c.in_ok-read.ensures.certified in
+    record {
+      fills = counted value joint.fills (length orders) certified.fills.0;
+      cover = subst (IsCoverOn n) (sym c.take_joint.ensures.cover) c.requires.room.one;
+      states = on_states n joint.measure.points certified.measure;
+    }

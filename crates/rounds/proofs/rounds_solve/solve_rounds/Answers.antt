@@ -1,13 +1,14 @@
-use Rattle.std.proofs.Common.{◌≡◌, ◌∙◌, ap, length, sym, unsigned_abs, subst}
+use Rattle.std.proofs.Common.{◌∙◌, ap, length, sym, unsigned_abs, subst}
 use Rattle.std.proofs.lemmas.Result.{err_from_is_err_and}
 use Rattle.table_run.specs.Ending.{done}
 use Rattle.master_program.specs.Reading.{Reading}
 use Rattle.node_program.specs.Rounds.{rounds}
 use Rattle.pricing_oracle.specs.Answers.{IsTreeAs}
 use Rattle.search_laws.proofs.Rounds.{rounds_are_greatest}
-use Rattle.rounds.specs.Answers.{IsJointOf, OfSolution, limits_of}
-use Rattle.rounds.specs.Readings.{reading_as, reading_in_lists}
-use Rattle.rounds.specs.Run.{Solution, by_tree, on_tree, unjudged_run}
+use Rattle.cert_check.specs.Conditions.{IsCoverOn}
+use Rattle.rounds.specs.Answers.{IsCoverAs, limits_of, reading_in}
+use Rattle.rounds.specs.Readings.{reading_in_lists}
+use Rattle.rounds.specs.Run.{by_tree, on_tree}
 use Rattle.rounds.proofs.Certified.{on_several}
 use Rattle.rounds.proofs.Solve.{counted, on_states}
 use Rattle.rounds.proofs.Stops.{goes_on, joint_of_stop, stops_after, stops_as}
@@ -36,8 +37,8 @@ returns-clause-run g c =
     let r = reading_in_lists value c.close.new.room.fills.items c.close.new.room.points.items c.in_ok-read.read in
     let run = c.in_ok-read.ensures.run in
     let whole = goes_on _ (rounds limits n orders before) on_tree (r, run.0) spent (on_several limits n orders before c.requires.room.several) run.2
-    ∙ ap (λ (r : Reading). done (r, by_tree run.0) spent) (sym c.reading_in-reading.ensures) in
-    subst (OfSolution value (λ (s : Solution). unjudged_run limits n orders before ≡ done s spent)) (sym c.joint_with.ensures) (by_tree run.0, subst (IsTreeAs run.0) (sym c.take_tree.ensures.tree) run.1, whole)
+    ∙ ap (λ (r : Reading). done (r, by_tree run.0) spent) (sym c.take_joint.ensures.reading) in
+    (by_tree run.0, subst (IsCoverAs (by_tree run.0)) (sym c.take_joint.ensures.cover) (subst (IsTreeAs run.0) (sym c.take_tree-tree.ensures.tree) run.1), whole)
 
 pub returns-clause-joint : goal.returns-clause-joint
 returns-clause-joint g c =
@@ -48,13 +49,12 @@ returns-clause-joint g c =
     let limits = limits_of (unsigned_abs g.N.Exact.LIMIT) c.args.budget.now.limit in
     let before = c.args.budget.now.spent in
     let spent = c.close.new.budget.spent in
-    let reading = c.reading_in-reading.result in
+    let joint = c.take_joint.result in
     let run = c.in_ok-read.ensures.run in
-    let whole = run.2 ∙ ap (λ (r : Reading). done (r, run.0) spent) (sym c.reading_in-reading.ensures) in
-    let greatest = rounds_are_greatest limits n before spent orders (reading_as value reading) run.0 forms.some forms.few c.args.budget.now.within whole in
-    subst (IsJointOf c.args.batch.now) (sym c.joint_with.ensures)
-    (record {
-      fills = counted value reading.fills (length orders) greatest.certified.fills.0;
-      cover = c.requires.room.several;
-      states = on_states n reading.measure.points greatest.certified.measure;
-    })
+    let whole = run.2 ∙ ap (λ (r : Reading). done (r, run.0) spent) (sym c.take_joint.ensures.reading) in
+    let greatest = rounds_are_greatest limits n before spent orders (reading_in value joint) run.0 forms.some forms.few c.args.budget.now.within whole in
+    record {
+      fills = counted value joint.fills (length orders) greatest.certified.fills.0;
+      cover = subst (IsCoverOn n) (sym c.take_joint.ensures.cover) c.requires.room.several;
+      states = on_states n joint.measure.points greatest.certified.measure;
+    }

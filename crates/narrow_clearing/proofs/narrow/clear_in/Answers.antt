@@ -1,5 +1,5 @@
 use Rattle.clearing.proofs.Cleared.{cleared}
-use Rattle.clearing.proofs.clearing.clear_in.Goals as goal
+use Rattle.narrow_clearing.proofs.narrow.clear_in.Goals as goal
 
 pub returns : goal.returns
 returns c =

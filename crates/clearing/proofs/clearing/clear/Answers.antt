@@ -1,10 +1,10 @@
 use Rattle.clearing.proofs.Cleared.{cleared}
-use Rattle.clearing.proofs.clearing.clear_first.Goals as goal
+use Rattle.clearing.proofs.clearing.clear.Goals as goal
 
 pub returns : goal.returns
-returns g c =
-    let is = c.outcome_first.ensures.outcome in
-    let all = cleared c.args.batch.now c.args.limit c.outcome_first.result.0 c.requires.within is in
+returns c =
+    let is = c.clear.ensures in
+    let all = cleared c.args.batch.now c.args.limit c.clear.result c.requires.within is in
     record {
       outcome = is;
       marked = all.marked;
@@ -14,5 +14,4 @@ returns g c =
       greatest = all.greatest;
       yes = all.yes;
       choices = all.choices;
-      pass = c.outcome_first.ensures.pass;
     }

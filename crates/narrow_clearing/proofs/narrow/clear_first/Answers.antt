@@ -1,10 +1,10 @@
 use Rattle.clearing.proofs.Cleared.{cleared}
-use Rattle.clearing.proofs.room.BroadRoom.clear.Goals as goal
+use Rattle.narrow_clearing.proofs.narrow.clear_first.Goals as goal
 
 pub returns : goal.returns
-returns c =
-    let is = c.broad_outcome.ensures in
-    let all = cleared c.args.batch.now c.args.limit c.broad_outcome.result c.requires.within is in
+returns g c =
+    let is = c.outcome_first.ensures.outcome in
+    let all = cleared c.args.batch.now c.args.limit c.outcome_first.result.0 c.requires.within is in
     record {
       outcome = is;
       marked = all.marked;
@@ -14,4 +14,5 @@ returns c =
       greatest = all.greatest;
       yes = all.yes;
       choices = all.choices;
+      pass = c.outcome_first.ensures.pass;
     }
