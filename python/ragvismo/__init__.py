@@ -1,0 +1,20 @@
+"""An options exchange with certified clearing, for notebooks. Numbers are `int` and `fractions.Fraction`, never floats."""
+
+from ragvismo.cleared import Certificate, Cleared, State
+from ragvismo.clearing import clear, double_auction
+from ragvismo.exchange import Balance, Exchange, Margin, Payout, Quote, Settled
+from ragvismo.faults import BadJournal, CheckFailed, Ended, NoMeasure, NoProgram, RagvismoError, Refused
+from ragvismo.frames import JournalFrames, read_journal
+from ragvismo.journals import read_batch
+from ragvismo.orders import Batch, FilledOrder, Leg, Option, Order, bundle, buy, call, put, sell
+from ragvismo.pictures import picture, save
+from ragvismo.prices import Distribution, implied_distribution, state_prices
+
+__all__ = [
+    *("Certificate", "Cleared", "State", "clear", "double_auction"),
+    *("Balance", "Exchange", "Margin", "Payout", "Quote", "Settled"),
+    *("BadJournal", "CheckFailed", "Ended", "NoMeasure", "NoProgram", "RagvismoError", "Refused"),
+    *("JournalFrames", "read_journal", "read_batch"),
+    *("Distribution", "implied_distribution", "state_prices", "picture", "save"),
+    *("Batch", "FilledOrder", "Leg", "Option", "Order", "bundle", "buy", "call", "put", "sell"),
+]

@@ -1,0 +1,153 @@
+"""Cleared batches and their certificates, as reply lines tell them. Amounts are in ticks, all of them exact."""
+
+from __future__ import annotations
+
+import json
+import os
+from collections.abc import Iterable
+from dataclasses import dataclass
+from fractions import Fraction
+from typing import TYPE_CHECKING, Any, Literal, NamedTuple, get_args
+
+from ragvismo import program
+from ragvismo.orders import FilledOrder, Leg, Option, Order, Side
+
+if TYPE_CHECKING:
+    import pandas
+
+Mark = Literal["optimal", "wide", "budget"]
+
+
+class State(NamedTuple):
+    """A state (t, s) of a measure: at t of at least 1 the settlement at the prices s / t, at t = 0 the ray along s."""
+
+    entries: tuple[int, ...]
+    weight: Fraction
+
+    @property
+    def is_ray(self) -> bool:
+        return self.entries[0] == 0
+
+    @property
+    def mass(self) -> Fraction:
+        """The state's part of the measure: masses sum to 1, and a ray has none."""
+        return self.weight * self.entries[0]
+
+    @property
+    def prices(self) -> tuple[Fraction, ...]:
+        """The prices of the underlyings in ticks; of a ray the direction in which they rise."""
+        return tuple(Fraction(entry, self.entries[0] or 1) for entry in self.entries[1:])
+
+
+@dataclass(frozen=True)
+class Certificate:
+    """What proves a cleared line: the cover and the measure, both empty where the mark is not `optimal`.
+
+    `cover` is `line` on one underlying, and on several the nodes of a tree (docs/CERTIFICATES.md). `text` is the whole line.
+    """
+
+    cover: str | list[dict[str, Any]]
+    measure: list[State]
+    text: str
+
+    def price(self, of: Option | Order) -> Fraction:
+        """The price that the measure gives an option or a bundle, listed in the batch or not, in ticks."""
+        return sum((state.weight * of.at(state.entries) for state in self.measure), Fraction(0))
+
+    def check(self, path: str | os.PathLike[str] | None = None) -> None:
+        """Asks `exchange check`, which solves nothing, whether the fills cover the surplus at every price and, at the mark
+        `optimal`, whether none cover more. Raises `CheckFailed` where it says no, `NoProgram` where it is not there."""
+        program.check(self.text + "\n", path)
+
+
+@dataclass(frozen=True)
+class Cleared:
+    """A cleared batch: the answer to a clear.
+
+    `units` are the turns of the solver that it took. `premium` less `liability` is the `surplus`, what the house keeps
+    whatever the prices. `wide` is the step that a number was too large for, at the mark `wide`. `text` is the reply line.
+    """
+
+    number: int
+    line: int
+    market: int
+    mark: Mark
+    underlyings: int
+    units: int
+    liability: Fraction
+    surplus: Fraction
+    orders: list[FilledOrder]
+    certificate: Certificate
+    wide: dict[str, str]
+
+    @property
+    def text(self) -> str:
+        return self.certificate.text
+
+    @property
+    def fills(self) -> list[Fraction]:
+        """The fill of each order, in bundles."""
+        return [it.fill for it in self.orders]
+
+    @property
+    def premium(self) -> Fraction:
+        """Fill times limit price over the buys, less the same over the sells, in ticks."""
+        return self.surplus + self.liability
+
+    def kept(self, state: tuple[int | Fraction, ...]) -> Fraction:
+        """What the house keeps of the premium after the net payoff at a settlement (1, prices), in ticks."""
+        return self.premium - sum(it.sign * it.fill * it.at(state) for it in self.orders)
+
+    def to_frame(self) -> "pandas.DataFrame":
+        """The orders with their fills: `order`, `account`, `side`, `options`, `price`, `quantity`, `fill`, `premium`."""
+        import pandas
+
+        columns = "order account side options price quantity fill premium".split()
+        rows = [
+            (it.number, it.account, it.side, it.options(), it.price, it.quantity, it.fill, it.premium())
+            for it in self.orders
+        ]
+        return pandas.DataFrame(rows, columns=columns)
+
+
+def read(reply: dict[str, Any], text: str = "") -> Cleared:
+    """The cleared batch of a reply. A reply that is none is a KeyError, TypeError, ValueError, or another of their kind."""
+    fills, orders = [Fraction(each) for each in reply["fills"]], []
+    if len(fills) != len(reply["orders"]) or reply["mark"] not in get_args(Mark):
+        raise ValueError("as many fills as orders, and a mark")
+    for each, fill in zip(reply["orders"], fills):
+        legs = tuple(legs_of(each))
+        if any(len(leg.option.form) != reply["underlyings"] + 1 or not any(leg.option.form[1:]) for leg in legs):
+            raise ValueError("an option of the market")
+        if each["side"] not in get_args(Side):
+            raise ValueError("a side")
+        about = {name: each[name] for name in ("account", "side", "price", "quantity")}
+        orders.append(FilledOrder(number=each["order"], fill=fill, legs=legs, **about))
+    certificate = reply.get("certificate", {})
+    return Cleared(
+        number=reply["batch"],
+        liability=Fraction(reply["liability"]),
+        surplus=Fraction(reply["surplus"]),
+        orders=orders,
+        certificate=Certificate(certificate.get("cover", []), list(states_of(certificate)), text or spelled(reply)),
+        wide=reply.get("wide", {}),
+        **{name: reply[name] for name in ("line", "market", "mark", "underlyings", "units")},
+    )
+
+
+def legs_of(order: dict[str, Any]) -> Iterable[Leg]:
+    """The legs of an order of a reply; a single option stands there without a count."""
+    if "legs" not in order:
+        return [Leg(1, Option(tuple(order["form"])))]
+    return [Leg(leg["count"], Option(tuple(leg["form"]))) for leg in order["legs"]]
+
+
+def states_of(certificate: dict[str, Any]) -> Iterable[State]:
+    """The measure of a certificate of a reply, empty where it has none."""
+    for it in certificate.get("measure", []):
+        yield State(tuple(map(int, it["state"])), Fraction(it["weight"]))
+
+
+def spelled(reply: dict[str, Any]) -> str:
+    """A reply in the one spelling of a line."""
+    return json.dumps(reply, sort_keys=True, separators=(",", ":"))
