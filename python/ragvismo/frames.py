@@ -63,10 +63,15 @@ def read_journal(path: journals.Path) -> JournalFrames:
 
 
 def _frame(columns: dict[str, list[Any]]) -> "pandas.DataFrame":
+    import numpy
     import pandas
 
-    types = {name: "int64" if name in SIZED else bool if name == "is_ray" else object for name in columns}
-    return pandas.DataFrame({name: pandas.Series(column, dtype=types[name]) for name, column in columns.items()})
+    def array(name: str, cells: list[Any]) -> Any:
+        # fromiter takes the objects as they are, where an array of a list would look into each of them
+        of = "int64" if name in SIZED else bool if name == "is_ray" else object
+        return numpy.fromiter(cells, dtype=of, count=len(cells))
+
+    return pandas.DataFrame({name: array(name, cells) for name, cells in columns.items()})
 
 
 class _Exact(dict[str, Fraction]):
@@ -126,17 +131,21 @@ class _Reader:
         ]
 
     def take_legs(self, reply: dict[str, Any]) -> None:
-        columns, orders = self.frames["legs"], reply["orders"]
-        legs = [
-            (it["order"], number, leg["count"], self.options[tuple(leg["form"])])
-            for it in orders
-            for number, leg in enumerate(it["legs"] if "legs" in it else ({"count": 1, "form": it["form"]},), 1)
-        ]
-        columns["batch"] += [reply["batch"]] * len(legs)
-        for at, name in enumerate(("order", "leg", "count")):
-            columns[name] += [it[at] for it in legs]
+        columns = self.frames["legs"]
+        if reply["version"] == 1:
+            orders = [it["order"] for it in reply["orders"]]
+            numbers = counts = [1] * len(orders)
+            options = [self.options[tuple(it["form"])] for it in reply["orders"]]
+        else:
+            legs = [(it["order"], *each) for it in reply["orders"] for each in enumerate(it["legs"], 1)]
+            orders, numbers = [it[0] for it in legs], [it[1] for it in legs]
+            counts = [it[2]["count"] for it in legs]
+            options = [self.options[tuple(it[2]["form"])] for it in legs]
+        columns["batch"] += [reply["batch"]] * len(orders)
+        for name, cells in (("order", orders), ("leg", numbers), ("count", counts)):
+            columns[name] += cells
         for at, name in enumerate(("kind", "strike", "weights")):
-            columns[name] += [it[3][at] for it in legs]
+            columns[name] += [it[at] for it in options]
 
     def take_batch(self, reply: dict[str, Any]) -> None:
         for number, it in enumerate(states_of(reply.get("certificate", {})), 1):

@@ -50,10 +50,13 @@ LAYOUTS: dict[Size, Layout] = {
 def picture(cleared: Cleared, size: Size = "page") -> Any:
     """Draws a batch as a figure of matplotlib, 7 inches wide for a page or 3.4 for a column."""
     import matplotlib
+    from matplotlib import pyplot
 
     with matplotlib.rc_context({**LOOK, "font.size": LAYOUTS[size].letters}):
         draw = {1: _draw_line, 2: _draw_map}.get(cleared.underlyings, _draw_states)
-        return draw(cleared, LAYOUTS[size])
+        figure = draw(cleared, LAYOUTS[size])
+    pyplot.close(figure)  # else a notebook shows it twice, and pyplot keeps it
+    return figure
 
 
 def save(cleared: Cleared, path: str | os.PathLike[str], size: Size = "page") -> None:
@@ -61,7 +64,6 @@ def save(cleared: Cleared, path: str | os.PathLike[str], size: Size = "page") ->
 
     Raises ValueError at another ending, and OSError where the file cannot be written."""
     import matplotlib
-    from matplotlib import pyplot
 
     ending = pathlib.Path(path).suffix
     if ending not in ENDINGS:
@@ -69,7 +71,6 @@ def save(cleared: Cleared, path: str | os.PathLike[str], size: Size = "page") ->
     figure = picture(cleared, size)
     with matplotlib.rc_context({**LOOK, "font.size": LAYOUTS[size].letters}):
         figure.savefig(path, metadata={".svg": {"Date": None}, ".pdf": {"CreationDate": None}}.get(ending))
-    pyplot.close(figure)
 
 
 def brief(number: Fraction | int, most: int = 9) -> str:
