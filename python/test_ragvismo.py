@@ -278,6 +278,11 @@ class Clearing(unittest.TestCase):
             journals.cleared.read(json.loads(text.replace('"2/7"', '"3/7"'))).certificate.check()
         self.assertEqual((caught.exception.reason, caught.exception.line), ("Cover", 1))
 
+    def test_the_study_in_small_form(self) -> None:
+        words = [TOP / "tools/study-strikes", "--batches", "2", "--orders", "12"]
+        ran = subprocess.run(words, capture_output=True, text=True)
+        self.assertEqual((ran.returncode, ran.stdout.count("2 optimal |"), ran.stderr), (0, 7, ""))
+
     def test_the_readme_and_the_tour(self) -> None:
         text = (TOP / "python/README.md").read_text()
         session, printed = re.search(r"```python\n(.*?)```\n\n```\n(.*?)```", text, re.S).groups()

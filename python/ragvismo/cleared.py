@@ -43,21 +43,23 @@ class State(NamedTuple):
 class Certificate:
     """What proves a cleared line: the cover and the measure, both empty where the mark is not `optimal`.
 
-    `cover` is `line` on one underlying, and on several the nodes of a tree (docs/CERTIFICATES.md). `text` is the whole line.
+    `cover` is `line` on one underlying, and on several the nodes of a tree (docs/CERTIFICATES.md). `text` is the whole line,
+    and `path` the program that told it, where that is known.
     """
 
     cover: str | list[dict[str, Any]]
     measure: list[State]
     text: str
+    path: str | os.PathLike[str] | None = None
 
     def price(self, of: Option | Order) -> Fraction:
         """The price that the measure gives an option or a bundle, listed in the batch or not, in ticks."""
         return sum((state.weight * of.at(state.entries) for state in self.measure), Fraction(0))
 
-    def check(self, path: str | os.PathLike[str] | None = None) -> None:
+    def check(self) -> None:
         """Asks `exchange check`, which solves nothing, whether the fills cover the surplus at every price and, at the mark
         `optimal`, whether none cover more. Raises `CheckFailed` where it says no, `NoProgram` where it is not there."""
-        program.check(self.text + "\n", path)
+        program.check(self.text + "\n", self.path)
 
 
 @dataclass(frozen=True)
@@ -110,8 +112,9 @@ class Cleared:
         return pandas.DataFrame(rows, columns=columns)
 
 
-def read(reply: dict[str, Any], text: str = "") -> Cleared:
-    """The cleared batch of a reply. A reply that is none is a KeyError, TypeError, ValueError, or another of their kind."""
+def read(reply: dict[str, Any], text: str = "", path: str | os.PathLike[str] | None = None) -> Cleared:
+    """The cleared batch of a reply, told by a program. A reply that is none is a KeyError, TypeError, ValueError, or another
+    of their kind."""
     fills, orders = [Fraction(each) for each in reply["fills"]], []
     if len(fills) != len(reply["orders"]) or reply["mark"] not in get_args(Mark):
         raise ValueError("as many fills as orders, and a mark")
@@ -129,7 +132,9 @@ def read(reply: dict[str, Any], text: str = "") -> Cleared:
         liability=Fraction(reply["liability"]),
         surplus=Fraction(reply["surplus"]),
         orders=orders,
-        certificate=Certificate(certificate.get("cover", []), list(states_of(certificate)), text or spelled(reply)),
+        certificate=Certificate(
+            certificate.get("cover", []), list(states_of(certificate)), text or spelled(reply), path
+        ),
         wide=reply.get("wide", {}),
         **{name: reply[name] for name in ("line", "market", "mark", "underlyings", "units")},
     )

@@ -36,7 +36,7 @@ def clear(
         if '"reply":"refused"' in line:
             reply = json.loads(line)
             raise Refused(command, reply["reason"], reply["number"], reply.get("field"))
-    found = cleared.read(json.loads(lines[-1]), lines[-1])
+    found = cleared.read(json.loads(lines[-1]), lines[-1], path)
     return found if mechanism == "joint" or found.mark != "optimal" else _alone(found)
 
 
@@ -84,4 +84,4 @@ def _alone(joint: Cleared) -> Cleared:
     reply = json.loads(joint.text)
     del reply["certificate"]
     reply |= {"fills": list(map(str, fills)), "liability": "0", "surplus": str(surplus), "mark": "budget", "units": 1}
-    return cleared.read(reply)
+    return cleared.read(reply, path=joint.certificate.path)

@@ -69,17 +69,18 @@ class Exchange:
     ticks. Use it in a `with`, or call `close`.
 
     Each call raises `Refused` where the exchange refuses it, which changes nothing, `Ended` where the program has ended, and
-    TypeError for a number that is not whole. `commands` and `replies` are the lines so far, which `run` would repeat.
+    TypeError for a number that is not whole. `commands` and `replies` are the lines so far: the same commands would be answered
+    by the same replies.
     """
 
     def __init__(self, path: str | os.PathLike[str] | None = None) -> None:
         """Starts the program that `program.find` finds; raises `NoProgram` where there is none."""
-        found = program.find(path)
+        self.path = program.find(path)
         self.commands: list[str] = []
         self.replies: list[str] = []
         self._errors = tempfile.TemporaryFile()
         ends: dict[str, Any] = {"stdin": subprocess.PIPE, "stdout": subprocess.PIPE, "stderr": self._errors}
-        self._process = subprocess.Popen([found, "serve"], **ends)
+        self._process = subprocess.Popen([self.path, "serve"], **ends)
 
     def __enter__(self) -> Exchange:
         return self
@@ -103,19 +104,20 @@ class Exchange:
     def ask(self, command: str) -> dict[str, Any]:
         """The reply to one command line of docs/FORMATS.md, as an object; raises `Refused` and `Ended`."""
         assert self._process.stdin and self._process.stdout
-        if not command or "\n" in command:
-            raise ValueError("a command is one line that is not empty")
+        if not command or not command.isprintable():
+            raise ValueError("a command is one line of letters that can be seen")
         try:
             self._process.stdin.write(command.encode() + b"\n")
             self._process.stdin.flush()
         except (BrokenPipeError, ValueError):
             raise self._ended() from None
-        text = self._process.stdout.readline().decode()
-        if not text.endswith("\n"):
-            raise self._ended()
         self.commands.append(command)
-        self.replies.append(text.rstrip("\n"))
-        reply: dict[str, Any] = json.loads(text)
+        while len(self.replies) < len(self.commands):  # more than one where a wait before was interrupted
+            text = self._process.stdout.readline().decode()
+            if not text.endswith("\n"):
+                raise self._ended()
+            self.replies.append(text.rstrip("\n"))
+        reply: dict[str, Any] = json.loads(self.replies[-1])
         if reply["reply"] == "refused":
             raise Refused(command, reply["reason"], reply["number"], reply.get("field"), reply.get("need"))
         return reply
@@ -182,7 +184,7 @@ class Exchange:
     def clear(self, *, market: int, budget: int = BUDGET) -> Cleared:
         """Clears all live orders of a market within a budget of 1 to 20,000 units, turns of the solver."""
         reply = self.ask(_line("clear", market, budget))
-        return cleared.read(reply, self.replies[-1])
+        return cleared.read(reply, self.replies[-1], self.path)
 
     def settle(self, *, market: int, prices: Sequence[int]) -> Settled:
         """Settles a market for good at whole prices of its underlyings, 0 to 10^9."""

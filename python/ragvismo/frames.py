@@ -68,7 +68,7 @@ def _frame(columns: dict[str, list[Any]]) -> "pandas.DataFrame":
 
     def array(name: str, cells: list[Any]) -> Any:
         # fromiter takes the objects as they are, where an array of a list would look into each of them
-        of = "int64" if name in SIZED else bool if name == "is_ray" else object
+        of: Any = "int64" if name in SIZED else bool if name == "is_ray" else object
         return numpy.fromiter(cells, dtype=of, count=len(cells))
 
     return pandas.DataFrame({name: array(name, cells) for name, cells in columns.items()})
