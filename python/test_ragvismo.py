@@ -278,6 +278,25 @@ class Clearing(unittest.TestCase):
             journals.cleared.read(json.loads(text.replace('"2/7"', '"3/7"'))).certificate.check()
         self.assertEqual((caught.exception.reason, caught.exception.line), ("Cover", 1))
 
+    @wants("pandas")
+    @wants("matplotlib")
+    def test_what_the_researchers_document_shows(self) -> None:
+        import pandas
+
+        shown = re.findall(r"```python\n(.*?)```", (TOP / "docs/RESEARCH.md").read_text(), re.S)
+        rows = [
+            *(("buy", "call", 10, 7, 3), ("sell", "call", 10, 6, 1)),
+            *(("sell", "call", 5, 8, 2), ("sell", "call", 12, 4, 2)),
+        ]
+        names: dict[str, Any] = {
+            "orders": pandas.DataFrame(rows, columns=["side", "kind", "strike", "price", "quantity"])
+        }
+        with tempfile.TemporaryDirectory() as folder:
+            for text in shown:
+                exec(text.replace("batch.pdf", f"{folder}/batch.pdf"), names)
+            self.assertGreater(os.path.getsize(f"{folder}/batch.pdf"), 0)
+        self.assertGreater(names["joint"].surplus, names["each"].surplus)
+
     def test_the_study_in_small_form(self) -> None:
         words = [TOP / "tools/study-strikes", "--batches", "2", "--orders", "12"]
         ran = subprocess.run(words, capture_output=True, text=True)

@@ -12,7 +12,7 @@ from collections.abc import Iterable
 from fractions import Fraction
 from typing import Any, Literal, NamedTuple
 
-from ragvismo.cleared import Cleared, State
+from ragvismo.cleared import Cleared
 from ragvismo.orders import FilledOrder
 
 Size = Literal["page", "column"]
@@ -255,8 +255,7 @@ def _draw_map(cleared: Cleared, layout: Layout) -> Any:
     least = _show_shades(axes, figure.add_subplot(grid[0, 1]), cleared, bends, end)
     for number, bend in enumerate(bends, 1):
         _show_bend(axes, bend, end, f"breakpoint-{number}")
-    for number, state in enumerate(cleared.certificate.measure, 1):
-        _show_state(axes, state, end, f"state-{number}")
+    _show_states(axes, cleared, end, layout)
     axes.set(xlim=(0, end), ylim=(0, end))
     axes.set(xlabel="price of the first underlying (ticks)", ylabel="price of the second underlying (ticks)")
     axes.set_title(f"least on this map: {least:g}", fontsize="small")
@@ -362,23 +361,43 @@ def _show_bend(axes: Any, bend: Bend, end: float, gid: str) -> None:
         axes.axvline(-bend.a / bend.b, **look)
 
 
-def _show_state(axes: Any, state: State, end: float, gid: str) -> None:
-    """A settlement as a point, a ray as an arrow at the edge that it leaves by."""
-    if state.is_ray:
-        x, y = (end * entry / max(state.entries) for entry in state.entries[1:])
-        marker = ">" if state.entries[1] >= state.entries[2] else "^"
-        axes.scatter([x], [y], s=50, c="k", marker=marker, clip_on=False, zorder=3, gid=gid)
-        label = f"ray, weight {brief(state.weight)}"
-    else:
-        x, y = map(float, state.prices)
-        axes.scatter([x], [y], s=30 + 120 * float(state.mass), c="w", edgecolors="k", zorder=3, clip_on=False, gid=gid)
-        label = f"mass {brief(state.mass)}"
-    box = {"boxstyle": "round,pad=0.15", "fc": "w", "ec": "none", "alpha": 0.8}
-    offset = (-8 if x > 0.7 * end else 8, -14 if y > 0.9 * end else 8)
-    align = "right" if x > 0.7 * end else "left"
-    axes.annotate(
-        label, (x, y), xytext=offset, textcoords="offset points", ha=align, fontsize="small", bbox=box, zorder=4
-    )
+def _show_states(axes: Any, cleared: Cleared, end: float, layout: Layout) -> None:
+    """A settlement as a point, a ray as an arrow at the edge that it leaves by; a label stands where none is yet."""
+    letter = layout.letters / 72 / (0.8 * layout.width) * end
+    taken: list[tuple[float, float, float]] = []
+    for number, it in enumerate(cleared.certificate.measure, 1):
+        if it.is_ray:
+            x, y = (end * entry / max(it.entries) for entry in it.entries[1:])
+            marker, size, label = (
+                (">" if it.entries[1] >= it.entries[2] else "^"),
+                50.0,
+                f"ray, weight {brief(it.weight)}",
+            )
+        else:
+            x, y = map(float, it.prices)
+            marker, size, label = "o", 30 + 120 * float(it.mass), f"mass {brief(it.mass)}"
+        color = "k" if it.is_ray else "w"
+        gid = f"state-{number}"
+        axes.scatter([x], [y], s=size, c=color, edgecolors="k", marker=marker, clip_on=False, zorder=3, gid=gid)
+        wide = 0.6 * letter * len(label)
+        place = _free_place(x, y, wide, letter, end, taken)
+        if place:
+            taken.append((*place, wide))
+            box = {"boxstyle": "round,pad=0.15", "fc": "w", "ec": "none", "alpha": 0.8}
+            axes.text(*place, label, va="center", fontsize="small", bbox=box, zorder=4)
+
+
+def _free_place(
+    x: float, y: float, wide: float, letter: float, end: float, taken: list[tuple[float, float, float]]
+) -> Point | None:
+    """Where a label beside a point begins, and the middle of its height, so that it is on the map and on no other label."""
+    for left in (x + letter, x - letter - wide):
+        for middle in (y + 1.6 * letter, y - 1.6 * letter):
+            on_map = 0 <= left and left + wide <= end and letter <= middle <= end - letter
+            apart = (abs(middle - at) > 1.8 * letter or left > to + of or to > left + wide for to, at, of in taken)
+            if on_map and all(apart):
+                return left, middle
+    return None
 
 
 # More underlyings.
