@@ -1,0 +1,224 @@
+"""The log of an exchange: two streams in Redis, and what an entry says to the program.
+
+Clients append entries to NAME:in, with the fields session, number and body. NAME:out has the answer to each under the same
+id, in the field answer. NAME:program is the SHA-256 of the one program whose answers may be published.
+"""
+from __future__ import annotations
+
+import argparse
+import hashlib
+import itertools
+import json
+import pathlib
+import queue
+import re
+import select
+import subprocess
+import sys
+import threading
+import time
+from collections.abc import Callable, Iterator
+from os import read
+from typing import Any, NamedTuple, NoReturn, TypeVar
+
+try:
+    import redis
+except ImportError:
+    sys.exit("python3-redis is missing; tools/setup installs it")
+
+PROGRAM = pathlib.Path(__file__).resolve().parent.parent / "crates/exchange_cli/out/exchange_cli"
+LONGEST_LINE = 16 * 1024 * 1024
+START, PAGE = b"0-0", 1000
+# How long more answers are waited for before those that have come are handed on, in seconds.
+LINGER = 0.002
+PLACE = re.compile(r"(?:([^:/]*):)?(\d+)(?:/(.+))?")
+Answer = TypeVar("Answer")
+
+
+class BadUse(Exception):
+    """What is wrong with the use, in one line."""
+
+
+class Ended(Exception):
+    """Why nothing more can be done, in one line, and the status to end with."""
+
+    def __init__(self, said: str, status: int) -> None:
+        super().__init__(said)
+        self.status = status
+
+
+# Statuses beside 0 and 2: without Redis; the log is another one; another answer stands there; another program; it ended.
+NO_REDIS, LOST, DIFFERS, OTHER_PROGRAM, PROGRAM_ENDED = 3, 4, 5, 6, 7
+
+
+class Names(NamedTuple):
+    """The keys of one exchange."""
+
+    taken: str
+    answers: str
+    program: str
+
+    @staticmethod
+    def of(name: str) -> Names:
+        return Names(f"{name}:in", f"{name}:out", f"{name}:program")
+
+
+class Entry(NamedTuple):
+    id: bytes
+    fields: dict[bytes, bytes]
+
+    def fault(self) -> str:
+        """Why the entry is no message: Fields, Form or Long; nothing where it may reach the program."""
+        if set(self.fields) != {b"session", b"number", b"body"}:
+            return "Fields"
+        session, number, body = (self.fields[key] for key in (b"session", b"number", b"body"))
+        if b"\n" in session + number + body or b"," in session + number:
+            return "Form"
+        return "Long" if len(session) + len(number) + len(body) + 2 > LONGEST_LINE else ""
+
+    def line(self) -> bytes:
+        """The line by which the program is told of a message."""
+        return b"%b,%b,%b\n" % (self.fields[b"session"], self.fields[b"number"], self.fields[b"body"])
+
+    def malformed(self, fault: str) -> bytes:
+        """The answer to an entry that is no message."""
+        said = {"entry": self.id.decode(), "reason": fault, "reply": "service"}
+        return json.dumps(said, separators=(",", ":")).encode()
+
+
+class Program:
+    """The program behind a pipe; it answers each line with one, and has no end while it is asked."""
+
+    def __init__(self, path: pathlib.Path) -> None:
+        ends = {"stdin": subprocess.PIPE, "stdout": subprocess.PIPE}
+        self.process = subprocess.Popen([path, "serve", "sessions"], **ends)
+        self.given: queue.SimpleQueue[bytes] = queue.SimpleQueue()
+        self.cut = b""
+        threading.Thread(target=self._give, daemon=True).start()
+
+    def _give(self) -> None:
+        """Writes beside the reading of answers, so that full pipes hold up neither."""
+        try:
+            while lines := self.given.get():
+                self.process.stdin.write(lines)
+                self.process.stdin.flush()
+            self.process.stdin.close()
+        except BrokenPipeError:
+            pass
+
+    def answers(self, lines: list[bytes]) -> Iterator[list[bytes]]:
+        """The answers to lines, in order, in groups as they come."""
+        self.given.put(b"".join(lines))
+        left = len(lines)
+        while left:
+            group = more = self._read()
+            while more and len(group) < left and select.select([self.process.stdout], [], [], LINGER)[0]:
+                more = self._read()
+                group = group + more
+            if not group:
+                raise Ended(f"the program ended with status {self.process.wait()}", PROGRAM_ENDED)
+            left -= len(group)
+            yield group
+
+    def _read(self) -> list[bytes]:
+        """The answers that are there, at least one unless the program has ended."""
+        answers: list[bytes] = []
+        while not answers and (piece := read(self.process.stdout.fileno(), 1 << 16)):
+            *answers, self.cut = (self.cut + piece).split(b"\n")
+        return answers
+
+    def end(self) -> None:
+        self.given.put(b"")
+        self.process.wait()
+
+
+def digest(program: pathlib.Path) -> str:
+    """What names a program: the SHA-256 of its file."""
+    return hashlib.sha256(program.read_bytes()).hexdigest()
+
+
+def answered(program: Program, entries: list[Entry]) -> Iterator[list[tuple[Entry, bytes]]]:
+    """The entries with their answers, in order, in groups as they come."""
+    for fault, alike in itertools.groupby(entries, Entry.fault):
+        run = list(alike)
+        if fault:
+            yield [(entry, entry.malformed(fault)) for entry in run]
+            continue
+        left = iter(run)
+        for answers in program.answers([entry.line() for entry in run]):
+            yield [(next(left), answer) for answer in answers]
+
+
+class Log:
+    """The streams of one exchange, over a Redis that may go away and come again."""
+
+    def __init__(self, place: str, patience: float) -> None:
+        host, port, self.name = place_of(place)
+        self.names, self.patience = Names.of(self.name), patience
+        self.redis = redis.Redis(host, port, socket_timeout=30, client_name=f"ragvismo-{pathlib.Path(sys.argv[0]).name}")
+
+    def ask(self, call: Callable[..., Answer], *words: Any, **more: Any) -> Answer:
+        """What Redis answers, asked again while it is away, for as long as patience lasts."""
+        until = time.monotonic() + self.patience
+        while True:
+            try:
+                return call(*words, **more)
+            except (redis.ConnectionError, redis.TimeoutError) as fault:
+                if time.monotonic() > until:
+                    raise Ended(f"no Redis answers: {fault}", NO_REDIS) from None
+                time.sleep(0.1)
+            except redis.ResponseError as fault:
+                raise Ended(f"Redis refuses: {fault}", NO_REDIS) from None
+
+    def page(self, stream: str, first: bytes | str, last: bytes | str = "+", most: int = PAGE) -> list[tuple[bytes, dict[bytes, bytes]]]:
+        return self.ask(self.redis.xrange, stream, first, last, most)
+
+    def last_id(self, stream: str) -> bytes:
+        found = self.ask(self.redis.xrevrange, stream, "+", "-", 1)
+        return found[0][0] if found else START
+
+
+def place_of(place: str) -> tuple[str, int, str]:
+    """Host, port and name of HOST:PORT/NAME; both host and name may be left away."""
+    parts = PLACE.fullmatch(place)
+    if not parts or not 0 < int(parts[2]) < 65536:
+        raise BadUse(f"{place} is no place: HOST:PORT/NAME, with a port from 1 to 65535")
+    return parts[1] or "127.0.0.1", int(parts[2]), parts[3] or "ragvismo"
+
+
+def after(id: bytes) -> bytes:
+    """The least id above."""
+    time_part, _, number = id.partition(b"-")
+    return b"%b-%d" % (time_part, int(number) + 1)
+
+
+class Words(argparse.ArgumentParser):
+    """The words of a tool of the service; each has a place."""
+
+    def __init__(self, description: str | None) -> None:
+        super().__init__(description=description, formatter_class=argparse.RawDescriptionHelpFormatter)
+        self.add_argument("--at", default="6380", metavar="HOST:PORT/NAME", help="127.0.0.1:6380/ragvismo, if not given")
+        self.add_argument("--patience", type=float, default=60, metavar="SECONDS", help="how long Redis may be away (60)")
+
+    def error(self, message: str) -> NoReturn:
+        raise BadUse(f"{message}; --help says more")
+
+    def program(self) -> None:
+        self.add_argument("--program", type=pathlib.Path, default=PROGRAM, metavar="FILE", help="the one that ./build makes, if not given")
+
+
+def status_of(main: Callable[[], int | None]) -> int:
+    """The status of a tool, and one line on standard error where it is not 0."""
+    tool = pathlib.Path(sys.argv[0]).name
+    try:
+        return main() or 0
+    except BadUse as fault:
+        print(f"{tool}: {fault}", file=sys.stderr)
+        return 2
+    except Ended as fault:
+        print(f"{tool}: {fault}", file=sys.stderr)
+        return fault.status
+    except KeyboardInterrupt:
+        return 130
+    except BrokenPipeError:
+        return 0
