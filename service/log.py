@@ -170,12 +170,9 @@ class Log:
             except redis.ResponseError as fault:
                 raise Ended(f"Redis refuses: {fault}", NO_REDIS) from None
 
-    def page(self, stream: str, first: bytes | str, last: bytes | str = "+", most: int = PAGE) -> list[tuple[bytes, dict[bytes, bytes]]]:
-        return self.ask(self.redis.xrange, stream, first, last, most)
-
-    def last_id(self, stream: str) -> bytes:
-        found = self.ask(self.redis.xrevrange, stream, "+", "-", 1)
-        return found[0][0] if found else START
+    def page(self, stream: str, first: bytes | str, last: bytes | str = "+", most: int = PAGE) -> list[Entry]:
+        """The first entries of a stream between two ids, both included."""
+        return [Entry(*it) for it in self.ask(self.redis.xrange, stream, first, last, most)]
 
 
 def place_of(place: str) -> tuple[str, int, str]:
@@ -193,18 +190,20 @@ def after(id: bytes) -> bytes:
 
 
 class Words(argparse.ArgumentParser):
-    """The words of a tool of the service; each has a place."""
+    """The words of a tool of the service."""
 
-    def __init__(self, description: str | None) -> None:
+    def __init__(self, description: str | None, is_placed: bool = True) -> None:
         super().__init__(description=description, formatter_class=argparse.RawDescriptionHelpFormatter)
-        self.add_argument("--at", default="6380", metavar="HOST:PORT/NAME", help="127.0.0.1:6380/ragvismo, if not given")
+        if is_placed:
+            self.add_argument("--at", default="6380", metavar="HOST:PORT/NAME", help="127.0.0.1:6380/ragvismo, if not given")
         self.add_argument("--patience", type=float, default=60, metavar="SECONDS", help="how long Redis may be away (60)")
 
     def error(self, message: str) -> NoReturn:
         raise BadUse(f"{message}; --help says more")
 
     def program(self) -> None:
-        self.add_argument("--program", type=pathlib.Path, default=PROGRAM, metavar="FILE", help="the one that ./build makes, if not given")
+        more = {"metavar": "FILE", "help": "the one that ./build makes, if not given"}
+        self.add_argument("--program", type=pathlib.Path, default=PROGRAM, **more)
 
 
 def status_of(main: Callable[[], int | None]) -> int:
