@@ -1,4 +1,4 @@
-// The word `serve`: lines of every kind, answered between two reads.
+// The word `serve`: lines of every kind, and messages of sessions, answered between two reads.
 use crate::running::{MATCHED, MATCHED_REPLIES, assert_lines, run};
 use exchange_program::Status;
 use std::test::Fail;
@@ -23,16 +23,54 @@ static REFUSED: &str = r#"{"line":2,"number":4,"reason":"NoMarket","reply":"refu
 {"line":3,"number":4,"reason":"NoMarket","reply":"refused"}
 "#;
 
+// Messages of sessions, an empty line among them, of whose bodies one asks for a quote.
+static MESSAGES: &str = r#"7,1,open,1
+8,1,open,2
+7,1,open,1
+7,3,balance,1
+
+8,1,open,3
+7,2,open,3
+7,3,deposit,1,100
+7,4,market,1,1
+8,2,sell,2,1,call,5,8,1,1
+8,3,quote,1,20000,call,10,1
+7,2,open,3
+8,3,quote,1,20000,call,10,1
+x"#;
+
+static ANSWERS: &str = r#"{"number":1,"of":{"account":1,"line":1,"reply":"opened"},"session":7}
+{"number":1,"of":{"account":2,"line":2,"reply":"opened"},"session":8}
+{"number":1,"of":{"account":1,"line":1,"reply":"opened"},"session":7}
+{"expected":2,"line":4,"number":17,"reason":"Ahead","reply":"gate","session":7}
+{"expected":2,"line":6,"number":18,"reason":"Changed","reply":"gate","session":8}
+{"number":2,"of":{"account":3,"line":3,"reply":"opened"},"session":7}
+{"number":3,"of":{"account":1,"balance":"100","line":4,"reply":"deposited"},"session":7}
+{"number":4,"of":{"line":5,"market":1,"reply":"listed","underlyings":1},"session":7}
+{"number":2,"of":{"line":6,"order":1,"reply":"placed"},"session":8}
+{"number":3,"of":{"ask":"never","bid":"9","line":7,"market":1,"reply":"quoted"},"session":8}
+{"expected":5,"line":12,"number":16,"reason":"Old","reply":"gate","session":7}
+{"number":3,"of":{"ask":"never","bid":"9","line":7,"market":1,"reply":"quoted"},"session":8}
+{"line":14,"number":15,"reason":"Malformed","reply":"gate"}
+"#;
+
+// Of messages no byte is skipped.
+static MARKED: &str = "\u{FEFF}7,1,open,1\n";
+
+static MALFORMED: &str = "{\"line\":1,\"number\":15,\"reason\":\"Malformed\",\"reply\":\"gate\"}\n";
+
 #[test]
-fn lines_are_served(rt: HostRuntime) -> Result<(), Fail> {
-    for (input, read, write, status, wanted) in [
-        (MATCHED, 0, 0, Status::Done, MATCHED_REPLIES),
-        (OPENS, 0, 0, Status::Done, ALL),
-        (OPENS, 3, 0, Status::ReadFault, FIRST_TWO),
-        (OPENS, 0, 2, Status::WriteFault, FIRST),
-        (REQUESTS, 0, 0, Status::Done, REFUSED),
+fn lines_and_messages_are_served(rt: HostRuntime) -> Result<(), Fail> {
+    for (words, input, read, write, status, wanted) in [
+        ("serve", MATCHED, 0, 0, Status::Done, MATCHED_REPLIES),
+        ("serve", OPENS, 0, 0, Status::Done, ALL),
+        ("serve", OPENS, 3, 0, Status::ReadFault, FIRST_TWO),
+        ("serve", OPENS, 0, 2, Status::WriteFault, FIRST),
+        ("serve", REQUESTS, 0, 0, Status::Done, REFUSED),
+        ("serve sessions", MESSAGES, 0, 0, Status::Done, ANSWERS),
+        ("serve sessions", MARKED, 0, 0, Status::Done, MALFORMED),
     ] {
-        let (ended, sink) = run(rt.alloc(), "serve", input.as_bytes(), read, write)?;
+        let (ended, sink) = run(rt.alloc(), words, input.as_bytes(), read, write)?;
         assert_eq!(rt; ended, status, "{input}");
         assert_lines(&rt, sink.written(), wanted);
     }

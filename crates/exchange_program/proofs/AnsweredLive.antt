@@ -1,10 +1,12 @@
--- What is written for lines of every kind, and the status that it ends with.
-use Rattle.std.proofs.Common.{◌≡◌, ◌⊎◌, ℕ, List, [], true, Option, Some, None, IfSome, refl, sym, ap, ◌∙◌, subst, inl, inr}
+-- What is written between two reads, and the status that it ends with.
+use Rattle.std.proofs.Common.{◌≡◌, ◌⊎◌, ℕ, List, [], true, false, Bool, Option, Some, None, IfSome, refl, sym, ap, ◌∙◌, subst, inl, inr}
 use Rattle.std.proofs.KnownBytes.{Consumes-nil}
 use Rattle.std.proofs.lemmas.Option.{IfSome_then}
+use Rattle.std.specs.Io.KnownBytes.{Appends}
 use Rattle.port_io.specs.Writes.{AppendsFront}
 use Rattle.all_lines.specs.Output.{all_line}
 use Rattle.exchange_core.specs.ExchangeState.{empty_exchange}
+use Rattle.live_lines.specs.Output.{output_of}
 use Rattle.live_lines.specs.Serving.{Known, WroteAll, WroteBefore, WroteLines}
 use Rattle.live_lines.specs.Serving as live
 use Rattle.live_lines.specs.Taken.{with_feeds}
@@ -14,8 +16,11 @@ use Rattle.live_lines.proofs.Fronts.{no_front}
 use Rattle.live_lines.proofs.Serves.{known_of}
 use Rattle.program_words.specs.declared.requests.Request.{Request}
 use Rattle.program_words.specs.declared.requests.Request.TheVariants.{Lines, Check, Sessions, Serve, Demo}
-use Rattle.exchange_program.specs.Live.{ServedAt, status_at}
-use Rattle.exchange_program.specs.Requests.{OfSomeInput, Promised, WhereServe, output_for}
+use Rattle.program_words.specs.declared.requests.Served.{Served}
+use Rattle.program_words.specs.declared.requests.Served.TheVariants as served
+use Rattle.session_lines.specs.Sessions.{new_sessions, session_step}
+use Rattle.exchange_program.specs.Live.{ServedAt, ServedBy, served_output, status_at}
+use Rattle.exchange_program.specs.Requests.{OfSomeInput, Promised, WhereServe}
 use Rattle.exchange_program.specs.Wrote.{Wrote, WroteFront}
 use Rattle.exchange_program.specs.declared.status.Status.{Status}
 use Rattle.exchange_program.specs.declared.status.Status.TheVariants.{Done, Usage, ReadFault, WriteFault, TooLong, CheckNo, Memory}
@@ -49,58 +54,85 @@ end_of_two end first second status p which = elim which [
   | inr is ↦ inr (end_is end second status p is)
 ]
 
-pub served_at : (known : Known) (end : Ended) → (end ≡ ended.Done → WroteAll all_line true empty_exchange known)
-    → (end ≡ ended.ReadFault → WroteLines all_line true empty_exchange known) → (end ≡ ended.TooLong → WroteBefore all_line true empty_exchange known)
-    → ((end ≡ ended.WriteFault) ⊎ (end ≡ ended.Memory) → live.WroteFront all_line true empty_exchange known)
-    → ServedAt (status_at end) known
-served_at known ended.Done all lines before front = all refl
-served_at known ended.ReadFault all lines before front = lines refl
-served_at known ended.WriteFault all lines before front = front (inl refl)
-served_at known ended.TooLong all lines before front = before refl
-served_at known ended.Memory all lines before front = front (inr refl)
+-- ---- by one way of answering
+module _ {S : Type 0} (step : ℕ → S → List ℕ → List ℕ × S) (skips : Bool) (start : S) where
+  pub served_by : (known : Known) (end : Ended) → (end ≡ ended.Done → WroteAll step skips start known)
+      → (end ≡ ended.ReadFault → WroteLines step skips start known) → (end ≡ ended.TooLong → WroteBefore step skips start known)
+      → ((end ≡ ended.WriteFault) ⊎ (end ≡ ended.Memory) → live.WroteFront step skips start known)
+      → ServedBy step skips start (status_at end) known
+  served_by known ended.Done all lines before front = all refl
+  served_by known ended.ReadFault all lines before front = lines refl
+  served_by known ended.WriteFault all lines before front = front (inl refl)
+  served_by known ended.TooLong all lines before front = before refl
+  served_by known ended.Memory all lines before front = front (inr refl)
 
--- a front of the output of some input is written
-some_front : (known : Known) → live.WroteFront all_line true empty_exchange known
-    → (input : List ℕ) × AppendsFront known.written known.writes (output_for Serve input)
-some_front known h = elim h [
-  | inl some ↦ (with_feeds some.0, some.4)
-  | inr all ↦ (all.0, all.2)
-]
+  -- the output of all that was left is written
+  all_written : (known : Known) → WroteAll step skips start known
+      → (input : List ℕ) × IfSome known.left (λ told. input ≡ told) × Appends known.written known.writes (output_of step skips start input)
+  all_written known all = (all.0, IfSome_then known.left all.1.1 (λ input same. same.0), all.3)
 
-front_told : (left old new : Option (List ℕ)) → (input : List ℕ) × AppendsFront old new (output_for Serve input)
-    → IfSome left (λ input. AppendsFront old new (output_for Serve input))
-    → OfSomeInput Serve left (λ input. WroteFront old new (Promised Serve input))
-front_told None old new some front = told_front Serve None old new some.0 tt some.1
-front_told (Some input) old new some front = told_front Serve (Some input) old new input refl front
+  -- a front of the output of some input is written
+  some_front : (known : Known) → live.WroteFront step skips start known
+      → (input : List ℕ) × AppendsFront known.written known.writes (output_of step skips start input)
+  some_front known h = elim h [
+    | inl some ↦ (with_feeds some.0, some.4)
+    | inr all ↦ (all.0, all.2)
+  ]
 
-module _ (known : Known) (status : Status) (served : ServedAt status known) where
-  as_is : (other : Status) → status ≡ other → ServedAt other known
-  as_is other is = subst (λ s. ServedAt s known) is served
+  nothing_by : (left written : Option (List ℕ)) → ServedBy step skips start Memory (known_of left left written written)
+  nothing_by left written = inl ([], [], Consumes-nil left, tt, no_front written written _ refl)
 
-  pub told_all : status ≡ Done → OfSomeInput Serve known.left (λ input. Wrote known.written known.writes (Promised Serve input))
+-- ---- whatever is served
+all_served : (kind : Served) (known : Known) → ServedAt kind Done known
+    → (input : List ℕ) × IfSome known.left (λ told. input ≡ told) × Appends known.written known.writes (served_output kind input)
+all_served served.Lines known at = all_written all_line true empty_exchange known at
+all_served served.Sessions known at = all_written (session_step all_line) false (new_sessions empty_exchange) known at
+
+-- a write fault and want of memory leave the same
+front_served : (kind : Served) (known : Known) → ServedAt kind WriteFault known ⊎ ServedAt kind Memory known
+    → (input : List ℕ) × AppendsFront known.written known.writes (served_output kind input)
+front_served served.Lines known which = some_front all_line true empty_exchange known (elim which [ inl at ↦ at | inr at ↦ at ])
+front_served served.Sessions known which =
+    some_front (session_step all_line) false (new_sessions empty_exchange) known (elim which [ inl at ↦ at | inr at ↦ at ])
+
+front_told : (kind : Served) (left old new : Option (List ℕ)) → (input : List ℕ) × AppendsFront old new (served_output kind input)
+    → IfSome left (λ input. AppendsFront old new (served_output kind input))
+    → OfSomeInput (Serve kind) left (λ input. WroteFront old new (Promised (Serve kind) input))
+front_told kind None old new some front = told_front (Serve kind) None old new some.0 tt some.1
+front_told kind (Some input) old new some front = told_front (Serve kind) (Some input) old new input refl front
+
+module _ (kind : Served) (known : Known) (status : Status) (answered : ServedAt kind status known) where
+  as_is : (other : Status) → status ≡ other → ServedAt kind other known
+  as_is other is = subst (λ s. ServedAt kind s known) is answered
+
+  pub told_all : status ≡ Done → OfSomeInput (Serve kind) known.left (λ input. Wrote known.written known.writes (Promised (Serve kind) input))
   told_all is =
-      let all = as_is Done is in
-      told Serve known.left known.written known.writes all.0 (IfSome_then known.left all.1.1 (λ input same. same.0)) all.3
+      let all = all_served kind known (as_is Done is) in
+      told (Serve kind) known.left known.written known.writes all.0 all.1 all.2
 
-  pub told_part : (status ≡ WriteFault) ⊎ (status ≡ Memory) → IfSome known.left (λ input. AppendsFront known.written known.writes (output_for Serve input))
-      → OfSomeInput Serve known.left (λ input. WroteFront known.written known.writes (Promised Serve input))
+  pub told_part : (status ≡ WriteFault) ⊎ (status ≡ Memory) → IfSome known.left (λ input. AppendsFront known.written known.writes (served_output kind input))
+      → OfSomeInput (Serve kind) known.left (λ input. WroteFront known.written known.writes (Promised (Serve kind) input))
   told_part which front =
-      let wrote : live.WroteFront all_line true empty_exchange known = elim which [ inl is ↦ as_is WriteFault is | inr is ↦ as_is Memory is ] in
-      front_told known.left known.written known.writes (some_front known wrote) front
+      let at : ServedAt kind WriteFault known ⊎ ServedAt kind Memory known = elim which [ inl is ↦ inl (as_is WriteFault is) | inr is ↦ inr (as_is Memory is) ] in
+      front_told kind known.left known.written known.writes (front_served kind known at) front
 
 -- ---- what the words ask for
 pub asked : (words : Option Request) (request : Request) (P : Request → Type 0) → words ≡ Some request → P request → IfSome words P
 asked words request P is p = subst (λ w. IfSome w P) (sym is) p
 
 -- ---- before the first read
-nothing_served : (request : Request) (left written : Option (List ℕ)) → WhereServe request (ServedAt Memory (known_of left left written written))
+nothing_at : (kind : Served) (left written : Option (List ℕ)) → ServedAt kind Memory (known_of left left written written)
+nothing_at served.Lines left written = nothing_by all_line true empty_exchange left written
+nothing_at served.Sessions left written = nothing_by (session_step all_line) false (new_sessions empty_exchange) left written
+
+nothing_served : (request : Request) (left written : Option (List ℕ)) → WhereServe request (λ kind. ServedAt kind Memory (known_of left left written written))
 nothing_served (Lines mode) left written = tt
 nothing_served Check left written = tt
 nothing_served Sessions left written = tt
-nothing_served Serve left written = inl ([], [], Consumes-nil left, tt, no_front written written _ refl)
+nothing_served (Serve kind) left written = nothing_at kind left written
 nothing_served (Demo seed count) left written = tt
 
 pub nothing_served_yet : (asked : Option Request) (left written : Option (List ℕ))
-    → IfSome asked (λ request. WhereServe request (ServedAt Memory (known_of left left written written)))
+    → IfSome asked (λ request. WhereServe request (λ kind. ServedAt kind Memory (known_of left left written written)))
 nothing_served_yet None left written = tt
 nothing_served_yet (Some request) left written = nothing_served request left written

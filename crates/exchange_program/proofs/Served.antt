@@ -11,6 +11,7 @@ use Rattle.journal_check.specs.declared.reports.Report.{Report}
 use Rattle.journal_check.specs.declared.reports.Report.TheVariants.{Sound, Faulty}
 use Rattle.journal_check.proofs.ReportsSay.{reports_say}
 use Rattle.all_lines.proofs.Outputs.{outputs_tell}
+use Rattle.all_sessions.proofs.Tell.{sessions_tell_once}
 use Rattle.exchange_lines.specs.Promises.{TellAnswers}
 use Rattle.exchange_lines.proofs.AsRun.{runs_tell_answers}
 use Rattle.exchange_sessions.proofs.TellLaws.{output_tells_once}
@@ -19,7 +20,10 @@ use Rattle.program_words.specs.declared.requests.Mode.{Mode}
 use Rattle.program_words.specs.declared.requests.Mode.TheVariants.{Run, Quotes, Guarded}
 use Rattle.program_words.specs.declared.requests.Request.{Request}
 use Rattle.program_words.specs.declared.requests.Request.TheVariants.{Lines, Check, Sessions, Serve, Demo}
+use Rattle.program_words.specs.declared.requests.Served.{Served}
+use Rattle.program_words.specs.declared.requests.Served.TheVariants as served
 use Rattle.quote_lines.proofs.AsRun.{quotes_tell_answers}
+use Rattle.exchange_program.specs.Live.{ServedTell, served_output}
 use Rattle.exchange_program.specs.Modes.{IsBesideIn, mode_output, step_in}
 use Rattle.exchange_program.specs.Requests.{NamesFault, OfInput, OfSomeInput, Promised, WhereCheck, output_for, status_by, status_for}
 use Rattle.exchange_program.specs.Wrote.{Wrote, WroteFront}
@@ -32,11 +36,15 @@ told_in Run input = runs_tell_answers input
 told_in Quotes input = quotes_tell_answers input
 told_in Guarded input = guarded_tell_answers input
 
+told_served : (kind : Served) (input : List ℕ) → ServedTell kind input (served_output kind input)
+told_served served.Lines input = outputs_tell input
+told_served served.Sessions input = sessions_tell_once input
+
 promised : (request : Request) (input : List ℕ) → Promised request input (output_for request input)
 promised (Lines mode) input = told_in mode input
 promised Check input = tt
 promised Sessions input = output_tells_once input
-promised Serve input = outputs_tell input
+promised (Serve kind) input = told_served kind input
 promised (Demo seed count) input = tt
 
 -- some bytes are read
@@ -60,7 +68,7 @@ some_input : (request : Request) (left : Option (List ℕ)) → (input : List �
 some_input (Lines mode) left = if_told left
 some_input Check left = if_told left
 some_input Sessions left = if_told left
-some_input Serve left = if_told left
+some_input (Serve kind) left = if_told left
 some_input (Demo seed count) left = ([], refl)
 
 -- nothing at all is a front of it
@@ -89,7 +97,7 @@ module _ (status : Status) (bytes : List ℕ) where
   sound Check (Some input) all is done =
       subst (λ (b : List ℕ). All IsSoundLine (lines_of b)) all (all_sound (lines_of bytes) (report_of bytes) (reports_say bytes) (sym is ∙ done))
   sound Sessions left all is done = tt
-  sound Serve left all is done = tt
+  sound (Serve kind) left all is done = tt
   sound (Demo seed count) left all is done = tt
 
   pub faulty : (request : Request) (left : Option (List ℕ)) → OfInput request left (λ input. bytes ≡ input) → status ≡ status_for request bytes → status ≡ CheckNo
@@ -98,7 +106,7 @@ module _ (status : Status) (bytes : List ℕ) where
   faulty Check None all is failed = tt
   faulty Check (Some input) all is failed = subst NamesFault all (names_fault bytes (report_of bytes) refl (reports_say bytes) (sym is ∙ failed))
   faulty Sessions left all is failed = tt
-  faulty Serve left all is failed = tt
+  faulty (Serve kind) left all is failed = tt
   faulty (Demo seed count) left all is failed = tt
 
 -- ---- no answer to a request is Usage
@@ -110,5 +118,5 @@ pub known : (request : Request) (input : List ℕ) (status : Status) → status 
 known (Lines mode) input status is usage = cc
 known Check input status is usage = report_known (report_of input) (sym is ∙ usage)
 known Sessions input status is usage = cc
-known Serve input status is usage = cc
+known (Serve kind) input status is usage = cc
 known (Demo seed count) input status is usage = cc

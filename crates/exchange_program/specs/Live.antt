@@ -1,10 +1,15 @@
--- What was taken and written when lines of every kind were answered between two reads.
-use Rattle.std.specs.Prelude.{true}
-use Rattle.all_lines.specs.Output.{all_line}
+-- What was taken and written when lines or messages were answered between two reads.
+use Rattle.std.specs.Prelude.{ℕ, Bool, true, false, List}
+use Rattle.all_lines.specs.Output.{IsBesideText, all_line}
+use Rattle.all_sessions.specs.Laws.{TellAllOnce, all_lines_output, all_sessions_output}
 use Rattle.exchange_core.specs.ExchangeState.{empty_exchange}
+use Rattle.exchange_lines.specs.Promises.{TellAnswers}
 use Rattle.live_lines.specs.Serving.{Known, WroteAll, WroteBefore, WroteFront, WroteLines}
 use Rattle.live_lines.specs.declared.ended.Ended.{Ended}
 use Rattle.live_lines.specs.declared.ended.Ended.TheVariants as ended
+use Rattle.program_words.specs.declared.requests.Served.{Served}
+use Rattle.program_words.specs.declared.requests.Served.TheVariants.{Lines, Sessions}
+use Rattle.session_lines.specs.Sessions.{new_sessions, session_step}
 use Rattle.exchange_program.specs.declared.status.Status.{Status}
 use Rattle.exchange_program.specs.declared.status.Status.TheVariants.{Done, Usage, ReadFault, WriteFault, TooLong, CheckNo, Memory}
 
@@ -16,13 +21,33 @@ status_at ended.WriteFault = WriteFault
 status_at ended.TooLong = TooLong
 status_at ended.Memory = Memory
 
--- at Done all was taken and its output is written; at a read fault that of the complete lines, and at a line too long or one too many
--- that of the lines before it; at a write fault or for want of memory a front of it
-abbrev pub ServedAt : Status → Known → Type 0
-ServedAt Done known = WroteAll all_line true empty_exchange known
-ServedAt Usage known = ⊥
-ServedAt ReadFault known = WroteLines all_line true empty_exchange known
-ServedAt WriteFault known = WroteFront all_line true empty_exchange known
-ServedAt TooLong known = WroteBefore all_line true empty_exchange known
-ServedAt CheckNo known = ⊥
-ServedAt Memory known = WroteFront all_line true empty_exchange known
+-- by one way of answering: at Done all was taken and its output is written; at a read fault that of the complete lines, and at a line too
+-- long or one too many that of the lines before it; at a write fault or for want of memory a front of it
+abbrev pub ServedBy : {S : Type 0} → (ℕ → S → List ℕ → List ℕ × S) → Bool → S → Status → Known → Type 0
+ServedBy step skips start Done known = WroteAll step skips start known
+ServedBy step skips start Usage known = ⊥
+ServedBy step skips start ReadFault known = WroteLines step skips start known
+ServedBy step skips start WriteFault known = WroteFront step skips start known
+ServedBy step skips start TooLong known = WroteBefore step skips start known
+ServedBy step skips start CheckNo known = ⊥
+ServedBy step skips start Memory known = WroteFront step skips start known
+
+-- ---- lines of every kind, and messages whose bodies are such lines
+-- no byte of messages is skipped
+abbrev pub skips_mark : Served → Bool
+skips_mark Lines = true
+skips_mark Sessions = false
+
+abbrev pub ServedAt : Served → Status → Known → Type 0
+ServedAt Lines status known = ServedBy all_line true empty_exchange status known
+ServedAt Sessions status known = ServedBy (session_step all_line) false (new_sessions empty_exchange) status known
+
+-- what is written for an input
+abbrev pub served_output : Served → List ℕ → List ℕ
+served_output Lines input = all_lines_output input
+served_output Sessions input = all_sessions_output input
+
+-- what is promised of it: the lines are told their answers, and the messages each once
+abbrev pub ServedTell : Served → List ℕ → List ℕ → Type 0
+ServedTell Lines input bytes = TellAnswers IsBesideText all_line input bytes
+ServedTell Sessions input bytes = TellAllOnce input bytes

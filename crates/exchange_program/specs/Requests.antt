@@ -1,8 +1,6 @@
 -- What the program does for each request.
-use Rattle.std.specs.Prelude.{ℕ, List, [], ◌∷◌, ◌+◌, ◌++◌, ◌≡◌, ◌≤◌, ◌<◌, ◌⊎◌, true, length, Option, Some, IfSome, IsSomeAnd}
-use Rattle.all_lines.specs.Output.{IsBesideText, all_line}
+use Rattle.std.specs.Prelude.{ℕ, List, [], ◌∷◌, ◌+◌, ◌++◌, ◌≡◌, ◌≤◌, ◌<◌, ◌⊎◌, length, Option, Some, IfSome, IsSomeAnd}
 use Rattle.demo_run.specs.Demo.{demo_output}
-use Rattle.exchange_core.specs.ExchangeState.{empty_exchange}
 use Rattle.exchange_lines.specs.Promises.{TellAnswers}
 use Rattle.exchange_sessions.specs.Answers.{sessions_output}
 use Rattle.exchange_sessions.specs.Laws.{TellOnce}
@@ -13,11 +11,12 @@ use Rattle.journal_check.specs.declared.reports.Report.{Report}
 use Rattle.journal_check.specs.declared.reports.Report.TheVariants.{Sound, Faulty}
 use Rattle.journal_check.specs.Reports.{report_of, report_text}
 use Rattle.live_lines.specs.Open.{line_limit}
-use Rattle.live_lines.specs.Output as live
 use Rattle.live_lines.specs.Serving as live_input
 use Rattle.program_words.specs.declared.requests.Request.{Request}
 use Rattle.program_words.specs.declared.requests.Request.TheVariants.{Lines, Check, Sessions, Serve, Demo}
+use Rattle.program_words.specs.declared.requests.Served.{Served}
 use Rattle.program_words.specs.Requests.{request_of}
+use Rattle.exchange_program.specs.Live.{ServedTell, served_output, skips_mark}
 use Rattle.exchange_program.specs.Modes.{IsBesideIn, mode_output, step_in}
 use Rattle.exchange_program.specs.declared.lines.TheConstants.{MAX_INPUT}
 use Rattle.exchange_program.specs.declared.check.TheConstants.{MAX_JOURNAL}
@@ -25,12 +24,12 @@ use Rattle.exchange_program.specs.declared.status.Status.{Status}
 use Rattle.exchange_program.specs.declared.status.Status.TheVariants.{Done, CheckNo}
 
 -- ---- the input
--- whether all of it is read before anything is written: not where lines are answered between two reads
+-- whether all of it is read before anything is written: not where it is answered between two reads
 abbrev pub IsReadFirst : Request → Type 0
 IsReadFirst (Lines mode) = Unit {0}
 IsReadFirst Check = Unit {0}
 IsReadFirst Sessions = Unit {0}
-IsReadFirst Serve = ⊥
+IsReadFirst (Serve served) = ⊥
 IsReadFirst (Demo seed count) = Unit {0}
 
 -- a fact of the limit of its bytes, which are none for a demo, where it is read first
@@ -38,7 +37,7 @@ abbrev pub WithLimit : Request → (ℕ → Type 0) → Type 0
 WithLimit (Lines mode) P = P MAX_INPUT
 WithLimit Check P = P MAX_JOURNAL
 WithLimit Sessions P = P MAX_INPUT
-WithLimit Serve P = Unit {0}
+WithLimit (Serve served) P = Unit {0}
 WithLimit (Demo seed count) P = P 0
 
 -- a fact of the bytes that are read: those that were left, or none
@@ -46,7 +45,7 @@ abbrev pub OfInput : Request → Option (List ℕ) → (List ℕ → Type 0) →
 OfInput (Lines mode) left P = IfSome left P
 OfInput Check left P = IfSome left P
 OfInput Sessions left P = IfSome left P
-OfInput Serve left P = IfSome left P
+OfInput (Serve served) left P = IfSome left P
 OfInput (Demo seed count) left P = P []
 
 -- a fact of some bytes, which are those that are read, as far as they are told
@@ -58,7 +57,7 @@ abbrev pub IsReadWhole : Request → Option (List ℕ) → Option (List ℕ) →
 IsReadWhole (Lines mode) old new = IfSome old (λ input. new ≡ Some [])
 IsReadWhole Check old new = IfSome old (λ input. new ≡ Some [])
 IsReadWhole Sessions old new = IfSome old (λ input. new ≡ Some [])
-IsReadWhole Serve old new = IfSome old (λ input. new ≡ Some [])
+IsReadWhole (Serve served) old new = IfSome old (λ input. new ≡ Some [])
 IsReadWhole (Demo seed count) old new = Unit {0}
 
 -- what is left is told, and is within the limit, or has lines within theirs
@@ -66,7 +65,7 @@ abbrev pub IsInputWithin : Request → Option (List ℕ) → Type 0
 IsInputWithin (Lines mode) left = IsSomeAnd left (λ input. length input ≤ MAX_INPUT)
 IsInputWithin Check left = IsSomeAnd left (λ input. length input ≤ MAX_JOURNAL)
 IsInputWithin Sessions left = IsSomeAnd left (λ input. length input ≤ MAX_INPUT)
-IsInputWithin Serve left = IsSomeAnd left (live_input.IsInputWithin true)
+IsInputWithin (Serve served) left = IsSomeAnd left (live_input.IsInputWithin (skips_mark served))
 IsInputWithin (Demo seed count) left = Unit {0}
 
 -- an input is past the limit, or a line of it is
@@ -74,7 +73,7 @@ abbrev pub IsPastLimit : Request → List ℕ → Type 0
 IsPastLimit (Lines mode) input = MAX_INPUT < length input
 IsPastLimit Check input = MAX_JOURNAL < length input
 IsPastLimit Sessions input = MAX_INPUT < length input
-IsPastLimit Serve input = ¬ live_input.IsInputWithin true input
+IsPastLimit (Serve served) input = ¬ live_input.IsInputWithin (skips_mark served) input
 IsPastLimit (Demo seed count) input = 0 < length input
 
 -- so many bytes at least are taken before that is known
@@ -82,7 +81,7 @@ abbrev pub past_size : Request → ℕ
 past_size (Lines mode) = MAX_INPUT + 1
 past_size Check = MAX_JOURNAL + 1
 past_size Sessions = MAX_INPUT + 1
-past_size Serve = line_limit + 1
+past_size (Serve served) = line_limit + 1
 past_size (Demo seed count) = 1
 
 -- ---- the output
@@ -94,7 +93,7 @@ abbrev pub output_for : Request → List ℕ → List ℕ
 output_for (Lines mode) input = mode_output mode input
 output_for Check input = report_line input
 output_for Sessions input = sessions_output input
-output_for Serve input = live.output_of all_line true empty_exchange input
+output_for (Serve served) input = served_output served input
 output_for (Demo seed count) input = demo_output seed count
 
 -- ---- the status
@@ -107,7 +106,7 @@ abbrev pub status_for : Request → List ℕ → Status
 status_for (Lines mode) input = Done
 status_for Check input = status_by (report_of input)
 status_for Sessions input = Done
-status_for Serve input = Done
+status_for (Serve served) input = Done
 status_for (Demo seed count) input = Done
 
 -- all was written
@@ -120,28 +119,28 @@ abbrev pub Promised : Request → List ℕ → List ℕ → Type 0
 Promised (Lines mode) input bytes = TellAnswers (IsBesideIn mode) (step_in mode) input bytes
 Promised Check input bytes = Unit {0}
 Promised Sessions input bytes = TellOnce input bytes
-Promised Serve input bytes = TellAnswers IsBesideText all_line input bytes
+Promised (Serve served) input bytes = ServedTell served input bytes
 Promised (Demo seed count) input bytes = Unit {0}
 
 abbrev pub WhereCheck : Request → Type 0 → Type 0
 WhereCheck (Lines mode) P = Unit {0}
 WhereCheck Check P = P
 WhereCheck Sessions P = Unit {0}
-WhereCheck Serve P = Unit {0}
+WhereCheck (Serve served) P = Unit {0}
 WhereCheck (Demo seed count) P = Unit {0}
 
 abbrev pub WhereDemo : Request → Type 0 → Type 0
 WhereDemo (Lines mode) P = Unit {0}
 WhereDemo Check P = Unit {0}
 WhereDemo Sessions P = Unit {0}
-WhereDemo Serve P = Unit {0}
+WhereDemo (Serve served) P = Unit {0}
 WhereDemo (Demo seed count) P = P
 
-abbrev pub WhereServe : Request → Type 0 → Type 0
+abbrev pub WhereServe : Request → (Served → Type 0) → Type 0
 WhereServe (Lines mode) P = Unit {0}
 WhereServe Check P = Unit {0}
 WhereServe Sessions P = Unit {0}
-WhereServe Serve P = P
+WhereServe (Serve served) P = P served
 WhereServe (Demo seed count) P = Unit {0}
 
 -- ---- a journal with a fault

@@ -26,8 +26,9 @@ use std::alloc::Global;
 /// liability covers an account's positions, and it refuses a withdrawal below what the account needs. `check` reads reply lines
 /// to their end and writes one report line: that all are sound, with their counts, or the first that is not, and why.
 /// `sessions` reads messages to their end and answers each, once and in its session's order. `serve` answers lines of every kind,
-/// those of `quotes` and of `guarded`, and has written the answers to all lines that are complete before it reads on. `demo` with
-/// a seed and a number of orders reads nothing, runs the text that it makes from them, and writes one summary line.
+/// those of `quotes` and of `guarded`, and has written the answers to all lines that are complete before it reads on.
+/// `serve sessions` does so with messages of sessions, whose bodies are such lines. `demo` with a seed and a number of orders reads
+/// nothing, runs the text that it makes from them, and writes one summary line.
 pub fn exchange<S: Source, K: Sink>(
     alloc: Global,
     words: &[String],
@@ -110,7 +111,7 @@ pub fn exchange<S: Source, K: Sink>(
 
     // Between two reads the output of the complete lines was written, so it is at each status what it was then.
     ensures served { Asked (map string_bytes words.now) (λ request.
-        WhereServe request (ServedAt result (record {
+        WhereServe request (λ served. ServedAt served result (record {
           left = S.left source.old;
           still = S.left source.new;
           written = K.written sink.old;
@@ -125,7 +126,7 @@ pub fn exchange<S: Source, K: Sink>(
         HasEnded result ⊎ (result ≡ Status.Memory)) }
 {
     match request(alloc, words) {
-        Ok(Request::Serve) => answer_live(alloc, source, sink),
+        Ok(Request::Serve(served)) => answer_live(alloc, served, source, sink),
         Ok(request) => serve(alloc, request, source, sink),
         Err(WordsFault::Usage) => Status::Usage,
         Err(WordsFault::Memory) => Status::Memory,

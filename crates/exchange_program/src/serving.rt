@@ -48,7 +48,7 @@ fn input_of<S: Source>(alloc: Global, request: Request, source: &mut S) -> Resul
         Request::Lines(_) | Request::Sessions => read_all(alloc, source, MAX_INPUT),
         Request::Check => read_all(alloc, source, MAX_JOURNAL),
         Request::Demo { .. } => Ok(Vec::new(alloc)),
-        Request::Serve => unreachable!(),
+        Request::Serve(_) => unreachable!(),
     }
 }
 
@@ -85,7 +85,7 @@ fn respond<K: Sink>(
             write_demo(alloc, seed, count, sink)?;
             Ok(Status::Done)
         }
-        Request::Serve => unreachable!(),
+        Request::Serve(_) => unreachable!(),
     }
 }
 

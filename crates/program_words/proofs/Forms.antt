@@ -10,7 +10,7 @@ use Rattle.program_words.specs.declared.requests.WordsFault.{WordsFault}
 use Rattle.program_words.specs.declared.requests.WordsFault.TheVariants.{Usage}
 use Rattle.program_words.specs.declared.requests.TheConstants.{MAX_SEED, MAX_COUNT}
 use Rattle.program_words.specs.Positional.{is_plain, are_positional, request_in}
-use Rattle.program_words.specs.Requests.{natural_in, demo_of, request_of, one_word, three_words}
+use Rattle.program_words.specs.Requests.{natural_in, demo_of, served_of, request_of, one_word, two_words, three_words}
 
 -- places say what the list says
 pub by_place : (words : List (List ℕ)) → are_positional words ≡ true → request_in (slice_get words 0) (slice_get words 1) (slice_get words 2) ≡ request_of words
@@ -27,6 +27,14 @@ hyphen b e = grind (arith, nat_tests)
 option_one : (a : List ℕ) → is_plain a ≡ false → one_word a ≡ None
 option_one [] e = refl
 option_one (b ∷ bs) e = rw (hyphen b e) refl
+
+option_before : (a b : List ℕ) → is_plain a ≡ false → two_words a b ≡ None
+option_before [] b e = refl
+option_before (a ∷ more) b e = rw (hyphen a e) refl
+
+option_behind : (b : List ℕ) → is_plain b ≡ false → served_of b ≡ None
+option_behind [] e = refl
+option_behind (b ∷ more) e = rw (hyphen b e) refl
 
 option_first : (a b c : List ℕ) → is_plain a ≡ false → three_words a b c ≡ None
 option_first [] b c e = refl
@@ -53,6 +61,12 @@ option_seed a b c e = of_none (bytes_eq a (codes "demo")) _ (no_seed (natural_in
 option_count : (a b c : List ℕ) → is_plain c ≡ false → three_words a b c ≡ None
 option_count a b c e = of_none (bytes_eq a (codes "demo")) _ (no_count (natural_in 0 MAX_SEED b) (natural_in 1 MAX_COUNT c) (option_number 1 MAX_COUNT c e))
 
+option_two : (a b : List ℕ) → (is_plain a && is_plain b) ≡ false → two_words a b ≡ None
+option_two a b e = elim (cases_Bool (is_plain a)) [
+  | inr first ↦ option_before a b first
+  | inl plain ↦ of_none (bytes_eq a (codes "serve")) _ (option_behind b (rw plain at e))
+]
+
 option_three : (a b c : List ℕ) → (is_plain a && (is_plain b && is_plain c)) ≡ false → three_words a b c ≡ None
 option_three a b c e = elim (cases_Bool (is_plain a)) [
   | inr first ↦ option_first a b c first
@@ -66,7 +80,7 @@ option_three a b c e = elim (cases_Bool (is_plain a)) [
 pub others_ask_nothing : (words : List (List ℕ)) → are_positional words ≡ false → request_of words ≡ None
 others_ask_nothing [] e = refl
 others_ask_nothing (a ∷ []) e = option_one a e
-others_ask_nothing (a ∷ b ∷ []) e = refl
+others_ask_nothing (a ∷ b ∷ []) e = option_two a b e
 others_ask_nothing (a ∷ b ∷ c ∷ []) e = option_three a b c e
 others_ask_nothing (a ∷ b ∷ c ∷ d ∷ more) e = refl
 

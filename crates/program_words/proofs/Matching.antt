@@ -16,7 +16,7 @@ abbrev pub bare : App
 bare = let a = new_app (codes "exchange") in record a { top = record a.top { no_binary_name = true; disable_help_flag = true } }
 
 abbrev pub command : App
-command = with_rule (with_rule (with_rule bare word_rule) (new_rule (codes "seed"))) (new_rule (codes "count"))
+command = with_rule (with_rule (with_rule bare word_rule) (new_rule (codes "second"))) (new_rule (codes "third"))
 
 pub simple : is_simple command ≡ true
 unfolding clap_on_literals
@@ -27,8 +27,8 @@ abbrev pub IsMatched : List Text → Type 0
 IsMatched words =
     (takes command words ≡ true)
     × (first_of (codes "word") (matches_of command words) ≡ slice_get words 0)
-    × (first_of (codes "seed") (matches_of command words) ≡ slice_get words 1)
-    × (first_of (codes "count") (matches_of command words) ≡ slice_get words 2)
+    × (first_of (codes "second") (matches_of command words) ≡ slice_get words 1)
+    × (first_of (codes "third") (matches_of command words) ≡ slice_get words 2)
 
 strip : (b : ℕ) (bs : Text) → nat_eq b 45 ≡ false → strip_byte 45 (b ∷ bs) ≡ None
 strip b bs e = rw e refl

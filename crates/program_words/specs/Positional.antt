@@ -1,7 +1,7 @@
 -- Lists of words that can be read as positional texts.
 use Rattle.std.specs.Prelude.{ℕ, List, [], ◌∷◌, Bool, true, false, not, ◌==◌, ◌&&◌, Option, Some, None}
 use Rattle.program_words.specs.declared.requests.Request.{Request}
-use Rattle.program_words.specs.Requests.{one_word, three_words}
+use Rattle.program_words.specs.Requests.{one_word, two_words, three_words}
 
 -- a word that begins with no `-`
 abbrev pub is_plain : List ℕ → Bool
@@ -18,8 +18,8 @@ are_positional (a ∷ b ∷ c ∷ d ∷ more) = false
 
 -- what the texts of three places ask for, of which the last two may be empty
 abbrev pub request_in : Option (List ℕ) → Option (List ℕ) → Option (List ℕ) → Option Request
-request_in None seed count = None
+request_in None second third = None
 request_in (Some word) None None = one_word word
-request_in (Some word) None (Some count) = None
-request_in (Some word) (Some seed) None = None
+request_in (Some word) None (Some third) = None
+request_in (Some word) (Some what) None = two_words word what
 request_in (Some word) (Some seed) (Some count) = three_words word seed count

@@ -5,6 +5,7 @@ use Rattle.form.specs.Naturals.{is_natural, natural_value}
 use Rattle.program_words.specs.declared.requests.Request.{Request}
 use Rattle.program_words.specs.declared.requests.Request.TheVariants.{Lines, Check, Sessions, Serve, Demo}
 use Rattle.program_words.specs.declared.requests.Mode.TheVariants.{Run, Quotes, Guarded}
+use Rattle.program_words.specs.declared.requests.Served.TheVariants as served
 use Rattle.program_words.specs.declared.requests.TheConstants.{MAX_SEED, MAX_COUNT}
 
 -- the value of `0`, or of digits that do not begin with 0, where it is from low to high
@@ -24,18 +25,24 @@ one_word word =
     else if bytes_eq word (codes "guarded") then Some (Lines Guarded)
     else if bytes_eq word (codes "check") then Some Check
     else if bytes_eq word (codes "sessions") then Some Sessions
-    else if bytes_eq word (codes "serve") then Some Serve
+    else if bytes_eq word (codes "serve") then Some (Serve served.Lines)
     else None
+
+abbrev pub served_of : List ℕ → Option Request
+served_of what = if bytes_eq what (codes "sessions") then Some (Serve served.Sessions) else None
+
+abbrev pub two_words : List ℕ → List ℕ → Option Request
+two_words word what = if bytes_eq word (codes "serve") then served_of what else None
 
 abbrev pub three_words : List ℕ → List ℕ → List ℕ → Option Request
 three_words word seed count =
     if bytes_eq word (codes "demo") then demo_of (natural_in 0 MAX_SEED seed) (natural_in 1 MAX_COUNT count) else None
 
--- `run`, `quotes`, `guarded`, `check`, `sessions`, `serve`, or `demo` with a seed and a number of orders
+-- `run`, `quotes`, `guarded`, `check`, `sessions`, `serve`, `serve sessions`, or `demo` with a seed and a number of orders
 abbrev pub request_of : List (List ℕ) → Option Request
 request_of [] = None
 request_of (word ∷ []) = one_word word
-request_of (word ∷ seed ∷ []) = None
+request_of (word ∷ what ∷ []) = two_words word what
 request_of (word ∷ seed ∷ count ∷ []) = three_words word seed count
 request_of (word ∷ seed ∷ count ∷ more ∷ words) = None
 
@@ -44,5 +51,5 @@ abbrev pub IsRequestWithin : Request → Type 0
 IsRequestWithin (Lines mode) = ⊤
 IsRequestWithin Check = ⊤
 IsRequestWithin Sessions = ⊤
-IsRequestWithin Serve = ⊤
+IsRequestWithin (Serve served) = ⊤
 IsRequestWithin (Demo seed count) = (1 ≤ count) × (count ≤ MAX_COUNT)

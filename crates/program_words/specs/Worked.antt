@@ -2,6 +2,7 @@
 use Rattle.std.specs.Prelude.{◌≡◌, List, ℕ, [], ◌∷◌, codes, Some, None}
 use Rattle.program_words.specs.declared.requests.Request.TheVariants.{Lines, Check, Sessions, Serve, Demo}
 use Rattle.program_words.specs.declared.requests.Mode.TheVariants.{Run, Quotes, Guarded}
+use Rattle.program_words.specs.declared.requests.Served.TheVariants as served
 use Rattle.program_words.specs.Requests.{request_of}
 
 abbrev pub demo_words : List ℕ → List ℕ → List (List ℕ)
@@ -13,7 +14,8 @@ pub record FormsByHand : Type 0 where
   pub guarded : request_of (codes "guarded" ∷ []) ≡ Some (Lines Guarded)
   pub check : request_of (codes "check" ∷ []) ≡ Some Check
   pub sessions : request_of (codes "sessions" ∷ []) ≡ Some Sessions
-  pub serve : request_of (codes "serve" ∷ []) ≡ Some Serve
+  pub serve : request_of (codes "serve" ∷ []) ≡ Some (Serve served.Lines)
+  pub serve_sessions : request_of (codes "serve" ∷ codes "sessions" ∷ []) ≡ Some (Serve served.Sessions)
   pub least : request_of (demo_words (codes "0") (codes "1")) ≡ Some (Demo 0 1)
   pub greatest : request_of (demo_words (codes "4294967295") (codes "10000")) ≡ Some (Demo 4294967295 10000)
 
@@ -24,6 +26,7 @@ pub record OthersByHand : Type 0 where
   pub quotes_twice : request_of (codes "quotes" ∷ codes "quotes" ∷ []) ≡ None
   pub guarded_in_capitals : request_of (codes "GUARDED" ∷ []) ≡ None
   pub serve_with_word : request_of (codes "serve" ∷ codes "serve" ∷ []) ≡ None
+  pub sessions_with_word : request_of (codes "sessions" ∷ codes "serve" ∷ []) ≡ None
   pub run_with_number : request_of (codes "run" ∷ codes "1" ∷ []) ≡ None
   pub seed_alone : request_of (codes "demo" ∷ codes "1" ∷ []) ≡ None
   pub leading_zero : request_of (demo_words (codes "01") (codes "1")) ≡ None

@@ -13,29 +13,29 @@ fn arg_matches<'a>(alloc: Global, words: &'a [String]) -> Result<ArgMatches<'a>,
     requires { are_positional (map string_bytes words.now) ≡ true }
     ensures word { IfOk result (λ m. first_value (found_of m) (codes "word")
         ≡ slice_get (map string_bytes words.now) 0) }
-    ensures seed { IfOk result (λ m. first_value (found_of m) (codes "seed")
+    ensures second { IfOk result (λ m. first_value (found_of m) (codes "second")
         ≡ slice_get (map string_bytes words.now) 1) }
-    ensures count { IfOk result (λ m. first_value (found_of m) (codes "count")
+    ensures third { IfOk result (λ m. first_value (found_of m) (codes "third")
         ≡ slice_get (map string_bytes words.now) 2) }
     ensures memory { IfErr result (λ e. kind_of e ≡ ErrorKind.OutOfMemory) }
 {
     let word = Arg::new(alloc, "word").required(true);
-    let seed = Arg::new(alloc, "seed");
-    let count = Arg::new(alloc, "count");
+    let second = Arg::new(alloc, "second");
+    let third = Arg::new(alloc, "third");
     let command = Command::new(alloc, "exchange")
         .no_binary_name(true)
         .disable_help_flag(true)
         .arg(word)?
-        .arg(seed)?
-        .arg(count)?;
+        .arg(second)?
+        .arg(third)?;
     command.try_get_matches_from(words)
 }
 
 // The texts of the command's three places.
 pub(crate) struct Texts<'a> {
     pub(crate) word: Option<&'a str>,
-    pub(crate) seed: Option<&'a str>,
-    pub(crate) count: Option<&'a str>,
+    pub(crate) second: Option<&'a str>,
+    pub(crate) third: Option<&'a str>,
 }
 
 // The words, place by place.
@@ -43,16 +43,16 @@ pub(crate) fn by_place<'a>(alloc: Global, words: &'a [String]) -> Result<Texts<'
     requires { are_positional (map string_bytes words.now) ≡ true }
     ensures word { IfOk result (λ texts. option_map (λ s. s.now) texts.word
         ≡ slice_get (map string_bytes words.now) 0) }
-    ensures seed { IfOk result (λ texts. option_map (λ s. s.now) texts.seed
+    ensures second { IfOk result (λ texts. option_map (λ s. s.now) texts.second
         ≡ slice_get (map string_bytes words.now) 1) }
-    ensures count { IfOk result (λ texts. option_map (λ s. s.now) texts.count
+    ensures third { IfOk result (λ texts. option_map (λ s. s.now) texts.third
         ≡ slice_get (map string_bytes words.now) 2) }
 {
     match arg_matches(alloc, words) {
         Ok(matches) => Ok(Texts {
             word: matches.get_str("word"),
-            seed: matches.get_str("seed"),
-            count: matches.get_str("count"),
+            second: matches.get_str("second"),
+            third: matches.get_str("third"),
         }),
         Err(_) => Err(AllocError),
     }

@@ -22,6 +22,15 @@ pub enum Mode {
     Guarded,
 }
 
+/// What is served between two reads.
+#[derive(Clone, Copy, Debug, PartialEq, Eq)]
+pub enum Served {
+    /// Lines of every kind: those of all modes.
+    Lines,
+    /// Messages of many sessions, whose bodies are such lines.
+    Sessions,
+}
+
 /// What the program is asked to do.
 #[derive(Clone, Copy, Debug, PartialEq, Eq)]
 pub enum Request {
@@ -31,8 +40,8 @@ pub enum Request {
     Check,
     /// Reads messages of many sessions and answers each.
     Sessions,
-    /// Reads lines of every kind and answers each between two reads.
-    Serve,
+    /// Reads lines or messages and answers each between two reads.
+    Serve(Served),
     /// Runs a text of `count` orders that is made from the seed, and writes its summary.
     Demo { seed: u32, count: u32 },
 }

@@ -1,10 +1,10 @@
 // From the words to the request.
 ghost use Rattle.std.specs.Prelude.{◌≡◌, map, option_map, string_bytes, IfOk, IsErrOf, None, Some};
 ghost use Rattle.program_words.specs.Positional.{is_plain, are_positional, request_in};
-ghost use Rattle.program_words.specs.Requests.{natural_in, one_word, three_words, request_of, IsRequestWithin};
+ghost use Rattle.program_words.specs.Requests.{natural_in, one_word, two_words, three_words, request_of, IsRequestWithin};
 
 use crate::places::{Texts, by_place};
-use crate::requests::{MAX_COUNT, MAX_SEED, Mode, Request, WordsFault};
+use crate::requests::{MAX_COUNT, MAX_SEED, Mode, Request, Served, WordsFault};
 use command_text::{NumberRead, number};
 use std::alloc::Global;
 
@@ -37,7 +37,16 @@ fn one_word(word: &str) -> Option<Request>
         return Some(Request::Sessions);
     }
     if word == "serve" {
-        return Some(Request::Serve);
+        return Some(Request::Serve(Served::Lines));
+    }
+    None
+}
+
+fn two_words(word: &str, what: &str) -> Option<Request>
+    ensures { result ≡ two_words word.now what.now }
+{
+    if word == "serve" && what == "sessions" {
+        return Some(Request::Serve(Served::Sessions));
     }
     None
 }
@@ -53,12 +62,13 @@ fn three_words(word: &str, seed: &str, count: &str) -> Option<Request>
     Some(Request::Demo { seed, count })
 }
 
-fn request_in(word: Option<&str>, seed: Option<&str>, count: Option<&str>) -> Option<Request>
+fn request_in(word: Option<&str>, second: Option<&str>, third: Option<&str>) -> Option<Request>
     ensures { result ≡ request_in (option_map (λ s. s.now) word.entry)
-        (option_map (λ s. s.now) seed.entry) (option_map (λ s. s.now) count.entry) }
+        (option_map (λ s. s.now) second.entry) (option_map (λ s. s.now) third.entry) }
 {
-    match (word, seed, count) {
+    match (word, second, third) {
         (Some(word), None, None) => one_word(word),
+        (Some(word), Some(what), None) => two_words(word, what),
         (Some(word), Some(seed), Some(count)) => three_words(word, seed, count),
         _ => None,
     }
@@ -82,8 +92,8 @@ fn are_positional(words: &[String]) -> bool
     }
 }
 
-/// What the words after the program's name ask for: `run`, `quotes`, `guarded`, `check`, `sessions`, `serve`, or `demo` with a seed
-/// and a number of orders, each of which is `0` or digits that do not begin with 0.
+/// What the words after the program's name ask for: `run`, `quotes`, `guarded`, `check`, `sessions`, `serve`, `serve sessions`, or
+/// `demo` with a seed and a number of orders, each of which is `0` or digits that do not begin with 0.
 ///
 /// Usage where they have none of these forms, and Memory for want of memory alone.
 pub fn request(alloc: Global, words: &[String]) -> Result<Request, WordsFault>
@@ -96,6 +106,10 @@ pub fn request(alloc: Global, words: &[String]) -> Result<Request, WordsFault>
     if !are_positional(words) {
         return Err(WordsFault::Usage);
     }
-    let Texts { word, seed, count } = by_place(alloc, words)?;
-    request_in(word, seed, count).ok_or(WordsFault::Usage)
+    let Texts {
+        word,
+        second,
+        third,
+    } = by_place(alloc, words)?;
+    request_in(word, second, third).ok_or(WordsFault::Usage)
 }

@@ -1,49 +1,26 @@
-use Rattle.std.proofs.Common.{true, sym, ap, subst, ◌∙◌, inl, inr}
+use Rattle.std.proofs.Common.{true, false, sym, ap, subst, ◌∙◌}
 use Rattle.std.specs.Prelude.{IfSome}
 use Rattle.port_io.specs.Writes.{AppendsFront}
 use Rattle.all_lines.specs.Output.{all_line}
 use Rattle.exchange_core.specs.ExchangeState.{ExchangeState}
 use Rattle.live_lines.specs.Output.{output_of}
-use Rattle.live_lines.specs.Serving.{WroteAll, WroteBefore, WroteFront, WroteLines}
-use Rattle.live_lines.specs.declared.ended.Ended.TheVariants as ended
-use Rattle.live_lines.proofs.Serves.{known_of}
-use Rattle.exchange_program.specs.Live.{ServedAt, status_at}
-use Rattle.exchange_program.proofs.AnsweredLive.{end_is, end_of_two, served_at}
+use Rattle.program_words.specs.declared.requests.Served.{Served}
+use Rattle.session_lines.specs.Sessions.{SessionsState, new_sessions, session_step}
+use Rattle.exchange_program.specs.Live.{served_output}
 use Rattle.exchange_program.proofs.live.answer_live.Goals as goal
 
-pub returns-clause-served : goal.returns-clause-served
-returns-clause-served g c =
-    let known = known_of (g.S.Source.left c.args.source.now) (g.S.Source.left c.serve-end.new.source) (g.K.Sink.written c.args.sink.now) (g.K.Sink.written c.serve-end.new.sink) in
-    let told = c.serve-end.ensures in
-    subst (λ s. ServedAt s known) (sym c.status_at.ensures) (served_at known c.serve-end.result
-    (λ is. subst (λ start. WroteAll all_line true start known) c.new.ensures (told.done is))
-    (λ is. subst (λ start. WroteLines all_line true start known) c.new.ensures (told.read_fault is))
-    (λ is. subst (λ start. WroteBefore all_line true start known) c.new.ensures (told.too_long is))
-    (λ which. subst (λ start. WroteFront all_line true start known) c.new.ensures (told.front which)))
+pub returns-in-Lines-clause-front : goal.returns-in-Lines-clause-front
+returns-in-Lines-clause-front g c = λ which.
+    let left = g.S.Source.left c.args.source.now in
+    let Wrote = AppendsFront (g.K.Sink.written c.args.sink.now) (g.K.Sink.written c.answer_by.new.sink) in
+    let By : ExchangeState → Type 0 = λ start. IfSome left (λ input. Wrote (output_of all_line true start input)) in
+    let Of : Served → Type 0 = λ kind. IfSome left (λ input. Wrote (served_output kind input)) in
+    subst Of (sym c.in-Lines.is) (subst By c.new-lines.ensures (c.answer_by.ensures.front which))
 
-pub returns-clause-read_fault : goal.returns-clause-read_fault
-returns-clause-read_fault g c = λ is. c.serve-end.ensures.read_cause (end_is c.serve-end.result ended.ReadFault c.status_at.result c.status_at.ensures is)
-
-pub returns-clause-write_fault : goal.returns-clause-write_fault
-returns-clause-write_fault g c = λ is. c.serve-end.ensures.write_cause (end_is c.serve-end.result ended.WriteFault c.status_at.result c.status_at.ensures is)
-
-pub returns-clause-too_long : goal.returns-clause-too_long
-returns-clause-too_long g c = λ is. c.serve-end.ensures.too_long_input (end_is c.serve-end.result ended.TooLong c.status_at.result c.status_at.ensures is)
-
-pub returns-clause-too_long_no_fault : goal.returns-clause-too_long_no_fault
-returns-clause-too_long_no_fault g c = λ is. c.serve-end.ensures.too_long_no_fault (end_is c.serve-end.result ended.TooLong c.status_at.result c.status_at.ensures is)
-
-pub returns-clause-too_many : goal.returns-clause-too_many
-returns-clause-too_many g c = λ is. c.serve-end.ensures.too_many (end_is c.serve-end.result ended.TooLong c.status_at.result c.status_at.ensures is)
-
-pub returns-clause-front : goal.returns-clause-front
-returns-clause-front g c = λ which.
-    let Is : ExchangeState → Type 0 = λ start. IfSome (g.S.Source.left c.args.source.now) (λ input. AppendsFront (g.K.Sink.written c.args.sink.now) (g.K.Sink.written c.serve-end.new.sink) (output_of all_line true start input)) in
-    subst Is c.new.ensures (c.serve-end.ensures.front_of_all (end_of_two c.serve-end.result ended.WriteFault ended.Memory c.status_at.result c.status_at.ensures which))
-
-pub returns-clause-complete : goal.returns-clause-complete
-returns-clause-complete g c = λ within r w.
-    elim (c.serve-end.ensures.complete within r w) [
-      | inl is ↦ inl (c.status_at.ensures ∙ ap status_at is)
-      | inr is ↦ inr (c.status_at.ensures ∙ ap status_at is)
-    ]
+pub returns-in-Sessions-clause-front : goal.returns-in-Sessions-clause-front
+returns-in-Sessions-clause-front g c = λ which.
+    let left = g.S.Source.left c.args.source.now in
+    let Wrote = AppendsFront (g.K.Sink.written c.args.sink.now) (g.K.Sink.written c.answer_by-in-Sessions.new.sink) in
+    let By : SessionsState ExchangeState → Type 0 = λ start. IfSome left (λ input. Wrote (output_of (session_step all_line) false start input)) in
+    let Of : Served → Type 0 = λ kind. IfSome left (λ input. Wrote (served_output kind input)) in
+    subst Of (sym c.in-Sessions.is) (subst By (c.new-messages.ensures ∙ ap new_sessions c.new-lines.ensures) (c.answer_by-in-Sessions.ensures.front which))

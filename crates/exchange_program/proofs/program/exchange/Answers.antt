@@ -20,16 +20,16 @@ returns-in-Err-Memory-clause-served g c =
 -- ---- lines answered between two reads
 pub returns-in-Ok-Serve-clause-front : goal.returns-in-Ok-Serve-clause-front
 returns-in-Ok-Serve-clause-front g c = λ which.
-    asked (request_of (map string_bytes c.args.words.now)) Serve _ (c.in-Ok-Serve.ensures.ok ∙ ap Some c.in-Ok-Serve.field-0-is) (c.answer_live.ensures.front which)
+    asked (request_of (map string_bytes c.args.words.now)) (Serve c.in-Ok-Serve.served) _ (c.in-Ok-Serve.ensures.ok ∙ ap Some c.in-Ok-Serve.field-0-is) (c.answer_live.ensures.front which)
 
 pub returns-in-Ok-Serve-clause-told : goal.returns-in-Ok-Serve-clause-told
 returns-in-Ok-Serve-clause-told g c = λ is.
     let known = known_of (g.S.Source.left c.args.source.now) (g.S.Source.left c.answer_live.new.source) (g.K.Sink.written c.args.sink.now) (g.K.Sink.written c.answer_live.new.sink) in
-    asked (request_of (map string_bytes c.args.words.now)) Serve _ (c.in-Ok-Serve.ensures.ok ∙ ap Some c.in-Ok-Serve.field-0-is)
-    (told_all known c.answer_live.result c.answer_live.ensures.served is)
+    asked (request_of (map string_bytes c.args.words.now)) (Serve c.in-Ok-Serve.served) _ (c.in-Ok-Serve.ensures.ok ∙ ap Some c.in-Ok-Serve.field-0-is)
+    (told_all c.in-Ok-Serve.served known c.answer_live.result c.answer_live.ensures.answered is)
 
 pub returns-in-Ok-Serve-clause-told_front : goal.returns-in-Ok-Serve-clause-told_front
 returns-in-Ok-Serve-clause-told_front g c = λ which.
     let known = known_of (g.S.Source.left c.args.source.now) (g.S.Source.left c.answer_live.new.source) (g.K.Sink.written c.args.sink.now) (g.K.Sink.written c.answer_live.new.sink) in
-    asked (request_of (map string_bytes c.args.words.now)) Serve _ (c.in-Ok-Serve.ensures.ok ∙ ap Some c.in-Ok-Serve.field-0-is)
-    (told_part known c.answer_live.result c.answer_live.ensures.served which (c.answer_live.ensures.front which))
+    asked (request_of (map string_bytes c.args.words.now)) (Serve c.in-Ok-Serve.served) _ (c.in-Ok-Serve.ensures.ok ∙ ap Some c.in-Ok-Serve.field-0-is)
+    (told_part c.in-Ok-Serve.served known c.answer_live.result c.answer_live.ensures.answered which (c.answer_live.ensures.front which))

@@ -11,22 +11,22 @@ use Rattle.program_words.proofs.places.arg_matches.Goals as goal
 pub returns : goal.returns
 returns c =
     let word_is : rule_of c.required-word.result ≡ word_rule = search rules in
-    let seed_is : rule_of c.new-seed.result ≡ new_rule (codes "seed") = search rules in
-    let count_is : rule_of c.new-count.result ≡ new_rule (codes "count") = search rules in
+    let second_is : rule_of c.new-second.result ≡ new_rule (codes "second") = search rules in
+    let third_is : rule_of c.new-third.result ≡ new_rule (codes "third") = search rules in
     let bare_is : app_of c.disable_help_flag.result ≡ bare = search rules in
     let command_is : app_of c.in_ok-command.command ≡ command = c.in_ok-command.ensures.shape (search rules)
-    ∙ ap₂ with_rule (c.in_ok-arg-2.ensures.shape (search rules) ∙ ap₂ with_rule (c.in_ok-arg.ensures.shape (search rules) ∙ ap₂ with_rule bare_is word_is) seed_is) count_is in
+    ∙ ap₂ with_rule (c.in_ok-arg-2.ensures.shape (search rules) ∙ ap₂ with_rule (c.in_ok-arg.ensures.shape (search rules) ∙ ap₂ with_rule bare_is word_is) second_is) third_is in
     let words = map string_bytes c.args.words.now in
     let matched = words_match words c.requires in
     record {
       word = IfOk-weaker c.try_get_matches_from.result _ _ (λ m h.
           let rows = (h (ap is_simple command_is ∙ simple)).0 ∙ ap₂ matches_of command_is refl in
           first_value-rows (found_of m) (codes "word") ∙ ap (first_of (codes "word")) rows ∙ matched.1) c.try_get_matches_from.ensures.matches;
-      seed = IfOk-weaker c.try_get_matches_from.result _ _ (λ m h.
+      second = IfOk-weaker c.try_get_matches_from.result _ _ (λ m h.
           let rows = (h (ap is_simple command_is ∙ simple)).0 ∙ ap₂ matches_of command_is refl in
-          first_value-rows (found_of m) (codes "seed") ∙ ap (first_of (codes "seed")) rows ∙ matched.2) c.try_get_matches_from.ensures.matches;
-      count = IfOk-weaker c.try_get_matches_from.result _ _ (λ m h.
+          first_value-rows (found_of m) (codes "second") ∙ ap (first_of (codes "second")) rows ∙ matched.2) c.try_get_matches_from.ensures.matches;
+      third = IfOk-weaker c.try_get_matches_from.result _ _ (λ m h.
           let rows = (h (ap is_simple command_is ∙ simple)).0 ∙ ap₂ matches_of command_is refl in
-          first_value-rows (found_of m) (codes "count") ∙ ap (first_of (codes "count")) rows ∙ matched.3) c.try_get_matches_from.ensures.matches;
+          first_value-rows (found_of m) (codes "third") ∙ ap (first_of (codes "third")) rows ∙ matched.3) c.try_get_matches_from.ensures.matches;
       memory = IfErr-weaker c.try_get_matches_from.result _ _ (λ e h. h (ap₂ takes command_is refl ∙ matched.0)) c.try_get_matches_from.ensures.passes;
     }

@@ -11,7 +11,7 @@ use Rattle.program_words.proofs.words.request.Goals as goal
 asked : (c : goal.After-ok_or) → c.request_in.result ≡ request_of (map string_bytes c.args.words.now)
 asked c =
     let places = c.in_ok-word.ensures in
-    c.request_in.ensures ∙ (λ i. request_in (places.word i) (places.seed i) (places.count i)) ∙ by_place (map string_bytes c.args.words.now) (search rules)
+    c.request_in.ensures ∙ (λ i. request_in (places.word i) (places.second i) (places.third i)) ∙ by_place (map string_bytes c.args.words.now) (search rules)
 
 pub returns-clause-ok : goal.returns-clause-ok
 returns-clause-ok c = told_ok c.request_in.result c.ok_or.result (map string_bytes c.args.words.now) c.ok_or.ensures.value (asked c)
