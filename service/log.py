@@ -27,6 +27,7 @@ except ImportError:
     sys.exit("python3-redis is missing; tools/setup installs it")
 
 PROGRAM = pathlib.Path(__file__).resolve().parent.parent / "crates/exchange_cli/out/exchange_cli"
+FIELDS = frozenset((b"session", b"number", b"body"))
 LONGEST_LINE = 16 * 1024 * 1024
 START, PAGE = b"0-0", 1000
 # How long more answers are waited for before those that have come are handed on, in seconds.
@@ -69,10 +70,10 @@ class Entry(NamedTuple):
 
     def fault(self) -> str:
         """Why the entry is no message: Fields, Form or Long; nothing where it may reach the program."""
-        if set(self.fields) != {b"session", b"number", b"body"}:
+        if self.fields.keys() != FIELDS:
             return "Fields"
-        session, number, body = (self.fields[key] for key in (b"session", b"number", b"body"))
-        if b"\n" in session + number + body or b"," in session + number:
+        session, number, body = self.fields[b"session"], self.fields[b"number"], self.fields[b"body"]
+        if b"\n" in body or b"\n" in session + number or b"," in session + number:
             return "Form"
         return "Long" if len(session) + len(number) + len(body) + 2 > LONGEST_LINE else ""
 
