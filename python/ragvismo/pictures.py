@@ -48,7 +48,8 @@ LAYOUTS: dict[Size, Layout] = {
 
 
 def picture(cleared: Cleared, size: Size = "page") -> Any:
-    """Draws a batch as a figure of matplotlib, 7 inches wide for a page or 3.4 for a column."""
+    """Draws a batch as a figure of matplotlib, 7 inches wide for a page or 3.4 for a column. `save` writes it, with its text as
+    text, into a file."""
     import matplotlib
     from matplotlib import pyplot
 
@@ -253,7 +254,7 @@ def _draw_map(cleared: Cleared, layout: Layout) -> Any:
     grid = figure.add_gridspec(2, 2, height_ratios=heights, width_ratios=[20, 1])
     axes = figure.add_subplot(grid[0, 0])
     least = _show_shades(axes, figure.add_subplot(grid[0, 1]), cleared, bends, end)
-    for number, bend in enumerate(bends, 1):
+    for number, bend in enumerate(bends if len(bends) <= MOST_LINES else [], 1):
         _show_bend(axes, bend, end, f"breakpoint-{number}")
     _show_states(axes, cleared, end, layout)
     axes.set(xlim=(0, end), ylim=(0, end))
@@ -277,7 +278,7 @@ def _edge(cleared: Cleared) -> float:
 
 def _show_shades(axes: Any, scale: Any, cleared: Cleared, bends: list[Bend], end: float) -> float:
     """What is kept as shades with lines of equal amounts; returns the least of it."""
-    import numpy
+    from matplotlib.ticker import MaxNLocator
 
     triangles = _triangles(bends, end) if len(bends) <= MOST_LINES else _fine_grid(end)
     kept = _kept_at(cleared, triangles.x, triangles.y)
@@ -286,9 +287,9 @@ def _show_shades(axes: Any, scale: Any, cleared: Cleared, bends: list[Bend], end
         axes.text(0.5, 0.5, f"the same at all prices: {kept.max():g}", ha="center", transform=axes.transAxes)
         scale.set_visible(False)
         return float(kept.min())
-    levels = numpy.linspace(low, high + 1e-6 * (high - low), 13)
+    levels = MaxNLocator(12).tick_values(low, high + 1e-6 * (high - low))
     shades = axes.tricontourf(triangles, kept, levels=levels, cmap="Greys", alpha=0.7)
-    axes.figure.colorbar(shades, cax=scale, label="premium less net payoff (ticks)", format="%.4g")
+    axes.figure.colorbar(shades, cax=scale, label="premium less net payoff (ticks)", format="%.6g")
     axes.tricontour(triangles, kept, levels=levels[1:-1], colors="k", linewidths=0.4)
     return float(kept.min())
 
