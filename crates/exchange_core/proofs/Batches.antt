@@ -7,7 +7,6 @@ use Rattle.std.proofs.lemmas.Nat.{mul-le}
 use Rattle.std.proofs.lemmas.List.{length-map}
 use Rattle.std.proofs.lemmas.List.Elements.{All-nil, All-cons, All-head, All-tail}
 use Rattle.cash_ledger.specs.Ledger.{LedgerState}
-use Rattle.cert_check.specs.declared.outcome.Outcome.{Outcome}
 use Rattle.form.specs.declared.limits.TheConstants.{MAX_QUANTITY}
 use Rattle.form.specs.declared.orders.Batch.{Batch}
 use Rattle.form.specs.declared.orders.Order.{Order}
@@ -76,8 +75,8 @@ all_paid (order ∷ orders) (fill ∷ fills) same within are =
     let others = all_paid orders fills (omega (arith, same)) (All-tail IsOrderWithin order orders within) (All-tail IsFill (order, fraction_of fill) (zip orders (map fraction_of fills)) are) in
     All-cons MayBePaid fill fills first others
 
-pub fills_paid : (batch : Batch) (outcome : Outcome) (orders : List Order) (fills : List Frac128) → IsWithinLimits batch → AreFractionFills batch.orders (map fraction_of outcome.fills)
-    → orders ≡ batch.orders → fills ≡ outcome.fills → (length fills ≡ length orders) × All MayBePaid fills
-fills_paid batch outcome orders fills within allowed same are =
-    let count : length outcome.fills ≡ length batch.orders = sym (length-map outcome.fills fraction_of) ∙ allowed.0 in
-    (ap length are ∙ count ∙ ap length (sym same), subst (All MayBePaid) (sym are) (all_paid batch.orders outcome.fills count within.orders_within allowed.1))
+pub fills_paid : (batch : Batch) (charged : List Frac128) (orders : List Order) (fills : List Frac128) → IsWithinLimits batch → AreFractionFills batch.orders (map fraction_of charged)
+    → orders ≡ batch.orders → fills ≡ charged → (length fills ≡ length orders) × All MayBePaid fills
+fills_paid batch charged orders fills within allowed same are =
+    let count : length charged ≡ length batch.orders = sym (length-map charged fraction_of) ∙ allowed.0 in
+    (ap length are ∙ count ∙ ap length (sym same), subst (All MayBePaid) (sym are) (all_paid batch.orders charged count within.orders_within allowed.1))

@@ -42,7 +42,7 @@ within_limits : (book : BookState) → IsBookKept book → (market : ℕ) (other
 within_limits book kept market others None at none = cc
 within_limits book kept market others (Some m) at none = batch_within book.accepted m (market_kept book kept market m at)
 
-batch_is_within : (state : ExchangeState) → IsKept state → (market : ℕ) → first_of (by_book (batch_refusals state.book market)) ≡ None → IsWithinLimits (batch_in state market)
+pub batch_is_within : (state : ExchangeState) → IsKept state → (market : ℕ) → first_of (by_book (batch_refusals state.book market)) ≡ None → IsWithinLimits (batch_in state market)
 batch_is_within state kept market none =
     within_limits state.book kept.orders.book market (unsettled state.book market) (market_of state.book market) refl none
 

@@ -82,3 +82,6 @@ close_none book market prices none = none_unnamed book_name (book_refusals.close
 
 pub batch_none : (book : BookState) (market : ℕ) → first_of (by_book (book_refusals.batch_refusals book market)) ≡ None → first_of (book_refusals.batch_refusals book market) ≡ None
 batch_none book market none = none_unnamed book_name (book_refusals.batch_refusals book market) (refl, (refl, (refl, tt))) none
+
+pub live_none : (book : BookState) (market : ℕ) → first_of (by_book (book_refusals.live_refusals book market)) ≡ None → first_of (book_refusals.live_refusals book market) ≡ None
+live_none book market none = none_unnamed book_name (book_refusals.live_refusals book market) (refl, (refl, tt)) none

@@ -6,6 +6,8 @@ use Rattle.std.proofs.lemmas.List.{length-take}
 use Rattle.std.proofs.lemmas.List.Elements.{All-cons, All-nil, All-push, All-take}
 use Rattle.std.proofs.lemmas.Map.Keys.{IsDistinct-from_apart}
 use Rattle.cash_ledger.specs.Ledger.{is_open}
+use Rattle.clearing.proofs.Outcomes.{outcomes_are_within}
+use Rattle.clearing.specs.Outcome.{outcome_of}
 use Rattle.form.specs.declared.orders.Side.{Side}
 use Rattle.form.specs.Limits.{IsListed}
 use Rattle.form.specs.declared.bundles.Bundle.{Bundle}
@@ -31,15 +33,16 @@ use Rattle.command_text.specs.declared.command.Kind.{Kind}
 use Rattle.exchange_core.specs.declared.refusal.Refusal.{Refusal}
 use Rattle.exchange_core.specs.ExchangeState.{ExchangeState, empty_exchange}
 use Rattle.exchange_core.specs.Kept.{AreOrdersKept, IsKept, IsOfOpen, IsPositionKept}
-use Rattle.exchange_core.specs.Laws.{StepKeeps}
+use Rattle.exchange_core.specs.Laws.{ClearsKeep, StepKeeps}
 use Rattle.command_text.specs.Options.{option_by}
 use Rattle.exchange_core.specs.Orders.{order_by, order_for}
 use Rattle.exchange_core.specs.Refusals.{place_refusals, refusal_of}
-use Rattle.exchange_core.specs.Step.{place_effect, effect, refusal_effect}
+use Rattle.exchange_core.specs.Step.{batch_in, place_effect, effect, refusal_effect}
 use Rattle.command_text.specs.Within.{IsWithin, IsOffer, IsBundleOf}
 use Rattle.form.specs.Between.{Between}
 use Rattle.command_text.proofs.Listing.{IsSmall, form_listed}
 use Rattle.exchange_core.proofs.FirstRefusal.{market_none, place_none, batch_none, close_none}
+use Rattle.exchange_core.proofs.Covered.{batch_is_within}
 use Rattle.exchange_core.proofs.NewPositions.{cleared-kept}
 use Rattle.exchange_core.proofs.LiveAccounts.{All-live_in, All-replaced, All-without_in_each, any-push, stay_open}
 use Rattle.exchange_core.proofs.PositionsKept.{positions-open, positions-market, positions-live, positions-cancel, positions-closed}
@@ -137,6 +140,15 @@ bundle_within side account market price quantity bundle low between is = record 
   counted = is.limited;
 }
 
+-- ---- a batch that is cleared with these fills
+pub clears_keep : ClearsKeep
+clears_keep state market fills kept none allowed =
+    let told = batch_none state.book market none in
+    record {
+      orders = kept-batch state.accounts state.book kept.orders market told;
+      positions = cleared-kept state kept market told fills allowed;
+    }
+
 -- ---- the step
 module _ (state : ExchangeState) (kept : IsKept state) where
   kept-trade : (order : NewOrder) → IsNewOrderWithin order → first_of (place_refusals state order) ≡ None → IsKept (place_effect state order).1
@@ -168,11 +180,8 @@ module _ (state : ExchangeState) (kept : IsKept state) where
     positions = positions-cancel state.accounts order state.book.markets state.positions kept.positions;
   }
   kept-effect (Clear market budget) within none =
-      let told = batch_none state.book market none in
-      record {
-        orders = kept-batch state.accounts state.book kept.orders market told;
-        positions = cleared-kept state kept market budget told;
-      }
+      clears_keep state market (outcome_of (batch_in state market) budget).fills kept none
+      (outcomes_are_within (batch_in state market) budget (batch_is_within state kept market none))
   kept-effect (Settle market count prices) within none =
       let (m, found, unsettled, same) = closable state.book market count (close_none state.book market count none) in
       record {

@@ -1,5 +1,5 @@
 -- The positions of a cleared batch are kept.
-use Rattle.std.proofs.Common.{◌≡◌, ℕ, zero, suc, ◌+◌, ◌*◌, ◌<◌, ◌≤◌, ◌≤ℤ◌, length, get_or, List, [], ◌∷◌, ◌++◌, Bool, true, false, if◌then◌else◌, int_lt, map, ℤ, pos, negsuc, None, Some, refl, sym, ap, ◌∙◌, subst, arith}
+use Rattle.std.proofs.Common.{◌≡◌, ℕ, zero, suc, ◌+◌, ◌*◌, ◌<◌, ◌≤◌, ◌≤ℤ◌, length, get_or, List, [], ◌∷◌, ◌++◌, Bool, true, false, if◌then◌else◌, int_lt, map, ℤ, pos, negsuc, Option, None, Some, refl, sym, ◌∙◌, subst, arith}
 use Rattle.std.specs.List.{All, zip}
 use Rattle.std.specs.Option.{option_map_or}
 use Rattle.std.proofs.Math.Nat.{mul-le-mul_right}
@@ -7,9 +7,6 @@ use Rattle.std.proofs.lemmas.Int.{ints}
 use Rattle.std.proofs.lemmas.List.Elements.{All-nil, All-cons, All-head, All-tail, All-append, All-weaker}
 use Rattle.arithmetic.proofs.Tests.{int_lt-yes}
 use Rattle.cash_ledger.specs.Ledger.{is_open}
-use Rattle.cert_check.specs.declared.outcome.Outcome.{Outcome}
-use Rattle.clearing.proofs.Outcomes.{outcomes_are_within}
-use Rattle.clearing.specs.Outcome.{outcome_of}
 use Rattle.clearing_model.specs.Certificate.{IsFill, AreFractionFills}
 use Rattle.exact_num.specs.Fraction.{AtMost, plain_product, whole}
 use Rattle.form.specs.declared.limits.TheConstants.{MAX_OPTIONS}
@@ -24,7 +21,7 @@ use Rattle.order_book.specs.Kept.{IsLive}
 use Rattle.order_book.specs.Markets.{MarketState, Markets, with_live_in}
 use Rattle.order_book.specs.Refusals.{batch_refusals}
 use Rattle.order_book.proofs.Accepting.{finishable}
-use Rattle.order_book.proofs.BookKept.{batch_within, market_kept, orders_within}
+use Rattle.order_book.proofs.BookKept.{market_kept, orders_within}
 use Rattle.order_book.proofs.MarketLists.{live_found}
 use Rattle.refusals.specs.Refusals.{first_of}
 use Rattle.settlement.specs.declared.position.Position.{Position}
@@ -64,11 +61,11 @@ all_held (order ∷ orders) (fill ∷ fills) within are =
     (held_fill order fill (All-head IsOrderWithin order orders within) (All-head IsFill (order, fraction_of fill) (zip orders (map fraction_of fills)) are))
     (all_held orders fills (All-tail IsOrderWithin order orders within) (All-tail IsFill (order, fraction_of fill) (zip orders (map fraction_of fills)) are))
 
--- the fills of an outcome
-pub fills_held : (batch : Batch) (outcome : Outcome) (orders : List Order) (fills : List Frac128) → IsWithinLimits batch → AreFractionFills batch.orders (map fraction_of outcome.fills)
-    → orders ≡ batch.orders → fills ≡ outcome.fills → AreHeld orders fills
-fills_held batch outcome orders fills within allowed same are =
-    subst (λ l. AreHeld l fills) (sym same) (subst (AreHeld batch.orders) (sym are) (all_held batch.orders outcome.fills within.orders_within allowed.1))
+-- the fills of a batch
+pub fills_held : (batch : Batch) (charged : List Frac128) (orders : List Order) (fills : List Frac128) → IsWithinLimits batch → AreFractionFills batch.orders (map fraction_of charged)
+    → orders ≡ batch.orders → fills ≡ charged → AreHeld orders fills
+fills_held batch charged orders fills within allowed same are =
+    subst (λ l. AreHeld l fills) (sym same) (subst (AreHeld batch.orders) (sym are) (all_held batch.orders charged within.orders_within allowed.1))
 
 -- the fill at the place of an order
 pub held_at : (orders : List Order) (fills : List Frac128) (k : ℕ) (order : Order) (fill : Frac128) → AreHeld orders fills → k < length orders → length fills ≡ length orders
@@ -129,29 +126,29 @@ batch_positions accounts book kept market number m found unsettled fills are =
 -- the positions with those of a batch that was found
 pub with_batch_kept : (accounts : List ℕ) (book : BookState) (positions : List Position) → AreOrdersKept accounts book → ArePositionsKept accounts book.markets positions
     → (market number : ℕ) → first_of (batch_refusals book market) ≡ None
-    → (batch : Batch) (outcome : Outcome) (orders : List Order) (fills : List Frac128) → live_of book market ≡ batch.orders → AreFractionFills batch.orders (map fraction_of outcome.fills)
-    → orders ≡ batch.orders → fills ≡ outcome.fills
+    → (batch : Batch) (charged : List Frac128) (orders : List Order) (fills : List Frac128) → live_of book market ≡ batch.orders → AreFractionFills batch.orders (map fraction_of charged)
+    → orders ≡ batch.orders → fills ≡ charged
     → ArePositionsKept accounts (with_live_in market [] book.markets) (positions ++ positions_in market number orders fills)
-with_batch_kept accounts book positions kept held market number none batch outcome orders fills live allowed same are =
+with_batch_kept accounts book positions kept held market number none batch charged orders fills live allowed same are =
     let (m, found, more, unsettled) = finishable book market none in
     let own : m.live ≡ batch.orders = sym (live_found market book.markets m found) ∙ live in
     let After = IsPositionKept accounts (with_live_in market [] book.markets) in
-    let new = batch_positions accounts book kept market number m found unsettled outcome.fills (subst (λ (l : List Order). AreFractionFills l (map fraction_of outcome.fills)) (sym own) allowed) in
+    let new = batch_positions accounts book kept market number m found unsettled charged (subst (λ (l : List Order). AreFractionFills l (map fraction_of charged)) (sym own) allowed) in
     All-append After positions (positions_in market number orders fills)
     (positions-live accounts market [] book.markets positions held)
     (subst (λ l. All After (positions_in market number l fills)) (own ∙ sym same) (subst (λ l. All After (positions_in market number m.live l)) (sym are) new))
 
--- the positions after a batch
-pub cleared-kept : (state : ExchangeState) → IsKept state → (market budget : ℕ) → first_of (batch_refusals state.book market) ≡ None
+-- the live orders of a market that is there, as its batch
+live_batch : (found : Option MarketState) → option_map_or (λ (m : MarketState). m.live) found [] ≡ (option_map_or batch_of found (record { underlyings = 0; orders = [] })).orders
+live_batch None = refl
+live_batch (Some m) = refl
+
+-- the positions after a batch that is cleared with these fills
+pub cleared-kept : (state : ExchangeState) → IsKept state → (market : ℕ) → first_of (batch_refusals state.book market) ≡ None
+    → (fills : List Frac128) → AreFractionFills (batch_in state market).orders (map fraction_of fills)
     → ArePositionsKept state.accounts (with_live_in market [] state.book.markets)
-    (state.positions ++ positions_in market (state.book.finished + 1) (batch_in state market).orders (outcome_of (batch_in state market) budget).fills)
-cleared-kept state kept market budget none =
-    let (m, found, more, unsettled) = finishable state.book market none in
-    let is = ap (λ r. option_map_or batch_of r (record { underlyings = 0; orders = [] })) found in
-    let within = batch_within state.book.accepted m (market_kept state.book kept.orders.book market m found) in
-    let After = IsPositionKept state.accounts (with_live_in market [] state.book.markets) in
-    let number = state.book.finished + 1 in
-    subst (λ (b : Batch). All After (state.positions ++ positions_in market number b.orders (outcome_of b budget).fills)) (sym is)
-    (All-append After state.positions (positions_in market number m.live (outcome_of (batch_of m) budget).fills)
-    (positions-live state.accounts market [] state.book.markets state.positions kept.positions)
-    (batch_positions state.accounts state.book kept.orders market number m found unsettled (outcome_of (batch_of m) budget).fills (outcomes_are_within (batch_of m) budget within)))
+    (state.positions ++ positions_in market (state.book.finished + 1) (batch_in state market).orders fills)
+cleared-kept state kept market none fills allowed =
+    let batch = batch_in state market in
+    with_batch_kept state.accounts state.book state.positions kept.orders kept.positions market (state.book.finished + 1) none
+    batch fills batch.orders fills (live_batch (market_of state.book market)) allowed refl refl

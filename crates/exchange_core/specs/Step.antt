@@ -3,8 +3,10 @@ use Rattle.std.specs.Prelude.{ℕ, pos, length, take, List, ◌≡◌, ◌+◌, 
 use Rattle.std.specs.Option.{option_map_or}
 use Rattle.cash_ledger.specs.declared.entry.Entry.{Entry}
 use Rattle.cash_ledger.specs.Entries.{balance_of, deposit_of, withdrawal_of}
+use Rattle.cert_check.specs.declared.outcome.Outcome.{Outcome}
 use Rattle.clearing.specs.Outcome.{outcome_of}
 use Rattle.form.specs.declared.orders.Batch.{Batch}
+use Rattle.frac.specs.declared.frac128.Frac128.{Frac128}
 use Rattle.order_book.specs.declared.new_order.NewOrder.{NewOrder}
 use Rattle.order_book.specs.Book as book
 use Rattle.command_text.specs.declared.command.Command.{Command}
@@ -60,20 +62,26 @@ abbrev pub batch_in : ExchangeState → ℕ → Batch
 batch_in state market =
     option_map_or book.batch_of (book.market_of state.book market) (record { underlyings = 0; orders = [] })
 
--- the batch has its outcome within the budget, the premiums of its fills move and they are positions, and what is unfilled
--- lapses
-abbrev pub clear_effect : ExchangeState → ℕ → ℕ → Reply × ExchangeState
-clear_effect state market budget =
+-- a batch of the market is cleared with these fills of its live orders: their premiums move and they are positions, and what is
+-- unfilled lapses
+abbrev pub cleared_with : ExchangeState → ℕ → List Frac128 → ExchangeState
+cleared_with state market fills =
     let batch = batch_in state market in
-    let outcome = outcome_of batch budget in
-    let number = state.book.finished + 1 in (
-      reply.Cleared number market batch outcome,
-      record state {
-        entries = state.entries ++ premium_entries number batch.orders outcome.fills;
-        book = book.after_batch state.book market;
-        positions = state.positions ++ positions_in market number batch.orders outcome.fills;
-      },
-    )
+    let number = state.book.finished + 1 in
+    record state {
+      entries = state.entries ++ premium_entries number batch.orders fills;
+      book = book.after_batch state.book market;
+      positions = state.positions ++ positions_in market number batch.orders fills;
+    }
+
+-- the same, with the reply that tells this outcome
+abbrev pub cleared_as : ExchangeState → ℕ → Outcome → Reply × ExchangeState
+cleared_as state market outcome =
+    (reply.Cleared (state.book.finished + 1) market (batch_in state market) outcome, cleared_with state market outcome.fills)
+
+-- the batch has its outcome within the budget
+abbrev pub clear_effect : ExchangeState → ℕ → ℕ → Reply × ExchangeState
+clear_effect state market budget = cleared_as state market (outcome_of (batch_in state market) budget)
 
 -- the market is settled for good at the prices: its live orders lapse, its positions are paid out and taken out
 abbrev pub settle_effect : ExchangeState → ℕ → List ℕ → Reply × ExchangeState

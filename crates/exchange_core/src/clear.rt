@@ -1,32 +1,29 @@
-// How a batch is cleared, and what is paid.
-ghost use Rattle.std.specs.Prelude.{◌≡◌, ◌+◌, ◌*◌, ◌≤◌, ◌++◌, true, length, IfOk, OnErr};
+// How a batch is charged, and what is paid.
+ghost use Rattle.std.specs.Prelude.{◌≡◌, ◌+◌, ◌*◌, ◌≤◌, ◌<◌, ◌++◌, true, Some, length, map, IfOk, OnErr, OnOk};
 ghost use Rattle.std.specs.List.{All};
+ghost use Rattle.std.specs.Option.{option_map};
 ghost use Rattle.cash_ledger.specs.Ledger.{is_open, KeepsReserves};
-ghost use Rattle.clearing.specs.Outcome.{IsMarked};
+ghost use Rattle.clearing_model.specs.Certificate.{AreFractionFills};
+ghost use Rattle.form.specs.Limits.{IsWithinLimits};
 ghost use Rattle.frac.specs.Value.{fraction_of};
-ghost use Rattle.order_book.specs.Refusals.{batch_refusals};
-ghost use Rattle.refusals.specs.Refusals.{TellsFirst};
+ghost use Rattle.order_book.specs.Book.{batch_of, is_trading, market_of};
+ghost use Rattle.order_book.specs.declared.limits.TheConstants.{MAX_BATCHES};
 ghost use Rattle.settlement.specs.Premium.{IsOrderFill};
-ghost use Rattle.exchange_core.specs.Covered.{IfCleared};
 ghost use Rattle.exchange_core.specs.ExchangeState.{state_of};
 ghost use Rattle.exchange_core.specs.Kept.{IsPayable, AreJoined, ArePositionsKept};
 ghost use Rattle.exchange_core.specs.Premiums.{premiums_of, premium_entries};
-ghost use Rattle.exchange_core.specs.Failures.{unless_memory};
-ghost use Rattle.exchange_core.specs.Refusals.{by_book};
-ghost use Rattle.exchange_core.specs.Step.{clear_effect, Does};
-ghost use Rattle.command_text.specs.Within.{IsBudget};
+ghost use Rattle.exchange_core.specs.Step.{cleared_with};
 
-use crate::Reply;
 use crate::failure::Failure;
 use crate::new_positions::add_positions;
 use crate::reserve::release_all;
 use cash_ledger::{Cause, Ledger};
+use cert_check::Fills;
 use exact_num::Exact;
-use form::{Order, Side};
+use form::{Batch, Order, Side};
 use frac::Frac128;
 use order_book::Book;
 use settlement::{Positions, premium};
-use std::alloc::Global;
 
 // Moves the premium of a fill, for which the ledger has room. A fill of 0 has none.
 fn pay(ledger: &mut Ledger, batch: u32, order: &Order, fill: &Frac128)
@@ -68,43 +65,40 @@ fn pay_all(ledger: &mut Ledger, batch: u32, orders: &[Order], fills: &[Frac128])
     }
 }
 
-// Clears the live orders of a market within a work budget, in units: finds their outcome, moves the premiums of its fills, which
-// are positions from then on, and gives free what the orders reserve.
-pub(crate) fn clear(
-    alloc: Global,
+// Clears the live orders of a market with these fills: moves their premiums, gives free what the
+// orders reserve, and the fills are positions from then on. Answers the number of the batch.
+// Whatever found the fills, they are charged here. It fails for want of memory alone.
+pub(crate) fn clear_as(
     ledger: &mut Ledger,
     book: &mut Book,
     positions: &mut Positions,
     market: u32,
-    budget: u32,
-) -> Result<Reply, Failure>
+    batch: &Batch,
+    fills: &Fills,
+) -> Result<u32, Failure>
     requires joined { AreJoined ledger.old book.old }
     requires positions { ArePositionsKept
         ledger.old.accounts book.old.markets positions.old.list }
-    requires budget { IsBudget budget }
-    ensures refused { TellsFirst unless_memory result (by_book (batch_refusals book.old market)) }
-    ensures ok { Does result (state_of ledger.new book.new positions.new.list)
-        (clear_effect (state_of ledger.old book.old positions.old.list) market budget) }
-    ensures marked { IfOk result (IfCleared (λ batch outcome. IsMarked batch budget outcome)) }
+    requires open { is_trading book.old market ≡ true }
+    requires few { book.old.finished < MAX_BATCHES }
+    requires batch { option_map batch_of (market_of book.old market) ≡ Some batch.now }
+    requires within { IsWithinLimits batch.now }
+    requires fills { AreFractionFills batch.now.orders (map fraction_of fills.now) }
+    ensures number { IfOk result (λ number. number ≡ book.old.finished + 1) }
+    ensures cleared { OnOk result (state_of ledger.new book.new positions.new.list
+        ≡ cleared_with (state_of ledger.old book.old positions.old.list) market fills.now) }
     ensures joined { AreJoined ledger.new book.new }
     ensures positions { ArePositionsKept
         ledger.new.accounts book.new.markets positions.new.list }
     ensures err { OnErr result (state_of ledger.new book.new positions.new.list
         ≡ state_of ledger.old book.old positions.old.list) }
 {
-    let batch = book.batch(market)?;
-    let outcome = clearing::clear(alloc, &batch, budget)?;
     let orders = batch.orders.as_slice();
     ledger.room(2 * orders.len())?;
     positions.room(orders.len())?;
     let number = book.finish_batch(market);
-    pay_all(ledger, number, orders, outcome.fills.as_slice());
-    add_positions(positions, market, number, orders, outcome.fills.as_slice());
+    pay_all(ledger, number, orders, fills.as_slice());
+    add_positions(positions, market, number, orders, fills.as_slice());
     release_all(ledger, orders);
-    Ok(Reply::Cleared {
-        number,
-        market,
-        batch,
-        outcome,
-    })
+    Ok(number)
 }

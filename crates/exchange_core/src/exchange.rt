@@ -1,11 +1,14 @@
-ghost use Rattle.std.specs.Prelude.{◌≡◌, ◌≤◌, ◌<◌, ◌^◌, length, pos, IfOk, IfSome, OnErr, OnOk, Some, true};
+ghost use Rattle.std.specs.Prelude.{◌≡◌, ◌+◌, ◌++◌, ◌≤◌, ◌<◌, ◌^◌, length, map, pos, IfOk, IfSome, OnErr, OnOk, Some, true};
 ghost use Rattle.std.specs.Option.{option_map};
 ghost use Rattle.cash_ledger.specs.Entries.{AreBounded};
 ghost use Rattle.cash_ledger.specs.Ledger.{balance_in, if_open};
-ghost use Rattle.clearing.specs.Outcome.{IsMarked};
+ghost use Rattle.cash_ledger.specs.Refusals.{account_refusals};
+ghost use Rattle.clearing.specs.Outcome.{IsMarked, outcome_of};
+ghost use Rattle.clearing_model.specs.Certificate.{AreFractionFills};
+ghost use Rattle.frac.specs.Value.{fraction_of};
 ghost use Rattle.form.specs.Limits.{IsWithinLimits};
 ghost use Rattle.order_book.specs.Book.{batch_of, info_in, is_trading, market_of};
-ghost use Rattle.order_book.specs.Refusals.{batch_refusals, unless_memory as unless_no_memory};
+ghost use Rattle.order_book.specs.Refusals.{batch_refusals, live_refusals, unless_memory as unless_no_memory};
 ghost use Rattle.order_book.specs.Within.{IsNewOrderWithin};
 ghost use Rattle.order_book.specs.declared.limits.TheConstants.{MAX_BATCHES};
 ghost use Rattle.refusals.specs.Refusals.{TellsFirst};
@@ -14,17 +17,17 @@ ghost use Rattle.exchange_core.specs.Covered.{IfCleared, IsMarkedFor};
 ghost use Rattle.exchange_core.specs.ExchangeState.{empty_exchange};
 ghost use Rattle.exchange_core.specs.Kept.{IsKept};
 ghost use Rattle.exchange_core.specs.Failures.{unless_memory};
-ghost use Rattle.exchange_core.specs.Refusals.{refusals, place_refusals};
+ghost use Rattle.exchange_core.specs.Refusals.{by_book, by_ledger, refusals, place_refusals};
 ghost use Rattle.exchange_core.specs.Held.{markets_of, positions_of};
 ghost use Rattle.exchange_core.specs.Reserves.{reserve_in};
-ghost use Rattle.exchange_core.specs.Step.{step, effect, place_effect, clear_effect, Does};
+ghost use Rattle.exchange_core.specs.Step.{step, effect, place_effect, clear_effect, cleared_with, Does};
 ghost use Rattle.exchange_core.specs.Terms.{bundle_on, trade_on};
 ghost use Rattle.command_text.specs.Within.{IsWithin, IsAccount, IsAmount, IsBudget};
 ghost use Rattle.form.specs.Between.{Between};
 ghost use Rattle.form.specs.declared.limits.TheConstants.{MAX_ORDERS, MAX_UNDERLYINGS};
 
 use crate::Reply;
-use crate::clear::clear;
+use crate::clear::clear_as;
 use crate::failure::Failure;
 use crate::held::in_order;
 use crate::place::{cancel, place};
@@ -32,6 +35,7 @@ use crate::settle::settle;
 use crate::terms::Terms;
 use crate::trade::one_option;
 use cash_ledger::{Ledger, LedgerRefusal};
+use cert_check::{Fills, Outcome};
 use command_text::{Command, Kind};
 use form::{Batch, Bundle};
 use order_book::{Book, BookRefusal, MarketInfo, NewOrder};
@@ -119,6 +123,70 @@ impl Exchange {
         self.book.batch(market)
     }
 
+    /// The live orders of a market that is not settled, in rising number, as a batch, whether or
+    /// not one batch more may be finished. The first of these: `NoMarket` where no market has the
+    /// number; `Settled` where it is settled.
+    pub fn orders(&self, market: u32) -> Result<Batch, Failure>
+        ensures refused { TellsFirst unless_memory result
+            (by_book (live_refusals self.now.book market)) }
+        ensures batch { IfOk result (λ batch.
+            option_map batch_of (market_of self.now.book market) ≡ Some batch) }
+        ensures within { IfOk result IsWithinLimits }
+        ensures trading { OnOk result (is_trading self.now.book market ≡ true) }
+        ensures kept { IsKept self.now }
+    {
+        Ok(self.book.live(market)?)
+    }
+
+    /// The live orders of a market as a batch, and what the reference run clears of it within a
+    /// work budget, in units. Nothing is charged. The refusals are those of the command `clear`.
+    pub fn reference(&self, market: u32, budget: u32) -> Result<(Batch, Outcome), Failure>
+        requires { IsBudget budget }
+        ensures refused { TellsFirst unless_memory result
+            (refusals self.now (Command.Clear market budget)) }
+        ensures batch { IfOk result (λ r.
+            option_map batch_of (market_of self.now.book market) ≡ Some r.0) }
+        ensures within { IfOk result (λ r. IsWithinLimits r.0) }
+        ensures may_finish { OnOk result ((is_trading self.now.book market ≡ true)
+            × (self.now.book.finished < MAX_BATCHES)) }
+        ensures outcome { IfOk result (λ r. r.1 ≡ outcome_of r.0 budget) }
+        ensures marked { IfOk result (λ r. IsMarked r.0 budget r.1) }
+        ensures fills { IfOk result (λ r.
+            AreFractionFills r.0.orders (map fraction_of r.1.fills)) }
+    {
+        let batch = self.live(market)?;
+        let outcome = clearing::clear(self.alloc, &batch, budget)?;
+        Ok((batch, outcome))
+    }
+
+    /// Clears the live orders of a market with these fills, each from 0 to the order's quantity:
+    /// moves their premiums, gives free what the orders reserve, and keeps the fills as positions.
+    /// Answers the number of the batch. A batch is charged here whatever found its fills, and so is
+    /// one that a command clears. The batch is what `reference` answers, and nothing has changed
+    /// since. The only error is want of memory, and then the exchange is as it was.
+    pub fn clear_as(&mut self, market: u32, batch: &Batch, fills: &Fills) -> Result<u32, AllocError>
+        requires open { is_trading self.old.book market ≡ true }
+        requires few { self.old.book.finished < MAX_BATCHES }
+        requires batch { option_map batch_of (market_of self.old.book market) ≡ Some batch.now }
+        requires within { IsWithinLimits batch.now }
+        requires fills { AreFractionFills batch.now.orders (map fraction_of fills.now) }
+        ensures number { IfOk result (λ number. number ≡ self.old.book.finished + 1) }
+        ensures cleared { OnOk result (self.new ≡ cleared_with self.old market fills.now) }
+        ensures err { OnErr result (self.new ≡ self.old) }
+    {
+        match clear_as(
+            &mut self.ledger,
+            &mut self.book,
+            &mut self.positions,
+            market,
+            batch,
+            fills,
+        ) {
+            Ok(number) => Ok(number),
+            Err(_) => Err(AllocError),
+        }
+    }
+
     /// The positions that an account has in a market, in the order in which they were added.
     pub fn positions_of(&self, account: u32, market: u32) -> Result<Vec<Position>, AllocError>
         ensures positions { IfOk result (λ positions.
@@ -132,6 +200,23 @@ impl Exchange {
             }
         }
         Ok(held)
+    }
+
+    /// The positions that an open account has in a market that is not settled, in the order in which
+    /// they were added. The first of these: `NoMarket` where no market has the number; `Settled`
+    /// where it is settled; `NoAccount` where the account is not open.
+    pub fn positions(&self, account: u32, market: u32) -> Result<Vec<Position>, Failure>
+        ensures refused { TellsFirst unless_memory result
+            (by_book (live_refusals self.now.book market)
+            ++ by_ledger (account_refusals self.now.accounts account)) }
+        ensures positions { IfOk result (λ positions.
+            positions.items ≡ positions_of account market self.now.positions) }
+    {
+        self.book.check_live(market)?;
+        self.ledger
+            .balance(account)
+            .ok_or(LedgerRefusal::NoAccount)?;
+        Ok(self.positions_of(account, market)?)
     }
 
     /// The markets in which an account has positions, in rising number.
@@ -267,14 +352,14 @@ impl Exchange {
         ensures marked { IfOk result (IfCleared (λ batch outcome. IsMarked batch budget outcome)) }
         ensures err { OnErr result (self.new ≡ self.old) }
     {
-        clear(
-            self.alloc,
-            &mut self.ledger,
-            &mut self.book,
-            &mut self.positions,
+        let (batch, outcome) = self.reference(market, budget)?;
+        let number = self.clear_as(market, &batch, &outcome.fills)?;
+        Ok(Reply::Cleared {
+            number,
             market,
-            budget,
-        )
+            batch,
+            outcome,
+        })
     }
 
     fn settle(&mut self, market: u32, count: u8, prices: &[u32; 8]) -> Result<Reply, Failure>

@@ -8,9 +8,12 @@ use cash_ledger::LedgerRefusal;
 use order_book::BookRefusal;
 use std::alloc::AllocError;
 
+/// Why a command, or a request, has no effect.
 #[derive(Clone, Copy, Debug, PartialEq, Eq)]
-pub(crate) enum Failure {
+pub enum Failure {
+    /// It is refused.
     Refused(Refusal),
+    /// There is no memory for it.
     Memory,
 }
 

@@ -3,7 +3,7 @@
 ghost use Rattle.exchange_core.specs.Covered.{StepIsCovered, StepIsMarked, StepIsOptimal};
 ghost use Rattle.exchange_core.specs.ExchangeState.{empty_exchange};
 ghost use Rattle.exchange_core.specs.Kept.{IsKept};
-ghost use Rattle.exchange_core.specs.Laws.{StepKeeps};
+ghost use Rattle.exchange_core.specs.Laws.{ClearsKeep, StepKeeps};
 ghost use Rattle.exchange_core.specs.Worked.{BasketIsPaid, ButterflyIsPaid, ButterflyIsSettled, ReserveIsKept, RefusalsInOrder};
 
 /// From each state that an exchange may be in, a reply that clears a batch tells fills that cover its surplus, which is not
@@ -32,6 +32,12 @@ pub fn empty_is_kept()
 /// on as many underlyings as its options, which is not settled; and each position of an open account, in such a market, with a fill above 0 that counts at most 1,000,000 options within the limits.
 pub fn step_keeps()
     ensures { StepKeeps }
+{}
+
+/// And by each batch that is cleared, whatever found its fills, each from 0 to the quantity of its
+/// order.
+pub fn clears_keep()
+    ensures { ClearsKeep }
 {}
 
 /// What is reserved for a live buy is not paid out, and is free again once the order is cancelled: worked rows.

@@ -21,6 +21,7 @@ mod trade;
 pub use cash_ledger::{MAX_ACCOUNT, MAX_AMOUNT};
 pub use command_text::{Command, Kind, MAX_BUDGET, MAX_MARKET};
 pub use exchange::Exchange;
+pub use failure::Failure;
 pub use line_replies::reply_to;
 pub use order_book::{MAX_ACCEPTED, MAX_BATCHES};
 pub use refusal::Refusal;

@@ -13,7 +13,7 @@ use Rattle.order_book.specs.declared.refusal.BookRefusal.TheVariants.{NoMarket, 
 use Rattle.order_book.specs.Markets.{MarketState}
 use Rattle.order_book.specs.Book.{BookState, market_of, info_of, is_trading}
 use Rattle.order_book.specs.declared.market.MarketInfo.{MarketInfo}
-use Rattle.order_book.specs.Refusals.{market_refusals, place_refusals, batch_refusals, close_refusals, has_form_for, is_full}
+use Rattle.order_book.specs.Refusals.{market_refusals, place_refusals, batch_refusals, live_refusals, close_refusals, has_form_for, is_full}
 use Rattle.refusals.specs.Refusals.{first_of}
 
 pub record Accepts (book : BookState) (order : NewOrder) : Type 0 where
@@ -38,6 +38,13 @@ same_count a b h = grind (arith, nat_tests)
 
 less : (a b : ℕ) → nat_le a b ≡ false → b < a
 less a b h = grind (arith, nat_tests)
+
+settled_not : (test : Bool) → not test ≡ true → test ≡ false
+settled_not true h = cc
+settled_not false h = refl
+
+not_many : (a b : ℕ) → b < a → nat_le a b ≡ false
+not_many a b h = grind (arith, nat_tests)
 
 pub accepts : (book : BookState) (order : NewOrder) → first_of (place_refusals book order) ≡ None → Accepts book order
 accepts book order none = by (market_of book order.market) refl none
@@ -76,6 +83,26 @@ finishable book market none = by (market_of book market) refl none
     by (Some m) e h =
         let unsettled = passes m.settled Settled _ h in
         (m, e, less MAX_BATCHES book.finished (passes (nat_le MAX_BATCHES book.finished) TooMany None unsettled.1).0, unsettled.0)
+
+-- a market whose live orders are told: it is there and not settled
+pub listing_live : (book : BookState) (market : ℕ) → first_of (live_refusals book market) ≡ None → (m : MarketState) × (market_of book market ≡ Some m) × (m.settled ≡ false)
+listing_live book market none = by (market_of book market) refl none
+  where
+    by : (r : Option MarketState) → market_of book market ≡ r
+        → first_of ((not (is_some (option_map info_of r)), NoMarket) ∷ (option_map_or (λ (found : MarketInfo). found.settled) (option_map info_of r) false, Settled) ∷ []) ≡ None
+        → (m : MarketState) × (market_of book market ≡ Some m) × (m.settled ≡ false)
+    by None e h = cc
+    by (Some m) e h = (m, e, (passes m.settled Settled None h).0)
+
+-- a market may be cleared where it is there, not settled, and there is room for a batch
+pub unrefused : (book : BookState) (market : ℕ) → is_trading book market ≡ true → book.finished < MAX_BATCHES → first_of (batch_refusals book market) ≡ None
+unrefused book market trading more = by (market_of book market) trading
+  where
+    by : (r : Option MarketState) → option_map_or (λ (found : MarketInfo). not found.settled) (option_map info_of r) false ≡ true
+        → first_of ((not (is_some (option_map info_of r)), NoMarket) ∷ (option_map_or (λ (found : MarketInfo). found.settled) (option_map info_of r) false, Settled)
+        ∷ (nat_le MAX_BATCHES book.finished, TooMany) ∷ []) ≡ None
+    by None h = cc
+    by (Some m) h = rw (settled_not m.settled h, not_many MAX_BATCHES book.finished more) refl
 
 -- a market that may be settled at so many prices: it is there, not settled, and on as many underlyings
 pub closable : (book : BookState) (market prices : ℕ) → first_of (close_refusals book market prices) ≡ None

@@ -81,6 +81,13 @@ cancel_refusals book account number =
     ∷ (is_of_another book account number, NotOwner)
     ∷ []
 
+-- of the live orders of a market
+abbrev pub live_refusals : BookState → ℕ → List (Bool × BookRefusal)
+live_refusals book market =
+    (not (is_market book market), NoMarket)
+    ∷ (is_settled book market, Settled)
+    ∷ []
+
 -- of a batch of a market
 abbrev pub batch_refusals : BookState → ℕ → List (Bool × BookRefusal)
 batch_refusals book market =

@@ -5,7 +5,7 @@ ghost use Rattle.form.specs.Limits.{IsOrderWithin, IsWithinLimits};
 ghost use Rattle.order_book.specs.declared.limits.TheConstants.{MAX_BATCHES};
 ghost use Rattle.order_book.specs.declared.refusal.BookRefusal.TheVariants as BookRefusal;
 ghost use Rattle.order_book.specs.Book.{empty_book, market_of, live_of, order_of, info_in, is_trading, batch_of, with_number, with_market, with_order, without_order, after_batch, after_close};
-ghost use Rattle.order_book.specs.Refusals.{unless_memory, market_refusals, order_refusals, room_refusals, place_refusals, batch_refusals, close_refusals, cancel_refusals};
+ghost use Rattle.order_book.specs.Refusals.{unless_memory, market_refusals, order_refusals, room_refusals, place_refusals, live_refusals, batch_refusals, close_refusals, cancel_refusals};
 ghost use Rattle.order_book.specs.Within.{IsNewOrderWithin};
 ghost use Rattle.order_book.specs.Kept.{IsBookKept};
 ghost use Rattle.refusals.specs.Refusals.{TellsFirst};
@@ -181,6 +181,40 @@ impl Book {
         }
         self.markets.remove(market, order);
         Ok(found)
+    }
+
+    /// Looks whether a market is there and not settled.
+    ///
+    /// The first of these: `NoMarket` where no market has the number; `Settled` where it is
+    /// settled. Takes no memory.
+    pub fn check_live(&self, market: u32) -> Result<(), BookRefusal>
+        ensures refused { TellsFirst unless_memory result (live_refusals self.now market) }
+        ensures no_memory { result ≢ Err BookRefusal.Memory }
+    {
+        let market = self.info(market).ok_or(BookRefusal::NoMarket)?;
+        if market.settled {
+            return Err(BookRefusal::Settled);
+        }
+        Ok(())
+    }
+
+    /// The live orders of a market that is not settled, in rising number, as a batch, whether or
+    /// not one batch more may be finished.
+    ///
+    /// The first of these: `NoMarket` where no market has the number; `Settled` where it is
+    /// settled.
+    pub fn live(&self, market: u32) -> Result<Batch, BookRefusal>
+        ensures refused { TellsFirst unless_memory result (live_refusals self.now market) }
+        ensures batch { IfOk result (λ batch.
+            option_map batch_of (market_of self.now market) ≡ Some batch) }
+        ensures within { IfOk result IsWithinLimits }
+        ensures trading { OnOk result (is_trading self.now market ≡ true) }
+    {
+        let found = self.markets.get(market).ok_or(BookRefusal::NoMarket)?;
+        if found.is_settled() {
+            return Err(BookRefusal::Settled);
+        }
+        Ok(found.batch(self.alloc)?)
     }
 
     /// The live orders of a market, in rising number: the next batch.
