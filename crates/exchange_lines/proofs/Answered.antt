@@ -23,7 +23,7 @@ use Rattle.exchange_lines.specs.Replies.{Answer, IsMarkedAs, answer_to, answers_
 use Rattle.reply_print.specs.ReplyPieces.{reply_line}
 
 -- what is kept of an exchange is kept by each line
-answer_keeps : (state : ExchangeState) (said : Body) → IsKept state → BodyIsWithin said → IsKept (reply_to state said).1
+pub answer_keeps : (state : ExchangeState) (said : Body) → IsKept state → BodyIsWithin said → IsKept (reply_to state said).1
 answer_keeps state (Command command) kept within = step_keeps state command kept within
 answer_keeps state Syntax kept within = kept
 answer_keeps state (Range field) kept within = kept
@@ -78,11 +78,13 @@ lines_are_written (line ∷ lines) state =
 pub output_is_answers : OutputIsAnswers
 output_is_answers input = lines_are_written (commands_in input) empty_exchange
 
--- each answer to lines keeps what is promised
+-- each answer keeps what is promised
+pub promises_kept : (state : ExchangeState) (line : Line) → IsKept state → KeepsPromises (answer_to state line)
+promises_kept state line kept = record {
+  covered = batch_has IsCovered step_is_covered state line kept;
+  greatest = batch_has IsProvedGreatest step_is_optimal state line kept;
+  marked = answer_marked state line kept;
+}
+
 pub answers_keep : (lines : List Line) → All IsLineWithin lines → All KeepsPromises (answers_from empty_exchange lines)
-answers_keep lines within =
-    lines_have KeepsPromises (λ state line kept. record {
-      covered = batch_has IsCovered step_is_covered state line kept;
-      greatest = batch_has IsProvedGreatest step_is_optimal state line kept;
-      marked = answer_marked state line kept;
-    }) empty_exchange lines empty_is_kept within
+answers_keep lines within = lines_have KeepsPromises promises_kept empty_exchange lines empty_is_kept within

@@ -1,27 +1,17 @@
 -- The answers to an input leave the house its gains.
 use Rattle.std.proofs.Common.{◌≡◌, List, [], ◌∷◌, refl, sym, ap, subst}
 use Rattle.std.specs.List.{All}
-use Rattle.command_text.specs.declared.command.Body.{Body}
-use Rattle.command_text.specs.declared.command.Body.TheVariants.{Command, Syntax, Range}
 use Rattle.command_text.specs.declared.command.Line.{Line}
 use Rattle.command_text.specs.Lines.{commands_in}
-use Rattle.command_text.specs.Within.{BodyIsWithin, IsLineWithin}
+use Rattle.command_text.specs.Within.{IsLineWithin}
 use Rattle.command_text.proofs.ReadWithin.{inputs_are_within}
-use Rattle.exchange_core.specs.declared.refusal.Refusal.TheVariants as refusal
-use Rattle.exchange_core.specs.ExchangeState.{ExchangeState, all_live, empty_exchange}
-use Rattle.exchange_core.specs.Kept.{IsKept}
+use Rattle.exchange_core.specs.ExchangeState.{ExchangeState, empty_exchange}
 use Rattle.house_gain.specs.Runs.{HouseGains, replies_by, state_by}
-use Rattle.house_gain.proofs.RunGains.{gains_run}
+use Rattle.house_gain.proofs.RunGains.{always_fit, gains_run}
 use Rattle.house_gain.proofs.RunStates.{empty_runs}
-use Rattle.house_gain.proofs.Steps.{IsTrader, StepsTo, refusal_steps, command_steps}
-use Rattle.exchange_core.specs.LineReplies.{reply_to}
+use Rattle.house_gain.proofs.Steps.{body_steps}
 use Rattle.exchange_lines.specs.Promises.{AnswersGain, line_reply, replies_of}
 use Rattle.exchange_lines.specs.Replies.{answers_from}
-
-pub body_steps : (state : ExchangeState) (said : Body) → BodyIsWithin said → IsKept state → All IsTrader (all_live state) → StepsTo state (reply_to state said)
-body_steps state (Command command) within kept traders = command_steps state command within kept traders
-body_steps state Syntax within kept traders = refusal_steps state refusal.Syntax kept traders
-body_steps state (Range field) within kept traders = refusal_steps state (refusal.Range field) kept traders
 
 replies_are : (state : ExchangeState) (lines : List Line) → replies_of (answers_from state lines) ≡ replies_by line_reply state lines
 replies_are state [] = refl
@@ -30,7 +20,8 @@ replies_are state (line ∷ lines) = ap (λ l. (line_reply state line).0 ∷ l) 
 pub lines_gain : (lines : List Line) → All IsLineWithin lines → HouseGains (state_by line_reply empty_exchange lines).entries (replies_of (answers_from empty_exchange lines))
 lines_gain lines within =
     subst (HouseGains (state_by line_reply empty_exchange lines).entries) (sym (replies_are empty_exchange lines))
-    (gains_run line_reply IsLineWithin (λ state line. body_steps state line.body) lines empty_exchange within empty_runs)
+    (gains_run line_reply (λ before line. IsLineWithin line) (λ state line. body_steps state line.body) lines empty_exchange
+    (always_fit line_reply IsLineWithin empty_exchange lines within) empty_runs)
 
 pub answers_gain : AnswersGain
 answers_gain input = lines_gain (commands_in input) (inputs_are_within input)

@@ -13,39 +13,40 @@ use Rattle.exchange_core.specs.ExchangeState.{ExchangeState, all_live, empty_exc
 use Rattle.exchange_core.specs.Kept.{IsKept}
 use Rattle.exchange_core.specs.Step.{step}
 use Rattle.house_gain.specs.Gain.{house_gain, house_total, IsGained}
-use Rattle.house_gain.specs.Laws.{RunsGain}
-use Rattle.house_gain.specs.Runs.{HouseGains, IfClears, IfSettles, replies_by, state_by}
+use Rattle.house_gain.specs.Laws.{MovesGain, RunsGain}
+use Rattle.house_gain.specs.Moves.{MayMove, move}
+use Rattle.house_gain.specs.Runs.{AreFit, HouseGains, IfClears, IfSettles, replies_by, state_by}
 use Rattle.house_gain.proofs.BatchSteps.{WaitsOrIsPaid, IsOver, IsWaiting, cleared_waits, follow, stays_over}
 use Rattle.house_gain.proofs.Replies.{plain_clears}
 use Rattle.house_gain.proofs.RunStates.{IsRunning, empty_runs, step_runs}
-use Rattle.house_gain.proofs.Steps.{IsTrader, IsQuiet, IsClear, IsSettle, StepsTo, command_steps}
+use Rattle.house_gain.proofs.Steps.{IsTrader, IsQuiet, IsClear, IsSettle, StepsTo, command_steps, move_steps}
 
 -- a run whose items are answered as by steps of the exchange
-module _ {X : Type 0} (answer : ExchangeState → X → Reply × ExchangeState) (IsFit : X → Type 0)
-    (steps : (state : ExchangeState) (item : X) → IsFit item → IsKept state → All IsTrader (all_live state) → StepsTo state (answer state item)) where
-  first_steps : (state : ExchangeState) (item : X) (items : List X) → All IsFit (item ∷ items) → IsRunning state → StepsTo state (answer state item)
-  first_steps state item items fit running = steps state item (All-head IsFit item items fit) running.kept running.traders
+module _ {X : Type 0} (answer : ExchangeState → X → Reply × ExchangeState) (IsFit : ExchangeState → X → Type 0)
+    (steps : (state : ExchangeState) (item : X) → IsFit state item → IsKept state → All IsTrader (all_live state) → StepsTo state (answer state item)) where
+  first_steps : (state : ExchangeState) (item : X) (items : List X) → AreFit answer IsFit state (item ∷ items) → IsRunning state → StepsTo state (answer state item)
+  first_steps state item items fit running = steps state item fit.0 running.kept running.traders
 
-  next_runs : (state : ExchangeState) (item : X) (items : List X) → All IsFit (item ∷ items) → IsRunning state → IsRunning (answer state item).1
+  next_runs : (state : ExchangeState) (item : X) (items : List X) → AreFit answer IsFit state (item ∷ items) → IsRunning state → IsRunning (answer state item).1
   next_runs state item items fit running = step_runs state (answer state item) running (first_steps state item items fit running)
 
   -- a batch that is over stays so, and its entries are not added to
-  over_run : (number market : ℕ) (gain : ℤ) (P : List PaidOut → Type 0) (items : List X) (state : ExchangeState) → All IsFit items → IsRunning state → IsOver number market gain state
+  over_run : (number market : ℕ) (gain : ℤ) (P : List PaidOut → Type 0) (items : List X) (state : ExchangeState) → AreFit answer IsFit state items → IsRunning state → IsOver number market gain state
       → (house_total number (state_by answer state items).entries ≡ gain) × All (IfSettles market P) (replies_by answer state items)
   over_run number market gain P [] state fit running over = (over.entered, All-nil (IfSettles market P))
   over_run number market gain P (item ∷ items) state fit running over =
       let now : Reply × ExchangeState = answer state item in
       let stays = stays_over number market state now running (first_steps state item items fit running) gain P over in
-      let later = over_run number market gain P items now.1 (All-tail IsFit item items fit) (next_runs state item items fit running) stays.0 in
+      let later = over_run number market gain P items now.1 fit.1 (next_runs state item items fit running) stays.0 in
       (later.0, All-cons (IfSettles market P) now.0 (replies_by answer now.1 items) stays.1 later.1)
 
   -- a batch that waits
   waiting_run : (number market : ℕ) (batch : Batch) (outcome : Outcome) → IsCovered batch outcome → (entries : List Entry) (items : List X) (state : ExchangeState)
-      → entries ≡ (state_by answer state items).entries → All IsFit items → IsRunning state → IsWaiting number market batch outcome state
+      → entries ≡ (state_by answer state items).entries → AreFit answer IsFit state items → IsRunning state → IsWaiting number market batch outcome state
       → All (IfSettles market (IsGained entries number batch outcome)) (replies_by answer state items)
   waiting_run number market batch outcome covered entries [] state end fit running waiting = All-nil (IfSettles market (IsGained entries number batch outcome))
   waiting_run number market batch outcome covered entries (item ∷ items) state end fit running waiting =
-      by (waiting_run number market batch outcome covered entries items now.1 end (All-tail IsFit item items fit) (next_runs state item items fit running))
+      by (waiting_run number market batch outcome covered entries items now.1 end fit.1 (next_runs state item items fit running))
       (follow number market batch outcome covered state now running (first_steps state item items fit running) P waiting)
     where
       now : Reply × ExchangeState
@@ -61,14 +62,14 @@ module _ {X : Type 0} (answer : ExchangeState → X → Reply × ExchangeState) 
           → WaitsOrIsPaid number market batch outcome covered state now running P waiting → All Now (now.0 ∷ replies_by answer now.1 items)
       by later (inl waits) = All-cons Now now.0 (replies_by answer now.1 items) waits.1 (later waits.0)
       by later (inr paid) =
-          let over = over_run number market (house_gain number batch outcome paid.payouts) P items now.1 (All-tail IsFit item items fit) (next_runs state item items fit running) paid.over in
+          let over = over_run number market (house_gain number batch outcome paid.payouts) P items now.1 fit.1 (next_runs state item items fit running) paid.over in
           All-cons Now now.0 (replies_by answer now.1 items) (paid.reply (record { surplus = paid.surplus; entered = ap (house_total number) end ∙ over.0 })) over.1
 
   -- each batch
-  pub gains_run : (items : List X) (state : ExchangeState) → All IsFit items → IsRunning state → HouseGains (state_by answer state items).entries (replies_by answer state items)
+  pub gains_run : (items : List X) (state : ExchangeState) → AreFit answer IsFit state items → IsRunning state → HouseGains (state_by answer state items).entries (replies_by answer state items)
   gains_run [] state fit running = tt
   gains_run (item ∷ items) state fit running =
-      (by (first_steps state item items fit running).kind, gains_run items now.1 (All-tail IsFit item items fit) after)
+      (by (first_steps state item items fit running).kind, gains_run items now.1 fit.1 after)
     where
       now : Reply × ExchangeState
       now = answer state item
@@ -83,9 +84,20 @@ module _ {X : Type 0} (answer : ExchangeState → X → Reply × ExchangeState) 
       by (inl quiet) = plain_clears Later now.0 quiet.reply
       by (inr (inl clear)) =
           subst (IfClears Later) (sym clear.reply)
-          (waiting_run (state.book.finished + 1) clear.market clear.batch clear.outcome clear.covered (state_by answer now.1 items).entries items now.1 refl (All-tail IsFit item items fit) after
+          (waiting_run (state.book.finished + 1) clear.market clear.batch clear.outcome clear.covered (state_by answer now.1 items).entries items now.1 refl fit.1 after
           (cleared_waits state now running clear))
       by (inr (inr settle)) = subst (IfClears Later) (sym settle.reply) tt
 
+-- items that are fit for any state
+pub always_fit : {X : Type 0} (answer : ExchangeState → X → Reply × ExchangeState) (Fits : X → Type 0) (state : ExchangeState) (items : List X) → All Fits items
+    → AreFit answer (λ before item. Fits item) state items
+always_fit answer Fits state [] fit = tt
+always_fit answer Fits state (item ∷ items) fit =
+    (All-head Fits item items fit, always_fit answer Fits (answer state item).1 items (All-tail Fits item items fit))
+
+pub moves_gain : MovesGain
+moves_gain moves may = gains_run move MayMove move_steps moves empty_exchange may empty_runs
+
 pub runs_gain : RunsGain
-runs_gain commands within = gains_run step IsWithin command_steps commands empty_exchange within empty_runs
+runs_gain commands within =
+    gains_run step (λ before command. IsWithin command) command_steps commands empty_exchange (always_fit step IsWithin empty_exchange commands within) empty_runs

@@ -1,4 +1,5 @@
 pub mod Gain
 pub mod Runs
+pub mod Moves
 pub mod Laws
 pub mod Worked

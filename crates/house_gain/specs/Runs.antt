@@ -20,6 +20,11 @@ abbrev pub state_by : {X : Type 0} → (ExchangeState → X → Reply × Exchang
 state_by answer state [] = state
 state_by answer state (item ∷ items) = state_by answer (answer state item).1 items
 
+-- each item is fit for the state that those before it left
+abbrev pub AreFit : {X : Type 0} → (ExchangeState → X → Reply × ExchangeState) → (ExchangeState → X → Type 0) → ExchangeState → List X → Type 0
+AreFit answer IsFit state [] = ⊤
+AreFit answer IsFit state (item ∷ items) = IsFit state item × AreFit answer IsFit (answer state item).1 items
+
 -- ---- of one reply
 -- a fact of the number, the market, the batch and the outcome, where the reply clears a batch
 abbrev pub IfClears : (ℕ → ℕ → Batch → Outcome → Type 0) → Reply → Type 0
