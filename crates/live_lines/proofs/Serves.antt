@@ -3,15 +3,15 @@ use Rattle.std.proofs.Common.{◌≡◌, ◌≤◌, ◌<◌, ◌⊎◌, ℕ, zer
 use Rattle.std.proofs.KnownBytes.{Appends-nil, Appends-trans, Consumes-kept, Consumes-nil, Consumes-trans}
 use Rattle.std.specs.Io.KnownBytes.{Appends, Consumes, IsAtEnd, Keeps}
 use Rattle.std.specs.Prelude.{IsSomeAnd}
-use Rattle.port_io.specs.Faults.{Rose, raised_by}
+use Rattle.port_io.specs.Faults.{Rose, last_count, raised_by}
 use Rattle.port_io.specs.Writes.{AppendsFront}
 use Rattle.command_text.specs.Fields.{begins_with_mark}
 use Rattle.command_text.specs.Lines.{mark_size}
 use Rattle.live_lines.specs.Ended.{ended_by}
-use Rattle.live_lines.specs.Open.{Open, count_limit, line_limit, line_text, new_open, unmarked}
-use Rattle.live_lines.specs.Output.{answer_to, output_of}
-use Rattle.live_lines.specs.Serving.{Came, Counts, Ends, IsInputWithin, Known, WroteAll, WroteBefore, WroteFront, WroteLines, piece_limit}
-use Rattle.live_lines.specs.Taken.{AreWithin, Completes, IsOpenWithin, Stops, Took, with_feeds}
+use Rattle.live_lines.specs.Open.{Open, count_limit, line_limit, new_open, unmarked}
+use Rattle.live_lines.specs.Output.{last_answer, output_of}
+use Rattle.live_lines.specs.Serving.{Came, Counts, Ends, IsInputWithin, IsOver, Known, TellsTooLong, TookAll, TurnsTo, WroteBefore, WroteFront, WroteSome, piece_limit}
+use Rattle.live_lines.specs.Taken.{AreWithin, IsOpenWithin, Took, with_feeds}
 use Rattle.live_lines.specs.declared.ended.Ended.{Ended}
 use Rattle.live_lines.specs.declared.ended.Ended.TheVariants as ended
 use Rattle.live_lines.specs.declared.stop.LiveStop.{LiveStop}
@@ -27,13 +27,6 @@ known_of left still written writes = record { left = left; still = still; writte
 
 abbrev pub counts_of : ℕ → ℕ → ℕ → ℕ → ℕ → ℕ → Counts
 counts_of read reads write writes taken takes = record { read = read; reads = reads; write = write; writes = writes; taken = taken; takes = takes }
-
--- ---- the bytes that are counted
-counted_more : (taken takes now a b : ℕ) → raised_by taken a ≤ takes → now ≡ raised_by takes b → raised_by taken (a + b) ≤ now
-counted_more taken takes now a b h is = omega (arith, h, is)
-
-counted_less : (taken takes a b : ℕ) → a ≤ b → raised_by taken b ≤ takes → raised_by taken a ≤ takes
-counted_less taken takes a b le h = omega (arith, le, h)
 
 -- ---- the bytes that were left
 of_more : (left still : Option (List ℕ)) (bytes : List ℕ) (P : List ℕ → Type 0) → Consumes left still bytes → ((more : List ℕ) → P (bytes ++ more))
@@ -58,111 +51,131 @@ pub open_within : (skips : Bool) → IsOpenWithin (new_open skips)
 open_within true = (refl, omega arith, λ lt. absurd (omega arith))
 open_within false = (refl, omega arith, λ lt. absurd (omega arith))
 
-module _ {S : Type 0} (step : ℕ → S → List ℕ → List ℕ × S) (skips : Bool) (start : S) (left written : Option (List ℕ)) (taken : ℕ) where
-  abbrev pub Has : S → Open → Option (List ℕ) → Option (List ℕ) → ℕ → Type 0
-  Has state line still writes takes = Came step skips start state line (known_of left still written writes) taken takes
+-- ---- between two reads
+counted_none : (taken : ℕ) → taken ≤ last_count → taken ≡ raised_by taken 0
+counted_none taken low = omega (arith, low)
 
-  pub came_none : (line : Open) → line ≡ new_open skips → Has start line left written taken
-  came_none line is = record {
+counted_more : (taken takes now a b : ℕ) → takes ≡ raised_by taken a → now ≡ raised_by takes b → now ≡ raised_by taken (a + b)
+counted_more taken takes now a b p q = omega (arith, p, q)
+
+counted_less : (taken now a b : ℕ) → a ≤ b → now ≡ raised_by taken b → raised_by taken a ≤ now
+counted_less taken now a b le is = omega (arith, le, is)
+
+module _ {S : Type 0} (step : ℕ → S → List ℕ → List ℕ × S) where
+  pub came_none : (state : S) (line : Open) (left written : Option (List ℕ)) (read write taken : ℕ) → IsOpenWithin line → taken ≤ last_count
+      → Came step state line state line (known_of left left written written) (counts_of read read write write taken taken)
+  came_none state line left written read write taken within low = record {
     bytes = [];
     text = [];
     gave = Consumes-nil left;
-    counted = omega arith;
+    counted = counted_none taken low;
     wrote = Appends-nil written;
-    took = subst (λ l. Took step start (new_open skips) start l [] []) (sym is) (took_none step skips start (new_open skips) refl (open_within skips));
+    took = took_none step line.skips state line refl within;
+    read_calm = refl;
+    write_calm = refl;
   }
 
-  module _ (state : S) (line : Open) (still writes : Option (List ℕ)) (takes : ℕ) (came : Has state line still writes takes) where
-    now_counted : (now : ℕ) (piece : List ℕ) → now ≡ raised_by takes (length piece) → raised_by taken (length (came.bytes ++ piece)) ≤ now
-    now_counted now piece is = subst (λ n. raised_by taken n ≤ now) (sym (length-append came.bytes piece)) (counted_more taken takes now (length came.bytes) (length piece) came.counted is)
-
-    pub came_more : (after : S) (next : Open) (stays adds : Option (List ℕ)) (now : ℕ) (piece tells : List ℕ) → Consumes still stays piece → now ≡ raised_by takes (length piece)
-        → Appends writes adds tells → Took step state line after next piece tells → Has after next stays adds now
-    came_more after next stays adds now piece tells gave count wrote took = record {
-      bytes = came.bytes ++ piece;
-      text = came.text ++ tells;
-      gave = Consumes-trans left still stays came.bytes piece came.gave gave;
-      counted = now_counted now piece count;
-      wrote = Appends-trans written writes adds came.text tells came.wrote wrote;
-      took = took_more step start state after (new_open skips) line next came.bytes piece came.text tells came.took took;
+  module _ (old state : S) (first line : Open) (left still written writes : Option (List ℕ)) (read reads write writers taken takes : ℕ)
+      (came : Came step old first state line (known_of left still written writes) (counts_of read reads write writers taken takes)) where
+    pub came_more : (after : S) (next : Open) (stays adds : Option (List ℕ)) (r w t : ℕ)
+        → Came step state line after next (known_of still stays writes adds) (counts_of reads r writers w takes t)
+        → Came step old first after next (known_of left stays written adds) (counts_of read r write w taken t)
+    came_more after next stays adds r w t more = record {
+      bytes = came.bytes ++ more.bytes;
+      text = came.text ++ more.text;
+      gave = Consumes-trans left still stays came.bytes more.bytes came.gave more.gave;
+      counted = counted_more taken takes t (length came.bytes) (length more.bytes) came.counted more.counted ∙ ap (raised_by taken) (sym (length-append came.bytes more.bytes));
+      wrote = Appends-trans written writes adds came.text more.text came.wrote more.wrote;
+      took = took_more step old state after first line next came.bytes more.bytes came.text more.text came.took more.took;
+      read_calm = more.read_calm ∙ came.read_calm;
+      write_calm = more.write_calm ∙ came.write_calm;
     }
 
-    -- ---- after a piece
-    pub long_after : (stays adds : Option (List ℕ)) (now : ℕ) (piece tells : List ℕ) → Consumes still stays piece → now ≡ raised_by takes (length piece)
-        → length piece ≤ piece_limit → Appends writes adds tells → Stops step state line piece tells
-        → WroteBefore step skips start (known_of left stays written adds) × (raised_by taken (line_limit + 1) ≤ now)
-    long_after stays adds now piece tells gave count few wrote stops =
-        let all = stops_more step start state (new_open skips) line came.bytes piece came.text tells came.took stops in
-        let text = all.answers ∙ sym (lines_alone step skips start all.lines all.within) in
-        let many = more_than_limit skips all.lines all.rest all.too_long in (
-          (
-            all.lines,
-            all.rest,
-            subst (Consumes left stays) all.split (Consumes-trans left still stays came.bytes piece came.gave gave),
-            all.within,
-            all.too_long,
-            subst (Appends written adds) text (Appends-trans written writes adds came.text tells came.wrote wrote),
-            (came.bytes, piece, sym all.split, few, took_within step skips start state line came.bytes came.text came.took),
-          ),
-          counted_less taken now (line_limit + 1) (length (came.bytes ++ piece)) (omega (arith, many, ap length all.split)) (now_counted now piece count),
-        )
+-- ---- how a turn ends
+module _ {S : Type 0} (step : ℕ → S → List ℕ → List ℕ × S) (skips : Bool) (start state : S) (line : Open) (left still written writes : Option (List ℕ))
+    (read reads write writers taken takes : ℕ) (came : Came step start (new_open skips) state line (known_of left still written writes) (counts_of read reads write writers taken takes)) where
+  long_after : (stays adds : Option (List ℕ)) (r w t limit : ℕ) → limit ≤ piece_limit
+      → TellsTooLong step state line limit (known_of still stays writes adds) (counts_of reads r writers w takes t)
+      → WroteBefore step skips start (known_of left stays written adds) × (raised_by taken (line_limit + 1) ≤ t)
+  long_after stays adds r w t limit low told =
+      let piece = told.0 in
+      let all = stops_more step start state (new_open skips) line came.bytes piece came.text told.1 came.took told.6 in
+      let text = all.answers ∙ sym (lines_alone step skips start all.lines all.within) in
+      let many = more_than_limit skips all.lines all.rest all.too_long in
+      let now = counted_more taken takes t (length came.bytes) (length piece) came.counted told.4 in (
+        (
+          all.lines,
+          all.rest,
+          subst (Consumes left stays) all.split (Consumes-trans left still stays came.bytes piece came.gave told.2),
+          all.within,
+          all.too_long,
+          subst (Appends written adds) text (Appends-trans written writes adds came.text told.1 came.wrote told.5),
+          (came.bytes, piece, sym all.split, omega (arith, told.3, low), took_within step skips start state line came.bytes came.text came.took),
+        ),
+        counted_less taken t (line_limit + 1) (length came.bytes + length piece) (omega (arith, many, ap length all.split, length-append came.bytes piece)) now,
+      )
 
-    pub front_after : (stays adds : Option (List ℕ)) (piece tells : List ℕ) → Consumes still stays piece → AppendsFront writes adds tells
-        → Completes step state line piece tells
-        → WroteFront step skips start (known_of left stays written adds)
-    front_after stays adds piece tells gave wrote completes =
-        let all = completes_more step start state (new_open skips) line came.bytes piece came.text tells came.took completes in
+  -- all that was left was taken
+  all_taken : (stays adds : Option (List ℕ)) → IsOver (known_of still stays writes adds) → TookAll (known_of left stays written adds) came.bytes
+  all_taken stays adds over = (Consumes-kept left still stays came.bytes came.gave over.0, taken_whole left still stays came.bytes came.gave over.0 over.1)
+
+  -- behind what was written comes the last answer
+  whole : came.text ++ last_answer step state line ≡ output_of step skips start came.bytes
+  whole = whole_output step skips start state line came.bytes came.text came.took
+
+  front_after : (stays adds : Option (List ℕ)) → WroteSome step state line (known_of still stays writes adds)
+      → WroteFront step skips start (known_of left stays written adds)
+  front_after stays adds some = elim some [
+    | inl lines ↦
+        let all = completes_more step start state (new_open skips) line came.bytes lines.0 came.text lines.1 came.took lines.4 in
         let text = all.answers ∙ sym (lines_alone step skips start all.lines all.within) in
         inl (
           all.lines,
           all.rest,
-          subst (Consumes left stays) all.split (Consumes-trans left still stays came.bytes piece came.gave gave),
+          subst (Consumes left stays) all.split (Consumes-trans left still stays came.bytes lines.0 came.gave lines.2),
           all.within,
-          subst (AppendsFront written adds) text (front_behind written writes adds came.text tells came.wrote wrote),
+          subst (AppendsFront written adds) text (front_behind written writes adds came.text lines.1 came.wrote lines.3),
         )
-
-    -- ---- at the end
-    abbrev last : List ℕ
-    last = (answer_to step line.number state (line_text line.skips line.number line.rest)).0
-
-    pub all_after : (stays adds : Option (List ℕ)) → Keeps still stays → IsAtEnd still → Appends writes adds last
-        → WroteAll step skips start (known_of left stays written adds)
-    all_after stays adds kept at_end wrote = (
+    | inr last ↦ inr (
       came.bytes,
-      (Consumes-kept left still stays came.bytes came.gave kept, taken_whole left still stays came.bytes came.gave kept at_end),
-      took_within step skips start state line came.bytes came.text came.took,
-      subst (Appends written adds) (whole_output step skips start state line came.bytes came.text came.took) (Appends-trans written writes adds came.text last came.wrote wrote),
+      all_taken stays adds last.0,
+      subst (AppendsFront written adds) whole (front_behind written writes adds came.text (last_answer step state line) came.wrote last.1),
     )
+  ]
 
-    pub last_front : (stays adds : Option (List ℕ)) → Keeps still stays → IsAtEnd still → AppendsFront writes adds last
-        → WroteFront step skips start (known_of left stays written adds)
-    last_front stays adds kept at_end wrote =
-        inr (
-          came.bytes,
-          (Consumes-kept left still stays came.bytes came.gave kept, taken_whole left still stays came.bytes came.gave kept at_end),
-          subst (AppendsFront written adds) (whole_output step skips start state line came.bytes came.text came.took) (front_behind written writes adds came.text last came.wrote wrote),
-        )
-
-    -- ---- at a fault of a read
-    pub lines_after : (stays : Option (List ℕ)) → Keeps still stays → WroteLines step skips start (known_of left stays written writes)
-    lines_after stays kept = (
+  pub ends_after : (after : S) (next : Open) (stays adds : Option (List ℕ)) (r w t limit : ℕ) (e : Ended) → limit ≤ piece_limit
+      → TurnsTo step state line after next limit (known_of still stays writes adds) (counts_of reads r writers w takes t) (Some e)
+      → Ends step skips start (known_of left stays written adds) (counts_of read r write w taken t) e
+  ends_after after next stays adds r w t limit ended.Done low turn = (
+    came.bytes,
+    all_taken stays adds turn.0,
+    took_within step skips start state line came.bytes came.text came.took,
+    subst (Appends written adds) whole (Appends-trans written writes adds came.text (last_answer step state line) came.wrote turn.1),
+  )
+  ends_after after next stays adds r w t limit ended.ReadFault low turn = (
+    (
       came.took.lines,
       line.rest,
-      subst (Consumes left stays) came.took.split (Consumes-kept left still stays came.bytes came.gave kept),
+      subst (Consumes left stays) came.took.split (Consumes-kept left still stays came.bytes came.gave turn.0),
       came.took.within,
       came.took.open_within.0,
-      subst (Appends written writes) (lines_written step skips start state line came.bytes came.text came.took) came.wrote,
-    )
+      subst (Appends written adds) (lines_written step skips start state line came.bytes came.text came.took) (subst (λ now. Appends written now came.text) (sym turn.1) came.wrote),
+    ),
+    subst (λ n. Rose n r) came.read_calm turn.2,
+  )
+  ends_after after next stays adds r w t limit ended.WriteFault low turn = (front_after stays adds turn.0, subst (λ n. Rose n w) came.write_calm turn.1)
+  ends_after after next stays adds r w t limit ended.TooLong low turn =
+      let long = long_after stays adds r w t limit low turn.0 in (long.0, turn.1 ∙ came.read_calm, long.1)
+  ends_after after next stays adds r w t limit ended.Memory low turn = front_after stays adds turn
 
-  -- ---- which end a stop makes
-  pub ends_by : (still writes : Option (List ℕ)) (counts : Counts) (stop : LiveStop)
-      → WroteFront step skips start (known_of left still written writes) → (stop ≡ WriteFault → Rose counts.write counts.writes)
-      → (stop ≡ TooLong → WroteBefore step skips start (known_of left still written writes) × (counts.reads ≡ counts.read)
-      × (raised_by counts.taken (line_limit + 1) ≤ counts.takes))
-      → Ends step skips start (known_of left still written writes) counts (ended_by stop)
-  ends_by still writes counts WriteFault front rose long = (front, rose refl)
-  ends_by still writes counts TooLong front rose long = long refl
-  ends_by still writes counts Memory front rose long = front
+-- ---- which end a stop makes
+pub turn_stops : {S : Type 0} (step : ℕ → S → List ℕ → List ℕ × S) (old : S) (line : Open) (new : S) (next : Open) (limit : ℕ) (known : Known) (counts : Counts) (stop : LiveStop)
+    → WroteSome step old line known → (stop ≡ WriteFault → Rose counts.write counts.writes)
+    → (stop ≡ TooLong → TellsTooLong step old line limit known counts × (counts.reads ≡ counts.read))
+    → TurnsTo step old line new next limit known counts (Some (ended_by stop))
+turn_stops step old line new next limit known counts WriteFault some rose long = (some, rose refl)
+turn_stops step old line new next limit known counts TooLong some rose long = long refl
+turn_stops step old line new next limit known counts Memory some rose long = some
 
 -- ---- each piece makes the rest smaller
 size_if : (b : Bool) (n : ℕ) (line : List ℕ) → n ≤ 3 → length line ≤ length (if b then drop n line else line) + 3

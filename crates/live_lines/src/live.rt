@@ -3,8 +3,8 @@ ghost use Rattle.std.specs.Prelude.{◌≡◌, ◌≢◌, ℕ, List, Err, OnErr,
 ghost use Rattle.std.specs.Io.KnownBytes.{Appends};
 ghost use Rattle.port_io.specs.Faults.{Rose};
 ghost use Rattle.port_io.specs.Writes.{AppendsFront};
-ghost use Rattle.live_lines.specs.Open.{line_text, new_open};
-ghost use Rattle.live_lines.specs.Output.{answer_to};
+ghost use Rattle.live_lines.specs.Open.{new_open};
+ghost use Rattle.live_lines.specs.Output.{last_answer};
 ghost use Rattle.live_lines.specs.Taken.{Completes, IsOpenWithin, Stops, Took};
 
 use crate::answering::{add_answer, take_line, write_full};
@@ -78,16 +78,14 @@ impl<A: LineAnswers> Live<A> {
     /// Answers the line that is left at the end of the input.
     pub fn finish<K: Sink>(&mut self, alloc: Global, sink: &mut K) -> Result<(), LiveStop>
         ensures ok { OnOk result (Appends (K.written sink.old) (K.written sink.new)
-            (answer_to A.step self.old.line.number self.old.answers
-            (line_text self.old.line.skips self.old.line.number self.old.line.rest)).0) }
+            (last_answer A.step self.old.answers self.old.line)) }
         ensures calm { OnOk result (K.faults sink.new ≡ K.faults sink.old) }
 
         ensures not_too_long { result ≢ Err LiveStop.TooLong }
         ensures fault { IsErrOf result LiveStop.WriteFault →
             Rose (K.faults sink.old) (K.faults sink.new) }
         ensures front { OnErr result (AppendsFront (K.written sink.old) (K.written sink.new)
-            (answer_to A.step self.old.line.number self.old.answers
-            (line_text self.old.line.skips self.old.line.number self.old.line.rest)).0) }
+            (last_answer A.step self.old.answers self.old.line)) }
     {
         let mut reply = Vec::new(alloc);
         add_answer(alloc, &mut self.answers, &self.line, &mut reply)?;
