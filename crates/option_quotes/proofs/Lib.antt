@@ -4,3 +4,6 @@ pub mod Answered
 pub mod Defined
 pub mod Thresholds
 pub mod Few
+pub mod Walks
+pub mod Beside
+pub mod Found

@@ -40,12 +40,13 @@ use Rattle.option_quotes.specs.declared.ends.Ends.{Ends}
 use Rattle.option_quotes.specs.declared.ends.Probed.{Probed}
 use Rattle.market_laws.specs.Limits.{at_price, IsNoWorse}
 use Rattle.option_quotes.specs.Quotes.{IsBelow}
+use Rattle.option_quotes.specs.Implied.{asked}
 use Rattle.option_quotes.specs.Probes.{further, is_optimal, is_raised, with_order, best_price, worst_price, gap}
 use Rattle.option_quotes.specs.Quotes.{Raises, IsShown, IsShownAt, IsNextWorse, IsQuote}
 use Rattle.option_quotes.specs.Ends.{IsProbed, IsBetter, AreEnds}
 use Rattle.market_laws.proofs.Limits.{better_limits_cover}
 
--- ---- the batch with the order at another price is within the limits
+-- ---- the batch with another last order is within the limits
 last_kept : (P : Order → Type 0) (o q : Order) → (P o → P q) → (front : List Order) → All P (front ++ o ∷ []) → All P (front ++ q ∷ [])
 last_kept P o q h [] all = All-cons P q [] (h (All-head P o [] all)) (All-nil P)
 last_kept P o q h (p ∷ front) all =
@@ -55,34 +56,38 @@ ids_kept : (o q : Order) → q.id ≡ o.id → (front : List Order) → map (λ 
 ids_kept o q e [] = ap (λ (id : ℕ). id ∷ []) (sym e)
 ids_kept o q e (p ∷ front) = ap (λ (ids : List ℕ). p.id ∷ ids) (ids_kept o q e front)
 
-pub within_at : (batch : Batch) (o : Order) (price : ℕ) → price ≤ MAX_PRICE → IsWithinLimits (with_order batch o) → IsWithinLimits (with_order batch (at_price o price))
-within_at batch o price fits within =
-    let q = at_price o price in
+last_within : (batch : Batch) (o q : Order) → q.id ≡ o.id → q.bundle ≡ o.bundle → (IsOrderWithin o → IsOrderWithin q) → IsWithinLimits (with_order batch o) → IsWithinLimits (with_order batch q)
+last_within batch o q id bundle fits within =
     let front = batch.orders in
     let count = batch.underlyings + 1 in
     record {
       has_forms = record {
         some = within.has_forms.some;
         few = within.has_forms.few;
-        forms = last_kept (λ (order : Order). IsOnCount count order.bundle) o q (λ h. h) front within.has_forms.forms;
+        forms = last_kept (λ (order : Order). IsOnCount count order.bundle) o q (subst (IsOnCount count) (sym bundle)) front within.has_forms.forms;
       };
       orders_fit = omega (arith, length-append front (q ∷ []), length-append front (o ∷ []), within.orders_fit);
-      ids_rise = subst IsStrictlyIncreasing (ids_kept o q refl front) within.ids_rise;
-      orders_within = last_kept IsOrderWithin o q (λ h. record { options = h.options; price = fits; some = h.some; quantity = h.quantity; counted = h.counted }) front within.orders_within;
+      ids_rise = subst IsStrictlyIncreasing (ids_kept o q id front) within.ids_rise;
+      orders_within = last_kept IsOrderWithin o q fits front within.orders_within;
     }
 
+pub within_at : (batch : Batch) (o : Order) (price : ℕ) → price ≤ MAX_PRICE → IsWithinLimits (with_order batch o) → IsWithinLimits (with_order batch (at_price o price))
+within_at batch o price fits =
+    last_within batch o (at_price o price) refl refl (λ h. record { options = h.options; price = fits; some = h.some; quantity = h.quantity; counted = h.counted })
+
 -- ---- the batch with the further order is within the limits
+one_size : (form : Form) → count_sizes (bundle_one form) ≡ 1
+one_size form = ap (λ legs. sum (map (λ (leg : Leg). unsigned_abs leg.count) legs)) (legs_in-bundle_one form)
+
 further_within : (form : Form) (side : Side) → IsListed (option_of form) → IsOrderWithin (further form side)
 further_within form side listed =
-    let is = legs_in-bundle_one form in
-    let one : count_sizes (bundle_one form) ≡ 1 = ap (λ legs. sum (map (λ (leg : Leg). unsigned_abs leg.count) legs)) is in
     let P : Leg → Type 0 = λ leg. IsListed (option_of leg.form) in
     record {
-      options = subst (All P) (sym is) (All-cons P (record { count = pos 1; form = form }) [] listed (All-nil P));
+      options = subst (All P) (sym (legs_in-bundle_one form)) (All-cons P (record { count = pos 1; form = form }) [] listed (All-nil P));
       price = omega arith;
       some = omega arith;
       quantity = omega arith;
-      counted = subst (λ n. 1 * n ≤ MAX_OPTIONS) (sym one) (omega arith);
+      counted = subst (λ n. 1 * n ≤ MAX_OPTIONS) (sym (one_size form)) (omega arith);
     }
 
 pub asked_within : (batch : Batch) (form : Form) (side : Side) → IsWithinLimits batch → length batch.orders ≤ 255 → All (λ (order : Order). order.id ≤ 1000000) batch.orders
@@ -112,8 +117,23 @@ pub order_within : (batch : Batch) (form : Form) (side : Side) (order : Order) �
 order_within batch form side order is within room ids listed on =
     subst (λ (order : Order). IsWithinLimits (with_order batch order)) (sym is) (asked_within batch form side within room ids listed on)
 
+-- and with so many bundles
+pub quantity_within : (batch : Batch) (form : Form) (side : Side) (quantity : ℕ) (order : Order) → order ≡ asked form side quantity → 1 ≤ quantity → quantity ≤ 1000000
+    → IsWithinLimits (with_order batch (further form side)) → IsWithinLimits (with_order batch order)
+quantity_within batch form side quantity order is some few within =
+    subst (λ (order : Order). IsWithinLimits (with_order batch order)) (sym is)
+    (last_within batch (further form side) (asked form side quantity) refl refl
+    (λ h. record {
+      options = h.options;
+      price = h.price;
+      some = some;
+      quantity = few;
+      counted = subst (λ n. quantity * n ≤ MAX_OPTIONS) (sym (one_size form)) (omega (arith, few));
+    })
+    within)
+
 -- ---- the order of surpluses
-less_says : (a b : ℤ) → is_lt (int_cmp a b) ≡ true → a <ℤ b
+pub less_says : (a b : ℤ) → is_lt (int_cmp a b) ≡ true → a <ℤ b
 less_says a b h = grind (arith, ints, h)
 
 -- s < S <= T
@@ -143,7 +163,7 @@ shown batch limit outcome within is optimal =
     record { is = is; yes = subst (λ (o : Outcome). verdict_of largest batch o ≡ Yes) (sym is) (outcomes_are_judged_yes batch limit within); optimal = optimal }
 
 -- ---- at a price that was probed, the test says whether the order raises
-probe_within : (batch : Batch) (o : Order) (limit : ℕ) (p : Probed) → IsWithinLimits (with_order batch o) → IsProbed batch o limit p → IsProved (with_order batch (at_price o p.price)) p.outcome
+pub probe_within : (batch : Batch) (o : Order) (limit : ℕ) (p : Probed) → IsWithinLimits (with_order batch o) → IsProbed batch o limit p → IsProved (with_order batch (at_price o p.price)) p.outcome
 probe_within batch o limit p within is = proved (with_order batch (at_price o p.price)) limit p.outcome (within_at batch o p.price is.within within) is.is is.optimal
 
 pub shown_at : (batch : Batch) (o : Order) (limit : ℕ) (p : Probed) → IsWithinLimits (with_order batch o) → IsProbed batch o limit p → IsShownAt batch o limit p.price p.outcome

@@ -1,7 +1,6 @@
 -- The quote that the probes give tells from which price on a further order raises the greatest surplus.
-use Rattle.std.proofs.Common.{◌≡◌, ℕ, suc, zero, ◌^◌, ◌≤◌, Bool, true, false, nat_le, List, [], ◌∷◌, map, arith, All, Option, Some, None, if◌then◌else◌, refl, ap, sym, subst, ◌∙◌, inl, inr}
+use Rattle.std.proofs.Common.{◌≡◌, ℕ, suc, zero, ◌^◌, ◌≤◌, Bool, true, List, [], ◌∷◌, map, arith, Option, Some, None, if◌then◌else◌, refl, ap, sym, subst, ◌∙◌, inl, inr}
 use Rattle.std.proofs.lemmas.Bool.{cases_Bool, cases_lt}
-use Rattle.std.proofs.lemmas.List.Elements.{All-cons, All-nil, All-head, All-tail, All-weaker, All-map}
 use Rattle.form.specs.declared.orders.Order.{Order}
 use Rattle.form.specs.declared.orders.Batch.{Batch}
 use Rattle.form.specs.declared.limits.TheConstants.{MAX_PRICE}
@@ -17,10 +16,10 @@ use Rattle.option_quotes.specs.Ends.{IsProbed, AreEnds}
 use Rattle.option_quotes.specs.Laws.{QuotesAreThresholds}
 use Rattle.option_quotes.specs.Probes.{Probe, best_price, worst_price, further, gap, is_optimal, is_raised, middle, middles, most_halvings, probe_at, probe_outcome, probes, probes_between, probes_from_best, probes_from_worst, first_unmarked, with_order}
 use Rattle.option_quotes.specs.Quotes.{IsQuote, IsShown, unmarked_of}
-use Rattle.option_quotes.specs.Thresholds.{IsProbe, Tells}
+use Rattle.option_quotes.specs.Thresholds.{Tells}
 use Rattle.option_quotes.proofs.Answered.{best_fits, first_ends, gap_of_all, unmarked_is_quote, worst_fits}
 use Rattle.option_quotes.proofs.Defined.{none_unmarked, quote_is}
-use Rattle.option_quotes.proofs.Middles.{halved, middle_within, middles_up, middles_down, Narrows, narrows_first, narrows_up, narrows_down}
+use Rattle.option_quotes.proofs.Middles.{halved, middles_up, middles_down, Narrows, narrows_first, narrows_up, narrows_down}
 use Rattle.option_quotes.proofs.Raising.{asked_within, proved, quote_between, quote_never, quote_worst, shown}
 
 -- ---- the quote where all probes are marked
@@ -101,61 +100,16 @@ quote_where_marked batch o limit within with_within marked =
           (Never (f b) base, quote_never batch o limit base (record { price = b; outcome = f b }) with_within base_shown refl (probed batch o limit b (best_fits o.side) best.0) not, refl)
     ]
 
--- ---- the probe that ended a quote
-either_all : {A : Type 0} (P : A → Type 0) (test : Bool) (xs ys : List A) → All P xs → All P ys → All P (if test then xs else ys)
-either_all P true xs ys all others = all
-either_all P false xs ys all others = others
-
-middles_fit : (h : ℕ) (raises : ℕ → Bool) (a b : ℕ) → a ≤ MAX_PRICE → b ≤ MAX_PRICE → All (λ p. p ≤ MAX_PRICE) (middles h raises a b)
-unfolding middles
-middles_fit zero raises a b p q = All-nil (λ p. p ≤ MAX_PRICE)
-middles_fit (suc h) raises a b p q =
-    let P : ℕ → Type 0 = λ p. p ≤ MAX_PRICE in
-    let m = middle a b in
-    let fits = middle_within a b p q in
-    let up : List ℕ = middles h raises m b in
-    let down : List ℕ = middles h raises a m in
-    let rest : List ℕ = if raises m then up else down in
-    either_all P (nat_le (gap a b) 1) [] (m ∷ rest) (All-nil P)
-    (All-cons P m rest fits (either_all P (raises m) up down (middles_fit h raises m b fits q) (middles_fit h raises a m p fits)))
-
-all_probes : (batch : Batch) (o : Order) (limit : ℕ) → All (IsProbe batch o limit) (probes batch o limit)
-all_probes batch o limit =
-    let P : Probe → Type 0 = IsProbe batch o limit in
-    let f : ℕ → Outcome = probe_outcome batch o limit in
-    let base = outcome_of batch limit in
-    let b = best_price o.side in
-    let w = worst_price o.side in
-    let prices : List ℕ = middles most_halvings (λ p. is_raised base (f p)) b w in
-    let between : List Probe = map (probe_at f) prices in
-    let after : List Probe = probes_from_worst f base o.side in
-    let fit = middles_fit most_halvings (λ p. is_raised base (f p)) b w (best_fits o.side) (worst_fits o.side) in
-    let all_between : All P between = All-map P (probe_at f) prices (All-weaker (λ p. p ≤ MAX_PRICE) (λ p. P (probe_at f p)) (λ p fits. (fits, refl)) prices fit) in
-    let all_after : All P after =
-    All-cons P (probe_at f w) (if is_raised base (f w) then [] else between) (worst_fits o.side, refl) (either_all P (is_raised base (f w)) [] between (All-nil P) all_between) in
-    All-cons P (None, base) (probes_from_best f base o.side) refl
-    (All-cons P (probe_at f b) (if is_raised base (f b) then after else []) (best_fits o.side, refl) (either_all P (is_raised base (f b)) after [] all_after (All-nil P)))
-
-first_is : (P : Probe → Type 0) (all : List Probe) (probe : Probe) → All P all → Some probe ≡ first_unmarked all → P probe × (is_optimal probe.1 ≡ false)
-first_is P [] probe each is = absurd (cc)
-first_is P (first ∷ rest) probe each is = elim (cases_Bool (is_optimal first.1)) [
-  | inl optimal ↦ first_is P rest probe (All-tail P first rest each) (is ∙ ap (λ (t : Bool). if t then first_unmarked rest else Some first) optimal)
-  | inr not ↦
-      let same : Some probe ≡ Some first = is ∙ ap (λ (t : Bool). if t then first_unmarked rest else Some first) not in
-      let same_probe : first ≡ probe = cc in
-      subst (λ (p : Probe). P p × (is_optimal p.1 ≡ false)) same_probe (All-head P first rest each, not)
-]
-
 -- ---- what is told
 tells : (batch : Batch) (o : Order) (limit : ℕ) (quoted : Quoted) → IsWithinLimits batch → IsQuote batch o limit quoted → unmarked_of quoted ≡ first_unmarked (probes batch o limit)
     → Tells batch o limit quoted
 tells batch o limit (At price raising beside base) within is unmarked =
     let first = is.shown.base_shown in
-    (is.shown.price_within, fraction_of base.claim.surplus, (proved batch limit base within first.is first.optimal).greatest, is.raises)
+    ((is.shown.price_within, fraction_of base.claim.surplus, (proved batch limit base within first.is first.optimal).greatest, is.raises), sym unmarked)
 tells batch o limit (Never extreme base) within is unmarked =
     let first = is.never.base_shown in
-    (fraction_of base.claim.surplus, (proved batch limit base within first.is first.optimal).greatest, is.never.none)
-tells batch o limit (Unmarked probe outcome) within is unmarked = first_is (IsProbe batch o limit) (probes batch o limit) (probe, outcome) (all_probes batch o limit) unmarked
+    ((fraction_of base.claim.surplus, (proved batch limit base within first.is first.optimal).greatest, is.never.none), sym unmarked)
+tells batch o limit (Unmarked probe outcome) within is unmarked = sym unmarked
 
 by_first : (batch : Batch) (o : Order) (limit : ℕ) (stopped : Option Probe) → IsWithinLimits batch → IsWithinLimits (with_order batch o) → first_unmarked (probes batch o limit) ≡ stopped
     → (quoted : Quoted) × IsQuote batch o limit quoted × (unmarked_of quoted ≡ stopped)

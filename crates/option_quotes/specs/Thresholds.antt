@@ -1,20 +1,28 @@
--- What a quote tells of the greatest surplus of a batch.
-use Rattle.std.specs.Prelude.{ℕ, ◌+◌, ◌≡◌, ◌≤◌, ◌↔◌, false, length, Some, None}
+-- What a quote and an implied price tell of the greatest surplus of a batch.
+use Rattle.std.specs.Prelude.{ℕ, ◌+◌, ◌≡◌, ◌≤◌, ◌↔◌, ◌⊎◌, false, length, Some, None}
 use Rattle.std.specs.List.{All}
 use Rattle.exact_num.specs.Fraction.{Fraction}
 use Rattle.form.specs.declared.forms.Form.{Form}
+use Rattle.form.specs.declared.orders.Side.TheVariants.{Buy, Sell}
 use Rattle.form.specs.declared.orders.Order.{Order}
 use Rattle.form.specs.declared.orders.Batch.{Batch}
 use Rattle.form.specs.declared.limits.TheConstants.{MAX_PRICE}
 use Rattle.form.specs.Limits.{IsListed, IsWithinLimits}
 use Rattle.form.specs.Payoff.{option_of}
 use Rattle.clearing_model.specs.Clearing.{IsGreatest}
-use Rattle.market_laws.specs.Limits.{IsNoWorse}
+use Rattle.cert_check.specs.declared.outcome.Outcome.{Outcome}
 use Rattle.clearing.specs.Outcome.{outcome_of}
+use Rattle.market_laws.specs.Limits.{IsNoWorse}
+use Rattle.option_quotes.specs.declared.prices.MarketPrices.{MarketPrices}
+use Rattle.option_quotes.specs.declared.prices.MarketPrices.TheVariants as market
+use Rattle.option_quotes.specs.declared.prices.SidePrice.{SidePrice}
+use Rattle.option_quotes.specs.declared.prices.SidePrice.TheVariants as side
 use Rattle.option_quotes.specs.declared.quotes.Quoted.{Quoted}
 use Rattle.option_quotes.specs.declared.quotes.Quoted.TheVariants.{At, Never, Unmarked}
-use Rattle.option_quotes.specs.Probes.{Probe, is_optimal, probe_outcome}
+use Rattle.option_quotes.specs.Implied.{asked, side_price}
+use Rattle.option_quotes.specs.Probes.{first_unmarked, is_optimal, probes}
 use Rattle.option_quotes.specs.Quotes.{RaisesAbove}
+use Rattle.option_quotes.specs.Shown.{IsStopped}
 
 -- a batch within the limits with room for one order more, and an option on its underlyings that may be listed
 pub record MayBeQuoted (batch : Batch) (form : Form) : Type 0 where
@@ -36,17 +44,35 @@ NeverRaisesGreatest batch order =
     (S : Fraction) × IsGreatest batch.underlyings batch.orders S
     × ((p : ℕ) → p ≤ MAX_PRICE → ¬ (RaisesAbove batch order S p))
 
--- the probe is of the batch, or of the batch with the order at a price, and has its outcome
-abbrev pub IsProbe : Batch → Order → ℕ → Probe → Type 0
-IsProbe batch order limit (None, outcome) = outcome ≡ outcome_of batch limit
-IsProbe batch order limit (Some price, outcome) = (price ≤ MAX_PRICE) × (outcome ≡ probe_outcome batch order limit price)
-
--- and this is not marked optimal
-abbrev pub IsUnmarked : Batch → Order → ℕ → Probe → Type 0
-IsUnmarked batch order limit probe = IsProbe batch order limit probe × (is_optimal probe.1 ≡ false)
-
--- what a quote tells
+-- what a quote tells: each clear that it makes is marked optimal, or the first that is not
 abbrev pub Tells : Batch → Order → ℕ → Quoted → Type 0
-Tells batch order limit (At price raising beside base) = RaisesGreatestFrom batch order price
-Tells batch order limit (Never extreme base) = NeverRaisesGreatest batch order
-Tells batch order limit (Unmarked probe outcome) = IsUnmarked batch order limit (probe, outcome)
+Tells batch order limit (At price raising beside base) =
+    RaisesGreatestFrom batch order price × (first_unmarked (probes batch order limit) ≡ None)
+Tells batch order limit (Never extreme base) =
+    NeverRaisesGreatest batch order × (first_unmarked (probes batch order limit) ≡ None)
+Tells batch order limit (Unmarked probe outcome) = first_unmarked (probes batch order limit) ≡ Some (probe, outcome)
+
+-- what the price of a side tells, where the outcome of the batch itself is marked optimal
+abbrev pub TellsSide : Batch → Order → ℕ → SidePrice → Type 0
+TellsSide batch order limit (side.At price raising beside) = RaisesGreatestFrom batch order price
+TellsSide batch order limit (side.Never extreme) = NeverRaisesGreatest batch order
+TellsSide batch order limit (side.Unmarked price outcome) = IsStopped batch order limit price outcome
+TellsSide batch order limit side.Spent = side_price batch order limit ≡ side.Spent
+
+-- the outcome is that of the batch itself, and it is not marked optimal
+abbrev pub IsUnmarked : Batch → ℕ → Outcome → Type 0
+IsUnmarked batch limit base = (base ≡ outcome_of batch limit) × (is_optimal base ≡ false)
+
+-- what the prices of both sides tell
+abbrev pub TellPrices : Batch → Form → ℕ → ℕ → MarketPrices → Type 0
+TellPrices batch form quantity limit (market.Marked base ask bid) =
+    TellsSide batch (asked form Buy quantity) limit ask × TellsSide batch (asked form Sell quantity) limit bid
+TellPrices batch form quantity limit (market.Unmarked base) = IsUnmarked batch limit base
+
+-- why no price of the order is found: the clear of the batch, or one of the batch with the order at some price, is not marked optimal,
+-- or one more was wanted than a side may have
+abbrev pub IsUnfound : Batch → Order → ℕ → Type 0
+IsUnfound batch order limit =
+    ((base : Outcome) × IsUnmarked batch limit base)
+    ⊎ ((price : ℕ) × (outcome : Outcome) × IsStopped batch order limit price outcome)
+    ⊎ (side_price batch order limit ≡ side.Spent)

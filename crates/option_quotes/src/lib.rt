@@ -2,11 +2,16 @@
 //! at which one trades: it says what a clear would find, and changes nothing.
 #![tactic(auto)]
 
+mod along;
 mod ends;
+mod implied;
 pub mod laws;
+pub mod prices;
 mod probes;
 pub mod quotes;
 mod quoting;
 
+pub use implied::implied_prices;
+pub use prices::{MarketPrices, SidePrice};
 pub use quotes::Quoted;
 pub use quoting::quote;

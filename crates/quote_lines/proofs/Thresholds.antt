@@ -28,8 +28,8 @@ use Rattle.quote_lines.specs.Replies.{price_of, quoted_for, quoted_price, quotes
 use Rattle.quote_lines.proofs.MayQuote.{live_may}
 
 price_tells : (batch : Batch) (order : Order) (budget : ℕ) (quoted : Quoted) → Tells batch order budget quoted → TellsPrice batch order budget (price_of quoted)
-price_tells batch order budget (At price raising beside base) tells = tells
-price_tells batch order budget (Never extreme base) tells = tells
+price_tells batch order budget (At price raising beside base) tells = tells.0
+price_tells batch order budget (Never extreme base) tells = tells.0
 price_tells batch order budget (Unmarked probe outcome) tells = ((probe, outcome), tells)
 
 pub quoted_lines_are_thresholds : QuotedLinesAreThresholds

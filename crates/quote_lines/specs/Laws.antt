@@ -1,11 +1,11 @@
 -- What holds of each answer.
-use Rattle.std.specs.Prelude.{◌≡◌, ℕ, List, [], ◌∷◌, ◌++◌, None}
+use Rattle.std.specs.Prelude.{◌≡◌, ℕ, List, [], ◌∷◌, ◌++◌, Some, None}
 use Rattle.form.specs.declared.orders.Batch.{Batch}
 use Rattle.form.specs.declared.orders.Order.{Order}
 use Rattle.form.specs.declared.orders.Side.{Side}
 use Rattle.form.specs.declared.orders.Side.TheVariants.{Buy, Sell}
-use Rattle.option_quotes.specs.Probes.{Probe, further}
-use Rattle.option_quotes.specs.Thresholds.{IsUnmarked, NeverRaisesGreatest, RaisesGreatestFrom}
+use Rattle.option_quotes.specs.Probes.{Probe, first_unmarked, further, probes}
+use Rattle.option_quotes.specs.Thresholds.{NeverRaisesGreatest, RaisesGreatestFrom}
 use Rattle.exchange_core.specs.ExchangeState.{ExchangeState}
 use Rattle.exchange_core.specs.Kept.{IsKept}
 use Rattle.exchange_core.specs.Step.{batch_in}
@@ -30,12 +30,12 @@ abbrev pub QuotesTellAnswers : Type 0
 QuotesTellAnswers = OutputTells IsQuoteText quotes_line
 
 -- ---- what a quoted line tells
--- a price: from it on the order raises the greatest surplus of the batch; `never`: at no price; `unmarked`: a clear of at most so
--- many units, of the batch or of the batch with the order at some price, is not marked optimal
+-- a price: from it on the order raises the greatest surplus of the batch; `never`: at no price; `unmarked`: the first clear
+-- that is not marked optimal, of the batch or of the batch with the order at a price, each of at most so many units
 abbrev pub TellsPrice : Batch → Order → ℕ → QuotedPrice → Type 0
 TellsPrice batch order budget (At price) = RaisesGreatestFrom batch order price
 TellsPrice batch order budget Never = NeverRaisesGreatest batch order
-TellsPrice batch order budget Unmarked = (probe : Probe) × IsUnmarked batch order budget probe
+TellsPrice batch order budget Unmarked = (probe : Probe) × (first_unmarked (probes batch order budget) ≡ Some probe)
 
 -- of a further order on the side for the option that is asked for, and the live orders of the market
 abbrev pub TellsOf : ExchangeState → QuoteRequest → Side → QuotedPrice → Type 0
