@@ -9,16 +9,14 @@ import argparse
 import hashlib
 import itertools
 import json
+import os
 import pathlib
-import queue
 import re
 import select
 import subprocess
 import sys
-import threading
 import time
 from collections.abc import Callable, Iterator
-from os import read
 from typing import Any, NamedTuple, NoReturn, TypeVar
 
 try:
@@ -30,8 +28,6 @@ PROGRAM = pathlib.Path(__file__).resolve().parent.parent / "crates/exchange_cli/
 FIELDS = frozenset((b"session", b"number", b"body"))
 LONGEST_LINE = 16 * 1024 * 1024
 START, PAGE = b"0-0", 1000
-# How long more answers are waited for before those that have come are handed on, in seconds.
-LINGER = 0.002
 PLACE = re.compile(r"(?:([^:/]*):)?(\d+)(?:/(.+))?")
 Answer = TypeVar("Answer")
 
@@ -88,48 +84,43 @@ class Entry(NamedTuple):
 
 
 class Program:
-    """The program behind a pipe; it answers each line with one, and has no end while it is asked."""
+    """The program behind pipes; it answers each line with one, and has no end while it is asked."""
 
     def __init__(self, path: pathlib.Path) -> None:
         ends = {"stdin": subprocess.PIPE, "stdout": subprocess.PIPE}
-        self.process = subprocess.Popen([path, "serve", "sessions"], **ends)
-        self.given: queue.SimpleQueue[bytes] = queue.SimpleQueue()
+        self.process = subprocess.Popen([path, "serve", "sessions"], bufsize=0, **ends)
+        os.set_blocking(self.process.stdin.fileno(), False)
         self.cut = b""
-        threading.Thread(target=self._give, daemon=True).start()
-
-    def _give(self) -> None:
-        """Writes beside the reading of answers, so that full pipes hold up neither."""
-        try:
-            while lines := self.given.get():
-                self.process.stdin.write(lines)
-                self.process.stdin.flush()
-            self.process.stdin.close()
-        except BrokenPipeError:
-            pass
 
     def answers(self, lines: list[bytes]) -> Iterator[list[bytes]]:
         """The answers to lines, in order, in groups as they come."""
-        self.given.put(b"".join(lines))
-        left = len(lines)
+        left, given = len(lines), self._give(memoryview(b"".join(lines)))
         while left:
-            group = more = self._read()
-            while more and len(group) < left and select.select([self.process.stdout], [], [], LINGER)[0]:
-                more = self._read()
-                group = group + more
-            if not group:
-                raise Ended(f"the program ended with status {self.process.wait()}", PROGRAM_ENDED)
+            if given and not select.select([self.process.stdout], [self.process.stdin], [])[0]:
+                given = self._give(given)
+                continue
+            group = self._read()
             left -= len(group)
             yield group
 
+    def _give(self, text: memoryview) -> memoryview:
+        """Writes what the pipe has room for, and tells what is left; nothing is left for a program that ended."""
+        try:
+            return text[self.process.stdin.write(text) or 0 :]
+        except BrokenPipeError:
+            return text[:0]
+
     def _read(self) -> list[bytes]:
-        """The answers that are there, at least one unless the program has ended."""
+        """The answers that have come, at least one."""
         answers: list[bytes] = []
-        while not answers and (piece := read(self.process.stdout.fileno(), 1 << 16)):
+        while not answers:
+            if not (piece := self.process.stdout.read(1 << 16)):
+                raise Ended(f"the program ended with status {self.process.wait()}", PROGRAM_ENDED)
             *answers, self.cut = (self.cut + piece).split(b"\n")
         return answers
 
     def end(self) -> None:
-        self.given.put(b"")
+        self.process.stdin.close()
         self.process.wait()
 
 
@@ -148,6 +139,11 @@ def answered(program: Program, entries: list[Entry]) -> Iterator[list[tuple[Entr
         left = iter(run)
         for answers in program.answers([entry.line() for entry in run]):
             yield [(next(left), answer) for answer in answers]
+
+
+def packed(words: list[bytes]) -> bytes:
+    """A command as it goes to Redis; that of redis-py takes five times as long."""
+    return b"*%d\r\n" % len(words) + b"".join([b"$%d\r\n%b\r\n" % (len(word), word) for word in words])
 
 
 class Log:
