@@ -186,6 +186,13 @@ def after(id: bytes) -> bytes:
     return b"%b-%d" % (time_part, int(number) + 1)
 
 
+def runnable(path: str) -> pathlib.Path:
+    """The program at a path."""
+    if not os.access(path, os.X_OK):
+        raise BadUse(f"there is no program {path}, which ./build makes")
+    return pathlib.Path(path)
+
+
 class Words(argparse.ArgumentParser):
     """The words of a tool of the service."""
 
@@ -200,7 +207,7 @@ class Words(argparse.ArgumentParser):
 
     def program(self) -> None:
         more = {"metavar": "FILE", "help": "the one that ./build makes, if not given"}
-        self.add_argument("--program", type=pathlib.Path, default=PROGRAM, **more)
+        self.add_argument("--program", type=runnable, default=str(PROGRAM), **more)
 
 
 def status_of(main: Callable[[], int | None]) -> int:
