@@ -15,6 +15,8 @@ from __future__ import annotations
 
 import argparse
 import json
+import os
+import re
 import sys
 import time
 from typing import Any
@@ -93,10 +95,17 @@ def before(id: bytes) -> bytes:
     return b"%d-%d" % ((time_part, number - 1) if number else (time_part - 1, 2**64 - 1))
 
 
+def place(text: str) -> str:
+    """The text, where it is a place."""
+    if not re.fullmatch(r"([^:/]*:)?[0-9]+(/.+)?", text):
+        raise argparse.ArgumentTypeError(f"{text} is no place: HOST:PORT/NAME")
+    return text
+
+
 def main() -> None:
     words = argparse.ArgumentParser(description=__doc__, formatter_class=argparse.RawDescriptionHelpFormatter)
     words.add_argument("session", type=int, metavar="SESSION")
-    words.add_argument("--at", default="6380", metavar="HOST:PORT/NAME")
+    words.add_argument("--at", type=place, default="6380", metavar="HOST:PORT/NAME")
     given = words.parse_args()
     session = Session(given.at, given.session)
     for line in sys.stdin.buffer:
@@ -111,5 +120,8 @@ def main() -> None:
 if __name__ == "__main__":
     try:
         main()
+    except BrokenPipeError:
+        # Nobody reads on.
+        os.dup2(os.open(os.devnull, os.O_WRONLY), 1)
     except KeyboardInterrupt:
         sys.exit(130)
