@@ -18,7 +18,8 @@ use Rattle.exchange_core.proofs.Keeping.{empty_is_kept, step_keeps}
 use Rattle.form.specs.declared.orders.Batch.{Batch}
 use Rattle.exchange_lines.specs.Output.{output_from}
 use Rattle.exchange_core.specs.LineReplies.{reply_to}
-use Rattle.exchange_lines.specs.Promises.{IsCoveredIn, IsGreatestIn, IsJudgedYes, IsJudgedYesIn, IsMarkedIn, KeepsPromises, OutputIsAnswers, OfEachAnswer}
+use Rattle.house_gain.specs.Runs.{state_by}
+use Rattle.exchange_lines.specs.Promises.{IsCoveredIn, IsGreatestIn, IsJudgedYes, IsJudgedYesIn, IsMarkedIn, KeepsPromises, OutputIsAnswers, OfEachAnswer, line_reply}
 use Rattle.exchange_lines.specs.Replies.{Answer, IsMarkedAs, answer_to, answers_from, answers_text, answers}
 use Rattle.reply_print.specs.ReplyPieces.{reply_line}
 
@@ -27,6 +28,12 @@ pub answer_keeps : (state : ExchangeState) (said : Body) → IsKept state → Bo
 answer_keeps state (Command command) kept within = step_keeps state command kept within
 answer_keeps state Syntax kept within = kept
 answer_keeps state (Range field) kept within = kept
+
+-- so it is by lines one after another
+pub lines_keep : (lines : List Line) (state : ExchangeState) → IsKept state → All IsLineWithin lines → IsKept (state_by line_reply state lines)
+lines_keep [] state kept within = kept
+lines_keep (line ∷ lines) state kept within =
+    lines_keep lines (reply_to state line.body).1 (answer_keeps state line.body kept (All-head IsLineWithin line lines within)) (All-tail IsLineWithin line lines within)
 
 -- what holds of the answer to each line, in each state that an exchange may be in, holds of all
 module _ (Q : Answer → Type 0) (each : (state : ExchangeState) (line : Line) → IsKept state → Q (answer_to state line)) where
@@ -82,6 +89,7 @@ output_is_answers input = lines_are_written (commands_in input) empty_exchange
 pub promises_kept : (state : ExchangeState) (line : Line) → IsKept state → KeepsPromises (answer_to state line)
 promises_kept state line kept = record {
   covered = batch_has IsCovered step_is_covered state line kept;
+  judged = batch_has IsJudgedYes (step_has IsJudgedYes outcomes_are_judged_yes) state line kept;
   greatest = batch_has IsProvedGreatest step_is_optimal state line kept;
   marked = answer_marked state line kept;
 }

@@ -15,7 +15,9 @@ use Rattle.exchange_lines.specs.LineSteps.{AnswersAsRun, InputLine, LineStep, Ru
 use Rattle.exchange_lines.specs.Output.{line_output, output_from}
 use Rattle.exchange_lines.specs.Promises.{AreAnswersTo, IsNoText, KeepsPromises, LineAnswer, OutputTells, RunsTellAnswers, TellAnswers, beside, line_reply, replied, replied_in, replies_of, told_texts}
 use Rattle.exchange_lines.specs.Replies.{answer_to, answers_from}
-use Rattle.exchange_lines.proofs.Answered.{answers_keep}
+use Rattle.exchange_core.specs.Kept.{IsKept}
+use Rattle.exchange_core.proofs.Keeping.{empty_is_kept}
+use Rattle.exchange_lines.proofs.Answered.{answers_keep, lines_keep}
 use Rattle.exchange_lines.proofs.HouseGains.{lines_gain}
 
 module _ (IsBeside : ℕ → List ℕ → Type 0) (step : LineStep) (as_run : AnswersAsRun IsBeside step) where
@@ -79,6 +81,7 @@ module _ (IsBeside : ℕ → List ℕ → Type 0) (step : LineStep) (as_run : An
         promises = subst (All KeepsPromises) (sym told.replies) (answers_keep told.ran told.within);
         gains = subst (λ (state : ExchangeState). HouseGains state.entries (replies_of (replied_in told.answers))) (sym told.end)
             (subst (λ given. HouseGains (state_by line_reply empty_exchange told.ran).entries (replies_of given)) (sym told.replies) (lines_gain told.ran told.within));
+        kept = subst IsKept (sym told.end) (lines_keep told.ran empty_exchange empty_is_kept told.within);
       }
 
 -- ---- a run

@@ -13,6 +13,7 @@ use Rattle.exchange_core.specs.Covered.{IfCleared, IsProvedGreatest}
 use Rattle.reply_print.specs.declared.replies.Reply.{Reply}
 use Rattle.reply_print.specs.ReplyPieces.{reply_line}
 use Rattle.exchange_core.specs.ExchangeState.{ExchangeState, empty_exchange}
+use Rattle.exchange_core.specs.Kept.{IsKept}
 use Rattle.house_gain.specs.Runs.{HouseGains, state_by}
 use Rattle.exchange_lines.specs.LineSteps.{InputLine, LineStep, exchange_of, input_lines, line_of, output_of}
 use Rattle.exchange_lines.specs.Output.{line_output, output}
@@ -41,6 +42,7 @@ IsMarkedIn answer = IsMarkedAs answer.said answer.reply
 
 pub record KeepsPromises (answer : Answer) : Type 0 where
   pub covered : IsCoveredIn answer
+  pub judged : IsJudgedYesIn answer
   pub greatest : IsGreatestIn answer
   pub marked : IsMarkedIn answer
 
@@ -91,13 +93,15 @@ AreAnswersTo IsBeside step state (line ∷ lines) [] = ⊥
 AreAnswersTo IsBeside step state (line ∷ lines) (answer ∷ answers) =
     IsAnswerTo IsBeside step state line answer × AreAnswersTo IsBeside step (step line.number state line.bytes).1 lines answers
 
--- the bytes are the text of the answers to the lines of the input; each keeps what is promised, and they leave the house its gains
+-- the bytes are the text of the answers to the lines of the input; each keeps what is promised, they leave the house its gains, and the
+-- exchange keeps to what holds between two lines
 pub record TellAnswers (IsBeside : ℕ → List ℕ → Type 0) (step : LineStep) (input bytes : List ℕ) : Type 0 where
   pub answers : List LineAnswer
   pub to_lines : AreAnswersTo IsBeside step empty_exchange (input_lines input) answers
   pub text : bytes ≡ told_texts answers
   pub promises : All KeepsPromises (replied_in answers)
   pub gains : HouseGains (exchange_of step input).entries (replies_of (replied_in answers))
+  pub kept : IsKept (exchange_of step input)
 
 -- a run writes nothing beside its answers
 abbrev pub IsNoText : ℕ → List ℕ → Type 0
