@@ -82,7 +82,7 @@ nothing_told_yet (Some request) left old = nothing_told request left old
 
 -- ---- what a check found
 all_sound : (texts : List (List ℕ)) (report : Report) → Says texts report → status_by report ≡ Done → All IsSoundLine texts
-all_sound texts (Sound batches lines optimal) says is = says
+all_sound texts (Sound batches lines optimal) says is = says.sound
 all_sound texts (Faulty line reason) says is = cc
 
 names_fault : (input : List ℕ) (report : Report) → report_of input ≡ report → Says (lines_of input) report → status_by report ≡ CheckNo → NamesFault input

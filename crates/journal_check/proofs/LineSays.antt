@@ -24,12 +24,21 @@ use Rattle.reply_text.proofs.RoundTrip.{reading_spells}
 use Rattle.journal_check.specs.declared.findings.Finding.{Finding}
 use Rattle.journal_check.specs.declared.findings.Finding.TheVariants.{Plain, Cleared, Faulty}
 use Rattle.journal_check.specs.Findings.{finding_of, read_finding, reply_finding, cleared_finding, no_reason}
-use Rattle.journal_check.specs.Laws.{IsSoundLine, IsClearedLine, HasReason}
+use Rattle.journal_check.specs.Laws.{HasReason, IfCleared, IsCertified, IsClearedLine, clears, clears_optimal}
+
+-- a sound line that counts as a batch, or as one that is marked optimal
+pub record IsCounted (text : List ℕ) (batch optimal : Bool) : Type 0 where
+  pub line : ℕ
+  pub reply : Reply
+  pub is_line : IsLineOf text line reply
+  pub certified : IfCleared reply IsCertified
+  pub is_batch : clears reply ≡ batch
+  pub is_optimal : clears_optimal reply ≡ optimal
 
 abbrev pub FindingSays : List ℕ → Finding → Type 0
 FindingSays text (Faulty reason) = HasReason text reason
-FindingSays text (Cleared optimal) = IsSoundLine text
-FindingSays text Plain = IsSoundLine text
+FindingSays text (Cleared optimal) = IsCounted text true optimal
+FindingSays text Plain = IsCounted text false false
 
 -- ---- no line reads as want of memory
 
@@ -89,22 +98,24 @@ judged text line number market batch outcome judgement.Yes h e = record {
     proved = yes_on_optimal_proves batch outcome e;
     measured = yes_has_its_measure batch outcome e;
   };
+  is_batch = refl;
+  is_optimal = refl;
 }
 judged text line number market batch outcome (judgement.No condition) h e =
     unmet text line number market batch outcome condition h (said batch outcome (judgement.No condition) e).1
 judged text line number market batch outcome (judgement.Wide w) h e = cleared_line text line number market batch outcome h (w, e)
 
 sound : (text : List ℕ) (line : ℕ) (r : Reply) → IsLineOf text line r → FindingSays text (reply_finding r)
-sound text line (Opened account) h = record { line = line; reply = Opened account; is_line = h; certified = tt }
-sound text line (Deposited account balance) h = record { line = line; reply = Deposited account balance; is_line = h; certified = tt }
-sound text line (Withdrawn account balance) h = record { line = line; reply = Withdrawn account balance; is_line = h; certified = tt }
-sound text line (Listed market underlyings) h = record { line = line; reply = Listed market underlyings; is_line = h; certified = tt }
-sound text line (Placed order) h = record { line = line; reply = Placed order; is_line = h; certified = tt }
-sound text line (Cancelled order) h = record { line = line; reply = Cancelled order; is_line = h; certified = tt }
+sound text line (Opened account) h = record { line = line; reply = Opened account; is_line = h; certified = tt; is_batch = refl; is_optimal = refl }
+sound text line (Deposited account balance) h = record { line = line; reply = Deposited account balance; is_line = h; certified = tt; is_batch = refl; is_optimal = refl }
+sound text line (Withdrawn account balance) h = record { line = line; reply = Withdrawn account balance; is_line = h; certified = tt; is_batch = refl; is_optimal = refl }
+sound text line (Listed market underlyings) h = record { line = line; reply = Listed market underlyings; is_line = h; certified = tt; is_batch = refl; is_optimal = refl }
+sound text line (Placed order) h = record { line = line; reply = Placed order; is_line = h; certified = tt; is_batch = refl; is_optimal = refl }
+sound text line (Cancelled order) h = record { line = line; reply = Cancelled order; is_line = h; certified = tt; is_batch = refl; is_optimal = refl }
 sound text line (ClearedReply number market batch outcome) h = judged text line number market batch outcome (verdict_of limit batch outcome) h refl
-sound text line (Settled market lapsed payouts) h = record { line = line; reply = Settled market lapsed payouts; is_line = h; certified = tt }
-sound text line (Balance account balance reserved) h = record { line = line; reply = Balance account balance reserved; is_line = h; certified = tt }
-sound text line (Refused number field) h = record { line = line; reply = Refused number field; is_line = h; certified = tt }
+sound text line (Settled market lapsed payouts) h = record { line = line; reply = Settled market lapsed payouts; is_line = h; certified = tt; is_batch = refl; is_optimal = refl }
+sound text line (Balance account balance reserved) h = record { line = line; reply = Balance account balance reserved; is_line = h; certified = tt; is_batch = refl; is_optimal = refl }
+sound text line (Refused number field) h = record { line = line; reply = Refused number field; is_line = h; certified = tt; is_batch = refl; is_optimal = refl }
 
 found : (text : List ℕ) (read : LineRead) → reading text ≡ read → FindingSays text (read_finding read)
 found text (Ok pair) e = sound text pair.0 pair.1 (reading_spells text pair.0 pair.1 e)

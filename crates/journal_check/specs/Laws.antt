@@ -1,5 +1,5 @@
 -- What a report on a journal says.
-use Rattle.std.specs.Prelude.{ℕ, ◌≡◌, ◌≤◌, ◌-◌, List, [], ◌∷◌, ◌++◌, length, map, take, get_or, Err, None}
+use Rattle.std.specs.Prelude.{ℕ, ◌≡◌, ◌≤◌, ◌-◌, Bool, false, true, List, [], ◌∷◌, ◌++◌, length, map, take, get_or, count_by, Err, None}
 use Rattle.std.specs.List.{All}
 use Rattle.frac.specs.Range.{limit}
 use Rattle.form.specs.declared.orders.Batch.{Batch}
@@ -22,7 +22,7 @@ use Rattle.journal_check.specs.declared.reports.Report.TheVariants.{Sound, Fault
 use Rattle.journal_check.specs.JournalLines.{lines_of}
 use Rattle.reply_print.specs.ReplyPieces.{reply_line}
 use Rattle.reply_print.specs.Within.{IsWithin}
-use Rattle.journal_check.specs.Findings.{fault_in, reply_finding}
+use Rattle.journal_check.specs.Findings.{fault_in, is_marked, reply_finding}
 use Rattle.journal_check.specs.Reports.{sound_report, report_of}
 
 -- the verdict is yes: so the fills cover the claimed surplus, and with the mark optimal no fills cover more, as the measure proves
@@ -78,11 +78,35 @@ pub record IsFirstFault (texts : List (List ℕ)) (line : ℕ) (reason : Reason)
   pub before : All IsSoundLine (take (line - 1) texts)
   pub fails : HasReason (get_or texts (line - 1) []) reason
 
+-- whether a reply clears a batch, and whether it marks it optimal
+abbrev pub clears : Reply → Bool
+clears (reply.Cleared number market batch outcome) = true
+clears other = false
+
+abbrev pub clears_optimal : Reply → Bool
+clears_optimal (reply.Cleared number market batch outcome) = is_marked outcome.mark
+clears_optimal other = false
+
+-- the lines of these replies, in their order
+abbrev pub AreLinesOf : List (List ℕ) → List Reply → Type 0
+AreLinesOf [] replies = replies ≡ []
+AreLinesOf (text ∷ texts) [] = ⊥
+AreLinesOf (text ∷ texts) (reply ∷ replies) = ((line : ℕ) × IsLineOf text line reply) × AreLinesOf texts replies
+
+-- all lines are sound; so many of the replies clear a batch, and so many of these mark it optimal
+pub record AreSoundLines (texts : List (List ℕ)) (batches lines optimal : ℕ) : Type 0 where
+  pub sound : All IsSoundLine texts
+  pub replies : List Reply
+  pub are_lines : AreLinesOf texts replies
+  pub count : lines ≡ length texts
+  pub cleared : batches ≡ count_by clears replies
+  pub marked : optimal ≡ count_by clears_optimal replies
+
 abbrev pub Says : List (List ℕ) → Report → Type 0
-Says texts (Sound batches lines optimal) = All IsSoundLine texts
+Says texts (Sound batches lines optimal) = AreSoundLines texts batches lines optimal
 Says texts (Faulty line reason) = IsFirstFault texts line reason
 
--- where a report names no line all are sound, and else the line that it names is the first that is not
+-- where a report names no line all are sound and counted, and else the line that it names is the first that is not
 abbrev pub ReportsSay : Type 0
 ReportsSay = (bytes : List ℕ) → Says (lines_of bytes) (report_of bytes)
 
