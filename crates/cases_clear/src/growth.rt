@@ -22,33 +22,46 @@ fn live_text(alloc: Global, exchange: &Exchange, market: u32) -> Result<String, 
     Ok(text)
 }
 
+// Appends the number of an order and its fill.
+fn push_fill(
+    text: &mut String,
+    order: u64,
+    (above, below): (i128, i128),
+) -> Result<(), AllocError> {
+    write!(text, " {order} {above}/{below}")
+}
+
 // The positions of an account in a market.
-fn positions_text(alloc: Global, exchange: &Exchange, account: u32, market: u32) -> Result<String> {
+fn positions_text(
+    alloc: Global,
+    exchange: &Exchange,
+    account: u32,
+    market: u32,
+) -> Result<String, AllocError> {
     let mut text = String::new(alloc);
     for position in &exchange.positions_of(account, market)? {
-        let (above, below) = position.fill.parts();
-        write!(text, " {} {above}/{below}", position.order)?;
+        push_fill(&mut text, position.order, position.fill.parts())?;
     }
     Ok(text)
 }
 
 // The balance, the reserve, the positions and the live orders of an account and of two markets.
-fn account_text(alloc: Global, exchange: &Exchange, account: u32) -> Result<String> {
+fn account_text(alloc: Global, exchange: &Exchange, account: u32) -> Result<String, AllocError> {
     let balance = exchange.balance(account);
     let reserved = exchange.reserved(account);
     let first = positions_text(alloc, exchange, account, 1)?;
     let second = positions_text(alloc, exchange, account, 2)?;
-    Ok(format!(in alloc; "{balance:?} {reserved:?}{first} |{second}\n")?)
+    format!(in alloc; "{balance:?} {reserved:?}{first} |{second}\n")
 }
 
 // Balances, reserves, positions and live orders.
-fn exchange_text(alloc: Global, exchange: &Exchange) -> Result<String> {
+fn exchange_text(alloc: Global, exchange: &Exchange) -> Result<String, AllocError> {
     let house = account_text(alloc, exchange, 0)?;
     let buyer = account_text(alloc, exchange, 1)?;
     let seller = account_text(alloc, exchange, 2)?;
     let first = live_text(alloc, exchange, 1)?;
     let second = live_text(alloc, exchange, 2)?;
-    Ok(format!(in alloc; "{house}{buyer}{seller}{first} |{second}")?)
+    format!(in alloc; "{house}{buyer}{seller}{first} |{second}")
 }
 
 // Takes the exchange one line further. Where that finds no memory, nothing has changed, and it is done again.

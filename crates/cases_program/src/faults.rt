@@ -1,4 +1,4 @@
-// Faults of reads and writes, words that ask for nothing, and one call of each other request.
+// Faults of reads and writes, and words that ask for nothing.
 use crate::running::{MATCHED, MATCHED_REPLIES, assert_lines, run};
 use exchange_program::{MAX_INPUT, Status, exchange};
 use port_io::{SureSink, SureSource};
@@ -44,69 +44,17 @@ fn other_words_are_usage(rt: HostRuntime) -> Result<(), Fail> {
     Ok(())
 }
 
+// A demo reads nothing.
 #[test]
-fn journals_are_checked(rt: HostRuntime) -> Result<(), Fail> {
-    let alloc = rt.alloc();
-    let (status, sink) = run(alloc, "check", MATCHED_REPLIES.as_bytes(), 0, 0)?;
-    assert_eq!(rt; status, Status::Done);
-    let sound = "{\"batches\":1,\"lines\":8,\"optimal\":1,\"verdict\":\"yes\"}\n";
-    assert_lines(&rt, sink.written(), sound);
-    let forged = MATCHED_REPLIES.replace(alloc, "\"surplus\":\"2\"", "\"surplus\":\"3\"")?;
-    let (status, sink) = run(alloc, "check", forged.as_bytes(), 0, 0)?;
-    assert_eq!(rt; status, Status::CheckNo);
-    let faulty = "{\"line\":7,\"reason\":\"Cover\",\"verdict\":\"no\"}\n";
-    assert_lines(&rt, sink.written(), faulty);
-    // No line of another mode is one of a journal.
-    for line in [
-        r#"{"ask":"never","bid":"6","line":1,"market":1,"reply":"quoted"}"#,
-        r#"{"account":2,"at":["1","0"],"line":1,"margin":"10","market":1,"reply":"margin"}"#,
-        r#"{"line":1,"need":"11","number":14,"reason":"Margin","reply":"refused"}"#,
+fn the_first_fault_ends_the_call(rt: HostRuntime) -> Result<(), Fail> {
+    for (words, read, write, end) in [
+        ("check", 1, 0, Status::ReadFault),
+        ("check", 0, 1, Status::WriteFault),
+        ("sessions", 0, 2, Status::WriteFault),
+        ("demo 1 1", 1, 0, Status::Done),
     ] {
-        let (status, sink) = run(alloc, "check", line.as_bytes(), 0, 0)?;
-        assert_eq!(rt; status, Status::CheckNo, "at {line}");
-        let report = "{\"line\":1,\"reason\":\"Shape\",\"verdict\":\"no\"}\n";
-        assert_lines(&rt, sink.written(), report);
-    }
-    for fault in 1..2u32 {
-        let (status, _) = run(alloc, "check", MATCHED_REPLIES.as_bytes(), fault, 0)?;
-        assert_eq!(rt; status, Status::ReadFault);
-        let (status, _) = run(alloc, "check", MATCHED_REPLIES.as_bytes(), 0, fault)?;
-        assert_eq!(rt; status, Status::WriteFault);
-    }
-    Ok(())
-}
-
-#[test]
-fn messages_take_effect_once(rt: HostRuntime) -> Result<(), Fail> {
-    let alloc = rt.alloc();
-    let messages = "7,1,open,1\n7,1,open,1\n7,3,open,2\n";
-    let wanted = r#"{"number":1,"of":{"account":1,"line":1,"reply":"opened"},"session":7}
-{"number":1,"of":{"account":1,"line":1,"reply":"opened"},"session":7}
-{"expected":2,"line":3,"number":17,"reason":"Ahead","reply":"gate","session":7}
-"#;
-    let (status, sink) = run(alloc, "sessions", messages.as_bytes(), 0, 0)?;
-    assert_eq!(rt; status, Status::Done);
-    assert_lines(&rt, sink.written(), wanted);
-    let (status, _) = run(alloc, "sessions", messages.as_bytes(), 0, 2)?;
-    assert_eq!(rt; status, Status::WriteFault);
-    Ok(())
-}
-
-#[test]
-fn demos_are_summarised(rt: HostRuntime) -> Result<(), Fail> {
-    for (words, summary) in [
-        (
-            "demo 1 1",
-            "{\"batches\":1,\"budget\":0,\"house\":\"0\",\"lines\":84,\"optimal\":1,\"refused\":0,\"wide\":0}\n",
-        ),
-        (
-            "demo 1 60",
-            "{\"batches\":3,\"budget\":0,\"house\":\"7716\",\"lines\":145,\"optimal\":3,\"refused\":0,\"wide\":0}\n",
-        ),
-    ] {
-        let (status, sink) = run(rt.alloc(), words, b"open,1", 1, 0)?;
-        assert_eq!(rt; status, Status::Done, "at {words}");
-        assert_lines(&rt, sink.written(), summary);
+        let (status, _) = run(rt.alloc(), words, b"7,1,open,1\n7,1,open,1\n", read, write)?;
+        assert_eq!(rt; status, end, "at {words}");
     }
     Ok(())
 }

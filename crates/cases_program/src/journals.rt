@@ -232,4 +232,33 @@ pub(crate) static JOURNALS: &str = r#"== check: a first clearing
 == check: a mass too wide with a tree
 {"batch":1,"certificate":{"cover":[{"leaf":[]}],"measure":[{"state":["1","0","0"],"weight":"1/2305843009213693951"},{"state":["1","0","1"],"weight":"1/618970019642690137449562111"}]},"fills":["0","0","3","0","0","0"],"liability":"24","line":1,"mark":"optimal","market":1,"orders":[{"account":1,"form":[-10,-1,2],"order":1,"price":36,"quantity":4,"side":"sell"},{"account":1,"form":[-8000000,21,7],"order":2,"price":35,"quantity":4,"side":"buy"},{"account":1,"form":[8,-1,0],"order":3,"price":9,"quantity":3,"side":"buy"},{"account":1,"form":[-10,1,3],"order":4,"price":31,"quantity":4,"side":"sell"},{"account":1,"form":[-800,0,1],"order":5,"price":10,"quantity":1,"side":"sell"},{"account":1,"form":[-10,-1,2],"order":6,"price":18,"quantity":4,"side":"buy"}],"reply":"cleared","surplus":"3","underlyings":2,"units":1,"version":1}
 = {"line":1,"reason":"Wide","verdict":"no"}
+== check: a session that is sound
+{"account":1,"line":1,"reply":"opened"}
+{"account":2,"line":2,"reply":"opened"}
+{"account":1,"balance":"100","line":3,"reply":"deposited"}
+{"line":4,"market":1,"reply":"listed","underlyings":1}
+{"line":5,"order":1,"reply":"placed"}
+{"line":6,"order":2,"reply":"placed"}
+{"batch":1,"certificate":{"cover":"line","measure":[{"state":["1","0"],"weight":"1"},{"state":["0","1"],"weight":"5"}]},"fills":["1","1"],"liability":"0","line":7,"mark":"optimal","market":1,"orders":[{"account":1,"form":[-10,1],"order":1,"price":7,"quantity":1,"side":"buy"},{"account":2,"form":[-10,1],"order":2,"price":5,"quantity":1,"side":"sell"}],"reply":"cleared","surplus":"2","underlyings":1,"units":2,"version":1}
+{"account":0,"balance":"2","line":8,"reply":"balance","reserved":"0"}
+= {"batches":1,"lines":8,"optimal":1,"verdict":"yes"}
+== check: a session with a greater surplus
+{"account":1,"line":1,"reply":"opened"}
+{"account":2,"line":2,"reply":"opened"}
+{"account":1,"balance":"100","line":3,"reply":"deposited"}
+{"line":4,"market":1,"reply":"listed","underlyings":1}
+{"line":5,"order":1,"reply":"placed"}
+{"line":6,"order":2,"reply":"placed"}
+{"batch":1,"certificate":{"cover":"line","measure":[{"state":["1","0"],"weight":"1"},{"state":["0","1"],"weight":"5"}]},"fills":["1","1"],"liability":"0","line":7,"mark":"optimal","market":1,"orders":[{"account":1,"form":[-10,1],"order":1,"price":7,"quantity":1,"side":"buy"},{"account":2,"form":[-10,1],"order":2,"price":5,"quantity":1,"side":"sell"}],"reply":"cleared","surplus":"3","underlyings":1,"units":2,"version":1}
+{"account":0,"balance":"2","line":8,"reply":"balance","reserved":"0"}
+= {"line":7,"reason":"Cover","verdict":"no"}
+== check: a line of quotes
+{"ask":"never","bid":"6","line":1,"market":1,"reply":"quoted"}
+= {"line":1,"reason":"Shape","verdict":"no"}
+== check: a margin
+{"account":2,"at":["1","0"],"line":1,"margin":"10","market":1,"reply":"margin"}
+= {"line":1,"reason":"Shape","verdict":"no"}
+== check: a withdrawal kept back
+{"line":1,"need":"11","number":14,"reason":"Margin","reply":"refused"}
+= {"line":1,"reason":"Shape","verdict":"no"}
 "#;

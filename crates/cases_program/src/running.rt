@@ -48,7 +48,7 @@ fn push_repeated(alloc: Global, input: &mut String, text: &str) -> Result<(), Al
     Ok(())
 }
 
-// The input of a session, and what is wanted of its output.
+// The input of a session, and what is wanted of its output. Behind `> ` stands a line without its line feed.
 fn session(alloc: Global, text: &str) -> Result<(String, String), AllocError> {
     let mut input = String::new(alloc);
     let mut output = String::new(alloc);
@@ -57,6 +57,8 @@ fn session(alloc: Global, text: &str) -> Result<(String, String), AllocError> {
             output.push_str(reply)?;
         } else if let Some(repeated) = line.strip_prefix("* ") {
             push_repeated(alloc, &mut input, repeated)?;
+        } else if let Some(last) = line.strip_prefix("> ") {
+            input.push_str(last.trim_end_matches('\n'))?;
         } else {
             input.push_str(line)?;
         }
@@ -64,13 +66,22 @@ fn session(alloc: Global, text: &str) -> Result<(String, String), AllocError> {
     Ok((input, output))
 }
 
-// What is written in the session of a text, under the words in its first line, and what is wanted.
-pub(crate) fn answered(alloc: Global, text: &str) -> Result<(MemSink, String), AllocError> {
+// How the session of a text ends and what is written in it, under the words in its first line, and what is wanted.
+pub(crate) fn answered(alloc: Global, text: &str) -> Result<(Status, MemSink, String), AllocError> {
     let (head, lines) = text.split_once('\n').unwrap_or((text, ""));
     let (words, _) = head.split_once(':').unwrap_or((head, ""));
     let (input, wanted) = session(alloc, lines)?;
-    let (_, sink) = run(alloc, words, input.as_bytes(), 0, 0)?;
-    Ok((sink, wanted))
+    let (status, sink) = run(alloc, words, input.as_bytes(), 0, 0)?;
+    Ok((status, sink, wanted))
+}
+
+// How a call ends that writes this: a report that says no has a status of its own.
+pub(crate) fn status_with(wanted: &str) -> Status {
+    if wanted.ends_with("\"verdict\":\"no\"}\n") {
+        Status::CheckNo
+    } else {
+        Status::Done
+    }
 }
 
 // Compares what was written with what is wanted: at the first line that differs the test tells the two.

@@ -489,4 +489,16 @@ withdraw,2,1
 = {"line":11,"need":"unbounded","number":14,"reason":"Margin","reply":"refused"}
 balance,2
 = {"account":2,"balance":"2","line":12,"reply":"balance","reserved":"0"}
+== sessions: a message once more, and one ahead
+7,1,open,1
+= {"number":1,"of":{"account":1,"line":1,"reply":"opened"},"session":7}
+7,1,open,1
+= {"number":1,"of":{"account":1,"line":1,"reply":"opened"},"session":7}
+7,3,open,2
+= {"expected":2,"line":3,"number":17,"reason":"Ahead","reply":"gate","session":7}
+== demo 1 1: an input that is not read
+open,1
+= {"batches":1,"budget":0,"house":"0","lines":84,"optimal":1,"refused":0,"wide":0}
+== demo 1 60: three batches
+= {"batches":3,"budget":0,"house":"7716","lines":145,"optimal":3,"refused":0,"wide":0}
 "#;
