@@ -4,13 +4,13 @@ ghost use Rattle.std.specs.List.{list_any};
 ghost use Rattle.exchange_core.specs.ExchangeState.{empty_exchange};
 ghost use Rattle.all_lines.specs.Output.{all_line};
 
-use crate::words::asks_quote;
+use crate::words::asking_word;
 use exchange_core::Exchange;
 use live_lines::LineAnswers;
 use std::alloc::{AllocError, Global};
 use std::marker::Model;
 
-/// An exchange that answers all lines, each as the next one of an input. A line that asks for a quote or a margin changes nothing,
+/// An exchange that answers all lines, each as the next one of an input. A line that asks for a quote, prices or a margin changes nothing,
 /// nor does a withdrawal that is refused.
 #[derive(Drop)]
 pub struct AllLines {
@@ -40,10 +40,9 @@ impl LineAnswers for AllLines {
     ghost step = { all_line };
 
     fn answer(&mut self, alloc: Global, number: u32, line: &[u8]) -> Result<Vec<u8>, AllocError> {
-        if asks_quote(alloc, line)? {
-            quote_lines::answer(alloc, &mut self.exchange, number, line)
-        } else {
-            guarded_lines::answer(alloc, &mut self.exchange, number, line)
+        match asking_word(alloc, line)? {
+            Some(word) => { quote_lines::answer_by(alloc, &mut self.exchange, word, number, line) }
+            None => guarded_lines::answer(alloc, &mut self.exchange, number, line),
         }
     }
 }

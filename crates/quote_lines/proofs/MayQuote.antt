@@ -1,5 +1,5 @@
 -- What a request meets: a batch that may be quoted, or its first refusal.
-use Rattle.std.proofs.Common.{◌≡◌, ◌+◌, ◌≤◌, ◌<◌, [], ◌∷◌, Bool, true, false, not, nat_eq, nat_le, Option, Some, None, is_some, if◌then◌else◌, refl, sym, ap, subst, ◌∙◌, arith}
+use Rattle.std.proofs.Common.{◌≡◌, ℕ, ◌+◌, ◌≤◌, ◌<◌, [], ◌∷◌, Bool, true, false, not, nat_eq, nat_le, Option, Some, None, is_some, if◌then◌else◌, refl, sym, ap, subst, ◌∙◌, arith}
 use Rattle.std.specs.Option.{option_map, option_map_or}
 use Rattle.std.proofs.lemmas.Bool.Decides.{nat_tests}
 use Rattle.std.proofs.lemmas.List.Elements.{All-weaker}
@@ -28,7 +28,7 @@ use Rattle.refusals.proofs.FirstRefusal.{first_behind, first_in_front}
 use Rattle.quote_lines.specs.declared.replies.QuotesReply.{QuotesReply}
 use Rattle.quote_lines.specs.declared.replies.QuotesReply.TheVariants.{Plain}
 use Rattle.quote_lines.specs.Refusals.{info_refusals, quote_refusals}
-use Rattle.quote_lines.specs.Replies.{quote_reply, quoted_for}
+use Rattle.quote_lines.specs.Replies.{asked_reply, told_for}
 
 -- ---- a batch that may be quoted
 none_of : (a b c : Bool) → first_of ((a, Settled) ∷ (b, WeightCount) ∷ (c, BookFull) ∷ []) ≡ None → (a ≡ false) × (b ≡ false) × (c ≡ false)
@@ -78,22 +78,22 @@ by_batches : (state : ExchangeState) (request : QuoteRequest) → first_of (info
 by_batches state request none =
     first_behind (info_refusals (info_in state.book request.market) request) ((nat_le MAX_BATCHES state.book.finished, TooMany) ∷ []) none
 
-replied : ExchangeState → QuoteRequest → Option Refusal → QuotesReply
-replied state request refused = option_map_or (λ refusal. Plain (refused_with refusal)) refused (quoted_for (batch_in state request.market) request)
+replied : ExchangeState → QuoteRequest → Option ℕ → Option Refusal → QuotesReply
+replied state request quantity refused = option_map_or (λ refusal. Plain (refused_with refusal)) refused (told_for (batch_in state request.market) request quantity)
 
-pub reply_refused : (state : ExchangeState) (request : QuoteRequest) (refusal : Refusal) → Some refusal ≡ first_of (info_refusals (info_in state.book request.market) request)
-    → Plain (refused_with refusal) ≡ quote_reply state request
+pub reply_refused : (state : ExchangeState) (request : QuoteRequest) (quantity : Option ℕ) (refusal : Refusal) → Some refusal ≡ first_of (info_refusals (info_in state.book request.market) request)
+    → Plain (refused_with refusal) ≡ asked_reply state request quantity
 unfolding replied
-reply_refused state request refusal is =
-    sym (ap (replied state request) (first_in_front (info_refusals (info_in state.book request.market) request) ((nat_le MAX_BATCHES state.book.finished, TooMany) ∷ []) refusal (sym is)))
+reply_refused state request quantity refusal is =
+    sym (ap (replied state request quantity) (first_in_front (info_refusals (info_in state.book request.market) request) ((nat_le MAX_BATCHES state.book.finished, TooMany) ∷ []) refusal (sym is)))
 
-pub reply_quoted : (state : ExchangeState) (request : QuoteRequest) (batch : Batch) → first_of (info_refusals (info_in state.book request.market) request) ≡ None
-    → option_map batch_of (market_of state.book request.market) ≡ Some batch → state.book.finished < MAX_BATCHES → quoted_for batch request ≡ quote_reply state request
+pub reply_told : (state : ExchangeState) (request : QuoteRequest) (quantity : Option ℕ) (batch : Batch) → first_of (info_refusals (info_in state.book request.market) request) ≡ None
+    → option_map batch_of (market_of state.book request.market) ≡ Some batch → state.book.finished < MAX_BATCHES → told_for batch request quantity ≡ asked_reply state request quantity
 unfolding replied
-reply_quoted state request batch none is few =
+reply_told state request quantity batch none is few =
     let room : nat_le MAX_BATCHES state.book.finished ≡ false = grind (arith, nat_tests, few) in
-    ap (λ (b : Batch). quoted_for b request) (sym (batch_is (market_of state.book request.market) batch _ is))
-    ∙ sym (ap (replied state request) (by_batches state request none ∙ ap (λ (t : Bool). if t then Some TooMany else None) room))
+    ap (λ (b : Batch). told_for b request quantity) (sym (batch_is (market_of state.book request.market) batch _ is))
+    ∙ sym (ap (replied state request quantity) (by_batches state request none ∙ ap (λ (t : Bool). if t then Some TooMany else None) room))
 
 -- the refusal of a batch of a market that is there and trades
 trades : (info : Option MarketInfo) (request : QuoteRequest) (full : Bool) → first_of (info_refusals info request) ≡ None
@@ -103,12 +103,12 @@ trades (Some info) request full none =
     let tests = none_of info.settled (not (nat_eq request.form.count (info.underlyings + 1))) (is_full info) none in
     ap (λ (t : Bool). if t then Some book.Settled else (if full then Some book.TooMany else None)) tests.0
 
-pub reply_too_many : (state : ExchangeState) (request : QuoteRequest) → first_of (info_refusals (info_in state.book request.market) request) ≡ None
-    → Some book.TooMany ≡ first_of (batch_refusals state.book request.market) → Plain (refused_with TooMany) ≡ quote_reply state request
+pub reply_too_many : (state : ExchangeState) (request : QuoteRequest) (quantity : Option ℕ) → first_of (info_refusals (info_in state.book request.market) request) ≡ None
+    → Some book.TooMany ≡ first_of (batch_refusals state.book request.market) → Plain (refused_with TooMany) ≡ asked_reply state request quantity
 unfolding replied
-reply_too_many state request none told =
+reply_too_many state request quantity none told =
     let full : Bool = nat_le MAX_BATCHES state.book.finished in
     let first = told ∙ trades (info_in state.book request.market) request full none in
-    let P : Bool → Type 0 = λ t. Some book.TooMany ≡ (if t then Some book.TooMany else None) → Plain (refused_with TooMany) ≡ replied state request (if t then Some TooMany else None) in
+    let P : Bool → Type 0 = λ t. Some book.TooMany ≡ (if t then Some book.TooMany else None) → Plain (refused_with TooMany) ≡ replied state request quantity (if t then Some TooMany else None) in
     (elim full as P [ true ↦ λ h. refl | false ↦ λ h. absurd (cc) ]) first
-    ∙ sym (ap (replied state request) (by_batches state request none))
+    ∙ sym (ap (replied state request quantity) (by_batches state request none))

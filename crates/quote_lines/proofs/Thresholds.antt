@@ -1,5 +1,5 @@
--- What a quoted line tells of the greatest surplus.
-use Rattle.std.proofs.Common.{ℕ, Option, ap, subst, ◌∙◌}
+-- What quoted and priced lines tell of the greatest surplus.
+use Rattle.std.proofs.Common.{◌≡◌, ℕ, Option, refl, ap, subst, ◌∙◌, inl, inr}
 use Rattle.std.specs.Option.{option_map_or}
 use Rattle.form.specs.declared.orders.Batch.{Batch}
 use Rattle.form.specs.declared.orders.Order.{Order}
@@ -10,21 +10,32 @@ use Rattle.exchange_core.specs.Reply.{refused_with}
 use Rattle.exchange_core.specs.Step.{batch_in}
 use Rattle.option_quotes.specs.declared.quotes.Quoted.{Quoted}
 use Rattle.option_quotes.specs.declared.quotes.Quoted.TheVariants.{At, Never, Unmarked}
+use Rattle.option_quotes.specs.declared.prices.MarketPrices.{MarketPrices}
+use Rattle.option_quotes.specs.declared.prices.MarketPrices.TheVariants as market
+use Rattle.option_quotes.specs.declared.prices.SidePrice.{SidePrice}
+use Rattle.option_quotes.specs.declared.prices.SidePrice.TheVariants as side
 use Rattle.option_quotes.specs.ByProbes.{quoted_of}
+use Rattle.option_quotes.specs.Implied.{asked, prices_of}
 use Rattle.option_quotes.specs.Probes.{further}
-use Rattle.option_quotes.specs.Thresholds.{Tells}
+use Rattle.option_quotes.specs.Thresholds.{TellPrices, Tells, TellsSide}
+use Rattle.option_quotes.proofs.Found.{implied_prices_are_thresholds}
 use Rattle.option_quotes.proofs.Thresholds.{quotes_are_thresholds}
+use Rattle.quote_lines.specs.declared.bodies.AskingWord.TheVariants as asking
 use Rattle.quote_lines.specs.declared.bodies.QuotesBody.{QuotesBody}
-use Rattle.quote_lines.specs.declared.bodies.QuotesBody.TheVariants.{Quote}
+use Rattle.quote_lines.specs.declared.bodies.QuotesBody.TheVariants.{Quote, Price}
+use Rattle.quote_lines.specs.declared.prices.QuotedPrice.{QuotedPrice}
+use Rattle.quote_lines.specs.declared.prices.QuotedPrice.TheVariants as price
+use Rattle.quote_lines.specs.declared.requests.PriceRequest.{PriceRequest}
 use Rattle.quote_lines.specs.Within.{QuotesBodyIsWithin}
 use Rattle.quote_lines.proofs.RequestsWithin.{requests_are_within}
 use Rattle.order_book.specs.Book.{info_in}
 use Rattle.refusals.proofs.FirstRefusal.{none_in_both}
-use Rattle.quote_lines.specs.declared.replies.QuotesReply.TheVariants.{Plain}
-use Rattle.quote_lines.specs.Laws.{QuotedLinesAreThresholds, TellsOf, TellsPrice}
+use Rattle.quote_lines.specs.declared.replies.QuotesReply.{QuotesReply}
+use Rattle.quote_lines.specs.declared.replies.QuotesReply.TheVariants.{Plain, Priced}
+use Rattle.quote_lines.specs.Laws.{PricedLinesAreThresholds, QuotedLinesAreThresholds, TellsImplied, TellsOf, TellsPrice}
 use Rattle.quote_lines.specs.Output.{written_reply}
 use Rattle.quote_lines.specs.Refusals.{info_refusals}
-use Rattle.quote_lines.specs.Replies.{price_of, quoted_for, quoted_price, quotes_reply_to}
+use Rattle.quote_lines.specs.Replies.{price_of, priced_for, prices_told, quoted_for, quoted_price, quotes_reply_to, side_told}
 use Rattle.quote_lines.proofs.MayQuote.{live_may}
 
 price_tells : (batch : Batch) (order : Order) (budget : ℕ) (quoted : Quoted) → Tells batch order budget quoted → TellsPrice batch order budget (price_of quoted)
@@ -35,7 +46,7 @@ price_tells batch order budget (Unmarked probe outcome) tells = ((probe, outcome
 pub quoted_lines_are_thresholds : QuotedLinesAreThresholds
 quoted_lines_are_thresholds number state line request kept asked allowed =
     let batch = batch_in state request.market in
-    let within : QuotesBodyIsWithin (Quote request) = subst QuotesBodyIsWithin asked (requests_are_within line) in
+    let within : QuotesBodyIsWithin (Quote request) = subst QuotesBodyIsWithin asked (requests_are_within asking.Quote line) in
     let none = (none_in_both (info_refusals (info_in state.book request.market) request) _ allowed).0 in
     let may = live_may state request kept within.listed none in
     let tells : (side : Side) → TellsOf state request side (quoted_price batch request side) = λ side.
@@ -47,4 +58,52 @@ quoted_lines_are_thresholds number state line request kept asked allowed =
           ∙ ap (λ (refused : Option Refusal). written_reply number (option_map_or (λ refusal. Plain (refused_with refusal)) refused (quoted_for batch request), state)) allowed,
       tells Buy,
       tells Sell,
+    )
+
+-- ---- prices
+side_tells : (batch : Batch) (order : Order) (budget : ℕ) (found : SidePrice) → TellsSide batch order budget found → TellsImplied batch order budget (side_told found)
+side_tells batch order budget (side.At price raising beside) tells = tells
+side_tells batch order budget (side.Never extreme) tells = tells
+side_tells batch order budget (side.Unmarked price outcome) tells = inr (inl (price, outcome, tells))
+side_tells batch order budget side.Spent tells = inr (inr tells)
+
+-- what both sides tell
+record Told (batch : Batch) (request : PriceRequest) (prices : MarketPrices) : Type 0 where
+  ask : QuotedPrice
+  bid : QuotedPrice
+  is : prices_told request.quote.market request.quantity prices ≡ Priced request.quote.market request.quantity ask bid
+  asks : TellsImplied batch (asked request.quote.form Buy request.quantity) request.quote.budget ask
+  bids : TellsImplied batch (asked request.quote.form Sell request.quantity) request.quote.budget bid
+
+prices_tell : (batch : Batch) (request : PriceRequest) (prices : MarketPrices) → TellPrices batch request.quote.form request.quantity request.quote.budget prices → Told batch request prices
+prices_tell batch request (market.Marked base ask bid) tell = record {
+  ask = side_told ask;
+  bid = side_told bid;
+  is = refl;
+  asks = side_tells batch (asked request.quote.form Buy request.quantity) request.quote.budget ask tell.0;
+  bids = side_tells batch (asked request.quote.form Sell request.quantity) request.quote.budget bid tell.1;
+}
+prices_tell batch request (market.Unmarked base) tell = record {
+  ask = price.Unmarked;
+  bid = price.Unmarked;
+  is = refl;
+  asks = inl (base, tell);
+  bids = inl (base, tell);
+}
+
+pub priced_lines_are_thresholds : PricedLinesAreThresholds
+priced_lines_are_thresholds number state line request kept asks allowed =
+    let quote = request.quote in
+    let batch = batch_in state quote.market in
+    let within : QuotesBodyIsWithin (Price request) = subst QuotesBodyIsWithin asks (requests_are_within asking.Price line) in
+    let none = (none_in_both (info_refusals (info_in state.book quote.market) quote) _ allowed).0 in
+    let may = live_may state quote kept within.0.listed none in
+    let told = prices_tell batch request (prices_of batch quote.form request.quantity quote.budget) (implied_prices_are_thresholds batch quote.form request.quantity quote.budget may within.1.0 within.1.1) in (
+      told.ask,
+      told.bid,
+      ap (λ (said : QuotesBody). written_reply number (quotes_reply_to state said)) asks
+          ∙ ap (λ (refused : Option Refusal). written_reply number (option_map_or (λ refusal. Plain (refused_with refusal)) refused (priced_for batch quote request.quantity), state)) allowed
+          ∙ ap (λ (reply : QuotesReply). written_reply number (reply, state)) told.is,
+      told.asks,
+      told.bids,
     )

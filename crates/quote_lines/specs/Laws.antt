@@ -4,24 +4,32 @@ use Rattle.form.specs.declared.orders.Batch.{Batch}
 use Rattle.form.specs.declared.orders.Order.{Order}
 use Rattle.form.specs.declared.orders.Side.{Side}
 use Rattle.form.specs.declared.orders.Side.TheVariants.{Buy, Sell}
+use Rattle.option_quotes.specs.Implied.{asked}
 use Rattle.option_quotes.specs.Probes.{Probe, first_unmarked, further, probes}
-use Rattle.option_quotes.specs.Thresholds.{NeverRaisesGreatest, RaisesGreatestFrom}
+use Rattle.option_quotes.specs.Thresholds.{IsUnfound, NeverRaisesGreatest, RaisesGreatestFrom}
 use Rattle.exchange_core.specs.ExchangeState.{ExchangeState}
 use Rattle.exchange_core.specs.Kept.{IsKept}
 use Rattle.exchange_core.specs.Step.{batch_in}
 use Rattle.exchange_lines.specs.LineSteps.{AnswersAsRun}
 use Rattle.exchange_lines.specs.Promises.{OutputTells}
-use Rattle.quote_lines.specs.declared.bodies.QuotesBody.TheVariants.{Quote}
+use Rattle.quote_lines.specs.declared.bodies.AskingWord.{AskingWord}
+use Rattle.quote_lines.specs.declared.bodies.AskingWord.TheVariants as asks
+use Rattle.quote_lines.specs.declared.bodies.QuotesBody.TheVariants.{Quote, Price}
 use Rattle.quote_lines.specs.declared.prices.QuotedPrice.{QuotedPrice}
 use Rattle.quote_lines.specs.declared.prices.QuotedPrice.TheVariants.{At, Never, Unmarked}
 use Rattle.quote_lines.specs.declared.requests.QuoteRequest.{QuoteRequest}
-use Rattle.quote_lines.specs.Bodies.{quotes_body_of}
-use Rattle.quote_lines.specs.Quoted.{quoted_line}
+use Rattle.quote_lines.specs.declared.requests.PriceRequest.{PriceRequest}
+use Rattle.quote_lines.specs.Bodies.{body_by, quotes_body_of}
+use Rattle.quote_lines.specs.Quoted.{priced_line, quoted_line}
 use Rattle.refusals.specs.Refusals.{first_of}
-use Rattle.quote_lines.specs.Output.{IsQuoteText, quotes_line}
+use Rattle.quote_lines.specs.Output.{IsQuoteText, IsTextBy, line_by, quotes_line}
 use Rattle.quote_lines.specs.Refusals.{quote_refusals}
 
--- each line is answered as in a run, or by a refusal or by what is quoted, and then the exchange is as it was
+-- each line is answered as in a run, or by a refusal or by what is told by the word, and then the exchange is as it was
+abbrev pub LinesAnswerAsRun : Type 0
+LinesAnswerAsRun = (word : AskingWord) → AnswersAsRun (IsTextBy word) (line_by word)
+
+-- so it is where it may ask for a quote
 abbrev pub QuotesAnswerAsRun : Type 0
 QuotesAnswerAsRun = AnswersAsRun IsQuoteText quotes_line
 
@@ -50,3 +58,24 @@ QuotedLinesAreThresholds =
     → (bid : QuotedPrice) × (ask : QuotedPrice)
     × (quotes_line number state line ≡ (quoted_line number request.market bid ask ++ 10 ∷ [], state))
     × TellsOf state request Buy bid × TellsOf state request Sell ask
+
+-- ---- what a priced line tells
+-- a price, or `never`, as above; `unmarked`: no price is found, for want of a mark or of one probe more
+abbrev pub TellsImplied : Batch → Order → ℕ → QuotedPrice → Type 0
+TellsImplied batch order budget (At price) = RaisesGreatestFrom batch order price
+TellsImplied batch order budget Never = NeverRaisesGreatest batch order
+TellsImplied batch order budget Unmarked = IsUnfound batch order budget
+
+abbrev pub TellsImpliedOf : ExchangeState → PriceRequest → Side → QuotedPrice → Type 0
+TellsImpliedOf state request side price =
+    TellsImplied (batch_in state request.quote.market) (asked request.quote.form side request.quantity) request.quote.budget price
+
+-- a line that asks for prices and meets no refusal is answered by a priced line, whose ask tells this of a further buy and whose bid of
+-- a further sell, and the exchange is as it was
+abbrev pub PricedLinesAreThresholds : Type 0
+PricedLinesAreThresholds =
+    (number : ℕ) (state : ExchangeState) (line : List ℕ) (request : PriceRequest) → IsKept state
+    → body_by asks.Price line ≡ Price request → first_of (quote_refusals state.book request.quote) ≡ None
+    → (ask : QuotedPrice) × (bid : QuotedPrice)
+    × (line_by asks.Price number state line ≡ (priced_line number request.quote.market request.quantity ask bid ++ 10 ∷ [], state))
+    × TellsImpliedOf state request Buy ask × TellsImpliedOf state request Sell bid

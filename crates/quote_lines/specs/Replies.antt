@@ -1,5 +1,5 @@
--- The reply to a line that may ask for a quote, and the exchange after it.
-use Rattle.std.specs.Prelude.{ℕ, List}
+-- The reply to a line that may ask for something, and the exchange after it.
+use Rattle.std.specs.Prelude.{ℕ, List, Option, Some, None}
 use Rattle.std.specs.Option.{option_map_or}
 use Rattle.form.specs.declared.orders.Batch.{Batch}
 use Rattle.form.specs.declared.orders.Side.{Side}
@@ -11,17 +11,22 @@ use Rattle.exchange_core.specs.LineReplies.{reply_to}
 use Rattle.option_quotes.specs.declared.quotes.Quoted.{Quoted}
 use Rattle.option_quotes.specs.declared.quotes.Quoted.TheVariants as quoted
 use Rattle.option_quotes.specs.ByProbes.{quoted_of}
+use Rattle.option_quotes.specs.declared.prices.MarketPrices.{MarketPrices}
+use Rattle.option_quotes.specs.declared.prices.MarketPrices.TheVariants as market
+use Rattle.option_quotes.specs.declared.prices.SidePrice.{SidePrice}
+use Rattle.option_quotes.specs.declared.prices.SidePrice.TheVariants as side
+use Rattle.option_quotes.specs.Implied.{prices_of}
 use Rattle.option_quotes.specs.Probes.{further}
 use Rattle.quote_lines.specs.declared.bodies.QuotesBody.{QuotesBody}
 use Rattle.quote_lines.specs.declared.bodies.QuotesBody.TheVariants as body
 use Rattle.quote_lines.specs.declared.prices.QuotedPrice.{QuotedPrice}
 use Rattle.quote_lines.specs.declared.prices.QuotedPrice.TheVariants as told
 use Rattle.quote_lines.specs.declared.requests.QuoteRequest.{QuoteRequest}
-use Rattle.quote_lines.specs.Quoted.{quoted_line}
+use Rattle.quote_lines.specs.Quoted.{priced_line, quoted_line}
 use Rattle.refusals.specs.Refusals.{first_of}
 use Rattle.reply_print.specs.ReplyPieces.{reply_line}
 use Rattle.quote_lines.specs.declared.replies.QuotesReply.{QuotesReply}
-use Rattle.quote_lines.specs.declared.replies.QuotesReply.TheVariants.{Plain, Quoted as ToldQuote}
+use Rattle.quote_lines.specs.declared.replies.QuotesReply.TheVariants.{Plain, Quoted as ToldQuote, Priced}
 use Rattle.quote_lines.specs.Refusals.{quote_refusals}
 
 -- the price that a quote tells
@@ -37,18 +42,40 @@ quoted_price batch request side = price_of (quoted_of batch (further request.for
 abbrev pub quoted_for : Batch → QuoteRequest → QuotesReply
 quoted_for batch request = ToldQuote request.market (quoted_price batch request Buy) (quoted_price batch request Sell)
 
--- the first refusal that a request meets, or what is quoted of the live orders of its market
-abbrev pub quote_reply : ExchangeState → QuoteRequest → QuotesReply
-quote_reply state request =
-    option_map_or (λ refusal. Plain (refused_with refusal)) (first_of (quote_refusals state.book request))
-    (quoted_for (batch_in state request.market) request)
+-- the price that a side's probes tell
+abbrev pub side_told : SidePrice → QuotedPrice
+side_told (side.At price raising beside) = told.At price
+side_told (side.Never extreme) = told.Never
+side_told (side.Unmarked price outcome) = told.Unmarked
+side_told side.Spent = told.Unmarked
 
--- the reply to what a line says, and the exchange after it: a request for a quote changes nothing
+abbrev pub prices_told : ℕ → ℕ → MarketPrices → QuotesReply
+prices_told number quantity (market.Marked base ask bid) = Priced number quantity (side_told ask) (side_told bid)
+prices_told number quantity (market.Unmarked base) = Priced number quantity told.Unmarked told.Unmarked
+
+-- the prices at which a further order for so many raises the greatest surplus of a batch
+abbrev pub priced_for : Batch → QuoteRequest → ℕ → QuotesReply
+priced_for batch request quantity = prices_told request.market quantity (prices_of batch request.form quantity request.budget)
+
+-- what is told of a batch: a quote, or the prices of so many
+abbrev pub told_for : Batch → QuoteRequest → Option ℕ → QuotesReply
+told_for batch request None = quoted_for batch request
+told_for batch request (Some quantity) = priced_for batch request quantity
+
+-- the first refusal that a request meets, or what is told of the live orders of its market
+abbrev pub asked_reply : ExchangeState → QuoteRequest → Option ℕ → QuotesReply
+asked_reply state request quantity =
+    option_map_or (λ refusal. Plain (refused_with refusal)) (first_of (quote_refusals state.book request))
+    (told_for (batch_in state request.market) request quantity)
+
+-- the reply to what a line says, and the exchange after it: a request changes nothing
 abbrev pub quotes_reply_to : ExchangeState → QuotesBody → QuotesReply × ExchangeState
 quotes_reply_to state (body.Plain said) = let now = reply_to state said in (Plain now.0, now.1)
-quotes_reply_to state (body.Quote request) = (quote_reply state request, state)
+quotes_reply_to state (body.Quote request) = (asked_reply state request None, state)
+quotes_reply_to state (body.Price request) = (asked_reply state request.quote (Some request.quantity), state)
 
 -- the line of a reply, without its line feed
 abbrev pub quotes_reply_line : ℕ → QuotesReply → List ℕ
 quotes_reply_line number (Plain reply) = reply_line number reply
 quotes_reply_line number (ToldQuote market bid ask) = quoted_line number market bid ask
+quotes_reply_line number (Priced market quantity ask bid) = priced_line number market quantity ask bid

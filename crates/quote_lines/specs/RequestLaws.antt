@@ -6,19 +6,21 @@ use Rattle.command_text.specs.declared.command.Body.TheVariants as body
 use Rattle.command_text.specs.Asked.{text_of}
 use Rattle.command_text.specs.Commands.{body_of_line}
 use Rattle.command_text.specs.Fields.{fields_of_line}
-use Rattle.quote_lines.specs.declared.bodies.QuotesBody.TheVariants.{Plain, Quote}
-use Rattle.quote_lines.specs.Bodies.{quotes_body_of}
+use Rattle.quote_lines.specs.declared.bodies.AskingWord.{AskingWord}
+use Rattle.quote_lines.specs.declared.bodies.AskingWord.TheVariants as asks
+use Rattle.quote_lines.specs.declared.bodies.QuotesBody.TheVariants.{Plain, Quote, Price}
+use Rattle.quote_lines.specs.Bodies.{body_by, quotes_body_of, word_text}
 use Rattle.quote_lines.specs.Within.{QuotesBodyIsWithin}
 
--- a line whose first field is another than `quote` says what it says to a run
+-- a line whose first field is another than the word says what it says to a run
 abbrev pub OtherLinesAreRuns : Type 0
 OtherLinesAreRuns =
-    (line : List ℕ) (fields : List (List ℕ)) → fields_of_line line ≡ Some fields → bytes_eq (text_of fields 1) (codes "quote") ≡ false
-    → quotes_body_of line ≡ Plain (body_of_line line)
+    (word : AskingWord) (line : List ℕ) (fields : List (List ℕ)) → fields_of_line line ≡ Some fields → bytes_eq (text_of fields 1) (word_text word) ≡ false
+    → body_by word line ≡ Plain (body_of_line line)
 
 -- whatever its bytes are, a line says a command or a request within the limits, or neither
 abbrev pub RequestsAreWithin : Type 0
-RequestsAreWithin = (line : List ℕ) → QuotesBodyIsWithin (quotes_body_of line)
+RequestsAreWithin = (word : AskingWord) (line : List ℕ) → QuotesBodyIsWithin (body_by word line)
 
 -- requests of a call, of a put on two underlyings and at the ends of the ranges; and requests that are refused
 pub record WorkedRequests : Type 0 where
@@ -38,3 +40,15 @@ pub record WorkedRequests : Type 0 where
   pub weight_range : quotes_body_of (codes "quote,1,1,call,0,0,1001") ≡ Plain (body.Range 7)
   pub last_range : quotes_body_of (codes "quote,1,1,call,0,1,1,1,1,1,1,1,-1001") ≡ Plain (body.Range 13)
   pub weightless : quotes_body_of (codes "quote,1,1,call,0,0,0") ≡ Plain (body.Range 6)
+  pub prices : body_by asks.Price (codes "price,1,20000,7,call,10,1")
+      ≡ Price (record { quote = record { market = 1; budget = 20000; form = form_of (negsuc 9 ∷ pos 1 ∷ []) }; quantity = 7 })
+  pub price_of_run : quotes_body_of (codes "price,1,20000,7,call,10,1") ≡ Plain body.Syntax
+  pub quote_by_price : body_by asks.Price (codes "quote,1,20000,call,10,1") ≡ Plain body.Syntax
+  pub no_weight_of_price : body_by asks.Price (codes "price,1,1,1,call,0") ≡ Plain body.Syntax
+  pub price_market : body_by asks.Price (codes "price,0,0,0,call,0,0") ≡ Plain (body.Range 2)
+  pub price_budget : body_by asks.Price (codes "price,1,20001,0,call,0,0") ≡ Plain (body.Range 3)
+  pub no_quantity : body_by asks.Price (codes "price,1,1,0,call,0,1") ≡ Plain (body.Range 4)
+  pub most_quantity : body_by asks.Price (codes "price,1,1,1000001,call,0,1") ≡ Plain (body.Range 4)
+  pub price_strike : body_by asks.Price (codes "price,1,1,1,call,-1000000001,1") ≡ Plain (body.Range 6)
+  pub price_weight : body_by asks.Price (codes "price,1,1,1,call,0,1,1,1,1,1,1,1,1001") ≡ Plain (body.Range 14)
+  pub weightless_price : body_by asks.Price (codes "price,1,1,1,call,0,0") ≡ Plain (body.Range 7)

@@ -1,8 +1,8 @@
 //! Laws over the definitions: each is the contract of a function that does nothing.
-ghost use Rattle.quote_lines.specs.Laws.{QuotedLinesAreThresholds, QuotesAnswerAsRun, QuotesTellAnswers};
+ghost use Rattle.quote_lines.specs.Laws.{LinesAnswerAsRun, PricedLinesAreThresholds, QuotedLinesAreThresholds, QuotesAnswerAsRun, QuotesTellAnswers};
 ghost use Rattle.quote_lines.specs.RequestLaws.{OtherLinesAreRuns, RequestsAreWithin, WorkedRequests};
 
-/// A line whose first field is not `quote` says what it says to a run.
+/// A line whose first field is not the word says what it says to a run.
 pub fn other_lines_are_runs()
     ensures { OtherLinesAreRuns }
 {}
@@ -17,7 +17,12 @@ pub fn worked_requests()
     ensures { WorkedRequests }
 {}
 
-/// Each line is answered as in a run, or by a refusal or by what is quoted, and then the exchange is as it was.
+/// Each line is answered as in a run, or by a refusal or by what is told by the word, and then the exchange is as it was.
+pub fn lines_answer_as_run()
+    ensures { LinesAnswerAsRun }
+{}
+
+/// So it is where it may ask for a quote.
 pub fn quotes_answer_as_run()
     ensures { QuotesAnswerAsRun }
 {}
@@ -27,6 +32,13 @@ pub fn quotes_answer_as_run()
 /// raises it, `unmarked` where a clear that would have told it is not marked optimal.
 pub fn quoted_lines_are_thresholds()
     ensures { QuotedLinesAreThresholds }
+{}
+
+/// A line that asks for prices and meets no refusal is answered by a priced line. Its ask is the price from which on a further buy of
+/// so many raises the greatest surplus of the market's live orders, and its bid that of a further sell: `never` where no price
+/// raises it, `unmarked` where a clear is not marked optimal or more than 60 a side are wanted.
+pub fn priced_lines_are_thresholds()
+    ensures { PricedLinesAreThresholds }
 {}
 
 /// What is written for an input is the text of the answers to its lines: those of a run, each of which keeps what is promised of a

@@ -1,4 +1,4 @@
-//! Lines that may ask for a quote, and their answers: those of a run, and what is quoted.
+//! Lines that may ask for a quote or for prices, and their answers: those of a run, and what is told.
 #![tactic(auto)]
 
 mod answers;
@@ -9,8 +9,8 @@ mod quoting;
 mod replies;
 mod requests;
 
-pub use answers::answer;
-pub use bodies::{QuotesBody, quotes_body_of};
+pub use answers::{answer, answer_by};
+pub use bodies::{AskingWord, QuotesBody, body_by, quotes_body_of};
 pub use prices::QuotedPrice;
 pub use replies::{QuotesReply, reply_to};
-pub use requests::QuoteRequest;
+pub use requests::{PriceRequest, QuoteRequest};

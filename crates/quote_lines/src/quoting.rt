@@ -1,4 +1,4 @@
-// What is quoted of a market, or why nothing is.
+// What is quoted and priced of a market, or why nothing is.
 ghost use Rattle.std.specs.Prelude.{◌≡◌, ◌≤◌, ◌+◌, IfOk, IfSome, None, length};
 ghost use Rattle.std.specs.List.{All};
 ghost use Rattle.form.specs.Limits.{IsWithinLimits};
@@ -7,7 +7,7 @@ ghost use Rattle.order_book.specs.Book.{info_in};
 ghost use Rattle.exchange_core.specs.Kept.{IsKept};
 ghost use Rattle.refusals.specs.Refusals.{first_of};
 ghost use Rattle.quote_lines.specs.Within.{IsRequestWithin};
-ghost use Rattle.quote_lines.specs.Replies.{price_of, quote_reply, quoted_for, quoted_price};
+ghost use Rattle.quote_lines.specs.Replies.{asked_reply, price_of, priced_for, prices_told, quoted_for, quoted_price, side_told, told_for};
 ghost use Rattle.quote_lines.specs.Refusals.{info_refusals};
 
 use crate::prices::QuotedPrice;
@@ -15,7 +15,7 @@ use crate::replies::QuotesReply;
 use crate::requests::QuoteRequest;
 use exchange_core::{Exchange, Refusal};
 use form::{Batch, MAX_ORDERS, Side};
-use option_quotes::{Quoted, quote};
+use option_quotes::{MarketPrices, Quoted, SidePrice, implied_prices, quote};
 use order_book::{BookRefusal, MarketInfo};
 use std::alloc::{AllocError, Global};
 
@@ -68,7 +68,74 @@ fn quoted_for(
     })
 }
 
-// Why a quote is refused by what is told of its market.
+// The price that a side's probes tell.
+fn side_told(price: &SidePrice) -> QuotedPrice
+    ensures { result ≡ side_told price.now }
+{
+    match price {
+        SidePrice::At { price, .. } => QuotedPrice::At { price: *price },
+        SidePrice::Never { .. } => QuotedPrice::Never,
+        SidePrice::Unmarked { .. } | SidePrice::Spent => QuotedPrice::Unmarked,
+    }
+}
+
+// The reply of prices.
+fn prices_told(market: u32, quantity: u32, prices: &MarketPrices) -> QuotesReply
+    ensures { result ≡ prices_told market quantity prices.now }
+{
+    let (ask, bid) = match prices {
+        MarketPrices::Marked { ask, bid, .. } => (side_told(ask), side_told(bid)),
+        MarketPrices::Unmarked { .. } => (QuotedPrice::Unmarked, QuotedPrice::Unmarked),
+    };
+    QuotesReply::Priced {
+        market,
+        quantity,
+        ask,
+        bid,
+    }
+}
+
+// The prices of so many options by the live orders of a market.
+fn priced_for(
+    alloc: Global,
+    batch: &Batch,
+    request: &QuoteRequest,
+    quantity: u32,
+) -> Result<QuotesReply, AllocError>
+    requires request { IsRequestWithin request.now }
+    requires quantity { (1 ≤ quantity) × (quantity ≤ 1000000) }
+    requires batch { IsWithinLimits batch.now }
+    requires room { length batch.now.orders ≤ 255 }
+    requires ids { All (λ order. order.id ≤ 1000000) batch.now.orders }
+    requires on { request.now.form.count ≡ batch.now.underlyings + 1 }
+    ensures { IfOk result (λ reply. reply ≡ priced_for batch.now request.now quantity) }
+{
+    let prices = implied_prices(alloc, batch, &request.form, quantity, request.budget)?;
+    Ok(prices_told(request.market, quantity, &prices))
+}
+
+// What is told of the live orders of a market: a quote, or the prices of so many.
+fn told_for(
+    alloc: Global,
+    batch: &Batch,
+    request: &QuoteRequest,
+    quantity: Option<u32>,
+) -> Result<QuotesReply, AllocError>
+    requires request { IsRequestWithin request.now }
+    requires quantity { IfSome quantity (λ q. (1 ≤ q) × (q ≤ 1000000)) }
+    requires batch { IsWithinLimits batch.now }
+    requires room { length batch.now.orders ≤ 255 }
+    requires ids { All (λ order. order.id ≤ 1000000) batch.now.orders }
+    requires on { request.now.form.count ≡ batch.now.underlyings + 1 }
+    ensures { IfOk result (λ reply. reply ≡ told_for batch.now request.now quantity) }
+{
+    match quantity {
+        None => quoted_for(alloc, batch, request),
+        Some(quantity) => priced_for(alloc, batch, request, quantity),
+    }
+}
+
+// Why a request is refused by what is told of its market.
 fn refused_by(info: Option<MarketInfo>, request: &QuoteRequest) -> Option<Refusal>
     requires { IfSome info (λ info. info.underlyings ≤ MAX_UNDERLYINGS) }
     ensures { result ≡ first_of (info_refusals info request.now) }
@@ -87,37 +154,41 @@ fn refused_by(info: Option<MarketInfo>, request: &QuoteRequest) -> Option<Refusa
     }
 }
 
-// What is quoted of a market which refuses nothing by what is told of it, or that there are as many batches as there may be.
-fn quote_live(
+// What is told of a market which refuses nothing by what is told of it, or that there are as many batches as there may be.
+fn asked_live(
     alloc: Global,
     exchange: &Exchange,
     request: &QuoteRequest,
+    quantity: Option<u32>,
 ) -> Result<QuotesReply, AllocError>
     requires request { IsRequestWithin request.now }
+    requires quantity { IfSome quantity (λ q. (1 ≤ q) × (q ≤ 1000000)) }
     requires kept { IsKept exchange.now }
     requires told { first_of
         (info_refusals (info_in exchange.now.book request.now.market) request.now) ≡ None }
-    ensures { IfOk result (λ reply. reply ≡ quote_reply exchange.now request.now) }
+    ensures { IfOk result (λ reply. reply ≡ asked_reply exchange.now request.now quantity) }
 {
     match exchange.live(request.market) {
-        Ok(batch) => quoted_for(alloc, &batch, request),
+        Ok(batch) => told_for(alloc, &batch, request, quantity),
         Err(BookRefusal::TooMany) => Ok(QuotesReply::Plain(Refusal::TooMany.reply())),
         // The market is there and trades: what is left is want of memory.
         Err(_) => Err(AllocError),
     }
 }
 
-/// What is quoted, or the first refusal that the request meets.
-pub(crate) fn quote_reply(
+/// What is told, a quote or the prices of so many, or the first refusal that the request meets.
+pub(crate) fn asked_reply(
     alloc: Global,
     exchange: &Exchange,
     request: &QuoteRequest,
+    quantity: Option<u32>,
 ) -> Result<QuotesReply, AllocError>
-    requires { IsRequestWithin request.now }
-    ensures { IfOk result (λ reply. reply ≡ quote_reply exchange.now request.now) }
+    requires request { IsRequestWithin request.now }
+    requires quantity { IfSome quantity (λ q. (1 ≤ q) × (q ≤ 1000000)) }
+    ensures { IfOk result (λ reply. reply ≡ asked_reply exchange.now request.now quantity) }
 {
     match refused_by(exchange.info(request.market), request) {
         Some(refusal) => Ok(QuotesReply::Plain(refusal.reply())),
-        None => quote_live(alloc, exchange, request),
+        None => asked_live(alloc, exchange, request, quantity),
     }
 }

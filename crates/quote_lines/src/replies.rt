@@ -4,12 +4,12 @@ ghost use Rattle.quote_lines.specs.Within.{QuotesBodyIsWithin};
 ghost use Rattle.quote_lines.specs.Replies.{quotes_reply_line, quotes_reply_to};
 
 use crate::bodies::QuotesBody;
-use crate::prices::{QuotedPrice, print_quoted};
-use crate::quoting::quote_reply;
+use crate::prices::{QuotedPrice, print_priced, print_quoted};
+use crate::quoting::asked_reply;
 use exchange_core::{Exchange, Reply};
 use std::alloc::{AllocError, Global};
 
-/// What a line is answered where it may ask for a quote.
+/// What a line is answered where it may ask for something.
 #[derive(Debug, Drop)]
 pub enum QuotesReply {
     /// What a line of a run is answered.
@@ -20,9 +20,16 @@ pub enum QuotesReply {
         bid: QuotedPrice,
         ask: QuotedPrice,
     },
+    /// The prices at which a further buy, and a further sell, of so many of the options would.
+    Priced {
+        market: u32,
+        quantity: u32,
+        ask: QuotedPrice,
+        bid: QuotedPrice,
+    },
 }
 
-/// Takes the exchange one line further: a line of a run as there, and a request for a quote changes nothing.
+/// Takes the exchange one line further: a line of a run as there, and a request changes nothing.
 ///
 /// Want of memory leaves the exchange as it was.
 pub fn reply_to(
@@ -37,7 +44,10 @@ pub fn reply_to(
 {
     match said {
         QuotesBody::Plain(body) => Ok(QuotesReply::Plain(exchange_core::reply_to(exchange, body)?)),
-        QuotesBody::Quote(request) => quote_reply(alloc, exchange, request),
+        QuotesBody::Quote(request) => asked_reply(alloc, exchange, request, None),
+        QuotesBody::Price(request) => {
+            asked_reply(alloc, exchange, &request.quote, Some(request.quantity))
+        }
     }
 }
 
@@ -48,5 +58,11 @@ pub(crate) fn print(alloc: Global, line: u32, reply: &QuotesReply) -> Result<Vec
     match reply {
         QuotesReply::Plain(reply) => reply_print::print(alloc, line, reply),
         QuotesReply::Quoted { market, bid, ask } => print_quoted(alloc, line, *market, *bid, *ask),
+        QuotesReply::Priced {
+            market,
+            quantity,
+            ask,
+            bid,
+        } => print_priced(alloc, line, *market, *quantity, *ask, *bid),
     }
 }

@@ -4,8 +4,8 @@ use Rattle.command_text.specs.Fields.{fields_in, fields_of_line, first_of_many}
 use Rattle.command_text.specs.declared.command.Body.TheVariants.{Syntax}
 use Rattle.command_text.proofs.LongLines.{read_by_first, read_by_none, same_body}
 use Rattle.quote_lines.specs.declared.bodies.QuotesBody.TheVariants.{Plain}
-use Rattle.quote_lines.specs.Bodies.{quotes_body_of_fields}
-use Rattle.quote_lines.proofs.FirstFields.{same_quotes_body}
+use Rattle.quote_lines.specs.Bodies.{said_by}
+use Rattle.quote_lines.proofs.FirstFields.{same_said_by}
 use Rattle.quote_lines.proofs.bodies.request_or_syntax.Goals as goal
 
 pub said-requires : goal.said-requires
@@ -17,9 +17,9 @@ said-requires c =
 
 pub returns-in_ok-first-in-Some : goal.returns-in_ok-first-in-Some
 returns-in_ok-first-in-Some c =
-    read_by_first quotes_body_of_fields (Plain Syntax) same_quotes_body _ _ _ (c.said.ensures ∙ ap (λ fields. quotes_body_of_fields (map (λ f. f.now) fields)) c.deref.ensures.value)
+    read_by_first (said_by c.args.word) (Plain Syntax) (same_said_by c.args.word) _ _ _ (c.said.ensures ∙ ap (λ fields. said_by c.args.word (map (λ f. f.now) fields)) c.deref.ensures.value)
     (ap Some c.in_ok-first-in-Some.ensures ∙ ap (option_map first_of_many) (sym (ap (option_map fields_in) c.in-Some.is) ∙ c.in_ok-fields.ensures))
 
 pub returns-in-None : goal.returns-in-None
 returns-in-None c =
-    read_by_none quotes_body_of_fields (Plain Syntax) _ (ap (option_map first_of_many) (sym (ap (option_map fields_in) c.in-None.is) ∙ c.in_ok-fields.ensures))
+    read_by_none (said_by c.args.word) (Plain Syntax) _ (ap (option_map first_of_many) (sym (ap (option_map fields_in) c.in-None.is) ∙ c.in_ok-fields.ensures))

@@ -21,4 +21,15 @@ returns c = record {
   weight_range = refl;
   last_range = refl;
   weightless = refl;
+  prices = refl;
+  price_of_run = refl;
+  quote_by_price = refl;
+  no_weight_of_price = refl;
+  price_market = refl;
+  price_budget = refl;
+  no_quantity = refl;
+  most_quantity = refl;
+  price_strike = refl;
+  price_weight = refl;
+  weightless_price = refl;
 }
