@@ -222,6 +222,7 @@ class Clearing(unittest.TestCase):
             exchange.market(market=1)
             self.assertEqual(exchange.sell(account=2, market=1, option=put(12), price=4), 1)
             self.assertEqual(exchange.quote(market=1, option=put(12)), (5, "never"))
+            self.assertEqual(exchange.price(market=1, option=put(12)), ("never", 5))
             spread = [(1, call(10)), (-1, call(12))]
             number = exchange.bundle(account=1, market=1, side="buy", legs=spread, price=2)
             self.assertEqual(exchange.balance(account=1), (90, 2))

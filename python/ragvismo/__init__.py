@@ -2,7 +2,7 @@
 
 from ragvismo.cleared import Certificate, Cleared, State
 from ragvismo.clearing import clear, double_auction
-from ragvismo.exchange import Balance, Exchange, Margin, Payout, Quote, Settled
+from ragvismo.exchange import Balance, Exchange, Margin, Payout, Price, Quote, Settled
 from ragvismo.faults import BadJournal, CheckFailed, Ended, NoMeasure, NoProgram, RagvismoError, Refused
 from ragvismo.frames import JournalFrames, read_journal
 from ragvismo.journals import read_batch
@@ -12,7 +12,7 @@ from ragvismo.prices import Distribution, implied_distribution, state_prices
 
 __all__ = [
     *("Certificate", "Cleared", "State", "clear", "double_auction"),
-    *("Balance", "Exchange", "Margin", "Payout", "Quote", "Settled"),
+    *("Balance", "Exchange", "Margin", "Payout", "Price", "Quote", "Settled"),
     *("BadJournal", "CheckFailed", "Ended", "NoMeasure", "NoProgram", "RagvismoError", "Refused"),
     *("JournalFrames", "read_journal", "read_batch"),
     *("Distribution", "implied_distribution", "state_prices", "picture", "save"),

@@ -56,6 +56,17 @@ class Quote(NamedTuple):
     ask: int | Literal["never", "unmarked"]
 
 
+class Price(NamedTuple):
+    """From which price on a further order for so many options would raise the greatest surplus, in ticks, in a trader's words.
+
+    `ask` is the least price at which a further buy would, and `bid` the greatest at which a further sell would. `never` where
+    no price would do, `unmarked` where a clear that would tell it is not optimal, or more than 60 of them are wanted.
+    """
+
+    bid: int | Literal["never", "unmarked"]
+    ask: int | Literal["never", "unmarked"]
+
+
 class Margin(NamedTuple):
     """The least liability, in ticks, that covers what an account's positions in a market owe, and the state (t, s) at which
     they owe it; or `unbounded` with its ray, or `wide` or `budget` without a state."""
@@ -197,8 +208,12 @@ class Exchange:
 
         Each of its at most 43 clears a side has `budget` units."""
         reply = self.ask(_line("quote", market, budget, option.kind, option.strike, *option.weights))
-        bid, ask = (word if word in ("never", "unmarked") else int(word) for word in (reply["bid"], reply["ask"]))
-        return Quote(bid, ask)
+        return Quote(*_prices(reply))
+
+    def price(self, *, market: int, option: Option, quantity: int = 1, budget: int = BUDGET) -> Price:
+        """What the market asks and bids for `quantity` of one option, in a few clears of `budget` units each."""
+        reply = self.ask(_line("price", market, budget, quantity, option.kind, option.strike, *option.weights))
+        return Price(*_prices(reply))
 
     def margin(self, *, account: int, market: int, budget: int = MARGIN_BUDGET) -> Margin:
         """What the positions of an account in a market may owe, within a budget of 1 to 20,000 units."""
@@ -217,6 +232,12 @@ def command_of(order: Order, market: int) -> str:
     legs = [(leg.count, leg.option.kind, leg.option.strike, *leg.option.weights) for leg in order.legs]
     fields = [field for leg in legs for field in leg]
     return _line("bundle", order.account, market, order.side, *about, len(legs), *fields)
+
+
+def _prices(reply: dict[str, Any]) -> tuple[Any, Any]:
+    """The bid and the ask of a reply, each a whole price or a word."""
+    bid, ask = (word if word in ("never", "unmarked") else int(word) for word in (reply["bid"], reply["ask"]))
+    return bid, ask
 
 
 def _line(word: str, *fields: int | str) -> str:

@@ -73,7 +73,7 @@ class Journal:
             self.clear(cleared.read(reply, text))
         elif word == "settled":
             self.settle(reply)
-        elif word not in ("refused", "quoted", "margin"):
+        elif word not in ("refused", "quoted", "priced", "margin"):
             raise ValueError("a reply of another word")
 
     def tell(self, account: int, amount: int, line: int, turn: int) -> None:
