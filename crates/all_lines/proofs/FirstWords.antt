@@ -1,10 +1,10 @@
 -- The first field of a line.
-use Rattle.std.proofs.Common.{◌≡◌, ℕ, List, [], ◌∷◌, ◌==◌, ◌||◌, Bool, true, false, nat_eq, Option, Some, None, if◌then◌else◌, refl, sym, ap, ◌∙◌, subst, inl, inr, arith}
+use Rattle.std.proofs.Common.{◌≡◌, ℕ, List, [], ◌∷◌, ◌==◌, ◌||◌, Bool, true, false, Option, Some, None, if◌then◌else◌, refl, inl, inr}
 use Rattle.std.proofs.lemmas.Bool.{cases_Bool, or_parts}
 use Rattle.std.specs.List.{slice_split}
 use Rattle.std.specs.Option.{option_map, option_map_or}
 use Rattle.std.specs.Str.{bytes_eq}
-use Rattle.command_text.specs.Fields.{field_of, fields_of_line, fields_of_pieces, first_of_many, has_quote, is_readable}
+use Rattle.command_text.specs.Fields.{fields_of_pieces, first_of_many, has_quote, is_readable}
 use Rattle.quote_lines.specs.declared.bodies.AskingWord.{AskingWord}
 use Rattle.quote_lines.specs.declared.bodies.AskingWord.TheVariants.{Quote, Price}
 use Rattle.quote_lines.specs.Bodies.{word_text}
@@ -57,9 +57,9 @@ readable_or_none false fields other = refl
 pub other_line : (line : List ℕ) → may_ask line ≡ false → asking_word line ≡ None
 other_line [] other = readable_or_none (is_readable []) (fields_of_pieces (slice_split is_comma [])) refl
 other_line (b ∷ bs) other =
-    let parts = or_parts (b == 113) ((b == 112) || (b == 34)) other in
-    let rest = or_parts (b == 112) (b == 34) parts.1 in
-    readable_or_none (is_readable (b ∷ bs)) (fields_of_pieces (slice_split is_comma (b ∷ bs))) (other_pieces b bs parts.0 rest.0 rest.1)
+    let parts = or_parts ((b == 113) || (b == 112)) (b == 34) other in
+    let letters = or_parts (b == 113) (b == 112) parts.0 in
+    readable_or_none (is_readable (b ∷ bs)) (fields_of_pieces (slice_split is_comma (b ∷ bs))) (other_pieces b bs letters.0 letters.1 parts.1)
 
 -- the first field is among those that are read
 pub first_read : (fields : List (List ℕ)) → word_in (first_of_many fields) ≡ word_in fields

@@ -4,7 +4,6 @@ use Rattle.std.specs.Option.{option_map_or}
 use Rattle.std.specs.Str.{bytes_eq}
 use Rattle.command_text.specs.Asked.{text_of}
 use Rattle.command_text.specs.Fields.{fields_of_line}
-use Rattle.exchange_core.specs.ExchangeState.{ExchangeState}
 use Rattle.exchange_lines.specs.LineSteps.{LineStep}
 use Rattle.guarded_lines.specs.Output.{IsMarginText, guarded_line}
 use Rattle.quote_lines.specs.declared.bodies.AskingWord.{AskingWord}

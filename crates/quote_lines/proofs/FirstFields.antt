@@ -1,6 +1,5 @@
 -- What a line says does not depend on the fields past those that a command can have, but for the first of them.
 use Rattle.std.proofs.Common.{◌≡◌, ◌<◌, ℕ, List, ◌&&◌, nat_le, length, Err, ap, codes, arith}
-use Rattle.command_text.specs.declared.asked.Asked.{Asked}
 use Rattle.command_text.specs.declared.asked.Fault.TheVariants.{Syntax}
 use Rattle.command_text.specs.Asked.{natural_in}
 use Rattle.command_text.specs.Fields.{first_of_many}
@@ -9,9 +8,9 @@ use Rattle.command_text.proofs.LongLines.{chosen, past}
 use Rattle.quote_lines.specs.declared.bodies.AskingWord.{AskingWord}
 use Rattle.quote_lines.specs.declared.bodies.AskingWord.TheVariants.{Quote, Price}
 use Rattle.quote_lines.specs.declared.bodies.QuotesBody.TheVariants.{Plain}
-use Rattle.quote_lines.specs.declared.requests.TheConstants.{QUANTITY, QUOTE, PRICE}
+use Rattle.quote_lines.specs.declared.requests.TheConstants.{QUANTITY}
 use Rattle.quote_lines.specs.Bodies.{body_of_price, body_of_request, said_by}
-use Rattle.quote_lines.specs.Requests.{option_request, price_request_of, request_of, with_quantity}
+use Rattle.quote_lines.specs.Requests.{price_request_of, request_of, with_quantity}
 
 long_quote : (fields : List (List ℕ)) → 51 < length fields → request_of fields ≡ Err Syntax
 long_quote fields many = chosen (nat_le 6 (length fields) && nat_le (length fields) 13) _ (past (length fields) 6 13 many (omega arith))
