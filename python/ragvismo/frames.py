@@ -5,6 +5,7 @@ from __future__ import annotations
 import gc
 from dataclasses import dataclass
 from fractions import Fraction
+from operator import itemgetter
 from typing import TYPE_CHECKING, Any
 
 from ragvismo import journals
@@ -17,6 +18,8 @@ if TYPE_CHECKING:
 SIZED = set(
     "account batch count filled leg line market number order orders price quantity state strike underlyings units".split()
 )
+ABOUT = ("order", "account", "side", "price", "quantity")
+LEG = ("order", "leg", "count", "kind", "strike", "weights")
 COLUMNS = {
     "batches": "batch line market mark underlyings units orders filled premium liability surplus",
     "orders": "batch market order account side price quantity fill premium",
@@ -123,8 +126,8 @@ class _Reader:
         fills = [self.exact[text] for text in reply["fills"]]
         columns["batch"] += [reply["batch"]] * len(orders)
         columns["market"] += [reply["market"]] * len(orders)
-        for name in ("order", "account", "side", "price", "quantity"):
-            columns[name] += [it[name] for it in orders]
+        for name, cells in zip(ABOUT, zip(*map(itemgetter(*ABOUT), orders))):
+            columns[name] += cells
         columns["fill"] += fills
         columns["premium"] += [
             premium_of(it["side"], fill, it["price"]) for it, fill in zip(orders, fills, strict=True)
@@ -142,10 +145,8 @@ class _Reader:
             counts = [it[2]["count"] for it in legs]
             options = [self.options[tuple(it[2]["form"])] for it in legs]
         columns["batch"] += [reply["batch"]] * len(orders)
-        for name, cells in (("order", orders), ("leg", numbers), ("count", counts)):
+        for name, cells in zip(LEG, (orders, numbers, counts, *zip(*options))):
             columns[name] += cells
-        for at, name in enumerate(("kind", "strike", "weights")):
-            columns[name] += [it[at] for it in options]
 
     def take_batch(self, reply: dict[str, Any]) -> None:
         for number, it in enumerate(states_of(reply.get("certificate", {})), 1):

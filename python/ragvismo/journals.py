@@ -138,10 +138,12 @@ def lines(path: Path) -> Iterator[str]:
 def take_all(path: Path, take: Callable[[dict[str, Any], str], None]) -> None:
     """Takes the replies of a journal one by one, each with its line. Replies of messages are taken out of their answers, each
     once. Raises `BadJournal` where the file cannot be read, or a line is no reply, or its number does not follow."""
-    place, last = 0, 0
+    place, last, decode = 0, 0, json.JSONDecoder().raw_decode
     try:
         for place, text in enumerate(lines(path), 1):
-            answer = json.loads(text)
+            answer, end = decode(text)
+            if text[end:] not in ("\n", ""):
+                raise ValueError("more than one object on a line")
             reply = answer.get("of", answer)
             if reply["reply"] == "gate" or (reply is not answer and reply["line"] <= last):
                 continue
@@ -150,7 +152,7 @@ def take_all(path: Path, take: Callable[[dict[str, Any], str], None]) -> None:
                     f"line {place} of {path} has the number {reply['line']} after {last}: it is no journal of one run"
                 )
             last = reply["line"]
-            take(reply, text.rstrip("\n") if reply is answer else "")
+            take(reply, text[:end] if reply is answer else "")
     except UnicodeDecodeError:
         raise BadJournal(f"{path} is no journal: it is not ASCII") from None
     except FAULTS:

@@ -110,7 +110,8 @@ class FilledOrder(Order):
 
 def premium_of(side: Side, fill: Fraction, price: int) -> int:
     """What an account gains at a clear, in whole ticks: a buyer pays, rounded up, a seller gets, rounded down."""
-    return fill.numerator * (-price if side == "buy" else price) // fill.denominator
+    numerator, denominator = fill.as_integer_ratio()
+    return numerator * (-price if side == "buy" else price) // denominator
 
 
 def buy(option: Option, price: int, quantity: int = 1, *, account: int = 1) -> Order:
