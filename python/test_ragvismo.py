@@ -16,7 +16,7 @@ from fractions import Fraction
 from typing import Any
 
 import ragvismo
-from ragvismo import Batch, Exchange, bundle, buy, call, clear, journals, pictures, program, put, sell
+from ragvismo import Batch, Exchange, bundle, buy, call, clear, clear_many, journals, pictures, program, put, sell
 
 TOP = pathlib.Path(__file__).resolve().parent.parent
 PYTHON = "/usr/bin/python3"
@@ -307,6 +307,17 @@ class Clearing(unittest.TestCase):
                 exec(text.replace("batch.pdf", f"{folder}/batch.pdf"), names)
             self.assertGreater(os.path.getsize(f"{folder}/batch.pdf"), 0)
         self.assertGreater(names["joint"].surplus, names["each"].surplus)
+
+    def test_batches_in_one_exchange(self) -> None:
+        """Cleared one after another, batches end as each does by itself, jointly and each bundle alone."""
+        draw = random.Random(3)
+        batches = [options(draw, 8), Batch([buy(put(0), 6, account=2)]), options(draw, 8)]
+        for mechanism in ("joint", "each"):
+            for batch, found in zip(batches, clear_many(batches, mechanism), strict=True):
+                alone = clear(batch, mechanism)
+                self.assertEqual((found.fills, found.surplus, found.mark), (alone.fills, alone.surplus, alone.mark))
+                found.certificate.check()
+        self.assertEqual(clear_many([]), [])
 
     def test_the_study_in_small_form(self) -> None:
         words = [TOP / "tools/study-strikes", "--batches", "2", "--orders", "12"]

@@ -1,4 +1,4 @@
-"""Clearing a batch by itself: jointly, or each bundle alone."""
+"""Clearing batches by themselves: jointly, or each bundle alone."""
 
 from __future__ import annotations
 
@@ -28,31 +28,57 @@ def clear(
     exchange stands for the cover alone, has the mark `budget` too. `path` names the program, as in `program.find`.
     Raises `Refused` where an order is none of the exchange's, `NoProgram` and `Ended`.
     """
+    return clear_many([batch], mechanism, budget=budget, path=path)[0]
+
+
+def clear_many(
+    batches: Sequence[Batch],
+    mechanism: Mechanism = "joint",
+    *,
+    budget: int = BUDGET,
+    path: str | os.PathLike[str] | None = None,
+) -> list[Cleared]:
+    """Clears batches one after another in one exchange, each as `clear` does by itself, so that batches and orders are
+    numbered on. All are on as many underlyings as the first; their commands have at most 16,777,216 bytes together.
+    Raises as `clear` does."""
     if mechanism not in ("joint", "each"):
         raise ValueError(f"a mechanism is joint or each, not {mechanism!r}")
-    commands = list(_commands(batch, budget if mechanism == "joint" else 1))
+    commands = list(commands_of(batches, budget if mechanism == "joint" else 1))
     lines = program.run("".join(f"{line}\n" for line in commands), path=path).splitlines()
+    found = []
     for command, line in zip(commands, lines, strict=True):
         if '"reply":"refused"' in line:
             reply = json.loads(line)
             raise Refused(command, reply["reason"], reply["number"], reply.get("field"))
-    found = cleared.read(json.loads(lines[-1]), lines[-1], path)
-    return found if mechanism == "joint" or found.mark != "optimal" else _alone(found)
+        if '"reply":"cleared"' in line:
+            found.append(cleared.read(json.loads(line), line, path))
+    return [_alone(it) if mechanism == "each" and it.mark == "optimal" else it for it in found]
 
 
-def _commands(batch: Batch, budget: int) -> Iterator[str]:
-    """The accounts with what their buys need, the market, the orders, and the clear."""
+def commands_of(batches: Sequence[Batch], budget: int = BUDGET) -> Iterator[str]:
+    """The command lines by which batches are cleared: the market, and of each batch the accounts that are new, what its buys
+    need in ticks, its orders, and the clear."""
+    opened: set[int] = set()
+    for number, batch in enumerate(batches):
+        if number == 0:
+            yield f"market,1,{batch.underlyings}"
+        for account, need in _needs(batch).items():
+            if account not in opened:
+                opened.add(account)
+                yield f"open,{account}"
+            for start in range(0, need, GREATEST_DEPOSIT):
+                yield f"deposit,{account},{min(GREATEST_DEPOSIT, need - start)}"
+        for order in batch.orders:
+            yield command_of(order, 1)
+        yield f"clear,1,{budget}"
+
+
+def _needs(batch: Batch) -> dict[int, int]:
+    """What the buys of each account need, in ticks; 0 of one that sells alone."""
     needs: dict[int, int] = defaultdict(int)
     for order in batch.orders:
         needs[order.account] += order.price * order.quantity if order.side == "buy" else 0
-    for account, need in needs.items():
-        yield f"open,{account}"
-        for start in range(0, need, GREATEST_DEPOSIT):
-            yield f"deposit,{account},{min(GREATEST_DEPOSIT, need - start)}"
-    yield f"market,1,{batch.underlyings}"
-    for order in batch.orders:
-        yield command_of(order, 1)
-    yield f"clear,1,{budget}"
+    return needs
 
 
 def double_auction(orders: Sequence[Order]) -> list[int]:
