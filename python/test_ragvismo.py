@@ -319,11 +319,6 @@ class Clearing(unittest.TestCase):
                 found.certificate.check()
         self.assertEqual(clear_many([]), [])
 
-    def test_the_study_in_small_form(self) -> None:
-        words = [TOP / "tools/study-strikes", "--batches", "2", "--orders", "12"]
-        ran = subprocess.run(words, capture_output=True, text=True)
-        self.assertEqual((ran.returncode, ran.stdout.count("2 optimal |"), ran.stderr), (0, 7, ""))
-
     def test_the_readme_and_the_tour(self) -> None:
         text = (TOP / "python/README.md").read_text()
         session, printed = re.search(r"```python\n(.*?)```\n\n```\n(.*?)```", text, re.S).groups()
@@ -347,10 +342,19 @@ class Clearing(unittest.TestCase):
 class Style(unittest.TestCase):
     @wants("mypy")
     def test_types(self) -> None:
+        studies = sorted(it for it in (TOP / "studies").glob("*.py") if it.stem != "test_studies")
         with tempfile.TemporaryDirectory() as kept:
-            words = [PYTHON, "-m", "mypy", "--cache-dir", kept, "ragvismo"]
+            words = [PYTHON, "-m", "mypy", "--cache-dir", kept, "ragvismo", *studies]
             ran = subprocess.run(words, cwd=TOP / "python", capture_output=True, text=True)
         self.assertEqual(ran.returncode, 0, ran.stdout)
+
+    @wants("black")
+    def test_format(self) -> None:
+        words = [PYTHON, "-m", "black", "--quiet", "--check", "--config"]
+        for folder in (TOP / "python", TOP / "studies"):
+            files = [it for it in folder.rglob("*.py") if "build" not in it.parts]
+            ran = subprocess.run([*words, folder / "pyproject.toml", *files], capture_output=True)
+            self.assertEqual((ran.returncode, ran.stderr), (0, b""), folder)
 
 
 if __name__ == "__main__":
