@@ -1,5 +1,5 @@
 -- What is written, part by part and line by line.
-use Rattle.std.proofs.Common.{◌≡◌, ℕ, ◌+◌, ◌<◌, List, [], ◌∷◌, ◌++◌, length, drop, take, take-append-drop, get_or, Option, Result, Ok, Err, OnErr, sym, ap, subst, ◌∙◌, append_assoc, length-append, refl, arith}
+use Rattle.std.proofs.Common.{◌≡◌, ℕ, ◌+◌, ◌<◌, List, [], ◌∷◌, ◌++◌, length, drop, take, take-append-drop, get_or, Option, sym, ap, subst, ◌∙◌, append_assoc, length-append, refl, arith}
 use Rattle.std.proofs.lemmas.List.{drop_more, take_at}
 use Rattle.std.proofs.KnownBytes.{Appends-nil, Appends-trans}
 use Rattle.std.specs.Io.KnownBytes.{Appends}
@@ -53,7 +53,3 @@ module _ (i : ℕ) (reply : Replies) (served : Served) (lines : List NumberedLin
   pub line_cut : (old now new : Option (List ℕ)) (all : List ℕ) → HasWritten old now all (answers_text (answers_from reply served (drop i lines)))
       → AppendsFront now new (line_text (answer_in reply served line)) → AppendsFront old new all
   line_cut old now new all h adds = text_cut old now new all (line_text (answer_in reply served line)) (answers_text (answers_from reply served (drop i lines))) _ h adds answers_from-line
-
-pub on_err : {T E : Type 0} (r : Result T E) (P : Type 0) → P → OnErr r P
-on_err (Ok x) P p = tt
-on_err (Err e) P p = p

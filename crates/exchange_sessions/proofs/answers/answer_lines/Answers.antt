@@ -3,7 +3,8 @@ use Rattle.std.proofs.lemmas.List.{get_or-map, length-map}
 use Rattle.session_gate.specs.Runs.{with_bodies}
 use Rattle.session_lines.specs.Lines.{line_of}
 use Rattle.exchange_sessions.specs.declared.lines.SentLine.{SentLine}
-use Rattle.exchange_sessions.proofs.Written.{line_written, line_cut, on_err}
+use Rattle.live_lines.proofs.Fronts.{on_err}
+use Rattle.exchange_sessions.proofs.Written.{line_written, line_cut}
 use Rattle.exchange_sessions.proofs.answers.answer_lines.Goals as goal
 
 pub returns-in_err-answer_line-clause-front : goal.returns-in_err-answer_line-clause-front

@@ -2,7 +2,8 @@ use Rattle.std.proofs.Common.{◌≡◌, [], ◌++◌, refl, sym, subst, append-
 use Rattle.std.specs.Io.KnownBytes.{Appends}
 use Rattle.port_io.specs.Writes.{AppendsFront}
 use Rattle.session_lines.specs.Texts.{accepted_text, accepted_head, accepted_tail}
-use Rattle.exchange_sessions.proofs.Written.{none_written, more_written, text_cut, on_err}
+use Rattle.live_lines.proofs.Fronts.{on_err}
+use Rattle.exchange_sessions.proofs.Written.{none_written, more_written, text_cut}
 use Rattle.exchange_sessions.proofs.answers.write_accepted.Goals as goal
 
 pub returns-in_err-write_all-clause-front : goal.returns-in_err-write_all-clause-front
