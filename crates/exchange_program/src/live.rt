@@ -36,6 +36,7 @@ fn answer_by<A: LineAnswers + Drop, S: Source, K: Sink>(
     source: &mut S,
     sink: &mut K,
 ) -> Status
+    requires { A.stands 1 answers }
     ensures served { ServedBy A.step skips answers result (record {
       left = S.left source.old;
       still = S.left source.new;

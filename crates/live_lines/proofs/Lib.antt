@@ -6,5 +6,6 @@ pub mod Outputs
 pub mod Pieces
 pub mod Places
 pub mod Serves
+pub mod Standing
 pub mod Takes
 pub mod Within

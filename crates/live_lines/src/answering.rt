@@ -1,9 +1,9 @@
 // The answers to the lines that bytes complete.
-ghost use Rattle.std.specs.Prelude.{◌≡◌, ◌<◌, ◌++◌, ℕ, List, length, IfOk, OnErr, OnOk};
+ghost use Rattle.std.specs.Prelude.{◌≡◌, ◌≤◌, ◌<◌, ◌++◌, ℕ, List, length, IfOk, OnErr, OnOk};
 ghost use Rattle.std.specs.Io.KnownBytes.{Appends};
 ghost use Rattle.port_io.specs.Faults.{Rose};
 ghost use Rattle.port_io.specs.Writes.{AppendsFront};
-ghost use Rattle.live_lines.specs.Open.{IsOneLine, line_text};
+ghost use Rattle.live_lines.specs.Open.{IsOneLine, count_limit, line_text};
 ghost use Rattle.live_lines.specs.Output.{answer_to};
 ghost use Rattle.live_lines.specs.Turns.{Turned};
 
@@ -23,6 +23,8 @@ pub(crate) fn add_answer<A: LineAnswers>(
     line: &OpenLine,
     replies: &mut Vec<u8>,
 ) -> Result<(), AllocError>
+    requires few { 0 < length line.now.rest → line.now.number ≤ count_limit }
+    requires next { A.stands line.now.number answers.old }
     ensures text { OnOk result (replies.new.items ≡ replies.old.items
         ++ (answer_to A.step line.now.number answers.old
         (line_text line.now.skips line.now.number line.now.rest)).0) }
@@ -49,6 +51,7 @@ pub(crate) fn take_line<A: LineAnswers>(
 ) -> Result<Option<usize>, AllocError>
     requires some { 0 < length bytes.now }
     requires one_line { IsOneLine line.old.rest }
+    requires next { A.stands line.old.number answers.old }
     ensures { IfOk result (λ used. Turned A.step answers.old line.old answers.new line.new
         bytes.now replies.old.items replies.new.items used) }
 {

@@ -43,7 +43,8 @@ impl<A: LineAnswers> Live<A> {
         piece: &[u8],
         sink: &mut K,
     ) -> Result<(), LiveStop>
-        requires { IsOpenWithin self.old.line }
+        requires within { IsOpenWithin self.old.line }
+        requires next { A.stands self.old.line.number self.old.answers }
         ensures ok { OnOk result ((text : List ℕ)
             × Appends (K.written sink.old) (K.written sink.new) text
             × Took A.step self.old.answers self.old.line self.new.answers self.new.line
@@ -77,6 +78,8 @@ impl<A: LineAnswers> Live<A> {
 
     /// Answers the line that is left at the end of the input.
     pub fn finish<K: Sink>(&mut self, alloc: Global, sink: &mut K) -> Result<(), LiveStop>
+        requires within { IsOpenWithin self.old.line }
+        requires next { A.stands self.old.line.number self.old.answers }
         ensures ok { OnOk result (Appends (K.written sink.old) (K.written sink.new)
             (last_answer A.step self.old.answers self.old.line)) }
         ensures calm { OnOk result (K.faults sink.new ≡ K.faults sink.old) }

@@ -4,4 +4,5 @@ pub mod Lines
 pub mod Messages
 pub mod Served
 pub mod Sessions
+pub mod Standing
 pub mod Texts

@@ -1,16 +1,18 @@
 // The messages of sessions, each answered as a line.
-ghost use Rattle.std.specs.Prelude.{◌≡◌, ◌<◌, ◌==◌, false, length, IfOk, IsTrue, OnOk, Some};
+ghost use Rattle.std.specs.Prelude.{◌≡◌, ◌<◌, ◌+◌, ◌==◌, false, length, IfOk, IsTrue, OnOk, Some};
 ghost use Rattle.std.specs.List.{list_any};
 ghost use Rattle.session_gate.specs.Bodies.{is_body};
 ghost use Rattle.session_gate.specs.Gate.{IsNumber, message_of};
+ghost use Rattle.session_gate.specs.declared.limits.TheConstants.{MAX_BODIES};
 ghost use Rattle.session_lines.specs.Answers.{kept_reply};
 ghost use Rattle.session_lines.specs.Served.{without_feed};
 ghost use Rattle.session_lines.specs.Sessions.{after_answered, after_message, new_sessions, said_step, session_step};
+ghost use Rattle.session_lines.specs.Standing.{StandsBefore, stands_behind};
 
 use crate::messages::{Sent, message};
 use crate::texts::{print_malformed, print_told};
 use live_lines::LineAnswers;
-use session_gate::{Answer, Gate, MAX_BODIES};
+use session_gate::{Answer, Gate};
 use std::alloc::{AllocError, Global};
 use std::marker::Model;
 
@@ -61,15 +63,13 @@ impl<A: LineAnswers> SessionLines<A> {
 
     // Has the body of a message answered, and keeps the reply.
     fn take(&mut self, alloc: Global, sent: &Sent) -> Result<(), AllocError>
+        requires few { self.old.0.served < MAX_BODIES }
+        requires next { A.stands (self.old.0.served + 1) self.old.1 }
         requires number { IsNumber sent.now.number }
         requires body { IsTrue (is_body sent.now.body.now) }
         ensures { OnOk result (self.new ≡ after_answered A.step self.old
             (message_of sent.now.session sent.now.number sent.now.body.now)) }
     {
-        // Not reached between two reads: there are no more bodies than lines.
-        if self.gate.served() >= MAX_BODIES {
-            return Err(AllocError);
-        }
         let text = self
             .bodies
             .answer(alloc, self.gate.served() + 1, sent.body)?;
@@ -84,6 +84,8 @@ impl<A: LineAnswers> SessionLines<A> {
         line: u32,
         sent: &Sent,
     ) -> Result<Vec<u8>, AllocError>
+        requires few { self.old.0.served < MAX_BODIES }
+        requires next { A.stands (self.old.0.served + 1) self.old.1 }
         requires number { IsNumber sent.now.number }
         requires body { IsTrue (is_body sent.now.body.now) }
         ensures { IfOk result (λ text. (text.items, self.new) ≡ said_step A.step line self.old
@@ -106,10 +108,14 @@ impl<A: LineAnswers> SessionLines<A> {
 impl<A: LineAnswers> LineAnswers for SessionLines<A> {
     ghost step = { session_step A.step };
 
+    ghost stands = { StandsBefore A.stands };
+
     fn answer(&mut self, alloc: Global, number: u32, line: &[u8]) -> Result<Vec<u8>, AllocError> {
         match message(line) {
             Some(sent) => self.answer_message(alloc, number, &sent),
             None => Ok(print_malformed(alloc, number)?.into_bytes()),
         }
     }
+
+    ghost goes_on = { stands_behind A.step A.stands A.goes_on };
 }

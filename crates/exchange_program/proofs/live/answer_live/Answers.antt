@@ -1,4 +1,4 @@
-use Rattle.std.proofs.Common.{true, false, sym, ap, subst, ◌∙◌}
+use Rattle.std.proofs.Common.{true, false, sym, ap, subst, ◌∙◌, arith}
 use Rattle.std.specs.Prelude.{IfSome}
 use Rattle.port_io.specs.Writes.{AppendsFront}
 use Rattle.all_lines.specs.Output.{all_line}
@@ -8,6 +8,9 @@ use Rattle.program_words.specs.declared.requests.Served.{Served}
 use Rattle.session_lines.specs.Sessions.{SessionsState, new_sessions, session_step}
 use Rattle.exchange_program.specs.Live.{served_output}
 use Rattle.exchange_program.proofs.live.answer_live.Goals as goal
+
+pub answer_by-requires-in-Sessions : goal.answer_by-requires-in-Sessions
+answer_by-requires-in-Sessions g c = (omega (arith, ap (λ (s : SessionsState ExchangeState). s.0.served) c.new-messages.ensures), tt)
 
 pub returns-in-Lines-clause-front : goal.returns-in-Lines-clause-front
 returns-in-Lines-clause-front g c = λ which.

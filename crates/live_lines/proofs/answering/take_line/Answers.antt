@@ -17,6 +17,14 @@ returns-then-number-gt-MAX_LINES g c = (search rules, too_many _ _ _ _ (omega ar
 pub add-requires : goal.add-requires
 add-requires g c = front_one _ _ c.in-Some.ensures
 
+-- the number of the line is as it was
+pub add_answer-requires-clause-few : goal.add_answer-requires-clause-few
+add_answer-requires-clause-few g c = λ some. omega (arith, ap (λ (l : Open). l.number) c.in_ok-add-in-Some.ensures)
+
+pub add_answer-requires-clause-next : goal.add_answer-requires-clause-next
+add_answer-requires-clause-next g c =
+    subst (λ n. g.A.LineAnswers.stands n c.args.answers.now) (sym (ap (λ (l : Open). l.number) c.in_ok-add-in-Some.ensures)) c.requires.next
+
 -- the test says so
 unfit : (P Q : Type 0) → (P → Q) × (Q → P) → ¬ P → ¬ Q
 unfit P Q both fails q = fails (both.1 q)

@@ -2,6 +2,7 @@ use Rattle.std.proofs.Common.{length, sym, subst, arith}
 use Rattle.live_lines.specs.Serving.{Came}
 use Rattle.live_lines.specs.Taken.{IsOpenWithin}
 use Rattle.live_lines.proofs.Serves.{came_more, came_none, counts_of, ends_after, known_of, open_within, smaller}
+use Rattle.live_lines.proofs.Standing.{took_stands}
 use Rattle.live_lines.proofs.serving.answer_reads.Goals as goal
 
 pub reads-init : goal.reads-init
@@ -17,6 +18,10 @@ reads-init g c =
 
 pub turn-requires-clause-within : goal.turn-requires-clause-within
 turn-requires-clause-within g c = c.reads.invariant.took.open_within
+
+pub turn-requires-clause-next : goal.turn-requires-clause-next
+turn-requires-clause-next g c =
+    took_stands g.A.LineAnswers.step g.A.LineAnswers.stands g.met.A.LineAnswers.goes_on _ _ _ _ _ _ c.reads.invariant.took c.requires.first
 
 pub returns-in-Some : goal.returns-in-Some
 returns-in-Some g c =

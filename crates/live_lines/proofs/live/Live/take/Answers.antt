@@ -3,7 +3,12 @@ use Rattle.std.specs.Io.KnownBytes.{Appends}
 use Rattle.port_io.specs.Writes.{AppendsFront}
 use Rattle.live_lines.proofs.Fronts.{on_err, whole_front}
 use Rattle.live_lines.proofs.Pieces.{no_more, one_more, some_front, stopped_front, stopped_told, wrote_more}
+use Rattle.live_lines.proofs.Standing.{took_stands}
 use Rattle.live_lines.proofs.live.Live.take.Goals as goal
+
+pub take_line-requires-clause-next : goal.take_line-requires-clause-next
+take_line-requires-clause-next g c =
+    took_stands g.A.LineAnswers.step g.A.LineAnswers.stands g.met.A.LineAnswers.goes_on _ _ _ _ _ _ c.loop-start.invariant.answered.took c.requires.next
 
 pub returns-in_err-taken-clause-front : goal.returns-in_err-taken-clause-front
 returns-in_err-taken-clause-front g c =

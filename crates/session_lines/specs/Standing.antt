@@ -1,0 +1,35 @@
+-- Before a line of an input: there were fewer bodies than lines.
+use Rattle.std.proofs.Common.{◌<◌, ℕ, ◌+◌, List, Option, None, Some, arith}
+use Rattle.session_gate.specs.declared.answer.Answer.{Answer}
+use Rattle.session_gate.specs.declared.answer.Answer.TheVariants.{First, Repeat, Old, Ahead, Changed, Sessions}
+use Rattle.session_gate.specs.Answers.{answer_to}
+use Rattle.session_gate.specs.Gate.{Message}
+use Rattle.session_lines.specs.Messages.{message_in}
+use Rattle.session_lines.specs.Sessions.{SessionsState, after_as, said_step, session_step}
+
+-- before the line of this number, where what answers the bodies stands before the next body
+abbrev pub StandsBefore : {S : Type 0} → (ℕ → S → Type 0) → ℕ → SessionsState S → Type 0
+StandsBefore stands number state = (state.0.served < number) × stands (state.0.served + 1) state.1
+
+module _ {S : Type 0} (step : ℕ → S → List ℕ → List ℕ × S) (stands : ℕ → S → Type 0)
+    (on : (number : ℕ) (state : S) → stands number state → stands (number + 1) state × ((line : List ℕ) → stands (number + 1) (step number state line).1))
+    (number : ℕ) (state : SessionsState S) (h : StandsBefore stands number state) where
+  -- no body more
+  none_more : StandsBefore stands (number + 1) state
+  none_more = (omega (arith, h.0), h.1)
+
+  behind_answer : (message : Message) (answer : Answer) → StandsBefore stands (number + 1) (after_as step answer state message)
+  behind_answer message First = (omega (arith, h.0), (on (state.0.served + 1) state.1 h.1).1 message.body)
+  behind_answer message Repeat = none_more
+  behind_answer message (Old expected) = none_more
+  behind_answer message (Ahead expected) = none_more
+  behind_answer message (Changed expected) = none_more
+  behind_answer message Sessions = none_more
+
+  behind_said : (said : Option Message) → StandsBefore stands (number + 1) (said_step step number state said).1
+  behind_said None = none_more
+  behind_said (Some message) = behind_answer message (answer_to state.0 message)
+
+  -- behind a line, empty or answered
+  pub stands_behind : StandsBefore stands (number + 1) state × ((line : List ℕ) → StandsBefore stands (number + 1) (session_step step number state line).1)
+  stands_behind = (none_more, λ line. behind_said (message_in line))
