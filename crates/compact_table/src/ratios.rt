@@ -9,7 +9,7 @@ ghost use Rattle.compact_table.specs.Lists.{fronts};
 use crate::candidate::{Candidate, with_ratio};
 use crate::entries::quotient;
 use exact_num::{Exact, Wide};
-use row_arena::RowArena;
+use lists::RowArena;
 
 /// The right side over the entry at h, where that is above 0.
 fn ratio<N: Exact>(entries: &[N], columns: usize, h: usize) -> Result<Option<N>, Wide>

@@ -9,7 +9,7 @@ ghost use Rattle.compact_table.specs.Nonzero.{nonzero_places};
 use crate::entries::list_nonzero;
 use crate::row::{clear_column, take_pivot};
 use exact_num::{Exact, Wide};
-use row_arena::RowArena;
+use lists::RowArena;
 
 /// The row that leaves becomes the pivot row.
 fn take_front<N: Exact>(row: &mut [N], width: usize, h: usize, k: usize) -> Result<(), Wide>

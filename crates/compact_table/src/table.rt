@@ -15,8 +15,7 @@ use crate::ratios::leaving;
 use crate::room::{turn_signs, write_numbers};
 use crate::rows::turn_rows;
 use exact_num::{Exact, Wide};
-use lists::{push_within, write_front, write_items};
-use row_arena::RowArena;
+use lists::{RowArena, push_within, write_front, write_items};
 use std::alloc::{AllocError, Global};
 
 /// A table that keeps, row by row, the entries of the columns that are not basic and the right side

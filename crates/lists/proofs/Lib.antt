@@ -1,0 +1,11 @@
+pub mod ArenaRoom
+pub mod Cuts
+pub mod Fields
+pub mod Lists
+pub mod Loans
+pub mod Pairs
+pub mod Rows
+pub mod Sharing
+pub mod Steps
+pub mod Views
+pub mod Walks

@@ -7,7 +7,7 @@ ghost use Rattle.whole_rows.specs.Turning.{whole_ratios};
 ghost use Rattle.whole_solver.specs.Choices.{as_ratio};
 ghost use Rattle.whole_solver.specs.Rows.{beside_basics, column_in, lines_in, nonzero_in};
 
-use row_arena::RowArena;
+use lists::RowArena;
 use std::cmp::Ordering;
 
 /// A row that limits the entering variable: its place, its basic variable, and the two numbers of

@@ -9,7 +9,7 @@ ghost use Rattle.whole_solver.specs.Rows.{AreLinesIn, AreSizesIn, IsPivot, IsTur
 use crate::divisor::{common_short, divide_numbers};
 use crate::line::{Known, Pivot, clear_line, list_nonzero, list_place, size_of};
 use crate::objective::{clear_wide_line, wide_size_to_mix};
-use row_arena::RowArena;
+use lists::RowArena;
 
 /// Brings the line of so many numbers at the front of the row to lowest terms.
 fn cut_front(row: &mut [i64], width: usize)

@@ -19,8 +19,7 @@ use crate::rows::{Step, list_column, turn_rows};
 use crate::turn::Turn;
 use compact_table::room::write_numbers;
 use exact_num::Exact;
-use lists::push_within;
-use row_arena::RowArena;
+use lists::{RowArena, push_within};
 use sparse_program::SparseProgram;
 use std::alloc::{AllocError, Global};
 

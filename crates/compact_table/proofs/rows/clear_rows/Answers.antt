@@ -3,7 +3,7 @@ use Rattle.std.specs.Prelude.{Ok}
 use Rattle.std.proofs.lemmas.Result.{err_from_is_err_and}
 use Rattle.compact_run.specs.Turn.{short_cleared}
 use Rattle.compact_table.specs.Lists.{front}
-use Rattle.row_arena.proofs.Lists.{refit_is}
+use Rattle.lists.proofs.Lists.{refit_is}
 use Rattle.compact_table.proofs.ArenaSteps.{cleared_more, cleared_stop, cleared_end, at_pivot, at_other, set_here, any_default, at_set_other}
 use Rattle.compact_table.proofs.rows.clear_rows.Goals.{then-i-r+in_ok-clear_front, else-i-r}
 use Rattle.compact_table.proofs.rows.clear_rows.Goals as goal

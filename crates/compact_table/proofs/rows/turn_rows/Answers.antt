@@ -4,7 +4,7 @@ use Rattle.std.proofs.lemmas.Result.{err_from_is_err_and}
 use Rattle.std.proofs.lemmas.List.{map-set}
 use Rattle.exact_num.specs.Fits.{after}
 use Rattle.compact_run.specs.Turn.{short_divided, short_cleared}
-use Rattle.row_arena.proofs.Lists.{refit_is}
+use Rattle.lists.proofs.Lists.{refit_is}
 use Rattle.compact_table.specs.Lists.{front, lists_after}
 use Rattle.compact_table.proofs.ArenaSteps.{at_set_same, at_fronts, turned_is, beside}
 use Rattle.compact_table.proofs.rows.turn_rows.Goals as goal

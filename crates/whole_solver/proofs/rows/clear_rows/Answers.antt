@@ -1,5 +1,5 @@
 use Rattle.std.proofs.Common.{◌≡◌, ◌+◌, ◌<◌, [], ◌∙◌, refl, sym, ap, subst, arith, length, length-set, set, slice_index_or, ℕ, List, ℤ}
-use Rattle.row_arena.proofs.Lists.{refit_is}
+use Rattle.lists.proofs.Lists.{refit_is}
 use Rattle.compact_table.proofs.ArenaSteps.{at_set_other}
 use Rattle.whole_rows.specs.Lines.{AreSizes, IsLine}
 use Rattle.whole_rows.specs.Compact.{compact_cleared}

@@ -1,6 +1,6 @@
 use Rattle.std.proofs.Common.{◌≡◌, ◌∙◌, [], refl, sym, ap, arith, rules, length, length-set, set, slice_index_or, pos, unsigned_abs, FitsSigned, w64, ℕ, List, ℤ}
 use Rattle.std.proofs.lemmas.Int.{to_z-of_z}
-use Rattle.row_arena.proofs.Lists.{refit_is}
+use Rattle.lists.proofs.Lists.{refit_is}
 use Rattle.compact_table.proofs.ArenaSteps.{at_set_same}
 use Rattle.whole_rows.specs.Lines.{Line, number_at}
 use Rattle.whole_rows.specs.Turning.{cut}

@@ -1,0 +1,21 @@
+-- A `&` to a block reaches each number. Assumes `Logic`.
+use mathlib.Core.List.{[], ◌++◌}
+use base.Fml.{Incl-trans}
+use contract.BorrowLft.{meet_⊑_left}
+use denote.RattleType.{RattleType}
+use denote.Param.Laws.{Laws}
+use denote.Param.Shared.{copy_shared}
+use denote.Struct.Field.{RawPtr-field}
+use denote.Struct.Laws.{RawPtr-copy, field_copy}
+use denote.Struct.Lending.{of_Lends}
+use Rattle.std.specs.declared.alloc.Allocator.{Ghosts}
+use Rattle.std.specs.contracts.marker.PhantomData as marker
+use Rattle.lists.specs.contracts.block.Block as C
+use Rattle.lists.proofs.block.Block.TheLaw.Statement.{statement}
+use Rattle.lists.proofs.Sharing.{block_lent_laws, Lends-block}
+
+pub shares : (R A : RattleType) (g : Ghosts A.Denot) (L : Laws R) (K : Laws A) → statement R A g L K
+shares R A g L K =
+    of_Lends (C.struct R A g) (C.the_codes R.Denot A.Denot R.coded A.coded (marker.the_row A).coded) (C.the_heap R A g) (C.the_lent R A g) (λ d p. block_lent_laws R L.shr_laws d.ptr d.numbers d.spare)
+    (copy_shared RawPtr-field RawPtr-copy, (copy_shared (marker.the_field A) (field_copy (marker.the_type A) tt), tt))
+    (λ M 𝓤 𝓛 d p. Lends-block 𝓛 (C.the_row R A g).lives R L (Incl-trans (meet_⊑_left (R.lives ++ (A.lives ++ [])) _) (meet_⊑_left R.lives (A.lives ++ []))) (g.dealloc_token d.alloc) d.ptr d.numbers d.spare)
