@@ -63,4 +63,18 @@ impl Kept {
             None => None,
         }
     }
+
+    /// What is kept, whatever the orders. Takes no memory.
+    pub fn best(&self) -> Option<&Best>
+        ensures { option_copied result ≡ self.now }
+    {
+        self.best.as_ref()
+    }
+
+    /// Takes out what is kept, whatever the orders. Takes no memory.
+    pub fn into_best(self) -> Option<Best>
+        ensures { result ≡ self }
+    {
+        self.best
+    }
 }

@@ -74,17 +74,17 @@ operator_plain operator.Mul = refl
 operator_plain operator.Div = refl
 operator_plain operator.Whole = refl
 
-refused_plain : (b : Bool) (line number place : ℕ) (reason : List ℕ) → is_plain reason ≡ true → HasPlainTexts (refused_with b line number place reason)
+pub refused_plain : (b : Bool) (line number place : ℕ) (reason : List ℕ) → is_plain reason ≡ true → HasPlainTexts (refused_with b line number place reason)
 refused_plain true line number place reason r = (refl, tt, (refl, tt, (refl, tt, (refl, r, (refl, refl, tt)))))
 refused_plain false line number place reason r = (refl, tt, (refl, tt, (refl, r, (refl, refl, tt))))
 
 paid_plain : (paid : PaidOut) → HasPlainTexts (paid_piece paid)
 paid_plain paid = (refl, tt, (refl, plain-signed_decimal (signed_amount paid.side paid.amount), (refl, tt, (refl, tt, tt))))
 
-leg_plain : (leg : Leg) → HasPlainTexts (leg_piece leg)
+pub leg_plain : (leg : Leg) → HasPlainTexts (leg_piece leg)
 leg_plain leg = (refl, tt, (refl, wholes_plain (option_of leg.form), tt))
 
-order_plain : (single : Bool) (legs : List Leg) (order : Order) → HasPlainTexts (order_with single legs order)
+pub order_plain : (single : Bool) (legs : List Leg) (order : Order) → HasPlainTexts (order_with single legs order)
 order_plain true [] order = (refl, tt, (refl, tt, (refl, tt, (refl, tt, (refl, side_plain order.side, tt)))))
 order_plain true (leg ∷ legs) order = (refl, tt, (refl, wholes_plain (option_of leg.form), (refl, tt, (refl, tt, (refl, tt, (refl, side_plain order.side, tt))))))
 order_plain false legs order = (refl, tt, (refl, each_plain leg_piece leg_plain legs, (refl, tt, (refl, tt, (refl, tt, (refl, side_plain order.side, tt))))))
@@ -136,7 +136,7 @@ middle_plain : (mark : Mark) (single : Bool) (line market : ℕ) (batch : Batch)
 middle_plain mark single line market batch outcome =
     (refl, each_plain fraction fraction_plain outcome.fills, (refl, fraction_plain outcome.claim.liability, (refl, tt, (refl, word_plain mark, (refl, tt, end_plain batch outcome mark single)))))
 
-certificate_plain : (cover : Cover) (measure : Measure) → HasPlainTexts (certificate_piece cover measure)
+pub certificate_plain : (cover : Cover) (measure : Measure) → HasPlainTexts (certificate_piece cover measure)
 certificate_plain cover measure = (refl, cover_plain cover, (refl, each_plain point_piece point_plain measure.points, tt))
 
 cleared_plain : (mark : Mark) (single : Bool) (line number market : ℕ) (batch : Batch) (outcome : Outcome) → HasPlainTexts (cleared_with mark single line number market batch outcome)

@@ -74,7 +74,7 @@ refused_written line number place reason false l n f r =
 
 -- ---- cleared lines
 
-fills_written : (xs : List Frac128) → AreWritten 4 (pieces_of fraction xs)
+pub fills_written : (xs : List Frac128) → AreWritten 4 (pieces_of fraction xs)
 fills_written [] = tt
 fills_written (x ∷ xs) = (fraction_plain x, fills_written xs)
 
@@ -103,10 +103,10 @@ IsLegWithin leg = IsCounted leg × IsListed (option_of leg.form)
 pub legs_within : (bundle : Bundle) → All (λ (leg : Leg). IsListed (option_of leg.form)) (legs_in bundle) → AllByRecursion IsLegWithin (legs_in bundle)
 legs_within bundle h = from_all IsLegWithin (legs_in bundle) (λ k d lt. (bundle.counted k d lt, h k d lt))
 
-leg_written : (leg : Leg) → IsLegWithin leg → IsWritten 2 (leg_piece leg)
+pub leg_written : (leg : Leg) → IsLegWithin leg → IsWritten 2 (leg_piece leg)
 leg_written leg h = (refl, (refl, count_short leg.count h.0.1, (refl, form_written 0 leg.form h.1, tt)))
 
-order_written : (single : Bool) (legs : List Leg) (order : Order) → AllByRecursion IsLegWithin legs → IsOrderWithin order → IsWritten 4 (order_with single legs order)
+pub order_written : (single : Bool) (legs : List Leg) (order : Order) → AllByRecursion IsLegWithin legs → IsOrderWithin order → IsWritten 4 (order_with single legs order)
 order_written true [] order l h =
     (refl, (refl, short order.account (omega arith), (refl, short order.id (omega arith), (refl, short order.price (omega (arith, h.2.price)), (refl, short order.quantity (omega (arith, h.2.quantity)), (refl, side_plain order.side, tt))))))
 order_written true (leg ∷ legs) order l h =
@@ -116,7 +116,7 @@ order_written false legs order l h =
 
 -- ---- certificates
 
-point_written : (point : Weighted) → IsPointWithin point → IsWritten 3 (point_piece point)
+pub point_written : (point : Weighted) → IsPointWithin point → IsWritten 3 (point_piece point)
 point_written point h = (refl, (refl, each_written IsSmall 1 whole_words (λ z small. plain-signed_decimal z) (state_entries point.state) h, (refl, fraction_plain point.weight, tt)))
 
 multiplier_written : (m : Multiplier) → IsPlace m.place → IsWritten 1 (multiplier_piece m)
@@ -145,7 +145,7 @@ cover_written : (cover : Cover) → IsCoverWithin cover → IsWritten 4 (cover_p
 cover_written Line h = refl
 cover_written (Tree tree) h = nodes_written tree.nodes tree.multipliers h.0 h.1
 
-certificate_written : (cover : Cover) (measure : Measure) → IsCoverWithin cover → AllByRecursion IsPointWithin measure.points → IsWritten 5 (certificate_piece cover measure)
+pub certificate_written : (cover : Cover) (measure : Measure) → IsCoverWithin cover → AllByRecursion IsPointWithin measure.points → IsWritten 5 (certificate_piece cover measure)
 certificate_written cover measure c m = (refl, (refl, cover_written cover c, (refl, each_written IsPointWithin 3 point_piece point_written measure.points m, tt)))
 
 wide_written : (w : Wide) → IsWritten 5 (wide_piece w)

@@ -9,6 +9,7 @@ ghost use Rattle.reply_print.specs.PieceData.{piece_data, fields_data};
 ghost use Rattle.reply_print.specs.CertificateMember.{with_certificate};
 ghost use Rattle.reply_print.specs.ReplyPieces.{cleared_end, cleared_middle, cleared_piece};
 
+use crate::members::{with, with_number, with_words};
 use crate::order_values::{fills_value, fraction_value, is_version_1, orders_value};
 use crate::outcome_values::{certificate_value, wide_value};
 use crate::words::mark;
@@ -21,45 +22,6 @@ fn version(single: bool) -> u32
     ensures { result ≡ version_of single }
 {
     if single { 1 } else { 2 }
-}
-
-// A member at its place by its key.
-fn with(
-    alloc: Global,
-    mut map: Map<String, Value>,
-    key: &str,
-    value: Value,
-) -> Result<Map<String, Value>, AllocError>
-    ensures { IfOk result (λ m. members_view m.entries
-        ≡ put key.now (view value) (members_view map.entries)) }
-{
-    serde_json::put(&mut map, alloc, key, value)?;
-    Ok(map)
-}
-
-fn with_number(
-    alloc: Global,
-    map: Map<String, Value>,
-    key: &str,
-    n: u32,
-) -> Result<Map<String, Value>, AllocError>
-    ensures { IfOk result (λ m. members_view m.entries
-        ≡ put key.now (number (unsigned n)) (members_view map.entries)) }
-{
-    with(alloc, map, key, Value::from(n))
-}
-
-fn with_words(
-    alloc: Global,
-    map: Map<String, Value>,
-    key: &str,
-    text: &str,
-) -> Result<Map<String, Value>, AllocError>
-    ensures { IfOk result (λ m. members_view m.entries
-        ≡ put key.now (string text.now) (members_view map.entries)) }
-{
-    let value = Value::try_from_str(alloc, text)?;
-    with(alloc, map, key, value)
 }
 
 // The step that did not fit, with the mark wide alone.

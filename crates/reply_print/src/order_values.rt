@@ -1,4 +1,4 @@
-// The JSON values of orders and payouts.
+//! The JSON values of orders and payouts.
 ghost use Rattle.std.specs.Prelude.{◌≡◌, ◌==◌, ◌<◌, true, IfOk, string_bytes};
 ghost use Rattle.frac.specs.Value.{fraction_of};
 ghost use Rattle.form.specs.Bundles.{legs_in};
@@ -46,7 +46,8 @@ fn leg_value(alloc: Global, leg: &Leg) -> Result<Value, AllocError>
     json!(in alloc; {"count": leg.count, "form": form})
 }
 
-fn legs_value(alloc: Global, legs: &[Leg]) -> Result<Value, AllocError>
+/// The value of legs: a list of them. The only error is want of memory.
+pub fn legs_value(alloc: Global, legs: &[Leg]) -> Result<Value, AllocError>
     ensures { IfOk result (λ v. view v ≡ piece_data (each leg_piece legs.now)) }
 {
     let mut values = Vec::new(alloc);
@@ -68,14 +69,16 @@ pub fn fraction_string(alloc: Global, value: Frac128) -> Result<String, AllocErr
     }
 }
 
-pub(crate) fn fraction_value(alloc: Global, value: Frac128) -> Result<Value, AllocError>
+/// The value of a fraction: its text. The only error is want of memory.
+pub fn fraction_value(alloc: Global, value: Frac128) -> Result<Value, AllocError>
     ensures { IfOk result (λ v. view v ≡ piece_data (fraction value)) }
 {
     let text = fraction_string(alloc, value)?;
     Ok(Value::String(text))
 }
 
-pub(crate) fn fills_value(alloc: Global, fills: &[Frac128]) -> Result<Value, AllocError>
+/// The value of fills: a list of their texts. The only error is want of memory.
+pub fn fills_value(alloc: Global, fills: &[Frac128]) -> Result<Value, AllocError>
     ensures { IfOk result (λ v. view v ≡ piece_data (each fraction fills.now)) }
 {
     let mut values = Vec::new(alloc);
@@ -113,12 +116,9 @@ fn order_value(alloc: Global, order: &Order, single: bool) -> Result<Value, Allo
     }
 }
 
-pub(crate) fn orders_value(
-    alloc: Global,
-    orders: &[Order],
-    single: bool,
-) -> Result<Value, AllocError>
-    requires { single ≡ are_single orders.now }
+/// The value of orders: a list of them, with a form where `single`, and else with legs. The only error is want of memory.
+pub fn orders_value(alloc: Global, orders: &[Order], single: bool) -> Result<Value, AllocError>
+    requires { single ≡ true → are_single orders.now ≡ true }
     ensures { IfOk result (λ v. view v ≡ piece_data (each (order_piece single) orders.now)) }
 {
     let mut values = Vec::new(alloc);

@@ -1,4 +1,4 @@
-// The JSON values of certificates and of cleared batches.
+//! The JSON values of certificates and of cleared batches.
 ghost use Rattle.std.specs.Prelude.{◌≡◌, IfOk, drop, take};
 ghost use Rattle.serde_json.specs.View.{view};
 ghost use Rattle.reply_print.specs.BatchPieces.{each, whole_words};
@@ -155,7 +155,8 @@ fn cover_value(alloc: Global, cover: &Cover) -> Result<Value, AllocError>
     }
 }
 
-pub(crate) fn certificate_value(
+/// The value of a certificate. The only error is want of memory.
+pub fn certificate_value(
     alloc: Global,
     cover: &Cover,
     measure: &Measure,

@@ -1,4 +1,4 @@
-// Whether the texts of a cleared line are numbers.
+//! Whether the texts of a cleared line are numbers.
 ghost use Rattle.std.specs.Prelude.{◌≡◌};
 ghost use Rattle.serde_json.specs.View.{view};
 ghost use Rattle.reply_shape.specs.Look.{has_at as passes_at, is_list as list_passes};
@@ -8,7 +8,8 @@ use crate::fraction_texts::is_fraction;
 use crate::look::{has_at, is_list, is_whole_text, is_word, word_at};
 use serde_json::Value;
 
-fn is_fraction_text(value: &Value) -> bool
+/// Whether the value is the text of a fraction.
+pub fn is_fraction_text(value: &Value) -> bool
     ensures { result ≡ fraction_is (view value.now) }
 {
     match value.as_str() {
@@ -17,13 +18,15 @@ fn is_fraction_text(value: &Value) -> bool
     }
 }
 
-fn has_fraction(value: &Value, key: &str) -> bool
+/// Whether there is the text of a fraction at a key.
+pub fn has_fraction(value: &Value, key: &str) -> bool
     ensures { result ≡ passes_at key.now fraction_is (view value.now) }
 {
     has_at(value, key, is_fraction_text)
 }
 
-fn are_entries(value: &Value) -> bool
+/// Whether the value is a list of texts of whole numbers.
+pub fn are_entries(value: &Value) -> bool
     ensures { result ≡ list_passes whole_is (view value.now) }
 {
     is_list(value, is_whole_text)
@@ -71,7 +74,8 @@ fn cover_numbers(value: &Value) -> bool
     is_word(value, "line") || are_nodes(value)
 }
 
-fn certificate_numbers(value: &Value) -> bool
+/// Whether the texts of a certificate are numbers where they should be. The value has its shape.
+pub fn certificate_numbers(value: &Value) -> bool
     ensures { result ≡ certificate_is (view value.now) }
 {
     has_at(value, "cover", cover_numbers) && has_at(value, "measure", are_points)
@@ -95,7 +99,8 @@ fn mark_numbers(value: &Value, word: &str) -> bool
     }
 }
 
-fn are_fills(value: &Value) -> bool
+/// Whether the value is a list of texts of fractions.
+pub fn are_fills(value: &Value) -> bool
     ensures { result ≡ list_passes fraction_is (view value.now) }
 {
     is_list(value, is_fraction_text)

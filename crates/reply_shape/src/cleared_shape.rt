@@ -1,4 +1,4 @@
-// The shape of a cleared line.
+//! The shape of a cleared line.
 ghost use Rattle.std.specs.Prelude.{◌≡◌, ◌&&◌, codes};
 ghost use Rattle.serde_json.specs.View.{view};
 ghost use Rattle.reply_shape.specs.ClearedShape.{is_form as form_is, leg_shape as leg_is, are_legs as legs_are, is_state as state_is, bundle_shape as bundle_is, is_side as side_is, order_shape as order_is, point_shape as point_is, multiplier_shape as multiplier_is, node_shape as node_is, cover_shape as cover_is, certificate_shape as certificate_is, is_operator as operator_is, wide_shape as wide_is, mark_shape as mark_is, orders_shape as orders_are, cleared_shape as cleared_is};
@@ -29,7 +29,8 @@ fn leg_shape(value: &Value) -> bool
     has_members(value, 2) && has_whole(value, "count") && has_at(value, "form", is_form)
 }
 
-fn are_legs(value: &Value) -> bool
+/// Whether the value is a list of 1 to 4 legs.
+pub fn are_legs(value: &Value) -> bool
     ensures { result ≡ legs_are (view value.now) }
 {
     is_list_of(value, 1, MOST_LEGS, leg_shape)
@@ -45,7 +46,8 @@ fn bundle_shape(value: &Value, single: bool) -> bool
     }
 }
 
-fn is_side(value: &Value) -> bool
+/// Whether the value is the word of a side.
+pub fn is_side(value: &Value) -> bool
     ensures { result ≡ side_is (view value.now) }
 {
     is_word(value, "buy") || is_word(value, "sell")
@@ -63,19 +65,22 @@ fn order_shape(value: &Value, single: bool) -> bool
         && has_at(value, "side", is_side)
 }
 
-fn are_orders(value: &Value, single: bool) -> bool
+/// Whether the value is a list of orders: with a form where `single`, and else with legs.
+pub fn are_orders(value: &Value, single: bool) -> bool
     ensures { result ≡ list_passes (order_is single) (view value.now) }
 {
     is_list(value, |order| order_shape(order, single))
 }
 
-fn are_texts(value: &Value) -> bool
+/// Whether the value is a list of texts.
+pub fn are_texts(value: &Value) -> bool
     ensures { result ≡ list_passes text_value (view value.now) }
 {
     is_list(value, is_text)
 }
 
-fn is_state(value: &Value) -> bool
+/// Whether the value is a list of 2 to 9 texts, as a state is.
+pub fn is_state(value: &Value) -> bool
     ensures { result ≡ state_is (view value.now) }
 {
     is_list_of(value, 2, MAX_ENTRIES, is_text)
@@ -123,7 +128,8 @@ fn cover_shape(value: &Value) -> bool
     is_word(value, "line") || are_nodes(value)
 }
 
-fn certificate_shape(value: &Value) -> bool
+/// Whether the value has the shape of a certificate.
+pub fn certificate_shape(value: &Value) -> bool
     ensures { result ≡ certificate_is (view value.now) }
 {
     has_members(value, 2)

@@ -1,8 +1,8 @@
 //! Whether a JSON value has the shape of a reply, and whether its texts are numbers.
 #![tactic(auto)]
 
-mod cleared_numbers;
-mod cleared_shape;
+pub mod cleared_numbers;
+pub mod cleared_shape;
 pub mod fraction_texts;
 pub mod look;
 pub mod number_texts;

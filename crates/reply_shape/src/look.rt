@@ -9,7 +9,8 @@ ghost use Rattle.reply_shape.specs.NumberTexts.{is_whole_number as whole_text};
 use crate::numbers;
 use serde_json::Value;
 
-pub(crate) fn has_members(value: &Value, count: usize) -> bool
+/// Whether the value is an object with this many members.
+pub fn has_members(value: &Value, count: usize) -> bool
     ensures { result ≡ members_are count (view value.now) }
 {
     match value.as_object() {
@@ -19,7 +20,7 @@ pub(crate) fn has_members(value: &Value, count: usize) -> bool
 }
 
 /// Whether the key is there, and its value passes a test.
-pub(crate) fn has_at<F: Fn(&Value) -> bool>(value: &Value, key: &str, passes: F) -> bool
+pub fn has_at<F: Fn(&Value) -> bool>(value: &Value, key: &str, passes: F) -> bool
     requires { F.IsAlwaysCallable passes }
     ensures { (test : Data → Bool) → Decides F.Fn passes test
         → result ≡ passes_at key.now test (view value.now) }
@@ -39,7 +40,7 @@ fn all_pass<F: Fn(&Value) -> bool>(items: &[Value], passes: F) -> bool
 }
 
 /// Whether the value is a list whose items pass a test.
-pub(crate) fn is_list<F: Fn(&Value) -> bool>(value: &Value, passes: F) -> bool
+pub fn is_list<F: Fn(&Value) -> bool>(value: &Value, passes: F) -> bool
     requires { F.IsAlwaysCallable passes }
     ensures { (test : Data → Bool) → Decides F.Fn passes test
         → result ≡ list_passes test (view value.now) }
@@ -65,7 +66,7 @@ fn has_length(value: &Value, low: usize, high: usize) -> bool
 }
 
 /// The same, with `low` to `high` items.
-pub(crate) fn is_list_of<F>(value: &Value, low: usize, high: usize, passes: F) -> bool
+pub fn is_list_of<F>(value: &Value, low: usize, high: usize, passes: F) -> bool
 where
     F: Fn(&Value) -> bool,
     requires { F.IsAlwaysCallable passes }
@@ -75,8 +76,8 @@ where
     is_list(value, passes) && has_length(value, low, high)
 }
 
-// A whole number of 64 bits.
-pub(crate) fn is_whole(value: &Value) -> bool
+/// Whether the value is a whole number of 64 bits.
+pub fn is_whole(value: &Value) -> bool
     ensures { result ≡ whole_number (view value.now) }
 {
     if value.is_u64() {
@@ -85,19 +86,22 @@ pub(crate) fn is_whole(value: &Value) -> bool
     value.is_i64()
 }
 
-pub(crate) fn has_whole(value: &Value, key: &str) -> bool
+/// Whether there is a whole number of 64 bits at a key.
+pub fn has_whole(value: &Value, key: &str) -> bool
     ensures { result ≡ passes_at key.now whole_number (view value.now) }
 {
     has_at(value, key, is_whole)
 }
 
-pub(crate) fn is_text(value: &Value) -> bool
+/// Whether the value is a text.
+pub fn is_text(value: &Value) -> bool
     ensures { result ≡ text_value (view value.now) }
 {
     value.is_string()
 }
 
-pub(crate) fn has_text(value: &Value, key: &str) -> bool
+/// Whether there is a text at a key.
+pub fn has_text(value: &Value, key: &str) -> bool
     ensures { result ≡ passes_at key.now text_value (view value.now) }
 {
     has_at(value, key, is_text)
@@ -113,7 +117,8 @@ pub fn is_word(value: &Value, word: &str) -> bool
     }
 }
 
-pub(crate) fn has_word(value: &Value, key: &str, word: &str) -> bool
+/// Whether there is this text at a key.
+pub fn has_word(value: &Value, key: &str, word: &str) -> bool
     ensures { result ≡ passes_at key.now (word_is word.now) (view value.now) }
 {
     has_at(value, key, |found| is_word(found, word))
@@ -139,7 +144,8 @@ pub fn number_at(value: &Value, key: &str) -> u64
     }
 }
 
-pub(crate) fn is_whole_text(value: &Value) -> bool
+/// Whether the value is the text of a whole number.
+pub fn is_whole_text(value: &Value) -> bool
     ensures { result ≡ whole_text (view value.now) }
 {
     match value.as_str() {
@@ -148,7 +154,8 @@ pub(crate) fn is_whole_text(value: &Value) -> bool
     }
 }
 
-pub(crate) fn has_whole_text(value: &Value, key: &str) -> bool
+/// Whether there is the text of a whole number at a key.
+pub fn has_whole_text(value: &Value, key: &str) -> bool
     ensures { result ≡ passes_at key.now whole_text (view value.now) }
 {
     has_at(value, key, is_whole_text)

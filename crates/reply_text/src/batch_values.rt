@@ -1,4 +1,4 @@
-// The orders and the batch that are taken out of a line, where they are within their ranges.
+//! The orders and the batch that are taken out of a line, where they are within their ranges.
 ghost use Rattle.std.specs.Prelude.{◌≡◌, ◌≤◌, ◌*◌, IfOk, codes, length, map, option_map, unsigned_abs, nat_le};
 ghost use Rattle.std.specs.List.{list_all, sum};
 ghost use Rattle.serde_json.specs.View.{view};
@@ -123,8 +123,8 @@ fn one_option(form: Form) -> Bundle
     Bundle::one(form)
 }
 
-// The form of version 1, or the legs of version 2.
-fn bundle_from(alloc: Global, value: &Value, single: bool) -> Result<Option<Bundle>, AllocError>
+/// The bundle of a value: of its form where `single`, and else of its legs. The only error is want of memory.
+pub fn bundle_from(alloc: Global, value: &Value, single: bool) -> Result<Option<Bundle>, AllocError>
     ensures { IfOk result (λ o. o ≡ bundle_found single (view value.now)) }
 {
     if single {
@@ -137,7 +137,8 @@ fn bundle_from(alloc: Global, value: &Value, single: bool) -> Result<Option<Bund
     }
 }
 
-fn side_at(value: &Value) -> Option<Side>
+/// The side of a value.
+pub fn side_at(value: &Value) -> Option<Side>
     ensures { result ≡ side_found (view value.now) }
 {
     let side = value.get("side")?;
@@ -213,7 +214,8 @@ fn orders_at(alloc: Global, value: &Value, single: bool) -> Result<Option<Vec<Or
     )
 }
 
-pub(crate) fn batch_from(alloc: Global, value: &Value) -> Result<Option<Batch>, AllocError>
+/// The batch of a line. The only error is want of memory.
+pub fn batch_from(alloc: Global, value: &Value) -> Result<Option<Batch>, AllocError>
     ensures { IfOk result (λ o. o ≡ batch_found (view value.now)) }
 {
     let Some(underlyings) = size_at(value) else {

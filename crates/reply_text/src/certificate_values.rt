@@ -1,4 +1,4 @@
-// The certificate that is taken out of a line, where it is within its ranges.
+//! The certificate that is taken out of a line, where it is within its ranges.
 ghost use Rattle.std.specs.Prelude.{◌≡◌, IfOk, codes, option_map, Some};
 ghost use Rattle.frac.specs.Range.{limit};
 ghost use Rattle.serde_json.specs.View.{view, items_view};
@@ -46,14 +46,16 @@ fn fraction_from(value: &Value) -> Option<Frac128>
     fraction_of_parts(halves.above, halves.below)
 }
 
-pub(crate) fn fraction_at(value: &Value, key: &str) -> Option<Frac128>
+/// The fraction at a key, where its parts are within their ranges.
+pub fn fraction_at(value: &Value, key: &str) -> Option<Frac128>
     ensures { result ≡ take_at key.now fraction_found (view value.now) }
 {
     let found = value.get(key)?;
     fraction_from(found)
 }
 
-pub(crate) fn fills_at(alloc: Global, value: &Value) -> Result<Option<Vec<Frac128>>, AllocError>
+/// The fills of a line. The only error is want of memory.
+pub fn fills_at(alloc: Global, value: &Value) -> Result<Option<Vec<Frac128>>, AllocError>
     ensures { IfOk result (λ o. option_map (λ v. v.items) o
         ≡ list_found (codes "fills") fraction_found (view value.now)) }
 {
@@ -67,17 +69,22 @@ fn entry_from(value: &Value) -> Option<i128>
     whole_within(text.as_bytes(), LIMIT)
 }
 
-fn entries_at(alloc: Global, value: &Value) -> Result<Option<Vec<i128>>, AllocError>
+fn entries_at(
+    alloc: Global,
+    value: &Value,
+    key: &str,
+) -> Result<Option<Vec<i128>>, AllocError>
     ensures { IfOk result (λ o. option_map (λ v. v.items) o
-        ≡ list_found (codes "state") (whole_from limit) (view value.now)) }
+        ≡ list_found key.now (whole_from limit) (view value.now)) }
 {
-    list_at(alloc, value, "state", |entry| Ok(entry_from(entry)))
+    list_at(alloc, value, key, |entry| Ok(entry_from(entry)))
 }
 
-fn state_at(alloc: Global, value: &Value) -> Result<Option<State>, AllocError>
-    ensures { IfOk result (λ o. o ≡ state_found (view value.now)) }
+/// The state at a key, where its entries are within their ranges. The only error is want of memory.
+pub fn state_at(alloc: Global, value: &Value, key: &str) -> Result<Option<State>, AllocError>
+    ensures { IfOk result (λ o. o ≡ state_found key.now (view value.now)) }
 {
-    let Some(entries) = entries_at(alloc, value)? else {
+    let Some(entries) = entries_at(alloc, value, key)? else {
         return Ok(None);
     };
     Ok(State::from_entries(entries.as_slice()))
@@ -86,7 +93,7 @@ fn state_at(alloc: Global, value: &Value) -> Result<Option<State>, AllocError>
 fn point_from(alloc: Global, value: &Value) -> Result<Option<Weighted>, AllocError>
     ensures { IfOk result (λ o. o ≡ point_found (view value.now)) }
 {
-    let Some(state) = state_at(alloc, value)? else {
+    let Some(state) = state_at(alloc, value, "state")? else {
         return Ok(None);
     };
     let Some(weight) = fraction_at(value, "weight") else {
@@ -210,7 +217,8 @@ fn certificate_from(alloc: Global, value: &Value) -> Result<Option<Mark>, AllocE
     Ok(Some(Mark::Optimal { cover, measure }))
 }
 
-pub(crate) fn certificate_at(alloc: Global, value: &Value) -> Result<Option<Mark>, AllocError>
+/// The certificate of a line, as the mark optimal has it. The only error is want of memory.
+pub fn certificate_at(alloc: Global, value: &Value) -> Result<Option<Mark>, AllocError>
     ensures { IfOk result (λ o. o
         ≡ take_at (codes "certificate") certificate_found (view value.now)) }
 {

@@ -1,4 +1,4 @@
-// What is taken out of the value of a line.
+//! What is taken out of the value of a line.
 ghost use Rattle.std.specs.Prelude.{◌≡◌, ◌≤◌, IfOk, IfSome, Option, codes, option_map};
 ghost use Rattle.serde_json.specs.Data.{Data};
 ghost use Rattle.serde_json.specs.View.{view, items_view};
@@ -40,15 +40,16 @@ pub(crate) fn whole_within(text: &[u8], bound: u128) -> Option<i128>
     }
 }
 
-fn from_to(low: u64, high: u64, n: u64) -> Option<u64>
+/// The number, where it is from low to high.
+pub fn from_to(low: u64, high: u64, n: u64) -> Option<u64>
     ensures value { result ≡ number_from_to low high n }
     ensures within { IfSome result (λ m. m ≤ high) }
 {
     if low <= n && n <= high { Some(n) } else { None }
 }
 
-// The natural number at a key, where it is from low to high.
-pub(crate) fn natural_at(value: &Value, low: u64, high: u64, key: &str) -> Option<u64>
+/// The natural number at a key, where it is from low to high.
+pub fn natural_at(value: &Value, low: u64, high: u64, key: &str) -> Option<u64>
     ensures value { result ≡ natural_found low high key.now (view value.now) }
     ensures within { IfSome result (λ n. n ≤ high) }
 {
@@ -56,8 +57,8 @@ pub(crate) fn natural_at(value: &Value, low: u64, high: u64, key: &str) -> Optio
     from_to(low, high, n)
 }
 
-// The whole number of the text at a key, where its size is at most a bound.
-pub(crate) fn whole_at(value: &Value, key: &str, bound: u128) -> Option<i128>
+/// The whole number of the text at a key, where its size is at most a bound.
+pub fn whole_at(value: &Value, key: &str, bound: u128) -> Option<i128>
     requires { bound ≤ limit }
     ensures { result ≡ take_at key.now (whole_from bound) (view value.now) }
 {
@@ -65,37 +66,40 @@ pub(crate) fn whole_at(value: &Value, key: &str, bound: u128) -> Option<i128>
     whole_within(text.as_bytes(), bound)
 }
 
-pub(crate) fn account_at(value: &Value) -> Option<u32>
+/// The number of an account, from 1.
+pub fn account_at(value: &Value) -> Option<u32>
     ensures { result ≡ account_found (view value.now) }
 {
     let account = natural_at(value, 1, MAX_ACCOUNT, "account")?;
     Some(account as u32)
 }
 
-pub(crate) fn market_at(value: &Value) -> Option<u32>
+/// The number of a market.
+pub fn market_at(value: &Value) -> Option<u32>
     ensures { result ≡ market_found (view value.now) }
 {
     let market = natural_at(value, 1, MAX_MARKET, "market")?;
     Some(market as u32)
 }
 
-pub(crate) fn size_at(value: &Value) -> Option<u8>
+/// The number of underlyings.
+pub fn size_at(value: &Value) -> Option<u8>
     ensures { result ≡ size_found (view value.now) }
 {
     let underlyings = natural_at(value, 1, u64::from(MAX_UNDERLYINGS), "underlyings")?;
     Some(underlyings as u8)
 }
 
-// The number of a batch.
-pub(crate) fn batch_at(value: &Value) -> Option<u32>
+/// The number of a batch.
+pub fn batch_at(value: &Value) -> Option<u32>
     ensures { result ≡ natural_found 1 MAX_BATCH (codes "batch") (view value.now) }
 {
     let batch = natural_at(value, 1, MAX_BATCH, "batch")?;
     Some(batch as u32)
 }
 
-// The number of an order.
-pub(crate) fn order_at(value: &Value) -> Option<u64>
+/// The number of an order.
+pub fn order_at(value: &Value) -> Option<u64>
     ensures { result ≡ natural_found 1 MAX_ORDER (codes "order") (view value.now) }
 {
     natural_at(value, 1, MAX_ORDER, "order")
@@ -132,8 +136,9 @@ where
     Ok(Some(taken))
 }
 
-// What is taken out of each item of the list at a key.
-pub(crate) fn list_at<T, F>(
+/// What is taken out of each item of the list at a key; `None` where the key is not there, its value is no list, or
+/// nothing is taken out of an item. The only error is want of memory.
+pub fn list_at<T, F>(
     alloc: Global,
     value: &Value,
     key: &str,
