@@ -69,11 +69,7 @@ fn entry_from(value: &Value) -> Option<i128>
     whole_within(text.as_bytes(), LIMIT)
 }
 
-fn entries_at(
-    alloc: Global,
-    value: &Value,
-    key: &str,
-) -> Result<Option<Vec<i128>>, AllocError>
+fn entries_at(alloc: Global, value: &Value, key: &str) -> Result<Option<Vec<i128>>, AllocError>
     ensures { IfOk result (λ o. option_map (λ v. v.items) o
         ≡ list_found key.now (whole_from limit) (view value.now)) }
 {
