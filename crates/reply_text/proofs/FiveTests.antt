@@ -79,7 +79,7 @@ is_memory (Err Spelling) = false
 is_memory (Err Memory) = true
 
 module _ {A : Type 0} (tests : Tests A) (text : List ℕ) where
-  is_spelled : (b : Bool) (a : A) → is_memory {A} (if b then Ok a else Err Spelling) ≡ false
+  is_spelled : (b : Bool) (a : A) → is_memory {A = A} (if b then Ok a else Err Spelling) ≡ false
   is_spelled true a = refl
   is_spelled false a = refl
 
