@@ -1,0 +1,5 @@
+mod PlainProposals
+mod WrittenProposals
+mod SoundProposals
+mod TakenProposals
+pub mod ReadExactly

@@ -1,0 +1,141 @@
+-- What is taken out of a text or a line is within its ranges.
+use Rattle.std.proofs.Common.{◌≡◌, ℕ, ◌≤◌, ◌≤ℤ◌, ℤ, pos, negsuc, int_le, List, length, true, false, Bool, ◌==◌, nat_le, Option, option_and_then, codes, refl, arith, if◌then◌else◌}
+use Rattle.std.specs.Prelude.{⊤}
+use Rattle.std.specs.List.{AllByRecursion}
+use Rattle.std.specs.Str.{bytes_eq}
+use Rattle.std.proofs.lemmas.Bool.{leb-true}
+use Rattle.std.proofs.lemmas.Int.{ints}
+use Rattle.form.specs.declared.limits.TheConstants.{MAX_ORDERS}
+use Rattle.frac.specs.declared.frac128.Frac128.{Frac128}
+use Rattle.cert_check.specs.declared.outcome.Mark.{Mark}
+use Rattle.cert_check.specs.declared.outcome.Mark.TheVariants as mark
+use Rattle.serde_json.specs.Data.{Data}
+use Rattle.serde_json.specs.Find.{as_number, as_u64}
+use Rattle.reply_print.specs.declared.limits.TheConstants.{MAX_LINE, MAX_ACCOUNT, MAX_MARKET, MAX_ORDER, MAX_BATCH, MAX_BUDGET}
+use Rattle.reply_print.specs.Within.{IsLine, IsAccount, IsMarket, IsOrderNumber, IsBatchNumber, IsBatchWithin, IsMarkWithin}
+use Rattle.reply_text.specs.BatchValues.{fraction_from, side_at}
+use Rattle.reply_text.specs.OutcomeValues.{certificate_from}
+use Rattle.reply_text.specs.ReplyValues.{account_at, market_at, batch_from}
+use Rattle.reply_text.specs.Taking.{from_to, list_at, take_at}
+use Rattle.reply_text.proofs.Sound.{Sound, any, after, mapped, either, where_true, at_key, list_sound, natural_sound, from_sound}
+use Rattle.reply_text.proofs.SoundCleared.{IsBundleListed, batch_sound, bundle_sound, certificate_sound}
+use Rattle.form.specs.Between.{Between}
+use Rattle.proposal_text.specs.declared.replies.ProposalReply.{ProposalReply}
+use Rattle.proposal_text.specs.declared.replies.ProposalReply.TheVariants.{Book, Positions, Proposed, Bounded, Stale, Unproved}
+use Rattle.proposal_text.specs.ReplyValues.{book_from, filled, fill_at, position_of, position_from, positions_from, proposed_from, bounded_of, stop_by_word, outcome_from, bounded_from, failed_by_word, reply_by, reply_from}
+use Rattle.proposal_text.specs.Submissions.{proposal_of, proposal_from, order_number_from, few_numbers, order_numbers_at, submission_with, submission_from}
+use Rattle.proposal_text.specs.Within.{IsProposalWithin, IsSubmissionWithin, IsPositionWithin, IsBoundedWithin, IsProposalReplyWithin, IsProposalLineWithin}
+use Rattle.reply_shape.specs.Look.{number_at, word_at}
+
+-- ---- proposals
+
+under_sound : (fills : List Frac128) (liability surplus : Frac128) (m : Mark) → IsMarkWithin m → Sound IsProposalWithin (proposal_of fills liability surplus m)
+under_sound fills liability surplus (mark.Optimal cover measure) h = h
+under_sound fills liability surplus (mark.Wide w) h = tt
+under_sound fills liability surplus mark.Budget h = tt
+
+pub proposal_sound : (d : Data) → Sound IsProposalWithin (proposal_from d)
+proposal_sound d =
+    after (λ x. ⊤) IsProposalWithin _ _ (any (list_at (codes "fills") fraction_from d))
+    (λ fills f. after (λ x. ⊤) IsProposalWithin _ _ (any (take_at (codes "liability") fraction_from d))
+    (λ liability l. after (λ x. ⊤) IsProposalWithin _ _ (any (take_at (codes "surplus") fraction_from d))
+    (λ surplus s. after IsMarkWithin IsProposalWithin _ _ (at_key IsMarkWithin (codes "certificate") certificate_from d certificate_sound)
+    (λ m k. under_sound fills liability surplus m k))))
+
+number_sound : (d : Data) → Sound IsOrderNumber (order_number_from d)
+number_sound d = after (λ n. ⊤) IsOrderNumber (from_to 1 MAX_ORDER) (option_and_then as_u64 (as_number d)) (any _) (λ n t. from_sound 1 MAX_ORDER n)
+
+abbrev AreNumbers : List ℕ → Type 0
+AreNumbers orders = (length orders ≤ MAX_ORDERS) × AllByRecursion IsOrderNumber orders
+
+few_sound : (orders : List ℕ) → AllByRecursion IsOrderNumber orders → Sound AreNumbers (few_numbers orders)
+few_sound orders h = where_true AreNumbers (nat_le (length orders) MAX_ORDERS) orders (λ e. (leb-true (length orders) MAX_ORDERS e, h))
+
+numbers_sound : (d : Data) → Sound AreNumbers (order_numbers_at d)
+numbers_sound d =
+    after (AllByRecursion IsOrderNumber) AreNumbers few_numbers (list_at (codes "orders") order_number_from d) (list_sound IsOrderNumber (codes "orders") order_number_from d number_sound) few_sound
+
+pub submission_sound : (d : Data) → Sound IsSubmissionWithin (submission_from d)
+submission_sound d =
+    after AreNumbers IsSubmissionWithin _ (order_numbers_at d) (numbers_sound d)
+    (λ orders o. mapped IsProposalWithin IsSubmissionWithin (submission_with orders) (proposal_from d) (proposal_sound d) (λ proposal p. (p, o.0, o.1)))
+
+-- ---- replies
+
+abbrev IsSoundReply : Option ProposalReply → Type 0
+IsSoundReply = Sound IsProposalReplyWithin
+
+book_sound : (d : Data) → IsSoundReply (book_from d)
+book_sound d =
+    after IsMarket IsProposalReplyWithin _ (market_at d) (natural_sound 1 MAX_MARKET (codes "market") d)
+    (λ market m. mapped IsBatchWithin IsProposalReplyWithin (Book market) (batch_from d) (batch_sound d) (λ batch b. (m, b)))
+
+abbrev IsFilled : Frac128 → Type 0
+IsFilled x = pos 1 ≤ℤ x.numerator
+
+above_from : (z : ℤ) → int_le (pos 1) z ≡ true → pos 1 ≤ℤ z
+above_from (pos n) e = let low = leb-true 1 n e in omega (arith, ints)
+above_from (negsuc n) e = cc
+
+fill_sound : (d : Data) → Sound IsFilled (fill_at d)
+fill_sound d =
+    after (λ x. ⊤) IsFilled filled (take_at (codes "fill") fraction_from d) (any _)
+    (λ x t. where_true IsFilled (int_le (pos 1) x.numerator) x (λ e. above_from x.numerator e))
+
+position_sound : (account market : ℕ) (d : Data) → Sound (IsPositionWithin account market) (position_from account market d)
+position_sound account market d =
+    let P = IsPositionWithin account market in
+    after IsBatchNumber P _ _ (natural_sound 1 MAX_BATCH (codes "batch") d)
+    (λ batch b. after IsFilled P _ _ (fill_sound d)
+    (λ fill f. after IsBundleListed P _ _ (bundle_sound false d)
+    (λ bundle l. after IsOrderNumber P _ _ (natural_sound 1 MAX_ORDER (codes "order") d)
+    (λ order o. mapped (λ side. ⊤) P (position_of account market batch fill bundle order) (side_at d) (any (side_at d))
+    (λ side t. record { account_is = refl; market_is = refl; batch = b; order = o; listed = l; filled = f })))))
+
+positions_sound : (d : Data) → IsSoundReply (positions_from d)
+positions_sound d =
+    after IsAccount IsProposalReplyWithin _ (account_at d) (natural_sound 1 MAX_ACCOUNT (codes "account") d)
+    (λ account a. after IsMarket IsProposalReplyWithin _ (market_at d) (natural_sound 1 MAX_MARKET (codes "market") d)
+    (λ market m. mapped (AllByRecursion (IsPositionWithin account market)) IsProposalReplyWithin (λ positions. Positions account market positions) _
+    (list_sound (IsPositionWithin account market) (codes "positions") (position_from account market) d (position_sound account market)) (λ positions p. (a, m, p))))
+
+proposed_sound : (d : Data) → IsSoundReply (proposed_from d)
+proposed_sound d =
+    after IsMarket IsProposalReplyWithin _ (market_at d) (natural_sound 1 MAX_MARKET (codes "market") d)
+    (λ market m. after (λ x. ⊤) IsProposalReplyWithin _ _ (any (take_at (codes "surplus") fraction_from d))
+    (λ surplus s. after (λ x. ⊤) IsProposalReplyWithin _ _ (any (take_at (codes "bound") fraction_from d))
+    (λ bound b. after (λ x. ⊤) IsProposalReplyWithin _ _ (any (take_at (codes "best_surplus") fraction_from d))
+    (λ best_surplus g. mapped (λ x. ⊤) IsProposalReplyWithin (Proposed market surplus bound best_surplus) _ (any (take_at (codes "least_bound") fraction_from d)) (λ least_bound k. m)))))
+
+outcome_sound : (d : Data) → Sound IsBoundedWithin (outcome_from d)
+outcome_sound d =
+    after IsProposalWithin IsBoundedWithin _ (proposal_from d) (proposal_sound d)
+    (λ proposal p. after (λ x. ⊤) IsBoundedWithin _ _ (any (take_at (codes "bound") fraction_from d))
+    (λ bound b. mapped (Between 0 MAX_BUDGET) IsBoundedWithin (bounded_of (stop_by_word (word_at (codes "run") d)) proposal bound) _ (natural_sound 0 MAX_BUDGET (codes "units") d) (λ units u. (u.1, p))))
+
+bounded_sound : (d : Data) → IsSoundReply (bounded_from d)
+bounded_sound d =
+    after IsBatchNumber IsProposalReplyWithin _ _ (natural_sound 1 MAX_BATCH (codes "batch") d)
+    (λ number n. after IsMarket IsProposalReplyWithin _ (market_at d) (natural_sound 1 MAX_MARKET (codes "market") d)
+    (λ market m. after IsBatchWithin IsProposalReplyWithin _ (batch_from d) (batch_sound d)
+    (λ batch b. mapped IsBoundedWithin IsProposalReplyWithin (Bounded number market batch) (outcome_from d) (outcome_sound d) (λ outcome o. (n, m, b, o)))))
+
+refused_sound : (b : Bool) (y : ProposalReply) → IsProposalReplyWithin y → (x : ProposalReply) → IsProposalReplyWithin x → IsProposalReplyWithin (if b then x else y)
+refused_sound true y k x h = h
+refused_sound false y k x h = k
+
+pub reply_sound : (word : List ℕ) (d : Data) → IsSoundReply (reply_by word d)
+reply_sound word d =
+    either IsProposalReplyWithin (bytes_eq word (codes "book")) _ _ (book_sound d)
+    (either IsProposalReplyWithin (bytes_eq word (codes "positions")) _ _ (positions_sound d)
+    (either IsProposalReplyWithin (bytes_eq word (codes "proposed")) _ _ (proposed_sound d)
+    (either IsProposalReplyWithin (bytes_eq word (codes "cleared")) _ _ (bounded_sound d)
+    (refused_sound (number_at (codes "number") d == 20) (Unproved (failed_by_word (word_at (codes "failed") d))) tt Stale tt))))
+
+abbrev pub IsPairWithin : ℕ × ProposalReply → Type 0
+IsPairWithin pair = IsProposalLineWithin pair.0 pair.1
+
+pub pair_sound : (d : Data) → Sound IsPairWithin (reply_from d)
+pair_sound d =
+    after IsLine IsPairWithin _ _ (natural_sound 1 MAX_LINE (codes "line") d)
+    (λ line l. mapped IsProposalReplyWithin IsPairWithin _ _ (reply_sound (word_at (codes "reply") d) d) (λ reply r. (l, r)))

@@ -1,0 +1,243 @@
+-- What is written of proposals and of the replies about them is taken out again.
+use Rattle.std.proofs.Common.{◌≡◌, ℕ, ◌≤◌, ◌≤ℤ◌, ℤ, pos, negsuc, int_le, List, [], ◌∷◌, length, true, false, Option, Some, option_map, option_and_then, codes, refl, sym, ap, ap₂, ◌∙◌, arith, true≢false}
+use Rattle.std.specs.List.{AllByRecursion}
+use Rattle.std.proofs.lemmas.Bool.{and_from, le-leb}
+use Rattle.std.proofs.lemmas.Int.{ints}
+use Rattle.form.specs.declared.limits.TheConstants.{MAX_ORDERS}
+use Rattle.form.specs.declared.orders.Batch.{Batch}
+use Rattle.form.specs.declared.orders.Order.{Order}
+use Rattle.form.specs.Bundles.{legs_in}
+use Rattle.frac.specs.declared.frac128.Frac128.{Frac128}
+use Rattle.settlement.specs.declared.position.Position.{Position}
+use Rattle.cert_check.specs.declared.outcome.Mark.TheVariants as mark
+use Rattle.cert_check.specs.declared.outcome.Proposal.{Proposal}
+use Rattle.serde_json.specs.Data.{Data, string}
+use Rattle.reply_print.specs.declared.limits.TheConstants.{MAX_ACCOUNT, MAX_MARKET, MAX_ORDER, MAX_BATCH, MAX_BUDGET}
+use Rattle.reply_print.specs.BatchPieces.{natural, fraction, pieces_of, leg_piece, order_piece}
+use Rattle.reply_print.specs.PieceData.{piece_data, pieces_data}
+use Rattle.reply_print.specs.Within.{IsOrderNumber, IsOrderWithin}
+use Rattle.reply_print.proofs.WrittenReplies.{IsLegWithin, legs_within}
+use Rattle.reply_shape.specs.ClearedShape.{leg_shape, order_shape}
+use Rattle.reply_shape.specs.Look.{items_all, is_whole}
+use Rattle.reply_text.specs.BatchValues.{fraction_from, leg_from, order_from}
+use Rattle.reply_text.specs.ReplyValues.{few_orders}
+use Rattle.reply_text.specs.Taking.{items_map, list_at, take_at}
+use Rattle.reply_text.specs.OutcomeValues.{certificate_from}
+use Rattle.reply_text.proofs.FiveTests.{IsTaken}
+use Rattle.reply_text.proofs.Taken.{natural_taken, fraction_taken, fraction_number, items_pass, items_taken}
+use Rattle.reply_text.proofs.TakenBatches.{IsWrittenOrder, order_is_order, order_taken, leg_taken, leg_is_leg, bundle_made_of, legs_of, side_is, side_taken, len_within}
+use Rattle.reply_text.proofs.TakenCleared.{batch_of, fills_are_texts, fills_are_fractions, fills_taken}
+use Rattle.reply_text.proofs.TakenOutcomes.{certificate_taken, certificate_is, certificate_numbered}
+use Rattle.reply_text.proofs.TakenReplies.{then_taken, line_taken}
+use Rattle.proposal_text.specs.declared.submissions.Submission.{Submission}
+use Rattle.proposal_text.specs.declared.replies.RunStop.{RunStop}
+use Rattle.proposal_text.specs.declared.replies.RunStop.TheVariants as stop
+use Rattle.proposal_text.specs.declared.replies.BoundedOutcome.{BoundedOutcome}
+use Rattle.proposal_text.specs.declared.replies.Failed.{Failed}
+use Rattle.proposal_text.specs.declared.replies.Failed.TheVariants as failed
+use Rattle.proposal_text.specs.declared.replies.ProposalReply.{ProposalReply}
+use Rattle.proposal_text.specs.declared.replies.ProposalReply.TheVariants.{Book, Positions, Proposed, Bounded, Stale, Unproved}
+use Rattle.proposal_text.specs.Pieces.{submission_piece, position_piece, stop_word, failed_word, proposal_piece}
+use Rattle.proposal_text.specs.ReplyShapes.{position_shape, position_numbers, is_stop, is_failed}
+use Rattle.proposal_text.specs.ReplyValues.{filled, position_of, position_from, stop_by_word, bounded_of, failed_by_word, proposal_tests}
+use Rattle.proposal_text.specs.Submissions.{proposal_from, order_number_from, few_numbers, submission_with, submission_shape, proposal_numbers, submission_from}
+use Rattle.proposal_text.specs.Within.{IsSubmissionWithin, IsPositionWithin, IsProposalLineWithin}
+
+-- ---- proposals
+
+-- from the parts of any value
+pub parts_taken : (d : Data) (p : Proposal) → list_at (codes "fills") fraction_from d ≡ Some p.fills → take_at (codes "liability") fraction_from d ≡ Some p.claim.liability
+    → take_at (codes "surplus") fraction_from d ≡ Some p.claim.surplus
+    → take_at (codes "certificate") certificate_from d ≡ Some (mark.Optimal p.cover p.measure) → proposal_from d ≡ Some p
+parts_taken d p f l s c = then_taken _ _ p.fills _ f (then_taken _ _ p.claim.liability _ l (then_taken _ _ p.claim.surplus _ s (then_taken _ _ (mark.Optimal p.cover p.measure) _ c refl)))
+
+number_taken : (n : ℕ) → IsOrderNumber n → order_number_from (piece_data (natural n)) ≡ Some n
+number_taken n h = natural_taken 1 MAX_ORDER n h
+
+number_is_whole : (n : ℕ) → IsOrderNumber n → is_whole (piece_data (natural n)) ≡ true
+number_is_whole n h = refl
+
+module _ (s : Submission) (h : IsSubmissionWithin s) where
+  pub submission_is : submission_shape (piece_data (submission_piece s)) ≡ true
+  submission_is =
+      and_from _ _
+      (and_from _ _ (certificate_is s.proposal.cover s.proposal.measure h.0.0 h.0.1) (and_from _ _ (fills_are_texts s.proposal.fills) refl))
+      (items_pass IsOrderNumber natural is_whole number_is_whole s.orders h.2)
+
+  pub submission_numbered : proposal_numbers (piece_data (submission_piece s)) ≡ true
+  submission_numbered =
+      and_from _ _ (certificate_numbered s.proposal.cover s.proposal.measure h.0.0 h.0.1)
+      (and_from _ _ (fills_are_fractions s.proposal.fills) (and_from _ _ (fraction_number s.proposal.claim.liability) (fraction_number s.proposal.claim.surplus)))
+
+  numbers_taken : option_and_then few_numbers (items_map order_number_from (pieces_data (pieces_of natural s.orders))) ≡ Some s.orders
+  numbers_taken = ap (option_and_then few_numbers) (items_taken IsOrderNumber natural order_number_from number_taken s.orders h.2) ∙ rw (le-leb (length s.orders) MAX_ORDERS h.1) refl
+
+  pub submission_taken : submission_from (piece_data (submission_piece s)) ≡ Some s
+  submission_taken =
+      then_taken _ _ s.orders _ numbers_taken
+      (ap (option_map (submission_with s.orders))
+      (parts_taken (piece_data (submission_piece s)) s.proposal (fills_taken s.proposal.fills) (fraction_taken s.proposal.claim.liability) (fraction_taken s.proposal.claim.surplus)
+      (certificate_taken s.proposal.cover s.proposal.measure h.0.0 h.0.1)))
+
+-- ---- orders and positions
+
+written_orders : (orders : List Order) → AllByRecursion IsOrderWithin orders → AllByRecursion (IsWrittenOrder false) orders
+written_orders [] h = tt
+written_orders (order ∷ orders) h = ((h.0, λ e. absurd (true≢false (sym e))), written_orders orders h.1)
+
+orders_are : (orders : List Order) → AllByRecursion IsOrderWithin orders → items_all (order_shape false) (pieces_data (pieces_of (order_piece false) orders)) ≡ true
+orders_are orders h = items_pass (IsWrittenOrder false) (order_piece false) (order_shape false) (order_is_order false) orders (written_orders orders h)
+
+orders_taken : (orders : List Order) → length orders ≤ MAX_ORDERS → AllByRecursion IsOrderWithin orders
+    → option_and_then few_orders (items_map (order_from false) (pieces_data (pieces_of (order_piece false) orders))) ≡ Some orders
+orders_taken orders few h =
+    ap (option_and_then few_orders) (items_taken (IsWrittenOrder false) (order_piece false) (order_from false) (order_taken false) orders (written_orders orders h))
+    ∙ rw (le-leb (length orders) MAX_ORDERS few) refl
+
+one_le : (z : ℤ) → pos 1 ≤ℤ z → int_le (pos 1) z ≡ true
+one_le (pos n) h = le-leb 1 n (omega (arith, ints))
+one_le (negsuc n) h = absurd (omega (arith, ints))
+
+module _ (account market : ℕ) where
+  position_is : (p : Position) → IsPositionWithin account market p → position_shape (piece_data (position_piece p)) ≡ true
+  position_is p h =
+      let legs = legs_in p.bundle in
+      let are = legs_of p.bundle in
+      and_from _ _
+      (and_from _ _ (items_pass IsLegWithin leg_piece leg_shape leg_is_leg legs (legs_within p.bundle h.listed)) (len_within 1 4 leg_piece legs are.some are.few))
+      (side_is p.side)
+
+  position_is_numbered : (p : Position) → IsPositionWithin account market p → position_numbers (piece_data (position_piece p)) ≡ true
+  position_is_numbered p h = fraction_number p.fill
+
+  position_back : (p : Position) → IsPositionWithin account market p → position_of account market p.batch p.fill p.bundle p.order p.side ≡ p
+  position_back p h = λ i. record {
+    market = sym h.market_is i;
+    batch = p.batch;
+    order = p.order;
+    account = sym h.account_is i;
+    side = p.side;
+    bundle = p.bundle;
+    fill = p.fill;
+  }
+
+  fill_taken : (x : Frac128) → pos 1 ≤ℤ x.numerator → option_and_then filled (fraction_from (piece_data (fraction x))) ≡ Some x
+  fill_taken x h = ap (option_and_then filled) (fraction_taken x) ∙ rw (one_le x.numerator h) refl
+
+  position_taken : (p : Position) → IsPositionWithin account market p → position_from account market (piece_data (position_piece p)) ≡ Some p
+  position_taken p h =
+      then_taken _ _ p.batch _ (natural_taken 1 MAX_BATCH p.batch h.batch)
+      (then_taken _ _ p.fill _ (fill_taken p.fill h.filled)
+      (then_taken _ _ p.bundle _
+      (then_taken _ _ (legs_in p.bundle) _ (items_taken IsLegWithin leg_piece leg_from leg_taken (legs_in p.bundle) (legs_within p.bundle h.listed)) (bundle_made_of p.bundle))
+      (then_taken _ _ p.order _ (natural_taken 1 MAX_ORDER p.order h.order)
+      (ap (λ side. Some (position_of account market p.batch p.fill p.bundle p.order side)) (side_taken p.side) ∙ ap Some (position_back p h)))))
+
+-- ---- words
+
+stop_is : (run : RunStop) → is_stop (string (stop_word run)) ≡ true
+stop_is stop.Wide = refl
+stop_is stop.Budget = refl
+
+stop_taken : (run : RunStop) → stop_by_word (stop_word run) ≡ run
+stop_taken stop.Wide = refl
+stop_taken stop.Budget = refl
+
+failed_is : (f : Failed) → is_failed (string (failed_word f)) ≡ true
+failed_is failed.BatchShape = refl
+failed_is failed.Fill = refl
+failed_is failed.Cover = refl
+failed_is failed.Measure = refl
+failed_is failed.Wide = refl
+
+failed_taken : (f : Failed) → failed_by_word (failed_word f) ≡ f
+failed_taken failed.BatchShape = refl
+failed_taken failed.Fill = refl
+failed_taken failed.Cover = refl
+failed_taken failed.Measure = refl
+failed_taken failed.Wide = refl
+
+-- ---- replies
+
+-- a pair from its parts
+paired : (taken_line : Option ℕ) (taken : Option ProposalReply) (line : ℕ) (reply : ProposalReply) → taken_line ≡ Some line → taken ≡ Some reply
+    → option_and_then {U = ℕ × ProposalReply} (λ l. option_map {U = ℕ × ProposalReply} (λ r. (l, r)) taken) taken_line ≡ Some (line, reply)
+paired taken_line taken line reply e f = ap₂ (λ a b. option_and_then {U = ℕ × ProposalReply} (λ (l : ℕ). option_map {U = ℕ × ProposalReply} (λ (r : ProposalReply). (l, r)) b) a) e f
+
+abbrev IsTakenFrom : ℕ → ProposalReply → Type 0
+IsTakenFrom line reply = IsTaken proposal_tests (piece_data (proposal_piece line reply)) (line, reply)
+
+book_taken : (line market : ℕ) (batch : Batch) → IsProposalLineWithin line (Book market batch) → IsTakenFrom line (Book market batch)
+book_taken line market batch h = record {
+  shape = and_from _ _ (orders_are batch.orders h.1.1.2) refl;
+  numbers = refl;
+  taken = paired _ _ line _ (line_taken line h.0)
+      (then_taken _ _ market _ (natural_taken 1 MAX_MARKET market h.1.0)
+      (ap (option_map (Book market))
+      (then_taken _ _ batch.underlyings batch (natural_taken 1 8 batch.underlyings h.1.1.0) (ap (option_map (batch_of batch.underlyings)) (orders_taken batch.orders h.1.1.1 h.1.1.2)))));
+}
+
+positions_taken : (line account market : ℕ) (positions : List Position) → IsProposalLineWithin line (Positions account market positions) → IsTakenFrom line (Positions account market positions)
+positions_taken line account market positions h = record {
+  shape = items_pass (IsPositionWithin account market) position_piece position_shape (position_is account market) positions h.1.2;
+  numbers = items_pass (IsPositionWithin account market) position_piece position_numbers (position_is_numbered account market) positions h.1.2;
+  taken = paired _ _ line _ (line_taken line h.0)
+      (then_taken _ _ account _ (natural_taken 1 MAX_ACCOUNT account h.1.0)
+      (then_taken _ _ market _ (natural_taken 1 MAX_MARKET market h.1.1)
+      (ap (option_map (λ ps. Positions account market ps)) (items_taken (IsPositionWithin account market) position_piece (position_from account market) (position_taken account market) positions h.1.2))));
+}
+
+proposed_taken : (line market : ℕ) (surplus bound best_surplus least_bound : Frac128) → IsProposalLineWithin line (Proposed market surplus bound best_surplus least_bound)
+    → IsTakenFrom line (Proposed market surplus bound best_surplus least_bound)
+proposed_taken line market surplus bound best_surplus least_bound h = record {
+  shape = refl;
+  numbers = and_from _ _ (fraction_number best_surplus) (and_from _ _ (fraction_number bound) (and_from _ _ (fraction_number least_bound) (fraction_number surplus)));
+  taken = paired _ _ line _ (line_taken line h.0)
+      (then_taken _ _ market _ (natural_taken 1 MAX_MARKET market h.1)
+      (then_taken _ _ surplus _ (fraction_taken surplus)
+      (then_taken _ _ bound _ (fraction_taken bound)
+      (then_taken _ _ best_surplus _ (fraction_taken best_surplus) (ap (option_map (Proposed market surplus bound best_surplus)) (fraction_taken least_bound))))));
+}
+
+bounded_taken : (line number market : ℕ) (batch : Batch) (outcome : BoundedOutcome) → IsProposalLineWithin line (Bounded number market batch outcome) → IsTakenFrom line (Bounded number market batch outcome)
+bounded_taken line number market batch outcome h =
+    let p = outcome.proposal in
+    let c = h.1.3.1 in
+    let b = h.1.2 in
+    let d = piece_data (proposal_piece line (Bounded number market batch outcome)) in
+    record {
+      shape = and_from _ _
+          (and_from _ _ (certificate_is p.cover p.measure c.0 c.1) (and_from _ _ (fills_are_texts p.fills) refl))
+          (and_from _ _ (stop_is outcome.run) (and_from _ _ (orders_are batch.orders b.2) refl));
+      numbers = and_from _ _ (fraction_number outcome.bound)
+          (and_from _ _ (certificate_numbered p.cover p.measure c.0 c.1)
+          (and_from _ _ (fills_are_fractions p.fills) (and_from _ _ (fraction_number p.claim.liability) (fraction_number p.claim.surplus))));
+      taken = paired _ _ line _ (line_taken line h.0)
+          (then_taken _ _ number _ (natural_taken 1 MAX_BATCH number h.1.0)
+          (then_taken _ _ market _ (natural_taken 1 MAX_MARKET market h.1.1)
+          (then_taken _ _ batch _
+          (then_taken _ _ batch.underlyings batch (natural_taken 1 8 batch.underlyings b.0) (ap (option_map (batch_of batch.underlyings)) (orders_taken batch.orders b.1 b.2)))
+          (ap (option_map (Bounded number market batch))
+          (then_taken _ _ p _ (parts_taken d p (fills_taken p.fills) (fraction_taken p.claim.liability) (fraction_taken p.claim.surplus) (certificate_taken p.cover p.measure c.0 c.1))
+          (then_taken _ _ outcome.bound _ (fraction_taken outcome.bound)
+          (ap (option_map (bounded_of (stop_by_word (stop_word outcome.run)) p outcome.bound)) (natural_taken 0 MAX_BUDGET outcome.units (omega arith, h.1.3.0))
+          ∙ ap (λ run. Some (bounded_of run p outcome.bound outcome.units)) (stop_taken outcome.run))))))));
+    }
+
+stale_taken : (line : ℕ) → IsProposalLineWithin line Stale → IsTakenFrom line Stale
+stale_taken line h = record { shape = refl; numbers = refl; taken = paired _ _ line Stale (line_taken line h.0) refl }
+
+unproved_taken : (line : ℕ) (f : Failed) → IsProposalLineWithin line (Unproved f) → IsTakenFrom line (Unproved f)
+unproved_taken line f h = record {
+  shape = and_from _ _ (failed_is f) refl;
+  numbers = refl;
+  taken = paired _ _ line (Unproved f) (line_taken line h.0) (ap (λ g. Some (Unproved g)) (failed_taken f));
+}
+
+pub reply_taken : (line : ℕ) (reply : ProposalReply) → IsProposalLineWithin line reply → IsTakenFrom line reply
+reply_taken line (Book market batch) h = book_taken line market batch h
+reply_taken line (Positions account market positions) h = positions_taken line account market positions h
+reply_taken line (Proposed market surplus bound best_surplus least_bound) h = proposed_taken line market surplus bound best_surplus least_bound h
+reply_taken line (Bounded number market batch outcome) h = bounded_taken line number market batch outcome h
+reply_taken line Stale h = stale_taken line h
+reply_taken line (Unproved f) h = unproved_taken line f h

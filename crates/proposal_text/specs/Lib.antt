@@ -1,0 +1,6 @@
+pub mod Pieces
+pub mod Within
+pub mod Submissions
+pub mod ReplyShapes
+pub mod ReplyValues
+pub mod Laws

@@ -1,0 +1,139 @@
+-- What proposals and the replies about them are written as.
+use Rattle.std.specs.Prelude.{ℕ, List, false, codes}
+use Rattle.form.specs.declared.orders.Batch.{Batch}
+use Rattle.form.specs.Bundles.{legs_in}
+use Rattle.form.specs.Sides.{side_word}
+use Rattle.cert_check.specs.declared.outcome.No.TheVariants as no
+use Rattle.cert_check.specs.declared.outcome.Unproved.{Unproved as Reason}
+use Rattle.cert_check.specs.declared.outcome.Unproved.TheVariants as unproved
+use Rattle.frac.specs.declared.frac128.Frac128.{Frac128}
+use Rattle.settlement.specs.declared.position.Position.{Position}
+use Rattle.reply_print.specs.BatchPieces.{natural, fraction, each, leg_piece, order_piece}
+use Rattle.reply_print.specs.OutcomePieces.{certificate_piece}
+use Rattle.reply_print.specs.Piece.{Piece, words, object, Fields, no_fields, field, piece_text}
+use Rattle.reply_print.specs.ReplyPieces.{refused_with}
+use Rattle.proposal_text.specs.declared.submissions.Submission.{Submission}
+use Rattle.proposal_text.specs.declared.replies.RunStop.{RunStop}
+use Rattle.proposal_text.specs.declared.replies.RunStop.TheVariants as stop
+use Rattle.proposal_text.specs.declared.replies.BoundedOutcome.{BoundedOutcome}
+use Rattle.proposal_text.specs.declared.replies.Failed.{Failed}
+use Rattle.proposal_text.specs.declared.replies.Failed.TheVariants as failed
+use Rattle.proposal_text.specs.declared.replies.ProposalReply.{ProposalReply}
+use Rattle.proposal_text.specs.declared.replies.ProposalReply.TheVariants.{Book, Positions, Proposed, Bounded, Stale, Unproved}
+
+-- ---- proposals
+
+abbrev pub submission_piece : Submission → Piece
+submission_piece s =
+    object (field (codes "certificate") (certificate_piece s.proposal.cover s.proposal.measure)
+    (field (codes "fills") (each fraction s.proposal.fills)
+    (field (codes "liability") (fraction s.proposal.claim.liability)
+    (field (codes "orders") (each natural s.orders)
+    (field (codes "surplus") (fraction s.proposal.claim.surplus) no_fields)))))
+
+-- what a line proposes, as it is spelled
+abbrev pub submission_text : Submission → List ℕ
+submission_text s = piece_text (submission_piece s)
+
+-- ---- replies
+
+abbrev pub book_piece : ℕ → ℕ → Batch → Piece
+book_piece line market batch =
+    object (field (codes "line") (natural line)
+    (field (codes "market") (natural market)
+    (field (codes "orders") (each (order_piece false) batch.orders)
+    (field (codes "reply") (words (codes "book"))
+    (field (codes "underlyings") (natural batch.underlyings) no_fields)))))
+
+abbrev pub position_piece : Position → Piece
+position_piece p =
+    object (field (codes "batch") (natural p.batch)
+    (field (codes "fill") (fraction p.fill)
+    (field (codes "legs") (each leg_piece (legs_in p.bundle))
+    (field (codes "order") (natural p.order)
+    (field (codes "side") (words (side_word p.side)) no_fields)))))
+
+abbrev pub positions_piece : ℕ → ℕ → ℕ → List Position → Piece
+positions_piece line account market positions =
+    object (field (codes "account") (natural account)
+    (field (codes "line") (natural line)
+    (field (codes "market") (natural market)
+    (field (codes "positions") (each position_piece positions)
+    (field (codes "reply") (words (codes "positions")) no_fields)))))
+
+abbrev pub proposed_piece : ℕ → ℕ → Frac128 → Frac128 → Frac128 → Frac128 → Piece
+proposed_piece line market surplus bound best_surplus least_bound =
+    object (field (codes "best_surplus") (fraction best_surplus)
+    (field (codes "bound") (fraction bound)
+    (field (codes "least_bound") (fraction least_bound)
+    (field (codes "line") (natural line)
+    (field (codes "market") (natural market)
+    (field (codes "reply") (words (codes "proposed"))
+    (field (codes "surplus") (fraction surplus) no_fields)))))))
+
+abbrev pub stop_word : RunStop → List ℕ
+stop_word stop.Wide = codes "wide"
+stop_word stop.Budget = codes "budget"
+
+-- from the orders on
+abbrev pub bounded_end : Batch → BoundedOutcome → Fields
+bounded_end batch outcome =
+    field (codes "orders") (each (order_piece false) batch.orders)
+    (field (codes "reply") (words (codes "cleared"))
+    (field (codes "run") (words (stop_word outcome.run))
+    (field (codes "surplus") (fraction outcome.proposal.claim.surplus)
+    (field (codes "underlyings") (natural batch.underlyings)
+    (field (codes "units") (natural outcome.units)
+    (field (codes "version") (natural 3) no_fields))))))
+
+-- from the fills on
+abbrev pub bounded_middle : ℕ → ℕ → Batch → BoundedOutcome → Fields
+bounded_middle line market batch outcome =
+    field (codes "fills") (each fraction outcome.proposal.fills)
+    (field (codes "liability") (fraction outcome.proposal.claim.liability)
+    (field (codes "line") (natural line)
+    (field (codes "mark") (words (codes "bounded"))
+    (field (codes "market") (natural market) (bounded_end batch outcome)))))
+
+-- a cleared line of version 3
+abbrev pub bounded_piece : ℕ → ℕ → ℕ → Batch → BoundedOutcome → Piece
+bounded_piece line number market batch outcome =
+    object (field (codes "batch") (natural number)
+    (field (codes "bound") (fraction outcome.bound)
+    (field (codes "certificate") (certificate_piece outcome.proposal.cover outcome.proposal.measure) (bounded_middle line market batch outcome))))
+
+abbrev pub failed_word : Failed → List ℕ
+failed_word failed.BatchShape = codes "BatchShape"
+failed_word failed.Fill = codes "Fill"
+failed_word failed.Cover = codes "Cover"
+failed_word failed.Measure = codes "Measure"
+failed_word failed.Wide = codes "Wide"
+
+-- what fails; no proposal fails its bound
+abbrev pub failed_as : Reason → Failed
+failed_as (unproved.No no.BatchShape) = failed.BatchShape
+failed_as (unproved.No no.Fill) = failed.Fill
+failed_as (unproved.No no.Cover) = failed.Cover
+failed_as (unproved.No no.Measure) = failed.Measure
+failed_as (unproved.No no.Bound) = failed.Measure
+failed_as (unproved.Wide w) = failed.Wide
+
+abbrev pub unproved_piece : ℕ → Failed → Piece
+unproved_piece line f =
+    object (field (codes "failed") (words (failed_word f))
+    (field (codes "line") (natural line)
+    (field (codes "number") (natural 21)
+    (field (codes "reason") (words (codes "Unproved"))
+    (field (codes "reply") (words (codes "refused")) no_fields)))))
+
+abbrev pub proposal_piece : ℕ → ProposalReply → Piece
+proposal_piece line (Book market batch) = book_piece line market batch
+proposal_piece line (Positions account market positions) = positions_piece line account market positions
+proposal_piece line (Proposed market surplus bound best_surplus least_bound) = proposed_piece line market surplus bound best_surplus least_bound
+proposal_piece line (Bounded number market batch outcome) = bounded_piece line number market batch outcome
+proposal_piece line Stale = refused_with false line 20 0 (codes "Stale")
+proposal_piece line (Unproved f) = unproved_piece line f
+
+-- the line of a reply, without its line feed
+abbrev pub proposal_line : ℕ → ProposalReply → List ℕ
+proposal_line line reply = piece_text (proposal_piece line reply)

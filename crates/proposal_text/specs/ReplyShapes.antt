@@ -1,0 +1,104 @@
+-- The shapes of the replies about proposals, and whether their texts are numbers.
+use Rattle.std.specs.Prelude.{ℕ, List, Bool, true, false, ◌&&◌, ◌||◌, ◌==◌, codes, if◌then◌else◌}
+use Rattle.std.specs.Str.{bytes_eq}
+use Rattle.serde_json.specs.Data.{Data}
+use Rattle.reply_shape.specs.ClearedShape.{are_legs, is_side, order_shape}
+use Rattle.reply_shape.specs.Look.{has_members, has_at, is_whole, is_text, is_word, is_list, word_at, number_at}
+use Rattle.reply_shape.specs.NumberTexts.{is_fraction}
+use Rattle.proposal_text.specs.Submissions.{proposal_shape, proposal_numbers}
+
+-- ---- shapes
+
+abbrev pub are_orders : Data → Bool
+are_orders d = has_at (codes "orders") (is_list (order_shape false)) d
+
+abbrev pub book_shape : Data → Bool
+book_shape d = has_members 5 d && (has_at (codes "line") is_whole d && (has_at (codes "market") is_whole d && (are_orders d && has_at (codes "underlyings") is_whole d)))
+
+abbrev pub position_shape : Data → Bool
+position_shape d =
+    has_members 5 d
+    && (has_at (codes "batch") is_whole d
+    && (has_at (codes "fill") is_text d && (has_at (codes "legs") are_legs d && (has_at (codes "order") is_whole d && has_at (codes "side") is_side d))))
+
+abbrev pub positions_shape : Data → Bool
+positions_shape d =
+    has_members 5 d
+    && (has_at (codes "account") is_whole d
+    && (has_at (codes "line") is_whole d && (has_at (codes "market") is_whole d && has_at (codes "positions") (is_list position_shape) d)))
+
+abbrev pub proposed_shape : Data → Bool
+proposed_shape d =
+    has_members 7 d
+    && (has_at (codes "best_surplus") is_text d
+    && (has_at (codes "bound") is_text d
+    && (has_at (codes "least_bound") is_text d
+    && (has_at (codes "line") is_whole d && (has_at (codes "market") is_whole d && has_at (codes "surplus") is_text d)))))
+
+abbrev pub is_stop : Data → Bool
+is_stop d = is_word (codes "wide") d || is_word (codes "budget") d
+
+-- the numbers of a cleared line
+abbrev pub counts_shape : Data → Bool
+counts_shape d =
+    has_at (codes "batch") is_whole d
+    && (has_at (codes "line") is_whole d
+    && (has_at (codes "market") is_whole d && (has_at (codes "underlyings") is_whole d && has_at (codes "units") is_whole d)))
+
+-- a cleared line of version 3
+abbrev pub bounded_shape : Data → Bool
+bounded_shape d =
+    number_at (codes "version") d == 3
+    && (has_members 15 d
+    && (proposal_shape d
+    && (has_at (codes "bound") is_text d
+    && (has_at (codes "mark") (is_word (codes "bounded")) d && (has_at (codes "run") is_stop d && (are_orders d && counts_shape d))))))
+
+abbrev pub is_failed : Data → Bool
+is_failed d =
+    is_word (codes "BatchShape") d
+    || (is_word (codes "Fill") d || (is_word (codes "Cover") d || (is_word (codes "Measure") d || is_word (codes "Wide") d)))
+
+abbrev pub stale_shape : Data → Bool
+stale_shape d = has_members 4 d && (has_at (codes "line") is_whole d && has_at (codes "reason") (is_word (codes "Stale")) d)
+
+abbrev pub unproved_shape : Data → Bool
+unproved_shape d =
+    has_members 5 d
+    && (has_at (codes "failed") is_failed d && (has_at (codes "line") is_whole d && has_at (codes "reason") (is_word (codes "Unproved")) d))
+
+-- by the number of the refusal
+abbrev pub refused_shape : ℕ → Data → Bool
+refused_shape number d = if number == 20 then stale_shape d else number == 21 && unproved_shape d
+
+-- by the word of the reply
+abbrev pub shape_by : List ℕ → Data → Bool
+shape_by word d =
+    if bytes_eq word (codes "book") then book_shape d
+    else if bytes_eq word (codes "positions") then positions_shape d
+    else if bytes_eq word (codes "proposed") then proposed_shape d
+    else if bytes_eq word (codes "cleared") then bounded_shape d
+    else bytes_eq word (codes "refused") && refused_shape (number_at (codes "number") d) d
+
+abbrev pub has_reply_shape : Data → Bool
+has_reply_shape d = shape_by (word_at (codes "reply") d) d
+
+-- ---- texts of numbers
+
+abbrev pub position_numbers : Data → Bool
+position_numbers d = has_at (codes "fill") is_fraction d
+
+abbrev pub proposed_numbers : Data → Bool
+proposed_numbers d =
+    has_at (codes "best_surplus") is_fraction d
+    && (has_at (codes "bound") is_fraction d && (has_at (codes "least_bound") is_fraction d && has_at (codes "surplus") is_fraction d))
+
+abbrev pub numbers_by : List ℕ → Data → Bool
+numbers_by word d =
+    if bytes_eq word (codes "positions") then has_at (codes "positions") (is_list position_numbers) d
+    else if bytes_eq word (codes "proposed") then proposed_numbers d
+    else if bytes_eq word (codes "cleared") then has_at (codes "bound") is_fraction d && proposal_numbers d
+    else true
+
+abbrev pub has_reply_numbers : Data → Bool
+has_reply_numbers d = numbers_by (word_at (codes "reply") d) d

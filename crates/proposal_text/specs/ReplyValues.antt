@@ -1,0 +1,139 @@
+-- The replies about proposals as they are taken out of a line, where they are within their ranges, and their reading.
+use Rattle.std.specs.Prelude.{ℕ, ◌≡◌, pos, int_le, List, false, ◌==◌, Option, Some, None, Result, option_map, option_and_then, codes, if◌then◌else◌}
+use Rattle.std.specs.Str.{bytes_eq}
+use Rattle.form.specs.declared.orders.Side.{Side}
+use Rattle.form.specs.declared.bundles.Bundle.{Bundle}
+use Rattle.frac.specs.declared.frac128.Frac128.{Frac128}
+use Rattle.settlement.specs.declared.position.Position.{Position}
+use Rattle.serde_json.specs.Data.{Data}
+use Rattle.cert_check.specs.declared.outcome.Proposal.{Proposal}
+use Rattle.reply_print.specs.declared.limits.TheConstants.{MAX_LINE, MAX_BATCH, MAX_ORDER, MAX_BUDGET}
+use Rattle.reply_shape.specs.Look.{word_at, number_at}
+use Rattle.reply_text.specs.BatchValues.{fraction_from, bundle_from, side_at}
+use Rattle.reply_text.specs.ReplyValues.{account_at, market_at, batch_from}
+use Rattle.reply_text.specs.Taking.{natural_at, list_at, take_at}
+use Rattle.reply_text.specs.Tests.{Tests, read_by}
+use Rattle.reply_text.specs.declared.faults.LineFault.{LineFault}
+use Rattle.proposal_text.specs.declared.replies.RunStop.{RunStop}
+use Rattle.proposal_text.specs.declared.replies.RunStop.TheVariants as stop
+use Rattle.proposal_text.specs.declared.replies.BoundedOutcome.{BoundedOutcome}
+use Rattle.proposal_text.specs.declared.replies.Failed.{Failed}
+use Rattle.proposal_text.specs.declared.replies.Failed.TheVariants as failed
+use Rattle.proposal_text.specs.declared.replies.ProposalReply.{ProposalReply}
+use Rattle.proposal_text.specs.declared.replies.ProposalReply.TheVariants.{Book, Positions, Proposed, Bounded, Stale, Unproved}
+use Rattle.proposal_text.specs.Pieces.{proposal_line}
+use Rattle.proposal_text.specs.ReplyShapes.{has_reply_shape, has_reply_numbers}
+use Rattle.proposal_text.specs.Submissions.{proposal_from}
+use Rattle.proposal_text.specs.Within.{IsProposalLineWithin}
+
+abbrev pub book_from : Data → Option ProposalReply
+book_from d = option_and_then (λ market. option_map (Book market) (batch_from d)) (market_at d)
+
+-- ---- positions
+
+-- a fill above 0
+abbrev pub filled : Frac128 → Option Frac128
+filled x = if int_le (pos 1) x.numerator then Some x else None
+
+abbrev pub fill_at : Data → Option Frac128
+fill_at d = option_and_then filled (take_at (codes "fill") fraction_from d)
+
+abbrev pub position_of : ℕ → ℕ → ℕ → Frac128 → Bundle → ℕ → Side → Position
+position_of account market batch fill bundle order side =
+    record { market = market; batch = batch; order = order; account = account; side = side; bundle = bundle; fill = fill }
+
+-- a position of the account in the market
+abbrev pub position_from : ℕ → ℕ → Data → Option Position
+position_from account market d =
+    option_and_then (λ batch.
+    option_and_then (λ fill.
+    option_and_then (λ bundle.
+    option_and_then (λ order. option_map (position_of account market batch fill bundle order) (side_at d))
+    (natural_at 1 MAX_ORDER (codes "order") d))
+    (bundle_from false d))
+    (fill_at d))
+    (natural_at 1 MAX_BATCH (codes "batch") d)
+
+abbrev pub positions_from : Data → Option ProposalReply
+positions_from d =
+    option_and_then (λ account.
+    option_and_then (λ market. option_map (λ positions. Positions account market positions) (list_at (codes "positions") (position_from account market) d))
+    (market_at d))
+    (account_at d)
+
+-- ---- proposals that are judged a bound
+
+abbrev pub proposed_from : Data → Option ProposalReply
+proposed_from d =
+    option_and_then (λ market.
+    option_and_then (λ surplus.
+    option_and_then (λ bound.
+    option_and_then (λ best_surplus. option_map (Proposed market surplus bound best_surplus) (take_at (codes "least_bound") fraction_from d))
+    (take_at (codes "best_surplus") fraction_from d))
+    (take_at (codes "bound") fraction_from d))
+    (take_at (codes "surplus") fraction_from d))
+    (market_at d)
+
+-- ---- cleared lines of version 3
+
+abbrev pub stop_by_word : List ℕ → RunStop
+stop_by_word word = if bytes_eq word (codes "wide") then stop.Wide else stop.Budget
+
+abbrev pub bounded_of : RunStop → Proposal → Frac128 → ℕ → BoundedOutcome
+bounded_of run proposal bound units = record { proposal = proposal; bound = bound; run = run; units = units }
+
+abbrev pub outcome_from : Data → Option BoundedOutcome
+outcome_from d =
+    option_and_then (λ proposal.
+    option_and_then (λ bound. option_map (bounded_of (stop_by_word (word_at (codes "run") d)) proposal bound) (natural_at 0 MAX_BUDGET (codes "units") d))
+    (take_at (codes "bound") fraction_from d))
+    (proposal_from d)
+
+abbrev pub bounded_from : Data → Option ProposalReply
+bounded_from d =
+    option_and_then (λ number.
+    option_and_then (λ market. option_and_then (λ batch. option_map (Bounded number market batch) (outcome_from d)) (batch_from d)) (market_at d))
+    (natural_at 1 MAX_BATCH (codes "batch") d)
+
+-- ---- refusals
+
+abbrev pub failed_by_word : List ℕ → Failed
+failed_by_word word =
+    if bytes_eq word (codes "BatchShape") then failed.BatchShape
+    else if bytes_eq word (codes "Fill") then failed.Fill
+    else if bytes_eq word (codes "Cover") then failed.Cover
+    else if bytes_eq word (codes "Measure") then failed.Measure
+    else failed.Wide
+
+abbrev pub refused_from : Data → ProposalReply
+refused_from d = if number_at (codes "number") d == 20 then Stale else Unproved (failed_by_word (word_at (codes "failed") d))
+
+-- ---- the whole line
+
+abbrev pub reply_by : List ℕ → Data → Option ProposalReply
+reply_by word d =
+    if bytes_eq word (codes "book") then book_from d
+    else if bytes_eq word (codes "positions") then positions_from d
+    else if bytes_eq word (codes "proposed") then proposed_from d
+    else if bytes_eq word (codes "cleared") then bounded_from d
+    else Some (refused_from d)
+
+abbrev pub reply_from : Data → Option (ℕ × ProposalReply)
+reply_from d = option_and_then (λ line. option_map (λ reply. (line, reply)) (reply_by (word_at (codes "reply") d) d)) (natural_at 1 MAX_LINE (codes "line") d)
+
+-- the tests of these lines
+abbrev pub proposal_tests : Tests (ℕ × ProposalReply)
+proposal_tests = record {
+  has_shape = has_reply_shape;
+  has_numbers = has_reply_numbers;
+  taken = reply_from;
+  print = λ pair. proposal_line pair.0 pair.1;
+}
+
+-- the line and its reply, or the first test that fails
+abbrev pub reply_reading : List ℕ → Result (ℕ × ProposalReply) LineFault
+reply_reading text = read_by proposal_tests text
+
+-- the text is the line of a reply, and both are within their ranges
+abbrev pub IsProposalLineOf : List ℕ → ℕ → ProposalReply → Type 0
+IsProposalLineOf text line reply = IsProposalLineWithin line reply × (text ≡ proposal_line line reply)

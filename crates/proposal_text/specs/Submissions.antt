@@ -1,0 +1,87 @@
+-- What a text proposes: something exactly where it passes the five tests of a line, with a proposal in place of a reply.
+use Rattle.std.specs.Prelude.{ℕ, ◌≡◌, List, length, Bool, ◌&&◌, nat_le, Option, Some, None, option_map, option_and_then, codes, if◌then◌else◌}
+use Rattle.std.specs.Result.{result_ok}
+use Rattle.frac.specs.declared.frac128.Frac128.{Frac128}
+use Rattle.form.specs.declared.limits.TheConstants.{MAX_ORDERS}
+use Rattle.cert_check.specs.declared.outcome.Mark.{Mark}
+use Rattle.cert_check.specs.declared.outcome.Mark.TheVariants.{Optimal, Wide, Budget}
+use Rattle.cert_check.specs.declared.outcome.Proposal.{Proposal}
+use Rattle.serde_json.specs.Data.{Data}
+use Rattle.serde_json.specs.Find.{as_number, as_u64}
+use Rattle.reply_print.specs.declared.limits.TheConstants.{MAX_ORDER}
+use Rattle.reply_shape.specs.ClearedShape.{certificate_shape}
+use Rattle.reply_shape.specs.Look.{has_members, has_at, is_whole, is_text, is_list}
+use Rattle.reply_shape.specs.NumberTexts.{certificate_numbers, is_fraction}
+use Rattle.reply_text.specs.BatchValues.{fraction_from}
+use Rattle.reply_text.specs.OutcomeValues.{certificate_from}
+use Rattle.reply_text.specs.Taking.{from_to, list_at, take_at}
+use Rattle.reply_text.specs.Tests.{Tests, read_by}
+use Rattle.proposal_text.specs.declared.submissions.Submission.{Submission}
+use Rattle.proposal_text.specs.Pieces.{submission_text}
+use Rattle.proposal_text.specs.Within.{IsSubmissionWithin}
+
+-- certificate, fills, liability and surplus, of any object
+abbrev pub proposal_shape : Data → Bool
+proposal_shape d =
+    has_at (codes "certificate") certificate_shape d
+    && (has_at (codes "fills") (is_list is_text) d && (has_at (codes "liability") is_text d && has_at (codes "surplus") is_text d))
+
+abbrev pub proposal_numbers : Data → Bool
+proposal_numbers d =
+    has_at (codes "certificate") certificate_numbers d
+    && (has_at (codes "fills") (is_list is_fraction) d && (has_at (codes "liability") is_fraction d && has_at (codes "surplus") is_fraction d))
+
+-- the proposal of a certificate, which is that of the mark optimal
+abbrev pub proposal_of : List Frac128 → Frac128 → Frac128 → Mark → Option Proposal
+proposal_of fills liability surplus (Optimal cover measure) =
+    Some (record { fills = fills; claim = record { liability = liability; surplus = surplus }; cover = cover; measure = measure })
+proposal_of fills liability surplus (Wide w) = None
+proposal_of fills liability surplus Budget = None
+
+abbrev pub proposal_from : Data → Option Proposal
+proposal_from d =
+    option_and_then (λ fills.
+    option_and_then (λ liability.
+    option_and_then (λ surplus. option_and_then (proposal_of fills liability surplus) (take_at (codes "certificate") certificate_from d))
+    (take_at (codes "surplus") fraction_from d))
+    (take_at (codes "liability") fraction_from d))
+    (list_at (codes "fills") fraction_from d)
+
+-- ---- the orders that it is for
+
+abbrev pub order_number_from : Data → Option ℕ
+order_number_from d = option_and_then (from_to 1 MAX_ORDER) (option_and_then as_u64 (as_number d))
+
+abbrev pub few_numbers : List ℕ → Option (List ℕ)
+few_numbers orders = if nat_le (length orders) MAX_ORDERS then Some orders else None
+
+abbrev pub order_numbers_at : Data → Option (List ℕ)
+order_numbers_at d = option_and_then few_numbers (list_at (codes "orders") order_number_from d)
+
+-- ---- the whole text
+
+abbrev pub submission_shape : Data → Bool
+submission_shape d = has_members 5 d && (proposal_shape d && has_at (codes "orders") (is_list is_whole) d)
+
+abbrev pub submission_with : List ℕ → Proposal → Submission
+submission_with orders proposal = record { orders = orders; proposal = proposal }
+
+abbrev pub submission_from : Data → Option Submission
+submission_from d = option_and_then (λ orders. option_map (submission_with orders) (proposal_from d)) (order_numbers_at d)
+
+-- the tests of a proposal
+abbrev pub submission_tests : Tests Submission
+submission_tests = record {
+  has_shape = submission_shape;
+  has_numbers = proposal_numbers;
+  taken = submission_from;
+  print = submission_text;
+}
+
+-- what passes the tests
+abbrev pub submission_of : List ℕ → Option Submission
+submission_of text = result_ok (read_by submission_tests text)
+
+-- the text is the print of a proposal within its ranges
+abbrev pub IsTextOf : List ℕ → Submission → Type 0
+IsTextOf text s = IsSubmissionWithin s × (text ≡ submission_text s)

@@ -1,0 +1,19 @@
+//! The texts of proposals: what a line proposes, and the replies that `serve` has beside those of a run, both ways.
+#![tactic(auto)]
+
+mod bounded_values;
+pub mod laws;
+mod printing;
+pub mod reading;
+pub mod replies;
+mod reply_shapes;
+mod reply_values;
+mod small_values;
+pub mod submission_text;
+pub mod submissions;
+
+pub use printing::print_proposal_reply;
+pub use reading::read_proposal_reply;
+pub use replies::{BoundedOutcome, Failed, Positions, ProposalReply, RunStop, failed_as};
+pub use submission_text::{print_submission, read_submission};
+pub use submissions::Submission;

@@ -1,0 +1,100 @@
+//! The replies that `serve` has to lines of proposals, and to a clear whose outcome was proposed.
+ghost use Rattle.std.specs.Prelude.{◌≡◌, ◌≢◌};
+ghost use Rattle.cert_check.specs.declared.outcome.No.TheVariants as no;
+ghost use Rattle.cert_check.specs.declared.outcome.Unproved.TheVariants as unproved;
+ghost use Rattle.proposal_text.specs.Pieces.{failed_as};
+
+use cert_check::{No, Proposal, Unproved};
+use form::Batch;
+use frac::Frac128;
+use lists::List;
+use settlement::Position;
+
+/// The positions of an account in a market, in the order in which they were added, which contracts see as their list.
+pub type Positions = List<Position>;
+
+/// Why the reference run of a batch stopped.
+#[derive(Clone, Copy, Debug, PartialEq, Eq)]
+pub enum RunStop {
+    /// A step of it did not fit.
+    Wide,
+    /// It wanted one unit more than its budget.
+    Budget,
+}
+
+/// The outcome of a batch that was cleared as proposals had it: the fills, claim and cover of one of them, the measure of one
+/// and its bound, and why the reference run stopped and after how many units.
+#[derive(Debug, Drop)]
+pub struct BoundedOutcome {
+    pub proposal: Proposal,
+    pub bound: Frac128,
+    pub run: RunStop,
+    pub units: u32,
+}
+
+/// The first condition that a proposal fails, or that a step of its judgement does not fit.
+#[derive(Clone, Copy, Debug, PartialEq, Eq)]
+pub enum Failed {
+    /// There is not one fill for each order, or the cover or a state is not one on the batch's underlyings.
+    BatchShape,
+    /// A fill is below 0 or above its order's quantity.
+    Fill,
+    /// The premium less the liability is not the surplus, the surplus is below 0, or the liability is not enough.
+    Cover,
+    /// A weight is below 0, or the weights times their states' first entries do not sum to 1.
+    Measure,
+    /// A step of the judgement does not fit 128 bits.
+    Wide,
+}
+
+/// What a line about proposals is answered, and a clear whose outcome was proposed.
+#[derive(Debug, Drop)]
+pub enum ProposalReply {
+    /// The live orders of a market, by rising number.
+    Book {
+        market: u32,
+        batch: Batch,
+    },
+    /// The positions of an account in a market, in the order in which they were added.
+    Positions {
+        account: u32,
+        market: u32,
+        positions: Positions,
+    },
+    /// The proposal is judged a bound: its surplus and bound, and the greatest surplus and least bound of what is kept
+    /// after it.
+    Proposed {
+        market: u32,
+        surplus: Frac128,
+        bound: Frac128,
+        best_surplus: Frac128,
+        least_bound: Frac128,
+    },
+    /// The batch of this number was cleared as proposals had it.
+    Bounded {
+        number: u32,
+        market: u32,
+        batch: Batch,
+        outcome: BoundedOutcome,
+    },
+    /// The orders of the proposal are not the live orders of the market.
+    Stale,
+    /// The proposal is judged no bound.
+    Unproved {
+        failed: Failed,
+    },
+}
+
+/// What a proposal fails that is judged no bound, which is never the bound itself.
+pub fn failed_as(reason: Unproved) -> Failed
+    requires { reason ≢ unproved.No no.Bound }
+    ensures { result ≡ failed_as reason }
+{
+    match reason {
+        Unproved::No(No::BatchShape) => Failed::BatchShape,
+        Unproved::No(No::Fill) => Failed::Fill,
+        Unproved::No(No::Cover) => Failed::Cover,
+        Unproved::No(No::Measure | No::Bound) => Failed::Measure,
+        Unproved::Wide(_) => Failed::Wide,
+    }
+}

@@ -1,0 +1,192 @@
+// The shapes of the replies, and whether their texts are numbers.
+ghost use Rattle.std.specs.Prelude.{◌≡◌, false};
+ghost use Rattle.serde_json.specs.View.{view};
+ghost use Rattle.reply_shape.specs.ClearedShape.{order_shape};
+ghost use Rattle.reply_shape.specs.Look.{is_list as list_passes};
+ghost use Rattle.proposal_text.specs.ReplyShapes.{are_orders as orders_are, book_shape as book_is, bounded_shape as bounded_is, counts_shape as counts_are, is_failed as failed_is, is_stop as stop_is, numbers_by as numbers_are, position_numbers as position_is_numbered, position_shape as position_is, positions_shape as positions_are, proposed_numbers as proposed_is_numbered, proposed_shape as proposed_is, refused_shape as refused_is, shape_by as shape_is, stale_shape as stale_is, unproved_shape as unproved_is};
+
+use crate::submission_text::{proposal_numbers, proposal_shape};
+use reply_shape::cleared_numbers::has_fraction;
+use reply_shape::cleared_shape::{are_legs, are_orders, is_side};
+use reply_shape::look::{
+    has_at, has_members, has_text, has_whole, has_word, is_list, is_word, number_at,
+};
+use serde_json::Value;
+
+fn are_leg_orders(value: &Value) -> bool
+    ensures { result ≡ list_passes (order_shape false) (view value.now) }
+{
+    are_orders(value, false)
+}
+
+fn has_orders(value: &Value) -> bool
+    ensures { result ≡ orders_are (view value.now) }
+{
+    has_at(value, "orders", are_leg_orders)
+}
+
+fn book_shape(value: &Value) -> bool
+    ensures { result ≡ book_is (view value.now) }
+{
+    has_members(value, 5)
+        && has_whole(value, "line")
+        && has_whole(value, "market")
+        && has_orders(value)
+        && has_whole(value, "underlyings")
+}
+
+fn position_shape(value: &Value) -> bool
+    ensures { result ≡ position_is (view value.now) }
+{
+    has_members(value, 5)
+        && has_whole(value, "batch")
+        && has_text(value, "fill")
+        && has_at(value, "legs", are_legs)
+        && has_whole(value, "order")
+        && has_at(value, "side", is_side)
+}
+
+fn are_positions(value: &Value) -> bool
+    ensures { result ≡ list_passes position_is (view value.now) }
+{
+    is_list(value, position_shape)
+}
+
+fn positions_shape(value: &Value) -> bool
+    ensures { result ≡ positions_are (view value.now) }
+{
+    has_members(value, 5)
+        && has_whole(value, "account")
+        && has_whole(value, "line")
+        && has_whole(value, "market")
+        && has_at(value, "positions", are_positions)
+}
+
+fn proposed_shape(value: &Value) -> bool
+    ensures { result ≡ proposed_is (view value.now) }
+{
+    has_members(value, 7)
+        && has_text(value, "best_surplus")
+        && has_text(value, "bound")
+        && has_text(value, "least_bound")
+        && has_whole(value, "line")
+        && has_whole(value, "market")
+        && has_text(value, "surplus")
+}
+
+fn is_stop(value: &Value) -> bool
+    ensures { result ≡ stop_is (view value.now) }
+{
+    is_word(value, "wide") || is_word(value, "budget")
+}
+
+fn counts_shape(value: &Value) -> bool
+    ensures { result ≡ counts_are (view value.now) }
+{
+    has_whole(value, "batch")
+        && has_whole(value, "line")
+        && has_whole(value, "market")
+        && has_whole(value, "underlyings")
+        && has_whole(value, "units")
+}
+
+fn bounded_shape(value: &Value) -> bool
+    ensures { result ≡ bounded_is (view value.now) }
+{
+    number_at(value, "version") == 3
+        && has_members(value, 15)
+        && proposal_shape(value)
+        && has_text(value, "bound")
+        && has_word(value, "mark", "bounded")
+        && has_at(value, "run", is_stop)
+        && has_orders(value)
+        && counts_shape(value)
+}
+
+fn is_failed(value: &Value) -> bool
+    ensures { result ≡ failed_is (view value.now) }
+{
+    is_word(value, "BatchShape")
+        || is_word(value, "Fill")
+        || is_word(value, "Cover")
+        || is_word(value, "Measure")
+        || is_word(value, "Wide")
+}
+
+fn stale_shape(value: &Value) -> bool
+    ensures { result ≡ stale_is (view value.now) }
+{
+    has_members(value, 4) && has_whole(value, "line") && has_word(value, "reason", "Stale")
+}
+
+fn unproved_shape(value: &Value) -> bool
+    ensures { result ≡ unproved_is (view value.now) }
+{
+    has_members(value, 5)
+        && has_at(value, "failed", is_failed)
+        && has_whole(value, "line")
+        && has_word(value, "reason", "Unproved")
+}
+
+fn refused_shape(value: &Value, number: u64) -> bool
+    ensures { result ≡ refused_is number (view value.now) }
+{
+    if number == 20 {
+        stale_shape(value)
+    } else {
+        number == 21 && unproved_shape(value)
+    }
+}
+
+// Whether the value has the shape of the reply that this word names.
+pub(crate) fn has_shape(value: &Value, word: &str) -> bool
+    ensures { result ≡ shape_is word.now (view value.now) }
+{
+    if word == "book" {
+        book_shape(value)
+    } else if word == "positions" {
+        positions_shape(value)
+    } else if word == "proposed" {
+        proposed_shape(value)
+    } else if word == "cleared" {
+        bounded_shape(value)
+    } else {
+        word == "refused" && refused_shape(value, number_at(value, "number"))
+    }
+}
+
+fn position_numbers(value: &Value) -> bool
+    ensures { result ≡ position_is_numbered (view value.now) }
+{
+    has_fraction(value, "fill")
+}
+
+fn are_numbered(value: &Value) -> bool
+    ensures { result ≡ list_passes position_is_numbered (view value.now) }
+{
+    is_list(value, position_numbers)
+}
+
+fn proposed_numbers(value: &Value) -> bool
+    ensures { result ≡ proposed_is_numbered (view value.now) }
+{
+    has_fraction(value, "best_surplus")
+        && has_fraction(value, "bound")
+        && has_fraction(value, "least_bound")
+        && has_fraction(value, "surplus")
+}
+
+// Whether the texts of the reply that this word names are numbers where they should be. The value has its shape.
+pub(crate) fn has_numbers(value: &Value, word: &str) -> bool
+    ensures { result ≡ numbers_are word.now (view value.now) }
+{
+    if word == "positions" {
+        has_at(value, "positions", are_numbered)
+    } else if word == "proposed" {
+        proposed_numbers(value)
+    } else if word == "cleared" {
+        has_fraction(value, "bound") && proposal_numbers(value)
+    } else {
+        true
+    }
+}

@@ -1,0 +1,271 @@
+//! What a line proposes, both ways.
+ghost use Rattle.std.specs.Prelude.{◌≡◌, ◌⊎◌, ◌↔◌, ◌&&◌, IfErr, IfOk, IfSome, IsTrue, Err, Ok, Some, option_map, codes};
+ghost use Rattle.serde_json.specs.View.{view};
+ghost use Rattle.reply_print.specs.BatchPieces.{each, natural};
+ghost use Rattle.reply_print.specs.PieceData.{piece_data};
+ghost use Rattle.reply_shape.specs.ClearedShape.{certificate_shape as certificate_is};
+ghost use Rattle.reply_shape.specs.Look.{has_at as passes_at, is_list as list_passes, is_text as text_value, is_whole as whole_number};
+ghost use Rattle.reply_shape.specs.NumberTexts.{certificate_numbers as certificate_is_numbered, is_fraction as fraction_text};
+ghost use Rattle.reply_text.specs.Taking.{list_at as list_found};
+ghost use Rattle.reply_text.specs.Tests.{read_by, value_by};
+ghost use Rattle.reply_text.specs.declared.faults.LineFault.TheVariants.{Memory};
+ghost use Rattle.proposal_text.specs.Pieces.{submission_piece, submission_text};
+ghost use Rattle.proposal_text.specs.declared.submissions.Submission.{Submission};
+ghost use Rattle.proposal_text.specs.Submissions.{IsTextOf, order_number_from as number_found, order_numbers_at as numbers_found, proposal_from as proposal_found, proposal_of, proposal_numbers as numbers_are, proposal_shape as shape_is, submission_from as submission_found, submission_of, submission_shape as submission_is, submission_tests};
+
+use crate::submissions::Submission;
+use cert_check::{Claim, Fills, Mark, Proposal};
+use form::MAX_ORDERS;
+use frac::Frac128;
+use proposals::OrderNumbers;
+use reply_print::limits::MAX_ORDER;
+use reply_print::members::with;
+use reply_print::order_values::{fills_value, fraction_value};
+use reply_print::outcome_values::certificate_value;
+use reply_shape::cleared_numbers::{are_fills, certificate_numbers, has_fraction};
+use reply_shape::cleared_shape::{are_texts, certificate_shape};
+use reply_shape::look::{has_at, has_members, has_text, is_list, is_whole};
+use reply_text::LineFault;
+use reply_text::certificate_values::{certificate_at, fills_at, fraction_at};
+use reply_text::reading::{is_same, json_value};
+use reply_text::taking::{from_to, list_at};
+use serde_json::{Map, Value};
+use std::alloc::{AllocError, Global};
+
+fn number_value(number: u64) -> Value
+    ensures { view result ≡ piece_data (natural number) }
+{
+    Value::from(number)
+}
+
+fn numbers_value(alloc: Global, numbers: &[u64]) -> Result<Value, AllocError>
+    ensures { IfOk result (λ v. view v ≡ piece_data (each natural numbers.now)) }
+{
+    let mut values = Vec::new(alloc);
+    for number in numbers {
+        values.push(number_value(*number))?;
+    }
+    Ok(Value::Array(values))
+}
+
+fn submission_value(alloc: Global, submission: &Submission) -> Result<Value, AllocError>
+    ensures { IfOk result (λ v. view v ≡ piece_data (submission_piece submission.now)) }
+{
+    let proposal = &submission.proposal;
+    let surplus = fraction_value(alloc, proposal.claim.surplus)?;
+    let orders = numbers_value(alloc, submission.orders.as_slice())?;
+    let liability = fraction_value(alloc, proposal.claim.liability)?;
+    let fills = fills_value(alloc, proposal.fills.as_slice())?;
+    let certificate = certificate_value(alloc, &proposal.cover, &proposal.measure)?;
+    let map = with(alloc, Map::new(alloc), "surplus", surplus)?;
+    let map = with(alloc, map, "orders", orders)?;
+    let map = with(alloc, map, "liability", liability)?;
+    let map = with(alloc, map, "fills", fills)?;
+    let map = with(alloc, map, "certificate", certificate)?;
+    Ok(Value::Object(map))
+}
+
+/// The text of what is proposed. The only error is want of memory.
+pub fn print_submission(alloc: Global, submission: &Submission) -> Result<Vec<u8>, AllocError>
+    ensures { IfOk result (λ text. text.items ≡ submission_text submission.now) }
+{
+    let value = submission_value(alloc, submission)?;
+    value.to_vec(alloc)
+}
+
+fn has_certificate(value: &Value) -> bool
+    ensures { result ≡ passes_at (codes "certificate") certificate_is (view value.now) }
+{
+    has_at(value, "certificate", certificate_shape)
+}
+
+fn has_fills(value: &Value) -> bool
+    ensures { result ≡ passes_at (codes "fills") (list_passes text_value) (view value.now) }
+{
+    has_at(value, "fills", are_texts)
+}
+
+fn claim_shape(value: &Value) -> bool
+    ensures { result ≡ (passes_at (codes "liability") text_value (view value.now)
+        && passes_at (codes "surplus") text_value (view value.now)) }
+{
+    has_text(value, "liability") && has_text(value, "surplus")
+}
+
+// Whether the parts of a proposal are of their kinds.
+pub(crate) fn proposal_shape(value: &Value) -> bool
+    ensures { result ≡ shape_is (view value.now) }
+{
+    has_certificate(value) && has_fills(value) && claim_shape(value)
+}
+
+fn certificate_has_numbers(value: &Value) -> bool
+    ensures { result ≡ passes_at (codes "certificate") certificate_is_numbered (view value.now) }
+{
+    has_at(value, "certificate", certificate_numbers)
+}
+
+fn fills_are_numbers(value: &Value) -> bool
+    ensures { result ≡ passes_at (codes "fills") (list_passes fraction_text) (view value.now) }
+{
+    has_at(value, "fills", are_fills)
+}
+
+fn claim_has_numbers(value: &Value) -> bool
+    ensures { result ≡ (passes_at (codes "liability") fraction_text (view value.now)
+        && passes_at (codes "surplus") fraction_text (view value.now)) }
+{
+    has_fraction(value, "liability") && has_fraction(value, "surplus")
+}
+
+// Whether its texts are numbers where they should be.
+pub(crate) fn proposal_numbers(value: &Value) -> bool
+    ensures { result ≡ numbers_are (view value.now) }
+{
+    certificate_has_numbers(value) && fills_are_numbers(value) && claim_has_numbers(value)
+}
+
+fn are_wholes(value: &Value) -> bool
+    ensures { result ≡ list_passes whole_number (view value.now) }
+{
+    is_list(value, is_whole)
+}
+
+fn submission_shape(value: &Value) -> bool
+    ensures { result ≡ submission_is (view value.now) }
+{
+    has_members(value, 5) && proposal_shape(value) && has_at(value, "orders", are_wholes)
+}
+
+// The proposal of these fills and this claim under the certificate of a mark.
+fn proposal_under(fills: Vec<Frac128>, claim: Claim, mark: Mark) -> Option<Proposal>
+    ensures { result ≡ proposal_of fills.items claim.liability claim.surplus mark }
+{
+    match mark {
+        Mark::Optimal { cover, measure } => Some(Proposal {
+            fills: Fills::from_vec(fills),
+            claim,
+            cover,
+            measure,
+        }),
+        Mark::Wide(_) => None,
+        Mark::Budget => None,
+    }
+}
+
+// The proposal that is taken out of a value, where its numbers are within their ranges.
+pub(crate) fn proposal_from(alloc: Global, value: &Value) -> Result<Option<Proposal>, AllocError>
+    ensures { IfOk result (λ o. o ≡ proposal_found (view value.now)) }
+{
+    let Some(fills) = fills_at(alloc, value)? else {
+        return Ok(None);
+    };
+    let Some(liability) = fraction_at(value, "liability") else {
+        return Ok(None);
+    };
+    let Some(surplus) = fraction_at(value, "surplus") else {
+        return Ok(None);
+    };
+    let Some(mark) = certificate_at(alloc, value)? else {
+        return Ok(None);
+    };
+    Ok(proposal_under(fills, Claim { liability, surplus }, mark))
+}
+
+fn number_from(value: &Value) -> Option<u64>
+    ensures { result ≡ number_found (view value.now) }
+{
+    let number = value.as_u64()?;
+    from_to(1, MAX_ORDER, number)
+}
+
+fn numbers_at(alloc: Global, value: &Value) -> Result<Option<Vec<u64>>, AllocError>
+    ensures { IfOk result (λ o. option_map (λ v. v.items) o
+        ≡ list_found (codes "orders") number_found (view value.now)) }
+{
+    list_at(alloc, value, "orders", |number| Ok(number_from(number)))
+}
+
+fn order_numbers(alloc: Global, value: &Value) -> Result<Option<OrderNumbers>, AllocError>
+    ensures { IfOk result (λ o. o ≡ numbers_found (view value.now)) }
+{
+    let Some(numbers) = numbers_at(alloc, value)? else {
+        return Ok(None);
+    };
+    if numbers.len() > MAX_ORDERS {
+        return Ok(None);
+    }
+    Ok(Some(OrderNumbers::from_vec(numbers)))
+}
+
+fn submission_from(alloc: Global, value: &Value) -> Result<Option<Submission>, AllocError>
+    ensures { IfOk result (λ o. o ≡ submission_found (view value.now)) }
+{
+    let Some(orders) = order_numbers(alloc, value)? else {
+        return Ok(None);
+    };
+    let Some(proposal) = proposal_from(alloc, value)? else {
+        return Ok(None);
+    };
+    Ok(Some(Submission { orders, proposal }))
+}
+
+fn is_spelled(alloc: Global, submission: &Submission, text: &[u8]) -> Result<bool, AllocError>
+    ensures { IfOk result (λ same. IsTrue same ↔ (submission_text submission.now ≡ text.now)) }
+{
+    let spelled = print_submission(alloc, submission)?;
+    Ok(is_same(spelled.as_slice(), text))
+}
+
+// The tests on the value of a text.
+fn read_value(alloc: Global, text: &[u8], value: &Value) -> Result<Submission, LineFault>
+    ensures ok { IfOk result (λ s. value_by submission_tests text.now (view value.now) ≡ Ok s) }
+    ensures err { IfErr result (λ e. (e ≡ Memory)
+        ⊎ (value_by submission_tests text.now (view value.now) ≡ Err e)) }
+{
+    if !submission_shape(value) {
+        return Err(LineFault::Shape);
+    }
+    if !proposal_numbers(value) {
+        return Err(LineFault::Number);
+    }
+    let Some(submission) = submission_from(alloc, value)? else {
+        return Err(LineFault::Range);
+    };
+    if is_spelled(alloc, &submission, text)? {
+        Ok(submission)
+    } else {
+        Err(LineFault::Spelling)
+    }
+}
+
+// What a text proposes, or the first test that it fails.
+fn read_tested(alloc: Global, text: &[u8]) -> Result<Submission, LineFault>
+    ensures ok { IfOk result (λ s. read_by submission_tests text.now ≡ Ok s) }
+    ensures err { IfErr result (λ e. (e ≡ Memory)
+        ⊎ (read_by submission_tests text.now ≡ Err e)) }
+{
+    let value = json_value(alloc, text)?;
+    read_value(alloc, text, &value)
+}
+
+// What a text proposes, where it passes the tests.
+fn submission_read(alloc: Global, text: &[u8]) -> Result<Option<Submission>, AllocError>
+    ensures { IfOk result (λ read. read ≡ submission_of text.now) }
+{
+    match read_tested(alloc, text) {
+        Ok(submission) => Ok(Some(submission)),
+        Err(LineFault::Memory) => Err(AllocError),
+        Err(_) => Ok(None),
+    }
+}
+
+/// What a text proposes: `Some` exactly where the text is the print of it and all is within its ranges. The only error is
+/// want of memory.
+pub fn read_submission(alloc: Global, text: &[u8]) -> Result<Option<Submission>, AllocError>
+    ensures read { IfOk result (λ read. read ≡ submission_of text.now) }
+    ensures each_text { (s : Submission) → IsTextOf text.now s → IfOk result (λ read. read ≡ Some s) }
+    ensures text { IfOk result (λ read. IfSome read (IsTextOf text.now)) }
+{
+    submission_read(alloc, text)
+}
