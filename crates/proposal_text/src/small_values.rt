@@ -1,7 +1,9 @@
-// The JSON values of positions, and of replies that have no certificate.
+// The JSON values of positions, and of replies that have no certificate. Members go in from the last to the first, each before
+// those that are there.
 ghost use Rattle.std.specs.Prelude.{◌≡◌, IfOk, codes, false};
-ghost use Rattle.serde_json.specs.View.{view};
-ghost use Rattle.reply_print.specs.BatchPieces.{each};
+ghost use Rattle.serde_json.specs.Data.{put, string, number, unsigned, no_members};
+ghost use Rattle.serde_json.specs.View.{view, members_view};
+ghost use Rattle.reply_print.specs.BatchPieces.{each, fraction};
 ghost use Rattle.reply_print.specs.PieceData.{piece_data};
 ghost use Rattle.reply_print.specs.ReplyPieces.{refused_with};
 ghost use Rattle.proposal_text.specs.Pieces.{book_piece, failed_word, position_piece, positions_piece, proposed_piece, unproved_piece};
@@ -9,8 +11,9 @@ ghost use Rattle.proposal_text.specs.Pieces.{book_piece, failed_word, position_p
 use crate::replies::Failed;
 use form::{Batch, word_of};
 use frac::Frac128;
+use reply_print::members::{with, with_number, with_words};
 use reply_print::order_values::{fraction_value, legs_value, orders_value};
-use serde_json::{Value, json};
+use serde_json::{Map, Value, json};
 use settlement::Position;
 use std::alloc::{AllocError, Global};
 
@@ -22,22 +25,31 @@ pub(crate) fn book_value(
 ) -> Result<Value, AllocError>
     ensures { IfOk result (λ v. view v ≡ piece_data (book_piece line market batch.now)) }
 {
+    let map = with_number(
+        alloc,
+        Map::new(alloc),
+        "underlyings",
+        u32::from(batch.underlyings),
+    )?;
+    let map = with_words(alloc, map, "reply", "book")?;
     let orders = orders_value(alloc, batch.orders.as_slice(), false)?;
-    json!(in alloc; {
-        "line": line, "market": market, "orders": orders, "reply": "book",
-        "underlyings": batch.underlyings
-    })
+    let map = with(alloc, map, "orders", orders)?;
+    let map = with_number(alloc, map, "market", market)?;
+    let map = with_number(alloc, map, "line", line)?;
+    Ok(Value::Object(map))
 }
 
 fn position_value(alloc: Global, position: &Position) -> Result<Value, AllocError>
     ensures { IfOk result (λ v. view v ≡ piece_data (position_piece position.now)) }
 {
-    let fill = fraction_value(alloc, position.fill)?;
+    let map = with_words(alloc, Map::new(alloc), "side", word_of(position.side))?;
+    let map = with(alloc, map, "order", Value::from(position.order))?;
     let legs = legs_value(alloc, position.bundle.as_slice())?;
-    let side = word_of(position.side);
-    json!(in alloc; {
-        "batch": position.batch, "fill": fill, "legs": legs, "order": position.order, "side": side
-    })
+    let map = with(alloc, map, "legs", legs)?;
+    let fill = fraction_value(alloc, position.fill)?;
+    let map = with(alloc, map, "fill", fill)?;
+    let map = with(alloc, map, "batch", Value::from(position.batch))?;
+    Ok(Value::Object(map))
 }
 
 fn position_values(alloc: Global, positions: &[Position]) -> Result<Value, AllocError>
@@ -67,6 +79,24 @@ pub(crate) fn positions_value(
     })
 }
 
+// From the line on.
+fn proposed_end(
+    alloc: Global,
+    line: u32,
+    market: u32,
+    surplus: Frac128,
+) -> Result<Map<String, Value>, AllocError>
+    ensures { IfOk result (λ m. members_view m.entries
+        ≡ put (codes "line") (number (unsigned line)) (put (codes "market") (number (unsigned market))
+        (put (codes "reply") (string (codes "proposed")) (put (codes "surplus") (piece_data (fraction surplus)) no_members)))) }
+{
+    let surplus = fraction_value(alloc, surplus)?;
+    let map = with(alloc, Map::new(alloc), "surplus", surplus)?;
+    let map = with_words(alloc, map, "reply", "proposed")?;
+    let map = with_number(alloc, map, "market", market)?;
+    with_number(alloc, map, "line", line)
+}
+
 pub(crate) fn proposed_value(
     alloc: Global,
     line: u32,
@@ -77,14 +107,14 @@ pub(crate) fn proposed_value(
     ensures { IfOk result (λ v. view v
         ≡ piece_data (proposed_piece line market proved.0 proved.1 best.0 best.1)) }
 {
-    let best_surplus = fraction_value(alloc, best.0)?;
-    let bound = fraction_value(alloc, proved.1)?;
+    let map = proposed_end(alloc, line, market, proved.0)?;
     let least_bound = fraction_value(alloc, best.1)?;
-    let surplus = fraction_value(alloc, proved.0)?;
-    json!(in alloc; {
-        "best_surplus": best_surplus, "bound": bound, "least_bound": least_bound, "line": line,
-        "market": market, "reply": "proposed", "surplus": surplus
-    })
+    let map = with(alloc, map, "least_bound", least_bound)?;
+    let bound = fraction_value(alloc, proved.1)?;
+    let map = with(alloc, map, "bound", bound)?;
+    let best_surplus = fraction_value(alloc, best.0)?;
+    let map = with(alloc, map, "best_surplus", best_surplus)?;
+    Ok(Value::Object(map))
 }
 
 pub(crate) fn stale_value(alloc: Global, line: u32) -> Result<Value, AllocError>
