@@ -1,9 +1,11 @@
 //! The answer to one line.
 ghost use Rattle.std.specs.Prelude.{◌≡◌, ◌<◌, ◌==◌, false, length, IfOk};
 ghost use Rattle.std.specs.List.{list_any};
-ghost use Rattle.guarded_lines.specs.Output.{guarded_line};
+ghost use Rattle.guarded_lines.specs.Output.{guarded_line, written_reply};
+ghost use Rattle.guarded_lines.specs.Replies.{guarded_reply_to};
+ghost use Rattle.guarded_lines.specs.Within.{GuardedBodyIsWithin};
 
-use crate::bodies::guarded_body_of;
+use crate::bodies::{GuardedBody, guarded_body_of};
 use crate::replies::{print, reply_to};
 use exchange_core::Exchange;
 use std::alloc::{AllocError, Global};
@@ -23,7 +25,22 @@ pub fn answer(
         (text.items, exchange.new) ≡ guarded_line number exchange.old line.now) }
 {
     let said = guarded_body_of(alloc, line)?;
-    let reply = reply_to(alloc, exchange, &said)?;
+    answer_said(alloc, exchange, number, &said)
+}
+
+/// Takes the exchange further by a line that says this, and answers what is written for it with this
+/// number. The only error is want of memory.
+pub fn answer_said(
+    alloc: Global,
+    exchange: &mut Exchange,
+    number: u32,
+    said: &GuardedBody,
+) -> Result<Vec<u8>, AllocError>
+    requires { GuardedBodyIsWithin said.now }
+    ensures { IfOk result (λ text. (text.items, exchange.new)
+        ≡ written_reply number (guarded_reply_to exchange.old said.now)) }
+{
+    let reply = reply_to(alloc, exchange, said)?;
     let mut text = print(alloc, number, &reply)?;
     text.push(b'\n')?;
     Ok(text)

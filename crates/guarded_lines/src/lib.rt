@@ -12,7 +12,7 @@ mod requests;
 mod told;
 mod withdrawals;
 
-pub use answers::answer;
+pub use answers::{answer, answer_said};
 pub use bodies::{GuardedBody, guarded_body_of};
 pub use replies::{GuardedReply, reply_to};
 pub use requests::MarginRequest;
