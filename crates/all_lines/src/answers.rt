@@ -1,50 +1,28 @@
-// An exchange that answers all lines.
+// The answer to a line of any kind.
 ghost use Rattle.std.specs.Prelude.{◌≡◌, ◌<◌, ◌==◌, false, length, IfOk};
 ghost use Rattle.std.specs.List.{list_any};
-ghost use Rattle.exchange_core.specs.ExchangeState.{empty_exchange};
 ghost use Rattle.all_lines.specs.Output.{all_line};
 
 use crate::words::asking_word;
 use exchange_core::Exchange;
-use live_lines::LineAnswers;
 use std::alloc::{AllocError, Global};
-use std::marker::Model;
 
-/// An exchange that answers all lines, each as the next one of an input. A line that asks for a quote, prices or a margin changes nothing,
-/// nor does a withdrawal that is refused.
-#[derive(Drop)]
-pub struct AllLines {
-    exchange: Exchange,
-}
-
-impl Model for AllLines {
-    ghost use Rattle.exchange_core.specs.ExchangeState.{ExchangeState};
-
-    ghost Value = { ExchangeState };
-
-    ghost view = { λ s. s.exchange };
-}
-
-impl AllLines {
-    /// Before the first line. Takes no memory.
-    pub fn new(alloc: Global) -> Self
-        ensures { result ≡ empty_exchange }
-    {
-        AllLines {
-            exchange: Exchange::new(alloc),
-        }
+/// Takes the exchange one line further, whatever kind the line is of, and answers what is written
+/// for a line of exactly these bytes with this number. A line that asks for a quote, prices or a margin
+/// changes nothing, nor does a withdrawal that is refused. The only error is want of memory.
+pub fn answer(
+    alloc: Global,
+    exchange: &mut Exchange,
+    number: u32,
+    line: &[u8],
+) -> Result<Vec<u8>, AllocError>
+    requires some { 0 < length line.now }
+    requires one_line { list_any (λ b. b == 10) line.now ≡ false }
+    ensures { IfOk result (λ text.
+        (text.items, exchange.new) ≡ all_line number exchange.old line.now) }
+{
+    match asking_word(alloc, line)? {
+        Some(word) => quote_lines::answer_by(alloc, exchange, word, number, line),
+        None => guarded_lines::answer(alloc, exchange, number, line),
     }
-}
-
-impl LineAnswers for AllLines {
-    ghost step = { all_line };
-
-    fn answer(&mut self, alloc: Global, number: u32, line: &[u8]) -> Result<Vec<u8>, AllocError> {
-        match asking_word(alloc, line)? {
-            Some(word) => { quote_lines::answer_by(alloc, &mut self.exchange, word, number, line) }
-            None => guarded_lines::answer(alloc, &mut self.exchange, number, line),
-        }
-    }
-
-    ghost goes_on = { λ _ _ _. (tt, λ _. tt) };
 }

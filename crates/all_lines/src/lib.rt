@@ -5,4 +5,4 @@ mod answers;
 pub mod laws;
 mod words;
 
-pub use answers::AllLines;
+pub use answers::answer;
