@@ -1,0 +1,123 @@
+-- What is kept is proved for the batch of the live orders, where they are those that it is for.
+use Rattle.std.proofs.Common.{◌≡◌, ℕ, ◌≤◌, List, [], ◌∷◌, Bool, true, false, cond, nat_eq, if◌then◌else◌, Option, Some, None, Ok, option_and_then, refl, sym, ap, ◌∙◌, subst}
+use Rattle.std.specs.Prelude.{IfSome}
+use Rattle.std.specs.List.{All}
+use Rattle.std.specs.Map.{lookup, remove_entry}
+use Rattle.std.specs.Option.{option_map}
+use Rattle.std.proofs.lemmas.List.Elements.{All-nil, All-cons, All-head, All-tail, All-weaker}
+use Rattle.std.proofs.lemmas.Slice.Eq.{bytes_eq-Decides}
+use Rattle.indexmap.specs.IndexMap.{insert_entry}
+use Rattle.cert_check.specs.Proposals.{proposal_bound}
+use Rattle.cert_check.specs.declared.outcome.Proposal.{Proposal}
+use Rattle.form.specs.declared.orders.Batch.{Batch}
+use Rattle.form.specs.declared.orders.Order.{Order}
+use Rattle.frac.specs.Range.{limit}
+use Rattle.frac.specs.Value.{fraction_of}
+use Rattle.frac.specs.declared.frac128.Frac128.{Frac128}
+use Rattle.order_book.specs.Book.{BookState, batch_of, market_of}
+use Rattle.order_book.specs.Kept.{IsBookKept, IsLive}
+use Rattle.order_book.specs.Markets.{MarketState, live_orders}
+use Rattle.order_book.specs.Numbers.{numbers_of}
+use Rattle.order_book.proofs.BookKept.{market_kept}
+use Rattle.order_book.proofs.MarketLists.{live_found, same_number}
+use Rattle.exchange_core.proofs.LiveAccounts.{All-live_in}
+use Rattle.proposals.specs.Best.{after_offer, are_same_orders, best_for, best_of, joined}
+use Rattle.proposals.specs.Laws.{IsProvedBest}
+use Rattle.proposals.specs.declared.best.Best.{Best}
+use Rattle.proposals.proofs.Offers.{offers_stay_proved}
+use Rattle.proposal_lines.specs.KeptByMarket.{KeptProposals, best_in, kept_in, with_kept, without_kept}
+use Rattle.proposal_lines.specs.Proved.{AgreesWith, AreProvedIn, IsEntryProved, IsProvedIn}
+use Rattle.proposal_lines.proofs.Numbered.{agree_all, same_orders}
+
+pub same_numbers : (xs ys : List ℕ) → are_same_orders xs ys ≡ true → xs ≡ ys
+same_numbers xs ys e = (bytes_eq-Decides xs ys).0 e
+
+-- the orders of what is kept after a proposal
+pub offered_orders : (kept : Option Best) (orders : List ℕ) (proposal : Proposal) (bound : Frac128) → (after_offer kept orders proposal bound).orders ≡ orders
+offered_orders None orders proposal bound = refl
+offered_orders (Some best) orders proposal bound = by (are_same_orders best.orders orders) refl
+  where
+    new : Best
+    new = best_of orders proposal bound
+
+    by : (b : Bool) → are_same_orders best.orders orders ≡ b → (if b then joined best new else new).orders ≡ orders
+    by true e = same_numbers best.orders orders e
+    by false e = refl
+
+-- ---- by market
+module _ (book : BookState) (market : ℕ) where
+  pub found_proved : (kept : KeptProposals) → AreProvedIn book kept → IfSome (kept_in market kept) (IsProvedIn book market)
+  found_proved [] are = tt
+  found_proved (e ∷ kept) are = by (nat_eq market e.0) refl (found_proved kept (All-tail (IsEntryProved book) e kept are))
+    where
+      by : (b : Bool) → nat_eq market e.0 ≡ b → IfSome (kept_in market kept) (IsProvedIn book market)
+          → IfSome (option_and_then (λ best. best) (cond b (Some e.1) (lookup (nat_eq market) kept))) (IsProvedIn book market)
+      by true is later = subst (λ n. IfSome e.1 (IsProvedIn book n)) (sym (same_number market e.0 is)) (All-head (IsEntryProved book) e kept are)
+      by false is later = later
+
+  pub without_proved : (kept : KeptProposals) → AreProvedIn book kept → AreProvedIn book (without_kept market kept)
+  without_proved [] are = are
+  without_proved (e ∷ kept) are =
+      let others = All-tail (IsEntryProved book) e kept are in
+      elim (nat_eq market e.0) as (λ b. AreProvedIn book (cond b kept (e ∷ remove_entry (nat_eq market) kept))) [
+        | true ↦ others
+        | false ↦ All-cons (IsEntryProved book) e (remove_entry (nat_eq market) kept) (All-head (IsEntryProved book) e kept are) (without_proved kept others)
+      ]
+
+  inserted_proved : (best : Best) → IsProvedIn book market best → (kept : KeptProposals) → AreProvedIn book kept → AreProvedIn book (insert_entry nat_eq kept market (Some best))
+  inserted_proved best is [] are = All-cons (IsEntryProved book) (market, Some best) [] is (All-nil (IsEntryProved book))
+  inserted_proved best is (e ∷ kept) are = by (nat_eq market e.0) refl (inserted_proved best is kept (All-tail (IsEntryProved book) e kept are))
+    where
+      by : (b : Bool) → nat_eq market e.0 ≡ b → AreProvedIn book (insert_entry nat_eq kept market (Some best))
+          → AreProvedIn book (if b then (e.0, Some best) ∷ kept else e ∷ insert_entry nat_eq kept market (Some best))
+      by true at later = All-cons (IsEntryProved book) (e.0, Some best) kept (subst (λ n. IsProvedIn book n best) (same_number market e.0 at) is) (All-tail (IsEntryProved book) e kept are)
+      by false at later = All-cons (IsEntryProved book) e (insert_entry nat_eq kept market (Some best)) (All-head (IsEntryProved book) e kept are) later
+
+  pub with_proved : (best : Best) → IsProvedIn book market best → (kept : KeptProposals) → AreProvedIn book kept → AreProvedIn book (with_kept market best kept)
+  with_proved best is kept are = inserted_proved best is (without_kept market kept) (without_proved kept are)
+
+-- ---- for the live orders
+module _ (book : BookState) (market : ℕ) (m : MarketState) (found : market_of book market ≡ Some m) where
+  -- what is kept for them is proved for their batch
+  counted : (best : Best) → IsProvedIn book market best → best.orders ≡ numbers_of m.live → IsProvedBest (batch_of m) best
+  counted best is same =
+      let live : m.live ≡ is.batch.orders =
+      same_orders m.live is.batch.orders (sym same ∙ is.numbers)
+      (subst (All (AgreesWith is.batch.orders)) (live_found market book.markets m found) (All-live_in (AgreesWith is.batch.orders) market book.markets is.agree)) in
+      let there : Some m.underlyings ≡ Some is.batch.underlyings = sym (ap (option_map (λ (m : MarketState). m.underlyings)) found) ∙ is.underlyings in
+      let on : m.underlyings ≡ is.batch.underlyings = cc in
+      let own : batch_of m ≡ is.batch =
+      ap (λ (n : ℕ). batch_on n m.live) on ∙ ap (batch_on is.batch.underlyings) live in
+      subst (λ (b : Batch). IsProvedBest b best) (sym own) is.proved
+    where
+      batch_on : ℕ → List Order → Batch
+      batch_on n orders = record { underlyings = n; orders = orders }
+
+  best_counted : (orders : List ℕ) → orders ≡ numbers_of m.live → (kept : Option Best) → IfSome kept (IsProvedIn book market) → IfSome (best_for kept orders) (IsProvedBest (batch_of m))
+  best_counted orders same None are = tt
+  best_counted orders same (Some best) is = by (are_same_orders best.orders orders) refl
+    where
+      by : (b : Bool) → are_same_orders best.orders orders ≡ b → IfSome (if b then Some best else None) (IsProvedBest (batch_of m))
+      by true e = counted best is (same_numbers best.orders orders e ∙ same)
+      by false e = tt
+
+  pub best_proved : (kept : KeptProposals) → AreProvedIn book kept → IfSome (best_in market (numbers_of m.live) kept) (IsProvedBest (batch_of m))
+  best_proved kept are = best_counted (numbers_of m.live) refl (kept_in market kept) (found_proved book market kept are)
+
+  -- a proposal for them that proves its bound
+  pub offered_proved : IsBookKept book → (orders : List ℕ) → are_same_orders orders (numbers_of m.live) ≡ true → (proposal : Proposal) (bound : Frac128)
+      → proposal_bound limit (batch_of m) proposal ≡ Ok (fraction_of bound) → (kept : KeptProposals) → AreProvedIn book kept
+      → IsProvedIn book market (after_offer (kept_in market kept) orders proposal bound)
+  offered_proved is_kept orders same proposal bound proves kept are =
+      let own = same_numbers orders (numbers_of m.live) same in
+      let all = agree_all (live_orders book.markets) is_kept.numbers in
+      record {
+        batch = batch_of m;
+        proved = offers_stay_proved (batch_of m) (kept_in market kept) orders proposal bound (best_counted orders own (kept_in market kept) (found_proved book market kept are)) proves;
+        numbers = offered_orders (kept_in market kept) orders proposal bound ∙ own;
+        underlyings = ap (option_map (λ (m : MarketState). m.underlyings)) found;
+        agree = All-weaker (AgreesWith (live_orders book.markets)) (AgreesWith m.live)
+            (λ (p : Order) h. subst (All (λ (own : Order). p.id ≡ own.id → p ≡ own)) (live_found market book.markets m found)
+            (All-live_in (λ (own : Order). p.id ≡ own.id → p ≡ own) market book.markets h)) (live_orders book.markets) all;
+        accepted = All-weaker (IsLive m.underlyings book.accepted) (λ (order : Order). order.id ≤ book.accepted) (λ order l. l.number) m.live (market_kept book is_kept market m found).live;
+      }

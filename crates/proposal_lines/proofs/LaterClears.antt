@@ -1,0 +1,346 @@
+-- A proposal lowers the surplus of no clear, for as long as the orders of its market stay.
+use Rattle.std.proofs.Common.{◌≡◌, ℕ, List, [], ◌∷◌, Bool, true, false, nat_eq, if◌then◌else◌, Option, Some, None, Result, Ok, Err, option_and_then, refl, sym, ap, ◌∙◌, subst}
+use Rattle.std.specs.Option.{option_map_or}
+use Rattle.all_lines.specs.Output.{all_line}
+use Rattle.cert_check.specs.Proposals.{proposal_bound}
+use Rattle.cert_check.specs.declared.outcome.Outcome.{Outcome}
+use Rattle.cert_check.specs.declared.outcome.Unproved.{Unproved as Reason}
+use Rattle.command_text.specs.declared.asked.Fault.{Fault}
+use Rattle.command_text.specs.declared.command.Body.{Body}
+use Rattle.command_text.specs.declared.command.Body.TheVariants as body
+use Rattle.command_text.specs.declared.command.Command.TheVariants.{Open, Deposit, Withdraw, Market, Trade, Bundle, Cancel, Clear, Settle, Balance}
+use Rattle.command_text.specs.Commands.{body_of_line}
+use Rattle.exact_num.specs.Fraction.{AtMost, Fraction}
+use Rattle.exchange_core.specs.declared.refusal.Refusal.{Refusal}
+use Rattle.exchange_core.specs.ExchangeState.{ExchangeState}
+use Rattle.exchange_core.specs.Refusals.{by_book, refusal_of}
+use Rattle.exchange_core.specs.Step.{batch_in, cleared_with}
+use Rattle.exchange_lines.specs.LineSteps.{InputLine}
+use Rattle.form.specs.declared.orders.Batch.{Batch}
+use Rattle.frac.specs.Range.{limit}
+use Rattle.frac.specs.ValueOf.{value_from}
+use Rattle.frac.specs.declared.frac128.Frac128.{Frac128}
+use Rattle.order_book.specs.Numbers.{numbers_of}
+use Rattle.order_book.specs.Refusals.{live_refusals}
+use Rattle.order_book.proofs.MarketLists.{same_number}
+use Rattle.proposal_text.specs.declared.replies.Failed.TheVariants as failed
+use Rattle.proposal_text.specs.declared.replies.BoundedOutcome.{BoundedOutcome}
+use Rattle.proposals.specs.Best.{after_offer, are_same_orders, best_for, surplus_of}
+use Rattle.proposals.specs.declared.best.Best.{Best}
+use Rattle.refusals.specs.Refusals.{first_of}
+use Rattle.proposal_lines.specs.Clears.{better_in, clear_reply, cleared_by, reference_in}
+use Rattle.proposal_lines.specs.KeptByMarket.{KeptProposals, best_in, if_above, kept_in, stop_of, with_kept, without_kept}
+use Rattle.proposal_lines.specs.LaterClears.{IsNoClearOf, IsUnharmed, LeaveOrders, ProposalsLowerNothing}
+use Rattle.proposal_lines.specs.Laws.{cleared_surplus}
+use Rattle.proposal_lines.specs.Output.{body_line, other_line, proposing_line, unproposed_line, written_reply}
+use Rattle.proposal_lines.specs.Promises.{state_by_lines}
+use Rattle.proposal_lines.specs.Proposed.{after_proposed, after_word, judged_effect, kept_by, offered, proposed_by, proposed_of, proposed_reply, stale_effect, unproved_effect}
+use Rattle.proposal_lines.specs.ProposingState.{ProposingState, state_of}
+use Rattle.proposal_lines.specs.Reads.{read_of_line, read_reply, refused_by}
+use Rattle.proposal_lines.specs.declared.proposed.Proposed.{Proposed}
+use Rattle.proposal_lines.specs.declared.replies.ProposingReply.{ProposingReply}
+use Rattle.proposal_lines.proofs.Kept.{same_numbers}
+use Rattle.proposal_lines.proofs.Lowering.{IsNoLess, after_counts, after_no_less, after_no_worse, as_much, charged_no_less}
+use Rattle.proposal_lines.proofs.ByMarket.{kept_in_others, other_way, others_in, others_kept, others_removed, own_counts, own_kept, removed_in_others, with_in_others}
+
+abbrev live_in : ExchangeState → ℕ → List ℕ
+live_in exchange market = numbers_of (batch_in exchange market).orders
+
+-- what is kept for other markets is the same, and what counts for this one is no less
+record IsNoWorseFor (market : ℕ) (exchange : ExchangeState) (one other : KeptProposals) : Type 0 where
+  others : others_in market other ≡ others_in market one
+  counted : IsNoLess (best_in market (live_in exchange market) one) (best_in market (live_in exchange market) other)
+
+kept_alike : (market : ℕ) (one other : KeptProposals) → others_in market other ≡ others_in market one → (q : ℕ) → nat_eq q market ≡ false → kept_in q other ≡ kept_in q one
+kept_alike market one other others q apart = sym (kept_in_others market q apart other) ∙ ap (kept_in q) others ∙ kept_in_others market q apart one
+
+record IsNoWorse (market : ℕ) (one other : ProposingState) : Type 0 where
+  exchange : other.exchange ≡ one.exchange
+  kept : IsNoWorseFor market one.exchange one.kept other.kept
+
+-- ---- a clear tells no lower surplus
+module _ (market : ℕ) (exchange : ExchangeState) (one other : KeptProposals) (no_worse : IsNoWorseFor market exchange one other) (q budget : ℕ) where
+  abbrev reference : Outcome
+  reference = reference_in (state_of exchange one) q budget
+
+  counts_no_less : IsNoLess (best_in q (live_in exchange q) one) (best_in q (live_in exchange q) other)
+  counts_no_less = by (nat_eq q market) refl
+    where
+      by : (b : Bool) → nat_eq q market ≡ b → IsNoLess (best_in q (live_in exchange q) one) (best_in q (live_in exchange q) other)
+      by true is = subst (λ q. IsNoLess (best_in q (live_in exchange q) one) (best_in q (live_in exchange q) other)) (sym (same_number q market is)) no_worse.counted
+      by false is =
+          subst (λ k. IsNoLess (best_in q (live_in exchange q) one) (best_for k (live_in exchange q))) (sym (kept_alike market one other no_worse.others q is)) (as_much (best_in q (live_in exchange q) one))
+
+  clears_no_less : AtMost (cleared_surplus (state_of exchange one) q budget) (cleared_surplus (state_of exchange other) q budget)
+  clears_no_less = charged_no_less reference (stop_of reference.mark) (best_in q (live_in exchange q) one) (best_in q (live_in exchange q) other) counts_no_less
+
+-- ---- a proposal
+module _ (exchange : ExchangeState) (proposed : Proposed) (bound : Frac128) where
+  abbrev orders : List ℕ
+  orders = proposed.submission.orders
+
+  abbrev taken_in : KeptProposals → KeptProposals
+  taken_in kept = with_kept proposed.market (after_proposed kept proposed bound) kept
+
+  -- it is kept for its market
+  taken_counts : orders ≡ live_in exchange proposed.market → (kept : KeptProposals)
+      → best_in proposed.market (live_in exchange proposed.market) (taken_in kept) ≡ Some (after_proposed kept proposed bound)
+  taken_counts same kept =
+      let best = after_proposed kept proposed bound in
+      ap (λ k. best_for k (live_in exchange proposed.market)) (own_counts proposed.market best kept)
+      ∙ subst (λ orders. best_for (Some best) orders ≡ Some best) same (after_counts orders proposed.submission.proposal bound (kept_in proposed.market kept))
+
+  -- and changes nothing of another
+  others_stay : (q : ℕ) → nat_eq q proposed.market ≡ false → (kept : KeptProposals) → kept_in q (taken_in kept) ≡ kept_in q kept
+  others_stay q apart kept = others_kept proposed.market q apart (after_proposed kept proposed bound) kept
+
+  -- against what was kept
+  taken_no_worse : orders ≡ live_in exchange proposed.market → (kept : KeptProposals) → IsNoWorseFor proposed.market exchange kept (taken_in kept)
+  taken_no_worse same kept = record {
+    others = own_kept proposed.market (after_proposed kept proposed bound) kept;
+    counted =
+        subst (IsNoLess (best_in proposed.market (live_in exchange proposed.market) kept)) (sym (taken_counts same kept))
+        (subst (λ orders. IsNoLess (best_for (kept_in proposed.market kept) orders) (Some (after_proposed kept proposed bound))) same
+        (after_no_worse orders proposed.submission.proposal bound (kept_in proposed.market kept)));
+  }
+
+  -- taken in by both
+  taken_both : orders ≡ live_in exchange proposed.market → (market : ℕ) (one other : KeptProposals) → IsNoWorseFor market exchange one other
+      → IsNoWorseFor market exchange (taken_in one) (taken_in other)
+  taken_both same market one other no_worse = by (nat_eq market proposed.market) refl
+    where
+      best : KeptProposals → Best
+      best kept = after_proposed kept proposed bound
+
+      others_apart : nat_eq proposed.market market ≡ false → others_in market (taken_in other) ≡ others_in market (taken_in one)
+      others_apart apart =
+          let same_best : best other ≡ best one =
+          ap (λ k. after_offer k orders proposed.submission.proposal bound) (kept_alike market one other no_worse.others proposed.market apart) in
+          with_in_others market proposed.market apart (best other) other
+          ∙ ap (λ b. with_kept proposed.market b (others_in market other)) same_best ∙ ap (with_kept proposed.market (best one)) no_worse.others
+          ∙ sym (with_in_others market proposed.market apart (best one) one)
+
+      others_here : market ≡ proposed.market → others_in proposed.market (taken_in other) ≡ others_in proposed.market (taken_in one)
+      others_here at =
+          own_kept proposed.market (best other) other ∙ subst (λ q. others_in q other ≡ others_in q one) at no_worse.others
+          ∙ sym (own_kept proposed.market (best one) one)
+
+      Counts : ℕ → Type 0
+      Counts q = IsNoLess (best_in q (live_in exchange q) (taken_in one)) (best_in q (live_in exchange q) (taken_in other))
+
+      for_market : market ≡ proposed.market → Counts proposed.market
+      for_market at =
+          let before : IsNoLess (best_in proposed.market (live_in exchange proposed.market) one) (best_in proposed.market (live_in exchange proposed.market) other) =
+          subst (λ q. IsNoLess (best_in q (live_in exchange q) one) (best_in q (live_in exchange q) other)) at no_worse.counted in
+          let after : AtMost (surplus_of (after_proposed one proposed bound).covered) (surplus_of (after_proposed other proposed bound).covered) =
+          after_no_less orders proposed.submission.proposal bound (kept_in proposed.market one) (kept_in proposed.market other)
+          (subst (λ orders. IsNoLess (best_for (kept_in proposed.market one) orders) (best_for (kept_in proposed.market other) orders)) (sym same) before) in
+          subst (λ b. IsNoLess b (best_in proposed.market (live_in exchange proposed.market) (taken_in other))) (sym (taken_counts same one))
+          (subst (IsNoLess (Some (after_proposed one proposed bound))) (sym (taken_counts same other)) after)
+
+      by : (b : Bool) → nat_eq market proposed.market ≡ b → IsNoWorseFor market exchange (taken_in one) (taken_in other)
+      by true at =
+          let e = same_number market proposed.market at in
+          record {
+            others = subst (λ q. others_in q (taken_in other) ≡ others_in q (taken_in one)) (sym e) (others_here e);
+            counted = subst Counts (sym e) (for_market e);
+          }
+      by false at = record {
+        others = others_apart (other_way market proposed.market at);
+        counted =
+            subst (λ k. IsNoLess (best_for k (live_in exchange market)) (best_in market (live_in exchange market) (taken_in other))) (sym (others_stay market at one))
+            (subst (λ k. IsNoLess (best_in market (live_in exchange market) one) (best_for k (live_in exchange market))) (sym (others_stay market at other)) no_worse.counted);
+      }
+
+-- ---- one proposal, without it and with it
+module _ (exchange : ExchangeState) (proposed : Proposed) where
+  abbrev batch : Batch
+  batch = batch_in exchange proposed.market
+
+  abbrev bound_of : Result Fraction Reason
+  bound_of = proposal_bound limit batch proposed.submission.proposal
+
+  abbrev are_live : Bool
+  are_live = are_same_orders proposed.submission.orders (numbers_of batch.orders)
+
+  are_live_orders : are_live ≡ true → proposed.submission.orders ≡ live_in exchange proposed.market
+  are_live_orders same = same_numbers proposed.submission.orders (numbers_of batch.orders) same
+
+  module _ (kept : KeptProposals) where
+    abbrev Taken : KeptProposals → Type 0
+    Taken after = IsNoWorseFor proposed.market exchange kept after
+
+    stays : Taken kept
+    stays = record { others = refl; counted = as_much (best_in proposed.market (live_in exchange proposed.market) kept) }
+
+    by_value : are_live ≡ true → (bound : Option Frac128) → Taken (option_map_or (kept_by kept proposed) bound (unproved_effect kept failed.Wide)).1
+    by_value same None = stays
+    by_value same (Some bound) = taken_no_worse exchange proposed bound (are_live_orders same) kept
+
+    by_bound : are_live ≡ true → (bound : Result Fraction Reason) → Taken (judged_effect kept proposed bound).1
+    by_bound same (Err reason) = stays
+    by_bound same (Ok B) = by_value same (value_from B)
+
+    offered_no_worse : Taken (offered kept proposed batch).1
+    offered_no_worse = by are_live refl
+      where
+        by : (t : Bool) → are_live ≡ t → Taken (if t then judged_effect kept proposed bound_of else stale_effect kept).1
+        by true same = by_bound same bound_of
+        by false same = stays
+
+  -- ---- in both
+  module _ (market : ℕ) (one other : KeptProposals) (no_worse : IsNoWorseFor market exchange one other) where
+    abbrev BothTaken : (KeptProposals → KeptProposals) → Type 0
+    BothTaken after = IsNoWorseFor market exchange (after one) (after other)
+
+    both_by_value : are_live ≡ true → (bound : Option Frac128) → BothTaken (λ kept. (option_map_or (kept_by kept proposed) bound (unproved_effect kept failed.Wide)).1)
+    both_by_value same None = no_worse
+    both_by_value same (Some bound) = taken_both exchange proposed bound (are_live_orders same) market one other no_worse
+
+    both_by_bound : are_live ≡ true → (bound : Result Fraction Reason) → BothTaken (λ kept. (judged_effect kept proposed bound).1)
+    both_by_bound same (Err reason) = no_worse
+    both_by_bound same (Ok B) = both_by_value same (value_from B)
+
+    offered_both : BothTaken (λ kept. (offered kept proposed batch).1)
+    offered_both = by are_live refl
+      where
+        by : (t : Bool) → are_live ≡ t → BothTaken (λ kept. (if t then judged_effect kept proposed bound_of else stale_effect kept).1)
+        by true same = both_by_bound same bound_of
+        by false same = no_worse
+
+-- ---- lines
+module _ (market : ℕ) (exchange : ExchangeState) (one other : KeptProposals) (no_worse : IsNoWorseFor market exchange one other) where
+  unchanged : IsNoWorse market (state_of exchange one) (state_of exchange other)
+  unchanged = record { exchange = refl; kept = no_worse }
+
+  proposed_both : (said : Result Proposed Fault) → IsNoWorse market (proposed_reply (state_of exchange one) said).1 (proposed_reply (state_of exchange other) said).1
+  proposed_both (Err fault) = unchanged
+  proposed_both (Ok proposed) =
+      elim (first_of (by_book (live_refusals exchange.book proposed.market))) as (λ (r : Option Refusal).
+      IsNoWorse market (option_map_or (λ first. (refused_by first, state_of exchange one)) r (proposed_by (state_of exchange one) proposed)).1
+      (option_map_or (λ first. (refused_by first, state_of exchange other)) r (proposed_by (state_of exchange other) proposed)).1) [
+        | None ↦ record { exchange = refl; kept = offered_both exchange proposed market one other no_worse }
+        | Some first ↦ unchanged
+      ]
+
+  -- ---- what leaves the orders of the market as they are
+  abbrev OrdersStay : ExchangeState → Type 0
+  OrdersStay after = batch_in after market ≡ batch_in exchange market
+
+  -- and what is kept for it
+  left_both : (after : ExchangeState) → OrdersStay after → (left : KeptProposals → KeptProposals) → others_in market (left other) ≡ others_in market (left one)
+      → ((kept : KeptProposals) → kept_in market (left kept) ≡ kept_in market kept) → IsNoWorse market (state_of after (left one)) (state_of after (left other))
+  left_both after stay left others here = record {
+    exchange = refl;
+    kept = record {
+      others = others;
+      counted =
+          subst (λ (b : Batch). IsNoLess (best_in market (numbers_of b.orders) (left one)) (best_in market (numbers_of b.orders) (left other))) (sym stay)
+          (subst (λ k. IsNoLess (best_for k (live_in exchange market)) (best_in market (live_in exchange market) (left other))) (sym (here one))
+          (subst (λ k. IsNoLess (best_in market (live_in exchange market) one) (best_for k (live_in exchange market))) (sym (here other)) no_worse.counted));
+    };
+  }
+
+  module _ (number : ℕ) (line : List ℕ) where
+    abbrev Both : (ProposingState → List ℕ × ProposingState) → Type 0
+    Both answer =
+        OrdersStay (answer (state_of exchange one)).1.exchange → IsNoWorse market (answer (state_of exchange one)).1 (answer (state_of exchange other)).1
+
+    other_both : Both (λ state. other_line number state line)
+    other_both stay = left_both (all_line number exchange line).1 stay (λ kept. kept) no_worse.others (λ kept. refl)
+
+    -- a clear of another market
+    clear_both : (cleared budget : ℕ) → nat_eq cleared market ≡ false → Both (λ state. written_reply number (clear_reply state cleared budget))
+    clear_both cleared budget apart =
+        subst (λ better. Both_by better) (sym same_better) (by (refusal_of exchange (Clear cleared budget)) (better_in (state_of exchange one) cleared budget))
+      where
+        By : ProposingState → Option Refusal → Option BoundedOutcome → ProposingReply × ProposingState
+        By state r better = option_map_or (λ first. (refused_by first, state)) r (cleared_by state cleared budget better)
+
+        same_better : better_in (state_of exchange other) cleared budget ≡ better_in (state_of exchange one) cleared budget
+        same_better =
+            let outcome = reference_in (state_of exchange one) cleared budget in
+            ap (λ k. option_and_then (λ run. option_and_then (if_above outcome run) (best_for k (live_in exchange cleared))) (stop_of outcome.mark))
+            (kept_alike market one other no_worse.others cleared apart)
+
+        Both_by : Option BoundedOutcome → Type 0
+        Both_by better =
+            (let r = refusal_of exchange (Clear cleared budget) in
+            let first = By (state_of exchange one) r (better_in (state_of exchange one) cleared budget) in
+            OrdersStay first.1.exchange → IsNoWorse market first.1 (By (state_of exchange other) r better).1)
+
+        by : (r : Option Refusal) (better : Option BoundedOutcome) → OrdersStay (By (state_of exchange one) r better).1.exchange
+            → IsNoWorse market (By (state_of exchange one) r better).1 (By (state_of exchange other) r better).1
+        by (Some first) better stay = unchanged
+        by None None stay =
+            left_both (cleared_with exchange cleared (reference_in (state_of exchange one) cleared budget).fills) stay (λ kept. kept) no_worse.others (λ kept. refl)
+        by None (Some better) stay =
+            left_both (cleared_with exchange cleared better.proposal.fills) stay (without_kept cleared)
+            (removed_in_others market cleared apart other ∙ ap (without_kept cleared) no_worse.others ∙ sym (removed_in_others market cleared apart one))
+            (others_removed cleared market (other_way cleared market apart))
+
+    body_both : (said : Body) → IsNoClearOf market said → Both (λ state. body_line number state line said)
+    body_both body.Syntax none = other_both
+    body_both (body.Range field) none = other_both
+    body_both (body.Command (Open account)) none = other_both
+    body_both (body.Command (Deposit account amount)) none = other_both
+    body_both (body.Command (Withdraw account amount)) none = other_both
+    body_both (body.Command (Market listed underlyings)) none = other_both
+    body_both (body.Command (Trade side account traded kind strike price quantity count weights)) none = other_both
+    body_both (body.Command (Bundle side account traded price quantity bundle)) none = other_both
+    body_both (body.Command (Cancel account order)) none = other_both
+    body_both (body.Command (Clear cleared budget)) none = by (nat_eq cleared market) refl
+      where
+        by : (b : Bool) → nat_eq cleared market ≡ b → Both (λ state. written_reply number (clear_reply state cleared budget))
+        by true own = absurd (none budget (ap (λ q. body.Command (Clear q budget)) (same_number cleared market own)))
+        by false apart = clear_both cleared budget apart
+    body_both (body.Command (Settle settled count prices)) none = other_both
+    body_both (body.Command (Balance account)) none = other_both
+
+    line_both : IsNoClearOf market (body_of_line line) → Both (λ state. proposing_line number state line)
+    line_both none =
+        elim (after_word line) as (λ o. Both (λ state. option_map_or (λ text. written_reply number (proposed_reply state (proposed_of text))) o (unproposed_line number state line))) [
+          | Some text ↦ λ stay. proposed_both (proposed_of text)
+          | None ↦
+              elim (read_of_line line) as (λ o.
+              Both (λ state. option_map_or (λ asked. written_reply number (read_reply state.exchange asked, state)) o (body_line number state line (body_of_line line)))) [
+                | Some asked ↦ λ stay. unchanged
+                | None ↦ body_both (body_of_line line) none
+              ]
+        ]
+
+-- a state with the exchange of another
+with_exchange : (market : ℕ) (one other : ProposingState) → IsNoWorse market one other → other ≡ state_of one.exchange other.kept
+with_exchange market one other no_worse = ap (λ e. state_of e other.kept) no_worse.exchange
+
+lines_both : (market : ℕ) (lines : List InputLine) (one other : ProposingState) → IsNoWorse market one other → LeaveOrders market one lines
+    → IsNoWorse market (state_by_lines one lines) (state_by_lines other lines)
+lines_both market [] one other no_worse leave = no_worse
+lines_both market (line ∷ lines) one other no_worse leave =
+    let step : ProposingState → ProposingState = λ state. (proposing_line line.number state line.bytes).1 in
+    let next : IsNoWorse market (step one) (step (state_of one.exchange other.kept)) =
+    line_both market one.exchange one.kept other.kept no_worse.kept line.number line.bytes leave.0 leave.1 in
+    lines_both market lines (step one) (step other)
+    (subst (λ (s : ProposingState). IsNoWorse market (step one) (step s)) (sym (with_exchange market one other no_worse)) next) leave.2
+
+-- ---- a proposal and then such lines
+no_worse_unharmed : (market : ℕ) (one other : ProposingState) → IsNoWorse market one other → IsUnharmed one other
+no_worse_unharmed market one other no_worse = record {
+  exchange = no_worse.exchange;
+  surplus = λ q budget.
+      subst (λ (s : ProposingState). AtMost (cleared_surplus one q budget) (cleared_surplus s q budget)) (sym (with_exchange market one other no_worse))
+      (clears_no_less market one.exchange one.kept other.kept no_worse.kept q budget);
+}
+
+proposed_no_worse : (state : ProposingState) (proposed : Proposed) → IsNoWorse proposed.market state (proposed_reply state (Ok proposed)).1
+proposed_no_worse state proposed =
+    elim (first_of (by_book (live_refusals state.exchange.book proposed.market))) as (λ (r : Option Refusal).
+    IsNoWorse proposed.market state (option_map_or (λ first. (refused_by first, state)) r (proposed_by state proposed)).1) [
+      | None ↦ record { exchange = refl; kept = offered_no_worse state.exchange proposed state.kept }
+      | Some first ↦ record { exchange = refl; kept = stays state.exchange proposed state.kept }
+    ]
+
+pub proposals_lower_nothing : ProposalsLowerNothing
+proposals_lower_nothing state proposed lines leave =
+    no_worse_unharmed proposed.market (state_by_lines state lines) (state_by_lines (proposed_reply state (Ok proposed)).1 lines)
+    (lines_both proposed.market lines state (proposed_reply state (Ok proposed)).1 (proposed_no_worse state proposed) leave)

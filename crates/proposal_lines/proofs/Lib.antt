@@ -1,0 +1,15 @@
+pub mod Numbered
+pub mod Moving
+pub mod Kept
+pub mod Others
+pub mod Clearing
+pub mod Sound
+pub mod Beside
+pub mod Telling
+pub mod ByMarket
+pub mod Lowering
+pub mod LaterClears
+pub mod Ends
+pub mod Without
+pub mod FirstFields
+pub mod Charging

@@ -1,0 +1,302 @@
+-- What is written for an input is told line by line, and keeps what is promised.
+use Rattle.std.proofs.Common.{◌≡◌, ℕ, ◌+◌, List, [], ◌∷◌, ◌++◌, All, map, Option, Some, None, inl, inr, refl, sym, ap, ◌∙◌, subst}
+use Rattle.std.specs.Option.{option_map_or}
+use Rattle.std.proofs.lemmas.List.Elements.{All-nil, All-cons}
+use Rattle.all_lines.proofs.AsRun.{all_answer_as_run}
+use Rattle.cert_check.specs.Laws.{IsCovered}
+use Rattle.cert_check.specs.Proposals.{as_optimal}
+use Rattle.command_text.specs.declared.command.Body.{Body}
+use Rattle.command_text.specs.declared.command.Body.TheVariants as body
+use Rattle.command_text.specs.declared.command.Command.{Command}
+use Rattle.command_text.specs.declared.command.Command.TheVariants.{Open, Deposit, Withdraw, Market, Trade, Bundle, Cancel, Clear, Settle, Balance}
+use Rattle.command_text.specs.declared.lines.RawLine.{RawLine}
+use Rattle.command_text.specs.Commands.{body_of_line}
+use Rattle.command_text.specs.Lines.{raw_lines_in}
+use Rattle.command_text.proofs.ReadWithin.{lines_are_within}
+use Rattle.exchange_core.specs.declared.refusal.Refusal.{Refusal}
+use Rattle.exchange_core.specs.ExchangeState.{ExchangeState, empty_exchange}
+use Rattle.exchange_core.specs.Kept.{IsKept}
+use Rattle.exchange_core.specs.LineReplies.{reply_to}
+use Rattle.exchange_core.specs.Refusals.{refusal_of}
+use Rattle.exchange_core.specs.Step.{batch_in, clear_effect, cleared_with, effect, refusal_effect, step}
+use Rattle.exchange_core.proofs.Keeping.{clears_keep, empty_is_kept}
+use Rattle.exchange_lines.specs.LineSteps.{InputLine, input_line, input_lines, line_of}
+use Rattle.exchange_lines.specs.Replies.{answer_to}
+use Rattle.exchange_lines.proofs.Answered.{answer_keeps, promises_kept}
+use Rattle.form.specs.declared.orders.Batch.{Batch}
+use Rattle.house_gain.specs.Moves.{AreMoves, Move, clears, move, says}
+use Rattle.house_gain.specs.Runs.{HouseGains, IfClears, replies_by, state_by}
+use Rattle.house_gain.proofs.RunGains.{moves_gain}
+use Rattle.live_lines.specs.Output.{places_output}
+use Rattle.proposal_text.specs.declared.replies.BoundedOutcome.{BoundedOutcome}
+use Rattle.reply_print.specs.ReplyPieces.{reply_line}
+use Rattle.reply_print.specs.declared.replies.Reply.{Reply}
+use Rattle.proposal_lines.specs.Clears.{better_in, bounded_effect, clear_reply, cleared_by, reference_in}
+use Rattle.proposal_lines.specs.KeptByMarket.{without_kept}
+use Rattle.proposal_lines.specs.Laws.{IsBetter, IsClearedAs, IsSound, NoneIsAbove}
+use Rattle.proposal_lines.specs.Output.{body_line, other_line, proposing_line, unproposed_line, written_reply}
+use Rattle.proposal_lines.specs.Promises.{AreToldFor, IsBesideProposals, IsToldFor, KeepsProposalPromises, OutputsTellProposals, ProposalAnswer, beside, bounded, charged, replied, replies_in, state_by_lines, told_text, told_texts}
+use Rattle.proposal_lines.specs.Proposed.{after_word, proposed_of, proposed_reply}
+use Rattle.proposal_lines.specs.ProposingState.{ProposingState, empty_state}
+use Rattle.proposal_lines.specs.Proved.{AreProvedIn, IsEntryProved}
+use Rattle.proposal_lines.specs.Reads.{read_of_line, read_reply, refused_by}
+use Rattle.proposal_lines.proofs.Beside.{beside_text, proposed_beside, read_beside}
+use Rattle.proposal_lines.proofs.Clearing.{clears_are_proved}
+use Rattle.proposal_lines.proofs.Kept.{without_proved}
+use Rattle.proposal_lines.proofs.Moving.{after_batch_proved, entries_moved, reply_proved}
+use Rattle.proposal_lines.proofs.Sound.{proposed_kept, proposed_proved}
+
+module _ (state : ProposingState) (line : InputLine) where
+  -- what a line is told and the moves of the exchange, none or one
+  record IsTold (now : List ℕ × ProposingState) : Type 0 where
+    answer : ProposalAnswer
+    told : IsToldFor state line answer now.1
+    text : now.0 ≡ told_text answer
+    promise : KeepsProposalPromises answer
+    sound : IsSound now.1
+    moves : List Move
+    may : AreMoves state.exchange moves
+    replies : (more : List ProposalAnswer) → replies_in (answer ∷ more) ≡ replies_by move state.exchange moves ++ replies_in more
+    end : now.1.exchange ≡ state_by move state.exchange moves
+
+-- ---- a batch that a line clears as a run does
+module _ (state : ProposingState) where
+  -- nothing that counts covers more than what it is cleared as, where its run stopped
+  abbrev IsUnbeaten : Reply → Type 0
+  IsUnbeaten = IfClears (λ number market batch outcome. NoneIsAbove state market outcome)
+
+  by_refusal : (command : Command) → IsUnbeaten (effect state.exchange command).0 → IsUnbeaten (step state.exchange command).0
+  by_refusal command h =
+      elim (refusal_of state.exchange command) as (λ (r : Option Refusal). IsUnbeaten (option_map_or (refusal_effect state.exchange) r (effect state.exchange command)).0) [
+        | None ↦ h
+        | Some refusal ↦ tt
+      ]
+
+-- ---- one line
+module _ (state : ProposingState) (line : InputLine) (sound : IsSound state) where
+  abbrev Told : List ℕ × ProposingState → Type 0
+  Told = IsTold state line
+
+  beside_told : (now : List ℕ × ProposingState) → IsBesideProposals line.number now.0 → now.1.exchange ≡ state.exchange → (after_word line.bytes ≡ None → now.1.kept ≡ state.kept)
+      → AreProvedIn state.exchange.book now.1.kept → Told now
+  beside_told now text same kept are = record {
+    answer = beside line.number now.0;
+    told = record { of_line = refl; of_kind = text; exchange = same; kept = kept };
+    text = refl;
+    promise = tt;
+    sound = record {
+      kept = subst IsKept (sym same) sound.kept;
+      proved = subst (λ (e : ExchangeState). AreProvedIn e.book now.1.kept) (sym same) are;
+    };
+    moves = [];
+    may = tt;
+    replies = λ more. refl;
+    end = same;
+  }
+
+  abbrev run_reply : Reply × ExchangeState
+  run_reply = reply_to state.exchange (body_of_line line.bytes)
+
+  replied_told : (now : List ℕ × ProposingState) → now.0 ≡ reply_line line.number run_reply.0 ++ 10 ∷ [] → now.1.exchange ≡ run_reply.1 → now.1.kept ≡ state.kept
+      → IsUnbeaten state run_reply.0 → Told now
+  replied_told now text same kept unbeaten =
+      let within = lines_are_within line.bytes in
+      let are = entries_moved state.exchange.book run_reply.1.book (λ market best is. reply_proved state.exchange market best is (body_of_line line.bytes)) state.kept sound.proved in
+      record {
+        answer = replied (answer_to state.exchange (line_of line));
+        told = record { reply = refl; unbeaten = unbeaten; exchange = same; kept = kept };
+        text = text;
+        promise = promises_kept state.exchange (line_of line) sound.kept;
+        sound = record {
+          kept = subst IsKept (sym same) (answer_keeps state.exchange (body_of_line line.bytes) sound.kept within);
+          proved = subst (λ (e : ExchangeState). AreProvedIn e.book now.1.kept) (sym same) (subst (AreProvedIn run_reply.1.book) (sym kept) are);
+        };
+        moves = says (body_of_line line.bytes) ∷ [];
+        may = (within, tt);
+        replies = λ more. refl;
+        end = same;
+      }
+
+  -- an outcome that is charged covers as its proposal does
+  charged_covered : (batch : Batch) (better : BoundedOutcome) → IsCovered batch (as_optimal better.proposal) → IsCovered batch (charged better)
+  charged_covered batch better is = record { on_underlyings = is.on_underlyings; covers = is.covers; not_below_zero = is.not_below_zero }
+
+  bounded_told : (market budget : ℕ) (better : BoundedOutcome) → body_of_line line.bytes ≡ body.Command (Clear market budget) → refusal_of state.exchange (Clear market budget) ≡ None
+      → better_in state market budget ≡ Some better → IsBetter (batch_in state.exchange market) (reference_in state market budget) better
+      → Told (written_reply line.number (bounded_effect state market better))
+  bounded_told market budget better clears_market accepted kept is =
+      let batch = batch_in state.exchange market in
+      let covered = charged_covered batch better is.proves.covered in
+      record {
+        answer = bounded (record {
+          line = line.number;
+          market = market;
+          budget = budget;
+          number = state.exchange.book.finished + 1;
+          batch = batch;
+          better = better;
+        });
+        told = record { of_line = refl; says = clears_market; accepted = accepted; number = refl; batch = refl; better = kept; exchange = refl; kept = refl };
+        text = refl;
+        promise = is;
+        sound = record {
+          kept = clears_keep state.exchange market better.proposal.fills sound.kept accepted covered.covers.are_fills;
+          proved = entries_moved state.exchange.book (cleared_with state.exchange market better.proposal.fills).book
+              (λ q best proved. after_batch_proved state.exchange.book q best proved market) (without_kept market state.kept)
+              (without_proved state.exchange.book market state.kept sound.proved);
+        };
+        moves = clears market (charged better) ∷ [];
+        may = ((accepted, covered), tt);
+        replies = λ more. refl;
+        end = refl;
+      }
+
+  -- ---- by what it says
+  other_told : (said : Body) → body_of_line line.bytes ≡ said → IsUnbeaten state (reply_to state.exchange said).0 → Told (other_line line.number state line.bytes)
+  other_told said same unbeaten =
+      let now = other_line line.number state line.bytes in
+      elim (all_answer_as_run line.number state.exchange line.bytes) [
+        | inl is ↦
+            replied_told now (ap (λ (r : List ℕ × ExchangeState). r.0) is) (ap (λ (r : List ℕ × ExchangeState). r.1) is) refl
+            (subst (λ (b : Body). IsUnbeaten state (reply_to state.exchange b).0) (sym same) unbeaten)
+        | inr is ↦ beside_told now (inl is.0) is.1 (λ none. refl) sound.proved
+      ]
+
+  clear_told : (market budget : ℕ) → body_of_line line.bytes ≡ body.Command (Clear market budget) → Told (written_reply line.number (clear_reply state market budget))
+  clear_told market budget says_clear = by (refusal_of state.exchange (Clear market budget)) refl
+    where
+      run_is : (r : Option Refusal) → refusal_of state.exchange (Clear market budget) ≡ r
+          → run_reply ≡ option_map_or (refusal_effect state.exchange) r (clear_effect state.exchange market budget)
+      run_is r is =
+          ap (reply_to state.exchange) says_clear ∙ ap (λ r. option_map_or (refusal_effect state.exchange) r (clear_effect state.exchange market budget)) is
+
+      -- what is told is the run's
+      as_run : (r : Option Refusal) → refusal_of state.exchange (Clear market budget) ≡ r → (now : List ℕ × ProposingState)
+          → (let run = option_map_or (refusal_effect state.exchange) r (clear_effect state.exchange market budget) in
+          now.0 ≡ reply_line line.number run.0 ++ 10 ∷ [] → now.1.exchange ≡ run.1 → now.1.kept ≡ state.kept → IsUnbeaten state run.0 → Told now)
+      as_run r is now text same kept unbeaten =
+          replied_told now (text ∙ ap (λ (r : Reply × ExchangeState). reply_line line.number r.0 ++ 10 ∷ []) (sym (run_is r is)))
+          (same ∙ ap (λ (r : Reply × ExchangeState). r.1) (sym (run_is r is))) kept
+          (subst (λ (r : Reply × ExchangeState). IsUnbeaten state r.0) (sym (run_is r is)) unbeaten)
+
+      by_better : refusal_of state.exchange (Clear market budget) ≡ None → (better : Option BoundedOutcome) → better_in state market budget ≡ better
+          → IsClearedAs state market (reference_in state market budget) better → Told (written_reply line.number (cleared_by state market budget better))
+      by_better accepted None kept is = as_run None accepted (written_reply line.number (cleared_by state market budget None)) refl refl refl is
+      by_better accepted (Some better) kept is = bounded_told market budget better says_clear accepted kept is
+
+      by : (r : Option Refusal) → refusal_of state.exchange (Clear market budget) ≡ r
+          → Told (written_reply line.number (option_map_or (λ first. (refused_by first, state)) r (cleared_by state market budget (better_in state market budget))))
+      by None accepted = by_better accepted (better_in state market budget) refl (clears_are_proved state market budget sound accepted)
+      by (Some first) is = as_run (Some first) is (written_reply line.number (refused_by first, state)) refl refl refl tt
+
+  -- of a command that clears nothing
+  command_told : (command : Command) → body_of_line line.bytes ≡ body.Command command → IsUnbeaten state (effect state.exchange command).0 → Told (other_line line.number state line.bytes)
+  command_told command is unbeaten = other_told (body.Command command) is (by_refusal state command unbeaten)
+
+  body_told : (said : Body) → body_of_line line.bytes ≡ said → Told (body_line line.number state line.bytes said)
+  body_told body.Syntax is = other_told body.Syntax is tt
+  body_told (body.Range field) is = other_told (body.Range field) is tt
+  body_told (body.Command (Open account)) is = command_told (Open account) is tt
+  body_told (body.Command (Deposit account amount)) is = command_told (Deposit account amount) is tt
+  body_told (body.Command (Withdraw account amount)) is = command_told (Withdraw account amount) is tt
+  body_told (body.Command (Market market underlyings)) is = command_told (Market market underlyings) is tt
+  body_told (body.Command (Trade side account market kind strike price quantity count weights)) is =
+      command_told (Trade side account market kind strike price quantity count weights) is tt
+  body_told (body.Command (Bundle side account market price quantity bundle)) is = command_told (Bundle side account market price quantity bundle) is tt
+  body_told (body.Command (Cancel account order)) is = command_told (Cancel account order) is tt
+  body_told (body.Command (Clear market budget)) is = clear_told market budget is
+  body_told (body.Command (Settle market count prices)) is = command_told (Settle market count prices) is tt
+  body_told (body.Command (Balance account)) is = command_told (Balance account) is tt
+
+  line_told : Told (proposing_line line.number state line.bytes)
+  line_told = by (after_word line.bytes) refl
+    where
+      some : (text : List ℕ) → Some text ≡ None → ⊥
+      some text e = cc
+
+      unproposed_told : Told (unproposed_line line.number state line.bytes)
+      unproposed_told =
+          elim (read_of_line line.bytes) as (λ o.
+          Told (option_map_or (λ asked. written_reply line.number (read_reply state.exchange asked, state)) o (body_line line.number state line.bytes (body_of_line line.bytes)))) [
+            | Some asked ↦
+                beside_told (written_reply line.number (read_reply state.exchange asked, state))
+                (beside_text line.number (read_reply state.exchange asked) (read_beside state.exchange asked)) refl (λ none. refl) sound.proved
+            | None ↦ body_told (body_of_line line.bytes) refl
+          ]
+
+      by : (o : Option (List ℕ)) → after_word line.bytes ≡ o
+          → Told (option_map_or (λ text. written_reply line.number (proposed_reply state (proposed_of text))) o (unproposed_line line.number state line.bytes))
+      by None is = unproposed_told
+      by (Some text) is =
+          let said = proposed_of text in
+          beside_told (written_reply line.number (proposed_reply state said)) (beside_text line.number (proposed_reply state said).0 (proposed_beside state said))
+          (proposed_kept state said) (λ none. absurd (some text (sym is ∙ none))) (proposed_proved state sound said)
+
+-- ---- all lines
+record AreTold (state : ProposingState) (lines : List InputLine) : Type 0 where
+  answers : List ProposalAnswer
+  to_lines : AreToldFor state lines answers
+  promises : All KeepsProposalPromises answers
+  moves : List Move
+  may : AreMoves state.exchange moves
+  replies : replies_in answers ≡ replies_by move state.exchange moves
+  end : (state_by_lines state lines).exchange ≡ state_by move state.exchange moves
+  sound : IsSound (state_by_lines state lines)
+
+-- moves behind moves
+moves_join : (first next : List Move) (state : ExchangeState) → AreMoves state first → AreMoves (state_by move state first) next → AreMoves state (first ++ next)
+moves_join [] next state may then = then
+moves_join (m ∷ first) next state may then = (may.0, moves_join first next (move state m).1 may.1 then)
+
+replies_join : (first next : List Move) (state : ExchangeState) → replies_by move state (first ++ next) ≡ replies_by move state first ++ replies_by move (state_by move state first) next
+replies_join [] next state = refl
+replies_join (m ∷ first) next state = ap (λ l. (move state m).0 ∷ l) (replies_join first next (move state m).1)
+
+states_join : (first next : List Move) (state : ExchangeState) → state_by move state (first ++ next) ≡ state_by move (state_by move state first) next
+states_join [] next state = refl
+states_join (m ∷ first) next state = states_join first next (move state m).1
+
+all_told : (lines : List InputLine) (state : ProposingState) → IsSound state → AreTold state lines
+all_told [] state sound = record { answers = []; to_lines = refl; promises = All-nil KeepsProposalPromises; moves = []; may = tt; replies = refl; end = refl; sound = sound }
+all_told (line ∷ lines) state sound =
+    let now = proposing_line line.number state line.bytes in
+    let one = line_told state line sound in
+    let later = all_told lines now.1 one.sound in
+    let next : ExchangeState = state_by move state.exchange one.moves in
+    record {
+      answers = one.answer ∷ later.answers;
+      to_lines = (one.told, one.text, later.to_lines);
+      promises = All-cons KeepsProposalPromises one.answer later.answers one.promise later.promises;
+      moves = one.moves ++ later.moves;
+      may = moves_join one.moves later.moves state.exchange one.may (subst (λ e. AreMoves e later.moves) one.end later.may);
+      replies = one.replies later.answers ∙ ap (λ l. replies_by move state.exchange one.moves ++ l) (later.replies ∙ ap (λ e. replies_by move e later.moves) one.end)
+          ∙ sym (replies_join one.moves later.moves state.exchange);
+      end = later.end ∙ ap (λ e. state_by move e later.moves) one.end ∙ sym (states_join one.moves later.moves state.exchange);
+      sound = later.sound;
+    }
+
+-- ---- the whole output
+texts_told : (input : List ℕ) (places : List RawLine) (state : ProposingState) (answers : List ProposalAnswer) → AreToldFor state (map (input_line input) places) answers
+    → places_output proposing_line input state places ≡ told_texts answers
+texts_told input [] state answers are = ap told_texts (sym are)
+texts_told input (place ∷ places) state [] are = absurd are
+texts_told input (place ∷ places) state (answer ∷ answers) are =
+    let line = input_line input place in
+    let now = proposing_line line.number state line.bytes in
+    ap (λ l. l ++ places_output proposing_line input now.1 places) are.1 ∙ ap (λ l. told_text answer ++ l) (texts_told input places now.1 answers are.2)
+
+pub empty_is_sound : IsSound empty_state
+empty_is_sound = record { kept = empty_is_kept; proved = All-nil (IsEntryProved empty_exchange.book) }
+
+pub outputs_tell_proposals : OutputsTellProposals
+outputs_tell_proposals input =
+    let told = all_told (input_lines input) empty_state empty_is_sound in
+    record {
+      answers = told.answers;
+      to_lines = told.to_lines;
+      text = texts_told input (raw_lines_in input) empty_state told.answers told.to_lines;
+      promises = told.promises;
+      gains = subst (λ (e : ExchangeState). HouseGains e.entries (replies_in told.answers)) (sym told.end)
+          (subst (HouseGains (state_by move empty_exchange told.moves).entries) (sym told.replies) (moves_gain told.moves told.may));
+      kept = told.sound;
+    }

@@ -1,0 +1,11 @@
+use Rattle.std.proofs.Common.{ℕ, List, sym, ap, subst}
+use Rattle.exchange_core.specs.ExchangeState.{ExchangeState}
+use Rattle.proposal_lines.specs.Proved.{AreProvedIn}
+use Rattle.proposal_lines.proofs.Others.{line_proved}
+use Rattle.proposal_lines.proofs.answers.ProposalLines.answer_plain.Goals as goal
+
+pub invariant_of-self : goal.invariant_of-self
+invariant_of-self c =
+    let own = c.self.inside in
+    subst (λ (e : ExchangeState). AreProvedIn e.book own.kept) (sym (ap (λ (r : List ℕ × ExchangeState). r.1) c.in-Ok.ensures))
+    (line_proved c.args.number own.exchange c.args.line.now own.kept c.self.invariant)

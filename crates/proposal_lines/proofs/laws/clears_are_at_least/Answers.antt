@@ -1,0 +1,5 @@
+use Rattle.proposal_lines.proofs.Clearing.{clears_are_at_least}
+use Rattle.proposal_lines.proofs.laws.clears_are_at_least.Goals as goal
+
+pub returns : goal.returns
+returns c = clears_are_at_least

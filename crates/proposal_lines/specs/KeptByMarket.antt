@@ -1,0 +1,57 @@
+-- What is kept of proposals for the markets of an exchange.
+use Rattle.std.specs.Prelude.{ℕ, List, Option, Some, None, nat_eq, option_and_then, if◌then◌else◌}
+use Rattle.std.specs.Map.{lookup, remove_entry}
+use Rattle.indexmap.specs.IndexMap.{insert_entry}
+use Rattle.cert_check.specs.declared.outcome.Mark.{Mark}
+use Rattle.cert_check.specs.declared.outcome.Mark.TheVariants.{Optimal, Wide, Budget}
+use Rattle.cert_check.specs.declared.outcome.Outcome.{Outcome}
+use Rattle.exact_num.specs.Tests.{is_at_most}
+use Rattle.frac.specs.Value.{fraction_of}
+use Rattle.proposals.specs.Best.{best_for, surplus_of}
+use Rattle.proposals.specs.Laws.{as_proposal}
+use Rattle.proposals.specs.declared.best.Best.{Best}
+use Rattle.proposal_text.specs.declared.replies.BoundedOutcome.{BoundedOutcome}
+use Rattle.proposal_text.specs.declared.replies.RunStop.{RunStop}
+use Rattle.proposal_text.specs.declared.replies.RunStop.TheVariants as stop
+
+-- market by market, in the order in which the last proposals for them were taken in
+abbrev pub KeptProposals : Type 0
+KeptProposals = List (ℕ × Option Best)
+
+abbrev pub kept_in : ℕ → KeptProposals → Option Best
+kept_in market kept = option_and_then (λ best. best) (lookup (nat_eq market) kept)
+
+-- what is kept for a market, where it is for these orders
+abbrev pub best_in : ℕ → List ℕ → KeptProposals → Option Best
+best_in market orders kept = best_for (kept_in market kept) orders
+
+abbrev pub without_kept : ℕ → KeptProposals → KeptProposals
+without_kept market kept = remove_entry (nat_eq market) kept
+
+abbrev pub with_kept : ℕ → Best → KeptProposals → KeptProposals
+with_kept market best kept = insert_entry nat_eq (without_kept market kept) market (Some best)
+
+-- ---- in place of the reference run's outcome
+-- why the run stopped; none where the outcome is the greatest
+abbrev pub stop_of : Mark → Option RunStop
+stop_of (Optimal cover measure) = None
+stop_of (Wide wide) = Some stop.Wide
+stop_of Budget = Some stop.Budget
+
+abbrev pub bounded_by : Best → RunStop → ℕ → BoundedOutcome
+bounded_by best run units = record { proposal = as_proposal best; bound = best.bounded.bound; run = run; units = units }
+
+-- what is kept, where its surplus is above that of an outcome
+abbrev pub if_above : Outcome → RunStop → Best → Option BoundedOutcome
+if_above outcome run best =
+    if is_at_most (surplus_of best.covered) (fraction_of outcome.claim.surplus) then None else Some (bounded_by best run outcome.units)
+
+-- what takes the place of the outcome of a market's batch with these orders
+abbrev pub bounded_in : ℕ → List ℕ → Outcome → KeptProposals → Option BoundedOutcome
+bounded_in market orders outcome kept =
+    option_and_then (λ run. option_and_then (if_above outcome run) (best_in market orders kept)) (stop_of outcome.mark)
+
+-- what is left of what is kept
+abbrev pub left_by : ℕ → Option BoundedOutcome → KeptProposals → KeptProposals
+left_by market None kept = kept
+left_by market (Some outcome) kept = without_kept market kept

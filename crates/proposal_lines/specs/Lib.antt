@@ -1,0 +1,10 @@
+pub mod KeptByMarket
+pub mod ProposingState
+pub mod Reads
+pub mod Proposed
+pub mod Clears
+pub mod Output
+pub mod Proved
+pub mod Laws
+pub mod Promises
+pub mod LaterClears

@@ -1,0 +1,173 @@
+-- What is promised of the bytes that are written where proposals are taken.
+use Rattle.std.specs.Prelude.{ℕ, ◌≡◌, ◌+◌, ◌⊎◌, ⊤, List, [], ◌∷◌, ◌++◌, true, Some, None}
+use Rattle.std.specs.List.{All}
+use Rattle.std.specs.Option.{option_map_or}
+use Rattle.all_lines.specs.Output.{IsBesideText, all_line}
+use Rattle.cert_check.specs.declared.outcome.Mark.TheVariants.{Budget}
+use Rattle.cert_check.specs.declared.outcome.Outcome.{Outcome}
+use Rattle.clearing.specs.Outcome.{outcome_of}
+use Rattle.command_text.specs.declared.command.Body.TheVariants.{Command}
+use Rattle.command_text.specs.declared.command.Command.TheVariants.{Clear}
+use Rattle.exchange_core.specs.ExchangeState.{ExchangeState, empty_exchange}
+use Rattle.exchange_lines.specs.LineSteps.{InputLine, input_lines, line_of}
+use Rattle.exchange_lines.specs.Promises.{KeepsPromises}
+use Rattle.exchange_lines.specs.Replies.{Answer, answer_to}
+use Rattle.exchange_core.specs.LineReplies.{reply_to}
+use Rattle.exchange_core.specs.Refusals.{refusal_of}
+use Rattle.exchange_core.specs.Step.{batch_in, cleared_with}
+use Rattle.command_text.specs.Commands.{body_of_line}
+use Rattle.form.specs.declared.orders.Batch.{Batch}
+use Rattle.house_gain.specs.Runs.{HouseGains, IfClears}
+use Rattle.live_lines.specs.Output.{output_of}
+use Rattle.proposal_text.specs.Pieces.{proposal_line}
+use Rattle.proposal_text.specs.declared.replies.BoundedOutcome.{BoundedOutcome}
+use Rattle.proposal_text.specs.declared.replies.ProposalReply.{ProposalReply}
+use Rattle.proposal_text.specs.declared.replies.ProposalReply.TheVariants as told
+use Rattle.reply_print.specs.ReplyPieces.{reply_line}
+use Rattle.reply_print.specs.declared.replies.Reply.{Reply}
+use Rattle.reply_print.specs.declared.replies.Reply.TheVariants.{Cleared}
+use Rattle.proposal_lines.specs.Clears.{better_in}
+use Rattle.proposal_lines.specs.KeptByMarket.{without_kept}
+use Rattle.proposal_lines.specs.Laws.{IsBetter, IsSound, NoneIsAbove}
+use Rattle.proposal_lines.specs.Output.{proposing_line, proposing_reply_line}
+use Rattle.proposal_lines.specs.Proposed.{after_word}
+use Rattle.proposal_lines.specs.Reads.{read_of_line, read_reply}
+use Rattle.proposal_lines.specs.ProposingState.{ProposingState, empty_state}
+
+-- ---- of each line
+-- a batch that was cleared as proposals had it, in place of the reference run's outcome within the budget
+pub record BoundedAnswer : Type 0 where
+  pub line : ℕ
+  pub market : ℕ
+  pub budget : ℕ
+  pub number : ℕ
+  pub batch : Batch
+  pub better : BoundedOutcome
+
+-- what is told for a line: a run's answer, such a batch, or a text by which the exchange stays as it is
+pub data ProposalAnswer : Type 0 where
+  replied : Answer → ProposalAnswer
+  bounded : BoundedAnswer → ProposalAnswer
+  beside : (line : ℕ) (text : List ℕ) → ProposalAnswer
+
+abbrev pub told_text : ProposalAnswer → List ℕ
+told_text (replied answer) = reply_line answer.line answer.reply ++ 10 ∷ []
+told_text (bounded answer) = proposal_line answer.line (told.Bounded answer.number answer.market answer.batch answer.better) ++ 10 ∷ []
+told_text (beside line text) = text
+
+abbrev pub told_texts : List ProposalAnswer → List ℕ
+told_texts [] = []
+told_texts (answer ∷ more) = told_text answer ++ told_texts more
+
+-- what is charged, as the outcome of a batch whose mark is not optimal
+abbrev pub charged : BoundedOutcome → Outcome
+charged better = record { fills = better.proposal.fills; claim = better.proposal.claim; mark = Budget; units = better.units }
+
+-- the replies that move anything
+abbrev pub replies_in : List ProposalAnswer → List Reply
+replies_in [] = []
+replies_in (replied answer ∷ more) = answer.reply ∷ replies_in more
+replies_in (bounded answer ∷ more) = Cleared answer.number answer.market answer.batch (charged answer.better) ∷ replies_in more
+replies_in (beside line text ∷ more) = replies_in more
+
+-- a run's keeps what is promised of a run; a batch that was cleared as proposals had it is better than what the reference run answers
+-- within the budget
+abbrev pub KeepsProposalPromises : ProposalAnswer → Type 0
+KeepsProposalPromises (replied answer) = KeepsPromises answer
+KeepsProposalPromises (bounded answer) = IsBetter answer.batch (outcome_of answer.batch answer.budget) answer.better
+KeepsProposalPromises (beside line text) = ⊤
+
+-- ---- texts beside these
+-- a reply that tells of no batch that is cleared
+abbrev pub ClearsNothing : ProposalReply → Type 0
+ClearsNothing (told.Book market batch) = ⊤
+ClearsNothing (told.Positions account market positions) = ⊤
+ClearsNothing (told.Proposed market surplus bound best_surplus least_bound) = ⊤
+ClearsNothing (told.Bounded number market batch outcome) = ⊥
+ClearsNothing told.Stale = ⊤
+ClearsNothing (told.Unproved failed) = ⊤
+
+-- a text is the line of such a reply, with its line feed
+abbrev pub IsToldText : ℕ → List ℕ → Type 0
+IsToldText number text = (reply : ProposalReply) × ClearsNothing reply × (text ≡ proposal_line number reply ++ 10 ∷ [])
+
+-- or one that is written where no proposals are taken: of a quote, of prices, of a margin or of a refusal
+abbrev pub IsBesideProposals : ℕ → List ℕ → Type 0
+IsBesideProposals number text = IsBesideText number text ⊎ IsToldText number text
+
+-- ---- of an input
+-- the answer is a run's to what the line says. Where it clears a batch whose run stopped, nothing that counts covers more than the match
+pub record IsRepliedFor (state : ProposingState) (line : InputLine) (answer : Answer) (after : ProposingState) : Type 0 where
+  pub reply : answer ≡ answer_to state.exchange (line_of line)
+  pub unbeaten : IfClears (λ number market batch outcome. NoneIsAbove state market outcome) answer.reply
+  pub exchange : after.exchange ≡ (reply_to state.exchange (body_of_line line.bytes)).1
+  pub kept : after.kept ≡ state.kept
+
+-- the line says to clear the market within the budget, and it is not refused; the market's batch is cleared as what is kept has it
+pub record IsBoundedFor (state : ProposingState) (line : InputLine) (answer : BoundedAnswer) (after : ProposingState) : Type 0 where
+  pub of_line : answer.line ≡ line.number
+  pub says : body_of_line line.bytes ≡ Command (Clear answer.market answer.budget)
+  pub accepted : refusal_of state.exchange (Clear answer.market answer.budget) ≡ None
+  pub number : answer.number ≡ state.exchange.book.finished + 1
+  pub batch : answer.batch ≡ batch_in state.exchange answer.market
+  pub better : better_in state answer.market answer.budget ≡ Some answer.better
+  pub exchange : after.exchange ≡ cleared_with state.exchange answer.market answer.better.proposal.fills
+  pub kept : after.kept ≡ without_kept answer.market state.kept
+
+-- the text moves nothing of the exchange, and a line that does not propose changes nothing of what is kept
+pub record IsBesideFor (state : ProposingState) (line : InputLine) (number : ℕ) (text : List ℕ) (after : ProposingState) : Type 0 where
+  pub of_line : number ≡ line.number
+  pub of_kind : IsBesideProposals number text
+  pub exchange : after.exchange ≡ state.exchange
+  pub kept : after_word line.bytes ≡ None → after.kept ≡ state.kept
+
+-- what a line is told in a state, and the state after it
+abbrev pub IsToldFor : ProposingState → InputLine → ProposalAnswer → ProposingState → Type 0
+IsToldFor state line (replied answer) after = IsRepliedFor state line answer after
+IsToldFor state line (bounded answer) after = IsBoundedFor state line answer after
+IsToldFor state line (beside number text) after = IsBesideFor state line number text after
+
+-- one for each line, in order, each in the state that the lines before it left
+abbrev pub AreToldFor : ProposingState → List InputLine → List ProposalAnswer → Type 0
+AreToldFor state [] answers = answers ≡ []
+AreToldFor state (line ∷ lines) [] = ⊥
+AreToldFor state (line ∷ lines) (answer ∷ answers) =
+    let now = proposing_line line.number state line.bytes in
+    IsToldFor state line answer now.1 × (now.0 ≡ told_text answer) × AreToldFor now.1 lines answers
+
+-- the state after lines, from one on
+abbrev pub state_by_lines : ProposingState → List InputLine → ProposingState
+state_by_lines state [] = state
+state_by_lines state (line ∷ lines) = state_by_lines (proposing_line line.number state line.bytes).1 lines
+
+-- the bytes are the text of the answers to the lines of the input. Each keeps what is promised, they leave the house its gains, batches
+-- that were cleared as proposals had it among them, and the state is one that an exchange which takes proposals may be in
+pub record TellProposals (input bytes : List ℕ) : Type 0 where
+  pub answers : List ProposalAnswer
+  pub to_lines : AreToldFor empty_state (input_lines input) answers
+  pub text : bytes ≡ told_texts answers
+  pub promises : All KeepsProposalPromises answers
+  pub gains : HouseGains (state_by_lines empty_state (input_lines input)).exchange.entries (replies_in answers)
+  pub kept : IsSound (state_by_lines empty_state (input_lines input))
+
+-- what is written for an input, whose mark is skipped
+abbrev pub proposing_output : List ℕ → List ℕ
+proposing_output input = output_of proposing_line true empty_state input
+
+abbrev pub OutputsTellProposals : Type 0
+OutputsTellProposals = (input : List ℕ) → TellProposals input (proposing_output input)
+
+-- ---- where nothing is proposed
+-- what is written where no proposals are taken: a line that reads is told what it asks for, and any other is answered as ever
+abbrev pub reading_line : ℕ → ExchangeState → List ℕ → List ℕ × ExchangeState
+reading_line number exchange line =
+    option_map_or (λ asked. (proposing_reply_line number (read_reply exchange asked) ++ 10 ∷ [], exchange)) (read_of_line line)
+    (all_line number exchange line)
+
+abbrev pub ProposesNothing : InputLine → Type 0
+ProposesNothing line = after_word line.bytes ≡ None
+
+-- so it is written for an input of which no line proposes
+abbrev pub WithoutProposals : Type 0
+WithoutProposals =
+    (input : List ℕ) → All ProposesNothing (input_lines input) → proposing_output input ≡ output_of reading_line true empty_exchange input

@@ -1,0 +1,47 @@
+//! Laws over the definitions: each is the contract of a function that does nothing.
+ghost use Rattle.proposal_lines.specs.LaterClears.{ProposalsLowerNothing};
+ghost use Rattle.proposal_lines.specs.Laws.{ClearsAreAtLeast, ClearsAreProved, RefusedChangeNothing};
+ghost use Rattle.proposal_lines.specs.Promises.{OutputsTellProposals, WithoutProposals};
+
+/// In each state that an exchange which takes proposals may be in: what is charged in place of the
+/// reference run's outcome proves its bound for the batch, so its fills cover its surplus at every
+/// settlement and no fractional fills cover more than the bound; the run stopped, and the surplus
+/// is above that of the match. Where nothing takes its place and the run stopped, nothing that
+/// counts is above the match.
+pub fn clears_are_proved()
+    ensures { ClearsAreProved }
+{}
+
+/// The surplus that a clear tells is never below that of the reference run.
+pub fn clears_are_at_least()
+    ensures { ClearsAreAtLeast }
+{}
+
+/// A proposal, whatever it says, leaves the exchange as it is, and lowers the surplus of no clear
+/// that comes next, nor of a later one, of whatever market, while the lines between them do not
+/// clear the proposal's market and leave its live orders as they are.
+pub fn proposals_lower_nothing()
+    ensures { ProposalsLowerNothing }
+{}
+
+/// A line that proposes and is refused, stale or unproved changes nothing: neither the exchange nor
+/// what is kept.
+pub fn refused_change_nothing()
+    ensures { RefusedChangeNothing }
+{}
+
+/// What is written for an input is the text of the answers to its lines, each of which keeps what
+/// is promised: a run's, batches that were cleared as proposals had it, and texts beside them that
+/// change nothing in the exchange. A batch that is not marked optimal nor cleared as proposals had
+/// it is matched where nothing that counts covers more. The answers leave the house its gains: of
+/// each batch at least the surplus that is told, batches that were cleared as proposals had it among
+/// them.
+pub fn outputs_tell_proposals()
+    ensures { OutputsTellProposals }
+{}
+
+/// Where no line proposes, what is written is what an exchange writes that takes no proposals; a
+/// line that reads a book or positions is told what it asks for.
+pub fn without_proposals()
+    ensures { WithoutProposals }
+{}

@@ -1,0 +1,19 @@
+//! The answers to all lines where proposals are taken: lines that read a market's live orders or an
+//! account's positions, lines that propose fills for a market, and clears. A clear is charged as the
+//! best proposals for the live orders have it where the reference run stops and they cover more than
+//! the match.
+#![tactic(auto)]
+
+mod answers;
+mod clears;
+mod judging;
+mod kept_by_market;
+pub mod laws;
+mod proposed;
+mod reads;
+mod replies;
+
+pub use answers::ProposalLines;
+pub use proposed::Proposed;
+pub use reads::ReadRequest;
+pub use replies::ProposingReply;
