@@ -15,7 +15,7 @@ from ragvismo.orders import FilledOrder, Leg, Option, Order, Side
 if TYPE_CHECKING:
     import pandas
 
-Mark = Literal["optimal", "wide", "budget"]
+Mark = Literal["optimal", "bounded", "wide", "budget"]
 
 
 class State(NamedTuple):
@@ -41,7 +41,7 @@ class State(NamedTuple):
 
 @dataclass(frozen=True)
 class Certificate:
-    """What proves a cleared line: the cover and the measure, both empty where the mark is not `optimal`.
+    """What proves a cleared line: the cover and the measure, both empty where the mark is neither `optimal` nor `bounded`.
 
     `cover` is `line` on one underlying, and on several the nodes of a tree (docs/CERTIFICATES.md). `text` is the whole line,
     and `path` the program that told it, where that is known.
@@ -67,7 +67,8 @@ class Cleared:
     """A cleared batch: the answer to a clear.
 
     `units` are the turns of the solver that it took. `premium` less `liability` is the `surplus`, what the house keeps
-    whatever the prices. `wide` is the step that a number was too large for, at the mark `wide`. `text` is the reply line.
+    whatever the prices. `wide` is the step that a number was too large for, at the mark `wide`. `bound` is what no fills leave
+    more than, where it is told: the surplus at the mark `optimal`, above it maybe at `bounded`. `text` is the reply line.
     """
 
     number: int
@@ -81,6 +82,7 @@ class Cleared:
     orders: list[FilledOrder]
     certificate: Certificate
     wide: dict[str, str]
+    bound: Fraction | None = None
 
     @property
     def text(self) -> str:
@@ -127,6 +129,7 @@ def read(reply: dict[str, Any], text: str = "", path: str | os.PathLike[str] | N
         about = {name: each[name] for name in ("account", "side", "price", "quantity")}
         orders.append(FilledOrder(number=each["order"], fill=fill, legs=legs, **about))
     certificate = reply.get("certificate", {})
+    bound = reply["bound"] if reply["mark"] == "bounded" else reply["surplus"] if reply["mark"] == "optimal" else None
     return Cleared(
         number=reply["batch"],
         liability=Fraction(reply["liability"]),
@@ -136,6 +139,7 @@ def read(reply: dict[str, Any], text: str = "", path: str | os.PathLike[str] | N
             certificate.get("cover", []), list(states_of(certificate)), text or spelled(reply), path
         ),
         wide=reply.get("wide", {}),
+        bound=None if bound is None else Fraction(bound),
         **{name: reply[name] for name in ("line", "market", "mark", "underlyings", "units")},
     )
 

@@ -22,7 +22,7 @@ class BadJournal(RagvismoError):
 
 
 class NoMeasure(RagvismoError):
-    """The batch has no measure: its mark is not `optimal`."""
+    """The batch has no measure: its mark is neither `optimal` nor `bounded`."""
 
 
 @dataclass

@@ -17,6 +17,8 @@ from ragvismo.cleared import Cleared
 from ragvismo.faults import BadJournal
 
 HOUSE = 0
+# Replies that move nothing.
+BESIDE = ("refused", "quoted", "priced", "margin", "book", "positions", "proposed")
 Path = str | os.PathLike[str]
 FAULTS = (KeyError, TypeError, ValueError, ZeroDivisionError, StopIteration, AttributeError, IndexError, RecursionError)
 
@@ -73,7 +75,7 @@ class Journal:
             self.clear(cleared.read(reply, text))
         elif word == "settled":
             self.settle(reply)
-        elif word not in ("refused", "quoted", "priced", "margin"):
+        elif word not in BESIDE:
             raise ValueError("a reply of another word")
 
     def tell(self, account: int, amount: int, line: int, turn: int) -> None:

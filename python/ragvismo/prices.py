@@ -21,7 +21,7 @@ if TYPE_CHECKING:
 def state_prices(cleared: Cleared) -> "pandas.DataFrame":
     """The measure of a batch as prices of states: for each of them `price_1` .. `price_n` in ticks (of a ray the direction in
     which prices rise), `is_ray`, `mass`, which is the price of one tick paid in that state, and `weight`, which times a payoff
-    is the state's part of a price. Raises `NoMeasure` where the mark is not `optimal`."""
+    is the state's part of a price. Raises `NoMeasure` where the batch has none."""
     import pandas
 
     _wants_measure(cleared)
@@ -63,7 +63,7 @@ class Distribution:
 
 
 def implied_distribution(cleared: Cleared) -> Distribution:
-    """The measure of a batch on one underlying as a distribution. Raises `NoMeasure` where the mark is not `optimal`, and
+    """The measure of a batch on one underlying as a distribution. Raises `NoMeasure` where the batch has none, and
     ValueError where the batch has several underlyings."""
     _wants_measure(cleared)
     if cleared.underlyings != 1:

@@ -1,6 +1,6 @@
-use all_lines::AllLines;
 use live_lines::{Ended, serve};
 use port_io::{MemSink, MemSource};
+use proposal_lines::ProposalLines;
 use std::alloc::{AllocError, Global};
 use std::test::Fail;
 
@@ -42,11 +42,23 @@ withdraw,2,14
 ];
 
 // Whether lines are answered, and these replies are the last.
-fn ends_with(alloc: Global, lines: &str, replies: &str) -> Result<bool, AllocError> {
-    let bytes = Vec::from_slice(alloc, lines.as_bytes())?;
+pub(crate) fn ends_with(
+    alloc: Global,
+    first: &str,
+    then: &str,
+    replies: &str,
+) -> Result<bool, AllocError> {
+    let mut bytes = Vec::from_slice(alloc, first.as_bytes())?;
+    bytes.extend_from_slice(then.as_bytes())?;
     let mut source = MemSource::new(bytes, 7, Vec::new(alloc));
-    let mut sink = MemSink::new(alloc, 10_000, 10_000, Vec::new(alloc))?;
-    let end = serve(alloc, AllLines::new(alloc), true, &mut source, &mut sink);
+    let mut sink = MemSink::new(alloc, 20_000, 20_000, Vec::new(alloc))?;
+    let end = serve(
+        alloc,
+        ProposalLines::new(alloc),
+        true,
+        &mut source,
+        &mut sink,
+    );
     Ok(end == Ended::Done && sink.written().ends_with(replies.as_bytes()))
 }
 
@@ -54,7 +66,7 @@ fn ends_with(alloc: Global, lines: &str, replies: &str) -> Result<bool, AllocErr
 fn quotes_and_margins_are_answered(rt: HostRuntime) -> Result<(), Fail> {
     let alloc = rt.alloc();
     for [lines, replies] in [QUOTED, GUARDED] {
-        assert!(rt; ends_with(alloc, lines, replies)?, "{replies}");
+        assert!(rt; ends_with(alloc, lines, "", replies)?, "{replies}");
     }
     Ok(())
 }

@@ -17,13 +17,14 @@ static ALL: &str = r#"{"account":1,"line":1,"reply":"opened"}
 {"account":3,"line":3,"reply":"opened"}
 "#;
 
-static REQUESTS: &str = "\u{FEFF}\nquote,1,1,call,10,1\r\nmargin,1,1,1\n";
+static REQUESTS: &str = "\u{FEFF}\nquote,1,1,call,10,1\r\nmargin,1,1,1\nbook,1\n";
 
 static REFUSED: &str = r#"{"line":2,"number":4,"reason":"NoMarket","reply":"refused"}
 {"line":3,"number":4,"reason":"NoMarket","reply":"refused"}
+{"line":4,"number":4,"reason":"NoMarket","reply":"refused"}
 "#;
 
-// Messages of sessions, an empty line among them, of whose bodies one asks for a quote.
+// Messages of sessions, an empty line among them, of whose bodies one asks for a quote, and one for the book.
 static MESSAGES: &str = r#"7,1,open,1
 8,1,open,2
 7,1,open,1
@@ -37,6 +38,7 @@ static MESSAGES: &str = r#"7,1,open,1
 8,3,quote,1,20000,call,10,1
 7,2,open,3
 8,3,quote,1,20000,call,10,1
+8,4,book,1
 x"#;
 
 static ANSWERS: &str = r#"{"number":1,"of":{"account":1,"line":1,"reply":"opened"},"session":7}
@@ -51,7 +53,8 @@ static ANSWERS: &str = r#"{"number":1,"of":{"account":1,"line":1,"reply":"opened
 {"number":3,"of":{"ask":"never","bid":"9","line":7,"market":1,"reply":"quoted"},"session":8}
 {"expected":5,"line":12,"number":16,"reason":"Old","reply":"gate","session":7}
 {"number":3,"of":{"ask":"never","bid":"9","line":7,"market":1,"reply":"quoted"},"session":8}
-{"line":14,"number":15,"reason":"Malformed","reply":"gate"}
+{"number":4,"of":{"line":8,"market":1,"orders":[{"account":2,"legs":[{"count":1,"form":[-5,1]}],"order":1,"price":8,"quantity":1,"side":"sell"}],"reply":"book","underlyings":1},"session":8}
+{"line":15,"number":15,"reason":"Malformed","reply":"gate"}
 "#;
 
 // Of messages no byte is skipped.

@@ -4,8 +4,8 @@ use Rattle.std.proofs.KnownBytes.{Consumes-nil}
 use Rattle.std.proofs.lemmas.Option.{IfSome_then}
 use Rattle.std.specs.Io.KnownBytes.{Appends}
 use Rattle.port_io.specs.Writes.{AppendsFront}
-use Rattle.all_lines.specs.Output.{all_line}
-use Rattle.exchange_core.specs.ExchangeState.{empty_exchange}
+use Rattle.proposal_lines.specs.Output.{proposing_line}
+use Rattle.proposal_lines.specs.ProposingState.{empty_state}
 use Rattle.live_lines.specs.Output.{output_of}
 use Rattle.live_lines.specs.Serving.{Known, WroteAll, WroteBefore, WroteLines}
 use Rattle.live_lines.specs.Serving as live
@@ -85,15 +85,15 @@ module _ {S : Type 0} (step : ℕ → S → List ℕ → List ℕ × S) (skips :
 -- ---- whatever is served
 all_served : (kind : Served) (known : Known) → ServedAt kind Done known
     → (input : List ℕ) × IfSome known.left (λ told. input ≡ told) × Appends known.written known.writes (served_output kind input)
-all_served served.Lines known at = all_written all_line true empty_exchange known at
-all_served served.Sessions known at = all_written (session_step all_line) false (new_sessions empty_exchange) known at
+all_served served.Lines known at = all_written proposing_line true empty_state known at
+all_served served.Sessions known at = all_written (session_step proposing_line) false (new_sessions empty_state) known at
 
 -- a write fault and want of memory leave the same
 front_served : (kind : Served) (known : Known) → ServedAt kind WriteFault known ⊎ ServedAt kind Memory known
     → (input : List ℕ) × AppendsFront known.written known.writes (served_output kind input)
-front_served served.Lines known which = some_front all_line true empty_exchange known (elim which [ inl at ↦ at | inr at ↦ at ])
+front_served served.Lines known which = some_front proposing_line true empty_state known (elim which [ inl at ↦ at | inr at ↦ at ])
 front_served served.Sessions known which =
-    some_front (session_step all_line) false (new_sessions empty_exchange) known (elim which [ inl at ↦ at | inr at ↦ at ])
+    some_front (session_step proposing_line) false (new_sessions empty_state) known (elim which [ inl at ↦ at | inr at ↦ at ])
 
 front_told : (kind : Served) (left old new : Option (List ℕ)) → (input : List ℕ) × AppendsFront old new (served_output kind input)
     → IfSome left (λ input. AppendsFront old new (served_output kind input))
@@ -122,8 +122,8 @@ asked words request P is p = subst (λ w. IfSome w P) (sym is) p
 
 -- ---- before the first read
 nothing_at : (kind : Served) (left written : Option (List ℕ)) → ServedAt kind Memory (known_of left left written written)
-nothing_at served.Lines left written = nothing_by all_line true empty_exchange left written
-nothing_at served.Sessions left written = nothing_by (session_step all_line) false (new_sessions empty_exchange) left written
+nothing_at served.Lines left written = nothing_by proposing_line true empty_state left written
+nothing_at served.Sessions left written = nothing_by (session_step proposing_line) false (new_sessions empty_state) left written
 
 nothing_served : (request : Request) (left written : Option (List ℕ)) → WhereServe request (λ kind. ServedAt kind Memory (known_of left left written written))
 nothing_served (Lines mode) left written = tt

@@ -10,10 +10,10 @@ use Rattle.journal_check.specs.Reports.{report_of}
 use Rattle.journal_check.specs.declared.reports.Report.{Report}
 use Rattle.journal_check.specs.declared.reports.Report.TheVariants.{Sound, Faulty}
 use Rattle.journal_check.proofs.ReportsSay.{reports_say}
-use Rattle.all_lines.proofs.Outputs.{outputs_tell}
 use Rattle.all_sessions.proofs.Tell.{sessions_tell_once}
 use Rattle.exchange_lines.specs.Promises.{TellAnswers}
 use Rattle.exchange_lines.proofs.AsRun.{runs_tell_answers}
+use Rattle.proposal_lines.proofs.Telling.{outputs_tell_proposals}
 use Rattle.exchange_sessions.proofs.TellLaws.{output_tells_once}
 use Rattle.guarded_lines.proofs.AsRun.{guarded_tell_answers}
 use Rattle.program_words.specs.declared.requests.Mode.{Mode}
@@ -37,7 +37,7 @@ told_in Quotes input = quotes_tell_answers input
 told_in Guarded input = guarded_tell_answers input
 
 told_served : (kind : Served) (input : List ℕ) → ServedTell kind input (served_output kind input)
-told_served served.Lines input = outputs_tell input
+told_served served.Lines input = outputs_tell_proposals input
 told_served served.Sessions input = sessions_tell_once input
 
 promised : (request : Request) (input : List ℕ) → Promised request input (output_for request input)

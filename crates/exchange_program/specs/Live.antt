@@ -1,14 +1,14 @@
 -- What was taken and written when lines or messages were answered between two reads.
 use Rattle.std.specs.Prelude.{ℕ, Bool, true, false, List}
-use Rattle.all_lines.specs.Output.{IsBesideText, all_line}
-use Rattle.all_sessions.specs.Laws.{TellAllOnce, all_lines_output, all_sessions_output}
-use Rattle.exchange_core.specs.ExchangeState.{empty_exchange}
-use Rattle.exchange_lines.specs.Promises.{TellAnswers}
+use Rattle.all_sessions.specs.Laws.{TellAllOnce, all_sessions_output}
 use Rattle.live_lines.specs.Serving.{Known, WroteAll, WroteBefore, WroteFront, WroteLines}
 use Rattle.live_lines.specs.declared.ended.Ended.{Ended}
 use Rattle.live_lines.specs.declared.ended.Ended.TheVariants as ended
 use Rattle.program_words.specs.declared.requests.Served.{Served}
 use Rattle.program_words.specs.declared.requests.Served.TheVariants.{Lines, Sessions}
+use Rattle.proposal_lines.specs.Output.{proposing_line}
+use Rattle.proposal_lines.specs.Promises.{TellProposals, proposing_output}
+use Rattle.proposal_lines.specs.ProposingState.{empty_state}
 use Rattle.session_lines.specs.Sessions.{new_sessions, session_step}
 use Rattle.exchange_program.specs.declared.status.Status.{Status}
 use Rattle.exchange_program.specs.declared.status.Status.TheVariants.{Done, Usage, ReadFault, WriteFault, TooLong, CheckNo, Memory}
@@ -39,15 +39,15 @@ skips_mark Lines = true
 skips_mark Sessions = false
 
 abbrev pub ServedAt : Served → Status → Known → Type 0
-ServedAt Lines status known = ServedBy all_line true empty_exchange status known
-ServedAt Sessions status known = ServedBy (session_step all_line) false (new_sessions empty_exchange) status known
+ServedAt Lines status known = ServedBy proposing_line true empty_state status known
+ServedAt Sessions status known = ServedBy (session_step proposing_line) false (new_sessions empty_state) status known
 
 -- what is written for an input
 abbrev pub served_output : Served → List ℕ → List ℕ
-served_output Lines input = all_lines_output input
+served_output Lines input = proposing_output input
 served_output Sessions input = all_sessions_output input
 
 -- what is promised of it: the lines are told their answers, and the messages each once
 abbrev pub ServedTell : Served → List ℕ → List ℕ → Type 0
-ServedTell Lines input bytes = TellAnswers IsBesideText all_line input bytes
+ServedTell Lines input bytes = TellProposals input bytes
 ServedTell Sessions input bytes = TellAllOnce input bytes

@@ -8,10 +8,10 @@ ghost use Rattle.live_lines.specs.Serving.{IsInputWithin};
 ghost use Rattle.exchange_program.specs.Live.{ServedAt, ServedBy, served_output, skips_mark, status_at};
 
 use crate::status::Status;
-use all_lines::AllLines;
 use live_lines::{Ended, LineAnswers};
 use port_io::{Sink, Source};
 use program_words::Served;
+use proposal_lines::ProposalLines;
 use session_lines::SessionLines;
 use std::alloc::Global;
 
@@ -96,7 +96,7 @@ pub(crate) fn answer_live<S: Source, K: Sink>(
         ¬ Rose (K.faults sink.old) (K.faults sink.new) →
         (result ≡ Status.Done) ⊎ (result ≡ Status.Memory) }
 {
-    let lines = AllLines::new(alloc);
+    let lines = ProposalLines::new(alloc);
     match served {
         Served::Lines => answer_by(alloc, lines, true, source, sink),
         Served::Sessions => {

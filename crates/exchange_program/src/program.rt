@@ -26,7 +26,8 @@ use std::alloc::Global;
 /// liability covers an account's positions, and it refuses a withdrawal below what the account needs. `check` reads reply lines
 /// to their end and writes one report line: that all are sound, with their counts, or the first that is not, and why.
 /// `sessions` reads messages to their end and answers each, once and in its session's order. `serve` answers lines of every kind,
-/// those of `quotes` and of `guarded`, and has written the answers to all lines that are complete before it reads on.
+/// those of `quotes` and of `guarded`, what a book and an account hold, and proposals, of which it charges the best where a
+/// clear's own run stops; it has written the answers to all lines that are complete before it reads on.
 /// `serve sessions` does so with messages of sessions, whose bodies are such lines. `demo` with a seed and a number of orders reads
 /// nothing, runs the text that it makes from them, and writes one summary line.
 pub fn exchange<S: Source, K: Sink>(

@@ -1,22 +1,22 @@
 use Rattle.std.proofs.Common.{true, false, sym, ap, subst, ◌∙◌, arith}
 use Rattle.std.specs.Prelude.{IfSome}
 use Rattle.port_io.specs.Writes.{AppendsFront}
-use Rattle.all_lines.specs.Output.{all_line}
-use Rattle.exchange_core.specs.ExchangeState.{ExchangeState}
 use Rattle.live_lines.specs.Output.{output_of}
 use Rattle.program_words.specs.declared.requests.Served.{Served}
+use Rattle.proposal_lines.specs.Output.{proposing_line}
+use Rattle.proposal_lines.specs.ProposingState.{ProposingState}
 use Rattle.session_lines.specs.Sessions.{SessionsState, new_sessions, session_step}
 use Rattle.exchange_program.specs.Live.{served_output}
 use Rattle.exchange_program.proofs.live.answer_live.Goals as goal
 
 pub answer_by-requires-in-Sessions : goal.answer_by-requires-in-Sessions
-answer_by-requires-in-Sessions g c = (omega (arith, ap (λ (s : SessionsState ExchangeState). s.0.served) c.new-messages.ensures), tt)
+answer_by-requires-in-Sessions g c = (omega (arith, ap (λ (s : SessionsState ProposingState). s.0.served) c.new-messages.ensures), tt)
 
 pub returns-in-Lines-clause-front : goal.returns-in-Lines-clause-front
 returns-in-Lines-clause-front g c = λ which.
     let left = g.S.Source.left c.args.source.now in
     let Wrote = AppendsFront (g.K.Sink.written c.args.sink.now) (g.K.Sink.written c.answer_by.new.sink) in
-    let By : ExchangeState → Type 0 = λ start. IfSome left (λ input. Wrote (output_of all_line true start input)) in
+    let By : ProposingState → Type 0 = λ start. IfSome left (λ input. Wrote (output_of proposing_line true start input)) in
     let Of : Served → Type 0 = λ kind. IfSome left (λ input. Wrote (served_output kind input)) in
     subst Of (sym c.in-Lines.is) (subst By c.new-lines.ensures (c.answer_by.ensures.front which))
 
@@ -24,6 +24,6 @@ pub returns-in-Sessions-clause-front : goal.returns-in-Sessions-clause-front
 returns-in-Sessions-clause-front g c = λ which.
     let left = g.S.Source.left c.args.source.now in
     let Wrote = AppendsFront (g.K.Sink.written c.args.sink.now) (g.K.Sink.written c.answer_by-in-Sessions.new.sink) in
-    let By : SessionsState ExchangeState → Type 0 = λ start. IfSome left (λ input. Wrote (output_of (session_step all_line) false start input)) in
+    let By : SessionsState ProposingState → Type 0 = λ start. IfSome left (λ input. Wrote (output_of (session_step proposing_line) false start input)) in
     let Of : Served → Type 0 = λ kind. IfSome left (λ input. Wrote (served_output kind input)) in
     subst Of (sym c.in-Sessions.is) (subst By (c.new-messages.ensures ∙ ap new_sessions c.new-lines.ensures) (c.answer_by-in-Sessions.ensures.front which))
