@@ -1,11 +1,11 @@
 // What the words after the program's name ask for.
-use program_words::{Mode, Request, Served, WordsFault, request};
+use program_words::{Journal, Mode, Request, Served, WordsFault, request};
 use std::alloc::{AllocError, Global};
 use std::test::Fail;
 
 // Words that ask for nothing, apart by bars; the last is a word without a letter.
 static OTHERS: &str =
-    "demo 4294967296 1|demo 1 10001|demo 1 0|demo 01 1|demo +1 1|demo 1 -1|demo 1|demo 1 1 1|demo  1|run run|run quotes|quotes 1|quote|guarded guarded|Guarded|Run|serve serve|serve 1|sessions serve|serve sessions 1|help|--help|-h|--|";
+    "demo 4294967296 1|demo 1 10001|demo 1 0|demo 01 1|demo +1 1|demo 1 -1|demo 1|demo 1 1 1|demo  1|run run|run quotes|quotes 1|quote|audit 1|Audit|guarded guarded|Guarded|Run|serve serve|serve 1|sessions serve|serve sessions 1|help|--help|-h|--|";
 
 // What these words ask for, apart by blanks.
 fn asked(alloc: Global, line: &str) -> Result<Result<Request, WordsFault>, AllocError> {
@@ -29,7 +29,8 @@ fn words_ask_for_what_is_listed(rt: HostRuntime) -> Result<(), Fail> {
         ("run", Request::Lines(Mode::Run)),
         ("quotes", Request::Lines(Mode::Quotes)),
         ("guarded", Request::Lines(Mode::Guarded)),
-        ("check", Request::Check),
+        ("check", Request::Check(Journal::Run)),
+        ("audit", Request::Check(Journal::Served)),
         ("sessions", Request::Sessions),
         ("serve", Request::Serve(Served::Lines)),
         ("serve sessions", Request::Serve(Served::Sessions)),

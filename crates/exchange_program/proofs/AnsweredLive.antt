@@ -127,7 +127,7 @@ nothing_at served.Sessions left written = nothing_by (session_step proposing_lin
 
 nothing_served : (request : Request) (left written : Option (List ℕ)) → WhereServe request (λ kind. ServedAt kind Memory (known_of left left written written))
 nothing_served (Lines mode) left written = tt
-nothing_served Check left written = tt
+nothing_served (Check journal) left written = tt
 nothing_served Sessions left written = tt
 nothing_served (Serve kind) left written = nothing_at kind left written
 nothing_served (Demo seed count) left written = tt

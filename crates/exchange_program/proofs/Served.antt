@@ -5,17 +5,18 @@ use Rattle.std.specs.List.{All}
 use Rattle.std.specs.Io.KnownBytes.{Appends}
 use Rattle.port_io.specs.Writes.{AppendsFront}
 use Rattle.journal_check.specs.JournalLines.{lines_of}
-use Rattle.journal_check.specs.Laws.{IsSoundLine, Says}
-use Rattle.journal_check.specs.Reports.{report_of}
 use Rattle.journal_check.specs.declared.reports.Report.{Report}
 use Rattle.journal_check.specs.declared.reports.Report.TheVariants.{Sound, Faulty}
 use Rattle.journal_check.proofs.ReportsSay.{reports_say}
+use Rattle.journal_audit.proofs.AuditSays.{audits_say}
 use Rattle.all_sessions.proofs.Tell.{sessions_tell_once}
 use Rattle.exchange_lines.specs.Promises.{TellAnswers}
 use Rattle.exchange_lines.proofs.AsRun.{runs_tell_answers}
 use Rattle.proposal_lines.proofs.Telling.{outputs_tell_proposals}
 use Rattle.exchange_sessions.proofs.TellLaws.{output_tells_once}
 use Rattle.guarded_lines.proofs.AsRun.{guarded_tell_answers}
+use Rattle.program_words.specs.declared.requests.Journal.{Journal}
+use Rattle.program_words.specs.declared.requests.Journal.TheVariants as writer
 use Rattle.program_words.specs.declared.requests.Mode.{Mode}
 use Rattle.program_words.specs.declared.requests.Mode.TheVariants.{Run, Quotes, Guarded}
 use Rattle.program_words.specs.declared.requests.Request.{Request}
@@ -23,9 +24,10 @@ use Rattle.program_words.specs.declared.requests.Request.TheVariants.{Lines, Che
 use Rattle.program_words.specs.declared.requests.Served.{Served}
 use Rattle.program_words.specs.declared.requests.Served.TheVariants as served
 use Rattle.quote_lines.proofs.AsRun.{quotes_tell_answers}
+use Rattle.exchange_program.specs.Journals.{IsSoundIn, NamesFault, SaysIn, report_in}
 use Rattle.exchange_program.specs.Live.{ServedTell, served_output}
 use Rattle.exchange_program.specs.Modes.{IsBesideIn, mode_output, step_in}
-use Rattle.exchange_program.specs.Requests.{NamesFault, OfInput, OfSomeInput, Promised, WhereCheck, output_for, status_by, status_for}
+use Rattle.exchange_program.specs.Requests.{OfInput, OfSomeInput, Promised, WhereCheck, output_for, status_by, status_for}
 use Rattle.exchange_program.specs.Wrote.{Wrote, WroteFront}
 use Rattle.exchange_program.specs.declared.status.Status.{Status}
 use Rattle.exchange_program.specs.declared.status.Status.TheVariants.{Done, Usage, CheckNo}
@@ -42,7 +44,7 @@ told_served served.Sessions input = sessions_tell_once input
 
 promised : (request : Request) (input : List ℕ) → Promised request input (output_for request input)
 promised (Lines mode) input = told_in mode input
-promised Check input = tt
+promised (Check journal) input = tt
 promised Sessions input = output_tells_once input
 promised (Serve kind) input = told_served kind input
 promised (Demo seed count) input = tt
@@ -66,7 +68,7 @@ if_told (Some input) = (input, refl)
 
 some_input : (request : Request) (left : Option (List ℕ)) → (input : List ℕ) × IsInput request left input
 some_input (Lines mode) left = if_told left
-some_input Check left = if_told left
+some_input (Check journal) left = if_told left
 some_input Sessions left = if_told left
 some_input (Serve kind) left = if_told left
 some_input (Demo seed count) left = ([], refl)
@@ -80,43 +82,51 @@ pub nothing_told_yet : (asked : Option Request) (left old : Option (List ℕ)) �
 nothing_told_yet None left old = tt
 nothing_told_yet (Some request) left old = nothing_told request left old
 
--- ---- what a check found
-all_sound : (texts : List (List ℕ)) (report : Report) → Says texts report → status_by report ≡ Done → All IsSoundLine texts
-all_sound texts (Sound batches lines optimal) says is = says.sound
-all_sound texts (Faulty line reason) says is = cc
+-- ---- what a report found
+says_in : (journal : Journal) (input : List ℕ) → SaysIn journal (lines_of input) (report_in journal input)
+says_in writer.Run input = reports_say input
+says_in writer.Served input = audits_say input
 
-names_fault : (input : List ℕ) (report : Report) → report_of input ≡ report → Says (lines_of input) report → status_by report ≡ CheckNo → NamesFault input
-names_fault input (Sound batches lines optimal) e says is = cc
-names_fault input (Faulty line reason) e says is = (line, reason, e, says)
+all_sound : (journal : Journal) (texts : List (List ℕ)) (report : Report) → SaysIn journal texts report → status_by report ≡ Done → All (IsSoundIn journal) texts
+all_sound writer.Run texts (Sound batches bounded lines optimal) says is = says.sound
+all_sound writer.Served texts (Sound batches bounded lines optimal) says is = says.sound
+all_sound journal texts (Faulty line reason) says is = cc
+
+names_fault : (journal : Journal) (input : List ℕ) (report : Report) → report_in journal input ≡ report → SaysIn journal (lines_of input) report → status_by report ≡ CheckNo
+    → NamesFault journal input
+names_fault journal input (Sound batches bounded lines optimal) e says is = cc
+names_fault writer.Run input (Faulty line reason) e says is = (line, reason, e, says)
+names_fault writer.Served input (Faulty line reason) e says is = (line, reason, e, says)
 
 module _ (status : Status) (bytes : List ℕ) where
   pub sound : (request : Request) (left : Option (List ℕ)) → OfInput request left (λ input. bytes ≡ input) → status ≡ status_for request bytes → status ≡ Done
-      → WhereCheck request (IfSome left (λ input. All IsSoundLine (lines_of input)))
+      → WhereCheck request (λ journal. IfSome left (λ input. All (IsSoundIn journal) (lines_of input)))
   sound (Lines mode) left all is done = tt
-  sound Check None all is done = tt
-  sound Check (Some input) all is done =
-      subst (λ (b : List ℕ). All IsSoundLine (lines_of b)) all (all_sound (lines_of bytes) (report_of bytes) (reports_say bytes) (sym is ∙ done))
+  sound (Check journal) None all is done = tt
+  sound (Check journal) (Some input) all is done =
+      subst (λ (b : List ℕ). All (IsSoundIn journal) (lines_of b)) all (all_sound journal (lines_of bytes) (report_in journal bytes) (says_in journal bytes) (sym is ∙ done))
   sound Sessions left all is done = tt
   sound (Serve kind) left all is done = tt
   sound (Demo seed count) left all is done = tt
 
   pub faulty : (request : Request) (left : Option (List ℕ)) → OfInput request left (λ input. bytes ≡ input) → status ≡ status_for request bytes → status ≡ CheckNo
-      → WhereCheck request (IfSome left NamesFault)
+      → WhereCheck request (λ journal. IfSome left (NamesFault journal))
   faulty (Lines mode) left all is failed = tt
-  faulty Check None all is failed = tt
-  faulty Check (Some input) all is failed = subst NamesFault all (names_fault bytes (report_of bytes) refl (reports_say bytes) (sym is ∙ failed))
+  faulty (Check journal) None all is failed = tt
+  faulty (Check journal) (Some input) all is failed =
+      subst (NamesFault journal) all (names_fault journal bytes (report_in journal bytes) refl (says_in journal bytes) (sym is ∙ failed))
   faulty Sessions left all is failed = tt
   faulty (Serve kind) left all is failed = tt
   faulty (Demo seed count) left all is failed = tt
 
 -- ---- no answer to a request is Usage
 report_known : (report : Report) → status_by report ≡ Usage → ⊥
-report_known (Sound batches lines optimal) e = cc
+report_known (Sound batches bounded lines optimal) e = cc
 report_known (Faulty line reason) e = cc
 
 pub known : (request : Request) (input : List ℕ) (status : Status) → status ≡ status_for request input → status ≡ Usage → ⊥
 known (Lines mode) input status is usage = cc
-known Check input status is usage = report_known (report_of input) (sym is ∙ usage)
+known (Check journal) input status is usage = report_known (report_in journal input) (sym is ∙ usage)
 known Sessions input status is usage = cc
 known (Serve kind) input status is usage = cc
 known (Demo seed count) input status is usage = cc

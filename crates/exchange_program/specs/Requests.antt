@@ -4,18 +4,16 @@ use Rattle.demo_run.specs.Demo.{demo_output}
 use Rattle.exchange_lines.specs.Promises.{TellAnswers}
 use Rattle.exchange_sessions.specs.Answers.{sessions_output}
 use Rattle.exchange_sessions.specs.Laws.{TellOnce}
-use Rattle.journal_check.specs.JournalLines.{lines_of}
-use Rattle.journal_check.specs.Laws.{IsFirstFault}
-use Rattle.journal_check.specs.declared.reports.Reason.{Reason}
 use Rattle.journal_check.specs.declared.reports.Report.{Report}
 use Rattle.journal_check.specs.declared.reports.Report.TheVariants.{Sound, Faulty}
-use Rattle.journal_check.specs.Reports.{report_of, report_text}
 use Rattle.live_lines.specs.Open.{line_limit}
 use Rattle.live_lines.specs.Serving as live_input
+use Rattle.program_words.specs.declared.requests.Journal.{Journal}
 use Rattle.program_words.specs.declared.requests.Request.{Request}
 use Rattle.program_words.specs.declared.requests.Request.TheVariants.{Lines, Check, Sessions, Serve, Demo}
 use Rattle.program_words.specs.declared.requests.Served.{Served}
 use Rattle.program_words.specs.Requests.{request_of}
+use Rattle.exchange_program.specs.Journals.{report_in, report_line}
 use Rattle.exchange_program.specs.Live.{ServedTell, served_output, skips_mark}
 use Rattle.exchange_program.specs.Modes.{IsBesideIn, mode_output, step_in}
 use Rattle.exchange_program.specs.declared.lines.TheConstants.{MAX_INPUT}
@@ -27,7 +25,7 @@ use Rattle.exchange_program.specs.declared.status.Status.TheVariants.{Done, Chec
 -- whether all of it is read before anything is written: not where it is answered between two reads
 abbrev pub IsReadFirst : Request → Type 0
 IsReadFirst (Lines mode) = Unit {0}
-IsReadFirst Check = Unit {0}
+IsReadFirst (Check journal) = Unit {0}
 IsReadFirst Sessions = Unit {0}
 IsReadFirst (Serve served) = ⊥
 IsReadFirst (Demo seed count) = Unit {0}
@@ -35,7 +33,7 @@ IsReadFirst (Demo seed count) = Unit {0}
 -- a fact of the limit of its bytes, which are none for a demo, where it is read first
 abbrev pub WithLimit : Request → (ℕ → Type 0) → Type 0
 WithLimit (Lines mode) P = P MAX_INPUT
-WithLimit Check P = P MAX_JOURNAL
+WithLimit (Check journal) P = P MAX_JOURNAL
 WithLimit Sessions P = P MAX_INPUT
 WithLimit (Serve served) P = Unit {0}
 WithLimit (Demo seed count) P = P 0
@@ -43,7 +41,7 @@ WithLimit (Demo seed count) P = P 0
 -- a fact of the bytes that are read: those that were left, or none
 abbrev pub OfInput : Request → Option (List ℕ) → (List ℕ → Type 0) → Type 0
 OfInput (Lines mode) left P = IfSome left P
-OfInput Check left P = IfSome left P
+OfInput (Check journal) left P = IfSome left P
 OfInput Sessions left P = IfSome left P
 OfInput (Serve served) left P = IfSome left P
 OfInput (Demo seed count) left P = P []
@@ -55,7 +53,7 @@ OfSomeInput request left P = (input : List ℕ) × OfInput request left (λ told
 -- all that was left is read, where the input is read
 abbrev pub IsReadWhole : Request → Option (List ℕ) → Option (List ℕ) → Type 0
 IsReadWhole (Lines mode) old new = IfSome old (λ input. new ≡ Some [])
-IsReadWhole Check old new = IfSome old (λ input. new ≡ Some [])
+IsReadWhole (Check journal) old new = IfSome old (λ input. new ≡ Some [])
 IsReadWhole Sessions old new = IfSome old (λ input. new ≡ Some [])
 IsReadWhole (Serve served) old new = IfSome old (λ input. new ≡ Some [])
 IsReadWhole (Demo seed count) old new = Unit {0}
@@ -63,7 +61,7 @@ IsReadWhole (Demo seed count) old new = Unit {0}
 -- what is left is told, and is within the limit, or has lines within theirs
 abbrev pub IsInputWithin : Request → Option (List ℕ) → Type 0
 IsInputWithin (Lines mode) left = IsSomeAnd left (λ input. length input ≤ MAX_INPUT)
-IsInputWithin Check left = IsSomeAnd left (λ input. length input ≤ MAX_JOURNAL)
+IsInputWithin (Check journal) left = IsSomeAnd left (λ input. length input ≤ MAX_JOURNAL)
 IsInputWithin Sessions left = IsSomeAnd left (λ input. length input ≤ MAX_INPUT)
 IsInputWithin (Serve served) left = IsSomeAnd left (live_input.IsInputWithin (skips_mark served))
 IsInputWithin (Demo seed count) left = Unit {0}
@@ -71,7 +69,7 @@ IsInputWithin (Demo seed count) left = Unit {0}
 -- an input is past the limit, or a line of it is
 abbrev pub IsPastLimit : Request → List ℕ → Type 0
 IsPastLimit (Lines mode) input = MAX_INPUT < length input
-IsPastLimit Check input = MAX_JOURNAL < length input
+IsPastLimit (Check journal) input = MAX_JOURNAL < length input
 IsPastLimit Sessions input = MAX_INPUT < length input
 IsPastLimit (Serve served) input = ¬ live_input.IsInputWithin (skips_mark served) input
 IsPastLimit (Demo seed count) input = 0 < length input
@@ -79,32 +77,29 @@ IsPastLimit (Demo seed count) input = 0 < length input
 -- so many bytes at least are taken before that is known
 abbrev pub past_size : Request → ℕ
 past_size (Lines mode) = MAX_INPUT + 1
-past_size Check = MAX_JOURNAL + 1
+past_size (Check journal) = MAX_JOURNAL + 1
 past_size Sessions = MAX_INPUT + 1
 past_size (Serve served) = line_limit + 1
 past_size (Demo seed count) = 1
 
 -- ---- the output
-abbrev pub report_line : List ℕ → List ℕ
-report_line input = report_text (report_of input) ++ 10 ∷ []
-
 -- what is written, the input being these bytes
 abbrev pub output_for : Request → List ℕ → List ℕ
 output_for (Lines mode) input = mode_output mode input
-output_for Check input = report_line input
+output_for (Check journal) input = report_line journal input
 output_for Sessions input = sessions_output input
 output_for (Serve served) input = served_output served input
 output_for (Demo seed count) input = demo_output seed count
 
 -- ---- the status
 abbrev pub status_by : Report → Status
-status_by (Sound batches lines optimal) = Done
+status_by (Sound batches bounded lines optimal) = Done
 status_by (Faulty line reason) = CheckNo
 
 -- the status once all is written
 abbrev pub status_for : Request → List ℕ → Status
 status_for (Lines mode) input = Done
-status_for Check input = status_by (report_of input)
+status_for (Check journal) input = status_by (report_in journal input)
 status_for Sessions input = Done
 status_for (Serve served) input = Done
 status_for (Demo seed count) input = Done
@@ -117,36 +112,39 @@ HasEnded status = (status ≡ Done) ⊎ (status ≡ CheckNo)
 -- what is promised of the bytes that are written for an input: its lines are told their answers, and its messages each once
 abbrev pub Promised : Request → List ℕ → List ℕ → Type 0
 Promised (Lines mode) input bytes = TellAnswers (IsBesideIn mode) (step_in mode) input bytes
-Promised Check input bytes = Unit {0}
+Promised (Check journal) input bytes = Unit {0}
 Promised Sessions input bytes = TellOnce input bytes
 Promised (Serve served) input bytes = ServedTell served input bytes
 Promised (Demo seed count) input bytes = Unit {0}
 
-abbrev pub WhereCheck : Request → Type 0 → Type 0
+abbrev pub WhereCheck : Request → (Journal → Type 0) → Type 0
 WhereCheck (Lines mode) P = Unit {0}
-WhereCheck Check P = P
+WhereCheck (Check journal) P = P journal
 WhereCheck Sessions P = Unit {0}
 WhereCheck (Serve served) P = Unit {0}
 WhereCheck (Demo seed count) P = Unit {0}
 
+-- whether it is a report on a journal
+abbrev pub IsCheck : Request → Type 0
+IsCheck (Lines mode) = ⊥
+IsCheck (Check journal) = Unit {0}
+IsCheck Sessions = ⊥
+IsCheck (Serve served) = ⊥
+IsCheck (Demo seed count) = ⊥
+
 abbrev pub WhereDemo : Request → Type 0 → Type 0
 WhereDemo (Lines mode) P = Unit {0}
-WhereDemo Check P = Unit {0}
+WhereDemo (Check journal) P = Unit {0}
 WhereDemo Sessions P = Unit {0}
 WhereDemo (Serve served) P = Unit {0}
 WhereDemo (Demo seed count) P = P
 
 abbrev pub WhereServe : Request → (Served → Type 0) → Type 0
 WhereServe (Lines mode) P = Unit {0}
-WhereServe Check P = Unit {0}
+WhereServe (Check journal) P = Unit {0}
 WhereServe Sessions P = Unit {0}
 WhereServe (Serve served) P = P served
 WhereServe (Demo seed count) P = Unit {0}
-
--- ---- a journal with a fault
--- the report names a line, and it is the first that is not sound
-abbrev pub NamesFault : List ℕ → Type 0
-NamesFault input = (line : ℕ) × (reason : Reason) × (report_of input ≡ Faulty line reason) × IsFirstFault (lines_of input) line reason
 
 -- a fact of what the words ask for
 abbrev pub Asked : List (List ℕ) → (Request → Type 0) → Type 0

@@ -6,10 +6,10 @@ ghost use Rattle.port_io.specs.Faults.{Rose, raised_by};
 ghost use Rattle.port_io.specs.Reads.{TakesUpTo};
 ghost use Rattle.port_io.specs.Writes.{AppendsFront};
 ghost use Rattle.journal_check.specs.JournalLines.{lines_of};
-ghost use Rattle.journal_check.specs.Laws.{IsSoundLine};
 ghost use Rattle.program_words.specs.Requests.{request_of};
 ghost use Rattle.exchange_program.specs.Live.{ServedAt};
-ghost use Rattle.exchange_program.specs.Requests.{Asked, HasEnded, IsInputWithin, IsPastLimit, IsReadFirst, IsReadWhole, NamesFault, OfInput, OfSomeInput, Promised, WhereCheck, WhereDemo, WhereServe, WithLimit, output_for, past_size, status_for};
+ghost use Rattle.exchange_program.specs.Journals.{IsSoundIn, NamesFault};
+ghost use Rattle.exchange_program.specs.Requests.{Asked, HasEnded, IsCheck, IsInputWithin, IsPastLimit, IsReadFirst, IsReadWhole, OfInput, OfSomeInput, Promised, WhereCheck, WhereDemo, WhereServe, WithLimit, output_for, past_size, status_for};
 ghost use Rattle.exchange_program.specs.Wrote.{Wrote, WroteFront};
 
 use crate::live::answer_live;
@@ -24,7 +24,8 @@ use std::alloc::Global;
 /// `run` reads commands to their end and writes a reply line for each, by one `write_all`. `quotes` does the same and also
 /// answers at which prices a further order raises the greatest surplus. `guarded` does the same as `run` and also answers which
 /// liability covers an account's positions, and it refuses a withdrawal below what the account needs. `check` reads reply lines
-/// to their end and writes one report line: that all are sound, with their counts, or the first that is not, and why.
+/// to their end and writes one report line: that all are sound, with their counts, or the first that is not, and why. `audit`
+/// does the same with lines that `serve` or `serve sessions` wrote.
 /// `sessions` reads messages to their end and answers each, once and in its session's order. `serve` answers lines of every kind,
 /// those of `quotes` and of `guarded`, what a book and an account hold, and proposals, of which it charges the best where a
 /// clear's own run stops; it has written the answers to all lines that are complete before it reads on.
@@ -69,14 +70,15 @@ pub fn exchange<S: Source, K: Sink>(
     // Where a check is done every line is sound, and else its report names the first that is not.
     ensures sound { result ≡ Status.Done →
         Asked (map string_bytes words.now) (λ request.
-        WhereCheck request (IfSome (S.left source.old) (λ input.
-        All IsSoundLine (lines_of input)))) }
+        WhereCheck request (λ journal. IfSome (S.left source.old) (λ input.
+        All (IsSoundIn journal) (lines_of input)))) }
     ensures faulty { result ≡ Status.CheckNo →
         Asked (map string_bytes words.now) (λ request.
-        WhereCheck request (IfSome (S.left source.old) NamesFault)) }
+        WhereCheck request (λ journal.
+        IfSome (S.left source.old) (NamesFault journal))) }
     ensures check_alone { result ≡ Status.CheckNo →
         Asked (map string_bytes words.now) (λ request.
-        request ≡ Request.Check) }
+        IsCheck request) }
 
     // A demo reads nothing, so no read of it fails.
     ensures unread { Asked (map string_bytes words.now) (λ request.

@@ -6,9 +6,9 @@ ghost use Rattle.port_io.specs.Faults.{Rose, raised_by};
 ghost use Rattle.port_io.specs.Reads.{TakesUpTo};
 ghost use Rattle.port_io.specs.Writes.{AppendsFront};
 ghost use Rattle.journal_check.specs.JournalLines.{lines_of};
-ghost use Rattle.journal_check.specs.Laws.{IsSoundLine};
 ghost use Rattle.program_words.specs.Requests.{IsRequestWithin};
-ghost use Rattle.exchange_program.specs.Requests.{HasEnded, IsInputWithin, IsPastLimit, IsReadFirst, IsReadWhole, NamesFault, OfInput, OfSomeInput, Promised, WhereCheck, WhereDemo, WithLimit, output_for, past_size, status_for};
+ghost use Rattle.exchange_program.specs.Journals.{IsSoundIn, NamesFault};
+ghost use Rattle.exchange_program.specs.Requests.{HasEnded, IsCheck, IsInputWithin, IsPastLimit, IsReadFirst, IsReadWhole, OfInput, OfSomeInput, Promised, WhereCheck, WhereDemo, WithLimit, output_for, past_size, status_for};
 ghost use Rattle.exchange_program.specs.Wrote.{Wrote, WroteFront};
 
 use crate::check::{MAX_JOURNAL, report_on};
@@ -46,7 +46,7 @@ fn input_of<S: Source>(alloc: Global, request: Request, source: &mut S) -> Resul
 {
     match request {
         Request::Lines(_) | Request::Sessions => read_all(alloc, source, MAX_INPUT),
-        Request::Check => read_all(alloc, source, MAX_JOURNAL),
+        Request::Check(_) => read_all(alloc, source, MAX_JOURNAL),
         Request::Demo { .. } => Ok(Vec::new(alloc)),
         Request::Serve(_) => unreachable!(),
     }
@@ -76,7 +76,7 @@ fn respond<K: Sink>(
             answer_lines(alloc, mode, input, sink)?;
             Ok(Status::Done)
         }
-        Request::Check => report_on(alloc, input, sink),
+        Request::Check(journal) => report_on(alloc, journal, input, sink),
         Request::Sessions => {
             answer_messages(alloc, input, sink)?;
             Ok(Status::Done)
@@ -120,12 +120,13 @@ pub(crate) fn serve<S: Source, K: Sink>(
 
     // Where a check is done every line is sound, and else its report names the first that is not.
     ensures sound { result ≡ Status.Done →
-        WhereCheck request (IfSome (S.left source.old) (λ input.
-        All IsSoundLine (lines_of input))) }
+        WhereCheck request (λ journal. IfSome (S.left source.old) (λ input.
+        All (IsSoundIn journal) (lines_of input))) }
     ensures faulty { result ≡ Status.CheckNo →
-        WhereCheck request (IfSome (S.left source.old) NamesFault) }
+        WhereCheck request (λ journal.
+        IfSome (S.left source.old) (NamesFault journal)) }
     ensures check_alone { result ≡ Status.CheckNo →
-        request ≡ Request.Check }
+        IsCheck request }
 
     // A demo reads nothing, so no read of it fails.
     ensures unread { WhereDemo request (source.new ≡ source.old) }

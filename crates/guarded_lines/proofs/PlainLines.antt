@@ -25,7 +25,7 @@ margin_plain line request (Unbounded ray) = with_plain line request (codes "unbo
 margin_plain line request Wide = (refl, tt, (refl, tt, (refl, refl, (refl, tt, (refl, refl, tt)))))
 margin_plain line request Budget = (refl, tt, (refl, tt, (refl, refl, (refl, tt, (refl, refl, tt)))))
 
-need_plain : (need : Need) → is_plain (need_text need) ≡ true
+pub need_plain : (need : Need) → is_plain (need_text need) ≡ true
 need_plain (need.Amount amount) = plain-decimal amount
 need_plain need.Positions = refl
 need_plain need.Unbounded = refl

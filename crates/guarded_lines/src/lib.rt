@@ -16,4 +16,4 @@ pub use answers::{answer, answer_said};
 pub use bodies::{GuardedBody, guarded_body_of};
 pub use replies::{GuardedReply, reply_to};
 pub use requests::MarginRequest;
-pub use told::{Need, ToldMargin};
+pub use told::{Need, ToldMargin, print_margin, print_uncovered};

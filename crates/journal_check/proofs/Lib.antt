@@ -1,6 +1,6 @@
 mod FirstLine
-mod Found
+pub mod Found
 mod Counting
-mod LineSays
+pub mod LineSays
 pub mod ReportsSay
 pub mod Journals

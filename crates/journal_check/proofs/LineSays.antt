@@ -22,23 +22,28 @@ use Rattle.reply_text.specs.Reading.{LineRead, reading, IsLineOf, if_json, json_
 use Rattle.reply_text.specs.ReplyValues.{pair_from}
 use Rattle.reply_text.proofs.RoundTrip.{reading_spells}
 use Rattle.journal_check.specs.declared.findings.Finding.{Finding}
-use Rattle.journal_check.specs.declared.findings.Finding.TheVariants.{Plain, Cleared, Faulty}
-use Rattle.journal_check.specs.Findings.{finding_of, read_finding, reply_finding, cleared_finding, no_reason}
-use Rattle.journal_check.specs.Laws.{HasReason, IfCleared, IsCertified, IsClearedLine, clears, clears_optimal}
+use Rattle.journal_check.specs.declared.findings.Finding.TheVariants.{Plain, Cleared, Bounded, Faulty}
+use Rattle.journal_check.specs.declared.reports.Reason.{Reason}
+use Rattle.journal_check.specs.Findings.{finding_of, read_finding, reply_finding, cleared_finding, no_reason, is_batch, is_bounded, is_marked, is_optimal}
+use Rattle.journal_check.specs.Laws.{Counts, HasReason, IfCleared, IsCertified, IsClearedLine, IsSoundLineOf, clears, clears_bounded, clears_optimal, reply_counts}
 
--- a sound line that counts as a batch, or as one that is marked optimal
-pub record IsCounted (text : List ℕ) (batch optimal : Bool) : Type 0 where
-  pub line : ℕ
-  pub reply : Reply
-  pub is_line : IsLineOf text line reply
-  pub certified : IfCleared reply IsCertified
-  pub is_batch : clears reply ≡ batch
-  pub is_optimal : clears_optimal reply ≡ optimal
+-- a sound line of a reply, which counts as what is found
+pub record IsCountedBy {R : Type 0} (IsLine : List ℕ → R → Type 0) (counts : Counts R) (text : List ℕ) (finding : Finding) : Type 0 where
+  pub reply : R
+  pub is_line : IsLine text reply
+  pub batch : counts.batch reply ≡ is_batch finding
+  pub bounded : counts.bounded reply ≡ is_bounded finding
+  pub optimal : counts.optimal reply ≡ is_optimal finding
+
+-- what is found of a line says what it is, where lines are of any kind
+abbrev pub FindingSaysBy : {R : Type 0} → (List ℕ → R → Type 0) → Counts R → (List ℕ → Reason → Type 0) → List ℕ → Finding → Type 0
+FindingSaysBy IsLine counts Fails text (Faulty reason) = Fails text reason
+FindingSaysBy IsLine counts Fails text (Cleared optimal) = IsCountedBy IsLine counts text (Cleared optimal)
+FindingSaysBy IsLine counts Fails text Bounded = IsCountedBy IsLine counts text Bounded
+FindingSaysBy IsLine counts Fails text Plain = IsCountedBy IsLine counts text Plain
 
 abbrev pub FindingSays : List ℕ → Finding → Type 0
-FindingSays text (Faulty reason) = HasReason text reason
-FindingSays text (Cleared optimal) = IsCounted text true optimal
-FindingSays text Plain = IsCounted text false false
+FindingSays = FindingSaysBy IsSoundLineOf reply_counts HasReason
 
 -- ---- no line reads as want of memory
 
@@ -68,10 +73,20 @@ json : (text : List ℕ) (value : Option Data) → is_memory (if_json text value
 json text None = refl
 json text (Some d) = tested (if_in_range text (pair_from d)) (has_shape d) (has_numbers d) (in_range text (pair_from d))
 
-never_memory : (text : List ℕ) → reading text ≡ Err fault.Memory → ⊥
+pub never_memory : (text : List ℕ) → reading text ≡ Err fault.Memory → ⊥
 never_memory text e = true≢false (sym (ap is_memory e) ∙ json text (json_of text))
 
 -- ---- what is found
+
+counted : (text : List ℕ) (finding : Finding) (line : ℕ) (reply : Reply) → IsLineOf text line reply → IfCleared reply IsCertified
+    → clears reply ≡ is_batch finding → clears_bounded reply ≡ is_bounded finding → clears_optimal reply ≡ is_optimal finding → IsCountedBy IsSoundLineOf reply_counts text finding
+counted text finding line reply h certified batch bounded optimal = record {
+  reply = reply;
+  is_line = record { line = line; is_line = h; certified = certified };
+  batch = batch;
+  bounded = bounded;
+  optimal = optimal;
+}
 
 cleared_line : {P : Batch → Outcome → Type 0} (text : List ℕ) (line number market : ℕ) (batch : Batch) (outcome : Outcome)
     → IsLineOf text line (ClearedReply number market batch outcome) → P batch outcome → IsClearedLine text P
@@ -88,34 +103,30 @@ unmet text line number market batch outcome no.Bound h f = cleared_line text lin
 
 judged : (text : List ℕ) (line number market : ℕ) (batch : Batch) (outcome : Outcome) (j : Judgement) → IsLineOf text line (ClearedReply number market batch outcome)
     → verdict_of limit batch outcome ≡ j → FindingSays text (cleared_finding j outcome.mark)
-judged text line number market batch outcome judgement.Yes h e = record {
-  line = line;
-  reply = ClearedReply number market batch outcome;
-  is_line = h;
-  certified = record {
-    yes = e;
-    covered = yes_covers batch outcome e;
-    proved = yes_on_optimal_proves batch outcome e;
-    measured = yes_has_its_measure batch outcome e;
-  };
-  is_batch = refl;
-  is_optimal = refl;
-}
+judged text line number market batch outcome judgement.Yes h e =
+    counted text (Cleared (is_marked outcome.mark)) line (ClearedReply number market batch outcome) h
+    (record {
+      yes = e;
+      covered = yes_covers batch outcome e;
+      proved = yes_on_optimal_proves batch outcome e;
+      measured = yes_has_its_measure batch outcome e;
+    })
+    refl refl refl
 judged text line number market batch outcome (judgement.No condition) h e =
     unmet text line number market batch outcome condition h (said batch outcome (judgement.No condition) e).1
 judged text line number market batch outcome (judgement.Wide w) h e = cleared_line text line number market batch outcome h (w, e)
 
 sound : (text : List ℕ) (line : ℕ) (r : Reply) → IsLineOf text line r → FindingSays text (reply_finding r)
-sound text line (Opened account) h = record { line = line; reply = Opened account; is_line = h; certified = tt; is_batch = refl; is_optimal = refl }
-sound text line (Deposited account balance) h = record { line = line; reply = Deposited account balance; is_line = h; certified = tt; is_batch = refl; is_optimal = refl }
-sound text line (Withdrawn account balance) h = record { line = line; reply = Withdrawn account balance; is_line = h; certified = tt; is_batch = refl; is_optimal = refl }
-sound text line (Listed market underlyings) h = record { line = line; reply = Listed market underlyings; is_line = h; certified = tt; is_batch = refl; is_optimal = refl }
-sound text line (Placed order) h = record { line = line; reply = Placed order; is_line = h; certified = tt; is_batch = refl; is_optimal = refl }
-sound text line (Cancelled order) h = record { line = line; reply = Cancelled order; is_line = h; certified = tt; is_batch = refl; is_optimal = refl }
+sound text line (Opened account) h = counted text Plain line (Opened account) h tt refl refl refl
+sound text line (Deposited account balance) h = counted text Plain line (Deposited account balance) h tt refl refl refl
+sound text line (Withdrawn account balance) h = counted text Plain line (Withdrawn account balance) h tt refl refl refl
+sound text line (Listed market underlyings) h = counted text Plain line (Listed market underlyings) h tt refl refl refl
+sound text line (Placed order) h = counted text Plain line (Placed order) h tt refl refl refl
+sound text line (Cancelled order) h = counted text Plain line (Cancelled order) h tt refl refl refl
 sound text line (ClearedReply number market batch outcome) h = judged text line number market batch outcome (verdict_of limit batch outcome) h refl
-sound text line (Settled market lapsed payouts) h = record { line = line; reply = Settled market lapsed payouts; is_line = h; certified = tt; is_batch = refl; is_optimal = refl }
-sound text line (Balance account balance reserved) h = record { line = line; reply = Balance account balance reserved; is_line = h; certified = tt; is_batch = refl; is_optimal = refl }
-sound text line (Refused number field) h = record { line = line; reply = Refused number field; is_line = h; certified = tt; is_batch = refl; is_optimal = refl }
+sound text line (Settled market lapsed payouts) h = counted text Plain line (Settled market lapsed payouts) h tt refl refl refl
+sound text line (Balance account balance reserved) h = counted text Plain line (Balance account balance reserved) h tt refl refl refl
+sound text line (Refused number field) h = counted text Plain line (Refused number field) h tt refl refl refl
 
 found : (text : List ℕ) (read : LineRead) → reading text ≡ read → FindingSays text (read_finding read)
 found text (Ok pair) e = sound text pair.0 pair.1 (reading_spells text pair.0 pair.1 e)

@@ -15,7 +15,7 @@ use Rattle.reply_text.specs.Reading.{LineRead, reading}
 use Rattle.journal_check.specs.declared.reports.Reason.{Reason}
 use Rattle.journal_check.specs.declared.reports.Reason.TheVariants.{NotJson, Shape, Number, Range, Spelling, BatchShape, Fill, Cover, Measure, Bound, Wide}
 use Rattle.journal_check.specs.declared.findings.Finding.{Finding}
-use Rattle.journal_check.specs.declared.findings.Finding.TheVariants.{Plain, Cleared, Faulty}
+use Rattle.journal_check.specs.declared.findings.Finding.TheVariants.{Plain, Cleared, Bounded, Faulty}
 use Rattle.cert_check.specs.Events.{verdict_of}
 
 -- a test of reading that fails; no line reads as want of memory
@@ -61,14 +61,24 @@ finding_of line = read_finding (reading line)
 abbrev pub fault_in : Finding → Option Reason
 fault_in (Faulty reason) = Some reason
 fault_in (Cleared optimal) = None
+fault_in Bounded = None
 fault_in Plain = None
 
 abbrev pub is_batch : Finding → Bool
 is_batch (Faulty reason) = false
 is_batch (Cleared optimal) = true
+is_batch Bounded = true
 is_batch Plain = false
 
 abbrev pub is_optimal : Finding → Bool
 is_optimal (Faulty reason) = false
 is_optimal (Cleared optimal) = optimal
+is_optimal Bounded = false
 is_optimal Plain = false
+
+-- marked bounded
+abbrev pub is_bounded : Finding → Bool
+is_bounded (Faulty reason) = false
+is_bounded (Cleared optimal) = false
+is_bounded Bounded = true
+is_bounded Plain = false

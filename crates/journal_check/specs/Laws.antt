@@ -25,6 +25,48 @@ use Rattle.reply_print.specs.Within.{IsWithin}
 use Rattle.journal_check.specs.Findings.{fault_in, is_marked, reply_finding}
 use Rattle.journal_check.specs.Reports.{sound_report, report_of}
 
+-- ---- a report on lines of any kind, where it is said which are the sound lines of a reply
+
+-- what a reply counts for: whether it clears a batch, whether it marks it bounded, and whether it marks it optimal
+pub record Counts (R : Type 0) : Type 0 where
+  pub batch : R → Bool
+  pub bounded : R → Bool
+  pub optimal : R → Bool
+
+-- a sound line of some reply
+pub record IsSomeLine {R : Type 0} (IsLine : List ℕ → R → Type 0) (text : List ℕ) : Type 0 where
+  pub reply : R
+  pub is_line : IsLine text reply
+
+-- the sound lines of these replies, in their order
+abbrev pub AreLinesOf : {R : Type 0} → (List ℕ → R → Type 0) → List (List ℕ) → List R → Type 0
+AreLinesOf IsLine [] replies = replies ≡ []
+AreLinesOf IsLine (text ∷ texts) [] = ⊥
+AreLinesOf IsLine (text ∷ texts) (reply ∷ replies) = IsLine text reply × AreLinesOf IsLine texts replies
+
+-- all lines are sound; so many of the replies clear a batch, so many of these mark it bounded, and so many optimal
+pub record AreSoundBy {R : Type 0} (IsLine : List ℕ → R → Type 0) (counts : Counts R) (texts : List (List ℕ)) (batches bounded lines optimal : ℕ) : Type 0 where
+  pub sound : All (IsSomeLine IsLine) texts
+  pub replies : List R
+  pub are_lines : AreLinesOf IsLine texts replies
+  pub count : lines ≡ length texts
+  pub cleared : batches ≡ count_by counts.batch replies
+  pub limited : bounded ≡ count_by counts.bounded replies
+  pub marked : optimal ≡ count_by counts.optimal replies
+
+-- the line of this number, counted from 1, fails for the reason, and those before it are sound
+pub record IsFirstBy (IsSound : List ℕ → Type 0) (Fails : List ℕ → Reason → Type 0) (texts : List (List ℕ)) (line : ℕ) (reason : Reason) : Type 0 where
+  pub some : 1 ≤ line
+  pub within : line ≤ length texts
+  pub before : All IsSound (take (line - 1) texts)
+  pub fails : Fails (get_or texts (line - 1) []) reason
+
+abbrev pub SaysBy : {R : Type 0} → (List ℕ → R → Type 0) → Counts R → (List ℕ → Reason → Type 0) → List (List ℕ) → Report → Type 0
+SaysBy IsLine counts Fails texts (Sound batches bounded lines optimal) = AreSoundBy IsLine counts texts batches bounded lines optimal
+SaysBy IsLine counts Fails texts (Faulty line reason) = IsFirstBy (IsSomeLine IsLine) Fails texts line reason
+
+-- ---- a report on lines of a run
+
 -- the verdict is yes: so the fills cover the claimed surplus, and with the mark optimal no fills cover more, as the measure proves
 pub record IsCertified (batch : Batch) (outcome : Outcome) : Type 0 where
   pub yes : verdict_of limit batch outcome ≡ judgement.Yes
@@ -37,11 +79,13 @@ IfCleared (reply.Cleared number market batch outcome) P = P batch outcome
 IfCleared other P = Unit {0}
 
 -- the line of a reply within its ranges, which is certified if it is a cleared batch
-pub record IsSoundLine (text : List ℕ) : Type 0 where
+pub record IsSoundLineOf (text : List ℕ) (reply : Reply) : Type 0 where
   pub line : ℕ
-  pub reply : Reply
   pub is_line : IsLineOf text line reply
   pub certified : IfCleared reply IsCertified
+
+abbrev pub IsSoundLine : List ℕ → Type 0
+IsSoundLine = IsSomeLine IsSoundLineOf
 
 -- the line of a cleared batch and an outcome of which something holds
 pub record IsClearedLine (text : List ℕ) (P : Batch → Outcome → Type 0) : Type 0 where
@@ -72,13 +116,10 @@ HasReason text Bound = IsUnmet text no.Bound
 HasReason text Wide = IsClearedLine text (λ batch outcome. (w : Misfit) × (verdict_of limit batch outcome ≡ judgement.Wide w))
 
 -- the line of this number, counted from 1, fails the test, and those before it are sound
-pub record IsFirstFault (texts : List (List ℕ)) (line : ℕ) (reason : Reason) : Type 0 where
-  pub some : 1 ≤ line
-  pub within : line ≤ length texts
-  pub before : All IsSoundLine (take (line - 1) texts)
-  pub fails : HasReason (get_or texts (line - 1) []) reason
+abbrev pub IsFirstFault : List (List ℕ) → ℕ → Reason → Type 0
+IsFirstFault = IsFirstBy IsSoundLine HasReason
 
--- whether a reply clears a batch, and whether it marks it optimal
+-- whether a reply clears a batch, and whether it marks it optimal; a run marks none bounded
 abbrev pub clears : Reply → Bool
 clears (reply.Cleared number market batch outcome) = true
 clears other = false
@@ -87,24 +128,18 @@ abbrev pub clears_optimal : Reply → Bool
 clears_optimal (reply.Cleared number market batch outcome) = is_marked outcome.mark
 clears_optimal other = false
 
--- the lines of these replies, in their order
-abbrev pub AreLinesOf : List (List ℕ) → List Reply → Type 0
-AreLinesOf [] replies = replies ≡ []
-AreLinesOf (text ∷ texts) [] = ⊥
-AreLinesOf (text ∷ texts) (reply ∷ replies) = ((line : ℕ) × IsLineOf text line reply) × AreLinesOf texts replies
+abbrev pub clears_bounded : Reply → Bool
+clears_bounded reply = false
+
+abbrev pub reply_counts : Counts Reply
+reply_counts = record { batch = clears; bounded = clears_bounded; optimal = clears_optimal }
 
 -- all lines are sound; so many of the replies clear a batch, and so many of these mark it optimal
-pub record AreSoundLines (texts : List (List ℕ)) (batches lines optimal : ℕ) : Type 0 where
-  pub sound : All IsSoundLine texts
-  pub replies : List Reply
-  pub are_lines : AreLinesOf texts replies
-  pub count : lines ≡ length texts
-  pub cleared : batches ≡ count_by clears replies
-  pub marked : optimal ≡ count_by clears_optimal replies
+abbrev pub AreSoundLines : List (List ℕ) → ℕ → ℕ → ℕ → ℕ → Type 0
+AreSoundLines = AreSoundBy IsSoundLineOf reply_counts
 
 abbrev pub Says : List (List ℕ) → Report → Type 0
-Says texts (Sound batches lines optimal) = AreSoundLines texts batches lines optimal
-Says texts (Faulty line reason) = IsFirstFault texts line reason
+Says = SaysBy IsSoundLineOf reply_counts HasReason
 
 -- where a report names no line all are sound and counted, and else the line that it names is the first that is not
 abbrev pub ReportsSay : Type 0

@@ -1,4 +1,4 @@
-// What is found of one line.
+//! What is found of one line.
 ghost use Rattle.std.specs.Prelude.{◌≡◌, ◌≢◌, ◌≤◌, IfOk, length};
 ghost use Rattle.journal_check.specs.Findings.{cleared_finding as cleared_is, fault_finding as fault_is, finding_of, is_marked as is_marked_by, no_reason as reason_is, reply_finding as reply_is};
 ghost use Rattle.reply_print.specs.Within.{IsBatchWithin, IsReplyWithin};
@@ -12,18 +12,21 @@ use form::{Batch, Order};
 use reply_text::{LineFault, Reply, read_line};
 use std::alloc::{AllocError, Global};
 
-// What a line is found to be.
-#[derive(Clone, Copy)]
-pub(crate) enum Finding {
-    // A sound reply on no batch.
+/// What a line is found to be.
+#[derive(Clone, Copy, Debug, PartialEq, Eq)]
+pub enum Finding {
+    /// A sound reply on no batch.
     Plain,
-    // A cleared batch whose verdict is yes, and whether it is marked optimal.
+    /// A cleared batch whose verdict is yes, and whether it is marked optimal.
     Cleared { optimal: bool },
-    // No sound reply.
+    /// A cleared batch that is marked bounded, whose judgement is yes. `check` finds none.
+    Bounded,
+    /// No sound reply.
     Faulty(Reason),
 }
 
-fn no_reason(no: No) -> Reason
+/// The condition that is not met, as a reason.
+pub fn no_reason(no: No) -> Reason
     ensures { result ≡ reason_is no }
 {
     match no {
@@ -56,8 +59,8 @@ fn judgement_finding(judgement: Judgement, mark: &Mark) -> Finding
     }
 }
 
-// How many legs the orders of a batch have.
-fn leg_count(orders: &[Order]) -> usize
+/// How many legs the orders of a batch have.
+pub fn leg_count(orders: &[Order]) -> usize
     requires { length orders.now ≤ 256 }
     ensures count { result ≡ leg_count orders.now }
     ensures few { result ≤ 1024 }
@@ -79,7 +82,8 @@ fn cleared_finding(alloc: Global, batch: &Batch, outcome: &Outcome) -> Result<Fi
     Ok(judgement_finding(verdict(batch, outcome, &mut signs), &outcome.mark))
 }
 
-fn reply_finding(alloc: Global, reply: &Reply) -> Result<Finding, AllocError>
+/// What a reply within its ranges is found to be. The only error is want of memory.
+pub fn reply_finding(alloc: Global, reply: &Reply) -> Result<Finding, AllocError>
     requires { IsReplyWithin reply.now }
     ensures { IfOk result (λ f. f ≡ reply_is reply.now) }
 {
@@ -89,8 +93,8 @@ fn reply_finding(alloc: Global, reply: &Reply) -> Result<Finding, AllocError>
     }
 }
 
-// A line that fails a test of reading, if it is not memory that is wanting.
-fn fault_finding(fault: LineFault) -> Result<Finding, AllocError>
+/// A line that fails a test of reading; want of memory is an error.
+pub fn fault_finding(fault: LineFault) -> Result<Finding, AllocError>
     ensures value { IfOk result (λ f. f ≡ fault_is fault) }
     ensures no_memory { IfOk result (λ f. fault ≢ LineFault.Memory) }
 {

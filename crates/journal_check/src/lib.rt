@@ -2,10 +2,13 @@
 #![tactic(auto)]
 
 mod checking;
-mod findings;
+pub mod findings;
 mod journal_lines;
+pub mod judges;
 pub mod laws;
 pub mod reports;
 
-pub use checking::check_journal;
-pub use reports::{Reason, Report, text};
+pub use checking::{check_journal, report_by};
+pub use findings::Finding;
+pub use judges::LineJudge;
+pub use reports::{Reason, Report, audit_text, text};

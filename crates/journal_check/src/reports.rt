@@ -1,6 +1,6 @@
 //! Reports, and what each is written as.
-ghost use Rattle.std.specs.Prelude.{◌≡◌, IfOk, string_bytes};
-ghost use Rattle.journal_check.specs.Reports.{reason_word, report_text};
+ghost use Rattle.std.specs.Prelude.{◌≡◌, ◌++◌, IfOk, string_bytes};
+ghost use Rattle.journal_check.specs.Reports.{audit_text, batches_text, faulty_text, lines_text, reason_word, report_text};
 
 use std::alloc::{AllocError, Global};
 
@@ -35,10 +35,11 @@ pub enum Reason {
 /// What is said of a journal.
 #[derive(Clone, Copy, Debug, PartialEq, Eq)]
 pub enum Report {
-    /// Each line is a sound reply: how many cleared lines there are, how many lines, and how many
-    /// lines marked optimal.
+    /// Each line is a sound reply: how many cleared lines there are, how many of them are marked
+    /// bounded, how many lines there are, and how many lines marked optimal.
     Sound {
         batches: u64,
+        bounded: u64,
         lines: u64,
         optimal: u64,
     },
@@ -67,7 +68,14 @@ fn word(reason: Reason) -> &'static str
     }
 }
 
-/// The line of a report, without its line feed.
+fn faulty_text(alloc: Global, line: u64, reason: Reason) -> Result<String, AllocError>
+    ensures { IfOk result (λ s. string_bytes s ≡ faulty_text line reason) }
+{
+    let reason = word(reason);
+    format!(in alloc; "{{\"line\":{line},\"reason\":\"{reason}\",\"verdict\":\"no\"}}")
+}
+
+/// The line of a report on the lines of a run, without its line feed: it does not tell how many are marked bounded.
 pub fn text(alloc: Global, report: &Report) -> Result<String, AllocError>
     ensures { IfOk result (λ s. string_bytes s ≡ report_text report.now) }
 {
@@ -76,12 +84,52 @@ pub fn text(alloc: Global, report: &Report) -> Result<String, AllocError>
             batches,
             lines,
             optimal,
+            ..
         } => format!(in alloc;
             "{{\"batches\":{batches},\"lines\":{lines},\"optimal\":{optimal},\"verdict\":\"yes\"}}"
         ),
-        Report::Faulty { line, reason } => {
-            let reason = word(*reason);
-            format!(in alloc; "{{\"line\":{line},\"reason\":\"{reason}\",\"verdict\":\"no\"}}")
-        }
+        Report::Faulty { line, reason } => faulty_text(alloc, *line, *reason),
+    }
+}
+
+fn batches_text(alloc: Global, batches: u64, bounded: u64) -> Result<String, AllocError>
+    ensures { IfOk result (λ s. string_bytes s ≡ batches_text batches bounded) }
+{
+    format!(in alloc; "{{\"batches\":{batches},\"bounded\":{bounded}")
+}
+
+fn lines_text(alloc: Global, lines: u64, optimal: u64) -> Result<String, AllocError>
+    ensures { IfOk result (λ s. string_bytes s ≡ lines_text lines optimal) }
+{
+    format!(in alloc; ",\"lines\":{lines},\"optimal\":{optimal},\"verdict\":\"yes\"}}")
+}
+
+fn counts_text(
+    alloc: Global,
+    batches: u64,
+    bounded: u64,
+    lines: u64,
+    optimal: u64,
+) -> Result<String, AllocError>
+    ensures { IfOk result (λ s. string_bytes s
+        ≡ batches_text batches bounded ++ lines_text lines optimal) }
+{
+    let mut text = batches_text(alloc, batches, bounded)?;
+    text.push_str(&lines_text(alloc, lines, optimal)?)?;
+    Ok(text)
+}
+
+/// The line of a report on the lines of `serve`, without its line feed.
+pub fn audit_text(alloc: Global, report: &Report) -> Result<String, AllocError>
+    ensures { IfOk result (λ s. string_bytes s ≡ audit_text report.now) }
+{
+    match report {
+        Report::Sound {
+            batches,
+            bounded,
+            lines,
+            optimal,
+        } => counts_text(alloc, *batches, *bounded, *lines, *optimal),
+        Report::Faulty { line, reason } => faulty_text(alloc, *line, *reason),
     }
 }

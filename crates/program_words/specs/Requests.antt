@@ -5,6 +5,7 @@ use Rattle.form.specs.Naturals.{is_natural, natural_value}
 use Rattle.program_words.specs.declared.requests.Request.{Request}
 use Rattle.program_words.specs.declared.requests.Request.TheVariants.{Lines, Check, Sessions, Serve, Demo}
 use Rattle.program_words.specs.declared.requests.Mode.TheVariants.{Run, Quotes, Guarded}
+use Rattle.program_words.specs.declared.requests.Journal.TheVariants as wrote
 use Rattle.program_words.specs.declared.requests.Served.TheVariants as served
 use Rattle.program_words.specs.declared.requests.TheConstants.{MAX_SEED, MAX_COUNT}
 
@@ -23,7 +24,8 @@ one_word word =
     if bytes_eq word (codes "run") then Some (Lines Run)
     else if bytes_eq word (codes "quotes") then Some (Lines Quotes)
     else if bytes_eq word (codes "guarded") then Some (Lines Guarded)
-    else if bytes_eq word (codes "check") then Some Check
+    else if bytes_eq word (codes "check") then Some (Check wrote.Run)
+    else if bytes_eq word (codes "audit") then Some (Check wrote.Served)
     else if bytes_eq word (codes "sessions") then Some Sessions
     else if bytes_eq word (codes "serve") then Some (Serve served.Lines)
     else None
@@ -38,7 +40,7 @@ abbrev pub three_words : List ℕ → List ℕ → List ℕ → Option Request
 three_words word seed count =
     if bytes_eq word (codes "demo") then demo_of (natural_in 0 MAX_SEED seed) (natural_in 1 MAX_COUNT count) else None
 
--- `run`, `quotes`, `guarded`, `check`, `sessions`, `serve`, `serve sessions`, or `demo` with a seed and a number of orders
+-- `run`, `quotes`, `guarded`, `check`, `audit`, `sessions`, `serve`, `serve sessions`, or `demo` with a seed and a number of orders
 abbrev pub request_of : List (List ℕ) → Option Request
 request_of [] = None
 request_of (word ∷ []) = one_word word
@@ -49,7 +51,7 @@ request_of (word ∷ seed ∷ count ∷ more ∷ words) = None
 -- a demo has at least one order, and at most as many as it may
 abbrev pub IsRequestWithin : Request → Type 0
 IsRequestWithin (Lines mode) = ⊤
-IsRequestWithin Check = ⊤
+IsRequestWithin (Check journal) = ⊤
 IsRequestWithin Sessions = ⊤
 IsRequestWithin (Serve served) = ⊤
 IsRequestWithin (Demo seed count) = (1 ≤ count) × (count ≤ MAX_COUNT)

@@ -2,6 +2,7 @@
 use Rattle.std.specs.Prelude.{◌≡◌, List, ℕ, [], ◌∷◌, codes, Some, None}
 use Rattle.program_words.specs.declared.requests.Request.TheVariants.{Lines, Check, Sessions, Serve, Demo}
 use Rattle.program_words.specs.declared.requests.Mode.TheVariants.{Run, Quotes, Guarded}
+use Rattle.program_words.specs.declared.requests.Journal.TheVariants as wrote
 use Rattle.program_words.specs.declared.requests.Served.TheVariants as served
 use Rattle.program_words.specs.Requests.{request_of}
 
@@ -12,7 +13,8 @@ pub record FormsByHand : Type 0 where
   pub run : request_of (codes "run" ∷ []) ≡ Some (Lines Run)
   pub quotes : request_of (codes "quotes" ∷ []) ≡ Some (Lines Quotes)
   pub guarded : request_of (codes "guarded" ∷ []) ≡ Some (Lines Guarded)
-  pub check : request_of (codes "check" ∷ []) ≡ Some Check
+  pub check : request_of (codes "check" ∷ []) ≡ Some (Check wrote.Run)
+  pub audit : request_of (codes "audit" ∷ []) ≡ Some (Check wrote.Served)
   pub sessions : request_of (codes "sessions" ∷ []) ≡ Some Sessions
   pub serve : request_of (codes "serve" ∷ []) ≡ Some (Serve served.Lines)
   pub serve_sessions : request_of (codes "serve" ∷ codes "sessions" ∷ []) ≡ Some (Serve served.Sessions)

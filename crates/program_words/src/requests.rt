@@ -31,13 +31,22 @@ pub enum Served {
     Sessions,
 }
 
+/// What wrote the lines that are reported on.
+#[derive(Clone, Copy, Debug, PartialEq, Eq)]
+pub enum Journal {
+    /// A run.
+    Run,
+    /// What is served, lines or messages.
+    Served,
+}
+
 /// What the program is asked to do.
 #[derive(Clone, Copy, Debug, PartialEq, Eq)]
 pub enum Request {
     /// Reads command lines and writes a reply for each, in a mode.
     Lines(Mode),
     /// Reads reply lines and reports on them.
-    Check,
+    Check(Journal),
     /// Reads messages of many sessions and answers each.
     Sessions,
     /// Reads lines or messages and answers each between two reads.

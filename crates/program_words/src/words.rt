@@ -4,7 +4,7 @@ ghost use Rattle.program_words.specs.Positional.{is_plain, are_positional, reque
 ghost use Rattle.program_words.specs.Requests.{natural_in, one_word, two_words, three_words, request_of, IsRequestWithin};
 
 use crate::places::{Texts, by_place};
-use crate::requests::{MAX_COUNT, MAX_SEED, Mode, Request, Served, WordsFault};
+use crate::requests::{Journal, MAX_COUNT, MAX_SEED, Mode, Request, Served, WordsFault};
 use command_text::{NumberRead, number};
 use std::alloc::Global;
 
@@ -31,7 +31,10 @@ fn one_word(word: &str) -> Option<Request>
         return Some(Request::Lines(Mode::Guarded));
     }
     if word == "check" {
-        return Some(Request::Check);
+        return Some(Request::Check(Journal::Run));
+    }
+    if word == "audit" {
+        return Some(Request::Check(Journal::Served));
     }
     if word == "sessions" {
         return Some(Request::Sessions);
@@ -92,8 +95,8 @@ fn are_positional(words: &[String]) -> bool
     }
 }
 
-/// What the words after the program's name ask for: `run`, `quotes`, `guarded`, `check`, `sessions`, `serve`, `serve sessions`, or
-/// `demo` with a seed and a number of orders, each of which is `0` or digits that do not begin with 0.
+/// What the words after the program's name ask for: `run`, `quotes`, `guarded`, `check`, `audit`, `sessions`, `serve`, `serve sessions`,
+/// or `demo` with a seed and a number of orders, each of which is `0` or digits that do not begin with 0.
 ///
 /// Usage where they have none of these forms, and Memory for want of memory alone.
 pub fn request(alloc: Global, words: &[String]) -> Result<Request, WordsFault>

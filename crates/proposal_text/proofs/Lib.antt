@@ -1,5 +1,5 @@
-mod PlainProposals
-mod WrittenProposals
+pub mod PlainProposals
+pub mod WrittenProposals
 mod SoundProposals
 mod TakenProposals
 pub mod ReadExactly

@@ -7,7 +7,7 @@ use Rattle.quote_lines.specs.declared.prices.QuotedPrice.{QuotedPrice}
 use Rattle.quote_lines.specs.declared.prices.QuotedPrice.TheVariants.{At, Never, Unmarked}
 use Rattle.quote_lines.specs.Quoted.{price_text, priced_piece, quoted_piece}
 
-price_plain : (price : QuotedPrice) → is_plain (price_text price) ≡ true
+pub price_plain : (price : QuotedPrice) → is_plain (price_text price) ≡ true
 price_plain (At price) = plain-decimal price
 price_plain Never = refl
 price_plain Unmarked = refl

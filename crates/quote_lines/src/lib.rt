@@ -11,6 +11,6 @@ mod requests;
 
 pub use answers::{answer, answer_by};
 pub use bodies::{AskingWord, QuotesBody, body_by, quotes_body_of};
-pub use prices::QuotedPrice;
+pub use prices::{QuotedPrice, print_priced, print_quoted};
 pub use replies::{QuotesReply, reply_to};
 pub use requests::{PriceRequest, QuoteRequest};

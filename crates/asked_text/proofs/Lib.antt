@@ -1,0 +1,2 @@
+mod AskedTaken
+pub mod AskedExactly

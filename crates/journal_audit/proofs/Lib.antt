@@ -1,0 +1,4 @@
+mod ServedLines
+pub mod AuditSays
+mod GateTaken
+pub mod Accepting

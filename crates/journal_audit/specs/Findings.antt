@@ -1,0 +1,116 @@
+-- What is found of a line of `serve` or of `serve sessions`.
+use Rattle.std.specs.Prelude.{ℕ, List, Bool, ◌&&◌, ◌||◌, ◌==◌, Option, Some, None, Result, Ok, Err, codes, if◌then◌else◌}
+use Rattle.std.specs.Str.{bytes_eq}
+use Rattle.frac.specs.Range.{limit}
+use Rattle.frac.specs.Value.{fraction_of}
+use Rattle.cert_check.specs.declared.outcome.Judgement.{Judgement}
+use Rattle.cert_check.specs.declared.outcome.Judgement.TheVariants as judgement
+use Rattle.cert_check.specs.Proposals.{bounded_verdict_of}
+use Rattle.serde_json.specs.Data.{Data}
+use Rattle.reply_shape.specs.Look.{word_at, number_at}
+use Rattle.reply_text.specs.declared.faults.LineFault.{LineFault}
+use Rattle.reply_text.specs.Reading.{LineRead, json_of, reading}
+use Rattle.reply_text.specs.Tests.{value_by}
+use Rattle.proposal_text.specs.declared.replies.ProposalReply.{ProposalReply}
+use Rattle.proposal_text.specs.declared.replies.ProposalReply.TheVariants as told
+use Rattle.proposal_text.specs.ReplyValues.{proposal_tests}
+use Rattle.asked_text.specs.Values.{asked_tests}
+use Rattle.journal_check.specs.declared.findings.Finding.{Finding}
+use Rattle.journal_check.specs.declared.findings.Finding.TheVariants.{Plain, Bounded, Faulty}
+use Rattle.journal_check.specs.declared.reports.Reason.TheVariants.{Range, Spelling, Wide}
+use Rattle.journal_check.specs.declared.reports.Reason.TheVariants as reason
+use Rattle.journal_check.specs.Findings.{fault_finding, no_reason, reply_finding}
+use Rattle.journal_check.specs.Reports.{report_by}
+use Rattle.journal_check.specs.declared.reports.Report.{Report}
+use Rattle.journal_audit.specs.Accepted.{is_accepted, message_from, reply_in}
+use Rattle.journal_audit.specs.GateLines.{gate_tests}
+
+-- ---- lines beside those of a run
+
+-- a cleared batch that is marked bounded, by the judgement of its proposal and bound
+abbrev pub bounded_finding : Judgement → Finding
+bounded_finding judgement.Yes = Bounded
+bounded_finding (judgement.No condition) = Faulty (no_reason condition)
+bounded_finding (judgement.Wide w) = Faulty Wide
+
+abbrev pub proposal_finding : ProposalReply → Finding
+proposal_finding (told.Bounded number market batch outcome) = bounded_finding (bounded_verdict_of limit batch outcome.proposal (fraction_of outcome.bound))
+proposal_finding other = Plain
+
+abbrev pub proposal_found : Result (ℕ × ProposalReply) LineFault → Finding
+proposal_found (Ok pair) = proposal_finding pair.1
+proposal_found (Err f) = fault_finding f
+
+-- a line that reads is no fault
+abbrev pub plain_found : {A : Type 0} → Result A LineFault → Finding
+plain_found (Ok a) = Plain
+plain_found (Err f) = fault_finding f
+
+-- whether the value is that of a line about proposals
+abbrev pub tells_proposal : List ℕ → Data → Bool
+tells_proposal word d =
+    (bytes_eq word (codes "book") || (bytes_eq word (codes "positions") || bytes_eq word (codes "proposed")))
+    || ((bytes_eq word (codes "cleared") && number_at (codes "version") d == 3)
+    || (bytes_eq word (codes "refused") && (number_at (codes "number") d == 20 || number_at (codes "number") d == 21)))
+
+-- or of one that tells quotes, prices or margins
+abbrev pub tells_asked : List ℕ → Data → Bool
+tells_asked word d =
+    (bytes_eq word (codes "quoted") || (bytes_eq word (codes "priced") || bytes_eq word (codes "margin")))
+    || (bytes_eq word (codes "refused") && number_at (codes "number") d == 14)
+
+-- a line that is not one of a run, which fails its tests by the fault
+abbrev pub value_finding : List ℕ → LineFault → List ℕ → Data → Finding
+value_finding text f word d =
+    if tells_proposal word d then proposal_found (value_by proposal_tests text d)
+    else if tells_asked word d then plain_found (value_by asked_tests text d)
+    else fault_finding f
+
+abbrev pub beside : List ℕ → LineFault → Option Data → Finding
+beside text f None = fault_finding f
+beside text f (Some d) = value_finding text f (word_at (codes "reply") d) d
+
+abbrev pub told_finding : List ℕ → LineRead → Finding
+told_finding text (Ok pair) = reply_finding pair.1
+told_finding text (Err f) = beside text f (json_of text)
+
+-- a line of `serve`
+abbrev pub served_finding : List ℕ → Finding
+served_finding text = told_finding text (reading text)
+
+-- ---- lines of sessions
+
+-- what is no JSON is not spelled as a reply is
+abbrev pub unspelled : Finding → Finding
+unspelled (Faulty reason.NotJson) = Faulty Spelling
+unspelled other = other
+
+abbrev pub reply_found : Option (List ℕ) → Finding
+reply_found None = Faulty Spelling
+reply_found (Some reply) = unspelled (served_finding reply)
+
+-- the reply to an accepted message of these numbers
+abbrev pub accepted_finding : List ℕ → Option (ℕ × ℕ) → Finding
+accepted_finding text None = Faulty Range
+accepted_finding text (Some message) = reply_found (reply_in text message)
+
+abbrev pub session_value_finding : List ℕ → LineFault → List ℕ → Data → Finding
+session_value_finding text f word d =
+    if is_accepted d then accepted_finding text (message_from d)
+    else if bytes_eq word (codes "gate") then plain_found (value_by gate_tests text d)
+    else value_finding text f word d
+
+abbrev pub session_beside : List ℕ → LineFault → Option Data → Finding
+session_beside text f None = fault_finding f
+session_beside text f (Some d) = session_value_finding text f (word_at (codes "reply") d) d
+
+abbrev pub line_finding : List ℕ → LineRead → Finding
+line_finding text (Ok pair) = reply_finding pair.1
+line_finding text (Err f) = session_beside text f (json_of text)
+
+-- what is found of any line
+abbrev pub audit_finding : List ℕ → Finding
+audit_finding text = line_finding text (reading text)
+
+abbrev pub audit_of : List ℕ → Report
+audit_of bytes = report_by audit_finding bytes

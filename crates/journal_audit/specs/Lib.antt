@@ -1,0 +1,4 @@
+pub mod GateLines
+pub mod Accepted
+pub mod Findings
+pub mod Laws

@@ -1,0 +1,181 @@
+// Lines of the gate, as they are read.
+ghost use Rattle.std.specs.Prelude.{◌≡◌, ◌⊎◌, ◌↔◌, IfErr, IfOk, IsTrue, Err, Ok, option_map};
+ghost use Rattle.serde_json.specs.View.{view};
+ghost use Rattle.reply_print.specs.PieceData.{piece_data};
+ghost use Rattle.reply_text.specs.Tests.{value_by};
+ghost use Rattle.reply_text.specs.declared.faults.LineFault.TheVariants.{Memory};
+ghost use Rattle.journal_audit.specs.declared.gate_lines.GateLine.TheVariants as refused;
+ghost use Rattle.journal_audit.specs.GateLines.{expecting_from as expecting_found, expecting_shape as expecting_is, gate_by as refused_found, gate_from as gate_found, gate_line, gate_piece, gate_shape_by as shape_is, gate_tests, has_reason as reason_is, session_at as session_found, sessions_shape as sessions_are, why_number as number_is, why_word as word_is};
+
+use crate::gate_lines::{GateLine, Why};
+use reply_print::limits::MAX_LINE;
+use reply_shape::look::{has_members, has_whole, has_word, number_at};
+use reply_text::LineFault;
+use reply_text::reading::is_same;
+use reply_text::taking::natural_at;
+use serde_json::{Value, json};
+use session_gate::{MAX_NUMBER, MAX_SESSION};
+use std::alloc::{AllocError, Global};
+
+fn number(why: Why) -> u32
+    ensures { result ≡ number_is why }
+{
+    match why {
+        Why::Old => 16,
+        Why::Ahead => 17,
+        Why::Changed => 18,
+    }
+}
+
+fn word(why: Why) -> &'static str
+    ensures { result.now ≡ word_is why }
+{
+    match why {
+        Why::Old => "Old",
+        Why::Ahead => "Ahead",
+        Why::Changed => "Changed",
+    }
+}
+
+fn gate_value(alloc: Global, line: u32, refused: GateLine) -> Result<Value, AllocError>
+    ensures { IfOk result (λ v. view v ≡ piece_data (gate_piece line refused)) }
+{
+    match refused {
+        GateLine::Malformed => json!(in alloc; {
+            "line": line, "number": 15, "reason": "Malformed", "reply": "gate"
+        }),
+        GateLine::Sessions { session } => json!(in alloc; {
+            "line": line, "number": 19, "reason": "Sessions", "reply": "gate", "session": session
+        }),
+        GateLine::Expecting {
+            session,
+            expected,
+            why,
+        } => {
+            let number = number(why);
+            let word = word(why);
+            json!(in alloc; {
+                "expected": expected, "line": line, "number": number, "reason": word,
+                "reply": "gate", "session": session
+            })
+        }
+    }
+}
+
+fn print(alloc: Global, line: u32, refused: GateLine) -> Result<Vec<u8>, AllocError>
+    ensures { IfOk result (λ text. text.items ≡ gate_line line refused) }
+{
+    let value = gate_value(alloc, line, refused)?;
+    value.to_vec(alloc)
+}
+
+fn has_reason(value: &Value, reason: &str) -> bool
+    ensures { result ≡ reason_is reason.now (view value.now) }
+{
+    has_whole(value, "line") && has_word(value, "reason", reason)
+}
+
+fn sessions_shape(value: &Value) -> bool
+    ensures { result ≡ sessions_are (view value.now) }
+{
+    has_members(value, 5) && has_reason(value, "Sessions") && has_whole(value, "session")
+}
+
+fn expecting_shape(value: &Value, reason: &str) -> bool
+    ensures { result ≡ expecting_is reason.now (view value.now) }
+{
+    has_members(value, 6)
+        && has_reason(value, reason)
+        && has_whole(value, "expected")
+        && has_whole(value, "session")
+}
+
+fn has_shape(value: &Value, number: u64) -> bool
+    ensures { result ≡ shape_is number (view value.now) }
+{
+    match number {
+        15 => has_members(value, 4) && has_reason(value, "Malformed"),
+        16 => expecting_shape(value, "Old"),
+        17 => expecting_shape(value, "Ahead"),
+        18 => expecting_shape(value, "Changed"),
+        19 => sessions_shape(value),
+        _ => false,
+    }
+}
+
+fn session_at(value: &Value) -> Option<u32>
+    ensures { result ≡ session_found (view value.now) }
+{
+    let session = natural_at(value, 1, u64::from(MAX_SESSION), "session")?;
+    Some(session as u32)
+}
+
+fn expecting_from(value: &Value, why: Why) -> Option<GateLine>
+    ensures { result ≡ expecting_found why (view value.now) }
+{
+    let session = session_at(value)?;
+    let expected = natural_at(value, 1, u64::from(MAX_NUMBER) + 1, "expected")? as u32;
+    Some(GateLine::Expecting {
+        session,
+        expected,
+        why,
+    })
+}
+
+fn sessions_from(value: &Value) -> Option<GateLine>
+    ensures { result ≡ option_map refused.Sessions (session_found (view value.now)) }
+{
+    let session = session_at(value)?;
+    Some(GateLine::Sessions { session })
+}
+
+fn refused_from(value: &Value, number: u64) -> Option<GateLine>
+    ensures { result ≡ refused_found number (view value.now) }
+{
+    match number {
+        15 => Some(GateLine::Malformed),
+        16 => expecting_from(value, Why::Old),
+        17 => expecting_from(value, Why::Ahead),
+        18 => expecting_from(value, Why::Changed),
+        _ => sessions_from(value),
+    }
+}
+
+fn gate_from(value: &Value) -> Option<(u32, GateLine)>
+    ensures { option_map (λ p. (p.0, p.1)) result ≡ gate_found (view value.now) }
+{
+    let line = natural_at(value, 1, MAX_LINE, "line")? as u32;
+    let refused = refused_from(value, number_at(value, "number"))?;
+    Some((line, refused))
+}
+
+fn is_spelled(alloc: Global, line: u32, refused: GateLine, text: &[u8]) -> Result<bool, AllocError>
+    ensures { IfOk result (λ same. IsTrue same ↔ (gate_line line refused ≡ text.now)) }
+{
+    let spelled = print(alloc, line, refused)?;
+    Ok(is_same(spelled.as_slice(), text))
+}
+
+// Reads a line of the gate by the value of its text.
+pub(crate) fn read_gate_value(
+    alloc: Global,
+    text: &[u8],
+    value: &Value,
+) -> Result<(u32, GateLine), LineFault>
+    ensures ok { IfOk result (λ p. value_by gate_tests text.now (view value.now)
+        ≡ Ok (p.0, p.1)) }
+    ensures err { IfErr result (λ e. (e ≡ Memory)
+        ⊎ (value_by gate_tests text.now (view value.now) ≡ Err e)) }
+{
+    if !has_shape(value, number_at(value, "number")) {
+        return Err(LineFault::Shape);
+    }
+    let Some((line, refused)) = gate_from(value) else {
+        return Err(LineFault::Range);
+    };
+    if is_spelled(alloc, line, refused, text)? {
+        Ok((line, refused))
+    } else {
+        Err(LineFault::Spelling)
+    }
+}
