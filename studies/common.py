@@ -81,7 +81,7 @@ def clear_both(batches: Sequence[Batch], given: Given, name: str) -> list[Pair]:
 
 
 def recheck(found: Iterable[Cleared], given: Given, name: str) -> None:
-    """Has `exchange check` judge cleared lines, and keeps them where that is asked for."""
+    """Has `exchange audit` judge cleared lines, and keeps them where that is asked for."""
     text = "".join(f"{it.text}\n" for it in found)
     program.check(text, given.program)
     if given.journals:

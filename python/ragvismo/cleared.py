@@ -57,8 +57,8 @@ class Certificate:
         return sum((state.weight * of.at(state.entries) for state in self.measure), Fraction(0))
 
     def check(self) -> None:
-        """Asks `exchange check`, which solves nothing, whether the fills cover the surplus at every price and, at the mark
-        `optimal`, whether none cover more. Raises `CheckFailed` where it says no, `NoProgram` where it is not there."""
+        """Asks `exchange audit`, which solves nothing, whether the fills cover the surplus at every price, at the mark
+        `optimal` whether none cover more, and at `bounded` whether none cover more than the bound. Raises `CheckFailed` where it says no, `NoProgram` where it is not there."""
         program.check(self.text + "\n", self.path)
 
 

@@ -46,7 +46,7 @@ class Refused(RagvismoError):
 
 @dataclass
 class CheckFailed(RagvismoError):
-    """`exchange check` says no. `reason` is the condition that fails, such as `Cover` or `Bound`, `line` the line, from 1."""
+    """`exchange audit` says no. `reason` is the condition that fails, such as `Cover` or `Bound`, `line` the line, from 1."""
 
     reason: str
     line: int

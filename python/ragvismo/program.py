@@ -24,9 +24,10 @@ def find(path: str | os.PathLike[str] | None = None) -> pathlib.Path:
 
 
 def run(text: str, word: str = "run", path: str | os.PathLike[str] | None = None) -> str:
-    """What the program writes for a text of lines. Raises `Ended` at a status that is not 0, but for a no of `check`."""
+    """What the program writes for a text of lines. Raises `Ended` at a status that is not 0, but for a no of `check` or
+    `audit`."""
     ran = subprocess.run([find(path), word], input=text.encode(), capture_output=True)
-    if ran.returncode not in (0, CHECK_NO if word == "check" else 0):
+    if ran.returncode not in (0, CHECK_NO if word in ("check", "audit") else 0):
         raise Ended(
             f"exchange {word} ended with {ran.returncode}: {ran.stderr.decode(errors='replace').strip()[-200:]}"
         )
@@ -34,10 +35,11 @@ def run(text: str, word: str = "run", path: str | os.PathLike[str] | None = None
 
 
 def check(journal: str, path: str | os.PathLike[str] | None = None) -> dict[str, int]:
-    """Checks the lines of a journal: how many there are (`lines`), cleared ones (`batches`) and ones marked `optimal`.
+    """Checks the lines of a journal: how many there are (`lines`), cleared ones (`batches`), and ones marked `optimal` and
+    `bounded`.
 
-    Raises `CheckFailed` at the first line that is no reply of `run`, or whose certificate does not hold."""
-    report = json.loads(run(journal, "check", path))
+    Raises `CheckFailed` at the first line that is no answer of `serve`, or whose certificate does not hold."""
+    report = json.loads(run(journal, "audit", path))
     if report.pop("verdict") != "yes":
         raise CheckFailed(report["reason"], report["line"])
     return dict(report)
