@@ -1,5 +1,5 @@
 -- What the program does for each request.
-use Rattle.std.specs.Prelude.{ℕ, List, [], ◌∷◌, ◌+◌, ◌++◌, ◌≡◌, ◌≤◌, ◌<◌, ◌⊎◌, length, Option, Some, IfSome, IsSomeAnd}
+use Rattle.std.specs.Prelude.{ℕ, List, [], ◌+◌, ◌≡◌, ◌≤◌, ◌<◌, ◌⊎◌, length, Option, Some, IfSome, IsSomeAnd}
 use Rattle.demo_run.specs.Demo.{demo_output}
 use Rattle.exchange_lines.specs.Promises.{TellAnswers}
 use Rattle.exchange_sessions.specs.Answers.{sessions_output}

@@ -1,4 +1,4 @@
 mod ServedLines
 pub mod AuditSays
-mod GateTaken
+pub mod GateTaken
 pub mod Accepting

@@ -1,4 +1,4 @@
-mod FirstLine
+pub mod FirstLine
 pub mod Found
 mod Counting
 pub mod LineSays

@@ -45,36 +45,50 @@ offered_orders (Some best) orders proposal bound = by (are_same_orders best.orde
     by false e = refl
 
 -- ---- by market
-module _ (book : BookState) (market : ℕ) where
-  pub found_proved : (kept : KeptProposals) → AreProvedIn book kept → IfSome (kept_in market kept) (IsProvedIn book market)
-  found_proved [] are = tt
-  found_proved (e ∷ kept) are = by (nat_eq market e.0) refl (found_proved kept (All-tail (IsEntryProved book) e kept are))
+-- a fact of each market and of what is kept for it
+abbrev pub Has : (ℕ → Best → Type 0) → ℕ × Option Best → Type 0
+Has P entry = IfSome entry.1 (P entry.0)
+
+module _ (P : ℕ → Best → Type 0) (market : ℕ) where
+  pub found_has : (kept : KeptProposals) → All (Has P) kept → IfSome (kept_in market kept) (P market)
+  found_has [] are = tt
+  found_has (e ∷ kept) are = by (nat_eq market e.0) refl (found_has kept (All-tail (Has P) e kept are))
     where
-      by : (b : Bool) → nat_eq market e.0 ≡ b → IfSome (kept_in market kept) (IsProvedIn book market)
-          → IfSome (option_and_then (λ best. best) (cond b (Some e.1) (lookup (nat_eq market) kept))) (IsProvedIn book market)
-      by true is later = subst (λ n. IfSome e.1 (IsProvedIn book n)) (sym (same_number market e.0 is)) (All-head (IsEntryProved book) e kept are)
+      by : (b : Bool) → nat_eq market e.0 ≡ b → IfSome (kept_in market kept) (P market)
+          → IfSome (option_and_then (λ best. best) (cond b (Some e.1) (lookup (nat_eq market) kept))) (P market)
+      by true is later = subst (λ n. IfSome e.1 (P n)) (sym (same_number market e.0 is)) (All-head (Has P) e kept are)
       by false is later = later
 
-  pub without_proved : (kept : KeptProposals) → AreProvedIn book kept → AreProvedIn book (without_kept market kept)
-  without_proved [] are = are
-  without_proved (e ∷ kept) are =
-      let others = All-tail (IsEntryProved book) e kept are in
-      elim (nat_eq market e.0) as (λ b. AreProvedIn book (cond b kept (e ∷ remove_entry (nat_eq market) kept))) [
+  pub without_has : (kept : KeptProposals) → All (Has P) kept → All (Has P) (without_kept market kept)
+  without_has [] are = are
+  without_has (e ∷ kept) are =
+      let others = All-tail (Has P) e kept are in
+      elim (nat_eq market e.0) as (λ b. All (Has P) (cond b kept (e ∷ remove_entry (nat_eq market) kept))) [
         | true ↦ others
-        | false ↦ All-cons (IsEntryProved book) e (remove_entry (nat_eq market) kept) (All-head (IsEntryProved book) e kept are) (without_proved kept others)
+        | false ↦ All-cons (Has P) e (remove_entry (nat_eq market) kept) (All-head (Has P) e kept are) (without_has kept others)
       ]
 
-  inserted_proved : (best : Best) → IsProvedIn book market best → (kept : KeptProposals) → AreProvedIn book kept → AreProvedIn book (insert_entry nat_eq kept market (Some best))
-  inserted_proved best is [] are = All-cons (IsEntryProved book) (market, Some best) [] is (All-nil (IsEntryProved book))
-  inserted_proved best is (e ∷ kept) are = by (nat_eq market e.0) refl (inserted_proved best is kept (All-tail (IsEntryProved book) e kept are))
+  inserted_has : (best : Best) → P market best → (kept : KeptProposals) → All (Has P) kept → All (Has P) (insert_entry nat_eq kept market (Some best))
+  inserted_has best is [] are = All-cons (Has P) (market, Some best) [] is (All-nil (Has P))
+  inserted_has best is (e ∷ kept) are = by (nat_eq market e.0) refl (inserted_has best is kept (All-tail (Has P) e kept are))
     where
-      by : (b : Bool) → nat_eq market e.0 ≡ b → AreProvedIn book (insert_entry nat_eq kept market (Some best))
-          → AreProvedIn book (if b then (e.0, Some best) ∷ kept else e ∷ insert_entry nat_eq kept market (Some best))
-      by true at later = All-cons (IsEntryProved book) (e.0, Some best) kept (subst (λ n. IsProvedIn book n best) (same_number market e.0 at) is) (All-tail (IsEntryProved book) e kept are)
-      by false at later = All-cons (IsEntryProved book) e (insert_entry nat_eq kept market (Some best)) (All-head (IsEntryProved book) e kept are) later
+      by : (b : Bool) → nat_eq market e.0 ≡ b → All (Has P) (insert_entry nat_eq kept market (Some best))
+          → All (Has P) (if b then (e.0, Some best) ∷ kept else e ∷ insert_entry nat_eq kept market (Some best))
+      by true at later = All-cons (Has P) (e.0, Some best) kept (subst (λ n. P n best) (same_number market e.0 at) is) (All-tail (Has P) e kept are)
+      by false at later = All-cons (Has P) e (insert_entry nat_eq kept market (Some best)) (All-head (Has P) e kept are) later
+
+  pub with_has : (best : Best) → P market best → (kept : KeptProposals) → All (Has P) kept → All (Has P) (with_kept market best kept)
+  with_has best is kept are = inserted_has best is (without_kept market kept) (without_has kept are)
+
+module _ (book : BookState) (market : ℕ) where
+  pub found_proved : (kept : KeptProposals) → AreProvedIn book kept → IfSome (kept_in market kept) (IsProvedIn book market)
+  found_proved = found_has (IsProvedIn book) market
+
+  pub without_proved : (kept : KeptProposals) → AreProvedIn book kept → AreProvedIn book (without_kept market kept)
+  without_proved = without_has (IsProvedIn book) market
 
   pub with_proved : (best : Best) → IsProvedIn book market best → (kept : KeptProposals) → AreProvedIn book kept → AreProvedIn book (with_kept market best kept)
-  with_proved best is kept are = inserted_proved best is (without_kept market kept) (without_proved kept are)
+  with_proved = with_has (IsProvedIn book) market
 
 -- ---- for the live orders
 module _ (book : BookState) (market : ℕ) (m : MarketState) (found : market_of book market ≡ Some m) where

@@ -48,12 +48,12 @@ use Rattle.proposal_lines.proofs.Sound.{proposed_kept, proposed_proved}
 
 module _ (state : ProposingState) (line : InputLine) where
   -- what a line is told and the moves of the exchange, none or one
-  record IsTold (now : List ℕ × ProposingState) : Type 0 where
-    answer : ProposalAnswer
-    told : IsToldFor state line answer now.1
+  pub record IsTold (now : List ℕ × ProposingState) : Type 0 where
+    pub answer : ProposalAnswer
+    pub told : IsToldFor state line answer now.1
     text : now.0 ≡ told_text answer
-    promise : KeepsProposalPromises answer
-    sound : IsSound now.1
+    pub promise : KeepsProposalPromises answer
+    pub sound : IsSound now.1
     moves : List Move
     may : AreMoves state.exchange moves
     replies : (more : List ProposalAnswer) → replies_in (answer ∷ more) ≡ replies_by move state.exchange moves ++ replies_in more
@@ -74,7 +74,7 @@ module _ (state : ProposingState) where
 
 -- ---- one line
 module _ (state : ProposingState) (line : InputLine) (sound : IsSound state) where
-  abbrev Told : List ℕ × ProposingState → Type 0
+  abbrev pub Told : List ℕ × ProposingState → Type 0
   Told = IsTold state line
 
   beside_told : (now : List ℕ × ProposingState) → IsBesideProposals line.number now.0 → now.1.exchange ≡ state.exchange → (after_word line.bytes ≡ None → now.1.kept ≡ state.kept)
@@ -118,7 +118,7 @@ module _ (state : ProposingState) (line : InputLine) (sound : IsSound state) whe
       }
 
   -- an outcome that is charged covers as its proposal does
-  charged_covered : (batch : Batch) (better : BoundedOutcome) → IsCovered batch (as_optimal better.proposal) → IsCovered batch (charged better)
+  pub charged_covered : (batch : Batch) (better : BoundedOutcome) → IsCovered batch (as_optimal better.proposal) → IsCovered batch (charged better)
   charged_covered batch better is = record { on_underlyings = is.on_underlyings; covers = is.covers; not_below_zero = is.not_below_zero }
 
   bounded_told : (market budget : ℕ) (better : BoundedOutcome) → body_of_line line.bytes ≡ body.Command (Clear market budget) → refusal_of state.exchange (Clear market budget) ≡ None
@@ -208,7 +208,7 @@ module _ (state : ProposingState) (line : InputLine) (sound : IsSound state) whe
   body_told (body.Command (Settle market count prices)) is = command_told (Settle market count prices) is tt
   body_told (body.Command (Balance account)) is = command_told (Balance account) is tt
 
-  line_told : Told (proposing_line line.number state line.bytes)
+  pub line_told : Told (proposing_line line.number state line.bytes)
   line_told = by (after_word line.bytes) refl
     where
       some : (text : List ℕ) → Some text ≡ None → ⊥

@@ -21,7 +21,7 @@ use Rattle.command_text.proofs.RefusedLines.{lines_are_refused}
 use Rattle.form.specs.Between.{Between}
 use Rattle.reply_ranges.specs.Laws.{HasField, FieldsAreWithin}
 
-abbrev IsPlace : ℕ → Type 0
+abbrev pub IsPlace : ℕ → Type 0
 IsPlace place = Between 2 51 place
 
 -- the places of what a line asks for, and the place beyond
@@ -33,10 +33,10 @@ record HasPlaces (shape : Shape) : Type 0 where
   beyond : IfSome shape.beyond IsPlace
 
 -- ---- places by a test
-abbrev is_between : ℕ → ℕ → Asked → Bool
+abbrev pub is_between : ℕ → ℕ → Asked → Bool
 is_between low high asked = nat_le low asked.place && nat_le asked.place high
 
-all_between : (low high : ℕ) (asked : List Asked) → list_all (is_between low high) asked ≡ true → All (λ (a : Asked). Between low high a.place) asked
+pub all_between : (low high : ℕ) (asked : List Asked) → list_all (is_between low high) asked ≡ true → All (λ (a : Asked). Between low high a.place) asked
 all_between low high [] h = All-nil (λ (a : Asked). Between low high a.place)
 all_between low high (a ∷ asked) h =
     let P : Asked → Type 0 = λ a. Between low high a.place in

@@ -38,7 +38,7 @@ made_small : (z : List ℕ) (b : Bool) (e : is_state z ≡ b) → IsSmallState z
 made_small z true e small = subst (All IsSmall) (sym (own_entries z)) (small_entries z small)
 made_small z false e small = All-cons IsSmall (pos 1) (pos 0 ∷ []) (omega arith) (All-cons IsSmall (pos 0) [] (omega arith) (All-nil IsSmall))
 
-state_small : (z : List ℕ) → IsSmallState z → All IsSmall (state_entries (state_of z))
+pub state_small : (z : List ℕ) → IsSmallState z → All IsSmall (state_entries (state_of z))
 unfolding state_of
 state_small z small = made_small z (is_state z) refl small
 

@@ -29,7 +29,7 @@ abbrev IsToldIf : Option Refusal → Type 0
 IsToldIf None = Unit {0}
 IsToldIf (Some refusal) = IsTold refusal
 
-abbrev IsOne : Bool × Refusal → Type 0
+abbrev pub IsOne : Bool × Refusal → Type 0
 IsOne refusal = IsTold refusal.1
 
 ledger_told : (error : LedgerRefusal) → IsToldIf (ledger_name error)
@@ -59,10 +59,10 @@ module _ {E : Type 0} (name : E → Option Refusal) (each : (error : E) → IsTo
       by None told rest = rest
       by (Some refusal) told rest = All-cons IsOne (e.0, refusal) (by_name name errors) told rest
 
-of_ledger : (errors : List (Bool × LedgerRefusal)) → All IsOne (by_ledger errors)
+pub of_ledger : (errors : List (Bool × LedgerRefusal)) → All IsOne (by_ledger errors)
 of_ledger = all_told ledger_name ledger_told
 
-of_book : (errors : List (Bool × BookRefusal)) → All IsOne (by_book errors)
+pub of_book : (errors : List (Bool × BookRefusal)) → All IsOne (by_book errors)
 of_book = all_told book_name book_told
 
 of_order : (state : ExchangeState) (order : NewOrder) → All IsOne (place_refusals state order)
@@ -85,7 +85,7 @@ of_command state (Clear market budget) = of_book (book.batch_refusals state.book
 of_command state (Settle market count prices) = of_book (book.close_refusals state.book market count)
 of_command state (Balance account) = of_ledger (account_refusals state.accounts account)
 
-first_told : (all : List (Bool × Refusal)) (refusal : Refusal) → All IsOne all → first_of all ≡ Some refusal → IsTold refusal
+pub first_told : (all : List (Bool × Refusal)) (refusal : Refusal) → All IsOne all → first_of all ≡ Some refusal → IsTold refusal
 first_told [] refusal told h = cc
 first_told (r ∷ others) refusal told h = by r.0 h (first_told others refusal (All-tail IsOne r others told))
   where

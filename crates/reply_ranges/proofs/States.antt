@@ -1,10 +1,10 @@
 -- What a state of a run has beside what is kept stays so at each step.
 use Rattle.std.proofs.Common.{◌≡◌, ℕ, ◌+◌, ◌*◌, ◌-◌, ◌≤◌, ◌||◌, ℤ, ◌*ℤ◌, unsigned_abs, List, [], ◌∷◌, ◌++◌, length, map, replicate, take, Bool, true, false, not, nat_eq, Option, None, Some, refl, ap, ◌∙◌, sym, subst, arith}
-use Rattle.std.specs.List.{All}
+use Rattle.std.specs.List.{All, zip}
 use Rattle.std.specs.Option.{option_map_or}
 use Rattle.std.proofs.lemmas.Int.{ints}
 use Rattle.std.proofs.lemmas.List.{length-append, length-replicate, length-take}
-use Rattle.std.proofs.lemmas.List.Elements.{All-nil, All-cons, All-head, All-tail, All-append, All-filter, All-push, All-replicate, All-take, All-weaker}
+use Rattle.std.proofs.lemmas.List.Elements.{All-nil, All-cons, All-head, All-tail, All-append, All-filter, All-push, All-replicate, All-take, All-weaker, recursion_from_All}
 use Rattle.cash_ledger.specs.declared.limits.TheConstants.{MAX_ACCOUNT}
 use Rattle.cash_ledger.specs.declared.entry.Entry.{Entry}
 use Rattle.cash_ledger.specs.Entries.{AreBounded, IsBounded, deposit_of, withdrawal_of}
@@ -33,6 +33,7 @@ use Rattle.settlement.specs.declared.limits.TheConstants.{MAX_SETTLEMENT_PRICE}
 use Rattle.settlement.specs.declared.position.PaidOut.{PaidOut}
 use Rattle.settlement.specs.declared.position.Position.{Position}
 use Rattle.settlement.specs.Payout.{floor_of}
+use Rattle.clearing_model.specs.Certificate.{IsFill}
 use Rattle.clearing_model.specs.Clearing.{for_side}
 use Rattle.settlement.specs.Positions.{held_in, is_of, paid_out, paid_side, payouts_of}
 use Rattle.reply_print.specs.Within as reply
@@ -43,7 +44,7 @@ use Rattle.exchange_core.specs.Payoffs.{payoff_entries}
 use Rattle.exchange_core.specs.Positions.{positions_in}
 use Rattle.exchange_core.specs.Premiums.{premium_entries}
 use Rattle.exchange_core.specs.Refusals.{refusal_of}
-use Rattle.exchange_core.specs.Step.{batch_in, effect, refusal_effect, step, with_entry}
+use Rattle.exchange_core.specs.Step.{batch_in, cleared_with, effect, refusal_effect, step, with_entry}
 use Rattle.exchange_core.proofs.FirstRefusal.{batch_none, close_none}
 use Rattle.exchange_core.proofs.LiveAccounts.{All-live_in}
 use Rattle.exchange_core.proofs.Settled.{are_paid_out}
@@ -95,13 +96,18 @@ pub record IsBatchOf (accepted : ℕ) (batch : Batch) : Type 0 where
   pub accepted_orders : All (IsAccepted accepted) batch.orders
   pub orders : All reply.IsOrderWithin batch.orders
 
+-- it is within the ranges of a batch
+pub batch_is_within : (accepted : ℕ) (batch : Batch) → IsBatchOf accepted batch → reply.IsBatchWithin batch
+batch_is_within accepted batch is =
+    ((is.within.has_forms.some, is.within.has_forms.few), is.within.orders_fit, recursion_from_All reply.IsOrderWithin batch.orders is.orders)
+
 module _ (lines : ℕ) (state : ExchangeState) (running : IsRunning state) (ranged : IsRanged lines state) where
   order_ranged : (underlyings : ℕ) (order : Order) → IsLive underlyings state.book.accepted order → IsTrader order → IsOfOpen state.accounts order → reply.IsOrderWithin order
   order_ranged underlyings order live trader opened =
       let most = running.kept.orders.book.accepted in
       ((live.some, omega (arith, live.number, most)), (trader, open_small state.accounts order.account ranged.accounts opened), live.within)
 
-  market_batch : (market : ℕ) (m : MarketState) → market_of state.book market ≡ Some m → IsBatchOf state.book.accepted (batch_of m)
+  pub market_batch : (market : ℕ) (m : MarketState) → market_of state.book market ≡ Some m → IsBatchOf state.book.accepted (batch_of m)
   market_batch market m found =
       let accepted : ℕ = state.book.accepted in
       let Live : Order → Type 0 = IsLive m.underlyings accepted in
@@ -159,14 +165,14 @@ module _ (lines : ℕ) (state : ExchangeState) (running : IsRunning state) (rang
   abbrev Accounts : ℕ → Type 0
   Accounts account = account ≤ MAX_ACCOUNT
 
-  cleared_ranged : (market budget : ℕ) → first_of (batch_refusals state.book market) ≡ None → IsRanged (lines + 1) (effect state (Clear market budget)).1
-  cleared_ranged market budget none =
+  -- with fills of the orders
+  pub charged_ranged : (market : ℕ) (fills : List Frac128) → first_of (batch_refusals state.book market) ≡ None
+      → All IsFill (zip (batch_in state market).orders (map fraction_of fills)) → IsRanged (lines + 1) (cleared_with state market fills)
+  charged_ranged market fills none are =
       let batch : Batch = batch_in state market in
-      let fills : List Frac128 = (outcome_of batch budget).fills in
       let number : ℕ = state.book.finished + 1 in
-      let after : BookState = (effect state (Clear market budget)).1.book in
+      let after : BookState = (cleared_with state market fills).book in
       let is = batch_ranged lines state running ranged market none in
-      let allowed = outcomes_are_within batch budget is.within in
       let new_positions = positions_in market number batch.orders fills in
       let entries = premium_entries number batch.orders fills in
       record {
@@ -174,9 +180,15 @@ module _ (lines : ℕ) (state : ExchangeState) (running : IsRunning state) (rang
         positions = All-append (IsNumbered after) state.positions new_positions
             (still_numbered state.book after (omega arith) (omega arith) state.positions ranged.positions)
             (all_made (IsNumbered after) (IsAccepted state.book.accepted) market number (λ order fill h. ((omega arith, omega arith), h)) batch.orders fills is.accepted_orders);
-        bounded = AreBounded-append state.entries entries ranged.bounded (premiums_bounded number batch.orders fills is.within.orders_within allowed.1);
+        bounded = AreBounded-append state.entries entries ranged.bounded (premiums_bounded number batch.orders fills is.within.orders_within are);
         few = omega (arith, ranged.few, is.within.orders_fit, batch_counts market number batch.orders fills, length-append state.entries entries, length-append state.positions new_positions);
       }
+
+  cleared_ranged : (market budget : ℕ) → first_of (batch_refusals state.book market) ≡ None → IsRanged (lines + 1) (effect state (Clear market budget)).1
+  cleared_ranged market budget none =
+      let batch : Batch = batch_in state market in
+      let is = batch_ranged lines state running ranged market none in
+      charged_ranged market (outcome_of batch budget).fills none (outcomes_are_within batch budget is.within).1
 
   settled_ranged : (market count : ℕ) (prices : List ℕ) → All (λ p. p ≤ MAX_SETTLEMENT_PRICE) prices → first_of (close_refusals state.book market count) ≡ None
       → IsRanged (lines + 1) (effect state (Settle market count prices)).1

@@ -39,7 +39,7 @@ use Rattle.reply_ranges.specs.Laws.{HasField}
 use Rattle.reply_ranges.proofs.Entries.{balance_small}
 use Rattle.reply_ranges.proofs.Outcomes.{outcomes_are_ranged}
 use Rattle.reply_ranges.proofs.Refusals.{refusal_is_told}
-use Rattle.reply_ranges.proofs.States.{IsNumbered, IsRanged, batch_ranged, effect_ranged, open_small, payouts_can_be_paid}
+use Rattle.reply_ranges.proofs.States.{IsNumbered, IsRanged, batch_is_within, batch_ranged, effect_ranged, open_small, payouts_can_be_paid}
 
 abbrev HasTrader : Position → Type 0
 HasTrader position = 1 ≤ position.account
@@ -80,7 +80,7 @@ module _ (lines : ℕ) (few : lines + 1 ≤ 16777216) (state : ExchangeState) (r
       let is = batch_ranged lines state running ranged market none in (
         (omega arith, omega (arith, more)),
         within,
-        ((is.within.has_forms.some, is.within.has_forms.few), is.within.orders_fit, recursion_from_All reply.IsOrderWithin batch.orders is.orders),
+        batch_is_within state.book.accepted batch is,
         outcomes_are_ranged batch budget is.within low,
       )
 

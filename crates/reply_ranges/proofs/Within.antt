@@ -38,7 +38,7 @@ lines_have number [] = All-nil HasFieldIn
 lines_have number (piece ∷ pieces) = All-append HasFieldIn (line_in number piece) (lines_from (number + 1) pieces) (line_has number piece) (lines_have (number + 1) pieces)
 
 -- the state after a line
-line_ranged : (lines : ℕ) (state : ExchangeState) (said : Body) → BodyIsWithin said → IsRunning state → IsRanged lines state → IsRanged (lines + 1) (reply_to state said).1
+pub line_ranged : (lines : ℕ) (state : ExchangeState) (said : Body) → BodyIsWithin said → IsRunning state → IsRanged lines state → IsRanged (lines + 1) (reply_to state said).1
 line_ranged lines state (Command command) within running ranged = step_ranged lines state running ranged command within
 line_ranged lines state Syntax within running ranged = more_lines lines (lines + 1) state (omega arith) ranged
 line_ranged lines state (Range field) within running ranged = more_lines lines (lines + 1) state (omega arith) ranged

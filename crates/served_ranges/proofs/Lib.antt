@@ -1,0 +1,12 @@
+pub mod Reports
+pub mod Runs
+pub mod Owed
+pub mod Margins
+pub mod Texts
+pub mod Fields
+pub mod Others
+pub mod Kept
+pub mod Proposals
+pub mod Lines
+pub mod Messages
+pub mod Accepted

@@ -1,0 +1,189 @@
+-- Each line that is served is sound, and what is left stands before the next one.
+use Rattle.std.proofs.Common.{◌≡◌, ℕ, ◌+◌, ◌≤◌, List, map, zip, Option, Some, None, Result, inl, refl, sym, subst, arith}
+use Rattle.std.specs.Option.{option_map_or}
+use Rattle.std.specs.Prelude.{IfSome}
+use Rattle.std.specs.List.{All}
+use Rattle.std.proofs.lemmas.List.Elements.{All-nil}
+use Rattle.cert_check.specs.Laws.{IsCovered}
+use Rattle.cert_check.specs.Proposals.{as_optimal}
+use Rattle.clearing_model.specs.Certificate.{IsFill}
+use Rattle.command_text.specs.declared.asked.Fault.{Fault}
+use Rattle.command_text.specs.declared.command.Body.{Body}
+use Rattle.command_text.specs.declared.command.Body.TheVariants as body
+use Rattle.command_text.specs.declared.command.Command.TheVariants.{Open, Deposit, Withdraw, Market, Trade, Bundle, Cancel, Clear, Settle, Balance}
+use Rattle.command_text.specs.Commands.{body_of_line}
+use Rattle.command_text.specs.Within.{BodyIsWithin}
+use Rattle.command_text.proofs.ReadWithin.{lines_are_within}
+use Rattle.exchange_core.specs.ExchangeState.{ExchangeState}
+use Rattle.exchange_core.specs.LineReplies.{reply_to}
+use Rattle.exchange_core.specs.Refusals.{refusal_of}
+use Rattle.exchange_core.specs.Step.{batch_in, cleared_as, cleared_with}
+use Rattle.exchange_core.proofs.FirstRefusal.{batch_none}
+use Rattle.exchange_lines.specs.LineSteps.{InputLine}
+use Rattle.form.specs.declared.orders.Batch.{Batch}
+use Rattle.frac.specs.Value.{fraction_of}
+use Rattle.house_gain.specs.Moves.{clears}
+use Rattle.house_gain.proofs.RunStates.{empty_runs, step_runs}
+use Rattle.house_gain.proofs.Steps.{body_steps, move_steps}
+use Rattle.journal_audit.specs.Laws.{OfServe}
+use Rattle.live_lines.specs.Open.{count_limit}
+use Rattle.proposal_text.specs.declared.replies.BoundedOutcome.{BoundedOutcome}
+use Rattle.reply_print.specs.Within.{IsLine}
+use Rattle.proposal_lines.specs.Laws.{IsSound}
+use Rattle.proposal_lines.specs.Output.{body_line, other_line, proposing_line, unproposed_line, written_reply}
+use Rattle.proposal_lines.specs.Promises.{IsToldFor, KeepsProposalPromises, ProposalAnswer, beside, bounded, charged, replied}
+use Rattle.proposal_lines.specs.Proposed.{after_word, proposed_of, proposed_reply}
+use Rattle.proposal_lines.specs.ProposingState.{ProposingState, empty_state}
+use Rattle.proposal_lines.specs.Reads.{read_of_line, read_reply}
+use Rattle.proposal_lines.specs.declared.reads.ReadRequest.{ReadRequest}
+use Rattle.proposal_lines.proofs.Kept.{Has}
+use Rattle.proposal_lines.proofs.Telling.{charged_covered, empty_is_sound, line_told}
+use Rattle.reply_ranges.proofs.States.{charged_ranged, empty_is_ranged, more_lines}
+use Rattle.reply_ranges.proofs.Within.{line_ranged}
+use Rattle.served_ranges.proofs.Fields.{IsPlacedIfRead, proposed_placed, reads_placed}
+use Rattle.served_ranges.proofs.Kept.{AreKeptWithin, IsBestWithin}
+use Rattle.served_ranges.proofs.Others.{IsStanding, other_served}
+use Rattle.served_ranges.proofs.Owed.{IsOwedWithin, charged_owed, reply_owed}
+use Rattle.served_ranges.proofs.Proposals.{IsReadIn, clear_served, proposed_served, proposed_within, read_served, reads_within}
+use Rattle.served_ranges.proofs.Runs.{IsAnswered}
+use Rattle.served_ranges.proofs.Texts.{IsServedText}
+
+-- before the line of a number
+pub record Stands (number : ℕ) (state : ProposingState) : Type 0 where
+  pub lines : ℕ
+  pub counted : number ≡ lines + 1
+  pub sound : IsSound state
+  pub exchange : IsStanding lines state.exchange
+  pub kept : AreKeptWithin state.kept
+
+pub empty_stands : Stands 1 empty_state
+empty_stands = record {
+  lines = 0;
+  counted = refl;
+  sound = empty_is_sound;
+  exchange = record { running = empty_runs; ranged = empty_is_ranged; owed = All-nil IsOwedWithin };
+  kept = All-nil (Has IsBestWithin);
+}
+
+one_line_more : (lines : ℕ) (exchange : ExchangeState) → IsStanding lines exchange → IsStanding (lines + 1) exchange
+one_line_more lines exchange stands =
+    record { running = stands.running; ranged = more_lines lines (lines + 1) exchange (omega arith) stands.ranged; owed = stands.owed }
+
+-- behind an empty line
+pub passes : (number : ℕ) (state : ProposingState) → Stands number state → Stands (number + 1) state
+passes number state h = record {
+  lines = h.lines + 1;
+  counted = omega (arith, h.counted);
+  sound = h.sound;
+  exchange = one_line_more h.lines state.exchange h.exchange;
+  kept = h.kept;
+}
+
+-- ---- the exchange behind a line
+module _ (lines : ℕ) (state : ProposingState) (line : InputLine) (sound : IsSound state) (stands : IsStanding lines state.exchange) where
+  abbrev exchange : ExchangeState
+  exchange = state.exchange
+
+  run_stands : IsStanding (lines + 1) (reply_to exchange (body_of_line line.bytes)).1
+  run_stands =
+      let said = body_of_line line.bytes in
+      let within = lines_are_within line.bytes in
+      let running = stands.running in
+      record {
+        running = step_runs exchange (reply_to exchange said) running (body_steps exchange said within running.kept running.traders);
+        ranged = line_ranged lines exchange said within running stands.ranged;
+        owed = reply_owed lines exchange running stands.ranged stands.owed said;
+      }
+
+  charged_stands : (market budget : ℕ) (better : BoundedOutcome) → refusal_of exchange (Clear market budget) ≡ None → IsCovered (batch_in exchange market) (as_optimal better.proposal)
+      → IsStanding (lines + 1) (cleared_with exchange market better.proposal.fills)
+  charged_stands market budget better accepted covered =
+      let outcome = charged better in
+      let running = stands.running in
+      let fills = better.proposal.fills in
+      let may = batch_none exchange.book market accepted in
+      let are : All IsFill (zip (batch_in exchange market).orders (map fraction_of fills)) = covered.covers.are_fills.1 in
+      let steps = move_steps exchange (clears market outcome) (accepted, charged_covered state line sound (batch_in exchange market) better covered) running.kept running.traders in
+      record {
+        running = step_runs exchange (cleared_as exchange market outcome) running steps;
+        ranged = charged_ranged lines exchange running stands.ranged market fills may are;
+        owed = charged_owed lines exchange running stands.ranged stands.owed market fills may are;
+      }
+
+  told_stands : (answer : ProposalAnswer) (after : ProposingState) → IsToldFor state line answer after → KeepsProposalPromises answer → IsStanding (lines + 1) after.exchange
+  told_stands (replied answer) after told promise = subst (IsStanding (lines + 1)) (sym told.exchange) run_stands
+  told_stands (bounded answer) after told promise =
+      let covered : IsCovered (batch_in exchange answer.market) (as_optimal answer.better.proposal)
+      = subst (λ (b : Batch). IsCovered b (as_optimal answer.better.proposal)) told.batch promise.proves.covered in
+      subst (IsStanding (lines + 1)) (sym told.exchange) (charged_stands answer.market answer.budget answer.better told.accepted covered)
+  told_stands (beside number text) after told promise = subst (IsStanding (lines + 1)) (sym told.exchange) (one_line_more lines exchange stands)
+
+-- ---- what is written for a line
+module _ (number : ℕ) (state : ProposingState) (few : number ≤ count_limit) (stands : Stands number state) where
+  some_room : stands.lines + 1 ≤ 16777216
+  some_room = omega (arith, few, stands.counted)
+
+  is_line : IsLine number
+  is_line = (omega (arith, stands.counted), few)
+
+  abbrev IsServedNow : List ℕ × ProposingState → Type 0
+  IsServedNow now = IsServedText now.0 × AreKeptWithin now.1.kept
+
+  other_now : (line : List ℕ) → IsServedNow (other_line number state line)
+  other_now line = (other_served stands.lines number some_room is_line state.exchange stands.exchange line, stands.kept)
+
+  body_now : (line : List ℕ) (said : Body) → BodyIsWithin said → IsServedNow (body_line number state line said)
+  body_now line body.Syntax within = other_now line
+  body_now line (body.Range field) within = other_now line
+  body_now line (body.Command (Open account)) within = other_now line
+  body_now line (body.Command (Deposit account amount)) within = other_now line
+  body_now line (body.Command (Withdraw account amount)) within = other_now line
+  body_now line (body.Command (Market market underlyings)) within = other_now line
+  body_now line (body.Command (Trade side account market kind strike price quantity count weights)) within = other_now line
+  body_now line (body.Command (Bundle side account market price quantity bundle)) within = other_now line
+  body_now line (body.Command (Cancel account order)) within = other_now line
+  body_now line (body.Command (Clear market budget)) within = clear_served stands.lines number some_room is_line state stands.exchange stands.sound stands.kept market budget within.0 within.1
+  body_now line (body.Command (Settle market count prices)) within = other_now line
+  body_now line (body.Command (Balance account)) within = other_now line
+
+  unproposed_now : (line : List ℕ) → IsServedNow (unproposed_line number state line)
+  unproposed_now line = by (read_of_line line) (reads_placed line) (reads_within line)
+    where
+      by : (o : Option (Result ReadRequest Fault)) → IsPlacedIfRead o → IfSome o IsReadIn
+          → IsServedNow (option_map_or (λ asked. written_reply number (read_reply state.exchange asked, state)) o (body_line number state line (body_of_line line)))
+      by None placed within = body_now line (body_of_line line) (lines_are_within line)
+      by (Some asked) placed within = (read_served stands.lines number some_room is_line state stands.exchange stands.sound stands.kept asked placed within, stands.kept)
+
+  line_now : (line : List ℕ) → IsServedNow (proposing_line number state line)
+  line_now line =
+      elim (after_word line) as (λ o. IsServedNow (option_map_or (λ text. written_reply number (proposed_reply state (proposed_of text))) o (unproposed_line number state line))) [
+        | None ↦ unproposed_now line
+        | Some text ↦ proposed_served stands.lines number some_room is_line state stands.exchange stands.sound stands.kept (proposed_of text) (proposed_placed text) (proposed_within text)
+      ]
+
+  pub answers : (line : List ℕ) → IsServedText (proposing_line number state line).0 × Stands (number + 1) (proposing_line number state line).1
+  answers line =
+      let asked : InputLine = record { number = number; bytes = line } in
+      let now = line_now line in
+      let told = line_told state asked stands.sound in (
+        now.0,
+        record {
+          lines = stands.lines + 1;
+          counted = omega (arith, stands.counted);
+          sound = told.sound;
+          exchange = told_stands stands.lines state asked stands.sound stands.exchange told.answer (proposing_line number state line).1 told.told told.promise;
+          kept = now.1;
+        },
+      )
+
+  -- as one of many
+  pub line_answers : (line : List ℕ) → IsAnswered (Stands (number + 1)) (proposing_line number state line)
+  line_answers line =
+      let answer = answers line in
+      let own = answer.0 in
+      record {
+        text = own.text;
+        is = own.is;
+        accepted = record { sound = record { reply = OfServe own.reply; is_line = inl own.served }; one = own.one };
+        stands = answer.1;
+      }

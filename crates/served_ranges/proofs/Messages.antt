@@ -1,0 +1,253 @@
+-- Each line that is written for a message is sound, and what is left stands before the next one.
+use Rattle.std.proofs.Common.{◌≡◌, ℕ, ◌+◌, ◌<◌, ◌≤◌, List, [], ◌∷◌, ◌++◌, Bool, true, false, ◌&&◌, not, cond, nat_eq, ◌==◌, pos, Option, Some, None, option_and_then, inr, codes, decimal, if◌then◌else◌, refl, sym, ap, ◌∙◌, subst, append_assoc, length, length-append, ◌-◌, arith}
+use Rattle.std.specs.Prelude.{IfSome}
+use Rattle.std.specs.List.{list_all}
+use Rattle.std.proofs.lemmas.Bool.{and_parts}
+use Rattle.std.proofs.lemmas.Bool.Decides.{nat_tests}
+use Rattle.std.proofs.lemmas.List.{take_at}
+use Rattle.std.proofs.lemmas.List.Elements.{All-nil}
+use Rattle.command_text.specs.declared.numbers.NumberRead.{NumberRead}
+use Rattle.command_text.specs.declared.numbers.NumberRead.TheVariants.{NotNumber, Outside, Value}
+use Rattle.command_text.specs.Numbers.{number_in}
+use Rattle.command_text.specs.Numbers as numbers
+use Rattle.command_text.proofs.Bounds.{natural_between, number_within}
+use Rattle.form.specs.Between.{Between}
+use Rattle.house_gain.proofs.RunStates.{same}
+use Rattle.live_lines.specs.Open.{count_limit}
+use Rattle.session_gate.specs.declared.answer.Answer.{Answer}
+use Rattle.session_gate.specs.declared.answer.Answer.TheVariants.{First, Repeat, Old, Ahead, Changed, Sessions}
+use Rattle.session_gate.specs.declared.limits.TheConstants.{MAX_NUMBER, MAX_SESSION}
+use Rattle.session_gate.specs.Answers.{answer_by, answer_to, has_kept_body, is_ahead, is_last, is_old, is_one_too_many}
+use Rattle.session_gate.specs.Bodies.{is_body}
+use Rattle.session_gate.specs.Gate.{KnownSessions, LastAccepted, Message, accepted_as, kept_of, message_of, next_number, keep}
+use Rattle.session_gate.proofs.AnswerLaws.{repeats_are_kept}
+use Rattle.session_gate.proofs.KnownBefore.{kept_of-keep}
+use Rattle.session_lines.specs.Answers.{kept_reply, reply_of}
+use Rattle.session_lines.specs.Messages.{at_comma, message_in, message_with, number_to, value_read}
+use Rattle.session_lines.specs.Served.{without_feed}
+use Rattle.session_lines.specs.Sessions.{SessionsState, after_answered, after_as, new_sessions, said_step, session_step}
+use Rattle.session_lines.specs.Texts.{accepted_text, answer_text, expecting_text, malformed_text, sessions_text}
+use Rattle.journal_audit.specs.declared.gate_lines.GateLine.{GateLine}
+use Rattle.journal_audit.specs.declared.gate_lines.GateLine.TheVariants as gate
+use Rattle.journal_audit.specs.declared.gate_lines.Why.{Why}
+use Rattle.journal_audit.specs.declared.gate_lines.Why.TheVariants as why
+use Rattle.journal_audit.specs.Accepted.{accepted_line, head_text, tail_text}
+use Rattle.journal_audit.specs.GateLines.{IsExpected, IsGateWithin, IsSessionNumber, gate_line, gate_piece, why_number, why_word}
+use Rattle.journal_audit.specs.Laws.{IsServedLineOf, OfGate, OfServe, ServedReply}
+use Rattle.journal_audit.proofs.GateTaken.{gate_plain}
+use Rattle.reply_print.specs.Within.{IsLine}
+use Rattle.proposal_lines.specs.Output.{proposing_line}
+use Rattle.proposal_lines.specs.ProposingState.{ProposingState, empty_state}
+use Rattle.served_ranges.proofs.Lines.{Stands, answers, empty_stands}
+use Rattle.served_ranges.proofs.Reports.{HasNoFeed}
+use Rattle.served_ranges.proofs.Runs.{IsAnswered}
+use Rattle.served_ranges.proofs.Texts.{both_have_none, piece_has_none, plain_has_none, with_byte}
+use Rattle.reply_print.proofs.Digits.{plain-decimal}
+
+-- ---- what a line says as a message
+abbrev IsMessage : Message → Type 0
+IsMessage message = IsSessionNumber message.session × Between 1 MAX_NUMBER message.number
+
+value_within : (limit : ℕ) (read : NumberRead) → numbers.IsWithin (pos 1) (pos limit) read → IfSome (value_read read) (Between 1 limit)
+value_within limit (Value v) h = natural_between 1 limit v h
+value_within limit NotNumber h = tt
+value_within limit Outside h = tt
+
+number_to_within : (limit : ℕ) (field : List ℕ) → IfSome (number_to limit field) (Between 1 limit)
+number_to_within limit field = value_within limit (number_in (pos 1) (pos limit) field) (number_within (pos 1) (pos limit) field)
+
+with_within : (session number : Option ℕ) (body : List ℕ) → IfSome session IsSessionNumber → IfSome number (Between 1 MAX_NUMBER) → IfSome (message_with session number body) IsMessage
+with_within None number body s n = tt
+with_within (Some session) None body s n = tt
+with_within (Some session) (Some number) body s n =
+    elim (is_body body) as (λ b. IfSome (if b then Some (message_of session number body) else None) IsMessage) [ true ↦ (s, n) | false ↦ tt ]
+
+second_within : (session : Option ℕ) (parts : Option (List ℕ × List ℕ)) → IfSome session IsSessionNumber
+    → IfSome (option_and_then (λ second. message_with session (number_to MAX_NUMBER second.0) second.1) parts) IsMessage
+second_within session None s = tt
+second_within session (Some second) s = with_within session (number_to MAX_NUMBER second.0) second.1 s (number_to_within MAX_NUMBER second.0)
+
+first_within : (parts : Option (List ℕ × List ℕ))
+    → IfSome (option_and_then (λ first. option_and_then (λ second. message_with (number_to MAX_SESSION first.0) (number_to MAX_NUMBER second.0) second.1) (at_comma first.1)) parts) IsMessage
+first_within None = tt
+first_within (Some first) = second_within (number_to MAX_SESSION first.0) (at_comma first.1) (number_to_within MAX_SESSION first.0)
+
+message_within : (line : List ℕ) → IfSome (message_in line) IsMessage
+message_within line = first_within (at_comma line)
+
+-- ---- what a gate expects
+abbrev IsExpectedIn : Answer → Type 0
+IsExpectedIn First = Unit {0}
+IsExpectedIn Repeat = Unit {0}
+IsExpectedIn (Old expected) = IsExpected expected
+IsExpectedIn (Ahead expected) = IsExpected expected
+IsExpectedIn (Changed expected) = IsExpected expected
+IsExpectedIn Sessions = Unit {0}
+
+expected_if : (test : Bool) (answer later : Answer) → IsExpectedIn answer → IsExpectedIn later → IsExpectedIn (if test then answer else later)
+expected_if true answer later h k = h
+expected_if false answer later h k = k
+
+-- what is kept of a session is a sound line of `serve`
+record IsKeptServed (kept : LastAccepted) : Type 0 where
+  number : Between 1 MAX_NUMBER kept.number
+  reply : ServedReply
+  served : IsServedLineOf kept.reply reply
+  one : HasNoFeed kept.reply
+
+next_expected : (kept : Option LastAccepted) → IfSome kept IsKeptServed → IsExpected (next_number kept)
+next_expected None h = (omega arith, omega arith)
+next_expected (Some kept) h = let most = h.number.1 in (omega arith, omega (arith, most))
+
+answer_expected : (kept : Option LastAccepted) (sessions : KnownSessions) (message : Message) → IfSome kept IsKeptServed → IsExpectedIn (answer_by kept sessions message)
+answer_expected kept sessions message h =
+    let next = next_expected kept h in
+    expected_if (is_ahead kept message) (Ahead (next_number kept)) _ next
+    (expected_if (is_old kept message) (Old (next_number kept)) _ next
+    (expected_if (is_last kept message && has_kept_body kept message) Repeat _ tt
+    (expected_if (is_last kept message && not (has_kept_body kept message)) (Changed (next_number kept)) _ next
+    (expected_if (is_one_too_many kept sessions) Sessions First tt tt))))
+
+-- ---- the texts of a gate
+malformed_is : (line : ℕ) → malformed_text line ≡ gate_line line gate.Malformed ++ 10 ∷ []
+malformed_is line = simp append_assoc
+
+sessions_is : (line session : ℕ) → sessions_text line session ≡ gate_line line (gate.Sessions session) ++ 10 ∷ []
+sessions_is line session = simp append_assoc
+
+expecting_is : (line session expected : ℕ) (why : Why) → expecting_text line session expected (why_number why) (why_word why) ≡ gate_line line (gate.Expecting session expected why) ++ 10 ∷ []
+expecting_is line session expected why = simp append_assoc
+
+accepted_is : (session number : ℕ) (reply : List ℕ) → accepted_text session number reply ≡ accepted_line number session reply ++ 10 ∷ []
+accepted_is session number reply = simp append_assoc
+
+-- by a test of each byte
+tested_has_none : (text : List ℕ) → list_all (λ b. not (b == 10)) text ≡ true → HasNoFeed text
+tested_has_none [] h = All-nil (λ b. (b == 10) ≡ false)
+tested_has_none (b ∷ text) h =
+    let parts = and_parts (not (b == 10)) (list_all (λ b. not (b == 10)) text) h in
+    with_byte b text (grind (arith, nat_tests, parts.0)) (tested_has_none text parts.1)
+
+number_has_none : (n : ℕ) → HasNoFeed (decimal n)
+number_has_none n = plain_has_none (decimal n) (plain-decimal n)
+
+accepted_has_none : (session number : ℕ) (reply : List ℕ) → HasNoFeed reply → HasNoFeed (accepted_line number session reply)
+accepted_has_none session number reply one =
+    both_have_none (head_text number) (reply ++ tail_text session)
+    (both_have_none (codes "{\"number\":") _ (tested_has_none (codes "{\"number\":") refl)
+    (both_have_none (decimal number) (codes ",\"of\":") (number_has_none number) (tested_has_none (codes ",\"of\":") refl)))
+    (both_have_none reply (tail_text session) one
+    (both_have_none (codes ",\"session\":") _ (tested_has_none (codes ",\"session\":") refl)
+    (both_have_none (decimal session) (codes "}") (number_has_none session) (tested_has_none (codes "}") refl))))
+
+-- ---- before the line of a number
+pub record StandsBefore (number : ℕ) (state : SessionsState ProposingState) : Type 0 where
+  served : state.0.served < number
+  stands : Stands (state.0.served + 1) state.1
+  kept : (session : ℕ) → IfSome (kept_of state.0.sessions session) IsKeptServed
+
+pub nothing_before : StandsBefore 1 (new_sessions empty_state)
+nothing_before = record { served = omega arith; stands = empty_stands; kept = λ session. tt }
+
+-- behind an empty line
+pub passes : (number : ℕ) (state : SessionsState ProposingState) → StandsBefore number state → StandsBefore (number + 1) state
+passes number state h = let lt = h.served in record { served = omega (arith, lt); stands = h.stands; kept = h.kept }
+
+-- what is kept of a session after one more message
+kept_after : (sessions : KnownSessions) (session : ℕ) (new : LastAccepted) → ((q : ℕ) → IfSome (kept_of sessions q) IsKeptServed) → IsKeptServed new
+    → (q : ℕ) → IfSome (kept_of (keep sessions session new) q) IsKeptServed
+kept_after sessions session new before is q =
+    subst (λ o. IfSome o IsKeptServed) (sym (kept_of-keep session new sessions q))
+    (elim (nat_eq q session) as (λ b. IfSome (cond b (Some new) (kept_of sessions q)) IsKeptServed) [ true ↦ is | false ↦ before q ])
+
+kept_itself : (sessions : KnownSessions) (session : ℕ) (new : LastAccepted) → kept_of (keep sessions session new) session ≡ Some new
+kept_itself sessions session new =
+    kept_of-keep session new sessions session ∙ ap (λ (b : Bool). cond b (Some new) (kept_of sessions session)) (same session session refl)
+
+without_it : (text : List ℕ) → without_feed (text ++ 10 ∷ []) ≡ text
+without_it text = take_at text (10 ∷ []) (length (text ++ 10 ∷ []) - 1) (omega (arith, length-append text (10 ∷ [])))
+
+-- ---- what is written for a line
+module _ (number : ℕ) (state : SessionsState ProposingState) (few : number ≤ count_limit) (before : StandsBefore number state) where
+  abbrev IsTold : List ℕ × SessionsState ProposingState → Type 0
+  IsTold = IsAnswered (StandsBefore (number + 1))
+
+  is_line : IsLine number
+  is_line = let lt = before.served in (omega (arith, lt), few)
+
+  gate_told : (refused : GateLine) → IsGateWithin refused → (text : List ℕ) → text ≡ gate_line number refused ++ 10 ∷ [] → IsTold (text, state)
+  gate_told refused within text is = record {
+    text = gate_line number refused;
+    is = is;
+    accepted = record {
+      sound = record { reply = OfGate refused; is_line = (number, ((is_line, within), refl)) };
+      one = piece_has_none (gate_piece number refused) (gate_plain number refused);
+    };
+    stands = passes number state before;
+  }
+
+  reply_told : (message : Message) → IsMessage message → (reply : List ℕ) (own : ServedReply) → IsServedLineOf reply own → HasNoFeed reply
+      → (next : SessionsState ProposingState) → StandsBefore (number + 1) next → IsTold (accepted_text message.session message.number reply, next)
+  reply_told message is reply own served one next stands = record {
+    text = accepted_line message.number message.session reply;
+    is = accepted_is message.session message.number reply;
+    accepted = record {
+      sound = record {
+        reply = OfServe own;
+        is_line = inr (record { number = message.number; session = message.session; inner = reply; message = (is.1, is.0); served = served; is_line = refl });
+      };
+      one = accepted_has_none message.session message.number reply one;
+    };
+    stands = stands;
+  }
+
+  abbrev told_as : Message → Answer → List ℕ × SessionsState ProposingState
+  told_as message answer =
+      let next = after_as proposing_line answer state message in (answer_text number message answer (kept_reply next.0 message.session), next)
+
+  -- a message that is accepted
+  first_told : (message : Message) → IsMessage message → IsTold (told_as message First)
+  first_told message is =
+      let lt = before.served in
+      let n = state.0.served + 1 in
+      let answer = answers n state.1 (omega (arith, lt, few)) before.stands message.body in
+      let own = answer.0 in
+      let now = proposing_line n state.1 message.body in
+      let reply = without_feed now.0 in
+      let same : reply ≡ own.text = ap without_feed own.is ∙ without_it own.text in
+      let new : LastAccepted = accepted_as message reply in
+      let kept : IsKeptServed new = record {
+        number = is.1;
+        reply = own.reply;
+        served = subst (λ t. IsServedLineOf t own.reply) (sym same) own.served;
+        one = subst HasNoFeed (sym same) own.one;
+      } in
+      let next = after_answered proposing_line state message in
+      let stands : StandsBefore (number + 1) next = record { served = omega (arith, lt); stands = answer.1; kept = kept_after state.0.sessions message.session new before.kept kept } in
+      subst (λ r. IsTold (accepted_text message.session message.number r, next)) (sym (ap reply_of (kept_itself state.0.sessions message.session new)))
+      (reply_told message is reply own.reply kept.served kept.one next stands)
+
+  -- one that was accepted before
+  repeat_told : (message : Message) → IsMessage message → answer_to state.0 message ≡ Repeat → IsTold (told_as message Repeat)
+  repeat_told message is e =
+      let (kept, there, same_number, same_body) = repeats_are_kept state.0 message e in
+      let served : IsKeptServed kept = subst (λ o. IfSome o IsKeptServed) there (before.kept message.session) in
+      subst (λ r. IsTold (accepted_text message.session message.number r, state)) (sym (ap reply_of there))
+      (reply_told message is kept.reply served.reply served.served served.one state (passes number state before))
+
+  answer_told : (message : Message) → IsMessage message → (answer : Answer) → answer_to state.0 message ≡ answer → IsExpectedIn answer → IsTold (told_as message answer)
+  answer_told message is First e expects = first_told message is
+  answer_told message is Repeat e expects = repeat_told message is e
+  answer_told message is (Old expected) e expects = gate_told (gate.Expecting message.session expected why.Old) (is.0, expects) _ (expecting_is number message.session expected why.Old)
+  answer_told message is (Ahead expected) e expects = gate_told (gate.Expecting message.session expected why.Ahead) (is.0, expects) _ (expecting_is number message.session expected why.Ahead)
+  answer_told message is (Changed expected) e expects =
+      gate_told (gate.Expecting message.session expected why.Changed) (is.0, expects) _ (expecting_is number message.session expected why.Changed)
+  answer_told message is Sessions e expects = gate_told (gate.Sessions message.session) is.0 _ (sessions_is number message.session)
+
+  said_told : (said : Option Message) → IfSome said IsMessage → IsTold (said_step proposing_line number state said)
+  said_told None is = gate_told gate.Malformed tt _ (malformed_is number)
+  said_told (Some message) is =
+      answer_told message is (answer_to state.0 message) refl (answer_expected (kept_of state.0.sessions message.session) state.0.sessions message (before.kept message.session))
+
+  pub answers_messages : (line : List ℕ) → IsTold (session_step proposing_line number state line)
+  answers_messages line = said_told (message_in line) (message_within line)

@@ -1,0 +1,242 @@
+-- The lines that a run has, and those of quotes, prices and margins, are sound.
+use Rattle.std.proofs.Common.{◌≡◌, ℕ, ◌+◌, ◌≤◌, List, [], ◌∷◌, ◌++◌, Bool, true, false, ◌||◌, Option, Some, None, if◌then◌else◌, refl, subst, arith}
+use Rattle.std.specs.Prelude.{IfSome}
+use Rattle.std.specs.List.{All}
+use Rattle.std.specs.Option.{option_map_or}
+use Rattle.std.proofs.lemmas.List.Elements.{All-append, All-from_recursion}
+use Rattle.all_lines.specs.Output.{all_line, asking_word, line_of}
+use Rattle.asked_text.specs.declared.replies.AskedReply.TheVariants as told
+use Rattle.asked_text.specs.Lines.{IsNeedWithin, IsPriceWithin, asked_line}
+use Rattle.command_text.specs.declared.command.Body.{Body}
+use Rattle.command_text.specs.declared.command.Body.TheVariants as body
+use Rattle.command_text.specs.declared.command.Command.{Command}
+use Rattle.command_text.specs.declared.command.Command.TheVariants.{Open, Deposit, Withdraw, Market, Trade, Bundle, Cancel, Clear, Settle, Balance}
+use Rattle.command_text.specs.Within.{BodyIsWithin}
+use Rattle.exchange_core.specs.declared.refusal.Refusal.{Refusal}
+use Rattle.exchange_core.specs.declared.refusal.Refusal.TheVariants as refusal
+use Rattle.exchange_core.specs.ExchangeState.{ExchangeState}
+use Rattle.exchange_core.specs.LineReplies.{reply_to}
+use Rattle.exchange_core.specs.Reply.{refused_with}
+use Rattle.exchange_core.specs.Step.{batch_in}
+use Rattle.exchange_lines.proofs.Answered.{promises_kept}
+use Rattle.form.specs.Between.{Between}
+use Rattle.form.specs.declared.limits.TheConstants.{MAX_QUANTITY}
+use Rattle.form.specs.declared.orders.Batch.{Batch}
+use Rattle.form.specs.declared.orders.Order.{Order}
+use Rattle.form.specs.declared.orders.Side.{Side}
+use Rattle.form.specs.declared.orders.Side.TheVariants.{Buy, Sell}
+use Rattle.guarded_lines.specs.declared.bodies.GuardedBody.{GuardedBody}
+use Rattle.guarded_lines.specs.declared.bodies.GuardedBody.TheVariants as guarded
+use Rattle.guarded_lines.specs.declared.replies.GuardedReply.TheVariants as guarded_reply
+use Rattle.guarded_lines.specs.declared.requests.MarginRequest.{MarginRequest}
+use Rattle.guarded_lines.specs.declared.told.Need.{Need}
+use Rattle.guarded_lines.specs.declared.told.ToldMargin.{ToldMargin}
+use Rattle.guarded_lines.specs.declared.told.ToldMargin.TheVariants as margin
+use Rattle.guarded_lines.specs.Bodies.{guarded_body_of}
+use Rattle.guarded_lines.specs.Margins.{margin_refusals, market_refusals, run_in, told_of}
+use Rattle.guarded_lines.specs.Needs.{need_in}
+use Rattle.guarded_lines.specs.Replies.{guarded_reply_line, guarded_reply_to, plain_reply_to}
+use Rattle.guarded_lines.specs.Told.{margin_line}
+use Rattle.guarded_lines.specs.Within.{GuardedBodyIsWithin, IsRequestWithin as IsMarginRequest}
+use Rattle.guarded_lines.specs.Withdrawals.{covers, is_refused, left_in, uncovered_by, uncovered_command}
+use Rattle.guarded_lines.proofs.RequestsWithin.{requests_are_within as margin_requests}
+use Rattle.house_gain.proofs.RunStates.{IsRunning}
+use Rattle.option_quotes.specs.declared.prices.MarketPrices.{MarketPrices}
+use Rattle.option_quotes.specs.declared.prices.MarketPrices.TheVariants as market
+use Rattle.option_quotes.specs.declared.prices.SidePrice.{SidePrice}
+use Rattle.option_quotes.specs.declared.prices.SidePrice.TheVariants as side
+use Rattle.option_quotes.specs.declared.quotes.Quoted.{Quoted}
+use Rattle.option_quotes.specs.declared.quotes.Quoted.TheVariants as quoted
+use Rattle.option_quotes.specs.ByProbes.{quoted_of}
+use Rattle.option_quotes.specs.Implied.{asked, prices_of}
+use Rattle.option_quotes.specs.Probes.{further}
+use Rattle.option_quotes.specs.Thresholds.{MayBeQuoted, TellPrices, Tells, TellsSide}
+use Rattle.option_quotes.proofs.Found.{implied_prices_are_thresholds}
+use Rattle.option_quotes.proofs.Thresholds.{quotes_are_thresholds}
+use Rattle.order_book.specs.declared.market.MarketInfo.{MarketInfo}
+use Rattle.order_book.specs.Book.{info_in}
+use Rattle.quote_lines.specs.declared.bodies.AskingWord.{AskingWord}
+use Rattle.quote_lines.specs.declared.bodies.QuotesBody.{QuotesBody}
+use Rattle.quote_lines.specs.declared.bodies.QuotesBody.TheVariants as quotes
+use Rattle.quote_lines.specs.declared.prices.QuotedPrice.TheVariants as price
+use Rattle.quote_lines.specs.declared.replies.QuotesReply.TheVariants as quotes_reply
+use Rattle.quote_lines.specs.declared.requests.QuoteRequest.{QuoteRequest}
+use Rattle.quote_lines.specs.Bodies.{body_by}
+use Rattle.quote_lines.specs.Refusals.{info_refusals, quote_refusals}
+use Rattle.quote_lines.specs.Replies.{asked_reply, price_of, prices_told, quoted_price, quotes_reply_line, quotes_reply_to, side_told, told_for}
+use Rattle.quote_lines.specs.Within.{IsRequestWithin, QuotesBodyIsWithin}
+use Rattle.quote_lines.proofs.MayQuote.{live_may}
+use Rattle.quote_lines.proofs.RequestsWithin.{requests_are_within}
+use Rattle.refusals.specs.Refusals.{first_of}
+use Rattle.refusals.proofs.FirstRefusal.{none_in_both}
+use Rattle.reply_print.specs.ReplyPieces.{reply_line}
+use Rattle.reply_print.specs.Within.{IsLine}
+use Rattle.reply_ranges.specs.Laws.{HasField}
+use Rattle.reply_ranges.proofs.Refusals.{IsOne, IsTold, first_told}
+use Rattle.reply_ranges.proofs.States.{IsRanged}
+use Rattle.reply_ranges.proofs.StepReplies.{reply_within}
+use Rattle.served_ranges.proofs.Fields.{HasMarginField, HasQuoteField, guarded_field, quotes_field}
+use Rattle.served_ranges.proofs.Margins.{margin_within, need_within}
+use Rattle.served_ranges.proofs.Owed.{AreOwed}
+use Rattle.served_ranges.proofs.Texts.{IsServedText, asked_text, run_text}
+
+-- an exchange before the line behind so many
+pub record IsStanding (lines : ℕ) (state : ExchangeState) : Type 0 where
+  pub running : IsRunning state
+  pub ranged : IsRanged lines state
+  pub owed : AreOwed state
+
+-- ---- prices
+quote_price : (batch : Batch) (order : Order) (budget : ℕ) (told : Quoted) → Tells batch order budget told → IsPriceWithin (price_of told)
+quote_price batch order budget (quoted.At price raising beside base) tells = tells.0.0
+quote_price batch order budget (quoted.Never extreme base) tells = tt
+quote_price batch order budget (quoted.Unmarked probe outcome) tells = tt
+
+side_price : (batch : Batch) (order : Order) (budget : ℕ) (told : SidePrice) → TellsSide batch order budget told → IsPriceWithin (side_told told)
+side_price batch order budget (side.At price raising beside) tells = tells.0
+side_price batch order budget (side.Never extreme) tells = tt
+side_price batch order budget (side.Unmarked price outcome) tells = tt
+side_price batch order budget side.Spent tells = tt
+
+-- ---- refusals
+info_told : (info : Option MarketInfo) (request : QuoteRequest) → All IsOne (info_refusals info request)
+info_told None request = All-from_recursion IsOne (info_refusals None request) (((omega arith, omega arith), refl), tt)
+info_told (Some info) request =
+    All-from_recursion IsOne (info_refusals (Some info) request) (((omega arith, omega arith), refl), (((omega arith, omega arith), refl), (((omega arith, omega arith), refl), tt)))
+
+market_told : (info : Option MarketInfo) → All IsOne (market_refusals info)
+market_told None = All-from_recursion IsOne (market_refusals None) (((omega arith, omega arith), refl), tt)
+market_told (Some info) = All-from_recursion IsOne (market_refusals (Some info)) (((omega arith, omega arith), refl), tt)
+
+-- one refusal more
+one_told : (holds : Bool) (refusal : Refusal) → IsTold refusal → All IsOne ((holds, refusal) ∷ [])
+one_told holds refusal is = All-from_recursion IsOne ((holds, refusal) ∷ []) (is, tt)
+
+two_told : (holds also : Bool) (refusal next : Refusal) → IsTold refusal → IsTold next → All IsOne ((holds, refusal) ∷ (also, next) ∷ [])
+two_told holds also refusal next is are = All-from_recursion IsOne ((holds, refusal) ∷ (also, next) ∷ []) (is, (are, tt))
+
+-- ---- needs
+module _ (state : ExchangeState) where
+  abbrev IsUncovered : Option Need → Type 0
+  IsUncovered need = IfSome need IsNeedWithin
+
+  withdrawal_need : (account amount : ℕ) → IsUncovered (uncovered_command state (Withdraw account amount))
+  withdrawal_need account amount =
+      elim (is_refused state account amount || covers (need_in state account) (left_in state account amount)) as (λ b. IsUncovered (if b then None else Some (need_in state account))) [
+        | true ↦ tt
+        | false ↦ need_within state account
+      ]
+
+  command_need : (command : Command) → IsUncovered (uncovered_command state command)
+  command_need (Open account) = tt
+  command_need (Deposit account amount) = tt
+  command_need (Withdraw account amount) = withdrawal_need account amount
+  command_need (Market market underlyings) = tt
+  command_need (Trade side account market kind strike price quantity count weights) = tt
+  command_need (Bundle side account market price quantity bundle) = tt
+  command_need (Cancel account order) = tt
+  command_need (Clear market budget) = tt
+  command_need (Settle market count prices) = tt
+  command_need (Balance account) = tt
+
+  said_need : (said : Body) → IsUncovered (uncovered_by state said)
+  said_need (body.Command command) = command_need command
+  said_need body.Syntax = tt
+  said_need (body.Range field) = tt
+
+-- the budget of its request is not told
+same_margin : (number : ℕ) (request : MarginRequest) (margin : ToldMargin) → asked_line number (told.Margin request.account request.market margin) ≡ margin_line number request margin
+same_margin number request (margin.Least liability at) = refl
+same_margin number request (margin.Unbounded ray) = refl
+same_margin number request margin.Wide = refl
+same_margin number request margin.Budget = refl
+
+-- ---- the lines
+module _ (lines number : ℕ) (few : lines + 1 ≤ 16777216) (is_line : IsLine number) (state : ExchangeState) (stands : IsStanding lines state) where
+  pub refusal_served : (first : Refusal) → IsTold first → IsServedText (reply_line number (refused_with first) ++ 10 ∷ [])
+  refusal_served first is = run_text number (refused_with first) (is_line, is) tt
+
+  -- one of these refusals
+  pub first_served : (refusals : List (Bool × Refusal)) (first : Refusal) → All IsOne refusals → first_of refusals ≡ Some first → IsServedText (reply_line number (refused_with first) ++ 10 ∷ [])
+  first_served refusals first told is = refusal_served first (first_told refusals first told is)
+
+  pub run_served : (said : Body) → BodyIsWithin said → HasField said → IsServedText (reply_line number (reply_to state said).0 ++ 10 ∷ [])
+  run_served said within field =
+      run_text number (reply_to state said).0 (is_line, reply_within lines few state stands.running stands.ranged said within field)
+      (promises_kept state (record { number = number; body = said }) stands.running.kept).judged
+
+  -- what is told of the live orders of a market
+  told_served : (request : QuoteRequest) (quantity : Option ℕ) → IsRequestWithin request → IfSome quantity (Between 1 MAX_QUANTITY) → MayBeQuoted (batch_in state request.market) request.form
+      → IsServedText (quotes_reply_line number (told_for (batch_in state request.market) request quantity) ++ 10 ∷ [])
+  told_served request None within some may =
+      let batch = batch_in state request.market in
+      let within_side : (s : Side) → IsPriceWithin (quoted_price batch request s) = λ s.
+      let order = further request.form s in
+      quote_price batch order request.budget (quoted_of batch order request.budget) (quotes_are_thresholds batch request.form s request.budget may) in
+      asked_text number (told.Quoted request.market (quoted_price batch request Buy) (quoted_price batch request Sell)) (is_line, (within.market, within_side Buy, within_side Sell))
+  told_served request (Some quantity) within some may =
+      by (prices_of batch request.form quantity request.budget) (implied_prices_are_thresholds batch request.form quantity request.budget may some.0 some.1)
+    where
+      batch : Batch
+      batch = batch_in state request.market
+
+      by : (prices : MarketPrices) → TellPrices batch request.form quantity request.budget prices → IsServedText (quotes_reply_line number (prices_told request.market quantity prices) ++ 10 ∷ [])
+      by (market.Marked base ask bid) tells =
+          asked_text number (told.Priced request.market quantity (side_told ask) (side_told bid))
+          (is_line, (within.market, some, side_price batch (asked request.form Buy quantity) request.budget ask tells.0, side_price batch (asked request.form Sell quantity) request.budget bid tells.1))
+      by (market.Unmarked base) tells = asked_text number (told.Priced request.market quantity price.Unmarked price.Unmarked) (is_line, (within.market, some, tt, tt))
+
+  request_served : (request : QuoteRequest) (quantity : Option ℕ) → IsRequestWithin request → IfSome quantity (Between 1 MAX_QUANTITY)
+      → IsServedText (quotes_reply_line number (asked_reply state request quantity) ++ 10 ∷ [])
+  request_served request quantity within some = by (first_of (quote_refusals state.book request)) refl
+    where
+      info : Option MarketInfo
+      info = info_in state.book request.market
+
+      by : (r : Option Refusal) → first_of (quote_refusals state.book request) ≡ r
+          → IsServedText (quotes_reply_line number (option_map_or (λ refusal. quotes_reply.Plain (refused_with refusal)) r (told_for (batch_in state request.market) request quantity)) ++ 10 ∷ [])
+      by (Some first) is =
+          first_served (quote_refusals state.book request) first
+          (All-append IsOne (info_refusals info request) _ (info_told info request) (one_told _ refusal.TooMany ((omega arith, omega arith), refl))) is
+      by None none = told_served request quantity within some (live_may state request stands.running.kept within.listed (none_in_both (info_refusals info request) _ none).0)
+
+  quotes_served : (said : QuotesBody) → QuotesBodyIsWithin said → HasQuoteField said → IsServedText (quotes_reply_line number (quotes_reply_to state said).0 ++ 10 ∷ [])
+  quotes_served (quotes.Plain said) within field = run_served said within field
+  quotes_served (quotes.Quote request) within field = request_served request None within tt
+  quotes_served (quotes.Price request) within field = request_served request.quote (Some request.quantity) within.0 within.1
+
+  plain_served : (said : Body) → BodyIsWithin said → HasField said → IsServedText (guarded_reply_line number (guarded_reply_to state (guarded.Plain said)).0 ++ 10 ∷ [])
+  plain_served said within field = by (uncovered_by state said) (said_need state said)
+    where
+      by : (need : Option Need) → IfSome need IsNeedWithin
+          → IsServedText (guarded_reply_line number (option_map_or (λ need. (guarded_reply.Uncovered need, state)) need (plain_reply_to state said)).0 ++ 10 ∷ [])
+      by None is = run_served said within field
+      by (Some need) is = asked_text number (told.Uncovered need) (is_line, is)
+
+  margin_served : (request : MarginRequest) → IsMarginRequest request → IsServedText (guarded_reply_line number (guarded_reply_to state (guarded.Margin request)).0 ++ 10 ∷ [])
+  margin_served request within = by (first_of (margin_refusals state request)) refl
+    where
+      margin_of : ToldMargin
+      margin_of = told_of (run_in state request.account request.market request.budget)
+
+      by : (r : Option Refusal) → first_of (margin_refusals state request) ≡ r
+          → IsServedText (guarded_reply_line number (option_map_or (λ refusal. guarded_reply.Plain (refused_with refusal)) r (guarded_reply.Margin request margin_of)) ++ 10 ∷ [])
+      by (Some first) is =
+          first_served (margin_refusals state request) first
+          (All-append IsOne (market_refusals (info_in state.book request.market)) _ (market_told (info_in state.book request.market))
+          (two_told _ _ refusal.NoAccount refusal.TooMany ((omega arith, omega arith), refl) ((omega arith, omega arith), refl))) is
+      by None none =
+          subst (λ l. IsServedText (l ++ 10 ∷ [])) (same_margin number request margin_of)
+          (asked_text number (told.Margin request.account request.market margin_of)
+          (is_line, (within.account, within.market, margin_within state request.account request.market request.budget stands.owed)))
+
+  guarded_served : (said : GuardedBody) → GuardedBodyIsWithin said → HasMarginField said → IsServedText (guarded_reply_line number (guarded_reply_to state said).0 ++ 10 ∷ [])
+  guarded_served (guarded.Plain said) within field = plain_served said within field
+  guarded_served (guarded.Margin request) within field = margin_served request within
+
+  pub other_served : (line : List ℕ) → IsServedText (all_line number state line).0
+  other_served line = by (asking_word line)
+    where
+      by : (word : Option AskingWord) → IsServedText (line_of word number state line).0
+      by (Some word) = quotes_served (body_by word line) (requests_are_within word line) (quotes_field word line)
+      by None = guarded_served (guarded_body_of line) (margin_requests line) (guarded_field line)

@@ -1,0 +1,322 @@
+-- The lines of proposals, of what is read, and of clears are sound.
+use Rattle.std.proofs.Common.{◌≡◌, ℕ, ◌+◌, ◌≤◌, List, [], ◌∷◌, ◌++◌, Bool, true, false, ◌==◌, nat_eq, length, take, drop, position, if◌then◌else◌, Option, Some, None, Result, Ok, Err, IfOk, codes, refl, sym, ap, ◌∙◌, subst, arith}
+use Rattle.std.specs.Prelude.{IfSome}
+use Rattle.std.specs.List.{All}
+use Rattle.std.specs.Option.{option_map_or}
+use Rattle.std.specs.Str.{bytes_eq}
+use Rattle.std.proofs.lemmas.Bool.{and_parts}
+use Rattle.std.proofs.lemmas.Int.{ints}
+use Rattle.std.proofs.lemmas.List.Elements.{All-nil, All-cons, All-head, All-tail, All-append, recursion_from_All}
+use Rattle.cash_ledger.specs.Refusals.{account_refusals}
+use Rattle.cert_check.specs.Proposals.{bounded_verdict_of, compared, proposal_bound}
+use Rattle.cert_check.specs.declared.outcome.Judgement.TheVariants as judgement
+use Rattle.cert_check.specs.declared.outcome.Outcome.{Outcome}
+use Rattle.cert_check.specs.declared.outcome.Unproved.{Unproved as Reason}
+use Rattle.command_text.specs.declared.asked.Fault.{Fault}
+use Rattle.command_text.specs.declared.asked.Fault.TheVariants.{Syntax, Range}
+use Rattle.command_text.specs.declared.command.Body.TheVariants as body
+use Rattle.command_text.specs.declared.command.Command.TheVariants.{Clear}
+use Rattle.command_text.specs.declared.ranges.TheConstants.{MARKET}
+use Rattle.command_text.specs.Asked.{fault_in, natural_in, text_of, value_in}
+use Rattle.command_text.specs.Fields.{fields_of_line}
+use Rattle.command_text.specs.Trades.{unless, with_some}
+use Rattle.command_text.specs.Within.{IsBudget, IsMarket}
+use Rattle.command_text.proofs.Bounds.{either, natural_between, ok_some, ok_unless, one_asked}
+use Rattle.exact_num.specs.Fraction.{Fraction}
+use Rattle.exact_num.proofs.Tested.{same_passes}
+use Rattle.exchange_core.specs.declared.refusal.Refusal.{Refusal}
+use Rattle.exchange_core.specs.declared.refusal.Refusal.TheVariants as refusal
+use Rattle.exchange_core.specs.ExchangeState.{ExchangeState}
+use Rattle.exchange_core.specs.Held.{is_held_by, positions_of}
+use Rattle.exchange_core.specs.Kept.{IsPositionKept}
+use Rattle.exchange_core.specs.Refusals.{by_book, by_ledger, refusal_of}
+use Rattle.exchange_core.specs.Step.{batch_in, clear_effect, refusal_effect}
+use Rattle.exchange_core.proofs.FirstRefusal.{batch_none, live_none}
+use Rattle.form.specs.Between.{Between}
+use Rattle.form.specs.declared.orders.Batch.{Batch}
+use Rattle.frac.specs.Range.{limit}
+use Rattle.frac.specs.Value.{fraction_of}
+use Rattle.frac.specs.ValueOf.{value_from}
+use Rattle.frac.specs.declared.frac128.Frac128.{Frac128}
+use Rattle.order_book.specs.Book.{batch_of, market_of}
+use Rattle.order_book.specs.Markets.{MarketState}
+use Rattle.order_book.specs.Numbers.{numbers_of}
+use Rattle.order_book.specs.Refusals.{live_refusals}
+use Rattle.order_book.proofs.Accepting.{finishable, listing_live}
+use Rattle.order_book.proofs.MarketLists.{same_number}
+use Rattle.refusals.specs.Refusals.{first_of}
+use Rattle.settlement.specs.declared.position.Position.{Position}
+use Rattle.reply_print.specs.ReplyPieces.{reply_line}
+use Rattle.reply_print.specs.Within.{IsLine}
+use Rattle.reply_print.specs.Within as reply
+use Rattle.proposal_text.specs.declared.replies.BoundedOutcome.{BoundedOutcome}
+use Rattle.proposal_text.specs.declared.replies.Failed.TheVariants as failed
+use Rattle.proposal_text.specs.declared.replies.ProposalReply.TheVariants as told
+use Rattle.proposal_text.specs.declared.submissions.Submission.{Submission}
+use Rattle.proposal_text.specs.Submissions.{IsTextOf, submission_of}
+use Rattle.proposal_text.specs.Within.{IsPositionWithin, IsProposalWithin}
+use Rattle.proposal_text.proofs.ReadExactly.{some_text}
+use Rattle.proposals.specs.Best.{are_same_orders}
+use Rattle.proposals.specs.Laws.{IsProvedBest, as_proposal}
+use Rattle.proposals.specs.declared.best.Best.{Best}
+use Rattle.proposal_lines.specs.Clears.{better_in, bounded_effect, charge_effect, clear_reply, cleared_by, reference_in}
+use Rattle.proposal_lines.specs.KeptByMarket.{best_in, bounded_by, bounded_in, stop_of}
+use Rattle.proposal_lines.specs.Laws.{IsClearedAs, IsSound}
+use Rattle.proposal_lines.specs.Output.{proposing_reply_line}
+use Rattle.proposal_lines.specs.Proposed.{judged_effect, kept_by, offered, proposed_at, proposed_by, proposed_of, proposed_reply, stale_effect, unproved_effect}
+use Rattle.proposal_lines.specs.ProposingState.{ProposingState}
+use Rattle.proposal_lines.specs.Reads.{book_of, positions_asked, read_of, read_of_line, read_refusals, read_reply, refused_by, refused_by_fault, told_by}
+use Rattle.proposal_lines.specs.declared.proposed.Proposed.{Proposed}
+use Rattle.proposal_lines.specs.declared.reads.ReadRequest.{ReadRequest}
+use Rattle.proposal_lines.specs.declared.reads.ReadRequest.TheVariants.{Book, Positions}
+use Rattle.proposal_lines.specs.declared.replies.ProposingReply.{ProposingReply}
+use Rattle.proposal_lines.specs.declared.replies.ProposingReply.TheVariants.{Told}
+use Rattle.proposal_lines.proofs.Clearing.{batch_is, chosen, clears_are_proved}
+use Rattle.proposal_lines.proofs.Kept.{best_proved, without_has}
+use Rattle.reply_ranges.proofs.Outcomes.{outcomes_are_ranged}
+use Rattle.reply_ranges.proofs.Refusals.{IsOne, IsTold, of_book, of_ledger, refusal_is_told}
+use Rattle.reply_ranges.proofs.States.{IsNumbered, batch_is_within, batch_ranged, market_batch}
+use Rattle.served_ranges.proofs.Fields.{IsPlaced, IsPlacedIn, number_at, positions_fields}
+use Rattle.served_ranges.proofs.Kept.{AreKeptWithin, IsBestWithin, best_within, offer_within}
+use Rattle.served_ranges.proofs.Others.{IsStanding, first_served, refusal_served, run_served}
+use Rattle.served_ranges.proofs.Texts.{IsServedText, proposal_text}
+
+-- ---- what is asked is within its ranges
+abbrev pub IsReadWithin : ReadRequest → Type 0
+IsReadWithin (Book market) = IsMarket market
+IsReadWithin (Positions account market) = Between 1 999999999 account × IsMarket market
+
+abbrev pub IsReadIn : Result ReadRequest Fault → Type 0
+IsReadIn asked = IfOk asked IsReadWithin
+
+book_within : (fields : List (List ℕ)) → IsReadIn (book_of fields)
+book_within fields =
+    either IsReadWithin (length fields == 2) _ _ (λ is. ok_unless IsReadWithin (fault_in 0 (MARKET ∷ []) fields) _ (λ e.
+    natural_between 1 999999999 (value_in fields MARKET) (one_asked MARKET fields [] e).0)) tt
+
+positions_within : (fields : List (List ℕ)) → IsReadIn (positions_asked fields)
+positions_within fields =
+    either IsReadWithin (length fields == 3) _ _ (λ is. ok_unless IsReadWithin (fault_in 0 positions_fields fields) _ (λ e.
+    let account = one_asked (number_at 2 999999999) fields (number_at 3 999999999 ∷ []) e in
+    let market = one_asked (number_at 3 999999999) fields [] account.1 in
+    (natural_between 1 999999999 (value_in fields (number_at 2 999999999)) account.0, natural_between 1 999999999 (value_in fields (number_at 3 999999999)) market.0))) tt
+
+read_by_word : (fields : List (List ℕ)) (book positions : Bool)
+    → IfSome (if book then Some (book_of fields) else if positions then Some (positions_asked fields) else None) IsReadIn
+read_by_word fields true positions = book_within fields
+read_by_word fields false true = positions_within fields
+read_by_word fields false false = tt
+
+pub reads_within : (line : List ℕ) → IfSome (read_of_line line) IsReadIn
+reads_within line =
+    elim (fields_of_line line) as (λ o. IfSome (option_map_or read_of o None) IsReadIn) [
+      | None ↦ tt
+      | Some fields ↦ read_by_word fields (bytes_eq (text_of fields 1) (codes "book")) (bytes_eq (text_of fields 1) (codes "positions"))
+    ]
+
+-- what is proposed
+abbrev pub IsProposedWithin : Proposed → Type 0
+IsProposedWithin proposed = IsMarket proposed.market × IsProposalWithin proposed.submission.proposal
+
+abbrev pub IsProposedIn : Result Proposed Fault → Type 0
+IsProposedIn said = IfOk said IsProposedWithin
+
+submitted_within : (text : List ℕ) (fields : List (List ℕ)) (value : Option Submission) → IfSome value (IsTextOf text)
+    → IfOk (with_some value (λ submission. unless (fault_in 0 (MARKET ∷ []) fields) (record { market = natural_in fields MARKET; submission = submission }))) IsProposedWithin
+submitted_within text fields None h = tt
+submitted_within text fields (Some submission) h =
+    ok_unless IsProposedWithin (fault_in 0 (MARKET ∷ []) fields) _ (λ e. (natural_between 1 999999999 (value_in fields MARKET) (one_asked MARKET fields [] e).0, h.0.0))
+
+pub proposed_within : (text : List ℕ) → IsProposedIn (proposed_of text)
+proposed_within text =
+    ok_some IsProposedWithin (position (λ b. b == 44) text) (proposed_at text) (λ place.
+    submitted_within (drop (place + 1) text) ([] ∷ take place text ∷ []) (submission_of (drop (place + 1) text)) (some_text (drop (place + 1) text)))
+
+-- ---- positions
+module _ (state : ExchangeState) (finished : state.book.finished ≤ 2000000) (accepted : state.book.accepted ≤ 1000000) (account market : ℕ) where
+  position_within : (p : Position) → IsNumbered state.book p → IsPositionKept state.accounts state.book.markets p → p.account ≡ account → p.market ≡ market → IsPositionWithin account market p
+  position_within p numbered kept own there = record {
+    account_is = own;
+    market_is = there;
+    batch = (numbered.0.0, omega (arith, numbered.0.1, finished));
+    order = (numbered.1.0, omega (arith, numbered.1.1, accepted));
+    listed = kept.options;
+    filled = let above = kept.filled in omega (arith, ints, above);
+  }
+
+  held_within : (ps : List Position) → All (IsNumbered state.book) ps → All (IsPositionKept state.accounts state.book.markets) ps
+      → All (IsPositionWithin account market) (positions_of account market ps)
+  held_within [] numbered kept = All-nil (IsPositionWithin account market)
+  held_within (p ∷ ps) numbered kept =
+      by (is_held_by account market p) refl
+      (held_within ps (All-tail (IsNumbered state.book) p ps numbered) (All-tail (IsPositionKept state.accounts state.book.markets) p ps kept))
+    where
+      by : (b : Bool) → is_held_by account market p ≡ b → All (IsPositionWithin account market) (positions_of account market ps)
+          → All (IsPositionWithin account market) (if b then p ∷ positions_of account market ps else positions_of account market ps)
+      by true e later =
+          let parts = and_parts (nat_eq p.account account) (nat_eq p.market market) e in
+          All-cons (IsPositionWithin account market) p (positions_of account market ps)
+          (position_within p (All-head (IsNumbered state.book) p ps numbered) (All-head (IsPositionKept state.accounts state.book.markets) p ps kept)
+          (same_number p.account account parts.0) (same_number p.market market parts.1)) later
+      by false e later = later
+
+-- ---- a bounded outcome
+-- a bound is the same as itself
+same_bound : (B : Fraction) → compared (Ok B) B ≡ judgement.Yes
+same_bound B = rw (same_passes B B refl) refl
+
+-- what is kept and takes the place of the outcome of its batch
+record IsKeptBetter (batch : Batch) (outcome : Outcome) (better : BoundedOutcome) : Type 0 where
+  yes : bounded_verdict_of limit batch better.proposal (fraction_of better.bound) ≡ judgement.Yes
+  within : IsProposalWithin better.proposal
+  units : better.units ≡ outcome.units
+
+module _ (state : ProposingState) (sound : IsSound state) (are : AreKeptWithin state.kept) (market : ℕ) (m : MarketState) (found : market_of state.exchange.book market ≡ Some m) where
+  abbrev batch : Batch
+  batch = batch_in state.exchange market
+
+  best_both : (best : Best) → best_in market (numbers_of batch.orders) state.kept ≡ Some best → IsProvedBest batch best × IsProposalWithin (as_proposal best)
+  best_both best e =
+      let is = batch_is state market m found in
+      let proved = best_proved state.exchange.book market m found state.kept sound.proved in
+      let own : IfSome (best_in market (numbers_of batch.orders) state.kept) (IsProvedBest batch)
+      = subst (λ (b : Batch). IfSome (best_in market (numbers_of b.orders) state.kept) (IsProvedBest b)) (sym is) proved in (
+        subst (λ o. IfSome o (IsProvedBest batch)) e own,
+        subst (λ o. IfSome o (λ best. IsProposalWithin (as_proposal best))) e (best_within market (numbers_of batch.orders) state.kept are),
+      )
+
+  kept_better : (outcome : Outcome) (better : BoundedOutcome) → bounded_in market (numbers_of batch.orders) outcome state.kept ≡ Some better → IsKeptBetter batch outcome better
+  kept_better outcome better e =
+      let c = chosen outcome (stop_of outcome.mark) (best_in market (numbers_of batch.orders) state.kept) better e in
+      let both = best_both c.kept c.is_kept in
+      let own = bounded_by c.kept c.stop outcome.units in
+      let kept : IsKeptBetter batch outcome own = record {
+        yes = ap (λ r. compared r (fraction_of c.kept.bounded.bound)) both.0 ∙ same_bound (fraction_of c.kept.bounded.bound);
+        within = both.1;
+        units = refl;
+      } in
+      subst (IsKeptBetter batch outcome) (sym c.is) kept
+
+-- ---- the lines
+module _ (lines number : ℕ) (few : lines + 1 ≤ 16777216) (is_line : IsLine number) (state : ProposingState) (stands : IsStanding lines state.exchange) (sound : IsSound state)
+    (are : AreKeptWithin state.kept) where
+  abbrev exchange : ExchangeState
+  exchange = state.exchange
+
+  abbrev IsServedReply : ProposingReply → Type 0
+  IsServedReply reply = IsServedText (proposing_reply_line number reply ++ 10 ∷ [])
+
+  refused_served : (first : Refusal) → IsTold first → IsServedReply (refused_by first)
+  refused_served = refusal_served lines number few is_line exchange stands
+
+  one_served : (refusals : List (Bool × Refusal)) (first : Refusal) → All IsOne refusals → first_of refusals ≡ Some first → IsServedReply (refused_by first)
+  one_served = first_served lines number few is_line exchange stands
+
+  -- the live orders of a market that is there
+  live_within : (market : ℕ) → first_of (by_book (live_refusals exchange.book market)) ≡ None → reply.IsBatchWithin (batch_in exchange market)
+  live_within market none =
+      let (m, found, unsettled) = listing_live exchange.book market (live_none exchange.book market none) in
+      subst reply.IsBatchWithin (sym (batch_is state market m found))
+      (batch_is_within exchange.book.accepted (batch_of m) (market_batch lines exchange stands.running stands.ranged market m found))
+
+  held_all : (account market : ℕ) → All (IsPositionWithin account market) (positions_of account market exchange.positions)
+  held_all account market =
+      let book = stands.running.kept.orders.book in
+      held_within exchange book.finished book.accepted account market exchange.positions stands.ranged.positions stands.running.kept.positions
+
+  -- what is read
+  told_served : (request : ReadRequest) → IsReadWithin request → first_of (read_refusals exchange request) ≡ None → IsServedReply (Told (told_by exchange request))
+  told_served (Book market) within none = proposal_text number (told.Book market (batch_in exchange market)) (is_line, (within, live_within market none)) tt
+  told_served (Positions account market) within none =
+      proposal_text number (told.Positions account market (positions_of account market exchange.positions))
+      (is_line, (within.0, within.1, recursion_from_All (IsPositionWithin account market) (positions_of account market exchange.positions) (held_all account market))) tt
+
+  refusals_told : (request : ReadRequest) → All IsOne (read_refusals exchange request)
+  refusals_told (Book market) = of_book (live_refusals exchange.book market)
+  refusals_told (Positions account market) =
+      All-append IsOne (by_book (live_refusals exchange.book market)) (by_ledger (account_refusals exchange.accounts account))
+      (of_book (live_refusals exchange.book market)) (of_ledger (account_refusals exchange.accounts account))
+
+  fault_served : (fault : Fault) → IsPlaced fault → IsServedReply (refused_by_fault fault)
+  fault_served Syntax is = refused_served refusal.Syntax ((omega arith, omega arith), refl)
+  fault_served (Range place) is = refused_served (refusal.Range place) ((omega arith, omega arith), is)
+
+  pub read_served : (asked : Result ReadRequest Fault) → IsPlacedIn asked → IsReadIn asked → IsServedReply (read_reply exchange asked)
+  read_served (Err fault) placed within = fault_served fault placed
+  read_served (Ok request) placed within = by (first_of (read_refusals exchange request)) refl
+    where
+      by : (r : Option Refusal) → first_of (read_refusals exchange request) ≡ r → IsServedReply (option_map_or refused_by r (Told (told_by exchange request)))
+      by (Some first) is = one_served (read_refusals exchange request) first (refusals_told request) is
+      by None none = told_served request within none
+
+  -- what is proposed
+  module _ (proposed : Proposed) (within : IsProposedWithin proposed) where
+    value_served : (bound : Option Frac128) → IsServedReply (Told (option_map_or (kept_by state.kept proposed) bound (unproved_effect state.kept failed.Wide)).0)
+    value_served None = proposal_text number (told.Unproved failed.Wide) (is_line, tt) tt
+    value_served (Some bound) = proposal_text number (kept_by state.kept proposed bound).0 (is_line, within.0) tt
+
+    judged_served : (bound : Result Fraction Reason) → IsServedReply (Told (judged_effect state.kept proposed bound).0)
+    judged_served (Err reason) = proposal_text number (judged_effect state.kept proposed (Err reason)).0 (is_line, tt) tt
+    judged_served (Ok B) = value_served (value_from B)
+
+    offered_served : (batch : Batch) → IsServedReply (Told (offered state.kept proposed batch).0)
+    offered_served batch =
+        elim (are_same_orders proposed.submission.orders (numbers_of batch.orders)) as (λ b.
+        IsServedReply (Told (if b then judged_effect state.kept proposed (proposal_bound limit batch proposed.submission.proposal) else stale_effect state.kept).0)) [
+          | true ↦ judged_served (proposal_bound limit batch proposed.submission.proposal)
+          | false ↦ proposal_text number told.Stale (is_line, tt) tt
+        ]
+
+  -- a sound line, and what is kept is within its ranges
+  abbrev IsServedNow : ProposingReply × ProposingState → Type 0
+  IsServedNow now = IsServedReply now.0 × AreKeptWithin now.1.kept
+
+  pub proposed_served : (said : Result Proposed Fault) → IsPlacedIn said → IsProposedIn said → IsServedNow (proposed_reply state said)
+  proposed_served (Err fault) placed within = (fault_served fault placed, are)
+  proposed_served (Ok proposed) placed within = by (first_of refusals) refl
+    where
+      refusals : List (Bool × Refusal)
+      refusals = by_book (live_refusals exchange.book proposed.market)
+
+      by : (r : Option Refusal) → first_of refusals ≡ r → IsServedNow (option_map_or (λ first. (refused_by first, state)) r (proposed_by state proposed))
+      by (Some first) is = (one_served refusals first (of_book (live_refusals exchange.book proposed.market)) is, are)
+      by None none =
+          let batch = batch_in exchange proposed.market in
+          (offered_served proposed within batch, offer_within state.kept are proposed within.1 batch)
+
+  -- a clear
+  module _ (market budget : ℕ) (listed : IsMarket market) (units : IsBudget budget) (accepted : refusal_of exchange (Clear market budget) ≡ None) where
+    bounded_served : (better : BoundedOutcome) → better_in state market budget ≡ Some better → IsClearedAs state market (reference_in state market budget) (Some better)
+        → IsServedNow (bounded_effect state market better)
+    bounded_served better e is =
+        let may = batch_none exchange.book market accepted in
+        let (m, found, more, unsettled) = finishable exchange.book market may in
+        let reference = reference_in state market budget in
+        let batch_of_it = batch_ranged lines exchange stands.running stands.ranged market may in
+        let kept = kept_better state sound are market m found reference better e in
+        let few_units = (outcomes_are_ranged (batch_in exchange market) budget batch_of_it.within units.1).0 in
+        let same = kept.units in (
+          proposal_text number (told.Bounded (exchange.book.finished + 1) market (batch_in exchange market) better)
+              (is_line, ((omega arith, omega (arith, more)), listed, batch_is_within exchange.book.accepted (batch_in exchange market) batch_of_it, (omega (arith, same, few_units), kept.within)))
+              (record { yes = kept.yes; covered = is.proves.covered; measured = is.proves.measured; bounds = is.proves.bounds }),
+          without_has IsBestWithin market state.kept are,
+        )
+
+    -- as a run has it
+    reference_served : IsServedNow (charge_effect state market (reference_in state market budget) None)
+    reference_served =
+        let run = run_served lines number few is_line exchange stands (body.Command (Clear market budget)) (listed, units) tt in
+        (subst (λ r. IsServedText (reply_line number (option_map_or (refusal_effect exchange) r (clear_effect exchange market budget)).0 ++ 10 ∷ [])) accepted run, are)
+
+    charge_served : (better : Option BoundedOutcome) → better_in state market budget ≡ better → IsClearedAs state market (reference_in state market budget) better
+        → IsServedNow (cleared_by state market budget better)
+    charge_served None e is = reference_served
+    charge_served (Some better) e is = bounded_served better e is
+
+  pub clear_served : (market budget : ℕ) → IsMarket market → IsBudget budget → IsServedNow (clear_reply state market budget)
+  clear_served market budget listed units = by (refusal_of exchange (Clear market budget)) refl
+    where
+      by : (r : Option Refusal) → refusal_of exchange (Clear market budget) ≡ r
+          → IsServedNow (option_map_or (λ first. (refused_by first, state)) r (cleared_by state market budget (better_in state market budget)))
+      by (Some first) is = (refused_served first (refusal_is_told exchange (Clear market budget) first is), are)
+      by None accepted = charge_served market budget listed units accepted (better_in state market budget) refl (clears_are_proved state market budget sound accepted)
