@@ -181,6 +181,7 @@ fn answer_lines<V: Server, K: Sink>(
     ensures ok { OnOk result (Appends (K.written sink.old) (K.written sink.new)
         (answers_text (answers_from V.reply (with_bodies gate.old (V.bodies server.old))
         (map (λ (l : SentLine). line_of l.number l.text.now) lines.now)))) }
+    ensures calm { OnOk result (K.faults sink.new ≡ K.faults sink.old) }
     ensures front { OnErr result (AppendsFront (K.written sink.old) (K.written sink.new)
         (answers_text (answers_from V.reply (with_bodies gate.old (V.bodies server.old))
         (map (λ (l : SentLine). line_of l.number l.text.now) lines.now)))) }
@@ -205,6 +206,7 @@ pub fn answer_messages<K: Sink>(alloc: Global, input: &[u8], sink: &mut K) -> Re
     requires { length input.now ≤ 16777216 }
     ensures ok { OnOk result
         (Appends (K.written sink.old) (K.written sink.new) (sessions_output input.now)) }
+    ensures calm { OnOk result (K.faults sink.new ≡ K.faults sink.old) }
     ensures front { OnErr result
         (AppendsFront (K.written sink.old) (K.written sink.new) (sessions_output input.now)) }
     ensures fault { IsErrOf result AnswerStop.WriteFault →
