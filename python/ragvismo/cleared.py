@@ -58,7 +58,8 @@ class Certificate:
 
     def check(self) -> None:
         """Asks `exchange audit`, which solves nothing, whether the fills cover the surplus at every price, at the mark
-        `optimal` whether none cover more, and at `bounded` whether none cover more than the bound. Raises `CheckFailed` where it says no, `NoProgram` where it is not there."""
+        `optimal` whether none cover more, and at `bounded` whether none cover more than the bound. Raises `CheckFailed` where it
+        says no, `NoProgram` where it is not there."""
         program.check(self.text + "\n", self.path)
 
 
