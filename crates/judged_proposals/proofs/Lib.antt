@@ -1,0 +1,5 @@
+mod Sums
+mod Payoffs
+mod NothingOwed
+mod Bounded
+pub mod NothingProposed

@@ -1,0 +1,107 @@
+-- What bundles pay where sizes are small together: each step fits.
+use Rattle.std.proofs.Common.{◌≡◌, ℕ, ◌+◌, ◌*◌, ◌≤◌, List, [], ◌∷◌, length, map, zip, ℤ, pos, negsuc, ◌+ℤ◌, ◌*ℤ◌, unsigned_abs, Ok, refl, ap, ◌∙◌, arith}
+use Rattle.std.specs.List.{All, sum}
+use Rattle.std.proofs.Math.Nat.{mul-le-mul_left}
+use Rattle.std.proofs.lemmas.Bool.{le-leb}
+use Rattle.std.proofs.lemmas.Int.{ints, unsigned_abs-mul}
+use Rattle.std.proofs.lemmas.List.Elements.{All-head, All-tail}
+use Rattle.std.proofs.lemmas.List.Sums.{sum_by-cons}
+use Rattle.exact_num.specs.Fits.{after}
+use Rattle.exact_num.specs.Fraction.{whole}
+use Rattle.exact_num.specs.Limit.{limit}
+use Rattle.exact_num.specs.Steps.{fold_steps, plus_product}
+use Rattle.exact_num.proofs.WholeNumbers.{add-wholes, mul-wholes}
+use Rattle.form.specs.declared.legs.Leg.{Leg}
+use Rattle.form.specs.declared.limits.TheConstants.{MAX_COUNT}
+use Rattle.form.specs.Legs.{IsCounted}
+use Rattle.form.specs.Payoff.{bundle_payoff, dot, leg_of, option_of, payoff, positive_part}
+use Rattle.form.specs.Steps.{add_entry, add_leg, or_zero, payoff_of}
+use Rattle.settlement.specs.declared.limits.TheConstants.{MAX_PAYOFF}
+
+-- ---- sums of products, of which the sizes are small together
+abbrev pub reach : List ℤ → List ℕ → ℕ
+reach [] z = 0
+reach (a ∷ v) [] = 0
+reach (a ∷ v) (x ∷ z) = unsigned_abs a * x + reach v z
+
+pub plus_fits : (t a b : ℤ) → unsigned_abs t + unsigned_abs (a *ℤ b) ≤ limit → plus_product limit (whole t) (whole a) (whole b) ≡ Ok (whole (t +ℤ (a *ℤ b)))
+plus_fits t a b le =
+    let product : unsigned_abs (a *ℤ b) ≤ limit = omega arith in
+    let first : unsigned_abs t ≤ limit = omega arith in
+    let both : unsigned_abs (t +ℤ (a *ℤ b)) ≤ limit = omega (arith, ints) in
+    rw (
+      mul-wholes limit a b (omega arith),
+      le-leb (unsigned_abs (a *ℤ b)) limit product,
+      add-wholes limit t (a *ℤ b) (omega arith) first product,
+      le-leb (unsigned_abs (t +ℤ (a *ℤ b))) limit both,
+    ) refl
+
+dot_fits : (t : ℤ) (v : List ℤ) (z : List ℕ) → unsigned_abs t + reach v z ≤ limit → fold_steps (add_entry limit) (whole t) (zip v z) ≡ Ok (whole (t +ℤ dot v z))
+dot_fits t [] z le = ap (λ (d : ℤ). Ok (whole d)) (omega (arith, ints))
+dot_fits t (a ∷ v) [] le = ap (λ (d : ℤ). Ok (whole d)) (omega (arith, ints))
+dot_fits t (a ∷ v) (x ∷ z) le =
+    let size = unsigned_abs-mul a (pos x) in
+    let step = plus_fits t a (pos x) (omega arith) in
+    ap (λ r. after r (λ next. fold_steps (add_entry limit) next (zip v z))) step
+    ∙ dot_fits (t +ℤ (a *ℤ pos x)) v z (omega (arith, ints))
+    ∙ ap (λ (d : ℤ). Ok (whole d)) (omega (arith, ints))
+
+dot_small : (v : List ℤ) (z : List ℕ) → unsigned_abs (dot v z) ≤ reach v z
+dot_small [] z = omega arith
+dot_small (a ∷ v) [] = omega arith
+dot_small (a ∷ v) (x ∷ z) = omega (arith, ints, unsigned_abs-mul a (pos x), dot_small v z)
+
+payoff_fits : (v : List ℤ) (z : List ℕ) → reach v z ≤ limit → payoff_of limit v z ≡ Ok (whole (pos (payoff v z)))
+unfolding payoff_of
+payoff_fits v z le =
+    let none : pos 0 +ℤ dot v z ≡ dot v z = omega (arith, ints) in
+    ap (λ r. after r (λ sum. Ok (or_zero sum))) (dot_fits (pos 0) v z (omega arith)) ∙ ap (λ (d : ℤ). Ok (whole (pos (positive_part d)))) none
+
+payoff_small : (v : List ℤ) (z : List ℕ) → payoff v z ≤ reach v z
+payoff_small v z = below (dot v z) (dot_small v z)
+  where
+    below : (d : ℤ) → unsigned_abs d ≤ reach v z → positive_part d ≤ reach v z
+    below (pos n) le = le
+    below (negsuc n) le = omega arith
+
+-- ---- legs
+abbrev pub sizes_of : List Leg → ℕ
+sizes_of legs = sum (map (λ (leg : Leg). unsigned_abs leg.count) legs)
+
+sizes_more : (leg : Leg) (legs : List Leg) → sizes_of (leg ∷ legs) ≡ unsigned_abs leg.count + sizes_of legs
+sizes_more leg legs = sum_by-cons (λ (n : ℕ). n) (unsigned_abs leg.count) (map (λ (leg : Leg). unsigned_abs leg.count) legs)
+
+pub sizes_few : (legs : List Leg) → All IsCounted legs → sizes_of legs ≤ length legs * MAX_COUNT
+sizes_few [] counted = omega arith
+sizes_few (leg ∷ legs) counted =
+    let first = All-head IsCounted leg legs counted in
+    omega (arith, sizes_more leg legs, first.1, sizes_few legs (All-tail IsCounted leg legs counted))
+
+module _ (z : List ℕ) where
+  abbrev pub IsSmall : Leg → Type 0
+  IsSmall leg = reach (option_of leg.form) z ≤ MAX_PAYOFF
+
+  leg_small : (leg : Leg) → IsSmall leg → unsigned_abs (leg.count *ℤ pos (payoff (option_of leg.form) z)) ≤ unsigned_abs leg.count * MAX_PAYOFF
+  leg_small leg small =
+      let pays : payoff (option_of leg.form) z ≤ MAX_PAYOFF = let low = payoff_small (option_of leg.form) z in omega arith in
+      let most = mul-le-mul_left (unsigned_abs leg.count) pays in
+      omega (arith, unsigned_abs-mul leg.count (pos (payoff (option_of leg.form) z)))
+
+  pub legs_fit : (t : ℤ) (legs : List Leg) → All IsSmall legs → unsigned_abs t + sizes_of legs * MAX_PAYOFF ≤ limit
+      → fold_steps (add_leg limit z) (whole t) (map leg_of legs) ≡ Ok (whole (t +ℤ bundle_payoff (map leg_of legs) z))
+  legs_fit t [] small le = ap (λ (d : ℤ). Ok (whole d)) (omega (arith, ints))
+  legs_fit t (leg ∷ legs) small le =
+      let first = All-head IsSmall leg legs small in
+      let pays = payoff_fits (option_of leg.form) z (omega arith) in
+      let more = sizes_more leg legs in
+      let size = leg_small leg first in
+      let amount = leg.count *ℤ pos (payoff (option_of leg.form) z) in
+      let step = ap (λ r. after r (λ h. plus_product limit (whole t) (whole leg.count) h)) pays ∙ plus_fits t leg.count (pos (payoff (option_of leg.form) z)) (omega arith) in
+      ap (λ r. after r (λ next. fold_steps (add_leg limit z) next (map leg_of legs))) step
+      ∙ legs_fit (t +ℤ amount) legs (All-tail IsSmall leg legs small) (omega (arith, ints))
+      ∙ ap (λ (d : ℤ). Ok (whole d)) (omega (arith, ints))
+
+  pub legs_small : (legs : List Leg) → All IsSmall legs → unsigned_abs (bundle_payoff (map leg_of legs) z) ≤ sizes_of legs * MAX_PAYOFF
+  legs_small [] small = omega arith
+  legs_small (leg ∷ legs) small =
+      omega (arith, ints, sizes_more leg legs, leg_small leg (All-head IsSmall leg legs small), legs_small legs (All-tail IsSmall leg legs small))

@@ -1,0 +1,305 @@
+//! Programs of nodes: the least liability that closes a leaf, or a ray on which none does.
+
+use crate::master::SMALL;
+use crate::{Book, NearLeg};
+use near_tables::{Table, Turns, add_entry, entry};
+use std::alloc::{AllocError, Global};
+
+// The turns of a node's program.
+const NODE_TURNS: Turns = Turns {
+    small: SMALL,
+    pivot: 5.960464477539063e-8,
+    cap: 400,
+};
+// The most that a multiplier of a long leg may be, in scaled fills.
+const TOP: f64 = 64.0;
+/// What is owed along a ray and counts for nothing: 2^-31.
+pub const RAY_TOLERANCE: f64 = 4.656612873077393e-10;
+
+/// What a leaf is solved for: the fills, a sign for each leg, whether the signs hold (else they only choose what a long
+/// leg pays), and how far below 0 each slope is to be.
+#[derive(Clone, Copy)]
+pub struct Question<'a> {
+    pub fills: &'a [f64],
+    pub signs: &'a [i8],
+    pub holds: bool,
+    pub below: f64,
+}
+
+/// The multiplier of the leg at a place.
+#[derive(Clone, Copy)]
+pub struct LegMultiplier {
+    pub leg: usize,
+    pub value: f64,
+}
+
+/// The answer: the liability wanted at a point, or a ray with what is owed along it; with the legs' multipliers.
+#[derive(Drop)]
+pub struct Found {
+    pub value: f64,
+    pub point: [f64; 9],
+    pub multipliers: Vec<LegMultiplier>,
+}
+
+impl Found {
+    /// Whether it is a ray.
+    pub fn is_ray(&self) -> bool {
+        self.point[0] == 0.0
+    }
+}
+
+// A column: the leg, the factor of its form, and its bound.
+#[derive(Clone, Copy)]
+struct Column {
+    leg: usize,
+    factor: f64,
+    form: [f64; 9],
+    bound: f64,
+}
+
+/// The sign of a leg.
+pub fn sign_at(signs: &[i8], leg: usize) -> i8 {
+    match signs.get(leg) {
+        Some(sign) => *sign,
+        None => 0,
+    }
+}
+
+/// The scaled fill of a leg.
+pub fn fill_of(leg: &NearLeg, fills: &[f64]) -> f64 {
+    entry(fills, leg.order) * leg.size
+}
+
+// Adds what a long leg counts for to the sums of the entries.
+fn add_long(sums: &mut [f64; 9], form: &[f64; 9], fill: f64, sign: i8) {
+    for (place, number) in form.iter().enumerate() {
+        if sign == 1 || *number > 0.0 {
+            add_entry(sums, place, fill * *number);
+        }
+    }
+}
+
+/// The sums of the entries before multipliers.
+pub fn long_sums(book: &Book, fills: &[f64], signs: &[i8]) -> [f64; 9] {
+    let mut sums = [0.0; 9];
+    for (i, leg) in book.legs.iter().enumerate() {
+        let sign = sign_at(signs, i);
+        let fill = fill_of(leg, fills);
+        if leg.is_long && sign >= 0 && fill > 0.0 {
+            add_long(&mut sums, &leg.form, fill, sign);
+        }
+    }
+    sums
+}
+
+// The column of a leg, where it has one.
+fn column_of(i: usize, leg: &NearLeg, question: Question) -> Option<Column> {
+    let sign = sign_at(question.signs, i);
+    let fill = fill_of(leg, question.fills);
+    if leg.is_long {
+        if !question.holds || sign == 0 {
+            return None;
+        }
+        let factor = if sign == 1 { 1.0 } else { -1.0 };
+        return Some(Column {
+            leg: i,
+            factor,
+            form: leg.form,
+            bound: TOP,
+        });
+    }
+    if fill <= 0.0 {
+        return None;
+    }
+    Some(Column {
+        leg: i,
+        factor: -1.0,
+        form: leg.form,
+        bound: fill,
+    })
+}
+
+fn columns_of(alloc: Global, book: &Book, question: Question) -> Result<Vec<Column>, AllocError> {
+    let mut columns = Vec::new(alloc);
+    for (i, leg) in book.legs.iter().enumerate() {
+        if let Some(column) = column_of(i, leg, question) {
+            columns.push(column)?;
+        }
+    }
+    Ok(columns)
+}
+
+// Row 0 asks for the least slack of all slopes, row 1 for the least first entry.
+fn set_objectives(table: &mut Table, columns: &[Column], sums: &[f64; 9]) {
+    for (j, column) in columns.iter().enumerate() {
+        table.set(1, j, column.factor * column.form[0]);
+        table.set_upper(j, column.bound);
+    }
+    table.set(0, columns.len(), 1.0);
+    table.set(1, table.width(), -sums[0]);
+}
+
+// The row of an underlying: its slope less the common slack is at most 0.
+fn add_slope(
+    table: &mut Table,
+    columns: &[Column],
+    sum: f64,
+    underlying: usize,
+    below: f64,
+) -> Result<(), AllocError> {
+    let mut row = Vec::new(table.allocator());
+    for column in columns {
+        row.push(column.factor * entry(&column.form, underlying))?;
+    }
+    row.push(-1.0)?;
+    row.push(-below - sum)?;
+    let _ = table.add_row(row)?;
+    Ok(())
+}
+
+// The row of the slope that is furthest above 0.
+fn worst_row(table: &Table) -> Option<usize> {
+    let side = table.width();
+    let mut worst = 0.0;
+    let mut place = None;
+    for (i, row) in table.rows().iter().enumerate() {
+        let right = entry(row, side);
+        if i >= 2 && right < worst {
+            worst = right;
+            place = Some(i);
+        }
+    }
+    place
+}
+
+// The prices of the slopes in an objective's row, behind a first entry.
+fn prices_in(table: &Table, objective: usize, first: f64) -> [f64; 9] {
+    let mut point = [0.0; 9];
+    add_entry(&mut point, 0, first);
+    for (j, variable) in table.other().iter().enumerate() {
+        add_price(&mut point, table.width(), *variable, table.at(objective, j));
+    }
+    point
+}
+
+// Writes the price of a slope, which is the entry at its slack: the variables from `slacks` on.
+fn add_price(point: &mut [f64; 9], slacks: usize, variable: usize, price: f64) {
+    if variable >= slacks && price > 0.0 {
+        add_entry(
+            point,
+            variable.saturating_sub(slacks).saturating_add(1),
+            price,
+        );
+    }
+}
+
+// The column with the largest entry of a row.
+fn largest_column(table: &Table, row: usize) -> Option<usize> {
+    let mut size = SMALL;
+    let mut column = None;
+    for j in 0..table.width() {
+        let number = table.at(row, j).abs();
+        if number > size {
+            size = number;
+            column = Some(j);
+        }
+    }
+    column
+}
+
+// Brings the slopes to 0; answers what is left of the slack.
+fn first_phase(table: &mut Table, slack: usize) -> Result<f64, AllocError> {
+    let Some(worst) = worst_row(table) else {
+        return Ok(0.0);
+    };
+    table.pivot(worst, slack)?;
+    table.primal(0, usize::MAX, NODE_TURNS)?;
+    let left = table.value_of(slack);
+    if left > RAY_TOLERANCE {
+        return Ok(left);
+    }
+    take_out(table, slack)?;
+    Ok(0.0)
+}
+
+// Makes the slack, which is 0, a variable that is not basic.
+fn take_out(table: &mut Table, slack: usize) -> Result<(), AllocError> {
+    let Some(row) = table.row_of(slack) else {
+        return Ok(());
+    };
+    let Some(column) = largest_column(table, row) else {
+        return Ok(());
+    };
+    table.set(row, table.width(), 0.0);
+    table.pivot(row, column)
+}
+
+// The multipliers of the columns that are above 0.
+fn read_multipliers(
+    table: &Table,
+    columns: &[Column],
+    found: &mut Found,
+) -> Result<(), AllocError> {
+    for (j, column) in columns.iter().enumerate() {
+        let value = table.value_of(j);
+        if value > 0.0 {
+            let leg = column.leg;
+            found.multipliers.push(LegMultiplier { leg, value })?;
+        }
+    }
+    Ok(())
+}
+
+// The rows of the first slopes.
+fn add_slopes(
+    table: &mut Table,
+    columns: &[Column],
+    sums: &[f64; 9],
+    underlyings: usize,
+    below: f64,
+) -> Result<(), AllocError> {
+    for underlying in 0..underlyings {
+        let place = underlying.saturating_add(1);
+        add_slope(table, columns, entry(sums, place), place, below)?;
+    }
+    Ok(())
+}
+
+// The node's table.
+fn table_of(
+    alloc: Global,
+    book: &Book,
+    columns: &[Column],
+    question: Question,
+) -> Result<Table, AllocError> {
+    let sums = long_sums(book, question.fills, question.signs);
+    let mut table = Table::new(alloc, columns.len().saturating_add(1), 2)?;
+    set_objectives(&mut table, columns, &sums);
+    add_slopes(&mut table, columns, &sums, book.underlyings, question.below)?;
+    Ok(table)
+}
+
+// The answer at the point of an objective whose first entry is given, without multipliers.
+fn found_at(alloc: Global, table: &Table, objective: usize, first: f64, value: f64) -> Found {
+    Found {
+        value,
+        point: prices_in(table, objective, first),
+        multipliers: Vec::new(alloc),
+    }
+}
+
+/// Solves the program of a node by at most 400 turns in each of its two phases. The error is want of memory.
+pub fn solve_node(alloc: Global, book: &Book, question: Question) -> Result<Found, AllocError> {
+    let columns = columns_of(alloc, book, question)?;
+    let slack = columns.len();
+    let mut table = table_of(alloc, book, &columns, question)?;
+    let left = first_phase(&mut table, slack)?;
+    if left > 0.0 {
+        return Ok(found_at(alloc, &table, 0, 0.0, left));
+    }
+    table.primal(1, slack, NODE_TURNS)?;
+    let value = -table.at(1, table.width());
+    let mut found = found_at(alloc, &table, 1, 1.0, value);
+    read_multipliers(&table, &columns, &mut found)?;
+    Ok(found)
+}

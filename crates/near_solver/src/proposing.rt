@@ -1,0 +1,21 @@
+//! The proposal that is handed out.
+
+ghost use Rattle.std.specs.Prelude.{IfOk};
+ghost use Rattle.form.specs.Limits.{IsWithinLimits};
+ghost use Rattle.judged_proposals.specs.Judged.{IsJudgedBound};
+
+use crate::solve::solve_near;
+use cert_check::Proposal;
+use form::Batch;
+use judged_proposals::judged_or_nothing;
+use std::alloc::{AllocError, Global};
+
+/// Fills of the batch near the greatest surplus, with the cover of their liability and a measure whose bound is near it too.
+/// The proposal is judged a bound: where what the solver found is not, it proposes nothing. The batch is within the limits of
+/// the exchange. The error is want of memory.
+pub fn propose(alloc: Global, batch: &Batch) -> Result<Proposal, AllocError>
+    requires within { IsWithinLimits batch.now }
+    ensures judged { IfOk result (IsJudgedBound batch.now) }
+{
+    judged_or_nothing(alloc, batch, solve_near(alloc, batch)?)
+}

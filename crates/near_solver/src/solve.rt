@@ -1,0 +1,291 @@
+//! The whole solver.
+
+use crate::answer::{Solved, answer_of};
+use crate::closing::{Closing, close_tree};
+use crate::line::line_liability;
+use crate::parts::{count_long, part_of};
+use crate::rounding::{
+    FILL_BITS, WholeMeasure, gains_of, less_fills, measure_of, premium, rounded_fills,
+};
+use cert_check::{Cover, Proposal};
+use form::Batch;
+use near_programs::numbers::{float_of, nearest_whole};
+use near_programs::points::{bend, unit_ray};
+use near_programs::{Book, Master, NearLeg, NearState, SMALL};
+use near_search::{Draws, Tree, Violated};
+use near_tables::{from_zero, power};
+use std::alloc::{AllocError, Global};
+
+// The attempt that fills nothing: how often fills are made less before there are none.
+const NOTHING: usize = 4;
+// The orders with a long leg in the first part.
+const FIRST_PART: usize = 12;
+// The most parts.
+const PARTS: u32 = 24;
+// The most rounds.
+const ROUNDS: u32 = 400;
+// The most states that climbs add in a round.
+const CLIMBED: u32 = 40;
+// What is forgiven of the surplus: 2^-22.
+const FORGIVEN: f64 = 2.384185791015625e-7;
+// What the random prices of each batch begin with.
+const SEED: u64 = 88_172_645_463_325_252;
+
+// Adds the ray of each price.
+fn add_rays(master: &mut Master, book: &Book) -> Result<(), AllocError> {
+    for underlying in 0..book.underlyings {
+        let _ = master.add_state(book, unit_ray(underlying.saturating_add(1)))?;
+    }
+    Ok(())
+}
+
+// Adds the states at which one price alone is above 0 and a leg begins or ends to pay.
+fn add_bends(master: &mut Master, book: &Book, leg: &NearLeg) -> Result<(), AllocError> {
+    for underlying in 0..book.underlyings {
+        if let Some(state) = bend(leg, underlying.saturating_add(1), book.scales) {
+            let _ = master.add_state(book, state)?;
+        }
+    }
+    Ok(())
+}
+
+// The master program over the states that each batch begins with.
+fn first_program(alloc: Global, book: &Book) -> Result<Master, AllocError> {
+    let mut master = Master::new(alloc, book)?;
+    add_rays(&mut master, book)?;
+    for leg in book.legs.iter() {
+        add_bends(&mut master, book, leg)?;
+    }
+    Ok(master)
+}
+
+// Keeps the measure of the lesser bound.
+fn keep_lesser(best: &mut Option<WholeMeasure>, measure: WholeMeasure) {
+    let is_lesser = match best {
+        Some(old) => measure.bound < old.bound,
+        None => true,
+    };
+    if is_lesser {
+        *best = Some(measure);
+    }
+}
+
+// One round: the master program, climbs, and where these find nothing the tree. Answers whether it is the last.
+fn round(
+    alloc: Global,
+    book: &Book,
+    master: &mut Master,
+    tree: &mut Tree,
+    draws: &mut Draws,
+) -> Result<bool, AllocError> {
+    let forgiven = from_zero(master.surplus(book)) * FORGIVEN + SMALL * 2.0;
+    let mut violated = Violated::new(alloc);
+    violated.climb_all(alloc, book, master, draws, forgiven)?;
+    if violated.add_greatest(book, master, CLIMBED)? > 0 {
+        return Ok(false);
+    }
+    let states = tree.grow(book, master, forgiven)?;
+    Ok(!add_all(book, master, &states)? || tree.is_full)
+}
+
+// Adds states. Answers whether one of them was new.
+fn add_all(book: &Book, master: &mut Master, states: &[NearState]) -> Result<bool, AllocError> {
+    let mut is_new = false;
+    for state in states {
+        if master.add_state(book, *state)? {
+            is_new = true;
+        }
+    }
+    Ok(is_new)
+}
+
+// All rounds. Answers the measure of the least bound.
+fn rounds(
+    alloc: Global,
+    book: &Book,
+    master: &mut Master,
+    tree: &mut Tree,
+) -> Result<Option<WholeMeasure>, AllocError> {
+    let mut best = None;
+    let mut draws = Draws { seed: SEED };
+    for _ in 0..ROUNDS {
+        master.solve(book)?;
+        let measure = measure_of(alloc, book, master)?;
+        keep_lesser(&mut best, measure);
+        if book.underlyings == 1 || round(alloc, book, master, tree, &mut draws)? {
+            break;
+        }
+    }
+    Ok(best)
+}
+
+// The scaled floats of whole fills.
+fn scaled_fills(alloc: Global, book: &Book, units: &[i128]) -> Result<Vec<f64>, AllocError> {
+    let unit = power(FILL_BITS) * power(book.scales.fill);
+    let mut fills = Vec::new(alloc);
+    for fill in units {
+        fills.push(float_of(*fill) / unit)?;
+    }
+    Ok(fills)
+}
+
+// The liability of fills and its cover.
+fn close(
+    alloc: Global,
+    book: &Book,
+    master: &Master,
+    tree: &Tree,
+    units: &[i128],
+) -> Result<Option<(i128, Cover)>, AllocError> {
+    if book.underlyings == 1 {
+        return Ok(line_liability(book, units).map(|liability| (liability, Cover::Line)));
+    }
+    let fills = scaled_fills(alloc, book, units)?;
+    let aim = master.liability + master.surplus(book).abs() * FORGIVEN * 2.0 + SMALL * 4.0;
+    let unit = power(FILL_BITS) * power(book.scales.fill) * power(book.scales.money);
+    let closing = Closing {
+        alloc,
+        book,
+        units,
+        fills: &fills,
+        enough: nearest_whole(aim * unit),
+    };
+    close_tree(closing, tree)
+}
+
+// Rounds, covers, and takes some away until the surplus is not below 0.
+fn finish(
+    alloc: Global,
+    book: &Book,
+    master: &Master,
+    tree: &Tree,
+    measure: &WholeMeasure,
+) -> Result<Option<Proposal>, AllocError> {
+    let rounded = rounded_fills(alloc, book, &master.fills)?;
+    if !tree.is_full {
+        for attempt in 0..NOTHING {
+            let units = less_fills(alloc, book, &rounded, attempt)?;
+            let found = covered(alloc, book, master, tree, measure, &units)?;
+            if found.is_some() {
+                return Ok(found);
+            }
+        }
+    }
+    let units = less_fills(alloc, book, &rounded, NOTHING)?;
+    let bare = Tree::new(alloc, book)?;
+    covered(alloc, book, master, &bare, measure, &units)
+}
+
+// The proposal of these fills. None where they do not close, or owe more than they earn.
+fn covered(
+    alloc: Global,
+    book: &Book,
+    master: &Master,
+    tree: &Tree,
+    measure: &WholeMeasure,
+    units: &[i128],
+) -> Result<Option<Proposal>, AllocError> {
+    let Some((liability, cover)) = close(alloc, book, master, tree, units)? else {
+        return Ok(None);
+    };
+    let surplus = premium(book, units).unwrap_or(-1).saturating_sub(liability);
+    if surplus < 0 {
+        return Ok(None);
+    }
+    let solved = Solved {
+        underlyings: book.underlyings,
+        time: book.scales.time,
+        fills: units,
+        liability,
+        surplus,
+        measure,
+    };
+    answer_of(alloc, &solved, cover)
+}
+
+// How many of the orders with a long leg the next part keeps, where a part of `fits` fits and one of `fails` does not: more by
+// a quarter, or between the two. None where they are near.
+fn next_kept(fits: usize, fails: usize) -> Option<usize> {
+    let more = fits.saturating_add(fits / 4).max(FIRST_PART);
+    if more < fails {
+        return Some(more);
+    }
+    let between = fits.saturating_add(fails.saturating_sub(fits) / 2);
+    if between > fits.saturating_add(fits / 32) {
+        Some(between)
+    } else {
+        None
+    }
+}
+
+// Solves the part that keeps so many. None where its tree is full.
+fn solve_part(
+    alloc: Global,
+    book: &Book,
+    gains: &[i128],
+    kept: usize,
+    measure: &WholeMeasure,
+) -> Result<Option<Proposal>, AllocError> {
+    let part = part_of(alloc, book, gains, kept)?;
+    let mut master = first_program(alloc, &part)?;
+    let mut tree = Tree::new(alloc, &part)?;
+    let _ = rounds(alloc, &part, &mut master, &mut tree)?;
+    if tree.is_full {
+        return Ok(None);
+    }
+    finish(alloc, &part, &master, &tree, measure)
+}
+
+// Solves parts of the book. Answers that of the largest part that fits.
+fn solve_parts(
+    alloc: Global,
+    book: &Book,
+    measure: &WholeMeasure,
+) -> Result<Option<Proposal>, AllocError> {
+    let gains = gains_of(alloc, book, measure)?;
+    let mut fits = 0usize;
+    let mut fails = count_long(book);
+    let mut best = None;
+    for _ in 0..PARTS {
+        let Some(kept) = next_kept(fits, fails) else {
+            break;
+        };
+        let found = solve_part(alloc, book, &gains, kept, measure)?;
+        if found.is_some() {
+            fits = kept;
+            best = found;
+        } else {
+            fails = kept;
+        }
+    }
+    Ok(best)
+}
+
+// The answer for the whole book: parts of it where its tree is full.
+fn answer(
+    alloc: Global,
+    book: &Book,
+    master: &Master,
+    tree: &Tree,
+    measure: &WholeMeasure,
+) -> Result<Option<Proposal>, AllocError> {
+    if tree.is_full {
+        let part = solve_parts(alloc, book, measure)?;
+        if part.is_some() {
+            return Ok(part);
+        }
+    }
+    finish(alloc, book, master, tree, measure)
+}
+
+/// A proposal for the batch that is near the greatest surplus, to be judged. None where a number does not fit; the error is
+/// want of memory.
+pub(crate) fn solve_near(alloc: Global, batch: &Batch) -> Result<Option<Proposal>, AllocError> {
+    let book = Book::new(alloc, batch)?;
+    let mut master = first_program(alloc, &book)?;
+    let mut tree = Tree::new(alloc, &book)?;
+    match rounds(alloc, &book, &mut master, &mut tree)? {
+        Some(measure) => answer(alloc, &book, &master, &tree, &measure),
+        None => Ok(None),
+    }
+}
