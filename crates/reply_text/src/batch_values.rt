@@ -1,18 +1,17 @@
 //! The orders and the batch that are taken out of a line, where they are within their ranges.
-ghost use Rattle.std.specs.Prelude.{◌≡◌, ◌≤◌, ◌*◌, IfOk, codes, length, map, option_map, unsigned_abs, nat_le};
-ghost use Rattle.std.specs.List.{list_all, sum};
+ghost use Rattle.std.specs.Prelude.{◌≡◌, IfOk, codes, option_map};
 ghost use Rattle.serde_json.specs.View.{view};
 ghost use Rattle.form.specs.BundleOf.{bundle_one};
-ghost use Rattle.form.specs.Bundles.{count_sizes};
-ghost use Rattle.reply_text.specs.BatchValues.{entry_from as entry_found, is_zero, has_limits as limits_kept, listed_form as form_listed, form_at as form_found, count_at as count_found, leg_from as leg_found, bundle_by, bundle_from as bundle_found, side_at as side_found, order_for as order_for_bundle, order_from as order_found};
+ghost use Rattle.reply_text.specs.BatchValues.{entry_from as entry_found, listed_form as form_listed, form_at as form_found, count_at as count_found, leg_from as leg_found, bundle_by, bundle_from as bundle_found, side_at as side_found, order_for as order_for_bundle, order_from as order_found};
 ghost use Rattle.reply_text.specs.ReplyValues.{batch_from as batch_found};
 ghost use Rattle.reply_text.specs.Taking.{list_at as list_found};
 
 use crate::taking::{account_at, list_at, natural_at, order_at, size_at};
 use form::{
-    Batch, Bundle, Form, Leg, MAX_COUNT, MAX_OPTIONS, MAX_ORDERS, MAX_PRICE, MAX_QUANTITY,
-    MAX_STRIKE, MAX_WEIGHT, Order, Orders, Side, are_legs,
+    Batch, Bundle, Form, Leg, MAX_COUNT, MAX_ORDERS, MAX_PRICE, MAX_QUANTITY, Order, Orders, Side,
+    are_legs,
 };
+use quick_reader::ranges::{has_few_options, has_limits};
 use reply_shape::look::{is_word, number_at};
 use serde_json::Value;
 use std::alloc::{AllocError, Global};
@@ -28,32 +27,6 @@ fn entries_at(alloc: Global, value: &Value) -> Result<Option<Vec<i64>>, AllocErr
         ≡ list_found (codes "form") entry_found (view value.now)) }
 {
     list_at(alloc, value, "form", |entry| Ok(entry_from(entry)))
-}
-
-fn are_small(weights: &[i64]) -> bool
-    ensures { result ≡ list_all (λ w. nat_le (unsigned_abs w) MAX_WEIGHT) weights.now }
-{
-    weights
-        .iter()
-        .all(|weight| weight.unsigned_abs() <= u64::from(MAX_WEIGHT))
-}
-
-fn are_zero(weights: &[i64]) -> bool
-    ensures { result ≡ list_all is_zero weights.now }
-{
-    weights.iter().all(|weight| weight.unsigned_abs() == 0)
-}
-
-// Whether a call or a put within the limits has this option, and some weight is not 0.
-fn has_limits(entries: &[i64]) -> bool
-    ensures { result ≡ limits_kept entries.now }
-{
-    match entries {
-        [] => false,
-        [strike, weights @ ..] => {
-            strike.unsigned_abs() <= MAX_STRIKE && are_small(weights) && !are_zero(weights)
-        }
-    }
 }
 
 fn listed_form(entries: &[i64]) -> Option<Form>
@@ -149,26 +122,6 @@ pub fn side_at(value: &Value) -> Option<Side>
     })
 }
 
-// The sum of the sizes of the counts of at most four legs.
-fn sizes(legs: &[Leg]) -> u64
-    requires { length legs.now ≤ 4 }
-    ensures sum { result ≡ sum (map (λ leg. unsigned_abs leg.count) legs.now) }
-    ensures bound { result ≤ 131072 }
-{
-    let mut sum = 0u64;
-    for leg in legs {
-        sum += u64::from(leg.count.unsigned_abs());
-    }
-    sum
-}
-
-// Whether an order may have so many of a bundle.
-fn is_within(bundle: &Bundle, quantity: u32) -> bool
-    ensures { result ≡ nat_le (quantity * count_sizes bundle.now) MAX_OPTIONS }
-{
-    u64::from(quantity) * sizes(bundle.as_slice()) <= u64::from(MAX_OPTIONS)
-}
-
 fn order_from(alloc: Global, value: &Value, single: bool) -> Result<Option<Order>, AllocError>
     ensures { IfOk result (λ o. o ≡ order_found single (view value.now)) }
 {
@@ -189,7 +142,7 @@ fn order_for(value: &Value, account: u32, bundle: Bundle) -> Option<Order>
     let price = natural_at(value, 0, MAX_PRICE, "price")?;
     let quantity = natural_at(value, 1, u64::from(MAX_QUANTITY), "quantity")? as u32;
     let side = side_at(value)?;
-    if !is_within(&bundle, quantity) {
+    if !has_few_options(&bundle, quantity) {
         return None;
     }
     Some(Order {

@@ -1,6 +1,6 @@
 use Rattle.std.proofs.Common.{◌≡◌, ◌+◌, ◌*◌, ◌≤◌, drop, map, unsigned_abs, sum}
 use Rattle.form.specs.declared.legs.Leg.{Leg}
-use Rattle.reply_text.proofs.batch_values.sizes.Given as goal
+use Rattle.quick_reader.proofs.ranges.sizes.Given as goal
 
 abbrev pub invariant-loop-leg : goal.invariant-loop-leg
 invariant-loop-leg l = record {

@@ -1,6 +1,6 @@
 use Rattle.std.proofs.Common.{arith}
 use Rattle.std.proofs.lemmas.Nat.{mul-le}
-use Rattle.reply_text.proofs.batch_values.is_within.Goals as goal
+use Rattle.quick_reader.proofs.ranges.has_few_options.Goals as goal
 
 pub overflow_mul-result : goal.overflow_mul-result
 overflow_mul-result c =
