@@ -15,7 +15,8 @@ use Rattle.proposal_text.specs.declared.replies.Failed.{Failed}
 use Rattle.proposal_text.specs.declared.replies.Failed.TheVariants as failed
 use Rattle.proposal_text.specs.declared.replies.ProposalReply.{ProposalReply}
 use Rattle.proposal_text.specs.declared.replies.ProposalReply.TheVariants.{Book, Positions, Proposed, Bounded, Stale, Unproved}
-use Rattle.proposal_text.specs.Pieces.{submission_piece, position_piece, stop_word, bounded_end, bounded_middle, failed_word, proposal_piece}
+use Rattle.reply_print.specs.ReplyPieces.{position_piece}
+use Rattle.proposal_text.specs.Pieces.{submission_piece, stop_word, bounded_end, bounded_middle, failed_word, proposal_piece}
 
 pub submission_plain : (s : Submission) → HasPlainTexts (submission_piece s)
 submission_plain s = (

@@ -37,7 +37,8 @@ use Rattle.proposal_text.specs.declared.replies.Failed.{Failed}
 use Rattle.proposal_text.specs.declared.replies.Failed.TheVariants as failed
 use Rattle.proposal_text.specs.declared.replies.ProposalReply.{ProposalReply}
 use Rattle.proposal_text.specs.declared.replies.ProposalReply.TheVariants.{Book, Positions, Proposed, Bounded, Stale, Unproved}
-use Rattle.proposal_text.specs.Pieces.{submission_piece, position_piece, stop_word, failed_word, proposal_piece}
+use Rattle.reply_print.specs.ReplyPieces.{position_piece}
+use Rattle.proposal_text.specs.Pieces.{submission_piece, stop_word, failed_word, proposal_piece}
 use Rattle.proposal_text.specs.ReplyShapes.{position_shape, position_numbers, is_stop, is_failed}
 use Rattle.proposal_text.specs.ReplyValues.{filled, position_of, position_from, stop_by_word, bounded_of, failed_by_word, proposal_tests}
 use Rattle.proposal_text.specs.Submissions.{proposal_from, order_number_from, few_numbers, submission_with, submission_shape, proposal_numbers, submission_from}

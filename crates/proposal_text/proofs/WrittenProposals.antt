@@ -14,7 +14,8 @@ use Rattle.proposal_text.specs.declared.submissions.Submission.{Submission}
 use Rattle.proposal_text.specs.declared.replies.BoundedOutcome.{BoundedOutcome}
 use Rattle.proposal_text.specs.declared.replies.ProposalReply.{ProposalReply}
 use Rattle.proposal_text.specs.declared.replies.ProposalReply.TheVariants.{Book, Positions, Proposed, Bounded, Stale, Unproved}
-use Rattle.proposal_text.specs.Pieces.{submission_piece, position_piece, bounded_end, bounded_middle, proposal_piece}
+use Rattle.reply_print.specs.ReplyPieces.{position_piece}
+use Rattle.proposal_text.specs.Pieces.{submission_piece, bounded_end, bounded_middle, proposal_piece}
 use Rattle.proposal_text.specs.Within.{IsSubmissionWithin, IsPositionWithin, IsBoundedWithin, IsProposalLineWithin}
 use Rattle.proposal_text.proofs.PlainProposals.{stop_plain, failed_plain}
 

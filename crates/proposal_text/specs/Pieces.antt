@@ -1,17 +1,15 @@
 -- What proposals and the replies about them are written as.
 use Rattle.std.specs.Prelude.{ℕ, List, false, codes}
 use Rattle.form.specs.declared.orders.Batch.{Batch}
-use Rattle.form.specs.Bundles.{legs_in}
-use Rattle.form.specs.Sides.{side_word}
 use Rattle.cert_check.specs.declared.outcome.No.TheVariants as no
 use Rattle.cert_check.specs.declared.outcome.Unproved.{Unproved as Reason}
 use Rattle.cert_check.specs.declared.outcome.Unproved.TheVariants as unproved
 use Rattle.frac.specs.declared.frac128.Frac128.{Frac128}
 use Rattle.settlement.specs.declared.position.Position.{Position}
-use Rattle.reply_print.specs.BatchPieces.{natural, fraction, each, leg_piece, order_piece}
+use Rattle.reply_print.specs.BatchPieces.{natural, fraction, each, order_piece}
 use Rattle.reply_print.specs.OutcomePieces.{certificate_piece}
 use Rattle.reply_print.specs.Piece.{Piece, words, object, Fields, no_fields, field, piece_text}
-use Rattle.reply_print.specs.ReplyPieces.{refused_with}
+use Rattle.reply_print.specs.ReplyPieces.{position_piece, refused_with}
 use Rattle.proposal_text.specs.declared.submissions.Submission.{Submission}
 use Rattle.proposal_text.specs.declared.replies.RunStop.{RunStop}
 use Rattle.proposal_text.specs.declared.replies.RunStop.TheVariants as stop
@@ -44,14 +42,6 @@ book_piece line market batch =
     (field (codes "orders") (each (order_piece false) batch.orders)
     (field (codes "reply") (words (codes "book"))
     (field (codes "underlyings") (natural batch.underlyings) no_fields)))))
-
-abbrev pub position_piece : Position → Piece
-position_piece p =
-    object (field (codes "batch") (natural p.batch)
-    (field (codes "fill") (fraction p.fill)
-    (field (codes "legs") (each leg_piece (legs_in p.bundle))
-    (field (codes "order") (natural p.order)
-    (field (codes "side") (words (side_word p.side)) no_fields)))))
 
 abbrev pub positions_piece : ℕ → ℕ → ℕ → List Position → Piece
 positions_piece line account market positions =

@@ -1,14 +1,13 @@
 //! The texts of proposals: what a line proposes, and the replies that `serve` has beside those of a run, both ways.
 #![tactic(auto)]
 
-mod bounded_values;
+mod bounded_lines;
 pub mod laws;
 mod printing;
 pub mod reading;
 pub mod replies;
 mod reply_shapes;
 mod reply_values;
-mod small_values;
 pub mod submission_text;
 pub mod submissions;
 

@@ -1,36 +1,130 @@
-// The lines of replies.
-ghost use Rattle.std.specs.Prelude.{◌≡◌, IfOk};
-ghost use Rattle.serde_json.specs.View.{view};
-ghost use Rattle.reply_print.specs.PieceData.{piece_data};
-ghost use Rattle.proposal_text.specs.Pieces.{proposal_line, proposal_piece};
+// The lines of replies, put together from their pieces.
+ghost use Rattle.std.specs.Prelude.{◌≡◌, ◌++◌, IfOk, OnOk, codes, false};
+ghost use Rattle.reply_print.specs.Piece.{piece_text};
+ghost use Rattle.reply_print.specs.ReplyPieces.{refused_with};
+ghost use Rattle.proposal_text.specs.Pieces.{book_piece, failed_word, positions_piece, proposal_line, proposal_piece, proposed_piece, unproved_piece};
 
-use crate::bounded_values::bounded_value;
-use crate::replies::ProposalReply;
-use crate::small_values::{
-    book_value, positions_value, proposed_value, stale_value, unproved_value,
-};
-use serde_json::Value;
+use crate::bounded_lines::add_bounded;
+use crate::replies::{Failed, ProposalReply};
+use form::Batch;
+use frac::Frac128;
+use reply_print::printed_orders::add_orders;
+use reply_print::printing::{add_field, add_items, add_key, add_number, add_words, append};
+use settlement::Position;
 use std::alloc::{AllocError, Global};
 
-fn reply_value(alloc: Global, line: u32, reply: &ProposalReply) -> Result<Value, AllocError>
-    ensures { IfOk result (λ v. view v ≡ piece_data (proposal_piece line reply.now)) }
+fn add_book(line: &mut Vec<u8>, at: u32, market: u32, batch: &Batch) -> Result<(), AllocError>
+    ensures { OnOk result (line.new.items
+        ≡ line.old.items ++ piece_text (book_piece at market batch.now)) }
+{
+    append(line, "{")?;
+    add_number(line, false, "line", u64::from(at))?;
+    add_number(line, true, "market", u64::from(market))?;
+    add_key(line, true, "orders")?;
+    add_orders(line, batch.orders.as_slice(), false)?;
+    add_words(line, true, "reply", "book")?;
+    add_number(line, true, "underlyings", u64::from(batch.underlyings))?;
+    append(line, "}")
+}
+
+fn add_positions(
+    line: &mut Vec<u8>,
+    at: u32,
+    account: u32,
+    market: u32,
+    positions: &[Position],
+) -> Result<(), AllocError>
+    ensures { OnOk result (line.new.items
+        ≡ line.old.items ++ piece_text (positions_piece at account market positions.now)) }
+{
+    append(line, "{")?;
+    add_number(line, false, "account", u64::from(account))?;
+    add_number(line, true, "line", u64::from(at))?;
+    add_number(line, true, "market", u64::from(market))?;
+    add_items(line, true, "positions", positions)?;
+    add_words(line, true, "reply", "positions")?;
+    append(line, "}")
+}
+
+fn add_proposed(
+    line: &mut Vec<u8>,
+    at: u32,
+    market: u32,
+    proved: (Frac128, Frac128),
+    best: (Frac128, Frac128),
+) -> Result<(), AllocError>
+    ensures { OnOk result (line.new.items ≡ line.old.items
+        ++ piece_text (proposed_piece at market proved.0 proved.1 best.0 best.1)) }
+{
+    append(line, "{")?;
+    add_field(line, false, "best_surplus", &best.0)?;
+    add_field(line, true, "bound", &proved.1)?;
+    add_field(line, true, "least_bound", &best.1)?;
+    add_number(line, true, "line", u64::from(at))?;
+    add_number(line, true, "market", u64::from(market))?;
+    add_words(line, true, "reply", "proposed")?;
+    add_field(line, true, "surplus", &proved.0)?;
+    append(line, "}")
+}
+
+fn add_stale(line: &mut Vec<u8>, at: u32) -> Result<(), AllocError>
+    ensures { OnOk result (line.new.items
+        ≡ line.old.items ++ piece_text (refused_with false at 20 0 (codes "Stale"))) }
+{
+    append(line, "{")?;
+    add_number(line, false, "line", u64::from(at))?;
+    add_number(line, true, "number", 20)?;
+    add_words(line, true, "reason", "Stale")?;
+    add_words(line, true, "reply", "refused")?;
+    append(line, "}")
+}
+
+fn word(failed: Failed) -> &'static str
+    ensures { result.now ≡ failed_word failed }
+{
+    match failed {
+        Failed::BatchShape => "BatchShape",
+        Failed::Fill => "Fill",
+        Failed::Cover => "Cover",
+        Failed::Measure => "Measure",
+        Failed::Wide => "Wide",
+    }
+}
+
+fn add_unproved(line: &mut Vec<u8>, at: u32, failed: Failed) -> Result<(), AllocError>
+    ensures { OnOk result (line.new.items
+        ≡ line.old.items ++ piece_text (unproved_piece at failed)) }
+{
+    append(line, "{")?;
+    add_words(line, false, "failed", word(failed))?;
+    add_number(line, true, "line", u64::from(at))?;
+    add_number(line, true, "number", 21)?;
+    add_words(line, true, "reason", "Unproved")?;
+    add_words(line, true, "reply", "refused")?;
+    append(line, "}")
+}
+
+// Adds a reply.
+fn add_reply(line: &mut Vec<u8>, at: u32, reply: &ProposalReply) -> Result<(), AllocError>
+    ensures { OnOk result (line.new.items
+        ≡ line.old.items ++ piece_text (proposal_piece at reply.now)) }
 {
     match reply {
-        ProposalReply::Book { market, batch } => book_value(alloc, line, *market, batch),
+        ProposalReply::Book { market, batch } => add_book(line, at, *market, batch),
         ProposalReply::Positions {
             account,
             market,
             positions,
-        } => positions_value(alloc, line, *account, *market, positions.as_slice()),
+        } => add_positions(line, at, *account, *market, positions.as_slice()),
         ProposalReply::Proposed {
             market,
             surplus,
             bound,
             best_surplus,
             least_bound,
-        } => proposed_value(
-            alloc,
+        } => add_proposed(
             line,
+            at,
             *market,
             (*surplus, *bound),
             (*best_surplus, *least_bound),
@@ -40,9 +134,9 @@ fn reply_value(alloc: Global, line: u32, reply: &ProposalReply) -> Result<Value,
             market,
             batch,
             outcome,
-        } => bounded_value(alloc, line, *number, *market, batch, outcome),
-        ProposalReply::Stale => stale_value(alloc, line),
-        ProposalReply::Unproved { failed } => unproved_value(alloc, line, *failed),
+        } => add_bounded(line, at, *number, *market, batch, outcome),
+        ProposalReply::Stale => add_stale(line, at),
+        ProposalReply::Unproved { failed } => add_unproved(line, at, *failed),
     }
 }
 
@@ -54,6 +148,7 @@ pub fn print_proposal_reply(
 ) -> Result<Vec<u8>, AllocError>
     ensures { IfOk result (λ text. text.items ≡ proposal_line line reply.now) }
 {
-    let value = reply_value(alloc, line, reply)?;
-    value.to_vec(alloc)
+    let mut text = Vec::new(alloc);
+    add_reply(&mut text, line, reply)?;
+    Ok(text)
 }

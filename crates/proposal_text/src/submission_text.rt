@@ -1,8 +1,7 @@
 //! What a line proposes, both ways.
-ghost use Rattle.std.specs.Prelude.{◌≡◌, ◌⊎◌, ◌↔◌, ◌&&◌, IfErr, IfOk, IfSome, IsTrue, Err, Ok, Some, option_map, codes};
+ghost use Rattle.std.specs.Prelude.{◌≡◌, ◌⊎◌, ◌↔◌, ◌&&◌, ◌++◌, IfErr, IfOk, IfSome, IsTrue, OnOk, Err, Ok, Some, option_map, codes};
 ghost use Rattle.serde_json.specs.View.{view};
-ghost use Rattle.reply_print.specs.BatchPieces.{each, natural};
-ghost use Rattle.reply_print.specs.PieceData.{piece_data};
+ghost use Rattle.reply_print.specs.Piece.{piece_text};
 ghost use Rattle.reply_shape.specs.ClearedShape.{certificate_shape as certificate_is};
 ghost use Rattle.reply_shape.specs.Look.{has_at as passes_at, is_list as list_passes, is_text as text_value, is_whole as whole_number};
 ghost use Rattle.reply_shape.specs.NumberTexts.{certificate_numbers as certificate_is_numbered, is_fraction as fraction_text};
@@ -19,9 +18,8 @@ use form::MAX_ORDERS;
 use frac::Frac128;
 use proposals::OrderNumbers;
 use reply_print::limits::MAX_ORDER;
-use reply_print::members::with;
-use reply_print::order_values::{fills_value, fraction_value};
-use reply_print::outcome_values::certificate_value;
+use reply_print::printed_outcomes::add_certificate;
+use reply_print::printing::{add_field, add_items, add_key, append};
 use reply_shape::cleared_numbers::{are_fills, certificate_numbers, has_fraction};
 use reply_shape::cleared_shape::{are_texts, certificate_shape};
 use reply_shape::look::{has_at, has_members, has_text, is_list, is_whole};
@@ -29,48 +27,32 @@ use reply_text::LineFault;
 use reply_text::certificate_values::{certificate_at, fills_at, fraction_at};
 use reply_text::reading::{is_same, json_value};
 use reply_text::taking::{from_to, list_at};
-use serde_json::{Map, Value};
+use serde_json::Value;
 use std::alloc::{AllocError, Global};
 
-fn number_value(number: u64) -> Value
-    ensures { view result ≡ piece_data (natural number) }
-{
-    Value::from(number)
-}
-
-fn numbers_value(alloc: Global, numbers: &[u64]) -> Result<Value, AllocError>
-    ensures { IfOk result (λ v. view v ≡ piece_data (each natural numbers.now)) }
-{
-    let mut values = Vec::new(alloc);
-    for number in numbers {
-        values.push(number_value(*number))?;
-    }
-    Ok(Value::Array(values))
-}
-
-fn submission_value(alloc: Global, submission: &Submission) -> Result<Value, AllocError>
-    ensures { IfOk result (λ v. view v ≡ piece_data (submission_piece submission.now)) }
+// Adds what is proposed.
+fn add_submission(line: &mut Vec<u8>, submission: &Submission) -> Result<(), AllocError>
+    ensures { OnOk result (line.new.items
+        ≡ line.old.items ++ piece_text (submission_piece submission.now)) }
 {
     let proposal = &submission.proposal;
-    let surplus = fraction_value(alloc, proposal.claim.surplus)?;
-    let orders = numbers_value(alloc, submission.orders.as_slice())?;
-    let liability = fraction_value(alloc, proposal.claim.liability)?;
-    let fills = fills_value(alloc, proposal.fills.as_slice())?;
-    let certificate = certificate_value(alloc, &proposal.cover, &proposal.measure)?;
-    let map = with(alloc, Map::new(alloc), "surplus", surplus)?;
-    let map = with(alloc, map, "orders", orders)?;
-    let map = with(alloc, map, "liability", liability)?;
-    let map = with(alloc, map, "fills", fills)?;
-    let map = with(alloc, map, "certificate", certificate)?;
-    Ok(Value::Object(map))
+    append(line, "{")?;
+    add_key(line, false, "certificate")?;
+    add_certificate(line, &proposal.cover, &proposal.measure)?;
+    add_items(line, true, "fills", proposal.fills.as_slice())?;
+    add_field(line, true, "liability", &proposal.claim.liability)?;
+    add_items(line, true, "orders", submission.orders.as_slice())?;
+    add_field(line, true, "surplus", &proposal.claim.surplus)?;
+    append(line, "}")
 }
 
 /// The text of what is proposed. The only error is want of memory.
 pub fn print_submission(alloc: Global, submission: &Submission) -> Result<Vec<u8>, AllocError>
     ensures { IfOk result (λ text. text.items ≡ submission_text submission.now) }
 {
-    let value = submission_value(alloc, submission)?;
-    value.to_vec(alloc)
+    let mut text = Vec::new(alloc);
+    add_submission(&mut text, submission)?;
+    Ok(text)
 }
 
 fn has_certificate(value: &Value) -> bool

@@ -8,4 +8,4 @@ pub mod Ascii
 pub mod WrittenReplies
 pub mod LineLaws
 pub mod Pushes
-pub mod Nodes
+pub mod Behind

@@ -7,5 +7,4 @@ pub mod BatchPieces
 pub mod OutcomePieces
 pub mod ReplyPieces
 pub mod Within
-pub mod CertificateMember
 pub mod Laws

@@ -4,11 +4,14 @@ use Rattle.form.specs.declared.orders.Side.{Side}
 use Rattle.form.specs.declared.orders.Side.TheVariants.{Buy, Sell}
 use Rattle.cert_check.specs.declared.outcome.Mark.{Mark}
 use Rattle.cert_check.specs.declared.outcome.Outcome.{Outcome}
+use Rattle.form.specs.Bundles.{legs_in}
+use Rattle.form.specs.Sides.{side_word}
 use Rattle.form.specs.declared.orders.Batch.{Batch}
 use Rattle.settlement.specs.declared.position.PaidOut.{PaidOut}
+use Rattle.settlement.specs.declared.position.Position.{Position}
 use Rattle.reply_print.specs.declared.replies.Reply.{Reply}
 use Rattle.reply_print.specs.declared.replies.Reply.TheVariants.{Opened, Deposited, Withdrawn, Listed, Placed, Cancelled, Cleared, Settled, Balance, Refused}
-use Rattle.reply_print.specs.BatchPieces.{natural, whole_words, fraction, each, are_single, order_piece, version_of}
+use Rattle.reply_print.specs.BatchPieces.{natural, whole_words, fraction, each, leg_piece, are_single, order_piece, version_of}
 use Rattle.reply_print.specs.OutcomePieces.{certificate_field, wide_field}
 use Rattle.reply_print.specs.Piece.{Piece, words, object, Fields, no_fields, field, piece_text}
 use Rattle.reply_print.specs.Words.{mark_word, is_range_refusal, reason_word}
@@ -73,6 +76,15 @@ paid_piece paid =
     (field (codes "amount") (whole_words (signed_amount paid.side paid.amount))
     (field (codes "batch") (natural paid.batch)
     (field (codes "order") (natural paid.order) no_fields))))
+
+-- fills that an account holds
+abbrev pub position_piece : Position → Piece
+position_piece p =
+    object (field (codes "batch") (natural p.batch)
+    (field (codes "fill") (fraction p.fill)
+    (field (codes "legs") (each leg_piece (legs_in p.bundle))
+    (field (codes "order") (natural p.order)
+    (field (codes "side") (words (side_word p.side)) no_fields)))))
 
 abbrev pub settled_piece : ℕ → ℕ → ℕ → List PaidOut → Piece
 settled_piece line market lapsed payouts =

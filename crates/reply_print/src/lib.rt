@@ -1,20 +1,19 @@
 //! Replies, what each is written as, and its line.
 #![tactic(auto)]
 
-mod cleared_values;
+mod cleared_lines;
 pub mod laws;
 pub mod limits;
 mod lines;
-pub mod members;
-pub mod order_values;
-pub mod outcome_values;
+pub mod printed_orders;
+pub mod printed_outcomes;
+pub mod printing;
 pub mod replies;
 mod small_lines;
-mod small_values;
+pub mod small_values;
 pub mod words;
 
 pub use lines::print;
-pub use order_values::fraction_string;
-pub use outcome_values::state_value;
 pub use replies::Reply;
 pub use settlement::{PaidOut, Payouts};
+pub use small_values::{fraction_string, state_value};

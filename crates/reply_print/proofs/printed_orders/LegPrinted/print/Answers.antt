@@ -1,0 +1,15 @@
+use Rattle.std.proofs.Common.{codes, ◌∙◌}
+use Rattle.std.proofs.lemmas.Result.{on_ok_weaker}
+use Rattle.reply_print.specs.BatchPieces.{form_piece}
+use Rattle.reply_print.specs.Piece.{no_fields, field}
+use Rattle.reply_print.proofs.Behind.{closed}
+use Rattle.reply_print.proofs.printed_orders.LegPrinted.print.Goals as goal
+
+pub returns : goal.returns
+returns c =
+    let form = field (codes "form") (form_piece c.args.self.now.form) no_fields in
+    let fields = c.in_ok-add_field-2.ensures no_fields ∙ c.in_ok-add_field.ensures form in
+    on_ok_weaker c.append-2.result
+    (λ e. closed c.args.line.now.items c.append.new.line.items c.add_field-2.new.line.items c.append-2.new.line.items _ c.in_ok-append.ensures
+    (rw c.from.ensures at fields) e)
+    c.append-2.ensures
