@@ -1,21 +1,19 @@
-//! Cases from outside, each operation through the bound `Exact`.
+//! Fractions, each operation through the bound `Exact`: from the text of what is asked to that of the answer.
 ghost use Rattle.std.specs.Prelude.{◌<◌, ◌*◌, ◌^◌};
 ghost use Rattle.std.specs.Int.{div_ceil};
 
-use crate::fraction_table::{
-    DIVISORS, LIMITS, NARROW_NUMBERS, NARROW_OPERATIONS, OPERATIONS, ORDERS,
-};
+use crate::printing::{print_number, print_wide};
 use crate::reading::parts;
 use anyhow::{Context, Result, bail};
 use exact_num::{Exact, Operator, Wide};
 use frac::{Frac64, Frac128, gcd, mul_div_ceil, mul_div_floor, widen};
+use std::alloc::{AllocError, Global};
 use std::cmp::Ordering;
-use std::process::Abort;
 
 // A numerator and a denominator.
 type Parts = (i128, i128);
 
-#[derive(Clone, Copy, Debug)]
+#[derive(Clone, Copy)]
 enum Operation {
     Add,
     Sub,
@@ -33,21 +31,15 @@ fn operation_of(word: &str) -> Result<Operation> {
     }
 }
 
-// An operation and its operands.
-fn asked(text: &str) -> Result<(Operation, Parts, Parts)> {
-    let mut words = text.split_whitespace();
-    let operation = operation_of(words.next().context("an operation")?)?;
-    let left = parts(words.next().context("a left operand")?)?;
-    let right = parts(words.next().context("a right operand")?)?;
-    Ok((operation, left, right))
+// Two words with a blank between them.
+fn pair(text: &str) -> Result<(&str, &str)> {
+    text.trim().split_once(' ').context("two operands")
 }
 
-// The value of a text, or this refusal where it says that none fits.
-fn answer(text: &str, refusal: Wide) -> Result<Result<Parts, Wide>> {
-    match text.trim() {
-        "wide" => Ok(Err(refusal)),
-        value => Ok(Ok(parts(value)?)),
-    }
+// Two fractions.
+fn operands(text: &str) -> Result<(Parts, Parts)> {
+    let (left, right) = pair(text)?;
+    Ok((parts(left)?, parts(right)?))
 }
 
 fn number<N: Exact>(parts: Parts) -> Result<N, Wide> {
@@ -64,16 +56,19 @@ fn quotient<N: Exact>(left: N, right: N) -> Result<N, Wide> {
     }
 }
 
-fn value<N: Exact>(operation: Operation, left: Parts, right: Parts) -> Result<Parts, Wide> {
-    let x = number::<N>(left)?;
-    let y = number::<N>(right)?;
-    let value = match operation {
+fn result<N: Exact>(operation: Operation, x: N, y: N) -> Result<N, Wide> {
+    match operation {
         Operation::Add => x.add(y),
         Operation::Sub => x.sub(y),
         Operation::Mul => x.mul(y),
         Operation::Div => quotient(x, y),
-    }?;
-    Ok(value.parts())
+    }
+}
+
+fn value<N: Exact>(operation: Operation, left: Parts, right: Parts) -> Result<Parts, Wide> {
+    let x = number::<N>(left)?;
+    let y = number::<N>(right)?;
+    Ok(result(operation, x, y)?.parts())
 }
 
 // What an operation that does not fit answers: a difference is the sum with the negated number.
@@ -100,80 +95,79 @@ fn whole_refusal(number: i128) -> Wide {
     }
 }
 
-// Whether each row's operation has its answer: at the first that does not the test tells the two.
-fn assert_rows<N: Exact>(rt: &impl Abort, rows: &str) -> Result<()> {
-    for line in rows.split('\n') {
-        let (text, wanted) = line.split_once('=').context("an answer")?;
-        let (operation, left, right) = asked(text)?;
-        let wanted = answer(wanted, refusal(operation, left, right))?;
-        assert_eq!(rt; value::<N>(operation, left, right), wanted, "{line}");
+// The text of a value, or `wide` where it is refused as it must be.
+fn value_text(
+    alloc: Global,
+    value: Result<Parts, Wide>,
+    refusal: Wide,
+) -> Result<String, AllocError> {
+    let mut text = String::new(alloc);
+    match value {
+        Ok(parts) => print_number(&mut text, parts)?,
+        Err(wide) if wide == refusal => text.push_str("wide")?,
+        Err(wide) => print_wide(&mut text, &wide)?,
     }
-    Ok(())
+    Ok(text)
 }
 
-#[test]
-fn operations_are_exact(rt: HostRuntime) -> Result<()> {
-    assert_rows::<Frac128>(&rt, OPERATIONS)?;
-    assert_rows::<Frac128>(&rt, LIMITS)?;
-    let least = Frac128::from_whole(i128::MIN);
-    assert_eq!(rt; least, Err(whole_refusal(i128::MIN)));
-    assert_eq!(rt; Frac128::one().neg().parts(), (-1, 1));
-    assert_eq!(rt; Frac128::zero().sign(), 0);
-    Ok(())
+/// The text of the value of an operation.
+pub fn operation_text<N: Exact>(alloc: Global, text: &str) -> Result<String> {
+    let (word, rest) = pair(text)?;
+    let operation = operation_of(word)?;
+    let (left, right) = operands(rest)?;
+    let value = value::<N>(operation, left, right);
+    Ok(value_text(alloc, value, refusal(operation, left, right))?)
 }
 
-#[test]
-fn narrow_operations_are_exact(rt: HostRuntime) -> Result<()> {
-    assert_rows::<Frac64>(&rt, NARROW_OPERATIONS)?;
-    for line in NARROW_NUMBERS.split('\n') {
-        let (text, wanted) = line.split_once('=').context("an answer")?;
-        let number = text.trim().parse::<i128>()?;
-        let wanted = answer(wanted, whole_refusal(number))?;
-        let found = Frac64::from_whole(number).map(|value| widen(value).parts());
-        assert_eq!(rt; found, wanted, "{line}");
-    }
-    let third = number::<Frac64>((-1, 3)).map(|value| widen(value).parts());
-    assert_eq!(rt; third, Ok((-1, 3)));
-    Ok(())
+/// The text of a whole number that is taken in 64 bits and widened.
+pub fn narrow_text(alloc: Global, text: &str) -> Result<String> {
+    let number = text.trim().parse::<i128>()?;
+    let value = Frac64::from_whole(number).map(|value| widen(value).parts());
+    Ok(value_text(alloc, value, whole_refusal(number))?)
 }
 
-fn ordering_of(word: &str) -> Result<Ordering> {
-    match word {
-        "less" => Ok(Ordering::Less),
-        "equal" => Ok(Ordering::Equal),
-        "greater" => Ok(Ordering::Greater),
-        _ => bail!("an order"),
-    }
-}
-
-// The order of two fractions, and whether they are equal.
+// How two fractions compare, and whether they are equal.
 fn order(left: Parts, right: Parts) -> Result<(Ordering, bool), Wide> {
     let x = number::<Frac128>(left)?;
     let y = number::<Frac128>(right)?;
     Ok((x.cmp(&y), x == y))
 }
 
-#[test]
-fn order_is_by_value(rt: HostRuntime) -> Result<()> {
-    for line in ORDERS.split('\n') {
-        let (pair, word) = line.split_once('=').context("an order")?;
-        let (left, right) = pair.trim().split_once(' ').context("two fractions")?;
-        let wanted = ordering_of(word.trim())?;
-        let found = order(parts(left)?, parts(right)?);
-        assert_eq!(rt; found, Ok((wanted, wanted.is_eq())), "{line}");
+fn order_word(order: Result<(Ordering, bool), Wide>) -> &'static str {
+    match order {
+        Ok((Ordering::Less, false)) => "less",
+        Ok((Ordering::Equal, true)) => "equal",
+        Ok((Ordering::Greater, false)) => "greater",
+        _ => "no order",
     }
-    Ok(())
+}
+
+/// The order of two fractions, in a word.
+pub fn order_text(alloc: Global, text: &str) -> Result<String> {
+    let (left, right) = operands(text)?;
+    Ok(String::from_str(alloc, order_word(order(left, right)))?)
+}
+
+/// The text of the greatest common divisor of two numbers.
+pub fn divisor_text(alloc: Global, text: &str) -> Result<String> {
+    let (a, b) = pair(text)?;
+    let divisor = gcd(a.parse::<u128>()?, b.parse::<u128>()?);
+    Ok(format!(in alloc; "{divisor}")?)
+}
+
+// Whether numbers are at their limits as they must be, and negated, and told apart by their signs.
+fn are_limits_kept() -> bool {
+    let least = Frac128::from_whole(i128::MIN);
+    let third = number::<Frac64>((-1, 3)).map(|value| widen(value).parts());
+    least == Err(whole_refusal(i128::MIN))
+        && third == Ok((-1, 3))
+        && Frac128::one().neg().parts() == (-1, 1)
+        && Frac128::zero().sign() == 0
 }
 
 #[test]
-fn divisors(rt: HostRuntime) -> Result<()> {
-    for line in DIVISORS.split('\n') {
-        let (pair, divisor) = line.split_once('=').context("a divisor")?;
-        let (a, b) = pair.trim().split_once(' ').context("two numbers")?;
-        let found = gcd(a.parse::<u128>()?, b.parse::<u128>()?);
-        assert_eq!(rt; found, divisor.trim().parse::<u128>()?, "{line}");
-    }
-    Ok(())
+fn limits_are_kept(rt: HostRuntime) {
+    assert!(rt; are_limits_kept());
 }
 
 // Whether n * h / d is this rounded down, and that rounded up.
@@ -185,22 +179,30 @@ fn is_share(n: u128, d: u128, h: u128, down: u128, up: u128) -> bool
     mul_div_floor(n, d, h) == down && mul_div_ceil(n, d, h) == up
 }
 
-#[test]
-fn shares(rt: HostRuntime) {
+fn are_small_shares() -> bool {
     let limit = i128::MAX as u128;
-    assert!(rt; is_share(2, 7, 6, 1, 2));
-    assert!(rt; is_share(limit, limit, limit, limit, limit));
-    assert!(rt; is_share(20916588, 13, 0, 0, 0));
-    assert!(rt; is_share(1, 27121918706360824150078081, 35766184, 0, 1));
+    is_share(2, 7, 6, 1, 2)
+        && is_share(limit, limit, limit, limit, limit)
+        && is_share(20916588, 13, 0, 0, 0)
+        && is_share(1, 27121918706360824150078081, 35766184, 0, 1)
+}
+
+fn are_great_shares() -> bool {
     let n = 3394746841122696500925038;
     let d = 163443479907133649193291597906228439743;
-    assert!(rt; is_share(n, d, 1, 0, 1));
+    let less = is_share(n, d, 1, 0, 1);
     let n = 8701760095084138039891754;
     let down = 136855357837347410623069838;
-    assert!(rt; is_share(n, 1864154436, 29318151686, down, down + 1));
+    let long = is_share(n, 1864154436, 29318151686, down, down + 1);
     let n = 62197991169405796551822816171003;
     let d = 2420949416347811126078267830651;
     let h = 576316145898323182700398466799715475;
     let down = 14806466550402321247895530121525437711;
-    assert!(rt; is_share(n, d, h, down, down + 1));
+    less && long && is_share(n, d, h, down, down + 1)
+}
+
+#[test]
+fn shares(rt: HostRuntime) {
+    assert!(rt; are_small_shares());
+    assert!(rt; are_great_shares());
 }

@@ -19,6 +19,8 @@ mod programs;
 #[cfg(test)]
 mod reading;
 #[cfg(test)]
+mod rows;
+#[cfg(test)]
 mod searches;
 #[cfg(test)]
 mod signs;

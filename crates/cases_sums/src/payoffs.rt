@@ -1,10 +1,9 @@
-//! Each case, from the text of what is asked to the text of the answer.
+//! Payoffs, states and premiums: from the text of what is asked to that of the answer.
 ghost use Rattle.std.specs.Prelude.{IsTrue, map};
 ghost use Rattle.form.specs.Primitive.{IsDirection};
 ghost use Rattle.frac.specs.Value.{fraction_of};
 ghost use Rattle.settlement.specs.Premium.{IsOrderFill};
 
-use crate::payoff_table::{BUNDLES, PAYOFFS, PREMIUMS, PRIMITIVES};
 use crate::printing::{print_number, print_wide};
 use crate::reading::{number, numbers};
 use crate::signs::{is_any_above_zero, is_none_below_zero};
@@ -56,8 +55,8 @@ fn print_state(text: &mut String, state: &State) -> Result<(), AllocError> {
     Ok(())
 }
 
-// The text of the primitive state of a direction.
-fn primitive_text(alloc: Global, text: &str) -> Result<String> {
+/// The text of the primitive state of a direction.
+pub fn primitive_text(alloc: Global, text: &str) -> Result<String> {
     let mut answer = String::new(alloc);
     match state(alloc, text)? {
         Ok(state) => print_state(&mut answer, &state)?,
@@ -66,8 +65,8 @@ fn primitive_text(alloc: Global, text: &str) -> Result<String> {
     Ok(answer)
 }
 
-// The text of what an option pays at a primitive state.
-fn payoff_text(alloc: Global, text: &str) -> Result<String> {
+/// The text of what an option pays at a primitive state.
+pub fn payoff_text(alloc: Global, text: &str) -> Result<String> {
     let (option, entries) = text.split_once('|').context("a state")?;
     let form = form(alloc, option)?;
     let state = state(alloc, entries)?.ok().context("a state that fits")?;
@@ -98,8 +97,8 @@ fn bundle(alloc: Global, text: &str) -> Result<Bundle> {
     Ok(Bundle::from_legs(legs.as_slice()))
 }
 
-// The text of what a bundle pays at a primitive state.
-fn bundle_text(alloc: Global, text: &str) -> Result<String> {
+/// The text of what a bundle pays at a primitive state.
+pub fn bundle_text(alloc: Global, text: &str) -> Result<String> {
     let (options, entries) = text.split_once('|').context("a state")?;
     let bundle = bundle(alloc, options)?;
     let state = state(alloc, entries)?.ok().context("a state that fits")?;
@@ -129,8 +128,8 @@ fn side(word: &str) -> Result<Side> {
     }
 }
 
-// The text of the premium of a fill.
-fn premium_text(alloc: Global, text: &str) -> Result<String> {
+/// The text of the premium of a fill.
+pub fn premium_text(alloc: Global, text: &str) -> Result<String> {
     let mut words = text.split_whitespace();
     let side = side(words.next().context("a side")?)?;
     let fill = number(words.next().context("a fill")?)?;
@@ -140,44 +139,4 @@ fn premium_text(alloc: Global, text: &str) -> Result<String> {
     ensure!(price <= MAX_PRICE, "a price within the limits");
     let ticks = premium(&side, &fill, price);
     Ok(format!(in alloc; "{ticks}")?)
-}
-
-#[test]
-fn payoffs(rt: HostRuntime) -> Result<()> {
-    for line in PAYOFFS.split_terminator('\n') {
-        let (asked, answer) = line.split_once('=').context("an answer")?;
-        let found = payoff_text(rt.alloc(), asked)?;
-        assert_eq!(rt; found.trim(), answer.trim(), "{line}");
-    }
-    Ok(())
-}
-
-#[test]
-fn bundles(rt: HostRuntime) -> Result<()> {
-    for line in BUNDLES.split_terminator('\n') {
-        let (asked, answer) = line.split_once('=').context("an answer")?;
-        let found = bundle_text(rt.alloc(), asked)?;
-        assert_eq!(rt; found.trim(), answer.trim(), "{line}");
-    }
-    Ok(())
-}
-
-#[test]
-fn primitives(rt: HostRuntime) -> Result<()> {
-    for line in PRIMITIVES.split_terminator('\n') {
-        let (asked, answer) = line.split_once('=').context("an answer")?;
-        let found = primitive_text(rt.alloc(), asked)?;
-        assert_eq!(rt; found.trim(), answer.trim(), "{line}");
-    }
-    Ok(())
-}
-
-#[test]
-fn premiums(rt: HostRuntime) -> Result<()> {
-    for line in PREMIUMS.split_terminator('\n') {
-        let (asked, answer) = line.split_once('=').context("an answer")?;
-        let found = premium_text(rt.alloc(), asked)?;
-        assert_eq!(rt; found.as_str(), answer.trim(), "{line}");
-    }
-    Ok(())
 }
