@@ -108,12 +108,7 @@ pub fn add_field<P: Printed>(
 }
 
 /// Adds a field of a natural number.
-pub fn add_number(
-    line: &mut Vec<u8>,
-    later: bool,
-    key: &str,
-    n: u64,
-) -> Result<(), AllocError>
+pub fn add_number(line: &mut Vec<u8>, later: bool, key: &str, n: u64) -> Result<(), AllocError>
     ensures { OnOk result ((fs : Fields) → line.new.items ++ fields_text true fs
         ≡ line.old.items ++ fields_text later (field key.now (natural n) fs)) }
 {
@@ -121,12 +116,7 @@ pub fn add_number(
 }
 
 /// Adds a field of a plain text.
-pub fn add_words(
-    line: &mut Vec<u8>,
-    later: bool,
-    key: &str,
-    text: &str,
-) -> Result<(), AllocError>
+pub fn add_words(line: &mut Vec<u8>, later: bool, key: &str, text: &str) -> Result<(), AllocError>
     ensures { OnOk result ((fs : Fields) → line.new.items ++ fields_text true fs
         ≡ line.old.items ++ fields_text later (field key.now (words text.now) fs)) }
 {
