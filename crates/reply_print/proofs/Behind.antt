@@ -5,7 +5,7 @@ use Rattle.sign_tree.specs.declared.trees.Node.{Node}
 use Rattle.sign_tree.specs.declared.trees.Multiplier.{Multiplier}
 use Rattle.reply_print.specs.BatchPieces.{pieces_of}
 use Rattle.reply_print.specs.OutcomePieces.{count_of, node_piece, node_pieces}
-use Rattle.reply_print.specs.Piece.{Piece, words, list, object, Pieces, no_pieces, piece, Fields, no_fields, field, comma_after, piece_text, pieces_text, fields_text}
+use Rattle.reply_print.specs.Piece.{Piece, whole, words, list, object, Pieces, no_pieces, piece, Fields, no_fields, field, comma_after, piece_text, pieces_text, fields_text}
 
 -- what stands ahead of a key
 opened : (old key : List ℕ) (later : Bool) (rest : List ℕ)
@@ -54,6 +54,12 @@ pub all_items : {A : Type 0} (f : A → Piece) (xs : List A) (i : ℕ) (old star
     → mid ++ pieces_text later (pieces_of f (drop i xs)) ≡ start ++ pieces_text false (pieces_of f xs) → new ≡ mid ++ 93 ∷ [] → new ≡ old ++ piece_text (list (pieces_of f xs))
 all_items f xs i old start mid new later all s m n =
     ended old start mid new later (pieces_of f xs) s (sym (at_drop_all (λ ys. mid ++ pieces_text later (pieces_of f ys)) xs i all) ∙ m) n
+
+abbrev pub fields_of : Piece → Fields
+fields_of (whole z) = no_fields
+fields_of (words s) = no_fields
+fields_of (list ps) = no_fields
+fields_of (object fs) = fs
 
 -- an object, of which the brace and the fields stand, and then the other brace
 pub closed : (old start mid new : List ℕ) (fs : Fields) → start ≡ old ++ 123 ∷ [] → mid ++ fields_text true no_fields ≡ start ++ fields_text false fs → new ≡ mid ++ 125 ∷ []

@@ -1,8 +1,8 @@
 //! Certificates and steps that did not fit, added to a line.
-ghost use Rattle.std.specs.Prelude.{true, ◌≡◌, ◌++◌, OnOk, drop, take};
-ghost use Rattle.reply_print.specs.BatchPieces.{each};
+ghost use Rattle.std.specs.Prelude.{true, ◌≡◌, ◌++◌, OnOk, codes, drop, take};
+ghost use Rattle.reply_print.specs.BatchPieces.{each, natural};
 ghost use Rattle.reply_print.specs.OutcomePieces.{certificate_field, certificate_piece, count_of as count_is, cover_piece, multiplier_piece, node_piece, node_pieces, pair_words, point_piece, wide_field, wide_piece};
-ghost use Rattle.reply_print.specs.Piece.{Fields, field, fields_text, list, no_fields, piece_text};
+ghost use Rattle.reply_print.specs.Piece.{Fields, field, fields_text, list, no_fields, object, piece_text};
 
 use crate::printing::{
     Printed, add_field, add_items, add_key, add_number, add_words, append, append_parts, comma,
@@ -41,17 +41,33 @@ impl Printed for Multiplier {
     }
 }
 
+fn add_split(line: &mut Vec<u8>, place: u32) -> Result<(), AllocError>
+    ensures { OnOk result (line.new.items ≡ line.old.items
+        ++ piece_text (object (field (codes "split") (natural place) no_fields))) }
+{
+    append(line, "{")?;
+    add_number(line, false, "split", u64::from(place))?;
+    append(line, "}")
+}
+
+fn add_leaf(line: &mut Vec<u8>, multipliers: &[Multiplier]) -> Result<(), AllocError>
+    ensures { OnOk result (line.new.items ≡ line.old.items
+        ++ piece_text (object (field (codes "leaf") (each multiplier_piece multipliers.now) no_fields))) }
+{
+    append(line, "{")?;
+    add_items(line, false, "leaf", multipliers)?;
+    append(line, "}")
+}
+
 // Adds a node with its multipliers.
 fn add_node(line: &mut Vec<u8>, node: &Node, multipliers: &[Multiplier]) -> Result<(), AllocError>
     ensures { OnOk result (line.new.items
         ≡ line.old.items ++ piece_text (node_piece node.now multipliers.now)) }
 {
-    append(line, "{")?;
     match node {
-        Node::Split { place } => add_number(line, false, "split", u64::from(*place))?,
-        Node::Leaf { .. } => add_items(line, false, "leaf", multipliers)?,
+        Node::Split { place } => add_split(line, *place),
+        Node::Leaf { .. } => add_leaf(line, multipliers),
     }
-    append(line, "}")
 }
 
 // How many multipliers a node takes.
@@ -119,16 +135,27 @@ pub fn add_certificate(
     append(line, "}")
 }
 
+// Adds a certificate under its key.
+fn add_certificate_field(
+    line: &mut Vec<u8>,
+    cover: &Cover,
+    measure: &Measure,
+) -> Result<(), AllocError>
+    ensures { OnOk result ((fs : Fields) → line.new.items ++ fields_text true fs
+        ≡ line.old.items ++ fields_text true
+        (field (codes "certificate") (certificate_piece cover.now measure.now) fs)) }
+{
+    add_key(line, true, "certificate")?;
+    add_certificate(line, cover, measure)
+}
+
 // Adds the certificate of the mark optimal.
 pub(crate) fn add_proof(line: &mut Vec<u8>, mark: &Mark) -> Result<(), AllocError>
     ensures { OnOk result ((fs : Fields) → line.new.items ++ fields_text true fs
         ≡ line.old.items ++ fields_text true (certificate_field mark.now fs)) }
 {
     match mark {
-        Mark::Optimal { cover, measure } => {
-            add_key(line, true, "certificate")?;
-            add_certificate(line, cover, measure)
-        }
+        Mark::Optimal { cover, measure } => add_certificate_field(line, cover, measure),
         Mark::Wide(_) | Mark::Budget => Ok(()),
     }
 }
@@ -159,16 +186,22 @@ fn add_wide(line: &mut Vec<u8>, wide: &Wide) -> Result<(), AllocError>
     append(line, "}")
 }
 
+// Adds a step under its key.
+fn add_wide_field(line: &mut Vec<u8>, wide: &Wide) -> Result<(), AllocError>
+    ensures { OnOk result (line.new.items ++ fields_text true no_fields ≡ line.old.items
+        ++ fields_text true (field (codes "wide") (wide_piece wide.now) no_fields)) }
+{
+    add_key(line, true, "wide")?;
+    add_wide(line, wide)
+}
+
 // Adds the step of the mark wide.
 pub(crate) fn add_step(line: &mut Vec<u8>, mark: &Mark) -> Result<(), AllocError>
     ensures { OnOk result (line.new.items ++ fields_text true no_fields
         ≡ line.old.items ++ fields_text true (wide_field mark.now)) }
 {
     match mark {
-        Mark::Wide(wide) => {
-            add_key(line, true, "wide")?;
-            add_wide(line, wide)
-        }
+        Mark::Wide(wide) => add_wide_field(line, wide),
         Mark::Optimal { .. } | Mark::Budget => Ok(()),
     }
 }

@@ -2,7 +2,8 @@ use Rattle.std.proofs.Common.{codes, ◌∙◌}
 use Rattle.std.proofs.lemmas.Result.{on_ok_weaker}
 use Rattle.reply_print.specs.BatchPieces.{natural}
 use Rattle.reply_print.specs.Piece.{words, no_fields, field}
-use Rattle.reply_print.proofs.Behind.{closed}
+use Rattle.proposal_text.specs.Pieces.{unproved_piece}
+use Rattle.reply_print.proofs.Behind.{closed, fields_of}
 use Rattle.proposal_text.proofs.printing.add_unproved.Goals as goal
 
 pub returns : goal.returns
@@ -15,6 +16,7 @@ returns c =
     c.in_ok-add_words-3.ensures no_fields ∙ c.in_ok-add_words-2.ensures reply ∙ c.in_ok-add_number-2.ensures reason ∙ c.in_ok-add_number.ensures number
     ∙ c.in_ok-add_words.ensures line in
     on_ok_weaker c.append-2.result
-    (λ e. closed c.args.line.now.items c.append.new.line.items c.add_words-3.new.line.items c.append-2.new.line.items _ c.in_ok-append.ensures
+    (λ e. closed c.args.line.now.items c.append.new.line.items c.add_words-3.new.line.items c.append-2.new.line.items (fields_of (unproved_piece c.args.at c.args.failed))
+    c.in_ok-append.ensures
     (rw (c.from.ensures, c.word.ensures) at fields) e)
     c.append-2.ensures

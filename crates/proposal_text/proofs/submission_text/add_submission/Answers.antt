@@ -3,7 +3,8 @@ use Rattle.std.proofs.lemmas.Result.{on_ok_weaker}
 use Rattle.reply_print.specs.BatchPieces.{natural, fraction, each}
 use Rattle.reply_print.specs.Piece.{no_fields, field}
 use Rattle.reply_print.specs.OutcomePieces.{certificate_piece}
-use Rattle.reply_print.proofs.Behind.{closed, field_added}
+use Rattle.proposal_text.specs.Pieces.{submission_piece}
+use Rattle.reply_print.proofs.Behind.{closed, field_added, fields_of}
 use Rattle.proposal_text.proofs.submission_text.add_submission.Goals as goal
 
 pub returns : goal.returns
@@ -18,6 +19,7 @@ returns c =
     let fields =
     c.in_ok-add_field-2.ensures no_fields ∙ c.in_ok-add_items-2.ensures surplus ∙ c.in_ok-add_field.ensures orders ∙ c.in_ok-add_items.ensures liability ∙ added fills in
     on_ok_weaker c.append-2.result
-    (λ e. closed c.args.line.now.items c.append.new.line.items c.add_field-2.new.line.items c.append-2.new.line.items _ c.in_ok-append.ensures
+    (λ e. closed c.args.line.now.items c.append.new.line.items c.add_field-2.new.line.items c.append-2.new.line.items (fields_of (submission_piece c.args.submission.now))
+    c.in_ok-append.ensures
     (rw (c.as_slice.ensures, c.as_slice-2.ensures) at fields) e)
     c.append-2.ensures

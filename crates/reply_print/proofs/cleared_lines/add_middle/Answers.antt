@@ -1,7 +1,7 @@
-use Rattle.std.proofs.Common.{codes, ◌∙◌}
+use Rattle.std.proofs.Common.{◌++◌, true, codes, ap, ◌∙◌}
 use Rattle.std.proofs.lemmas.Result.{on_ok_weaker}
 use Rattle.reply_print.specs.BatchPieces.{natural, fraction, are_single}
-use Rattle.reply_print.specs.Piece.{words, field}
+use Rattle.reply_print.specs.Piece.{words, field, fields_text}
 use Rattle.reply_print.specs.ReplyPieces.{cleared_end}
 use Rattle.reply_print.proofs.cleared_lines.add_middle.Goals as goal
 
@@ -17,4 +17,6 @@ returns c =
     c.in_ok-add_number-2.ensures end ∙ c.in_ok-add_words.ensures market ∙ c.in_ok-add_number.ensures mark ∙ c.in_ok-add_field.ensures line
     ∙ c.in_ok-add_items.ensures liability in
     let shown = rw (c.from.ensures, c.from-2.ensures, c.mark.ensures, c.as_slice.ensures) at fields in
-    on_ok_weaker c.add_end.result (λ e. (rw (c.is_version_1.ensures, c.as_slice-2.ensures) at e) ∙ shown) c.add_end.ensures
+    let version = c.is_version_1.ensures ∙ ap are_single c.as_slice-2.ensures in
+    let ended = ap (λ single. c.add_number-2.new.line.items ++ fields_text true (cleared_end c.args.batch.now outcome outcome.mark single)) version in
+    on_ok_weaker c.add_end.result (λ e. e ∙ ended ∙ shown) c.add_end.ensures

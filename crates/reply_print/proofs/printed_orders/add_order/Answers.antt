@@ -1,8 +1,8 @@
 use Rattle.std.proofs.Common.{codes, ◌∙◌}
 use Rattle.std.proofs.lemmas.Result.{on_ok_weaker}
-use Rattle.reply_print.specs.BatchPieces.{natural, bundle_field}
+use Rattle.reply_print.specs.BatchPieces.{natural, bundle_field, order_piece}
 use Rattle.reply_print.specs.Piece.{words, no_fields, field}
-use Rattle.reply_print.proofs.Behind.{closed}
+use Rattle.reply_print.proofs.Behind.{closed, fields_of}
 use Rattle.reply_print.proofs.printed_orders.add_order.Goals as goal
 
 pub returns : goal.returns
@@ -17,6 +17,7 @@ returns c =
     c.in_ok-add_words.ensures no_fields ∙ c.in_ok-add_number-4.ensures side ∙ c.in_ok-add_number-3.ensures quantity ∙ c.in_ok-add_number-2.ensures price
     ∙ c.in_ok-add_bundle.ensures id ∙ c.in_ok-add_number.ensures bundle in
     on_ok_weaker c.append-2.result
-    (λ e. closed c.args.line.now.items c.append.new.line.items c.add_words.new.line.items c.append-2.new.line.items _ c.in_ok-append.ensures
+    (λ e. closed c.args.line.now.items c.append.new.line.items c.add_words.new.line.items c.append-2.new.line.items (fields_of (order_piece c.args.single order))
+    c.in_ok-append.ensures
     (rw (c.from.ensures, c.from-2.ensures, c.word_of.ensures, c.as_slice.ensures) at fields) e)
     c.append-2.ensures

@@ -1,9 +1,9 @@
 use Rattle.std.proofs.Common.{false, codes, ◌∙◌}
 use Rattle.std.proofs.lemmas.Result.{on_ok_weaker}
-use Rattle.reply_print.specs.OutcomePieces.{cover_piece, point_piece}
+use Rattle.reply_print.specs.OutcomePieces.{cover_piece, point_piece, certificate_piece}
 use Rattle.reply_print.specs.BatchPieces.{each}
 use Rattle.reply_print.specs.Piece.{no_fields, field}
-use Rattle.reply_print.proofs.Behind.{closed, field_added}
+use Rattle.reply_print.proofs.Behind.{closed, field_added, fields_of}
 use Rattle.reply_print.proofs.printed_outcomes.add_certificate.Goals as goal
 
 pub returns : goal.returns
@@ -12,6 +12,7 @@ returns c =
     let cover = field_added c.append.new.line.items c.add_key.new.line.items c.add_cover.new.line.items false (codes "cover") (cover_piece c.args.cover.now) c.in_ok-add_key.ensures c.in_ok-add_cover.ensures in
     let fields = c.in_ok-add_items.ensures no_fields ∙ cover points in
     on_ok_weaker c.append-2.result
-    (λ e. closed c.args.line.now.items c.append.new.line.items c.add_items.new.line.items c.append-2.new.line.items _ c.in_ok-append.ensures
+    (λ e. closed c.args.line.now.items c.append.new.line.items c.add_items.new.line.items c.append-2.new.line.items (fields_of (certificate_piece c.args.cover.now c.args.measure.now))
+    c.in_ok-append.ensures
     (rw c.as_slice.ensures at fields) e)
     c.append-2.ensures

@@ -2,7 +2,8 @@ use Rattle.std.proofs.Common.{codes, ◌∙◌}
 use Rattle.std.proofs.lemmas.Result.{on_ok_weaker}
 use Rattle.reply_print.specs.BatchPieces.{fraction}
 use Rattle.reply_print.specs.Piece.{no_fields, field}
-use Rattle.reply_print.proofs.Behind.{closed}
+use Rattle.reply_print.specs.OutcomePieces.{point_piece}
+use Rattle.reply_print.proofs.Behind.{closed, fields_of}
 use Rattle.reply_print.proofs.printed_outcomes.WeightedPrinted.print.Goals as goal
 
 pub returns : goal.returns
@@ -10,6 +11,7 @@ returns c =
     let weight = field (codes "weight") (fraction c.args.self.now.weight) no_fields in
     let fields = c.in_ok-add_field.ensures no_fields ∙ c.in_ok-add_items.ensures weight in
     on_ok_weaker c.append-2.result
-    (λ e. closed c.args.line.now.items c.append.new.line.items c.add_field.new.line.items c.append-2.new.line.items _ c.in_ok-append.ensures
+    (λ e. closed c.args.line.now.items c.append.new.line.items c.add_field.new.line.items c.append-2.new.line.items (fields_of (point_piece c.args.self.now))
+    c.in_ok-append.ensures
     fields e)
     c.append-2.ensures

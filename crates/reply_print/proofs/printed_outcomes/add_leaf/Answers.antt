@@ -1,0 +1,15 @@
+use Rattle.std.proofs.Common.{codes}
+use Rattle.std.proofs.lemmas.Result.{on_ok_weaker}
+use Rattle.reply_print.specs.BatchPieces.{each}
+use Rattle.reply_print.specs.OutcomePieces.{multiplier_piece}
+use Rattle.reply_print.specs.Piece.{no_fields, field}
+use Rattle.reply_print.proofs.Behind.{closed}
+use Rattle.reply_print.proofs.printed_outcomes.add_leaf.Goals as goal
+
+pub returns : goal.returns
+returns c =
+    let fields = c.in_ok-add_items.ensures no_fields in
+    on_ok_weaker c.append-2.result
+    (λ e. closed c.args.line.now.items c.append.new.line.items c.add_items.new.line.items c.append-2.new.line.items (field (codes "leaf") (each multiplier_piece c.args.multipliers.now) no_fields)
+    c.in_ok-append.ensures fields e)
+    c.append-2.ensures
