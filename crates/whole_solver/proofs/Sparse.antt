@@ -44,12 +44,12 @@ place_more zs j z done all low at_z h = step (nat_eq (unsigned_abs z) 0) refl
 -- ---- f times the pivot numbers, taken at these places
 pub less_at : ℤ → List ℤ → List ℕ → List ℤ → List ℤ
 less_at f qs [] zs = zs
-less_at f qs (j ∷ js) zs = less_at f qs js (set zs j ((number_at zs j *ℤ pos 1) -ℤ (f *ℤ number_at qs j)))
+less_at f qs (j ∷ js) zs = less_at f qs js (set zs j (number_at zs j -ℤ (f *ℤ number_at qs j)))
 
 shifted : (f q z : ℤ) (qs : List ℤ) (js : List ℕ) (zs : List ℤ) → less_at f (q ∷ qs) (map suc js) (z ∷ zs) ≡ z ∷ less_at f qs js zs
 unfolding less_at
 shifted f q z qs [] zs = refl
-shifted f q z qs (j ∷ js) zs = shifted f q z qs js (set zs j ((number_at zs j *ℤ pos 1) -ℤ (f *ℤ number_at qs j)))
+shifted f q z qs (j ∷ js) zs = shifted f q z qs js (set zs j (number_at zs j -ℤ (f *ℤ number_at qs j)))
 
 later_places : (i : ℕ) (xs : List Fraction) → nonzero_from (suc i) xs ≡ map suc (nonzero_from i xs)
 unfolding nonzero_from
@@ -68,6 +68,9 @@ less_zero z f (pos zero) h = omega (arith, ints)
 less_zero z f (pos (suc n)) h = absurd (omega (arith, h))
 less_zero z f (negsuc n) h = absurd (omega (arith, h))
 
+times_one : (z : ℤ) → z ≡ z *ℤ pos 1
+times_one z = omega (arith, ints)
+
 pub less_is : (f : ℤ) (zs qs : List ℤ) → length zs ≡ length qs → less_at f qs (nonzero_in qs) zs ≡ cross_difference 1 f zs qs
 unfolding nonzero_from cross_difference less_at
 less_is f [] [] s = refl
@@ -81,7 +84,7 @@ less_is f (z ∷ zs) (q ∷ qs) s =
     step : (t : Bool) → nat_eq (unsigned_abs q) 0 ≡ t → ((y : ℤ) → less_at f (q ∷ qs) (nonzero_from 1 (map whole qs)) (y ∷ zs) ≡ y ∷ cross_difference 1 f zs qs)
         → less_at f (q ∷ qs) (if t then nonzero_from 1 (map whole qs) else 0 ∷ nonzero_from 1 (map whole qs)) (z ∷ zs) ≡ ((z *ℤ pos 1) -ℤ (f *ℤ q)) ∷ cross_difference 1 f zs qs
     step true h later = later z ∙ ap (λ (y : ℤ). y ∷ cross_difference 1 f zs qs) (less_zero z f q (eqb-true _ _ h))
-    step false h later = later ((z *ℤ pos 1) -ℤ (f *ℤ q))
+    step false h later = later (z -ℤ (f *ℤ q)) ∙ ap (λ (y : ℤ). (y -ℤ (f *ℤ q)) ∷ cross_difference 1 f zs qs) (times_one z)
 
 -- ---- the places rise
 above_from : (i : ℕ) (xs : List Fraction) (k : ℕ) → k < length (nonzero_from i xs) → i ≤ slice_index_or (nonzero_from i xs) k 0
@@ -170,12 +173,12 @@ nonzero_set i (x ∷ zs) (suc r) z new old = ap (λ (js : List ℕ). if nat_eq (
 
 -- ---- the loop over the places: what is left gives what all give
 pub less_more : (f : ℤ) (qs numbers new result : List ℤ) (places : List ℕ) (t : ℕ) → t < length places
-    → new ≡ set numbers (slice_index_or places t 0) ((number_at numbers (slice_index_or places t 0) *ℤ pos 1) -ℤ (f *ℤ number_at qs (slice_index_or places t 0)))
+    → new ≡ set numbers (slice_index_or places t 0) (number_at numbers (slice_index_or places t 0) -ℤ (f *ℤ number_at qs (slice_index_or places t 0)))
     → less_at f qs (drop t places) numbers ≡ result → less_at f qs (drop (t + 1) places) new ≡ result
 unfolding less_at
 less_more f qs numbers new result places t low is_new h =
     let j = slice_index_or places t 0 in
-    let stepped = set numbers j ((number_at numbers j *ℤ pos 1) -ℤ (f *ℤ number_at qs j)) in
+    let stepped = set numbers j (number_at numbers j -ℤ (f *ℤ number_at qs j)) in
     ap (less_at f qs (drop (t + 1) places)) is_new ∙ ap (λ (n : ℕ). less_at f qs (drop n places) stepped) (add-one t) ∙ ap (λ (js : List ℕ). less_at f qs js numbers) (sym (drop-cons places t 0 low)) ∙ h
 
 pub less_end : (f : ℤ) (qs numbers result : List ℤ) (places : List ℕ) (t : ℕ) → length places ≤ t → less_at f qs (drop t places) numbers ≡ result → numbers ≡ result

@@ -4,7 +4,6 @@ ghost use Rattle.arithmetic.specs.Gcd.{gcd as gcd_of};
 ghost use Rattle.whole_rows.specs.Lines.{number_at, widest};
 ghost use Rattle.whole_rows.specs.Turning.{common_of};
 
-use crate::line::size_product;
 use exact_num::gcd;
 
 // What fits in 64 bits, where a division is several times as fast as in 128.
@@ -48,6 +47,13 @@ pub fn divisor_of(number: u128) -> Divisor
         twos,
         inverse,
     }
+}
+
+/// The product of two sizes.
+pub fn size_product(a: u64, b: u64) -> u128
+    ensures { result ≡ a * b }
+{
+    a as u128 * b as u128
 }
 
 /// The quotient, where the divisor divides the size and 64 bits hold both of them.

@@ -6,6 +6,7 @@ ghost use Rattle.whole_rows.specs.Lines.{AreSizes, IsLine, least_multiple as lea
 ghost use Rattle.whole_solver.specs.Rows.{line_in};
 ghost use Rattle.whole_solver.specs.Within.{HasMultiple};
 
+use crate::word::within;
 use exact_num::{Exact, gcd};
 
 /// The whole number.
@@ -80,18 +81,6 @@ fn least_multiple<N: Exact>(entries: &[N], bound: u64) -> Option<u64>
         found = next;
     }
     Some(found)
-}
-
-/// The number, where it is within the bound.
-fn within(number: i128, bound: u64) -> Option<i64>
-    requires { bound ≤ widest }
-    ensures { IfSome result (λ z. (z ≡ number) × (unsigned_abs z ≤ bound)) }
-{
-    if number.unsigned_abs() <= bound as u128 {
-        Some(number as i64)
-    } else {
-        None
-    }
 }
 
 /// What the fraction is over the denominator, which its own divides, where it is within the bound.

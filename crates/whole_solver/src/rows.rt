@@ -7,8 +7,9 @@ ghost use Rattle.whole_rows.specs.Turning.{cut, mix_fits};
 ghost use Rattle.whole_solver.specs.Rows.{AreLinesIn, AreSizesIn, IsPivot, IsTurned, column_in, line_in, lines_after, lines_in, nonzero_in, pivot_line, row_at};
 
 use crate::divisor::{common_short, divide_numbers};
-use crate::line::{Known, Pivot, clear_line, list_nonzero, list_place, size_of};
-use crate::objective::{clear_wide_line, wide_size_to_mix};
+use crate::line::{clear_line, list_nonzero, list_place, size_of};
+use crate::mix::{Known, Pivot};
+use crate::wide::{clear_wide_line, wide_size_to_mix};
 use lists::RowArena;
 
 /// Brings the line of so many numbers at the front of the row to lowest terms.

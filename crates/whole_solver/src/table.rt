@@ -13,10 +13,10 @@ ghost use Rattle.whole_solver.specs.Rows.{AreLinesIn, IsPivot, IsTurned, line_in
 
 use crate::columns::{Entering, least_column};
 use crate::fraction::{fraction, take_line, wide};
-use crate::objective::widen;
 use crate::ratios::leaving;
 use crate::rows::{Step, list_column, turn_rows};
 use crate::turn::Turn;
+use crate::wide::widen;
 use compact_table::room::write_numbers;
 use exact_num::Exact;
 use lists::{RowArena, push_within};

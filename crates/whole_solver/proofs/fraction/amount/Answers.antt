@@ -13,4 +13,4 @@ returns-then-below-denominator g c =
     let above : to_z w128 (of_z w128 c.parts-above.result.0) ≡ fraction.numerator = search rules in
     let whole : fraction.numerator ≡ fraction.numerator *ℤ pos 1 = omega (arith, ints) in
     let amount : to_z w128 (of_z w128 c.parts-above.result.0) ≡ amount_over c.args.denominator fraction = above ∙ whole ∙ ap (λ n. fraction.numerator *ℤ pos n) (sym once) in
-    rw amount at c.within.ensures
+    rw amount at c.within.ensures.within

@@ -1,15 +1,8 @@
-use Rattle.std.proofs.Common.{◌*◌, unsigned_abs, rules, FitsSigned, w64}
-use Rattle.std.proofs.lemmas.Int.{to_z-of_z}
-use Rattle.std.proofs.Math.Nat.{mul-pos}
+use Rattle.std.proofs.Common.{◌*◌, unsigned_abs}
 use Rattle.whole_rows.specs.Lines.{line_of}
 use Rattle.whole_rows.specs.Turning.{cross_difference}
 use Rattle.whole_solver.proofs.Cut.{fits_kept}
 use Rattle.whole_solver.proofs.line.mix_line.Goals as goal
-
-pub cut_wide_line-below-requires-clause-above : goal.cut_wide_line-below-requires-clause-above
-cut_wide_line-below-requires-clause-above c =
-    let p : FitsSigned w64 c.args.factors.p = search rules in
-    rw (to_z-of_z w64 c.args.factors.p p) (mul-pos c.requires.above c.requires.not_zero)
 
 pub returns-in-Some-clause-line : goal.returns-in-Some-clause-line
 returns-in-Some-clause-line c =

@@ -1,7 +1,0 @@
-use Rattle.std.proofs.Common.{◌≡◌, take, true}
-use Rattle.whole_rows.specs.Lines.{numbers_fit, widest}
-use Rattle.whole_solver.proofs.line.are_short.Given as goal
-
--- the numbers so far fit
-abbrev pub invariant-loop-number : goal.invariant-loop-number
-invariant-loop-number l = numbers_fit widest (take l.number-index l.numbers) ≡ true

@@ -1,0 +1,17 @@
+use Rattle.std.proofs.Common.{◌≡◌, ◌<◌, ◌≤◌, ℕ, drop, length, map, slice_index_or}
+use Rattle.whole_rows.specs.Lines.{number_at}
+use Rattle.whole_solver.proofs.Sparse.{less_at}
+use Rattle.whole_solver.proofs.mix.subtract_multiple.Given as goal
+
+-- the steps at the places that are left give what all give, and the numbers there are as they were
+abbrev pub invariant-loop-place : goal.invariant-loop-place
+invariant-loop-place g l =
+    record {
+      width : length l.numbers ≡ length l.fn.numbers;
+      rest :
+          less_at (g.W.Word.value l.f) l.pivot (drop l.place-index l.places) (map g.W.Word.value l.numbers)
+          ≡ less_at (g.W.Word.value l.f) l.pivot l.places (map g.W.Word.value l.fn.numbers);
+      left :
+          (k : ℕ) → l.place-index ≤ k → k < length l.places
+          → number_at (map g.W.Word.value l.numbers) (slice_index_or l.places k 0) ≡ number_at (map g.W.Word.value l.fn.numbers) (slice_index_or l.places k 0);
+    }
