@@ -1,0 +1,5 @@
+pub mod FoundBooks
+pub mod LiveOrders
+pub mod ProposalsWithin
+pub mod ReadAsHandedIn
+pub mod RisingNumbers

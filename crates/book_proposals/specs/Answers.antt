@@ -1,0 +1,43 @@
+-- What is proposed for a line: for the print of a book reply a proposal that is judged a bound for its orders, and nothing for any other.
+use Rattle.std.specs.Prelude.{ℕ, ◌≡◌, ◌⊎◌, List, [], ◌∷◌, ◌++◌, map, codes, decimal}
+use Rattle.form.specs.declared.orders.Batch.{Batch}
+use Rattle.form.specs.declared.orders.Order.{Order}
+use Rattle.form.specs.Limits.{IsWithinLimits}
+use Rattle.cert_check.specs.declared.outcome.Proposal.{Proposal}
+use Rattle.judged_proposals.specs.Judged.{IsJudgedBound}
+use Rattle.proposal_text.specs.declared.submissions.Submission.{Submission}
+use Rattle.proposal_text.specs.declared.replies.ProposalReply.TheVariants.{Book}
+use Rattle.proposal_text.specs.Pieces.{submission_text}
+use Rattle.proposal_text.specs.ReplyValues.{IsProposalLineOf}
+use Rattle.proposal_text.specs.Within.{IsSubmissionWithin}
+
+-- The line is the print of a reply that tells the live orders of a market, and they are such: at most 256, for options on its underlyings,
+-- by rising number. A line that tells other orders is no reply to `book`, and no proposal for them could be judged a bound or be for live
+-- orders; nothing is written for it. That there are no orders is told too, and something is proposed for them.
+pub record IsBookOf (line : List ℕ) (market : ℕ) (batch : Batch) : Type 0 where
+  pub number : ℕ
+  pub told : IsProposalLineOf line number (Book market batch)
+  pub within : IsWithinLimits batch
+
+-- a proposal for just these orders
+abbrev pub submission_for : Batch → Proposal → Submission
+submission_for batch proposal = record { orders = map (λ (order : Order). order.id) batch.orders; proposal = proposal }
+
+-- the line that hands it in for a market, without its line feed
+abbrev pub proposing_text : ℕ → Submission → List ℕ
+proposing_text market submission = codes "propose," ++ (decimal market ++ (codes "," ++ submission_text submission))
+
+-- the text is such a line, with its line feed, of a proposal that is judged a bound for the orders and within its ranges
+pub record IsProposed (market : ℕ) (batch : Batch) (text : List ℕ) : Type 0 where
+  pub proposal : Proposal
+  pub judged : IsJudgedBound batch proposal
+  pub within : IsSubmissionWithin (submission_for batch proposal)
+  pub is : text ≡ proposing_text market (submission_for batch proposal) ++ 10 ∷ []
+
+-- the line tells no market's live orders
+abbrev pub IsNoBook : List ℕ → Type 0
+IsNoBook line = (market : ℕ) (batch : Batch) → ¬ (IsBookOf line market batch)
+
+abbrev pub IsAnswerTo : List ℕ → List ℕ → Type 0
+IsAnswerTo line text =
+    ((market : ℕ) × (batch : Batch) × IsBookOf line market batch × IsProposed market batch text) ⊎ (IsNoBook line × (text ≡ []))
