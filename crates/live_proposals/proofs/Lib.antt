@@ -1,0 +1,3 @@
+pub mod LineTurns
+pub mod NotedTexts
+pub mod ProposalEnds
