@@ -1,5 +1,5 @@
 // The texts of demos.
-use demo_text::{MAX_BYTES, MAX_ORDERS, demo_text};
+use demo_run::{MAX_BYTES, MAX_ORDERS, demo_text};
 use std::test::Fail;
 
 #[test]

@@ -1,3 +1,6 @@
+pub mod Steps
+pub mod Lines
+pub mod Sizes
 pub mod Counting
 pub mod Progress
 pub mod Summed

@@ -5,7 +5,7 @@ use Rattle.cash_ledger.specs.Entries.{balance_of}
 use Rattle.command_text.specs.Lines.{commands_in}
 use Rattle.exchange_core.specs.ExchangeState.{empty_exchange}
 use Rattle.exchange_core.specs.LineReplies.{replies_from}
-use Rattle.demo_text.specs.Text.{made_text}
+use Rattle.demo_run.specs.Text.{made_text}
 use Rattle.demo_run.specs.declared.tally.Tally.{Tally}
 use Rattle.demo_run.specs.Tally.{tally_of}
 

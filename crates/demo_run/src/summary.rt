@@ -1,13 +1,13 @@
 // What a demo writes.
 ghost use Rattle.std.specs.Prelude.{◌≡◌, ◌≤◌, IfOk, string_bytes};
 ghost use Rattle.cash_ledger.specs.Entries.{balance_of};
-ghost use Rattle.demo_text.specs.declared.text.TheConstants.{MAX_ORDERS};
+ghost use Rattle.demo_run.specs.declared.text.TheConstants.{MAX_ORDERS};
 ghost use Rattle.demo_run.specs.Demo.{house_text, lines_text, summary_line, demo_output};
 
 use crate::run::tally_replies;
 use crate::tally::Tally;
+use crate::text::demo_text;
 use command_text::raw_lines;
-use demo_text::demo_text;
 use exchange_core::Exchange;
 use std::alloc::{AllocError, Global};
 

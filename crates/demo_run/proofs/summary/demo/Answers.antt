@@ -5,7 +5,7 @@ use mir.Syntax.{w128}
 use Rattle.command_text.specs.Lines.{line_at, commands_in}
 use Rattle.exchange_core.specs.ExchangeState.{ExchangeState}
 use Rattle.exchange_core.specs.LineReplies.{replies_from}
-use Rattle.demo_text.specs.Text.{made_text}
+use Rattle.demo_run.specs.Text.{made_text}
 use Rattle.demo_run.specs.Tally.{tally_of}
 use Rattle.demo_run.proofs.Summed.{summed}
 use Rattle.demo_run.proofs.summary.demo.Goals as goal

@@ -1,7 +1,7 @@
 -- A text made by hand.
 use Rattle.std.specs.Prelude.{◌≡◌, ◌++◌, ◌/◌, ◌^◌, codes}
-use Rattle.demo_text.specs.Draws.{after, below}
-use Rattle.demo_text.specs.Text.{made_text, opening_text}
+use Rattle.demo_run.specs.Draws.{after, below}
+use Rattle.demo_run.specs.Text.{made_text, opening_text}
 
 -- the first draw of seed 1
 abbrev pub FirstDraw : Type 0

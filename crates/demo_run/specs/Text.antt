@@ -1,7 +1,7 @@
 -- The command text that a seed and a number of orders make.
 use Rattle.std.specs.Prelude.{ℕ, zero, suc, ◌+◌, ◌*◌, ◌%◌, List, [], ◌++◌, codes, decimal, ◌==◌, ◌||◌, if◌then◌else◌}
-use Rattle.demo_text.specs.Draws.{after, drawn}
-use Rattle.demo_text.specs.Orders.{order_from, order_line}
+use Rattle.demo_run.specs.Draws.{after, drawn}
+use Rattle.demo_run.specs.Orders.{order_from, order_line}
 
 -- the texts of 0 to n - 1, one behind another
 abbrev pub each : (ℕ → List ℕ) → ℕ → List ℕ

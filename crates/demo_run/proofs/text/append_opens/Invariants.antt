@@ -1,6 +1,6 @@
 use Rattle.std.proofs.Common.{◌≡◌, ◌+◌, ◌++◌, string_bytes}
-use Rattle.demo_text.specs.Text.{each, open_line}
-use Rattle.demo_text.proofs.text.append_opens.Given as goal
+use Rattle.demo_run.specs.Text.{each, open_line}
+use Rattle.demo_run.proofs.text.append_opens.Given as goal
 
 abbrev pub invariant-loop-index : goal.invariant-loop-index
 invariant-loop-index l = string_bytes l.text ≡ string_bytes l.initial.text ++ each (λ k. open_line (k + 1)) l.index

@@ -1,7 +1,7 @@
 // Orders that are drawn, and their lines.
 ghost use Rattle.std.specs.Prelude.{◌≡◌, IfOk, string_bytes};
-ghost use Rattle.demo_text.specs.Draws.{after};
-ghost use Rattle.demo_text.specs.Orders.{side_of, kind_of, weights_of, strike_step, order_from, kind_text, weights_text, option_text, terms_text, order_line};
+ghost use Rattle.demo_run.specs.Draws.{after};
+ghost use Rattle.demo_run.specs.Orders.{side_of, kind_of, weights_of, strike_step, order_from, kind_text, weights_text, option_text, terms_text, order_line};
 
 use crate::draws::Draws;
 use command_text::Kind;

@@ -1,7 +1,7 @@
 -- Draws one after another.
 use Rattle.std.proofs.Common.{◌≡◌, ℕ, zero, suc, ◌+◌, ◌*◌, ◌%◌, ap, arith, refl, ◌∙◌}
 use Rattle.std.proofs.Math.Nat.{mod-add-mod, mul_comm}
-use Rattle.demo_text.specs.Draws.{next, after}
+use Rattle.demo_run.specs.Draws.{next, after}
 
 -- a step in wrapping arithmetic
 pub wrapped_step : (x : ℕ) → (x * 6364136223846793005 % 18446744073709551616 + 1442695040888963407) % 18446744073709551616 ≡ next x

@@ -7,12 +7,12 @@ use Rattle.form.specs.declared.orders.Side.{Side}
 use Rattle.form.specs.declared.orders.Side.TheVariants.{Buy, Sell}
 use Rattle.command_text.specs.declared.command.Kind.{Kind}
 use Rattle.command_text.specs.declared.command.Kind.TheVariants.{Call, Put}
-use Rattle.demo_text.specs.declared.order.Weights.{Weights}
-use Rattle.demo_text.specs.declared.order.Weights.TheVariants.{First, Second, Both}
-use Rattle.demo_text.specs.Draws.{after, drawn}
-use Rattle.demo_text.specs.Orders.{kind_text, weights_text, strike_step, order_from, option_text, terms_text, order_line}
+use Rattle.demo_run.specs.declared.order.Weights.{Weights}
+use Rattle.demo_run.specs.declared.order.Weights.TheVariants.{First, Second, Both}
+use Rattle.demo_run.specs.Draws.{after, drawn}
+use Rattle.demo_run.specs.Orders.{kind_text, weights_text, strike_step, order_from, option_text, terms_text, order_line}
 use Rattle.form.specs.Sides.{side_word}
-use Rattle.demo_text.specs.Text.{each, clear_line, order_lines, settle_line, opening_text, made_text}
+use Rattle.demo_run.specs.Text.{each, clear_line, order_lines, settle_line, opening_text, made_text}
 
 each_size : (text : ℕ → List ℕ) (size n : ℕ) → ((k : ℕ) → k < n → length (text k) ≤ size) → length (each text n) ≤ n * size
 each_size text size zero small = omega arith

@@ -1,10 +1,10 @@
 use Rattle.std.proofs.Common.{◌≡◌, ◌+◌, ◌++◌, string_bytes, ◌∙◌, ap, rules, ℕ}
-use Rattle.demo_text.specs.Draws.{after}
-use Rattle.demo_text.specs.Orders.{order_from, order_line}
-use Rattle.demo_text.specs.Text.{clear_line}
-use Rattle.demo_text.proofs.Steps.{seven_more}
-use Rattle.demo_text.proofs.Lines.{order_more}
-use Rattle.demo_text.proofs.text.append_orders.Goals as goal
+use Rattle.demo_run.specs.Draws.{after}
+use Rattle.demo_run.specs.Orders.{order_from, order_line}
+use Rattle.demo_run.specs.Text.{clear_line}
+use Rattle.demo_run.proofs.Steps.{seven_more}
+use Rattle.demo_run.proofs.Lines.{order_more}
+use Rattle.demo_run.proofs.text.append_orders.Goals as goal
 
 pub loop-index-preserved : goal.loop-index-preserved
 loop-index-preserved c =

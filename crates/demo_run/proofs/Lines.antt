@@ -1,8 +1,8 @@
 -- Lines one behind another.
 use Rattle.std.proofs.Common.{◌≡◌, ℕ, ◌+◌, ◌*◌, List, ◌++◌, add-one, append_assoc, refl}
-use Rattle.demo_text.specs.Draws.{after}
-use Rattle.demo_text.specs.Orders.{order_from, order_line}
-use Rattle.demo_text.specs.Text.{each, clear_line, order_lines}
+use Rattle.demo_run.specs.Draws.{after}
+use Rattle.demo_run.specs.Orders.{order_from, order_line}
+use Rattle.demo_run.specs.Text.{each, clear_line, order_lines}
 
 pub each_more : (text : ℕ → List ℕ) (n : ℕ) → each text (n + 1) ≡ each text n ++ text n
 each_more text n = rw add-one refl

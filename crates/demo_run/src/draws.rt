@@ -1,6 +1,6 @@
 // The draws of a seed.
 ghost use Rattle.std.specs.Prelude.{◌≡◌, ◌<◌};
-ghost use Rattle.demo_text.specs.Draws.{after, drawn};
+ghost use Rattle.demo_run.specs.Draws.{after, drawn};
 
 const MULTIPLIER: u64 = 6_364_136_223_846_793_005;
 

@@ -1,6 +1,6 @@
 use Rattle.std.proofs.Common.{ℕ, ◌/◌, ◌%◌, ap}
-use Rattle.demo_text.proofs.Steps.{wrapped_step}
-use Rattle.demo_text.proofs.draws.Draws.draw.Goals as goal
+use Rattle.demo_run.proofs.Steps.{wrapped_step}
+use Rattle.demo_run.proofs.draws.Draws.draw.Goals as goal
 
 pub returns-clause-value : goal.returns-clause-value
 returns-clause-value c = ap (λ (n : ℕ). n / 8589934592 % c.args.below) (wrapped_step c.args.self.now.state)

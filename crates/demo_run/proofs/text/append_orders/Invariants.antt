@@ -1,7 +1,7 @@
 use Rattle.std.proofs.Common.{◌≡◌, ◌*◌, ◌++◌, string_bytes}
-use Rattle.demo_text.specs.Draws.{after}
-use Rattle.demo_text.specs.Text.{each, order_lines}
-use Rattle.demo_text.proofs.text.append_orders.Given as goal
+use Rattle.demo_run.specs.Draws.{after}
+use Rattle.demo_run.specs.Text.{each, order_lines}
+use Rattle.demo_run.proofs.text.append_orders.Given as goal
 
 abbrev pub invariant-loop-index : goal.invariant-loop-index
 invariant-loop-index l =

@@ -1,7 +1,7 @@
 // The made text.
 ghost use Rattle.std.specs.Prelude.{◌≡◌, ◌≤◌, ◌<◌, ◌+◌, ◌*◌, ◌++◌, length, IfOk, OnOk, string_bytes};
-ghost use Rattle.demo_text.specs.Draws.{after};
-ghost use Rattle.demo_text.specs.Text.{each, open_line, deposit_line, of_accounts, clear_line, order_lines, settle_line, opening_text, made_text};
+ghost use Rattle.demo_run.specs.Draws.{after};
+ghost use Rattle.demo_run.specs.Text.{each, open_line, deposit_line, of_accounts, clear_line, order_lines, settle_line, opening_text, made_text};
 
 use crate::draws::Draws;
 use crate::order::DrawnOrder;

@@ -4,10 +4,10 @@ use Rattle.form.specs.declared.orders.Side.{Side}
 use Rattle.form.specs.declared.orders.Side.TheVariants.{Buy, Sell}
 use Rattle.command_text.specs.declared.command.Kind.{Kind}
 use Rattle.command_text.specs.declared.command.Kind.TheVariants.{Call, Put}
-use Rattle.demo_text.specs.declared.order.Weights.{Weights}
-use Rattle.demo_text.specs.declared.order.Weights.TheVariants.{First, Second, Both}
-use Rattle.demo_text.specs.declared.order.DrawnOrder.{DrawnOrder}
-use Rattle.demo_text.specs.Draws.{drawn}
+use Rattle.demo_run.specs.declared.order.Weights.{Weights}
+use Rattle.demo_run.specs.declared.order.Weights.TheVariants.{First, Second, Both}
+use Rattle.demo_run.specs.declared.order.DrawnOrder.{DrawnOrder}
+use Rattle.demo_run.specs.Draws.{drawn}
 use Rattle.form.specs.Sides.{side_word}
 
 -- ---- what a draw says

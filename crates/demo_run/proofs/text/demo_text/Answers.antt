@@ -1,7 +1,7 @@
 use Rattle.std.proofs.Common.{◌≡◌, rules, string_bytes, length, arith, ap}
-use Rattle.demo_text.specs.Text.{made_text}
-use Rattle.demo_text.proofs.Sizes.{made_text_size}
-use Rattle.demo_text.proofs.text.demo_text.Goals as goal
+use Rattle.demo_run.specs.Text.{made_text}
+use Rattle.demo_run.proofs.Sizes.{made_text_size}
+use Rattle.demo_run.proofs.text.demo_text.Goals as goal
 
 pub returns-clause-text : goal.returns-clause-text
 unfolding made_text

@@ -1,5 +1,0 @@
--- The modules of definitions.
-pub mod Draws
-pub mod Orders
-pub mod Text
-pub mod Worked
