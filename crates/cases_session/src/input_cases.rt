@@ -45,13 +45,13 @@ static BODIES: &str = r#"999999999,1,"open","1"
 static MALFORMED: &str =
     "7|7,1|7,1,|,1,a|7,,a|0,1,a|1000000000,1,a|7,0,a|7,1000001,a|07,1,a|-7,1,a|+7,1,a| 7,1,a|\"7\",1,a|7,1,\u{feff}a|7,1,\u{feff}|7,1,a\rb|7,1,a\r\r|\u{feff}7,1,a|\u{feff}";
 
-// How an input ends and what is written for it, where the write of this number fails; none where it is 0.
+// How an input ends and what is written for it, 64 bytes a write, where the write of this number fails; none where it is 0.
 fn outcome(
     alloc: Global,
     input: &[u8],
     write: u32,
 ) -> Result<(Result<(), AnswerStop>, MemSink), AllocError> {
-    let mut sink = MemSink::new(alloc, 1_000_000, 1_000_000, vec![in alloc; write]?)?;
+    let mut sink = MemSink::new(alloc, 1_000_000, 64, vec![in alloc; write]?)?;
     let end = if input.len() <= 16_777_216 {
         answer_messages(alloc, input, &mut sink)
     } else {
@@ -121,8 +121,7 @@ fn a_failed_write_leaves_a_front(rt: HostRuntime) -> Result<(), Fail> {
     let alloc = rt.alloc();
     let (input, output) = SESSIONS.split_once("==\n").ok_or("parts")?;
     let mut before = 0;
-    // Four accepted messages have three parts each, and the other four lines one.
-    for write in 1..=16u32 {
+    for write in 1..=10u32 {
         let (end, sink) = outcome(alloc, input.as_bytes(), write)?;
         assert_eq!(rt; end, Err(AnswerStop::WriteFault), "at write {write}");
         assert!(rt;
@@ -135,7 +134,7 @@ fn a_failed_write_leaves_a_front(rt: HostRuntime) -> Result<(), Fail> {
         );
         before = sink.written().len();
     }
-    let (end, _) = outcome(alloc, input.as_bytes(), 17)?;
+    let (end, _) = outcome(alloc, input.as_bytes(), 11)?;
     assert_eq!(rt; end, Ok(()));
     Ok(())
 }

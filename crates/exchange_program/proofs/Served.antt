@@ -9,11 +9,10 @@ use Rattle.journal_check.specs.declared.reports.Report.{Report}
 use Rattle.journal_check.specs.declared.reports.Report.TheVariants.{Sound, Faulty}
 use Rattle.journal_check.proofs.ReportsSay.{reports_say}
 use Rattle.journal_audit.proofs.AuditSays.{audits_say}
-use Rattle.all_sessions.proofs.Tell.{sessions_tell_once}
 use Rattle.exchange_lines.specs.Promises.{TellAnswers}
 use Rattle.exchange_lines.proofs.AsRun.{runs_tell_answers}
 use Rattle.proposal_lines.proofs.Telling.{outputs_tell_proposals}
-use Rattle.exchange_sessions.proofs.TellLaws.{output_tells_once}
+use Rattle.exchange_sessions.proofs.TellLaws.{output_tells_once, sessions_tell_once}
 use Rattle.guarded_lines.proofs.AsRun.{guarded_tell_answers}
 use Rattle.program_words.specs.declared.requests.Journal.{Journal}
 use Rattle.program_words.specs.declared.requests.Journal.TheVariants as writer

@@ -1,6 +1,6 @@
 -- What was taken and written when lines or messages were answered between two reads.
 use Rattle.std.specs.Prelude.{ℕ, Bool, true, false, List}
-use Rattle.all_sessions.specs.Laws.{TellAllOnce, all_sessions_output}
+use Rattle.exchange_sessions.specs.AllLines.{TellAllOnce, all_sessions_output}
 use Rattle.live_lines.specs.Serving.{Known, WroteAll, WroteBefore, WroteFront, WroteLines}
 use Rattle.live_lines.specs.declared.ended.Ended.{Ended}
 use Rattle.live_lines.specs.declared.ended.Ended.TheVariants as ended

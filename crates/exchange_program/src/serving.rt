@@ -69,7 +69,6 @@ fn respond<K: Sink>(
         (AppendsFront (K.written sink.old) (K.written sink.new) (output_for request input.now)) }
     ensures fault { IsErrOf result AnswerFailure.SinkFailed →
         Rose (K.faults sink.old) (K.faults sink.new) }
-    ensures later { K.faults sink.old ≤ K.faults sink.new }
 {
     match request {
         Request::Lines(mode) => {

@@ -1,55 +1,70 @@
--- What is written, part by part and line by line.
-use Rattle.std.proofs.Common.{◌≡◌, ℕ, ◌+◌, ◌<◌, List, [], ◌∷◌, ◌++◌, length, drop, take, take-append-drop, get_or, Option, sym, ap, subst, ◌∙◌, append_assoc, length-append, refl, arith}
-use Rattle.std.proofs.lemmas.List.{drop_more, take_at}
-use Rattle.std.proofs.KnownBytes.{Appends-nil, Appends-trans}
+-- What is written for an input that comes as one piece.
+use Rattle.std.proofs.Common.{◌≡◌, ◌≤◌, false, ℕ, List, ◌++◌, Option, length, sym, ap, ◌∙◌, subst, arith}
+use Rattle.std.proofs.KnownBytes.{Appends-trans}
 use Rattle.std.specs.Io.KnownBytes.{Appends}
 use Rattle.port_io.specs.Writes.{AppendsFront}
-use Rattle.session_gate.specs.Runs.{Replies, Served}
-use Rattle.session_lines.specs.Answers.{answer_in, answers_from, answers_text, after_said, line_text}
-use Rattle.session_lines.specs.Lines.{NumberedLine}
-use Rattle.session_lines.specs.Messages.{message_in}
-use Rattle.exchange_sessions.specs.Progress.{HasWritten}
+use Rattle.exchange_core.specs.ExchangeState.{ExchangeState, empty_exchange}
+use Rattle.exchange_lines.specs.Output.{line_output}
+use Rattle.live_lines.specs.Open.{Open, new_open}
+use Rattle.live_lines.specs.Output.{last_answer, output_of}
+use Rattle.live_lines.specs.Taken.{Completes, Stops, Took}
+use Rattle.live_lines.proofs.Fronts.{front_behind, front_longer}
+use Rattle.live_lines.proofs.Outputs.{lines_alone, lines_begin, whole_output}
+use Rattle.live_lines.proofs.Standing.{took_stands}
+use Rattle.live_lines.proofs.Within.{more_than_limit}
+use Rattle.session_lines.specs.Sessions.{SessionsState, new_sessions, session_step}
+use Rattle.session_lines.specs.Standing.{StandsBefore, stands_behind}
+use Rattle.session_lines.proofs.SessionOutputs.{outputs_are_answers}
+use Rattle.exchange_sessions.specs.Answers.{sessions_output}
 
-pub none_written : (old : Option (List ℕ)) (all : List ℕ) → HasWritten old old all all
-none_written old all = record { front = []; split = refl; wrote = Appends-nil old }
+abbrev State : Type 0
+State = SessionsState ExchangeState
 
-pub more_written : (old now new : Option (List ℕ)) (all text left rest : List ℕ) → HasWritten old now all left → Appends now new text → left ≡ text ++ rest → HasWritten old new all rest
-more_written old now new all text left rest h adds is = record {
-  front = h.front ++ text;
-  split = h.split ∙ ap (λ l. h.front ++ l) is ∙ sym (append_assoc h.front text rest);
-  wrote = Appends-trans old now new h.front text h.wrote adds;
-}
+abbrev step : ℕ → State → List ℕ → List ℕ × State
+step = session_step line_output
 
--- what is written is a front of all
-pub front_written : (old now : Option (List ℕ)) (all left : List ℕ) → HasWritten old now all left → AppendsFront old now all
-front_written old now all left h = (
-  length h.front,
-  omega (arith, ap length h.split, length-append h.front left),
-  subst (Appends old now) (sym (ap (take (length h.front)) h.split ∙ take_at h.front left (length h.front) refl)) h.wrote,
-)
+abbrev start : State
+start = new_sessions empty_exchange
 
--- a front of one text more
-pub text_cut : (old now new : Option (List ℕ)) (all text left rest : List ℕ) → HasWritten old now all left → AppendsFront now new text → left ≡ text ++ rest → AppendsFront old new all
-text_cut old now new all text left rest h adds is =
-    let cut : text ++ rest ≡ take adds.0 text ++ (drop adds.0 text ++ rest) =
-    ap (λ l. l ++ rest) (sym (take-append-drop adds.0 text)) ∙ append_assoc (take adds.0 text) (drop adds.0 text) rest in
-    front_written old new all _ (more_written old now new all (take adds.0 text) _ (drop adds.0 text ++ rest) h adds.2 (is ∙ cut))
+-- a run stands before any line
+abbrev anywhere : ℕ → ExchangeState → Type 0
+anywhere number state = Unit {0}
 
-module _ (i : ℕ) (reply : Replies) (served : Served) (lines : List NumberedLine) (line : NumberedLine) (lt : i < length lines) (at : get_or lines i line ≡ line) where
-  -- the output from line i on is its text, and then the output of the lines behind it
-  answers_from-line : answers_text (answers_from reply served (drop i lines))
-      ≡ line_text (answer_in reply served line) ++ answers_text (answers_from reply (after_said reply served (message_in line.text)) (drop (i + 1) lines))
-  answers_from-line = ap (λ l. answers_text (answers_from reply served l)) (drop_more lines i line lt ∙ ap (λ l. l ∷ drop (i + 1) lines) at)
+output_is : (input : List ℕ) → output_of step false start input ≡ sessions_output input
+output_is input = outputs_are_answers line_output empty_exchange input
 
-  -- one line more
-  pub line_written : (after : Served) → after ≡ after_said reply served (message_in line.text) → (old now new : Option (List ℕ)) (all : List ℕ)
-      → HasWritten old now all (answers_text (answers_from reply served (drop i lines))) → Appends now new (line_text (answer_in reply served line))
-      → HasWritten old new all (answers_text (answers_from reply after (drop (i + 1) lines)))
-  line_written after next old now new all h adds =
-      more_written old now new all (line_text (answer_in reply served line)) (answers_text (answers_from reply served (drop i lines))) (answers_text (answers_from reply after (drop (i + 1) lines))) h adds
-      (answers_from-line ∙ ap (λ s. line_text (answer_in reply served line) ++ answers_text (answers_from reply s (drop (i + 1) lines))) (sym next))
+module _ (first : State) (begun : Open) (new : first ≡ start) (fresh : begun ≡ new_open false) where
+  from_start : (P : State → Open → Type 0) → P first begun → P start (new_open false)
+  from_start P h = subst (λ s. P s (new_open false)) new (subst (P first) fresh h)
 
-  -- a front of one line more
-  pub line_cut : (old now new : Option (List ℕ)) (all : List ℕ) → HasWritten old now all (answers_text (answers_from reply served (drop i lines)))
-      → AppendsFront now new (line_text (answer_in reply served line)) → AppendsFront old new all
-  line_cut old now new all h adds = text_cut old now new all (line_text (answer_in reply served line)) (answers_text (answers_from reply served (drop i lines))) _ h adds answers_from-line
+  module _ (input : List ℕ) (state : State) (line : Open) (text : List ℕ) (took : Took step first begun state line input text) where
+    -- fewer bodies than lines were taken
+    pub stands : StandsBefore anywhere line.number state
+    stands =
+        let before : StandsBefore anywhere begun.number first = (omega (arith, ap (λ (s : State). s.0.served) new, ap (λ (o : Open). o.number) fresh), tt) in
+        took_stands step (StandsBefore anywhere) (stands_behind line_output anywhere (λ number at h. (tt, λ bytes. tt))) first state begun line input text took before
+
+    whole : text ++ last_answer step state line ≡ sessions_output input
+    whole = whole_output step false start state line input text (from_start (λ s o. Took step s o state line input text) took) ∙ output_is input
+
+    -- the line that is left is answered
+    pub all_written : (old now last : Option (List ℕ)) → Appends old now text → Appends now last (last_answer step state line) → Appends old last (sessions_output input)
+    all_written old now last told adds = subst (Appends old last) whole (Appends-trans old now last text (last_answer step state line) told adds)
+
+    pub last_cut : (old now last : Option (List ℕ)) → Appends old now text → AppendsFront now last (last_answer step state line) → AppendsFront old last (sessions_output input)
+    last_cut old now last told cut = subst (AppendsFront old last) whole (front_behind old now last text (last_answer step state line) told cut)
+
+  -- a front of the answers to lines that it completes
+  pub lines_cut : (input : List ℕ) (old last : Option (List ℕ)) (text : List ℕ) → AppendsFront old last text → Completes step first begun input text
+      → AppendsFront old last (sessions_output input)
+  lines_cut input old last text cut completes =
+      let h = from_start (λ s o. Completes step s o input text) completes in
+      let begins = lines_begin step false start h.lines h.rest h.within in
+      front_longer old last text (sessions_output input) begins.0 cut
+      (sym (output_is input) ∙ ap (output_of step false start) h.split ∙ begins.1 ∙ ap (λ l. l ++ begins.0) (lines_alone step false start h.lines h.within ∙ sym h.answers))
+
+  -- no line of it is too long, nor are there too many
+  pub none_too_long : (input text : List ℕ) → length input ≤ 16777216 → Stops step first begun input text → ⊥
+  none_too_long input text few stops =
+      let h = from_start (λ s o. Stops step s o input text) stops in
+      omega (arith, few, ap length h.split, more_than_limit false h.lines h.rest h.too_long)

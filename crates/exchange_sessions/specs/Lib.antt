@@ -1,4 +1,4 @@
+pub mod AllLines
 pub mod Answers
 pub mod Laws
-pub mod Progress
 pub mod Served

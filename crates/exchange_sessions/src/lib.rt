@@ -3,10 +3,8 @@
 
 mod answers;
 pub mod laws;
-mod lines;
-mod server;
+mod run_lines;
 mod stop;
 
 pub use answers::answer_messages;
-pub use server::ExchangeServer;
 pub use stop::AnswerStop;

@@ -3,7 +3,7 @@ use Rattle.std.proofs.Common.{true, false}
 use Rattle.proposal_lines.specs.Output.{proposing_line}
 use Rattle.proposal_lines.specs.Promises.{proposing_output}
 use Rattle.proposal_lines.specs.ProposingState.{empty_state}
-use Rattle.all_sessions.specs.Laws.{all_sessions_output}
+use Rattle.exchange_sessions.specs.AllLines.{all_sessions_output}
 use Rattle.session_lines.specs.Sessions.{new_sessions, session_step}
 use Rattle.served_ranges.specs.Laws.{ServedLinesAreAccepted, ServedMessagesAreAccepted}
 use Rattle.served_ranges.proofs.Lines.{Stands, empty_stands, line_answers, passes}

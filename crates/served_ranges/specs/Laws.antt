@@ -5,7 +5,7 @@ use Rattle.journal_check.specs.declared.reports.Report.TheVariants.{Sound, Fault
 use Rattle.journal_audit.specs.Findings.{audit_of}
 use Rattle.live_lines.specs.Serving.{IsInputWithin}
 use Rattle.proposal_lines.specs.Promises.{proposing_output}
-use Rattle.all_sessions.specs.Laws.{all_sessions_output}
+use Rattle.exchange_sessions.specs.AllLines.{all_sessions_output}
 
 -- the verdict is yes
 abbrev pub NamesNoLine : Report → Type 0

@@ -4,7 +4,7 @@ use Rattle.command_text.specs.declared.lines.RawLine.{RawLine}
 use Rattle.exchange_lines.specs.LineSteps.{input_line}
 use Rattle.exchange_program.proofs.Written.{line_written, line_cut, written_is}
 use Rattle.live_lines.proofs.Fronts.{on_err}
-use Rattle.exchange_sessions.proofs.Written.{front_written}
+use Rattle.exchange_program.proofs.Written.{front_written}
 use Rattle.exchange_program.proofs.lines.answer_all.Goals as goal
 
 -- what stands for a line past the last

@@ -1,7 +1,7 @@
 use Rattle.std.proofs.Common.{◌≡◌, map, drop}
 use Rattle.exchange_core.specs.ExchangeState.{empty_exchange}
 use Rattle.exchange_lines.specs.LineSteps.{input_line, output_by}
-use Rattle.exchange_sessions.specs.Progress.{HasWritten}
+use Rattle.exchange_program.specs.Progress.{HasWritten}
 use Rattle.exchange_program.proofs.lines.answer_all.Given as goal
 
 abbrev pub invariant-loop-line : goal.invariant-loop-line

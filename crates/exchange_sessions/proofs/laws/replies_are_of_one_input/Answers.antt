@@ -1,4 +1,4 @@
-use Rattle.exchange_sessions.proofs.OneInput.{replies_are_of_one_input}
+use Rattle.exchange_sessions.proofs.TellLaws.{replies_are_of_one_input}
 use Rattle.exchange_sessions.proofs.laws.replies_are_of_one_input.Goals as goal
 
 pub returns : goal.returns

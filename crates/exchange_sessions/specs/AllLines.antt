@@ -1,4 +1,4 @@
--- What holds of the answers to the messages of sessions, whose bodies are lines of any kind, proposals among them.
+-- Messages whose bodies are lines of any kind, proposals among them, each answered between two reads.
 use Rattle.std.specs.Prelude.{ℕ, List, false}
 use Rattle.exchange_sessions.specs.Laws.{SessionsTold}
 use Rattle.live_lines.specs.Output.{output_of}
