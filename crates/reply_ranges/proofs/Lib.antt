@@ -9,3 +9,15 @@ pub mod CommandRuns
 pub mod Accepted
 pub mod Lines
 pub mod Within
+pub mod Reports
+pub mod Runs
+pub mod Owed
+pub mod Margins
+pub mod Texts
+pub mod ServedFields
+pub mod Others
+pub mod Kept
+pub mod Proposals
+pub mod ServedLines
+pub mod Messages
+pub mod Audited

@@ -1,5 +1,6 @@
-//! Laws of the replies of runs, and of the journals that they are: each is the contract of a function that does nothing.
+//! Laws of what is written, and of the journals that it is: each is the contract of a function that does nothing.
 ghost use Rattle.reply_ranges.specs.Accepted.{AnswersAreWithin, RunsAreAccepted};
+ghost use Rattle.reply_ranges.specs.Audits.{ServedLinesAreAccepted, ServedMessagesAreAccepted};
 ghost use Rattle.reply_ranges.specs.Laws.{FieldsAreWithin, OutcomesAreRanged, RepliesAreWithin};
 
 /// Whatever its bytes are, a line that is refused for a number tells of a field from 2 to 51.
@@ -28,4 +29,15 @@ pub fn answers_are_within()
 /// What a run writes, whatever its input, is a sound journal, with the counts of its replies.
 pub fn runs_are_accepted()
     ensures { RunsAreAccepted }
+{}
+
+/// Whatever the lines of an input are, within the limits that a run keeps to which finishes, an audit of what is written for them
+/// says yes: quotes, prices, margins, proposals, batches that were cleared as proposals had it, and all replies of a run.
+pub fn served_lines_are_accepted()
+    ensures { ServedLinesAreAccepted }
+{}
+
+/// So does an audit of what is written for messages of sessions: replies to accepted messages, and lines of the gate.
+pub fn served_messages_are_accepted()
+    ensures { ServedMessagesAreAccepted }
 {}

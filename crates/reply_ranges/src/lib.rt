@@ -1,5 +1,5 @@
-//! The ranges of replies: what a run tells is within the ranges that the reader of its lines tests, so what it writes is a sound
-//! journal.
+//! The ranges of what is written: each line that a run writes, or that is written for lines or messages that are served, is
+//! within the ranges that its reader tests, so a check and an audit accept it.
 #![tactic(auto)]
 
 pub mod laws;

@@ -13,7 +13,7 @@ use Rattle.journal_audit.specs.Laws.{AuditSays, IsAuditedLine}
 use Rattle.journal_audit.proofs.Accepting.{sound_lines_are_found_so}
 use Rattle.journal_audit.proofs.AuditSays.{audits_say}
 use Rattle.live_lines.specs.Taken.{with_feeds}
-use Rattle.served_ranges.specs.Laws.{NamesNoLine}
+use Rattle.reply_ranges.specs.Audits.{NamesNoLine}
 
 abbrev pub HasNoFeed : List ℕ → Type 0
 HasNoFeed text = All (λ b. (b == 10) ≡ false) text

@@ -24,7 +24,7 @@ use Rattle.asked_text.specs.Lines.{IsAskedLineWithin, asked_line, asked_piece}
 use Rattle.asked_text.proofs.AskedExactly.{asked_plain}
 use Rattle.journal_check.specs.Laws.{IfCleared, IsCertified}
 use Rattle.journal_audit.specs.Laws.{IfBounded, IsServedLineOf, OfAsked, OfProposals, OfRun, ServedReply}
-use Rattle.served_ranges.proofs.Reports.{HasNoFeed}
+use Rattle.reply_ranges.proofs.Reports.{HasNoFeed}
 
 -- ---- plain texts have no line feed
 other_byte : (b : ℕ) → is_plain_byte b ≡ true → (b == 10) ≡ false

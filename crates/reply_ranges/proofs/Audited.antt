@@ -5,11 +5,11 @@ use Rattle.proposal_lines.specs.Promises.{proposing_output}
 use Rattle.proposal_lines.specs.ProposingState.{empty_state}
 use Rattle.exchange_sessions.specs.AllLines.{all_sessions_output}
 use Rattle.session_lines.specs.Sessions.{new_sessions, session_step}
-use Rattle.served_ranges.specs.Laws.{ServedLinesAreAccepted, ServedMessagesAreAccepted}
-use Rattle.served_ranges.proofs.Lines.{Stands, empty_stands, line_answers, passes}
-use Rattle.served_ranges.proofs.Messages.{StandsBefore, answers_messages, nothing_before, passes as passes_message}
-use Rattle.served_ranges.proofs.Reports.{accepted_report}
-use Rattle.served_ranges.proofs.Runs.{output_accepted}
+use Rattle.reply_ranges.specs.Audits.{ServedLinesAreAccepted, ServedMessagesAreAccepted}
+use Rattle.reply_ranges.proofs.ServedLines.{Stands, empty_stands, line_answers, passes}
+use Rattle.reply_ranges.proofs.Messages.{StandsBefore, answers_messages, nothing_before, passes as passes_message}
+use Rattle.reply_ranges.proofs.Reports.{accepted_report}
+use Rattle.reply_ranges.proofs.Runs.{output_accepted}
 
 pub served_lines_are_accepted : ServedLinesAreAccepted
 served_lines_are_accepted input within =

@@ -76,10 +76,10 @@ use Rattle.proposal_lines.proofs.Kept.{best_proved, without_has}
 use Rattle.reply_ranges.proofs.Outcomes.{outcomes_are_ranged}
 use Rattle.reply_ranges.proofs.Refusals.{IsOne, IsTold, of_book, of_ledger, refusal_is_told}
 use Rattle.reply_ranges.proofs.States.{IsNumbered, batch_is_within, batch_ranged, market_batch}
-use Rattle.served_ranges.proofs.Fields.{IsPlaced, IsPlacedIn, number_at, positions_fields}
-use Rattle.served_ranges.proofs.Kept.{AreKeptWithin, IsBestWithin, best_within, offer_within}
-use Rattle.served_ranges.proofs.Others.{IsStanding, first_served, refusal_served, run_served}
-use Rattle.served_ranges.proofs.Texts.{IsServedText, proposal_text}
+use Rattle.reply_ranges.proofs.ServedFields.{IsPlaced, IsPlacedIn, number_at, positions_fields}
+use Rattle.reply_ranges.proofs.Kept.{AreKeptWithin, IsBestWithin, best_within, offer_within}
+use Rattle.reply_ranges.proofs.Others.{IsStanding, first_served, refusal_served, run_served}
+use Rattle.reply_ranges.proofs.Texts.{IsServedText, proposal_text}
 
 -- ---- what is asked is within its ranges
 abbrev pub IsReadWithin : ReadRequest → Type 0

@@ -40,13 +40,13 @@ use Rattle.proposal_lines.proofs.Kept.{Has}
 use Rattle.proposal_lines.proofs.Telling.{charged_covered, empty_is_sound, line_told}
 use Rattle.reply_ranges.proofs.States.{charged_ranged, empty_is_ranged, more_lines}
 use Rattle.reply_ranges.proofs.Within.{line_ranged}
-use Rattle.served_ranges.proofs.Fields.{IsPlacedIfRead, proposed_placed, reads_placed}
-use Rattle.served_ranges.proofs.Kept.{AreKeptWithin, IsBestWithin}
-use Rattle.served_ranges.proofs.Others.{IsStanding, other_served}
-use Rattle.served_ranges.proofs.Owed.{IsOwedWithin, charged_owed, reply_owed}
-use Rattle.served_ranges.proofs.Proposals.{IsReadIn, clear_served, proposed_served, proposed_within, read_served, reads_within}
-use Rattle.served_ranges.proofs.Runs.{IsAnswered}
-use Rattle.served_ranges.proofs.Texts.{IsServedText}
+use Rattle.reply_ranges.proofs.ServedFields.{IsPlacedIfRead, proposed_placed, reads_placed}
+use Rattle.reply_ranges.proofs.Kept.{AreKeptWithin, IsBestWithin}
+use Rattle.reply_ranges.proofs.Others.{IsStanding, other_served}
+use Rattle.reply_ranges.proofs.Owed.{IsOwedWithin, charged_owed, reply_owed}
+use Rattle.reply_ranges.proofs.Proposals.{IsReadIn, clear_served, proposed_served, proposed_within, read_served, reads_within}
+use Rattle.reply_ranges.proofs.Runs.{IsAnswered}
+use Rattle.reply_ranges.proofs.Texts.{IsServedText}
 
 -- before the line of a number
 pub record Stands (number : ℕ) (state : ProposingState) : Type 0 where

@@ -38,10 +38,10 @@ use Rattle.journal_audit.proofs.GateTaken.{gate_plain}
 use Rattle.reply_print.specs.Within.{IsLine}
 use Rattle.proposal_lines.specs.Output.{proposing_line}
 use Rattle.proposal_lines.specs.ProposingState.{ProposingState, empty_state}
-use Rattle.served_ranges.proofs.Lines.{Stands, answers, empty_stands}
-use Rattle.served_ranges.proofs.Reports.{HasNoFeed}
-use Rattle.served_ranges.proofs.Runs.{IsAnswered}
-use Rattle.served_ranges.proofs.Texts.{both_have_none, piece_has_none, plain_has_none, with_byte}
+use Rattle.reply_ranges.proofs.ServedLines.{Stands, answers, empty_stands}
+use Rattle.reply_ranges.proofs.Reports.{HasNoFeed}
+use Rattle.reply_ranges.proofs.Runs.{IsAnswered}
+use Rattle.reply_ranges.proofs.Texts.{both_have_none, piece_has_none, plain_has_none, with_byte}
 use Rattle.reply_print.proofs.Digits.{plain-decimal}
 
 -- ---- what a line says as a message

@@ -38,7 +38,7 @@ use Rattle.run_values.proofs.Payoffs.{bundle_has, legs_small, scale_small}
 use Rattle.run_values.proofs.Readings.{IsFillOf, fills_are}
 use Rattle.run_values.proofs.Searches.{search_ends}
 use Rattle.reply_ranges.proofs.Outcomes.{state_small}
-use Rattle.served_ranges.proofs.Owed.{AreOwed, IsOwedWithin}
+use Rattle.reply_ranges.proofs.Owed.{AreOwed, IsOwedWithin}
 
 -- ---- what a run of a margin ends with
 abbrev IsMarginOf : Margin → Type 0

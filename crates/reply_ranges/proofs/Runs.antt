@@ -7,7 +7,7 @@ use Rattle.live_lines.specs.Output.{lines_output, output_of}
 use Rattle.live_lines.specs.Serving.{IsInputWithin}
 use Rattle.live_lines.specs.Taken.{AreWithin}
 use Rattle.live_lines.proofs.Places.{no_answer, output_is}
-use Rattle.served_ranges.proofs.Reports.{AreAccepted, IsAccepted, no_lines, one_more}
+use Rattle.reply_ranges.proofs.Reports.{AreAccepted, IsAccepted, no_lines, one_more}
 
 -- a sound line is written, and what is left stands before the next one
 pub record IsAnswered {S : Type 0} (Next : S → Type 0) (now : List ℕ × S) : Type 0 where

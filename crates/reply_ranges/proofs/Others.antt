@@ -75,10 +75,10 @@ use Rattle.reply_ranges.specs.Laws.{HasField}
 use Rattle.reply_ranges.proofs.Refusals.{IsOne, IsTold, first_told}
 use Rattle.reply_ranges.proofs.States.{IsRanged}
 use Rattle.reply_ranges.proofs.StepReplies.{reply_within}
-use Rattle.served_ranges.proofs.Fields.{HasMarginField, HasQuoteField, guarded_field, quotes_field}
-use Rattle.served_ranges.proofs.Margins.{margin_within, need_within}
-use Rattle.served_ranges.proofs.Owed.{AreOwed}
-use Rattle.served_ranges.proofs.Texts.{IsServedText, asked_text, run_text}
+use Rattle.reply_ranges.proofs.ServedFields.{HasMarginField, HasQuoteField, guarded_field, quotes_field}
+use Rattle.reply_ranges.proofs.Margins.{margin_within, need_within}
+use Rattle.reply_ranges.proofs.Owed.{AreOwed}
+use Rattle.reply_ranges.proofs.Texts.{IsServedText, asked_text, run_text}
 
 -- an exchange before the line behind so many
 pub record IsStanding (lines : ℕ) (state : ExchangeState) : Type 0 where
