@@ -2,7 +2,7 @@
 ghost use Rattle.std.specs.Prelude.{◌≡◌, ◌+◌, ◌≤◌, ◌<◌, ◌^◌, false, map, length, OnOk};
 ghost use Rattle.session_gate.specs.Runs.{with_bodies, after, run};
 ghost use Rattle.session_gate.specs.Gate.{message_of};
-ghost use Rattle.cases_session.specs.declared.gate_cases.Sent.{Sent};
+ghost use Rattle.cases_live.specs.declared.gate_cases.Sent.{Sent};
 
 use crate::list_server::ListServer;
 use session_gate::{Answer, Gate, MAX_NUMBER, MAX_SESSION, Server, is_body};

@@ -1,8 +1,8 @@
 use Rattle.std.proofs.Common.{◌≡◌, ◌+◌, ◌≤◌, false, length, map, take}
 use Rattle.session_gate.specs.Runs.{with_bodies, run}
 use Rattle.session_gate.specs.Gate.{message_of}
-use Rattle.cases_session.specs.declared.gate_cases.Sent.{Sent}
-use Rattle.cases_session.proofs.gate_cases.send_all.Given as goal
+use Rattle.cases_live.specs.declared.gate_cases.Sent.{Sent}
+use Rattle.cases_live.proofs.gate_cases.send_all.Given as goal
 
 abbrev pub invariant-loop-sent : goal.invariant-loop-sent
 invariant-loop-sent g l =

@@ -2,9 +2,9 @@ use Rattle.std.proofs.Common.{rules, ◌≡◌, ◌+◌, ◌<◌, ◌++◌, List
 use Rattle.std.proofs.lemmas.List.{take_more, map-append}
 use Rattle.session_gate.specs.Gate.{message_of, Message}
 use Rattle.session_gate.specs.Runs.{Served, with_bodies, run}
-use Rattle.cases_session.specs.declared.gate_cases.Sent.{Sent}
+use Rattle.cases_live.specs.declared.gate_cases.Sent.{Sent}
 use Rattle.session_gate.proofs.RunLaws.{run-push}
-use Rattle.cases_session.proofs.gate_cases.send_all.Goals as goal
+use Rattle.cases_live.proofs.gate_cases.send_all.Goals as goal
 
 abbrev as_message : Sent → Message
 as_message sent = message_of sent.session sent.number sent.body.now
