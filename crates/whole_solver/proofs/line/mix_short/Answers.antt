@@ -1,8 +1,8 @@
-use Rattle.std.proofs.Common.{◌≡◌, ◌≤◌, ◌+◌, ◌*◌, true, refl, sym, subst, arith, unsigned_abs, rules, FitsSigned, w64, List, ℤ}
+use Rattle.std.proofs.Common.{◌≡◌, ◌≤◌, ◌+◌, ◌*◌, true, refl, sym, subst, arith, unsigned_abs, rules, w64, List, ℤ}
 use Rattle.std.proofs.lemmas.Bool.{le-leb}
 use Rattle.std.proofs.lemmas.Int.{to_z-of_z}
 use Rattle.std.proofs.lemmas.List.{map-id}
-use Rattle.whole_rows.specs.Lines.{AreSizes, line_of, numbers_fit, widest}
+use Rattle.whole_rows.specs.Lines.{AreSizes, numbers_fit, widest}
 use Rattle.whole_rows.specs.Turning.{cross_difference}
 use Rattle.whole_rows.proofs.LineSteps.{fit_of_sizes}
 use Rattle.whole_solver.proofs.Numbers.{mixed_sizes}

@@ -1,4 +1,4 @@
-use Rattle.std.proofs.Common.{rules, refl, sym, ◌∙◌, ap, arith, subst, FitsSigned, w64, pos, slice_index_or, length, ◌≡◌, ◌<◌, ◌≤◌, true, false, ℤ}
+use Rattle.std.proofs.Common.{rules, refl, sym, ◌∙◌, ap, arith, subst, FitsSigned, w64, pos, slice_index_or, length, ◌≡◌, ◌<◌, ◌≤◌, true, false}
 use mir.Syntax.{w128}
 use Rattle.std.proofs.lemmas.Int.{to_z-of_z}
 use Rattle.std.proofs.lemmas.List.{length-set, take_all}

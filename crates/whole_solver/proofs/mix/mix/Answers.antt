@@ -1,4 +1,4 @@
-use Rattle.std.proofs.Common.{◌≡◌, ◌≤◌, ◌+◌, ◌*◌, ◌*ℤ◌, ◌∙◌, ℕ, ℤ, List, ap, arith, length, map, sym, subst, unsigned_abs}
+use Rattle.std.proofs.Common.{◌∙◌, ℤ, List, ap, arith, length, map, sym, subst, unsigned_abs}
 use Rattle.std.proofs.lemmas.List.{length-map}
 use Rattle.whole_rows.specs.Turning.{cross_difference}
 use Rattle.whole_solver.specs.Within.{HasRoom}

@@ -1,6 +1,5 @@
-use Rattle.std.proofs.Common.{◌∙◌, ap, sym, subst, arith, length, map, pos, unsigned_abs, ◌*ℤ◌, ◌*◌, ◌≤◌, ◌<◌, ◌≡◌, ℤ, set}
+use Rattle.std.proofs.Common.{◌∙◌, ap, sym, subst, arith, length, map, pos, unsigned_abs, ◌*ℤ◌, ◌*◌, ◌≤◌, ◌<◌, ℤ}
 use Rattle.std.proofs.lemmas.List.{length-map, length-set, map-set, get_or-set_other}
-use Rattle.whole_rows.specs.Lines.{number_at}
 use Rattle.whole_solver.proofs.Numbers.{written_more, written_all, at_map, times_one}
 use Rattle.whole_solver.proofs.Words.{at_word}
 use Rattle.whole_solver.proofs.mix.multiply.Goals as goal

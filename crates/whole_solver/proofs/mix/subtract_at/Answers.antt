@@ -1,7 +1,6 @@
 use Rattle.std.proofs.Common.{rules, ◌∙◌, ◌≡◌, ◌≤◌, ◌+◌, ◌*◌, ◌-ℤ◌, ◌*ℤ◌, ap, sym, subst, map, set, pos, ℤ, unsigned_abs, slice_index_or, FitsSigned, w64}
 use Rattle.std.proofs.lemmas.Int.{to_z-of_z}
 use Rattle.std.proofs.lemmas.List.{map-set}
-use Rattle.whole_rows.specs.Lines.{number_at}
 use Rattle.whole_solver.proofs.Words.{at_word}
 use Rattle.whole_solver.proofs.mix.subtract_at.Goals as goal
 

@@ -1,4 +1,4 @@
-use Rattle.std.proofs.Common.{◌≡◌, ◌<◌, ◌≤◌, ◌+◌, ◌*◌, ◌∙◌, ap, sym, subst, arith, ℤ, List, ℕ, length, length-set, map, slice_index_or, unsigned_abs, pos}
+use Rattle.std.proofs.Common.{◌<◌, ◌≤◌, ◌+◌, ◌*◌, ◌∙◌, ap, sym, subst, arith, ℤ, List, ℕ, length, length-set, map, slice_index_or, unsigned_abs, pos}
 use Rattle.std.proofs.lemmas.List.{length-map, get_or-set_other}
 use Rattle.exact_num.specs.Fraction.{whole}
 use Rattle.compact_table.proofs.Nonzero.{place_inside}
