@@ -50,7 +50,7 @@ optimum-requires-clause-x g c =
     let same = ap program_given c.in_ok-space.ensures in
     let told = sym (c.in_ok-run.was ∙ ap Ok c.if-branch.true) ∙ c.run.ensures.answer in
     let there = has_optimum (program_given c.in_ok-space.space.contents) E c.run.new.self.contents c.run.ensures.holds told c.run.ensures.contents in
-    c.in_ok-x.ensures ∙ sym (there.x ∙ ap (λ (p : LinearProgram). p.variables) same)
+    c.in_ok-x.ensures.count ∙ sym (there.x ∙ ap (λ (p : LinearProgram). p.variables) same)
 
 pub optimum-requires-clause-y : goal.optimum-requires-clause-y
 optimum-requires-clause-y g c =
@@ -58,7 +58,7 @@ optimum-requires-clause-y g c =
     let same = ap program_given c.in_ok-space.ensures in
     let told = sym (c.in_ok-run.was ∙ ap Ok c.if-branch.true) ∙ c.run.ensures.answer in
     let there = has_optimum (program_given c.in_ok-space.space.contents) E c.run.new.self.contents c.run.ensures.holds told c.run.ensures.contents in
-    c.in_ok-y.ensures ∙ sym (there.y ∙ ap (λ (p : LinearProgram). p.rows) same)
+    c.in_ok-y.ensures.count ∙ sym (there.y ∙ ap (λ (p : LinearProgram). p.rows) same)
 
 pub optimum-requires-clause-reduced : goal.optimum-requires-clause-reduced
 optimum-requires-clause-reduced g c =
@@ -66,7 +66,7 @@ optimum-requires-clause-reduced g c =
     let same = ap program_given c.in_ok-space.ensures in
     let told = sym (c.in_ok-run.was ∙ ap Ok c.if-branch.true) ∙ c.run.ensures.answer in
     let there = has_optimum (program_given c.in_ok-space.space.contents) E c.run.new.self.contents c.run.ensures.holds told c.run.ensures.contents in
-    c.in_ok-reduced.ensures ∙ sym (there.reduced ∙ ap (λ (p : LinearProgram). p.variables) same)
+    c.in_ok-reduced.ensures.count ∙ sym (there.reduced ∙ ap (λ (p : LinearProgram). p.variables) same)
 
 pub without_limit-requires-clause-x : goal.without_limit-requires-clause-x
 without_limit-requires-clause-x g c =
@@ -74,7 +74,7 @@ without_limit-requires-clause-x g c =
     let same = ap program_given c.in_ok-space.ensures in
     let told = sym (c.in_ok-run.was ∙ ap Ok c.if-branch.false) ∙ c.run.ensures.answer in
     let there = has_direction (program_given c.in_ok-space.space.contents) E c.run.new.self.contents c.run.ensures.holds told c.run.ensures.contents in
-    c.in_ok-x.ensures ∙ sym (there.direction ∙ ap (λ (p : LinearProgram). p.variables) same)
+    c.in_ok-x.ensures.count ∙ sym (there.direction ∙ ap (λ (p : LinearProgram). p.variables) same)
 
 pub returns-then-branch-clause-holds : goal.returns-then-branch-clause-holds
 returns-then-branch-clause-holds g c =
