@@ -37,28 +37,51 @@ fn word(why: Why) -> &'static str
     }
 }
 
+fn malformed_value(alloc: Global, line: u32) -> Result<Value, AllocError>
+    ensures { IfOk result (λ v. view v ≡ piece_data (gate_piece line refused.Malformed)) }
+{
+    json!(in alloc; {
+        "line": line, "number": 15, "reason": "Malformed", "reply": "gate"
+    })
+}
+
+fn sessions_value(alloc: Global, line: u32, session: u32) -> Result<Value, AllocError>
+    ensures { IfOk result (λ v. view v ≡ piece_data (gate_piece line (refused.Sessions session))) }
+{
+    json!(in alloc; {
+        "line": line, "number": 19, "reason": "Sessions", "reply": "gate", "session": session
+    })
+}
+
+fn expecting_value(
+    alloc: Global,
+    line: u32,
+    session: u32,
+    expected: u32,
+    why: Why,
+) -> Result<Value, AllocError>
+    ensures { IfOk result (λ v.
+        view v ≡ piece_data (gate_piece line (refused.Expecting session expected why))) }
+{
+    let number = number(why);
+    let word = word(why);
+    json!(in alloc; {
+        "expected": expected, "line": line, "number": number, "reason": word,
+        "reply": "gate", "session": session
+    })
+}
+
 fn gate_value(alloc: Global, line: u32, refused: GateLine) -> Result<Value, AllocError>
     ensures { IfOk result (λ v. view v ≡ piece_data (gate_piece line refused)) }
 {
     match refused {
-        GateLine::Malformed => json!(in alloc; {
-            "line": line, "number": 15, "reason": "Malformed", "reply": "gate"
-        }),
-        GateLine::Sessions { session } => json!(in alloc; {
-            "line": line, "number": 19, "reason": "Sessions", "reply": "gate", "session": session
-        }),
+        GateLine::Malformed => malformed_value(alloc, line),
+        GateLine::Sessions { session } => sessions_value(alloc, line, session),
         GateLine::Expecting {
             session,
             expected,
             why,
-        } => {
-            let number = number(why);
-            let word = word(why);
-            json!(in alloc; {
-                "expected": expected, "line": line, "number": number, "reason": word,
-                "reply": "gate", "session": session
-            })
-        }
+        } => expecting_value(alloc, line, session, expected, why),
     }
 }
 
