@@ -1,5 +1,5 @@
 //! The clearing of a batch in narrow numbers first, and where one does not fit, in 128 bits.
-ghost use Rattle.std.specs.Prelude.{◌≡◌, ◌≤◌, IfOk, map, unsigned_abs};
+ghost use Rattle.std.specs.Prelude.{◌≡◌, ◌≤◌, IfOk, length, map, unsigned_abs, vec_capacity};
 ghost use Rattle.frac.specs.Range.{limit as largest, narrow_limit};
 ghost use Rattle.frac.specs.Value.{fraction_of};
 ghost use Rattle.clearing_model.specs.Certificate.{AreFractionFills};
@@ -9,33 +9,40 @@ ghost use Rattle.cert_check.specs.Conditions.{IfOptimal};
 ghost use Rattle.cert_check.specs.Events.{verdict_of};
 ghost use Rattle.cert_check.specs.Laws.{IsCovered, IsMeasured, IsProved};
 ghost use Rattle.clearing.specs.Outcome.{HasEnoughUnits, IsMarked, outcome_of};
+ghost use Rattle.clearing.specs.Rooms.{IsClearRoom};
 ghost use Rattle.narrow_clearing.specs.Passes.{IsPass, unjudged_in};
 ghost use Rattle.narrow_clearing.specs.Rooms.{IsFirstRoom};
+ghost use Rattle.rounds.specs.Rooms.{IsJointRoom};
 
 use crate::passes::Pass;
 use crate::room::{FirstRoom, Room};
 use cert_check::Outcome;
+use clearing::ClearRoom;
 use exact_num::Exact;
 use form::Batch;
-use rounds::widened;
+use frac::Frac128;
+use rounds::{JointRoom, widened};
 use simplex::{Budget, RunStop};
 use std::alloc::{AllocError, Global};
 
 /// The outcome of a batch by a run in these numbers, where each number before the sums of the verdict fits, and else by a run
 /// in 128 bits. The sums are in 128 bits.
-fn outcome_first<N: Exact>(batch: &Batch, limit: u32, room: FirstRoom<N>) -> (Outcome, Pass)
+fn outcome_by<N: Exact>(
+    batch: &Batch,
+    limit: u32,
+    first: &mut JointRoom<N>,
+    fills: Vec<Frac128>,
+    broad: &mut ClearRoom,
+) -> (Outcome, Pass)
     requires within { IsWithinLimits batch.now }
     requires limit { limit ≤ 20000 }
     requires narrow { unsigned_abs N.LIMIT ≤ largest }
-    requires room { IsFirstRoom batch.now limit room }
+    requires first { IsJointRoom batch.now limit first.old }
+    requires fills { length batch.now.orders ≤ vec_capacity fills }
+    requires broad { IsClearRoom batch.now limit broad.old }
     ensures outcome { result.0 ≡ outcome_of batch.now limit }
     ensures pass { IsPass (unjudged_in (unsigned_abs N.LIMIT) batch.now limit) result.1 }
 {
-    let FirstRoom {
-        mut first,
-        fills,
-        mut broad,
-    } = room;
     let mut budget = Budget::new(limit);
     match first.solve_unjudged(batch, &mut budget) {
         Ok(joint) => {
@@ -49,6 +56,23 @@ fn outcome_first<N: Exact>(batch: &Batch, limit: u32, room: FirstRoom<N>) -> (Ou
         }
         Err(RunStop::Wide { .. }) => (broad.clear(batch, limit), Pass::Broad),
     }
+}
+
+/// The same in given room.
+fn outcome_first<N: Exact>(batch: &Batch, limit: u32, room: FirstRoom<N>) -> (Outcome, Pass)
+    requires within { IsWithinLimits batch.now }
+    requires limit { limit ≤ 20000 }
+    requires narrow { unsigned_abs N.LIMIT ≤ largest }
+    requires room { IsFirstRoom batch.now limit room }
+    ensures outcome { result.0 ≡ outcome_of batch.now limit }
+    ensures pass { IsPass (unjudged_in (unsigned_abs N.LIMIT) batch.now limit) result.1 }
+{
+    let FirstRoom {
+        mut first,
+        fills,
+        mut broad,
+    } = room;
+    outcome_by(batch, limit, &mut first, fills, &mut broad)
 }
 
 /// Clears a batch in given room as `clear` does, and tells in which numbers: the master programs, searches and rounds are run

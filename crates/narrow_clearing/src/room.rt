@@ -28,8 +28,8 @@ impl<N: Exact> FirstRoom<N> {
         ensures { IfOk result (IsFirstRoom batch.now limit) }
     {
         Ok(FirstRoom {
-            first: JointRoom::new(alloc, batch, limit)?,
             fills: Vec::with_capacity(alloc, batch.orders.as_slice().len())?,
+            first: JointRoom::new(alloc, batch, limit)?,
             broad: ClearRoom::new(alloc, batch, limit)?,
         })
     }

@@ -5,7 +5,7 @@ use Rattle.table_run.specs.Ending.{HasNoMisfit, done, no_unit_left}
 use Rattle.clearing.proofs.OutcomeEnds.{IsJointAnswer-budget}
 use Rattle.narrow_clearing.specs.Passes.{unjudged_in}
 use Rattle.narrow_clearing.proofs.NarrowRuns.{narrow_run, run_with}
-use Rattle.narrow_clearing.proofs.narrow.outcome_first.Goals as goal
+use Rattle.narrow_clearing.proofs.narrow.outcome_by.Goals as goal
 
 pub returns-in-Ok : goal.returns-in-Ok
 returns-in-Ok g c =
