@@ -148,6 +148,39 @@ fn asked(form: &Form, side: Side, quantity: u32) -> Order
     }
 }
 
+/// The prices of both sides, cleared in that room.
+fn prices_in(
+    alloc: Global,
+    batch: &Batch,
+    form: &Form,
+    quantity: u32,
+    limit: u32,
+    room: &mut ClearRoom,
+) -> Result<MarketPrices, AllocError>
+    requires within { IsWithinLimits batch.now }
+    requires room { length batch.now.orders ≤ 255 }
+    requires ids { All (λ order. order.id ≤ 1000000) batch.now.orders }
+    requires listed { IsListed (option_of form.now) }
+    requires on { form.now.count ≡ batch.now.underlyings + 1 }
+    requires quantity { (1 ≤ quantity) × (quantity ≤ 1000000) }
+    requires limit { (1 ≤ limit) × (limit ≤ 20000) }
+    ensures defined { IfOk result (λ prices. prices ≡ prices_of batch.now form.now quantity limit) }
+    ensures ask { IfOk result (λ prices. IfMarked prices (λ base ask bid.
+        IsImplied batch.now (asked form.now Side.Buy quantity) limit base ask)) }
+    ensures bid { IfOk result (λ prices. IfMarked prices (λ base ask bid.
+        IsImplied batch.now (asked form.now Side.Sell quantity) limit base bid)) }
+{
+    let buy = asked(form, Side::Buy, quantity);
+    let sell = asked(form, Side::Sell, quantity);
+    let base = outcome_in(alloc, batch, limit, room)?;
+    if !is_optimal(&base) {
+        return Ok(MarketPrices::Unmarked { base });
+    }
+    let ask = side_price(alloc, batch, buy, limit, &base, room)?;
+    let bid = side_price(alloc, batch, sell, limit, &base, room)?;
+    Ok(MarketPrices::Marked { base, ask, bid })
+}
+
 /// The whole prices at which a further order for `quantity` bundles of the option raises the greatest surplus of the batch: the
 /// least for a buy, which the market asks, and the greatest for a sell, which it bids. The greatest surplus is convex in the
 /// price of the order, with its fill as the slope, so each clear that raises it tells the next price: where the line through it
@@ -181,13 +214,6 @@ pub fn implied_prices(
         IsImplied batch.now (asked form.now Side.Sell quantity) limit base bid)) }
 {
     let buy = asked(form, Side::Buy, quantity);
-    let sell = asked(form, Side::Sell, quantity);
     let mut room = room_with(alloc, batch, buy, limit)?;
-    let base = outcome_in(alloc, batch, limit, &mut room)?;
-    if !is_optimal(&base) {
-        return Ok(MarketPrices::Unmarked { base });
-    }
-    let ask = side_price(alloc, batch, buy, limit, &base, &mut room)?;
-    let bid = side_price(alloc, batch, sell, limit, &base, &mut room)?;
-    Ok(MarketPrices::Marked { base, ask, bid })
+    prices_in(alloc, batch, form, quantity, limit, &mut room)
 }

@@ -97,6 +97,43 @@ fn from_best(
     from_worst(alloc, batch, order, limit, base, best, room)
 }
 
+/// The quote, cleared in that room.
+fn quote_in(
+    alloc: Global,
+    batch: &Batch,
+    form: &Form,
+    side: Side,
+    limit: u32,
+    room: &mut ClearRoom,
+) -> Result<Quoted, AllocError>
+    requires within { IsWithinLimits batch.now }
+    requires room { length batch.now.orders ≤ 255 }
+    requires ids { All (λ order. order.id ≤ 1000000) batch.now.orders }
+    requires listed { IsListed (option_of form.now) }
+    requires on { form.now.count ≡ batch.now.underlyings + 1 }
+    requires limit { (1 ≤ limit) × (limit ≤ 20000) }
+    ensures defined { IfOk result (λ quoted.
+        quoted ≡ quoted_of batch.now (further form.now side) limit) }
+    ensures raises { IfOk result (λ quoted. IfAt quoted (λ price raising beside base.
+        RaisesFrom batch.now (further form.now side) base price)) }
+    ensures shown { IfOk result (λ quoted.
+        IfAt quoted (AreShown batch.now (further form.now side) limit)) }
+    ensures never { IfOk result (λ quoted.
+        IfNever quoted (IsNever batch.now (further form.now side) limit)) }
+    ensures unmarked { IfOk result (λ quoted.
+        unmarked_of quoted ≡ first_unmarked (probes batch.now (further form.now side) limit)) }
+{
+    let order = further(form, side);
+    let base = outcome_in(alloc, batch, limit, room)?;
+    if !is_optimal(&base) {
+        return Ok(Quoted::Unmarked {
+            probe: None,
+            outcome: base,
+        });
+    }
+    from_best(alloc, batch, order, limit, base, room)
+}
+
 /// The whole price at which a further buy or sell of one bundle of the option raises the greatest surplus of the batch: the
 /// least for a buy, the greatest for a sell. At most 43 batches are cleared, each with at most `limit` units of work: the batch
 /// itself, and the batch with one order more at the best price for a match, at the worst, and then at the middle of the gap
@@ -139,12 +176,5 @@ pub fn quote(
 {
     let order = further(form, side);
     let mut room = room_with(alloc, batch, order, limit)?;
-    let base = outcome_in(alloc, batch, limit, &mut room)?;
-    if !is_optimal(&base) {
-        return Ok(Quoted::Unmarked {
-            probe: None,
-            outcome: base,
-        });
-    }
-    from_best(alloc, batch, order, limit, base, &mut room)
+    quote_in(alloc, batch, form, side, limit, &mut room)
 }
