@@ -11,5 +11,5 @@ pub mod points;
 
 pub use book::{Book, NearLeg, NearOrder, Scales};
 pub use master::{Master, SMALL};
-pub use node::{Found, LegMultiplier, Question, RAY_TOLERANCE, solve_node};
+pub use node::{Found, LegMultiplier, Question, RAY_TOLERANCE, solve_closing, solve_node};
 pub use points::NearState;

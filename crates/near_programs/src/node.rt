@@ -11,8 +11,8 @@ const NODE_TURNS: Turns = Turns {
     pivot: 5.960464477539063e-8,
     cap: 400,
 };
-// The most that a multiplier of a long leg may be, in scaled fills.
-const TOP: f64 = 64.0;
+// The most that a multiplier of a long leg may be, in scaled fills: signs that no state has are told apart by much of both.
+const TOP: f64 = 1024.0;
 /// What is owed along a ray and counts for nothing: 2^-31.
 pub const RAY_TOLERANCE: f64 = 4.656612873077393e-10;
 
@@ -129,35 +129,49 @@ fn columns_of(alloc: Global, book: &Book, question: Question) -> Result<Vec<Colu
     Ok(columns)
 }
 
-// Row 0 asks for the least slack of all slopes, row 1 for the least first entry.
-fn set_objectives(table: &mut Table, columns: &[Column], sums: &[f64; 9]) {
+// A table whose row 0 asks for the least slack of all other rows. Row 1 is to be set.
+fn slack_table(alloc: Global, columns: &[Column]) -> Result<Table, AllocError> {
+    let mut table = Table::new(alloc, columns.len().saturating_add(1), 2)?;
     for (j, column) in columns.iter().enumerate() {
-        table.set(1, j, column.factor * column.form[0]);
         table.set_upper(j, column.bound);
     }
     table.set(0, columns.len(), 1.0);
-    table.set(1, table.width(), -sums[0]);
+    Ok(table)
 }
 
-// The row of an underlying: its slope less the common slack is at most 0.
-fn add_slope(
+// Row 1 asks for the least first entry.
+fn ask_least_entry(table: &mut Table, columns: &[Column], sum: f64) {
+    for (j, column) in columns.iter().enumerate() {
+        table.set(1, j, column.factor * column.form[0]);
+    }
+    table.set(1, table.width(), -sum);
+}
+
+// Row 1 asks for the least cost.
+fn ask_least_cost(table: &mut Table, columns: &[Column], costs: &[f64]) {
+    for (j, column) in columns.iter().enumerate() {
+        table.set(1, j, entry(costs, column.leg));
+    }
+}
+
+// The row of an entry: its sum less the common slack is at most 0.
+fn add_entry_row(
     table: &mut Table,
     columns: &[Column],
     sum: f64,
-    underlying: usize,
-    below: f64,
+    place: usize,
 ) -> Result<(), AllocError> {
     let mut row = Vec::new(table.allocator());
     for column in columns {
-        row.push(column.factor * entry(&column.form, underlying))?;
+        row.push(column.factor * entry(&column.form, place))?;
     }
     row.push(-1.0)?;
-    row.push(-below - sum)?;
+    row.push(-sum)?;
     let _ = table.add_row(row)?;
     Ok(())
 }
 
-// The row of the slope that is furthest above 0.
+// The row of the entry that is furthest above what it may be.
 fn worst_row(table: &Table) -> Option<usize> {
     let side = table.width();
     let mut worst = 0.0;
@@ -207,7 +221,7 @@ fn largest_column(table: &Table, row: usize) -> Option<usize> {
     column
 }
 
-// Brings the slopes to 0; answers what is left of the slack.
+// Brings the common slack to 0; answers what is left of it.
 fn first_phase(table: &mut Table, slack: usize) -> Result<f64, AllocError> {
     let Some(worst) = worst_row(table) else {
         return Ok(0.0);
@@ -235,19 +249,16 @@ fn take_out(table: &mut Table, slack: usize) -> Result<(), AllocError> {
 }
 
 // The multipliers of the columns that are above 0.
-fn read_multipliers(
-    table: &Table,
-    columns: &[Column],
-    found: &mut Found,
-) -> Result<(), AllocError> {
+fn read_multipliers(table: &Table, columns: &[Column]) -> Result<Vec<LegMultiplier>, AllocError> {
+    let mut multipliers = Vec::new(table.allocator());
     for (j, column) in columns.iter().enumerate() {
         let value = table.value_of(j);
         if value > 0.0 {
             let leg = column.leg;
-            found.multipliers.push(LegMultiplier { leg, value })?;
+            multipliers.push(LegMultiplier { leg, value })?;
         }
     }
-    Ok(())
+    Ok(multipliers)
 }
 
 // The rows of the first slopes.
@@ -260,7 +271,7 @@ fn add_slopes(
 ) -> Result<(), AllocError> {
     for underlying in 0..underlyings {
         let place = underlying.saturating_add(1);
-        add_slope(table, columns, entry(sums, place), place, below)?;
+        add_entry_row(table, columns, entry(sums, place) + below, place)?;
     }
     Ok(())
 }
@@ -273,9 +284,26 @@ fn table_of(
     question: Question,
 ) -> Result<Table, AllocError> {
     let sums = long_sums(book, question.fills, question.signs);
-    let mut table = Table::new(alloc, columns.len().saturating_add(1), 2)?;
-    set_objectives(&mut table, columns, &sums);
+    let mut table = slack_table(alloc, columns)?;
+    ask_least_entry(&mut table, columns, sums[0]);
     add_slopes(&mut table, columns, &sums, book.underlyings, question.below)?;
+    Ok(table)
+}
+
+// The table of the multipliers of least cost.
+fn closing_table(
+    alloc: Global,
+    book: &Book,
+    columns: &[Column],
+    question: Question,
+    enough: f64,
+    costs: &[f64],
+) -> Result<Table, AllocError> {
+    let sums = long_sums(book, question.fills, question.signs);
+    let mut table = slack_table(alloc, columns)?;
+    ask_least_cost(&mut table, columns, costs);
+    add_slopes(&mut table, columns, &sums, book.underlyings, question.below)?;
+    add_entry_row(&mut table, columns, sums[0] - enough, 0)?;
     Ok(table)
 }
 
@@ -300,6 +328,26 @@ pub fn solve_node(alloc: Global, book: &Book, question: Question) -> Result<Foun
     table.primal(1, slack, NODE_TURNS)?;
     let value = -table.at(1, table.width());
     let mut found = found_at(alloc, &table, 1, 1.0, value);
-    read_multipliers(&table, &columns, &mut found)?;
+    found.multipliers = read_multipliers(&table, &columns)?;
     Ok(found)
+}
+
+/// The multipliers of least cost that close a node at this liability, each at its leg's cost for each 1 of it; None where none
+/// do. Two phases of at most 400 turns. The error is want of memory.
+pub fn solve_closing(
+    alloc: Global,
+    book: &Book,
+    question: Question,
+    enough: f64,
+    costs: &[f64],
+) -> Result<Option<Vec<LegMultiplier>>, AllocError> {
+    let columns = columns_of(alloc, book, question)?;
+    let slack = columns.len();
+    let mut table = closing_table(alloc, book, &columns, question, enough, costs)?;
+    if first_phase(&mut table, slack)? > 0.0 {
+        return Ok(None);
+    }
+    table.primal(1, slack, NODE_TURNS)?;
+    let multipliers = read_multipliers(&table, &columns)?;
+    Ok(Some(multipliers))
 }

@@ -5,23 +5,25 @@ use near_programs::node::{
 };
 use near_programs::points::{NearState, net_at, reach_from_zero, state_of};
 use near_programs::{Book, LegMultiplier, Master, NearLeg};
-use near_tables::{add_times, entry, from_zero};
+use near_tables::{add_times, entry, from_zero, set_entry};
 use std::alloc::{AllocError, Global};
 
 // The most nodes of a tree.
 const MOST_NODES: usize = 20_000;
-// The bytes of a node as it is written, about.
-const NODE_BYTES: usize = 14;
-// The bytes of a multiplier as it is written, about: of a whole number, and of another.
-const WHOLE_BYTES: usize = 20;
+// The bytes of a tree as it is written, about, for each node, and for each node and underlying.
+const NODE_BYTES: usize = 45;
 
-const FRACTION_BYTES: usize = 52;
+const SLOPE_BYTES: usize = 14;
 // The most bytes of a tree as it is written, about.
-const MOST_BYTES: usize = 900_000;
+const MOST_BYTES: usize = 1_000_000;
+// The legs that a tree which is grown with care compares before it splits a leaf.
+const COMPARED: usize = 12;
 // The most looks at open leaves in a round.
 const MOST_LOOKS: u32 = 40_000;
-// The excess of a ray.
-const MOST_EXCESS: f64 = 1e200;
+// What the excess of a ray is counted above what is owed along it, so that rays come first.
+const RAY_EXCESS: f64 = 1e6;
+// The least part of a leaf's excess that a side of it counts as closing.
+const LEAST_GAIN: f64 = 1e-6;
 // The most violated states that a round gathers.
 const MOST_STATES: usize = 30;
 
@@ -44,8 +46,6 @@ pub struct Leaf {
     node: usize,
     pub signs: Vec<i8>,
     multipliers: Vec<LegMultiplier>,
-    // of the multipliers as they are written, about
-    bytes: usize,
     is_split: bool,
 }
 
@@ -57,8 +57,8 @@ pub struct Tree {
     pub leaves: Vec<Leaf>,
     /// Whether it was to have more nodes, or more bytes as it is written, than it may have.
     pub is_full: bool,
-    // of its leaves' multipliers as they are written, about
-    bytes: usize,
+    // whether legs are compared before a leaf is split
+    is_careful: bool,
 }
 
 // A leaf that is not closed: where, and by how much.
@@ -116,20 +116,6 @@ fn has_slope_above(sums: &[f64; 9]) -> bool {
     false
 }
 
-// The bytes of a multiplier as it is written, about: a whole number where it is the fill of an order that is filled whole.
-fn bytes_of(aim: Aim, leg: &NearLeg, value: f64) -> usize {
-    let Some(order) = aim.book.orders.get(leg.order) else {
-        return 0;
-    };
-    let fills = aim.master.fills.as_slice();
-    let is_whole = entry(fills, leg.order) >= order.most;
-    if !leg.is_long && is_whole && value >= fill_of(leg, fills) {
-        WHOLE_BYTES
-    } else {
-        FRACTION_BYTES
-    }
-}
-
 impl Leaf {
     // Whether the multipliers that it had last close it.
     fn is_still_closed(&self, aim: Aim) -> bool {
@@ -155,7 +141,6 @@ impl Leaf {
         let Some(leg) = aim.book.legs.get(kept.leg) else {
             return Ok(());
         };
-        self.bytes = self.bytes.saturating_add(bytes_of(aim, leg, kept.value));
         if !leg.is_long {
             kept.value = kept.value / fill_of(leg, &aim.master.fills);
         }
@@ -166,7 +151,6 @@ impl Leaf {
     // Keeps the multipliers of an answer.
     fn keep(&mut self, aim: Aim, found: &Found) -> Result<(), AllocError> {
         self.multipliers.clear();
-        self.bytes = 0;
         for multiplier in found.multipliers.iter() {
             self.keep_one(aim, multiplier)?;
         }
@@ -178,26 +162,37 @@ impl Leaf {
         if self.is_split || self.is_still_closed(aim) {
             return Ok(None);
         }
-        let question = Question {
-            fills: &aim.master.fills,
-            signs: &self.signs,
-            holds: true,
-            below: 0.0,
-        };
-        let found = solve_node(aim.alloc, aim.book, question)?;
+        let found = solve_signs(aim, &self.signs)?;
         self.keep(aim, &found)?;
         Ok(open_by(aim, place, &found))
     }
 }
 
-// How a leaf is open by an answer, where it is.
-fn open_by(aim: Aim, leaf: usize, found: &Found) -> Option<Open> {
+// Solves the program of a leaf with these signs.
+fn solve_signs(aim: Aim, signs: &[i8]) -> Result<Found, AllocError> {
+    let question = Question {
+        fills: &aim.master.fills,
+        signs,
+        holds: true,
+        below: 0.0,
+    };
+    solve_node(aim.alloc, aim.book, question)
+}
+
+// By how much more than the liability a leaf wants; 0 where that is forgiven.
+fn excess_of(aim: Aim, found: &Found) -> f64 {
     let excess = if found.is_ray() {
-        MOST_EXCESS
+        RAY_EXCESS + found.value
     } else {
         found.value - aim.master.liability
     };
-    if excess <= aim.forgiven {
+    if excess <= aim.forgiven { 0.0 } else { excess }
+}
+
+// How a leaf is open by an answer, where it is.
+fn open_by(aim: Aim, leaf: usize, found: &Found) -> Option<Open> {
+    let excess = excess_of(aim, found);
+    if excess <= 0.0 {
         return None;
     }
     Some(Open {
@@ -259,18 +254,58 @@ fn overstated(aim: Aim, leg: &NearLeg, sign: i8, point: &[f64; 9]) -> f64 {
     fill_of(leg, &aim.master.fills) * over
 }
 
-// The long leg without a sign that is overstated most.
-fn most_overstated(aim: Aim, signs: &[i8], point: &[f64; 9]) -> Option<usize> {
+// How much each leg is counted above what it pays at a point.
+fn all_overstated(aim: Aim, signs: &[i8], point: &[f64; 9]) -> Result<Vec<f64>, AllocError> {
+    let mut overs = Vec::new(aim.alloc);
+    for (i, leg) in aim.book.legs.iter().enumerate() {
+        overs.push(overstated(aim, leg, sign_at(signs, i), point))?;
+    }
+    Ok(overs)
+}
+
+// The place of the greatest number above 0.
+fn place_of_most(numbers: &[f64]) -> Option<usize> {
     let mut most = 0.0;
     let mut place = None;
-    for (i, leg) in aim.book.legs.iter().enumerate() {
-        let over = overstated(aim, leg, sign_at(signs, i), point);
-        if over > most {
-            most = over;
+    for (i, number) in numbers.iter().enumerate() {
+        if *number > most {
+            most = *number;
             place = Some(i);
         }
     }
     place
+}
+
+// What a split of an open leaf at a leg gains: how much of the excess each side has no more, one times the other.
+fn gain_of_split(aim: Aim, signs: &[i8], leg: usize, excess: f64) -> Result<f64, AllocError> {
+    let plus = solve_signs(aim, &with_sign(aim.alloc, signs, leg, 1)?)?;
+    let minus = solve_signs(aim, &with_sign(aim.alloc, signs, leg, -1)?)?;
+    let least = excess * LEAST_GAIN;
+    let gain = (excess - excess_of(aim, &plus)).max(least);
+    Ok(gain * (excess - excess_of(aim, &minus)).max(least))
+}
+
+// Of the legs that are overstated most, the one at which a split gains most.
+fn best_split(
+    aim: Aim,
+    signs: &[i8],
+    open: &Open,
+    overs: &mut [f64],
+) -> Result<Option<usize>, AllocError> {
+    let mut most = 0.0;
+    let mut best = None;
+    for _ in 0..COMPARED {
+        let Some(leg) = place_of_most(overs) else {
+            break;
+        };
+        set_entry(overs, leg, 0.0);
+        let gain = gain_of_split(aim, signs, leg, open.excess)?;
+        if gain > most {
+            most = gain;
+            best = Some(leg);
+        }
+    }
+    Ok(best)
 }
 
 // The signs with one more.
@@ -304,18 +339,34 @@ fn violated(aim: Aim, open: &Open) -> Option<NearState> {
 }
 
 impl Tree {
-    /// A tree of one leaf without signs. The error is want of memory.
-    pub fn new(alloc: Global, book: &Book) -> Result<Tree, AllocError> {
+    /// A tree of one leaf without signs, which is grown with care from its first split on, or from when it is large. The error
+    /// is want of memory.
+    pub fn new(alloc: Global, book: &Book, is_careful: bool) -> Result<Tree, AllocError> {
         let mut tree = Tree {
             alloc,
             nodes: Vec::new(alloc),
             leaves: Vec::new(alloc),
             is_full: false,
-            bytes: 0,
+            is_careful,
         };
-        let signs = vec![in alloc; 0i8; book.legs.len()]?;
-        let _ = tree.add_leaf(signs)?;
+        tree.add_root(book)?;
         Ok(tree)
+    }
+
+    // Adds a leaf without signs.
+    fn add_root(&mut self, book: &Book) -> Result<(), AllocError> {
+        let signs = vec![in self.alloc; 0i8; book.legs.len()]?;
+        let _ = self.add_leaf(signs)?;
+        Ok(())
+    }
+
+    // Begins again, with care. Answers what is open.
+    fn begin_again(&mut self, aim: Aim) -> Result<Vec<Open>, AllocError> {
+        self.is_careful = true;
+        self.nodes.clear();
+        self.leaves.clear();
+        self.add_root(aim.book)?;
+        self.look_at_all(aim)
     }
 
     // Adds a leaf and its node, and answers the leaf's place.
@@ -328,7 +379,6 @@ impl Tree {
             node,
             signs,
             multipliers: Vec::new(alloc),
-            bytes: 0,
             is_split: false,
         })?;
         Ok(leaf)
@@ -339,10 +389,7 @@ impl Tree {
         let Some(leaf) = self.leaves.get_mut(place) else {
             return Ok(());
         };
-        let others = self.bytes.saturating_sub(leaf.bytes);
-        let open = leaf.look(aim, place)?;
-        self.bytes = others.saturating_add(leaf.bytes);
-        if let Some(open) = open {
+        if let Some(open) = leaf.look(aim, place)? {
             opens.push(open)?;
         }
         Ok(())
@@ -366,8 +413,6 @@ impl Tree {
         let plus = with_sign(alloc, &leaf.signs, leg, 1)?;
         let minus = with_sign(alloc, &leaf.signs, leg, -1)?;
         leaf.is_split = true;
-        self.bytes = self.bytes.saturating_sub(leaf.bytes);
-        leaf.bytes = 0;
         Ok(Some(Sides {
             node: leaf.node,
             plus,
@@ -398,15 +443,23 @@ impl Tree {
     }
 
     // Whether it may have no more nodes.
-    fn has_most(&self) -> bool {
-        let nodes = self.nodes.len().saturating_mul(NODE_BYTES);
-        self.nodes.len() >= MOST_NODES || nodes.saturating_add(self.bytes) >= MOST_BYTES
+    fn has_most(&self, aim: Aim) -> bool {
+        let slopes = SLOPE_BYTES.saturating_mul(aim.book.underlyings);
+        let bytes = NODE_BYTES.saturating_add(slopes);
+        self.nodes.len() >= MOST_NODES || self.nodes.len().saturating_mul(bytes) >= MOST_BYTES
     }
 
     // The leg at which an open leaf is split.
-    fn split_leg(&self, aim: Aim, open: &Open) -> Option<usize> {
-        let leaf = self.leaves.get(open.leaf)?;
-        most_overstated(aim, &leaf.signs, &open.point)
+    fn split_leg(&self, aim: Aim, open: &Open) -> Result<Option<usize>, AllocError> {
+        let Some(leaf) = self.leaves.get(open.leaf) else {
+            return Ok(None);
+        };
+        let mut overs = all_overstated(aim, &leaf.signs, &open.point)?;
+        if self.is_careful {
+            best_split(aim, &leaf.signs, open, &mut overs)
+        } else {
+            Ok(place_of_most(&overs))
+        }
     }
 
     // Works on one open leaf: its state goes to the list, or it is split. Answers whether to go on.
@@ -421,10 +474,14 @@ impl Tree {
             states.push(state)?;
             return Ok(states.len() < MOST_STATES);
         }
-        let Some(leg) = self.split_leg(aim, open) else {
+        let Some(leg) = self.split_leg(aim, open)? else {
             return Ok(true);
         };
-        if self.has_most() {
+        if self.has_most(aim) {
+            if !self.is_careful {
+                *opens = self.begin_again(aim)?;
+                return Ok(true);
+            }
             self.is_full = true;
             return Ok(false);
         }

@@ -1,29 +1,41 @@
-//! The tree closed in whole numbers.
+//! The tree closed in whole numbers, with few multipliers of few digits, so that its text is short.
 
-use crate::answer::dyadic;
 use crate::line::leg_fill;
-use crate::rounding::FILL_BITS;
+use crate::rounding::{FILL_BITS, scaled_unit};
+use crate::written::Written;
 use cert_check::Cover;
-use near_programs::node::{Found, Question, sign_at, solve_node};
-use near_programs::numbers::{float_of, nearest_whole, plus_product, set_whole, whole_at};
+use near_programs::node::{Question, fill_of, sign_at, solve_closing, solve_node};
+use near_programs::numbers::{float_of, nearest_whole, plus_product, set_whole, two_to, whole_at};
 use near_programs::{Book, LegMultiplier, NearLeg, SMALL};
 use near_search::tree::{Leaf, Tree, TreeNode};
 use near_tables::power;
-use sign_tree::{Multiplier, Multipliers, Node, Nodes, SignTree};
 use std::alloc::{AllocError, Global};
 
 // How far below 0 slopes are asked to be, one after another.
 const BELOW: [f64; 3] = [0.0, 2.9103830456733704e-11, 9.313225746154785e-10];
+// The bits after the point that multipliers of a leaf may have, one after another.
+const COARSE_BITS: [u32; 3] = [0, 4, 12];
 // How often a leaf's slopes are mended for each underlying.
 const MENDS: usize = 4;
+// What a long leg's multiplier costs for each 1 of it, in scaled fills.
+const LONG_COST: f64 = 0.05;
+// What a short leg's multiplier costs for each 1 of it, beside its text.
+const SHORT_COST: f64 = 60.0;
+// The bytes of a multiplier that is a whole number, about.
+const WHOLE_BYTES: f64 = 20.0;
+// The bytes of a multiplier that is none, about.
+const FRACTION_BYTES: f64 = 40.0;
 
-/// What leaves are closed for: whole fills, the same in scaled floats, and the liability that is enough.
+/// What leaves are closed for: whole fills, the same in scaled floats, the scaled liability that short texts may use up, and
+/// the liability that is enough.
 #[derive(Clone, Copy)]
 pub struct Closing<'a> {
     pub alloc: Global,
     pub book: &'a Book,
     pub units: &'a [i128],
     pub fills: &'a [f64],
+    pub costs: &'a [f64],
+    pub aim: f64,
     pub enough: i128,
 }
 
@@ -80,36 +92,74 @@ fn add_long(closing: Closing, sums: &mut [i128; 9], leg: &NearLeg, sign: i8) -> 
     }
 }
 
-// The whole units of a multiplier.
-fn units_of(closing: Closing, leg: &NearLeg, value: f64) -> i128 {
-    let unit = power(FILL_BITS) * power(closing.book.scales.fill);
-    let units = nearest_whole(value * unit).max(0);
+/// What a multiplier of each leg costs for each 1 of it, by these fills in units and scaled. The error is want of memory.
+pub fn costs_of(
+    alloc: Global,
+    book: &Book,
+    units: &[i128],
+    fills: &[f64],
+) -> Result<Vec<f64>, AllocError> {
+    let mut costs = Vec::new(alloc);
+    for leg in book.legs.iter() {
+        costs.push(cost_of(leg, leg_fill(leg, units), fill_of(leg, fills)))?;
+    }
+    Ok(costs)
+}
+
+// What a multiplier of a leg with this fill, in units and scaled, costs for each 1 of it.
+fn cost_of(leg: &NearLeg, units: i128, fill: f64) -> f64 {
+    if leg.is_long || fill <= 0.0 {
+        return LONG_COST;
+    }
+    let is_whole = units.rem_euclid(two_to(FILL_BITS).max(1)) == 0;
+    let bytes = if is_whole {
+        WHOLE_BYTES
+    } else {
+        FRACTION_BYTES
+    };
+    SHORT_COST + bytes / fill
+}
+
+// The whole units of a multiplier, a multiple of the grid.
+fn units_of(closing: Closing, leg: &NearLeg, value: f64, grid: i128) -> i128 {
+    let unit = scaled_unit(closing.book.scales);
+    let steps = nearest_whole(value * unit / float_of(grid)).max(0);
+    let units = steps.saturating_mul(grid);
     if leg.is_long {
         return units;
     }
     let fill = leg_fill(leg, closing.units);
     let scaled = float_of(fill) / unit;
-    if scaled - value <= SMALL * 0.015625 {
+    if grid == 1 && scaled - value <= SMALL * 0.015625 {
         fill
     } else {
-        units.min(fill)
+        units.min(fill.saturating_sub(fill.rem_euclid(grid.max(1))))
     }
 }
 
-// Whole multipliers of all legs, from an answer.
-fn whole_multipliers(closing: Closing, found: &Found) -> Result<Vec<i128>, AllocError> {
+// Whole multipliers of all legs, multiples of the grid.
+fn whole_multipliers(
+    closing: Closing,
+    found: &[LegMultiplier],
+    grid: i128,
+) -> Result<Vec<i128>, AllocError> {
     let alloc = closing.alloc;
     let mut multipliers = vec![in alloc; 0i128; closing.book.legs.len()]?;
-    for multiplier in found.multipliers.iter() {
-        set_multiplier(closing, &mut multipliers, multiplier);
+    for multiplier in found {
+        set_multiplier(closing, &mut multipliers, multiplier, grid);
     }
     Ok(multipliers)
 }
 
 // Writes the whole units of a leg's multiplier.
-fn set_multiplier(closing: Closing, multipliers: &mut [i128], multiplier: &LegMultiplier) {
+fn set_multiplier(
+    closing: Closing,
+    multipliers: &mut [i128],
+    multiplier: &LegMultiplier,
+    grid: i128,
+) {
     if let Some(leg) = closing.book.legs.get(multiplier.leg) {
-        let units = units_of(closing, leg, multiplier.value);
+        let units = units_of(closing, leg, multiplier.value, grid);
         set_whole(multipliers, multiplier.leg, units);
     }
 }
@@ -134,17 +184,19 @@ fn first_above(sums: &[i128; 9]) -> Option<usize> {
     None
 }
 
-// The units by which a leg's multiplier has to move so that a slope comes to 0, below 0 where it has to fall.
-fn move_for(leg: &NearLeg, sign: i8, slope: usize, above: i128) -> Option<i128> {
+// The units by which a leg's multiplier has to move so that a slope comes to 0 or below, below 0 where it has to fall: a
+// multiple of the grid.
+fn move_for(leg: &NearLeg, sign: i8, slope: usize, above: i128, grid: i128) -> Option<i128> {
     let entry = i128::from(*leg.entries.get(slope)?).saturating_mul(factor(leg, sign));
     if entry == 0 {
         return None;
     }
-    let size = entry.saturating_abs().max(1);
-    let units = above
+    let size = entry.saturating_abs().saturating_mul(grid).max(1);
+    let steps = above
         .saturating_add(size)
         .saturating_sub(1)
         .div_euclid(size);
+    let units = steps.saturating_mul(grid);
     Some(if entry < 0 {
         units
     } else {
@@ -180,6 +232,7 @@ fn mend_by(
     closed: &mut Closed,
     place: usize,
     slope: usize,
+    grid: i128,
 ) -> Option<()> {
     let leg = closing.book.legs.get(place)?;
     let sign = sign_at(signs, place);
@@ -187,7 +240,7 @@ fn mend_by(
         return None;
     }
     let above = *closed.sums.get(slope)?;
-    let units = move_for(leg, sign, slope, above)?;
+    let units = move_for(leg, sign, slope, above, grid)?;
     let now = *closed.multipliers.get(place)?;
     let next = now.saturating_add(units);
     if next < 0 || (!leg.is_long && next > leg_fill(leg, closing.units)) {
@@ -200,9 +253,9 @@ fn mend_by(
 }
 
 // Mends a slope by the first leg that can.
-fn mend(closing: Closing, signs: &[i8], closed: &mut Closed, slope: usize) -> bool {
+fn mend(closing: Closing, signs: &[i8], closed: &mut Closed, slope: usize, grid: i128) -> bool {
     for place in 0..closing.book.legs.len() {
-        if mend_by(closing, signs, closed, place, slope).is_some() {
+        if mend_by(closing, signs, closed, place, slope, grid).is_some() {
             return true;
         }
     }
@@ -210,55 +263,99 @@ fn mend(closing: Closing, signs: &[i8], closed: &mut Closed, slope: usize) -> bo
 }
 
 // Mends slopes until none is above 0. Answers whether it is so.
-fn mend_all(closing: Closing, signs: &[i8], closed: &mut Closed) -> bool {
+fn mend_all(closing: Closing, signs: &[i8], closed: &mut Closed, grid: i128) -> bool {
     for _ in 0..MENDS.saturating_mul(closing.book.underlyings) {
         let Some(slope) = first_above(&closed.sums) else {
             return true;
         };
-        if !mend(closing, signs, closed, slope) {
+        if !mend(closing, signs, closed, slope, grid) {
             return false;
         }
     }
     first_above(&closed.sums).is_none()
 }
 
-// Tries to close a leaf with slopes so far below 0.
-fn try_leaf(closing: Closing, signs: &[i8], below: f64) -> Result<Option<Closed>, AllocError> {
-    let question = Question {
-        fills: closing.fills,
-        signs,
-        holds: true,
-        below,
-    };
-    let found = solve_node(closing.alloc, closing.book, question)?;
+// The leaf closed by these multipliers, brought to the grid. None where a slope stays above 0.
+fn closed_by(
+    closing: Closing,
+    signs: &[i8],
+    found: &[LegMultiplier],
+    grid: i128,
+) -> Result<Option<Closed>, AllocError> {
+    let multipliers = whole_multipliers(closing, found, grid)?;
     let Some(sums) = long_units(closing, signs) else {
         return Ok(None);
     };
-    if found.is_ray() {
-        return Ok(None);
-    }
-    let mut closed = Closed {
-        multipliers: whole_multipliers(closing, &found)?,
-        sums,
-    };
+    let mut closed = Closed { multipliers, sums };
     if add_multipliers(closing, signs, &mut closed).is_none() {
         return Ok(None);
     }
-    if mend_all(closing, signs, &mut closed) {
+    if mend_all(closing, signs, &mut closed, grid) {
         Ok(Some(closed))
     } else {
         Ok(None)
     }
 }
 
-// Closes a leaf with the least liability that was found.
+// Tries to close a leaf at the least liability, with slopes so far below 0.
+fn try_leaf(closing: Closing, signs: &[i8], below: f64) -> Result<Option<Closed>, AllocError> {
+    let question = question_of(closing, signs, below);
+    let found = solve_node(closing.alloc, closing.book, question)?;
+    if found.is_ray() {
+        return Ok(None);
+    }
+    closed_by(closing, signs, &found.multipliers, 1)
+}
+
+fn question_of<'a>(closing: Closing<'a>, signs: &'a [i8], below: f64) -> Question<'a> {
+    Question {
+        fills: closing.fills,
+        signs,
+        holds: true,
+        below,
+    }
+}
+
+// Tries to close a leaf within the aim by few multipliers with so many bits after the point.
+fn try_coarse(closing: Closing, signs: &[i8], bits: u32) -> Result<Option<Closed>, AllocError> {
+    let grid = two_to(FILL_BITS.saturating_sub(bits));
+    let unit = scaled_unit(closing.book.scales);
+    // what the rounding of a multiplier moves a sum by, about
+    let room = float_of(grid) / unit;
+    let question = question_of(closing, signs, room);
+    let wanted = closing.aim - room;
+    let Some(found) = solve_closing(closing.alloc, closing.book, question, wanted, closing.costs)?
+    else {
+        return Ok(None);
+    };
+    let aim = nearest_whole(closing.aim * unit * power(closing.book.scales.money));
+    let closed = closed_by(closing, signs, &found, grid)?;
+    if needs_at_most(&closed, aim) {
+        Ok(closed)
+    } else {
+        Ok(None)
+    }
+}
+
+// Closes a leaf: by a short text within the aim, or with the least liability that was found.
 fn close_leaf(closing: Closing, leaf: &Leaf) -> Result<Option<Closed>, AllocError> {
+    for bits in COARSE_BITS {
+        let coarse = try_coarse(closing, &leaf.signs, bits)?;
+        if coarse.is_some() {
+            return Ok(coarse);
+        }
+    }
+    close_exactly(closing, leaf)
+}
+
+// Closes a leaf with the least liability that was found.
+fn close_exactly(closing: Closing, leaf: &Leaf) -> Result<Option<Closed>, AllocError> {
     let mut best = None;
     for below in BELOW {
         if let Some(closed) = try_leaf(closing, &leaf.signs, below)? {
             keep_lesser(&mut best, closed);
         }
-        if is_enough(closing, &best) {
+        if needs_at_most(&best, closing.enough) {
             break;
         }
     }
@@ -276,126 +373,70 @@ fn keep_lesser(best: &mut Option<Closed>, closed: Closed) {
     }
 }
 
-// Whether the best needs no more liability than is enough.
-fn is_enough(closing: Closing, best: &Option<Closed>) -> bool {
-    match best {
-        Some(closed) => closed.sums[0] <= closing.enough,
+// Whether it is closed by at most so much liability.
+fn needs_at_most(closed: &Option<Closed>, liability: i128) -> bool {
+    match closed {
+        Some(closed) => closed.sums[0] <= liability,
         None => false,
     }
 }
 
-// The number of the leg at a place.
-fn number_of(place: usize) -> u32 {
-    u32::try_from(place.saturating_add(1)).unwrap_or(0)
-}
-
-// The tree as it is written, with the liability so far.
-#[derive(Drop)]
-struct Written {
-    nodes: Vec<Node>,
-    multipliers: Vec<Multiplier>,
-    liability: Option<i128>,
-}
-
-impl Written {
-    // Writes the leaf's multipliers. Answers whether all fit.
-    fn add_closed(&mut self, closed: &Closed) -> Result<bool, AllocError> {
-        let mut count = 0u32;
-        for (i, units) in closed.multipliers.iter().enumerate() {
-            if *units > 0 {
-                if !self.add_multiplier(i, *units)? {
-                    return Ok(false);
-                }
-                count = count.saturating_add(1);
-            }
-        }
-        self.nodes.push(Node::Leaf { count })?;
-        self.raise(closed.sums[0]);
-        Ok(true)
-    }
-
-    // Writes the multiplier of the leg at a place. Answers whether it fits.
-    fn add_multiplier(&mut self, place: usize, units: i128) -> Result<bool, AllocError> {
-        let Some(by) = dyadic(units, FILL_BITS) else {
-            return Ok(false);
-        };
-        let place = number_of(place);
-        self.multipliers.push(Multiplier { place, by })?;
-        Ok(true)
-    }
-
-    // Raises the liability to what a leaf needs.
-    fn raise(&mut self, need: i128) {
-        self.liability = match self.liability {
-            Some(old) => Some(old.max(need)),
-            None => Some(need),
-        };
-    }
-
-    // Closes and writes a leaf. Answers whether it went.
-    fn add_leaf(&mut self, closing: Closing, leaf: Option<&Leaf>) -> Result<bool, AllocError> {
-        let Some(leaf) = leaf else {
-            return Ok(false);
-        };
-        match close_leaf(closing, leaf)? {
-            Some(closed) => self.add_closed(&closed),
-            None => Ok(false),
-        }
-    }
-
-    // Writes a node, and puts its sides on the stack. Answers whether it went.
-    fn add_node(
-        &mut self,
-        closing: Closing,
-        tree: &Tree,
-        at: usize,
-        stack: &mut Vec<usize>,
-    ) -> Result<bool, AllocError> {
-        match tree.nodes.get(at).copied() {
-            Some(TreeNode::Leaf { leaf }) => self.add_leaf(closing, tree.leaves.get(leaf)),
-            Some(TreeNode::Split { leg, plus, minus }) => {
-                let place = number_of(leg);
-                self.nodes.push(Node::Split { place })?;
-                stack.push(minus)?;
-                stack.push(plus)?;
-                Ok(true)
-            }
-            None => Ok(false),
-        }
+// Closes and writes a leaf. Answers whether it went.
+fn write_leaf(
+    closing: Closing,
+    leaf: Option<&Leaf>,
+    written: &mut Written,
+) -> Result<bool, AllocError> {
+    let Some(leaf) = leaf else {
+        return Ok(false);
+    };
+    match close_leaf(closing, leaf)? {
+        Some(closed) => written.add_leaf(&closed.multipliers, closed.sums[0]),
+        None => Ok(false),
     }
 }
 
-// Closes and writes all nodes. Answers whether all went.
+// Writes a node, and puts its sides on the stack. Answers whether it went.
+fn write_node(
+    closing: Closing,
+    tree: &Tree,
+    at: usize,
+    stack: &mut Vec<usize>,
+    written: &mut Written,
+) -> Result<bool, AllocError> {
+    match tree.nodes.get(at).copied() {
+        Some(TreeNode::Leaf { leaf }) => write_leaf(closing, tree.leaves.get(leaf), written),
+        Some(TreeNode::Split { leg, plus, minus }) => {
+            written.add_split(leg)?;
+            stack.push(minus)?;
+            stack.push(plus)?;
+            Ok(true)
+        }
+        None => Ok(false),
+    }
+}
+
+// Closes and writes all nodes. Answers whether all went, within the bytes of a tree.
 fn write_all(closing: Closing, tree: &Tree, written: &mut Written) -> Result<bool, AllocError> {
     let mut stack = vec![in closing.alloc; 0]?;
     for _ in 0..tree.nodes.len() {
         let Some(at) = stack.pop() else {
             break;
         };
-        if !written.add_node(closing, tree, at, &mut stack)? {
+        if !write_node(closing, tree, at, &mut stack, written)? || written.is_long() {
             return Ok(false);
         }
     }
     Ok(true)
 }
 
-/// The liability that closes each leaf, and the tree with its multipliers. None where a leaf does not close; the error is want
-/// of memory.
+/// The liability that closes each leaf, and the tree with its multipliers. None where a leaf does not close, or the tree is
+/// longer than it may be as it is written; the error is want of memory.
 pub fn close_tree(closing: Closing, tree: &Tree) -> Result<Option<(i128, Cover)>, AllocError> {
-    let mut written = Written {
-        nodes: Vec::new(closing.alloc),
-        multipliers: Vec::new(closing.alloc),
-        liability: None,
-    };
-    if !write_all(closing, tree, &mut written)? {
-        return Ok(None);
+    let mut written = Written::new(closing.alloc);
+    if write_all(closing, tree, &mut written)? {
+        Ok(written.finished())
+    } else {
+        Ok(None)
     }
-    let Some(liability) = written.liability else {
-        return Ok(None);
-    };
-    let tree = SignTree {
-        nodes: Nodes::from_vec(written.nodes),
-        multipliers: Multipliers::from_vec(written.multipliers),
-    };
-    Ok(Some((liability, Cover::Tree(tree))))
 }

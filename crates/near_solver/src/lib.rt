@@ -11,5 +11,6 @@ mod parts;
 pub mod proposing;
 mod rounding;
 mod solve;
+mod written;
 
 pub use proposing::propose;

@@ -27,6 +27,11 @@ pub struct WholeMeasure {
     pub bound: i128,
 }
 
+/// The units of 1 of a scaled fill.
+pub fn scaled_unit(scales: Scales) -> f64 {
+    power(FILL_BITS) * power(scales.fill)
+}
+
 // The weight of a state, from its price in the table.
 fn weight_of(scales: Scales, is_ray: bool, price: f64) -> i128 {
     let factor = if is_ray {
@@ -169,7 +174,7 @@ fn bound_of(alloc: Global, book: &Book, measure: &WholeMeasure) -> Result<i128, 
 // A fill in units of 2^-40.
 fn rounded(order: &NearOrder, fill: f64, scales: Scales) -> i128 {
     let top = order.quantity.saturating_mul(two_to(FILL_BITS));
-    let units = nearest_whole(fill * power(FILL_BITS) * power(scales.fill)).clamp(0, top.max(0));
+    let units = nearest_whole(fill * scaled_unit(scales)).clamp(0, top.max(0));
     if top.saturating_sub(units) < NEAR_TOP {
         top
     } else {
@@ -186,13 +191,13 @@ pub fn rounded_fills(alloc: Global, book: &Book, fills: &[f64]) -> Result<Vec<i1
     Ok(units)
 }
 
-/// The fills with less of the orders that have a long leg: attempt 1 takes a part in 2^24 of these away, 2 in 2^16, 3 in
-/// 2^8, and all later ones leave no fill of any order. The error is want of memory.
+/// The fills with less of the orders that have a long leg: attempt 0 leaves them, 1 takes a part in 2^24 of these away, 2 in
+/// 2^16, and so on. The error is want of memory.
 pub fn less_fills(
     alloc: Global,
     book: &Book,
     fills: &[i128],
-    attempt: usize,
+    attempt: u32,
 ) -> Result<Vec<i128>, AllocError> {
     let mut less = Vec::new(alloc);
     for (i, order) in book.orders.iter().enumerate() {
@@ -201,19 +206,13 @@ pub fn less_fills(
     Ok(less)
 }
 
-fn less_fill(fill: i128, has_long: bool, attempt: usize) -> i128 {
-    let part = match attempt {
-        0 => return fill,
-        1 => fill >> 24,
-        2 => fill >> 16,
-        3 => fill >> 8,
-        _ => return 0,
-    };
-    if has_long {
-        fill.saturating_sub(part).saturating_sub(1).max(0)
-    } else {
-        fill
+fn less_fill(fill: i128, has_long: bool, attempt: u32) -> i128 {
+    if !has_long || attempt == 0 {
+        return fill;
     }
+    let bits = 32u32.saturating_sub(attempt.saturating_mul(8));
+    let part = fill.div_euclid(two_to(bits).max(1));
+    fill.saturating_sub(part).saturating_sub(1).max(0)
 }
 
 /// The sum of limit times fill, where it fits.

@@ -1,11 +1,11 @@
 //! The whole solver.
 
 use crate::answer::{Solved, answer_of};
-use crate::closing::{Closing, close_tree};
+use crate::closing::{Closing, close_tree, costs_of};
 use crate::line::line_liability;
 use crate::parts::{count_long, part_of};
 use crate::rounding::{
-    FILL_BITS, WholeMeasure, gains_of, less_fills, measure_of, premium, rounded_fills,
+    WholeMeasure, gains_of, less_fills, measure_of, premium, rounded_fills, scaled_unit,
 };
 use cert_check::{Cover, Proposal};
 use form::Batch;
@@ -16,18 +16,22 @@ use near_search::{Draws, Tree, Violated};
 use near_tables::{from_zero, power};
 use std::alloc::{AllocError, Global};
 
-// The attempt that fills nothing: how often fills are made less before there are none.
-const NOTHING: usize = 4;
+// How often fills are covered: as they are, and made less.
+const ATTEMPTS: u32 = 4;
 // The orders with a long leg in the first part.
 const FIRST_PART: usize = 12;
 // The most parts.
-const PARTS: u32 = 24;
+const PARTS: u32 = 12;
+// The most parts that do not fit.
+const MISFITS: u32 = 3;
 // The most rounds.
 const ROUNDS: u32 = 400;
 // The most states that climbs add in a round.
 const CLIMBED: u32 = 40;
 // What is forgiven of the surplus: 2^-22.
 const FORGIVEN: f64 = 2.384185791015625e-7;
+// What short texts may take of the surplus: 2^-33.
+const UNSEEN: f64 = 1.1641532182693481e-10;
 // What the random prices of each batch begin with.
 const SEED: u64 = 88_172_645_463_325_252;
 
@@ -121,7 +125,7 @@ fn rounds(
 
 // The scaled floats of whole fills.
 fn scaled_fills(alloc: Global, book: &Book, units: &[i128]) -> Result<Vec<f64>, AllocError> {
-    let unit = power(FILL_BITS) * power(book.scales.fill);
+    let unit = scaled_unit(book.scales);
     let mut fills = Vec::new(alloc);
     for fill in units {
         fills.push(float_of(*fill) / unit)?;
@@ -142,18 +146,21 @@ fn close(
     }
     let fills = scaled_fills(alloc, book, units)?;
     let aim = master.liability + master.surplus(book).abs() * FORGIVEN * 2.0 + SMALL * 4.0;
-    let unit = power(FILL_BITS) * power(book.scales.fill) * power(book.scales.money);
+    let unit = scaled_unit(book.scales) * power(book.scales.money);
+    let costs = costs_of(alloc, book, units, &fills)?;
     let closing = Closing {
         alloc,
         book,
         units,
         fills: &fills,
+        costs: &costs,
+        aim: master.liability + from_zero(master.surplus(book)) * UNSEEN,
         enough: nearest_whole(aim * unit),
     };
     close_tree(closing, tree)
 }
 
-// Rounds, covers, and takes some away until the surplus is not below 0.
+// Rounds, covers, and takes some away until the surplus is not below 0. None where the tree is full, or nothing of it goes.
 fn finish(
     alloc: Global,
     book: &Book,
@@ -161,18 +168,29 @@ fn finish(
     tree: &Tree,
     measure: &WholeMeasure,
 ) -> Result<Option<Proposal>, AllocError> {
+    if tree.is_full {
+        return Ok(None);
+    }
     let rounded = rounded_fills(alloc, book, &master.fills)?;
-    if !tree.is_full {
-        for attempt in 0..NOTHING {
-            let units = less_fills(alloc, book, &rounded, attempt)?;
-            let found = covered(alloc, book, master, tree, measure, &units)?;
-            if found.is_some() {
-                return Ok(found);
-            }
+    for attempt in 0..ATTEMPTS {
+        let units = less_fills(alloc, book, &rounded, attempt)?;
+        let found = covered(alloc, book, master, tree, measure, &units)?;
+        if found.is_some() {
+            return Ok(found);
         }
     }
-    let units = less_fills(alloc, book, &rounded, NOTHING)?;
-    let bare = Tree::new(alloc, book)?;
+    Ok(None)
+}
+
+// The proposal that fills nothing, with the bound of the measure.
+fn unfilled(
+    alloc: Global,
+    book: &Book,
+    master: &Master,
+    measure: &WholeMeasure,
+) -> Result<Option<Proposal>, AllocError> {
+    let units = vec![in alloc; 0i128; book.orders.len()]?;
+    let bare = Tree::new(alloc, book, false)?;
     covered(alloc, book, master, &bare, measure, &units)
 }
 
@@ -204,21 +222,21 @@ fn covered(
 }
 
 // How many of the orders with a long leg the next part keeps, where a part of `fits` fits and one of `fails` does not: more by
-// a quarter, or between the two. None where they are near.
+// half, or between the two. None where they are near.
 fn next_kept(fits: usize, fails: usize) -> Option<usize> {
-    let more = fits.saturating_add(fits / 4).max(FIRST_PART);
+    let more = fits.saturating_add(fits / 2).max(FIRST_PART);
     if more < fails {
         return Some(more);
     }
     let between = fits.saturating_add(fails.saturating_sub(fits) / 2);
-    if between > fits.saturating_add(fits / 32) {
+    if between > fits.saturating_add(fits / 16) {
         Some(between)
     } else {
         None
     }
 }
 
-// Solves the part that keeps so many. None where its tree is full.
+// Solves the part that keeps so many. None where its tree is full or long.
 fn solve_part(
     alloc: Global,
     book: &Book,
@@ -228,11 +246,8 @@ fn solve_part(
 ) -> Result<Option<Proposal>, AllocError> {
     let part = part_of(alloc, book, gains, kept)?;
     let mut master = first_program(alloc, &part)?;
-    let mut tree = Tree::new(alloc, &part)?;
+    let mut tree = Tree::new(alloc, &part, true)?;
     let _ = rounds(alloc, &part, &mut master, &mut tree)?;
-    if tree.is_full {
-        return Ok(None);
-    }
     finish(alloc, &part, &master, &tree, measure)
 }
 
@@ -245,23 +260,28 @@ fn solve_parts(
     let gains = gains_of(alloc, book, measure)?;
     let mut fits = 0usize;
     let mut fails = count_long(book);
+    let mut misfits = 0u32;
     let mut best = None;
     for _ in 0..PARTS {
         let Some(kept) = next_kept(fits, fails) else {
             break;
         };
+        if misfits >= MISFITS {
+            break;
+        }
         let found = solve_part(alloc, book, &gains, kept, measure)?;
         if found.is_some() {
             fits = kept;
             best = found;
         } else {
             fails = kept;
+            misfits = misfits.saturating_add(1);
         }
     }
     Ok(best)
 }
 
-// The answer for the whole book: parts of it where its tree is full.
+// The answer for the whole book: parts of it where its tree is full or long.
 fn answer(
     alloc: Global,
     book: &Book,
@@ -269,13 +289,15 @@ fn answer(
     tree: &Tree,
     measure: &WholeMeasure,
 ) -> Result<Option<Proposal>, AllocError> {
-    if tree.is_full {
-        let part = solve_parts(alloc, book, measure)?;
-        if part.is_some() {
-            return Ok(part);
-        }
+    let whole = finish(alloc, book, master, tree, measure)?;
+    if whole.is_some() {
+        return Ok(whole);
     }
-    finish(alloc, book, master, tree, measure)
+    let part = solve_parts(alloc, book, measure)?;
+    if part.is_some() {
+        return Ok(part);
+    }
+    unfilled(alloc, book, master, measure)
 }
 
 /// A proposal for the batch that is near the greatest surplus, to be judged. None where a number does not fit; the error is
@@ -283,7 +305,7 @@ fn answer(
 pub(crate) fn solve_near(alloc: Global, batch: &Batch) -> Result<Option<Proposal>, AllocError> {
     let book = Book::new(alloc, batch)?;
     let mut master = first_program(alloc, &book)?;
-    let mut tree = Tree::new(alloc, &book)?;
+    let mut tree = Tree::new(alloc, &book, false)?;
     match rounds(alloc, &book, &mut master, &mut tree)? {
         Some(measure) => answer(alloc, &book, &master, &tree, &measure),
         None => Ok(None),
