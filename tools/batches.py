@@ -1,4 +1,4 @@
-"""Batches of random orders, as command lines: tools/bench makes its inputs with these."""
+"""Batches of random orders, as command lines: tools/bench and tools/basket make their inputs with these."""
 from random import Random
 
 
