@@ -12,6 +12,8 @@ mod faults;
 #[cfg(test)]
 mod journals;
 #[cfg(test)]
+mod proposed;
+#[cfg(test)]
 mod running;
 #[cfg(test)]
 mod served;

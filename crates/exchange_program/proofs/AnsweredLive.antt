@@ -15,7 +15,7 @@ use Rattle.live_lines.specs.declared.ended.Ended.TheVariants as ended
 use Rattle.live_lines.proofs.Fronts.{no_front}
 use Rattle.live_lines.proofs.Serves.{known_of}
 use Rattle.program_words.specs.declared.requests.Request.{Request}
-use Rattle.program_words.specs.declared.requests.Request.TheVariants.{Lines, Check, Sessions, Serve, Demo}
+use Rattle.program_words.specs.declared.requests.Request.TheVariants.{Lines, Check, Sessions, Serve, Propose, Demo}
 use Rattle.program_words.specs.declared.requests.Served.{Served}
 use Rattle.program_words.specs.declared.requests.Served.TheVariants as served
 use Rattle.session_lines.specs.Sessions.{new_sessions, session_step}
@@ -24,7 +24,7 @@ use Rattle.exchange_program.specs.Requests.{OfSomeInput, Promised, WhereServe}
 use Rattle.exchange_program.specs.Wrote.{Wrote, WroteFront}
 use Rattle.exchange_program.specs.declared.status.Status.{Status}
 use Rattle.exchange_program.specs.declared.status.Status.TheVariants.{Done, Usage, ReadFault, WriteFault, TooLong, CheckNo, Memory}
-use Rattle.exchange_program.proofs.Served.{told, told_front}
+use Rattle.exchange_program.proofs.Served.{told_served}
 
 -- ---- the end of the answers as a status
 abbrev end_at : Status → Ended
@@ -98,8 +98,8 @@ front_served served.Sessions known which =
 front_told : (kind : Served) (left old new : Option (List ℕ)) → (input : List ℕ) × AppendsFront old new (served_output kind input)
     → IfSome left (λ input. AppendsFront old new (served_output kind input))
     → OfSomeInput (Serve kind) left (λ input. WroteFront old new (Promised (Serve kind) input))
-front_told kind None old new some front = told_front (Serve kind) None old new some.0 tt some.1
-front_told kind (Some input) old new some front = told_front (Serve kind) (Some input) old new input refl front
+front_told kind None old new some front = (some.0, tt, (served_output kind some.0, told_served kind some.0, some.1))
+front_told kind (Some input) old new some front = (input, refl, (served_output kind input, told_served kind input, front))
 
 module _ (kind : Served) (known : Known) (status : Status) (answered : ServedAt kind status known) where
   as_is : (other : Status) → status ≡ other → ServedAt kind other known
@@ -108,7 +108,7 @@ module _ (kind : Served) (known : Known) (status : Status) (answered : ServedAt 
   pub told_all : status ≡ Done → OfSomeInput (Serve kind) known.left (λ input. Wrote known.written known.writes (Promised (Serve kind) input))
   told_all is =
       let all = all_served kind known (as_is Done is) in
-      told (Serve kind) known.left known.written known.writes all.0 all.1 all.2
+      (all.0, all.1, (served_output kind all.0, told_served kind all.0, all.2))
 
   pub told_part : (status ≡ WriteFault) ⊎ (status ≡ Memory) → IfSome known.left (λ input. AppendsFront known.written known.writes (served_output kind input))
       → OfSomeInput (Serve kind) known.left (λ input. WroteFront known.written known.writes (Promised (Serve kind) input))
@@ -130,6 +130,7 @@ nothing_served (Lines mode) left written = tt
 nothing_served (Check journal) left written = tt
 nothing_served Sessions left written = tt
 nothing_served (Serve kind) left written = nothing_at kind left written
+nothing_served Propose left written = tt
 nothing_served (Demo seed count) left written = tt
 
 pub nothing_served_yet : (asked : Option Request) (left written : Option (List ℕ))

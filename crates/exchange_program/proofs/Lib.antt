@@ -1,3 +1,4 @@
 pub mod AnsweredLive
+pub mod ProposedLive
 pub mod Served
 pub mod Written

@@ -1,6 +1,5 @@
 -- What is written for a request, and the status that it ends with.
 use Rattle.std.proofs.Common.{◌≡◌, ℕ, List, [], Option, Some, None, IfSome, refl, sym, ◌∙◌, subst, arith}
-use Rattle.std.proofs.KnownBytes.{Appends-nil}
 use Rattle.std.specs.List.{All}
 use Rattle.std.specs.Io.KnownBytes.{Appends}
 use Rattle.port_io.specs.Writes.{AppendsFront}
@@ -9,24 +8,28 @@ use Rattle.journal_check.specs.declared.reports.Report.{Report}
 use Rattle.journal_check.specs.declared.reports.Report.TheVariants.{Sound, Faulty}
 use Rattle.journal_check.proofs.ReportsSay.{reports_say}
 use Rattle.journal_audit.proofs.AuditSays.{audits_say}
+use Rattle.demo_run.specs.Demo.{demo_output}
 use Rattle.exchange_lines.specs.Promises.{TellAnswers}
 use Rattle.exchange_lines.proofs.AsRun.{runs_tell_answers}
 use Rattle.proposal_lines.proofs.Telling.{outputs_tell_proposals}
+use Rattle.exchange_sessions.specs.Answers.{sessions_output}
 use Rattle.exchange_sessions.proofs.TellLaws.{output_tells_once, sessions_tell_once}
 use Rattle.guarded_lines.proofs.AsRun.{guarded_tell_answers}
+use Rattle.live_lines.proofs.Fronts.{no_front}
+use Rattle.live_proposals.specs.Answered.{texts_in}
 use Rattle.program_words.specs.declared.requests.Journal.{Journal}
 use Rattle.program_words.specs.declared.requests.Journal.TheVariants as writer
 use Rattle.program_words.specs.declared.requests.Mode.{Mode}
 use Rattle.program_words.specs.declared.requests.Mode.TheVariants.{Run, Quotes, Guarded}
 use Rattle.program_words.specs.declared.requests.Request.{Request}
-use Rattle.program_words.specs.declared.requests.Request.TheVariants.{Lines, Check, Sessions, Serve, Demo}
+use Rattle.program_words.specs.declared.requests.Request.TheVariants.{Lines, Check, Sessions, Serve, Propose, Demo}
 use Rattle.program_words.specs.declared.requests.Served.{Served}
 use Rattle.program_words.specs.declared.requests.Served.TheVariants as served
 use Rattle.quote_lines.proofs.AsRun.{quotes_tell_answers}
-use Rattle.exchange_program.specs.Journals.{IsSoundIn, NamesFault, SaysIn, report_in}
+use Rattle.exchange_program.specs.Journals.{IsSoundIn, NamesFault, SaysIn, report_in, report_line}
 use Rattle.exchange_program.specs.Live.{ServedTell, served_output}
 use Rattle.exchange_program.specs.Modes.{IsBesideIn, mode_output, step_in}
-use Rattle.exchange_program.specs.Requests.{OfInput, OfSomeInput, Promised, WhereCheck, output_for, status_by, status_for}
+use Rattle.exchange_program.specs.Requests.{IsReadFirst, OfInput, OfSomeInput, Promised, WhereCheck, OfOutput, status_by, status_for}
 use Rattle.exchange_program.specs.Wrote.{Wrote, WroteFront}
 use Rattle.exchange_program.specs.declared.status.Status.{Status}
 use Rattle.exchange_program.specs.declared.status.Status.TheVariants.{Done, Usage, CheckNo}
@@ -37,28 +40,31 @@ told_in Run input = runs_tell_answers input
 told_in Quotes input = quotes_tell_answers input
 told_in Guarded input = guarded_tell_answers input
 
-told_served : (kind : Served) (input : List ℕ) → ServedTell kind input (served_output kind input)
+pub told_served : (kind : Served) (input : List ℕ) → ServedTell kind input (served_output kind input)
 told_served served.Lines input = outputs_tell_proposals input
 told_served served.Sessions input = sessions_tell_once input
 
-promised : (request : Request) (input : List ℕ) → Promised request input (output_for request input)
-promised (Lines mode) input = told_in mode input
-promised (Check journal) input = tt
-promised Sessions input = output_tells_once input
-promised (Serve kind) input = told_served kind input
-promised (Demo seed count) input = tt
+-- what is written where the input is read first is told what is promised
+promised : (request : Request) (input : List ℕ) (P : List ℕ → Type 0) → IsReadFirst request → OfOutput request input P
+    → (bytes : List ℕ) × Promised request input bytes × P bytes
+promised (Lines mode) input P first wrote = (mode_output mode input, told_in mode input, wrote)
+promised (Check journal) input P first wrote = (report_line journal input, tt, wrote)
+promised Sessions input P first wrote = (sessions_output input, output_tells_once input, wrote)
+promised (Serve kind) input P first wrote = absurd first
+promised Propose input P first wrote = absurd first
+promised (Demo seed count) input P first wrote = (demo_output seed count, tt, wrote)
 
 -- some bytes are read
 abbrev IsInput : Request → Option (List ℕ) → List ℕ → Type 0
 IsInput request left input = OfInput request left (λ told. input ≡ told)
 
-pub told : (request : Request) (left old new : Option (List ℕ)) (input : List ℕ) → IsInput request left input → Appends old new (output_for request input)
-    → OfSomeInput request left (λ input. Wrote old new (Promised request input))
-told request left old new input is wrote = (input, is, (output_for request input, promised request input, wrote))
+pub told : (request : Request) (left old new : Option (List ℕ)) (input : List ℕ) → IsReadFirst request → IsInput request left input
+    → OfOutput request input (Appends old new) → OfSomeInput request left (λ input. Wrote old new (Promised request input))
+told request left old new input first is wrote = (input, is, promised request input (Appends old new) first wrote)
 
-pub told_front : (request : Request) (left old new : Option (List ℕ)) (input : List ℕ) → IsInput request left input → AppendsFront old new (output_for request input)
-    → OfSomeInput request left (λ input. WroteFront old new (Promised request input))
-told_front request left old new input is wrote = (input, is, (output_for request input, promised request input, wrote))
+pub told_front : (request : Request) (left old new : Option (List ℕ)) (input : List ℕ) → IsReadFirst request → IsInput request left input
+    → OfOutput request input (AppendsFront old new) → OfSomeInput request left (λ input. WroteFront old new (Promised request input))
+told_front request left old new input first is wrote = (input, is, promised request input (AppendsFront old new) first wrote)
 
 -- some input there is
 if_told : (left : Option (List ℕ)) → (input : List ℕ) × IfSome left (λ told. input ≡ told)
@@ -70,12 +76,23 @@ some_input (Lines mode) left = if_told left
 some_input (Check journal) left = if_told left
 some_input Sessions left = if_told left
 some_input (Serve kind) left = if_told left
+some_input Propose left = if_told left
 some_input (Demo seed count) left = ([], refl)
 
 -- nothing at all is a front of it
+some_promised : (request : Request) (input : List ℕ) → (bytes : List ℕ) × Promised request input bytes
+some_promised (Lines mode) input = (mode_output mode input, told_in mode input)
+some_promised (Check journal) input = ([], tt)
+some_promised Sessions input = (sessions_output input, output_tells_once input)
+some_promised (Serve kind) input = (served_output kind input, told_served kind input)
+some_promised Propose input = ([], ([], texts_in input, refl, refl))
+some_promised (Demo seed count) input = ([], tt)
+
 pub nothing_told : (request : Request) (left old : Option (List ℕ)) → OfSomeInput request left (λ input. WroteFront old old (Promised request input))
 nothing_told request left old =
-    let some = some_input request left in told_front request left old old some.0 some.1 (0, omega arith, Appends-nil old)
+    let some = some_input request left in
+    let told = some_promised request some.0 in
+    (some.0, some.1, (told.0, told.1, no_front old old told.0 refl))
 
 pub nothing_told_yet : (asked : Option Request) (left old : Option (List ℕ)) → IfSome asked (λ request. OfSomeInput request left (λ input. WroteFront old old (Promised request input)))
 nothing_told_yet None left old = tt
@@ -106,6 +123,7 @@ module _ (status : Status) (bytes : List ℕ) where
       subst (λ (b : List ℕ). All (IsSoundIn journal) (lines_of b)) all (all_sound journal (lines_of bytes) (report_in journal bytes) (says_in journal bytes) (sym is ∙ done))
   sound Sessions left all is done = tt
   sound (Serve kind) left all is done = tt
+  sound Propose left all is done = tt
   sound (Demo seed count) left all is done = tt
 
   pub faulty : (request : Request) (left : Option (List ℕ)) → OfInput request left (λ input. bytes ≡ input) → status ≡ status_for request bytes → status ≡ CheckNo
@@ -116,6 +134,7 @@ module _ (status : Status) (bytes : List ℕ) where
       subst (NamesFault journal) all (names_fault journal bytes (report_in journal bytes) refl (says_in journal bytes) (sym is ∙ failed))
   faulty Sessions left all is failed = tt
   faulty (Serve kind) left all is failed = tt
+  faulty Propose left all is failed = tt
   faulty (Demo seed count) left all is failed = tt
 
 -- ---- no answer to a request is Usage
@@ -128,4 +147,5 @@ known (Lines mode) input status is usage = cc
 known (Check journal) input status is usage = report_known (report_in journal input) (sym is ∙ usage)
 known Sessions input status is usage = cc
 known (Serve kind) input status is usage = cc
+known Propose input status is usage = cc
 known (Demo seed count) input status is usage = cc

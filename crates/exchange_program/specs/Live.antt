@@ -1,9 +1,11 @@
 -- What was taken and written when lines or messages were answered between two reads.
-use Rattle.std.specs.Prelude.{ℕ, Bool, true, false, List}
+use Rattle.std.specs.Prelude.{◌≡◌, ℕ, Bool, true, false, List, ◌++◌}
 use Rattle.exchange_sessions.specs.AllLines.{TellAllOnce, all_sessions_output}
 use Rattle.live_lines.specs.Serving.{Known, WroteAll, WroteBefore, WroteFront, WroteLines}
 use Rattle.live_lines.specs.declared.ended.Ended.{Ended}
 use Rattle.live_lines.specs.declared.ended.Ended.TheVariants as ended
+use Rattle.live_proposals.specs.Answered.{AreAnswers, texts_in}
+use Rattle.live_proposals.specs.Proposing as proposing
 use Rattle.program_words.specs.declared.requests.Served.{Served}
 use Rattle.program_words.specs.declared.requests.Served.TheVariants.{Lines, Sessions}
 use Rattle.proposal_lines.specs.Output.{proposing_line}
@@ -51,3 +53,20 @@ served_output Sessions input = all_sessions_output input
 abbrev pub ServedTell : Served → List ℕ → List ℕ → Type 0
 ServedTell Lines input bytes = TellProposals input bytes
 ServedTell Sessions input bytes = TellAllOnce input bytes
+
+-- ---- proposals
+-- at Done all was taken and each line has its answer: a proposal that is judged a bound where it tells a book, and else nothing; at a
+-- read fault the complete lines have, and at a line too long or one too many those before it; at a write fault or for want of memory a
+-- front of such answers is written
+abbrev pub ProposedAt : Status → Known → Type 0
+ProposedAt Done known = proposing.WroteAll known
+ProposedAt Usage known = ⊥
+ProposedAt ReadFault known = proposing.WroteLines known
+ProposedAt WriteFault known = proposing.WroteFront known
+ProposedAt TooLong known = proposing.WroteBefore known
+ProposedAt CheckNo known = ⊥
+ProposedAt Memory known = proposing.WroteFront known
+
+-- the bytes are answers to the first lines of the input, one to each
+abbrev pub AnswerFirst : List ℕ → List ℕ → Type 0
+AnswerFirst input bytes = (first : List (List ℕ)) × (later : List (List ℕ)) × (texts_in input ≡ first ++ later) × AreAnswers first bytes

@@ -8,6 +8,7 @@ mod lines;
 mod live;
 mod modes;
 mod program;
+mod proposing;
 mod serving;
 mod status;
 

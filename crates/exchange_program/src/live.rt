@@ -16,7 +16,7 @@ use session_lines::SessionLines;
 use std::alloc::Global;
 
 // How the answers ended, as a status.
-fn status_at(end: Ended) -> Status
+pub(crate) fn status_at(end: Ended) -> Status
     ensures { result ≡ status_at end }
 {
     match end {

@@ -7,12 +7,13 @@ ghost use Rattle.port_io.specs.Reads.{TakesUpTo};
 ghost use Rattle.port_io.specs.Writes.{AppendsFront};
 ghost use Rattle.journal_check.specs.JournalLines.{lines_of};
 ghost use Rattle.program_words.specs.Requests.{request_of};
-ghost use Rattle.exchange_program.specs.Live.{ServedAt};
+ghost use Rattle.exchange_program.specs.Live.{ProposedAt, ServedAt};
 ghost use Rattle.exchange_program.specs.Journals.{IsSoundIn, NamesFault};
-ghost use Rattle.exchange_program.specs.Requests.{Asked, HasEnded, IsCheck, IsInputWithin, IsPastLimit, IsReadFirst, IsReadWhole, OfInput, OfSomeInput, Promised, WhereCheck, WhereDemo, WhereServe, WithLimit, output_for, past_size, status_for};
+ghost use Rattle.exchange_program.specs.Requests.{Asked, HasEnded, IsCheck, IsInputWithin, IsPastLimit, IsReadFirst, IsReadWhole, OfInput, OfOutput, OfSomeInput, Promised, WhereCheck, WhereDemo, WherePropose, WhereServe, WithLimit, past_size, status_for};
 ghost use Rattle.exchange_program.specs.Wrote.{Wrote, WroteFront};
 
 use crate::live::answer_live;
+use crate::proposing::propose;
 use crate::serving::serve;
 use crate::status::Status;
 use port_io::{Sink, Source};
@@ -21,16 +22,21 @@ use std::alloc::Global;
 
 /// Runs the program on the words after its name.
 ///
-/// `run` reads commands to their end and writes a reply line for each, by one `write_all`. `quotes` does the same and also
-/// answers at which prices a further order raises the greatest surplus. `guarded` does the same as `run` and also answers which
-/// liability covers an account's positions, and it refuses a withdrawal below what the account needs. `check` reads reply lines
-/// to their end and writes one report line: that all are sound, with their counts, or the first that is not, and why. `audit`
-/// does the same with lines that `serve` or `serve sessions` wrote.
-/// `sessions` reads messages to their end and answers each, once and in its session's order. `serve` answers lines of every kind,
-/// those of `quotes` and of `guarded`, what a book and an account hold, and proposals, of which it charges the best where a
-/// clear's own run stops; it has written the answers to all lines that are complete before it reads on.
-/// `serve sessions` does so with messages of sessions, whose bodies are such lines. `demo` with a seed and a number of orders reads
-/// nothing, runs the text that it makes from them, and writes one summary line.
+/// `run` reads commands to their end and writes a reply line for each, by one `write_all`. `quotes`
+/// does the same and also answers at which prices a further order raises the greatest surplus.
+/// `guarded` does the same as `run` and also answers which liability covers an account's positions,
+/// and it refuses a withdrawal below what the account needs. `check` reads reply lines to their end
+/// and writes one report line: that all are sound, with their counts, or the first that is not, and
+/// why. `audit` does the same with lines that `serve` or `serve sessions` wrote. `sessions` reads
+/// messages to their end and answers each, once and in its session's order. `serve` answers lines
+/// of every kind, those of `quotes` and of `guarded`, what a book and an account hold, and
+/// proposals, of which it charges the best where a clear's own run stops; it has written the
+/// answers to all lines that are complete before it reads on. `serve sessions` does so with
+/// messages of sessions, whose bodies are such lines. `propose` is a solver: for each line that
+/// tells a market's book, as `serve` writes it, it writes a line that proposes for these orders and
+/// is judged a bound, before it reads on, and for any other line nothing. `demo` with a seed and a
+/// number of orders reads nothing, runs the text that it makes from them, and writes one summary
+/// line.
 pub fn exchange<S: Source, K: Sink>(
     alloc: Global,
     words: &[String],
@@ -48,14 +54,14 @@ pub fn exchange<S: Source, K: Sink>(
     ensures done { HasEnded result →
         Asked (map string_bytes words.now) (λ request.
         OfInput request (S.left source.old) (λ input. (result ≡ status_for request input)
-        × Appends (K.written sink.old) (K.written sink.new) (output_for request input))) }
+        × OfOutput request input (Appends (K.written sink.old) (K.written sink.new)))) }
     ensures whole { HasEnded result →
         Asked (map string_bytes words.now) (λ request.
         IsReadWhole request (S.left source.old) (S.left source.new)) }
     ensures front { (result ≡ Status.WriteFault) ⊎ (result ≡ Status.Memory) →
         Asked (map string_bytes words.now) (λ request.
         OfInput request (S.left source.old) (λ input.
-        AppendsFront (K.written sink.old) (K.written sink.new) (output_for request input))) }
+        OfOutput request input (AppendsFront (K.written sink.old) (K.written sink.new)))) }
 
     // It keeps what the request promises of it: each line is told its answer, and the answers keep what is promised.
     ensures told { result ≡ Status.Done →
@@ -121,6 +127,16 @@ pub fn exchange<S: Source, K: Sink>(
           writes = K.written sink.new;
         }))) }
 
+    // Each proposal is judged a bound for the book that a line tells, and between two reads all
+    // complete lines are answered.
+    ensures proposed { Asked (map string_bytes words.now) (λ request.
+        WherePropose request (ProposedAt result (record {
+          left = S.left source.old;
+          still = S.left source.new;
+          written = K.written sink.old;
+          writes = K.written sink.new;
+        }))) }
+
     // Within the limit and without a fault, the output is written, or there was no memory.
     ensures complete { Asked (map string_bytes words.now) (λ request.
         IsInputWithin request (S.left source.old) →
@@ -130,6 +146,7 @@ pub fn exchange<S: Source, K: Sink>(
 {
     match request(alloc, words) {
         Ok(Request::Serve(served)) => answer_live(alloc, served, source, sink),
+        Ok(Request::Propose) => propose(alloc, source, sink),
         Ok(request) => serve(alloc, request, source, sink),
         Err(WordsFault::Usage) => Status::Usage,
         Err(WordsFault::Memory) => Status::Memory,

@@ -8,7 +8,7 @@ ghost use Rattle.port_io.specs.Writes.{AppendsFront};
 ghost use Rattle.journal_check.specs.JournalLines.{lines_of};
 ghost use Rattle.program_words.specs.Requests.{IsRequestWithin};
 ghost use Rattle.exchange_program.specs.Journals.{IsSoundIn, NamesFault};
-ghost use Rattle.exchange_program.specs.Requests.{HasEnded, IsCheck, IsInputWithin, IsPastLimit, IsReadFirst, IsReadWhole, OfInput, OfSomeInput, Promised, WhereCheck, WhereDemo, WithLimit, output_for, past_size, status_for};
+ghost use Rattle.exchange_program.specs.Requests.{HasEnded, IsCheck, IsInputWithin, IsPastLimit, IsReadFirst, IsReadWhole, OfInput, OfOutput, OfSomeInput, Promised, WhereCheck, WhereDemo, WithLimit, past_size, status_for};
 ghost use Rattle.exchange_program.specs.Wrote.{Wrote, WroteFront};
 
 use crate::check::{MAX_JOURNAL, report_on};
@@ -48,7 +48,7 @@ fn input_of<S: Source>(alloc: Global, request: Request, source: &mut S) -> Resul
         Request::Lines(_) | Request::Sessions => read_all(alloc, source, MAX_INPUT),
         Request::Check(_) => read_all(alloc, source, MAX_JOURNAL),
         Request::Demo { .. } => Ok(Vec::new(alloc)),
-        Request::Serve(_) => unreachable!(),
+        Request::Serve(_) | Request::Propose => unreachable!(),
     }
 }
 
@@ -64,9 +64,9 @@ fn respond<K: Sink>(
     requires within { WithLimit request (λ limit. length input.now ≤ limit) }
     ensures status { IfOk result (λ status. status ≡ status_for request input.now) }
     ensures ok { OnOk result
-        (Appends (K.written sink.old) (K.written sink.new) (output_for request input.now)) }
+        (OfOutput request input.now (Appends (K.written sink.old) (K.written sink.new))) }
     ensures front { OnErr result
-        (AppendsFront (K.written sink.old) (K.written sink.new) (output_for request input.now)) }
+        (OfOutput request input.now (AppendsFront (K.written sink.old) (K.written sink.new))) }
     ensures fault { IsErrOf result AnswerFailure.SinkFailed →
         Rose (K.faults sink.old) (K.faults sink.new) }
 {
@@ -84,7 +84,7 @@ fn respond<K: Sink>(
             write_demo(alloc, seed, count, sink)?;
             Ok(Status::Done)
         }
-        Request::Serve(_) => unreachable!(),
+        Request::Serve(_) | Request::Propose => unreachable!(),
     }
 }
 
@@ -102,12 +102,12 @@ pub(crate) fn serve<S: Source, K: Sink>(
     // What is written is the defined output of all bytes that were left, and the status is theirs.
     ensures done { HasEnded result →
         OfInput request (S.left source.old) (λ input. (result ≡ status_for request input)
-        × Appends (K.written sink.old) (K.written sink.new) (output_for request input)) }
+        × OfOutput request input (Appends (K.written sink.old) (K.written sink.new))) }
     ensures whole { HasEnded result →
         IsReadWhole request (S.left source.old) (S.left source.new) }
     ensures front { (result ≡ Status.WriteFault) ⊎ (result ≡ Status.Memory) →
         OfInput request (S.left source.old) (λ input.
-        AppendsFront (K.written sink.old) (K.written sink.new) (output_for request input)) }
+        OfOutput request input (AppendsFront (K.written sink.old) (K.written sink.new))) }
 
     // It keeps what the request promises of it: each line is told its answer, and the answers keep what is promised.
     ensures told { result ≡ Status.Done →

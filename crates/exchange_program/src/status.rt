@@ -10,12 +10,13 @@ pub enum Status {
     Done,
     /// The words have none of the forms that the program knows.
     Usage,
-    /// A read failed; nothing was written, or by `serve` the answers to the lines that were complete.
+    /// A read failed; nothing was written, or by `serve` and `propose` the answers to the lines
+    /// that were complete.
     ReadFault,
     /// A write failed; a front of the output was written.
     WriteFault,
-    /// The input is longer than the limit; nothing was written. Or a line of `serve` is past its limit; the answers to all lines
-    /// before it were written.
+    /// The input is longer than the limit; nothing was written. Or a line of `serve` or `propose`
+    /// is past its limit; the answers to all lines before it were written.
     TooLong,
     /// A line of the journal has a fault; the report that names it was written.
     CheckNo,

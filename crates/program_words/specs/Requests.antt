@@ -3,7 +3,7 @@ use Rattle.std.specs.Prelude.{ℕ, ◌≤◌, ⊤, List, [], ◌∷◌, ◌&&◌
 use Rattle.std.specs.Str.{bytes_eq}
 use Rattle.form.specs.Naturals.{is_natural, natural_value}
 use Rattle.program_words.specs.declared.requests.Request.{Request}
-use Rattle.program_words.specs.declared.requests.Request.TheVariants.{Lines, Check, Sessions, Serve, Demo}
+use Rattle.program_words.specs.declared.requests.Request.TheVariants.{Lines, Check, Sessions, Serve, Propose, Demo}
 use Rattle.program_words.specs.declared.requests.Mode.TheVariants.{Run, Quotes, Guarded}
 use Rattle.program_words.specs.declared.requests.Journal.TheVariants as wrote
 use Rattle.program_words.specs.declared.requests.Served.TheVariants as served
@@ -28,6 +28,7 @@ one_word word =
     else if bytes_eq word (codes "audit") then Some (Check wrote.Served)
     else if bytes_eq word (codes "sessions") then Some Sessions
     else if bytes_eq word (codes "serve") then Some (Serve served.Lines)
+    else if bytes_eq word (codes "propose") then Some Propose
     else None
 
 abbrev pub served_of : List ℕ → Option Request
@@ -40,7 +41,7 @@ abbrev pub three_words : List ℕ → List ℕ → List ℕ → Option Request
 three_words word seed count =
     if bytes_eq word (codes "demo") then demo_of (natural_in 0 MAX_SEED seed) (natural_in 1 MAX_COUNT count) else None
 
--- `run`, `quotes`, `guarded`, `check`, `audit`, `sessions`, `serve`, `serve sessions`, or `demo` with a seed and a number of orders
+-- `run`, `quotes`, `guarded`, `check`, `audit`, `sessions`, `serve`, `serve sessions`, `propose`, or `demo` with a seed and a number of orders
 abbrev pub request_of : List (List ℕ) → Option Request
 request_of [] = None
 request_of (word ∷ []) = one_word word
@@ -54,4 +55,5 @@ IsRequestWithin (Lines mode) = ⊤
 IsRequestWithin (Check journal) = ⊤
 IsRequestWithin Sessions = ⊤
 IsRequestWithin (Serve served) = ⊤
+IsRequestWithin Propose = ⊤
 IsRequestWithin (Demo seed count) = (1 ≤ count) × (count ≤ MAX_COUNT)

@@ -51,6 +51,8 @@ pub enum Request {
     Sessions,
     /// Reads lines or messages and answers each between two reads.
     Serve(Served),
+    /// Reads reply lines and proposes for each that tells a book, between two reads.
+    Propose,
     /// Runs a text of `count` orders that is made from the seed, and writes its summary.
     Demo { seed: u32, count: u32 },
 }

@@ -42,6 +42,9 @@ fn one_word(word: &str) -> Option<Request>
     if word == "serve" {
         return Some(Request::Serve(Served::Lines));
     }
+    if word == "propose" {
+        return Some(Request::Propose);
+    }
     None
 }
 
@@ -95,8 +98,9 @@ fn are_positional(words: &[String]) -> bool
     }
 }
 
-/// What the words after the program's name ask for: `run`, `quotes`, `guarded`, `check`, `audit`, `sessions`, `serve`, `serve sessions`,
-/// or `demo` with a seed and a number of orders, each of which is `0` or digits that do not begin with 0.
+/// What the words after the program's name ask for: `run`, `quotes`, `guarded`, `check`, `audit`,
+/// `sessions`, `serve`, `serve sessions`, `propose`, or `demo` with a seed and a number of orders, each
+/// of which is `0` or digits that do not begin with 0.
 ///
 /// Usage where they have none of these forms, and Memory for want of memory alone.
 pub fn request(alloc: Global, words: &[String]) -> Result<Request, WordsFault>

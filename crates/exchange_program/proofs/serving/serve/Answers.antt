@@ -10,7 +10,7 @@ is_read request left items now same all = subst (λ b. OfInput request left (λ 
 
 pub returns-in-Ok-respond-clause-told : goal.returns-in-Ok-respond-clause-told
 returns-in-Ok-respond-clause-told g c = λ ended.
-    told c.args.request (g.S.Source.left c.args.source.now) _ _ c.deref.result.now
+    told c.args.request (g.S.Source.left c.args.source.now) _ _ c.deref.result.now c.requires.first
     (is_read c.args.request (g.S.Source.left c.args.source.now) _ _ c.deref.ensures.value c.in-Ok.ensures.all) c.in-Ok-respond.ensures.ok
 
 pub returns-in-Ok-respond-clause-sound : goal.returns-in-Ok-respond-clause-sound
@@ -30,12 +30,12 @@ returns-in-Ok-respond-clause-known g c = λ usage. known c.args.request c.deref.
 
 pub returns-in-Err-SinkFailed-clause-told_front : goal.returns-in-Err-SinkFailed-clause-told_front
 returns-in-Err-SinkFailed-clause-told_front g c = λ ended.
-    told_front c.args.request (g.S.Source.left c.args.source.now) _ _ c.deref.result.now
+    told_front c.args.request (g.S.Source.left c.args.source.now) _ _ c.deref.result.now c.requires.first
     (is_read c.args.request (g.S.Source.left c.args.source.now) _ _ c.deref.ensures.value c.in-Ok.ensures.all) c.in-Err-SinkFailed.ensures.front
 
 pub returns-clause-told_front : goal.returns-clause-told_front
 returns-clause-told_front g c = λ ended.
-    told_front c.args.request (g.S.Source.left c.args.source.now) _ _ c.deref.result.now
+    told_front c.args.request (g.S.Source.left c.args.source.now) _ _ c.deref.result.now c.requires.first
     (is_read c.args.request (g.S.Source.left c.args.source.now) _ _ c.deref.ensures.value c.in-Ok.ensures.all) c.in-Err-OutOfMemory.ensures.front
 
 pub returns-in-Err-Memory-clause-told_front : goal.returns-in-Err-Memory-clause-told_front
