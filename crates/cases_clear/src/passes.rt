@@ -12,6 +12,13 @@ use narrow_clearing::{Pass, Room, clear_in};
 use order_book::{Book, NewOrder};
 use std::alloc::{AllocError, Global};
 
+fn word_of(pass: &Pass) -> &'static str {
+    match pass {
+        Pass::Narrow => "narrow",
+        Pass::Broad => "broad",
+    }
+}
+
 // Clears a batch in room of its own, and answers the pass, the surplus and the units.
 fn pass_text(alloc: Global, batch: &Batch, limit: u32) -> Result<String, AllocError>
     requires within { IsWithinLimits batch.now }
@@ -19,13 +26,10 @@ fn pass_text(alloc: Global, batch: &Batch, limit: u32) -> Result<String, AllocEr
 {
     let room = Room::new(alloc, batch, limit)?;
     let (outcome, pass) = clear_in(batch, limit, room);
-    let name = match pass {
-        Pass::Narrow => "narrow",
-        Pass::Broad => "broad",
-    };
+    let word = word_of(&pass);
     let (above, below) = outcome.claim.surplus.parts();
     let units = outcome.units;
-    format!(in alloc; "{name} {above}/{below} {units}")
+    format!(in alloc; "{word} {above}/{below} {units}")
 }
 
 // Takes a book one line further: it lists a market or takes an order for a bundle.
@@ -75,17 +79,29 @@ fn line_pass(alloc: Global, book: &mut Book, said: &Body) -> Result<Option<Strin
     Ok(Some(pass_text(alloc, &batch, *budget)?))
 }
 
-// Whether the batch of a case is cleared as the case says.
-fn is_cleared_so(alloc: Global, case: &str) -> Result<bool> {
+// The text of the pass in which the lines clear their batch.
+fn cleared_pass(alloc: Global, book: &mut Book, lines: &str) -> Result<String> {
+    ensure!(lines.len() <= 16_777_216, "a text");
+    for line in &commands(alloc, lines.as_bytes())? {
+        if let Some(pass) = line_pass(alloc, book, &line.body)? {
+            return Ok(pass);
+        }
+    }
+    bail!("a batch that is cleared")
+}
+
+// The lines of a case, and the pass that it says.
+fn parts(case: &str) -> Result<(&str, &str)> {
     let (input, wanted) = case.split_once("= ").context("a pass")?;
     let (_, lines) = input.split_once('\n').context("a name")?;
-    ensure!(lines.len() <= 16_777_216, "a text");
+    Ok((lines, wanted.trim()))
+}
+
+// Whether the batch of a case is cleared as the case says.
+fn is_cleared_so(alloc: Global, case: &str) -> Result<bool> {
+    let (lines, wanted) = parts(case)?;
     let mut book = Book::new(alloc);
-    let mut last = None;
-    for line in &commands(alloc, lines.as_bytes())? {
-        last = line_pass(alloc, &mut book, &line.body)?;
-    }
-    Ok(last.context("a batch that is cleared")?.as_str() == wanted.trim())
+    Ok(cleared_pass(alloc, &mut book, lines)?.as_str() == wanted)
 }
 
 #[test]
