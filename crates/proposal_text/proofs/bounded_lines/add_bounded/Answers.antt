@@ -1,4 +1,4 @@
-use Rattle.std.proofs.Common.{codes, ◌∙◌}
+use Rattle.std.proofs.Common.{true, codes, ◌∙◌}
 use Rattle.std.proofs.lemmas.Result.{on_ok_weaker}
 use Rattle.reply_print.specs.BatchPieces.{fraction}
 use Rattle.reply_print.specs.Piece.{field}

@@ -1,4 +1,4 @@
-use Rattle.std.proofs.Common.{codes, ◌∙◌}
+use Rattle.std.proofs.Common.{false, codes, ◌∙◌}
 use Rattle.std.proofs.lemmas.Result.{on_ok_weaker}
 use Rattle.reply_print.specs.BatchPieces.{natural, fraction, each}
 use Rattle.reply_print.specs.Piece.{no_fields, field}
