@@ -50,7 +50,7 @@ fn the_first_fault_ends_the_call(rt: HostRuntime) -> Result<(), Fail> {
     for (words, read, write, end) in [
         ("check", 1, 0, Status::ReadFault),
         ("check", 0, 1, Status::WriteFault),
-        ("sessions", 0, 2, Status::WriteFault),
+        ("sessions", 0, 1, Status::WriteFault),
         ("demo 1 1", 1, 0, Status::Done),
     ] {
         let (status, _) = run(rt.alloc(), words, b"7,1,open,1\n7,1,open,1\n", read, write)?;
