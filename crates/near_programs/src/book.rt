@@ -17,8 +17,10 @@ pub struct Scales {
     pub time: u32,
 }
 
-/// An order: its limit price in ticks, negative for a sell, and its quantity; both once more in scaled floats; and whether
-/// the market owes what one of its legs pays, so that less of it is less to cover.
+/// An order: its limit price in ticks, negative for a sell, and its quantity; both once more in
+/// scaled floats; the scaled fill that counts as 1 in the master program, near the root of the
+/// greatest, so that its tolerances fit small orders beside large ones; and whether the market owes
+/// what one of its legs pays, so that less of it is less to cover.
 #[derive(Clone, Copy)]
 pub struct NearOrder {
     pub has_long: bool,
@@ -26,6 +28,7 @@ pub struct NearOrder {
     pub quantity: i128,
     pub scaled_limit: f64,
     pub most: f64,
+    pub unit: f64,
 }
 
 /// A leg: the place of its order, whether the market owes what it pays, the size of its count, and its option; count and
@@ -155,7 +158,13 @@ fn near_order(order: &Order, scales: Scales) -> NearOrder {
         quantity,
         scaled_limit: float_of(limit) / power(scales.money),
         most: float_of(quantity) / power(scales.fill),
+        unit: unit_of(quantity, scales),
     }
+}
+
+// The power of two near the root of a scaled quantity.
+fn unit_of(quantity: i128, scales: Scales) -> f64 {
+    1.0 / power(scales.fill.saturating_sub(bits_of(quantity)) / 2)
 }
 
 fn near_leg(order: usize, side: Side, leg: &Leg, scales: Scales) -> NearLeg {

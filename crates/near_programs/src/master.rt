@@ -13,10 +13,11 @@ pub const SMALL: f64 = 1.1641532182693481e-10;
 
 // What the master program takes for no pivot: 2^-24.
 const PIVOT: f64 = 5.960464477539063e-8;
-// 1 + 2^-26: bought payoffs count so much on rays.
+// 1 + 2^-26: bought payoffs count so much on rays, so that fills can be rounded.
 const RAY_FACTOR: f64 = 1.0000000149011612;
-// Fills below 2^-28 of the quantity are nothing.
-const DUST: f64 = 3.725290298461914e-9;
+// Fewer units of an order than 2^-40 are nothing; 2^-28 where less of it is less to cover.
+const DUST: f64 = 9.094947017729282e-13;
+const LONG_DUST: f64 = 3.725290298461914e-9;
 // Rows whose slack is at least 2^-6 leave where there are too many.
 const FAR: f64 = 0.015625;
 
@@ -70,40 +71,44 @@ fn start(book: &Book, alloc: Global, base: &[f64]) -> Result<Table, AllocError> 
     let count = book.orders.len();
     let mut table = Table::new(alloc, count.saturating_add(1), 1)?;
     for (i, order) in book.orders.iter().enumerate() {
-        let gain = (order.scaled_limit - entry(base, i)) * order.most;
-        set_share(&mut table, i, gain);
+        let gain = (order.scaled_limit - entry(base, i)) * order.unit;
+        set_order(&mut table, i, gain, order.most / order.unit);
     }
     table.set(0, count, 1.0);
     Ok(table)
 }
 
-// Puts the share of an order that is filled, and gains so much, into the table.
-fn set_share(table: &mut Table, column: usize, gain: f64) {
+// Puts the fill of an order, which gains so much for each unit, into the table.
+fn set_order(table: &mut Table, column: usize, gain: f64, most: f64) {
     table.set(0, column, -gain);
-    table.set_upper(column, 1.0);
+    table.set_upper(column, most);
     if gain > 0.0 {
         table.flip_other(column);
     }
 }
 
-// Takes each number times the quantity of its order.
-fn scale_by_quantities(numbers: &mut [f64], orders: &[NearOrder]) {
+// Takes each number times the unit of its order.
+fn scale_by_units(numbers: &mut [f64], orders: &[NearOrder]) {
     for (i, order) in orders.iter().enumerate() {
-        let number = entry(numbers, i) * order.most;
+        let number = entry(numbers, i) * order.unit;
         set_entry(numbers, i, number);
     }
 }
 
-// The fill of which a share of the quantity is filled.
-fn fill_of_share(share: f64, most: f64) -> f64 {
-    let share = share.min(1.0);
-    if share < DUST { 0.0 } else { share * most }
+// The fill of so many units.
+fn fill_of_units(units: f64, order: &NearOrder) -> f64 {
+    let dust = if order.has_long { LONG_DUST } else { DUST };
+    if units < dust {
+        0.0
+    } else {
+        (units * order.unit).min(order.most)
+    }
 }
 
-// Writes the fills of which these shares are filled.
-fn set_fills(fills: &mut [f64], shares: &[f64], orders: &[NearOrder]) {
+// Writes the fills of so many units each.
+fn set_fills(fills: &mut [f64], units: &[f64], orders: &[NearOrder]) {
     for (i, order) in orders.iter().enumerate() {
-        set_entry(fills, i, fill_of_share(entry(shares, i), order.most));
+        set_entry(fills, i, fill_of_units(entry(units, i), order));
     }
 }
 
@@ -151,7 +156,7 @@ impl Master {
         if !is_ray {
             add_times(owed, -1.0, &self.base);
         }
-        scale_by_quantities(owed, &book.orders);
+        scale_by_units(owed, &book.orders);
         owed.push(if is_ray { 0.0 } else { -1.0 })?;
         Ok(())
     }
