@@ -39,6 +39,7 @@ struct KnownState {
 #[derive(Drop)]
 pub struct Master {
     alloc: Global,
+    ray_factor: f64,
     pub table: Table,
     states: Vec<KnownState>,
     pub fills: Vec<f64>,
@@ -121,6 +122,7 @@ impl Master {
         values.push(0.0)?;
         Ok(Master {
             alloc,
+            ray_factor: RAY_FACTOR,
             table,
             states: Vec::new(alloc),
             fills: book.zeros(alloc)?,
@@ -137,7 +139,7 @@ impl Master {
         for leg in book.legs.iter() {
             let pays = float_of(payoff(&leg.entries, state)) * unit;
             let counts = if leg.is_long && state.is_ray() {
-                pays * RAY_FACTOR
+                pays * self.ray_factor
             } else {
                 pays
             };
@@ -201,6 +203,17 @@ impl Master {
             let _ = self.add_state(book, *state)?;
         }
         Ok(())
+    }
+
+    /// The program over the same states with rays as they are, solved: its prices bound more closely,
+    /// but its fills leave no room to be rounded. The error is want of memory.
+    pub fn for_prices(&self, book: &Book) -> Result<Master, AllocError> {
+        let states = self.live_states()?;
+        let mut master = Master::new(self.alloc, book)?;
+        master.ray_factor = 1.0;
+        master.add_states(book, &states)?;
+        master.solve(book)?;
+        Ok(master)
     }
 
     // The table made anew from its states, where rounding has moved it.

@@ -123,6 +123,21 @@ fn rounds(
     Ok(best)
 }
 
+// The measure, or that of the prices with rays as they are, whichever has the lesser bound.
+fn closer_measure(
+    alloc: Global,
+    book: &Book,
+    master: &Master,
+    measure: WholeMeasure,
+) -> Result<WholeMeasure, AllocError> {
+    let priced = measure_of(alloc, book, &master.for_prices(book)?)?;
+    Ok(if priced.bound < measure.bound {
+        priced
+    } else {
+        measure
+    })
+}
+
 // The scaled floats of whole fills.
 fn scaled_fills(alloc: Global, book: &Book, units: &[i128]) -> Result<Vec<f64>, AllocError> {
     let unit = scaled_unit(book.scales);
@@ -306,8 +321,9 @@ pub(crate) fn solve_near(alloc: Global, batch: &Batch) -> Result<Option<Proposal
     let book = Book::new(alloc, batch)?;
     let mut master = first_program(alloc, &book)?;
     let mut tree = Tree::new(alloc, &book, false)?;
-    match rounds(alloc, &book, &mut master, &mut tree)? {
-        Some(measure) => answer(alloc, &book, &master, &tree, &measure),
-        None => Ok(None),
-    }
+    let Some(measure) = rounds(alloc, &book, &mut master, &mut tree)? else {
+        return Ok(None);
+    };
+    let measure = closer_measure(alloc, &book, &master, measure)?;
+    answer(alloc, &book, &master, &tree, &measure)
 }
