@@ -8,19 +8,19 @@ use std::alloc::{AllocError, Global};
 
 /// Fills, liability and multipliers are whole multiples of 2^-40.
 pub const FILL_BITS: u32 = 40;
-/// Weights are whole multiples of 2^-(32 + time).
-pub const WEIGHT_BITS: u32 = 32;
+/// Weights are whole multiples of 2^-(40 + time).
+pub const WEIGHT_BITS: u32 = 40;
 // Fills within 2^-30 of the quantity are the quantity.
 const NEAR_TOP: i128 = 1024;
 
-/// A state and its weight in units of 2^-(32 + time).
+/// A state and its weight in units of 2^-(40 + time).
 #[derive(Clone, Copy)]
 pub struct WholePoint {
     pub state: NearState,
     pub weight: i128,
 }
 
-/// A measure, and its bound in units of 2^-(32 + time).
+/// A measure, and its bound in units of 2^-(40 + time).
 #[derive(Drop)]
 pub struct WholeMeasure {
     pub points: Vec<WholePoint>,
