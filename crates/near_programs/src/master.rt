@@ -17,6 +17,7 @@ const PIVOT: f64 = 5.960464477539063e-8;
 const RAY_FACTOR: f64 = 1.0000000149011612;
 // Fewer units of an order than 2^-40 are nothing; 2^-28 where less of it is less to cover.
 const DUST: f64 = 9.094947017729282e-13;
+
 const LONG_DUST: f64 = 3.725290298461914e-9;
 // Rows whose slack is at least 2^-6 leave where there are too many.
 const FAR: f64 = 0.015625;
