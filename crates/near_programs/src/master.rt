@@ -80,6 +80,13 @@ fn start(book: &Book, alloc: Global, base: &[f64]) -> Result<Table, AllocError> 
     Ok(table)
 }
 
+// A value of 0 for each order and for the liability.
+fn zero_values(book: &Book, alloc: Global) -> Result<Vec<f64>, AllocError> {
+    let mut values = book.zeros(alloc)?;
+    values.push(0.0)?;
+    Ok(values)
+}
+
 // Puts the fill of an order, which gains so much for each unit, into the table.
 fn set_order(table: &mut Table, column: usize, gain: f64, most: f64) {
     table.set(0, column, -gain);
@@ -118,15 +125,15 @@ impl Master {
     /// The master program without states. The error is want of memory.
     pub fn new(alloc: Global, book: &Book) -> Result<Master, AllocError> {
         let base = base_of(book, alloc)?;
+        let fills = book.zeros(alloc)?;
+        let values = zero_values(book, alloc)?;
         let table = start(book, alloc, &base)?;
-        let mut values = book.zeros(alloc)?;
-        values.push(0.0)?;
         Ok(Master {
             alloc,
             ray_factor: RAY_FACTOR,
             table,
             states: Vec::new(alloc),
-            fills: book.zeros(alloc)?,
+            fills,
             liability: 0.0,
             base,
             values,

@@ -307,29 +307,43 @@ fn closing_table(
     Ok(table)
 }
 
-// The answer at the point of an objective whose first entry is given, without multipliers.
-fn found_at(alloc: Global, table: &Table, objective: usize, first: f64, value: f64) -> Found {
-    Found {
-        value,
-        point: prices_in(table, objective, first),
-        multipliers: Vec::new(alloc),
+// Both phases of a node's program.
+fn found_in(table: &mut Table, columns: &[Column]) -> Result<Found, AllocError> {
+    let slack = columns.len();
+    let left = first_phase(table, slack)?;
+    if left > 0.0 {
+        return Ok(Found {
+            value: left,
+            point: prices_in(table, 0, 0.0),
+            multipliers: Vec::new(table.allocator()),
+        });
     }
+    table.primal(1, slack, NODE_TURNS)?;
+    Ok(Found {
+        value: -table.at(1, table.width()),
+        point: prices_in(table, 1, 1.0),
+        multipliers: read_multipliers(table, columns)?,
+    })
 }
 
 /// Solves the program of a node by at most 400 turns in each of its two phases. The error is want of memory.
 pub fn solve_node(alloc: Global, book: &Book, question: Question) -> Result<Found, AllocError> {
     let columns = columns_of(alloc, book, question)?;
-    let slack = columns.len();
     let mut table = table_of(alloc, book, &columns, question)?;
-    let left = first_phase(&mut table, slack)?;
-    if left > 0.0 {
-        return Ok(found_at(alloc, &table, 0, 0.0, left));
+    found_in(&mut table, &columns)
+}
+
+// Both phases of a closing program.
+fn closing_multipliers(
+    table: &mut Table,
+    columns: &[Column],
+) -> Result<Option<Vec<LegMultiplier>>, AllocError> {
+    let slack = columns.len();
+    if first_phase(table, slack)? > 0.0 {
+        return Ok(None);
     }
     table.primal(1, slack, NODE_TURNS)?;
-    let value = -table.at(1, table.width());
-    let mut found = found_at(alloc, &table, 1, 1.0, value);
-    found.multipliers = read_multipliers(&table, &columns)?;
-    Ok(found)
+    Ok(Some(read_multipliers(table, columns)?))
 }
 
 /// The multipliers of least cost that close a node at this liability, each at its leg's cost for each 1 of it; None where none
@@ -342,12 +356,6 @@ pub fn solve_closing(
     costs: &[f64],
 ) -> Result<Option<Vec<LegMultiplier>>, AllocError> {
     let columns = columns_of(alloc, book, question)?;
-    let slack = columns.len();
     let mut table = closing_table(alloc, book, &columns, question, enough, costs)?;
-    if first_phase(&mut table, slack)? > 0.0 {
-        return Ok(None);
-    }
-    table.primal(1, slack, NODE_TURNS)?;
-    let multipliers = read_multipliers(&table, &columns)?;
-    Ok(Some(multipliers))
+    closing_multipliers(&mut table, &columns)
 }

@@ -278,11 +278,17 @@ fn place_of_most(numbers: &[f64]) -> Option<usize> {
 
 // What a split of an open leaf at a leg gains: how much of the excess each side has no more, one times the other.
 fn gain_of_split(aim: Aim, signs: &[i8], leg: usize, excess: f64) -> Result<f64, AllocError> {
-    let plus = solve_signs(aim, &with_sign(aim.alloc, signs, leg, 1)?)?;
-    let minus = solve_signs(aim, &with_sign(aim.alloc, signs, leg, -1)?)?;
+    let plus = excess_with(aim, signs, leg, 1)?;
+    let minus = excess_with(aim, signs, leg, -1)?;
     let least = excess * LEAST_GAIN;
-    let gain = (excess - excess_of(aim, &plus)).max(least);
-    Ok(gain * (excess - excess_of(aim, &minus)).max(least))
+    Ok((excess - plus).max(least) * (excess - minus).max(least))
+}
+
+// What is exceeded with one more sign.
+fn excess_with(aim: Aim, signs: &[i8], leg: usize, sign: i8) -> Result<f64, AllocError> {
+    let signs = with_sign(aim.alloc, signs, leg, sign)?;
+    let found = solve_signs(aim, &signs)?;
+    Ok(excess_of(aim, &found))
 }
 
 // Of the legs that are overstated most, the one at which a split gains most.

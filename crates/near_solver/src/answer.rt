@@ -20,8 +20,8 @@ pub fn dyadic(units: i128, bits: u32) -> Option<Frac128> {
     above.div(below).ok()
 }
 
-// The fractions of fills.
-fn fractions(alloc: Global, units: &[i128]) -> Result<Option<Fills>, AllocError> {
+// The fills in fractions.
+fn fraction_fills(alloc: Global, units: &[i128]) -> Result<Option<Fills>, AllocError> {
     let mut fills = Vec::new(alloc);
     for unit in units {
         let Some(fill) = dyadic(*unit, FILL_BITS) else {
@@ -103,6 +103,32 @@ pub struct Solved<'a> {
     pub measure: &'a WholeMeasure,
 }
 
+// The numbers of a solution in fractions.
+#[derive(Drop)]
+struct Fractions {
+    fills: Fills,
+    claim: Claim,
+    measure: Measure,
+}
+
+fn fractions_of(alloc: Global, solved: &Solved) -> Result<Option<Fractions>, AllocError> {
+    let Some(claim) = claim_of(solved.liability, solved.surplus) else {
+        return Ok(None);
+    };
+    let Some(fills) = fraction_fills(alloc, solved.fills)? else {
+        return Ok(None);
+    };
+    let Some(measure) = fraction_measure(alloc, solved.underlyings, solved.time, solved.measure)?
+    else {
+        return Ok(None);
+    };
+    Ok(Some(Fractions {
+        fills,
+        claim,
+        measure,
+    }))
+}
+
 /// The proposal of what was solved, with this cover. None where a number does not fit its fraction or its state; the error is
 /// want of memory.
 pub fn answer_of(
@@ -110,20 +136,13 @@ pub fn answer_of(
     solved: &Solved,
     cover: Cover,
 ) -> Result<Option<Proposal>, AllocError> {
-    let Some(claim) = claim_of(solved.liability, solved.surplus) else {
-        return Ok(None);
-    };
-    let Some(measure) = fraction_measure(alloc, solved.underlyings, solved.time, solved.measure)?
-    else {
-        return Ok(None);
-    };
-    let Some(fills) = fractions(alloc, solved.fills)? else {
+    let Some(numbers) = fractions_of(alloc, solved)? else {
         return Ok(None);
     };
     Ok(Some(Proposal {
-        fills,
-        claim,
+        fills: numbers.fills,
+        claim: numbers.claim,
         cover,
-        measure,
+        measure: numbers.measure,
     }))
 }

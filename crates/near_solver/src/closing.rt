@@ -225,7 +225,33 @@ fn raises_above(sums: &[i128; 9], before: &[i128; 9]) -> bool {
     false
 }
 
-// Tries to mend a slope by one leg.
+// Whether a leg's multiplier may be so many units.
+fn is_multiplier(closing: Closing, leg: &NearLeg, units: i128) -> bool {
+    units >= 0 && (leg.is_long || units <= leg_fill(leg, closing.units))
+}
+
+// Moves the multiplier of a leg by so many units, where it may be that and raises no slope above 0. Answers whether it did.
+fn move_leg(
+    closing: Closing,
+    closed: &mut Closed,
+    place: usize,
+    leg: &NearLeg,
+    sign: i8,
+    units: i128,
+) -> bool {
+    let next = whole_at(&closed.multipliers, place).saturating_add(units);
+    if !is_multiplier(closing, leg, next) {
+        return false;
+    }
+    let Some(sums) = moved(&closed.sums, leg, units.saturating_mul(factor(leg, sign))) else {
+        return false;
+    };
+    set_whole(&mut closed.multipliers, place, next);
+    closed.sums = sums;
+    true
+}
+
+// Tries to mend a slope by one leg. Answers whether it did.
 fn mend_by(
     closing: Closing,
     signs: &[i8],
@@ -233,29 +259,25 @@ fn mend_by(
     place: usize,
     slope: usize,
     grid: i128,
-) -> Option<()> {
-    let leg = closing.book.legs.get(place)?;
+) -> bool {
+    let Some(leg) = closing.book.legs.get(place) else {
+        return false;
+    };
     let sign = sign_at(signs, place);
     if leg.is_long && sign == 0 {
-        return None;
+        return false;
     }
-    let above = *closed.sums.get(slope)?;
-    let units = move_for(leg, sign, slope, above, grid)?;
-    let now = *closed.multipliers.get(place)?;
-    let next = now.saturating_add(units);
-    if next < 0 || (!leg.is_long && next > leg_fill(leg, closing.units)) {
-        return None;
+    let above = whole_at(&closed.sums, slope);
+    match move_for(leg, sign, slope, above, grid) {
+        Some(units) => move_leg(closing, closed, place, leg, sign, units),
+        None => false,
     }
-    let sums = moved(&closed.sums, leg, units.saturating_mul(factor(leg, sign)))?;
-    *closed.multipliers.get_mut(place)? = next;
-    closed.sums = sums;
-    Some(())
 }
 
 // Mends a slope by the first leg that can.
 fn mend(closing: Closing, signs: &[i8], closed: &mut Closed, slope: usize, grid: i128) -> bool {
     for place in 0..closing.book.legs.len() {
-        if mend_by(closing, signs, closed, place, slope, grid).is_some() {
+        if mend_by(closing, signs, closed, place, slope, grid) {
             return true;
         }
     }

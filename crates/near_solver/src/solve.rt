@@ -74,6 +74,19 @@ fn keep_lesser(best: &mut Option<WholeMeasure>, measure: WholeMeasure) {
     }
 }
 
+// Climbs, and adds the states that are violated most. Answers whether there was one.
+fn climb(
+    alloc: Global,
+    book: &Book,
+    master: &mut Master,
+    draws: &mut Draws,
+    forgiven: f64,
+) -> Result<bool, AllocError> {
+    let mut violated = Violated::new(alloc);
+    violated.climb_all(alloc, book, master, draws, forgiven)?;
+    Ok(violated.add_greatest(book, master, CLIMBED)? > 0)
+}
+
 // One round: the master program, climbs, and where these find nothing the tree. Answers whether it is the last.
 fn round(
     alloc: Global,
@@ -83,9 +96,7 @@ fn round(
     draws: &mut Draws,
 ) -> Result<bool, AllocError> {
     let forgiven = from_zero(master.surplus(book)) * FORGIVEN + SMALL * 2.0;
-    let mut violated = Violated::new(alloc);
-    violated.climb_all(alloc, book, master, draws, forgiven)?;
-    if violated.add_greatest(book, master, CLIMBED)? > 0 {
+    if climb(alloc, book, master, draws, forgiven)? {
         return Ok(false);
     }
     let states = tree.grow(book, master, forgiven)?;
@@ -260,10 +271,52 @@ fn solve_part(
     measure: &WholeMeasure,
 ) -> Result<Option<Proposal>, AllocError> {
     let part = part_of(alloc, book, gains, kept)?;
-    let mut master = first_program(alloc, &part)?;
     let mut tree = Tree::new(alloc, &part, true)?;
-    let _ = rounds(alloc, &part, &mut master, &mut tree)?;
-    finish(alloc, &part, &master, &tree, measure)
+    let mut master = first_program(alloc, &part)?;
+    solve_part_in(alloc, &part, &mut master, &mut tree, measure)
+}
+
+// Solves a part over its first program.
+fn solve_part_in(
+    alloc: Global,
+    part: &Book,
+    master: &mut Master,
+    tree: &mut Tree,
+    measure: &WholeMeasure,
+) -> Result<Option<Proposal>, AllocError> {
+    let _ = rounds(alloc, part, master, tree)?;
+    finish(alloc, part, master, tree, measure)
+}
+
+// The parts tried so far: how many orders with a long leg the largest keeps that fits, and the smallest that does not, how
+// many did not fit, and the proposal of the largest that did.
+#[derive(Drop)]
+struct Tried {
+    fits: usize,
+    fails: usize,
+    misfits: u32,
+    best: Option<Proposal>,
+}
+
+impl Tried {
+    // How many orders with a long leg the next part keeps. None where there is none.
+    fn next_kept(&self) -> Option<usize> {
+        if self.misfits >= MISFITS {
+            return None;
+        }
+        next_kept(self.fits, self.fails)
+    }
+
+    // Notes a part, and its proposal where it fits.
+    fn note(&mut self, kept: usize, found: Option<Proposal>) {
+        if found.is_some() {
+            self.fits = kept;
+            self.best = found;
+        } else {
+            self.fails = kept;
+            self.misfits = self.misfits.saturating_add(1);
+        }
+    }
 }
 
 // Solves parts of the book. Answers that of the largest part that fits.
@@ -273,27 +326,20 @@ fn solve_parts(
     measure: &WholeMeasure,
 ) -> Result<Option<Proposal>, AllocError> {
     let gains = gains_of(alloc, book, measure)?;
-    let mut fits = 0usize;
-    let mut fails = count_long(book);
-    let mut misfits = 0u32;
-    let mut best = None;
+    let mut tried = Tried {
+        fits: 0,
+        fails: count_long(book),
+        misfits: 0,
+        best: None,
+    };
     for _ in 0..PARTS {
-        let Some(kept) = next_kept(fits, fails) else {
+        let Some(kept) = tried.next_kept() else {
             break;
         };
-        if misfits >= MISFITS {
-            break;
-        }
         let found = solve_part(alloc, book, &gains, kept, measure)?;
-        if found.is_some() {
-            fits = kept;
-            best = found;
-        } else {
-            fails = kept;
-            misfits = misfits.saturating_add(1);
-        }
+        tried.note(kept, found);
     }
-    Ok(best)
+    Ok(tried.best)
 }
 
 // The answer for the whole book: parts of it where its tree is full or long.
@@ -304,26 +350,46 @@ fn answer(
     tree: &Tree,
     measure: &WholeMeasure,
 ) -> Result<Option<Proposal>, AllocError> {
-    let whole = finish(alloc, book, master, tree, measure)?;
-    if whole.is_some() {
-        return Ok(whole);
+    match finish(alloc, book, master, tree, measure)? {
+        Some(whole) => Ok(Some(whole)),
+        None => answer_in_parts(alloc, book, master, measure),
     }
-    let part = solve_parts(alloc, book, measure)?;
-    if part.is_some() {
-        return Ok(part);
+}
+
+// The answer of a part, or what fills nothing.
+fn answer_in_parts(
+    alloc: Global,
+    book: &Book,
+    master: &Master,
+    measure: &WholeMeasure,
+) -> Result<Option<Proposal>, AllocError> {
+    match solve_parts(alloc, book, measure)? {
+        Some(part) => Ok(Some(part)),
+        None => unfilled(alloc, book, master, measure),
     }
-    unfilled(alloc, book, master, measure)
+}
+
+// Solves the whole book over its first program.
+fn solve_in(
+    alloc: Global,
+    book: &Book,
+    master: &mut Master,
+    tree: &mut Tree,
+) -> Result<Option<Proposal>, AllocError> {
+    match rounds(alloc, book, master, tree)? {
+        Some(measure) => {
+            let measure = closer_measure(alloc, book, master, measure)?;
+            answer(alloc, book, master, tree, &measure)
+        }
+        None => Ok(None),
+    }
 }
 
 /// A proposal for the batch that is near the greatest surplus, to be judged. None where a number does not fit; the error is
 /// want of memory.
 pub(crate) fn solve_near(alloc: Global, batch: &Batch) -> Result<Option<Proposal>, AllocError> {
     let book = Book::new(alloc, batch)?;
-    let mut master = first_program(alloc, &book)?;
     let mut tree = Tree::new(alloc, &book, false)?;
-    let Some(measure) = rounds(alloc, &book, &mut master, &mut tree)? else {
-        return Ok(None);
-    };
-    let measure = closer_measure(alloc, &book, &master, measure)?;
-    answer(alloc, &book, &master, &tree, &measure)
+    let mut master = first_program(alloc, &book)?;
+    solve_in(alloc, &book, &mut master, &mut tree)
 }

@@ -32,12 +32,12 @@ impl Table {
             alloc,
             width,
             objectives,
-            rows: zero_rows(alloc, objectives, width)?,
             basic: vec![in alloc; usize::MAX; objectives]?,
             other: first_numbers(alloc, width)?,
             upper: vec![in alloc; UNBOUNDED; width]?,
             flipped: vec![in alloc; false; width]?,
             pivot_row: Vec::new(alloc),
+            rows: zero_rows(alloc, objectives, width)?,
         })
     }
 
