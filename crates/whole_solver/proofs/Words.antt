@@ -1,12 +1,13 @@
 -- Numbers as words mean them, and the steps of a mix.
-use Rattle.std.proofs.Common.{◌≡◌, ℕ, zero, suc, ◌*◌, ◌+◌, ◌-◌, ◌^◌, ◌<◌, ◌≤◌, List, [], ◌∷◌, length, map, arith, sym, ◌∙◌, ap, ℤ, ◌*ℤ◌, unsigned_abs}
+use Rattle.std.proofs.Common.{◌≡◌, ℕ, zero, suc, ◌*◌, ◌+◌, ◌-◌, ◌^◌, ◌<◌, ◌≤◌, List, [], ◌∷◌, length, map, arith, sym, ◌∙◌, ap, subst, ℤ, pos, ◌-ℤ◌, ◌*ℤ◌, unsigned_abs}
 use Rattle.std.specs.Prelude.{slice_index_or}
+use Rattle.std.proofs.Math.Nat.{mul-le-mul}
 use Rattle.std.proofs.lemmas.List.{map-id}
-use Rattle.std.proofs.lemmas.Int.{unsigned_abs-mul}
+use Rattle.std.proofs.lemmas.Int.{ints, unsigned_abs-mul}
 use Rattle.whole_rows.specs.Lines.{AreSizes, number_at, widest}
 use Rattle.whole_rows.specs.Turning.{cross_difference}
-use Rattle.whole_solver.specs.Within.{HasRoom}
-use Rattle.whole_solver.proofs.Numbers.{sizes_room}
+use Rattle.whole_solver.specs.Within.{AreMixedSizes, HasRoom}
+use Rattle.whole_solver.proofs.Numbers.{no_size}
 
 pub at_word : {A : Type 0} (value : A → ℤ) (xs : List A) (j : ℕ) (x : A) → j < length xs → x ≡ slice_index_or xs j x → number_at (map value xs) j ≡ value x
 at_word value [] j x low at_x = absurd (omega arith)
@@ -24,13 +25,34 @@ scaled_at p (z ∷ zs) (suc j) = scaled_at p zs j
 pub scaled_room : (held f : ℕ) (p : ℤ) (zs qs : List ℤ) → HasRoom held (unsigned_abs p) f zs qs → HasRoom held 1 f (map (λ z. z *ℤ p) zs) qs
 scaled_room held f p zs qs room j = let here = room j in let size = scaled_at p zs j in omega (arith, here, size)
 
--- numbers of these sizes leave room
-pub room_of_sizes : (held m n p f : ℕ) (zs qs : List ℤ) → AreSizes m zs → AreSizes n qs → m * p + f * n ≤ held → HasRoom held p f zs qs
-room_of_sizes held m n p f zs qs hz hq room j = sizes_room (unsigned_abs (number_at zs j)) p f (unsigned_abs (number_at qs j)) m n held (hz j) (hq j) room
+-- ---- numbers of these sizes
+pub mixed_of_sizes : (b m n p f : ℕ) (zs : List ℤ) → AreSizes m zs → m * p + f * n ≤ b → AreMixedSizes b p f n zs
+mixed_of_sizes b m n p f zs hz room j = let less : unsigned_abs (number_at zs j) * p ≤ m * p = mul-le-mul (hz j) (omega arith) in omega (arith, less, room)
+
+-- leave room
+pub mixed_room : (held size p f n : ℕ) (zs qs : List ℤ) → AreMixedSizes size p f n zs → AreSizes n qs → size ≤ held → HasRoom held p f zs qs
+mixed_room held size p f n zs qs hz hq low j =
+    let all = hz j in
+    let less : f * unsigned_abs (number_at qs j) ≤ f * n = mul-le-mul (omega arith) (hq j) in
+    omega (arith, all, less, low)
 
 -- numbers of 64 bits leave room in 128
 pub short_room : (p f : ℕ) (zs qs : List ℤ) → AreSizes widest zs → AreSizes widest qs → p ≤ widest → f ≤ widest → HasRoom (2 ^ 127 - 1) p f zs qs
-short_room p f zs qs hz hq hp hf = room_of_sizes (2 ^ 127 - 1) widest widest p f zs qs hz hq (omega (arith, hp, hf))
+short_room p f zs qs hz hq hp hf = mixed_room (2 ^ 127 - 1) (2 ^ 127 - 1) p f widest zs qs (mixed_of_sizes (2 ^ 127 - 1) widest widest p f zs hz (omega (arith, hp, hf))) hq (omega arith)
+
+-- and what has room is of that size afterwards
+number_within : (p b : ℕ) (f z q : ℤ) → unsigned_abs z * p + unsigned_abs f * unsigned_abs q ≤ b → unsigned_abs ((z *ℤ pos p) -ℤ (f *ℤ q)) ≤ b
+number_within p b f z q room = difference (z *ℤ pos p) (f *ℤ q) (unsigned_abs z * p) (unsigned_abs f * unsigned_abs q) (unsigned_abs-mul z (pos p)) (unsigned_abs-mul f q) room
+  where
+    difference : (l r : ℤ) (m n : ℕ) → unsigned_abs l ≡ m → unsigned_abs r ≡ n → m + n ≤ b → unsigned_abs (l -ℤ r) ≤ b
+    difference l r m n h k room = omega (arith, ints, h, k, room)
+
+pub room_within : (b p : ℕ) (f : ℤ) (zs qs : List ℤ) → HasRoom b p (unsigned_abs f) zs qs → AreSizes b (cross_difference p f zs qs)
+unfolding cross_difference
+room_within b p f [] qs room j = no_size b j
+room_within b p f (z ∷ zs) [] room j = no_size b j
+room_within b p f (z ∷ zs) (q ∷ qs) room zero = number_within p b f z q (room 0)
+room_within b p f (z ∷ zs) (q ∷ qs) room (suc j) = room_within b p f zs qs (λ i. room (suc i)) j
 
 -- numbers that words are themselves
 pub mixed_words : (p : ℕ) (f : ℤ) (zs qs ns : List ℤ) → map (λ (z : ℤ). z) ns ≡ cross_difference p f (map (λ (z : ℤ). z) zs) qs → ns ≡ cross_difference p f zs qs

@@ -7,11 +7,22 @@ ghost use Rattle.whole_solver.specs.Within.{HasRoom};
 
 use crate::word::Word;
 
-/// What is known of a pivot row: the column `c` that enters, the number `a` that was there, a size
-/// that none of the row's numbers is above, and the places where they are not 0.
+/// A turn to be made: the row r that leaves, the column `c` that enters with the places where it is
+/// not 0, the bound of the rows and the limit of the objective row.
+#[derive(Clone, Copy)]
+pub struct Step<'a> {
+    pub r: usize,
+    pub c: usize,
+    pub column_places: &'a [usize],
+    pub bound: u64,
+    pub limit: u128,
+}
+
+/// What is known of the pivot row of a turn: the number `a` that was in the column that enters, a
+/// size that none of the row's numbers is above, and the places where they are not 0.
 #[derive(Clone, Copy)]
 pub struct Known<'a> {
-    pub c: usize,
+    pub step: Step<'a>,
     pub a: u64,
     pub most: u64,
     pub places: &'a [usize],

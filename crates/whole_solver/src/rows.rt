@@ -8,7 +8,7 @@ ghost use Rattle.whole_solver.specs.Rows.{AreLinesIn, AreSizesIn, IsPivot, IsTur
 
 use crate::divisor::{common_short, divide_numbers};
 use crate::line::{clear_line, list_nonzero, list_place, size_of};
-use crate::mix::{Known, Pivot};
+use crate::mix::{Known, Pivot, Step};
 use crate::wide::{clear_wide_line, wide_size_to_mix};
 use lists::RowArena;
 
@@ -102,23 +102,22 @@ fn clear_sized(
     pivot: &[i64],
     known: Known,
     room: &mut [i128],
-    bound: u64,
 ) -> bool
-    requires column { known.c < length room.old }
+    requires column { known.step.c < length room.old }
     requires widths { (length room.old < length row.old) × (length room.old < length pivot.now) }
-    requires bound { bound ≤ widest }
+    requires bound { known.step.bound ≤ widest }
     requires sizes { AreSizes most.old (line_in (length room.old) row.old).numbers }
-    requires pivot { AreSizes bound (line_in (length room.old) pivot.now).numbers }
+    requires pivot { AreSizes known.step.bound (line_in (length room.old) pivot.now).numbers }
     requires pivot_sizes { AreSizes known.most (line_in (length room.old) pivot.now).numbers }
     requires places { known.places.now ≡ nonzero_in (line_in (length room.old) pivot.now).numbers }
-    requires above { (0 < known.a) × (known.a ≤ bound) }
-    requires line { IsLine bound (length room.old) (line_in (length room.old) row.old) }
+    requires above { (0 < known.a) × (known.a ≤ known.step.bound) }
+    requires line { IsLine known.step.bound (length room.old) (line_in (length room.old) row.old) }
     ensures cleared { result ≡ true → line_in (length room.old) row.new
-        ≡ compact_cleared known.entry.c known.entry.a
+        ≡ compact_cleared known.entry.step.c known.entry.a
         (line_in (length room.old) pivot.now).numbers
         (line_in (length room.old) row.old) }
     ensures line { result ≡ true
-        → IsLine bound (length room.old) (line_in (length room.old) row.new) }
+        → IsLine known.entry.step.bound (length room.old) (line_in (length room.old) row.new) }
     ensures sizes { result ≡ true
         → AreSizes most.new (line_in (length room.old) row.new).numbers }
 {
@@ -129,7 +128,7 @@ fn clear_sized(
         numbers: &pivot[1..width + 1],
         known,
     };
-    let Some(below) = clear_line(denominator, numbers, most, pivot, room, bound) else {
+    let Some(below) = clear_line(denominator, numbers, most, pivot, room) else {
         return false;
     };
     row[0] = below as i64;
@@ -144,25 +143,27 @@ fn clear_objective(
     pivot: &[i64],
     known: Known,
     width: usize,
-    limit: u128,
 ) -> bool
-    requires column { known.c < width }
+    requires column { known.step.c < width }
     requires widths { (width < length objective.old) × (width < length pivot.now) }
     requires pivot { AreSizes known.most (line_in width pivot.now).numbers }
     requires places { known.places.now ≡ nonzero_in (line_in width pivot.now).numbers }
     requires above { (0 < known.a) × (known.a ≤ known.most) }
     requires below { known.a ≤ widest }
-    requires limit { limit ≤ 2 ^ 127 - 1 }
-    requires line { IsLine limit width (line_in width objective.old) }
+    requires limit { known.step.limit ≤ 2 ^ 127 - 1 }
+    requires line { IsLine known.step.limit width (line_in width objective.old) }
     requires kept { IsLine kept.old width (line_in width objective.old) }
     ensures fits { result ≡ true
-        → 2 * (line_size (line_in width objective.old) * known.entry.most) ≤ limit }
+        → 2 * (line_size (line_in width objective.old) * known.entry.most)
+        ≤ known.entry.step.limit }
     ensures cleared { result ≡ true → line_in width objective.new
-        ≡ compact_cleared known.entry.c known.entry.a (line_in width pivot.now).numbers
+        ≡ compact_cleared known.entry.step.c known.entry.a (line_in width pivot.now).numbers
         (line_in width objective.old) }
-    ensures line { result ≡ true → IsLine limit width (line_in width objective.new) }
+    ensures line { result ≡ true
+        → IsLine known.entry.step.limit width (line_in width objective.new) }
     ensures kept { result ≡ true → IsLine kept.new width (line_in width objective.new) }
 {
+    let limit = known.step.limit;
     let Some(mut size) = wide_size_to_mix(*kept, &objective[..width + 1], known.most, limit) else {
         return false;
     };
@@ -195,61 +196,49 @@ pub fn list_column(rows: &RowArena<i64>, c: usize, places: &mut [usize]) -> usiz
 /// Clears each row but the pivot row r, up to the first that is not within the bound, and says
 /// whether all are. The size that is kept with a row goes with it. `column_places` are the rows
 /// that are not 0 in the column: the others stay.
-fn clear_rows(
-    rows: &mut RowArena<i64>,
-    sizes: &mut [u64],
-    column_places: &[usize],
-    known: Known,
-    room: &mut [i128],
-    r: usize,
-    bound: u64,
-) -> bool
-    requires row { r < length rows.old.rows }
-    requires column { known.c < length room.old }
+fn clear_rows(rows: &mut RowArena<i64>, sizes: &mut [u64], known: Known, room: &mut [i128]) -> bool
+    requires row { known.step.r < length rows.old.rows }
+    requires column { known.step.c < length room.old }
     requires width { length room.old < rows.old.width }
-    requires bound { bound ≤ widest }
-    requires above { (0 < known.a) × (known.a ≤ bound) }
-    requires lines { AreLinesIn bound (length room.old) rows.old.rows }
+    requires bound { known.step.bound ≤ widest }
+    requires above { (0 < known.a) × (known.a ≤ known.step.bound) }
+    requires lines { AreLinesIn known.step.bound (length room.old) rows.old.rows }
     requires sizes { AreSizesIn sizes.old (length room.old) rows.old.rows }
     requires count { length rows.old.rows ≤ length sizes.old }
-    requires column_places { column_places.now ≡ nonzero_in (column_in known.c rows.old.rows) }
+    requires column_places { known.step.column_places.now
+        ≡ nonzero_in (column_in known.step.c rows.old.rows) }
     requires pivot { AreSizes known.most
-        (line_in (length room.old) (row_at rows.old.rows r)).numbers }
+        (line_in (length room.old) (row_at rows.old.rows known.step.r)).numbers }
     requires places { known.places.now
-        ≡ nonzero_in (line_in (length room.old) (row_at rows.old.rows r)).numbers }
+        ≡ nonzero_in (line_in (length room.old) (row_at rows.old.rows known.step.r)).numbers }
     ensures cleared { result ≡ true → lines_in (length room.old) rows.new.rows
-        ≡ lines_after known.entry.c known.entry.a r
-        (line_in (length room.old) (row_at rows.old.rows r)).numbers 0
+        ≡ lines_after known.entry.step.c known.entry.a known.entry.step.r
+        (line_in (length room.old) (row_at rows.old.rows known.entry.step.r)).numbers 0
         (lines_in (length room.old) rows.old.rows) }
-    ensures lines { result ≡ true → AreLinesIn bound (length room.old) rows.new.rows }
+    ensures lines { result ≡ true
+        → AreLinesIn known.entry.step.bound (length room.old) rows.new.rows }
     ensures sizes { result ≡ true → AreSizesIn sizes.new (length room.old) rows.new.rows }
     ensures width { rows.new.width ≡ rows.old.width }
     ensures spare { rows.new.spare ≡ rows.old.spare }
     ensures count { length rows.new.rows ≡ length rows.old.rows }
 {
+    let Step {
+        r,
+        column_places,
+        ..
+    } = known.step;
     for place in column_places {
         let i = *place;
         if i != r {
             let (pivot, row) = rows.pair(r, i);
             let mut most = sizes[i];
-            if !clear_sized(row, &mut most, pivot, known, room, bound) {
+            if !clear_sized(row, &mut most, pivot, known, room) {
                 return false;
             }
             sizes[i] = most;
         }
     }
     true
-}
-
-/// A turn to be made: the row r that leaves, the column `c` that enters with the places where it is
-/// not 0, the bound of the rows and the limit of the objective row.
-#[derive(Clone, Copy)]
-pub struct Step<'a> {
-    pub r: usize,
-    pub c: usize,
-    pub column_places: &'a [usize],
-    pub bound: u64,
-    pub limit: u128,
 }
 
 /// The rows of a turn and the objective row, and the sizes that are kept with them. Says whether
@@ -294,13 +283,7 @@ fn turn_lines(
     ensures spare { rows.new.spare ≡ rows.old.spare }
     ensures count { length rows.new.rows ≡ length rows.old.rows }
 {
-    let Step {
-        r,
-        c,
-        bound,
-        limit,
-        ..
-    } = step;
+    let Step { r, c, .. } = step;
     let a = place_pivot(rows, room.len(), r, c);
     let pivot = rows.row(r);
     let pivot_most = front_size(pivot, room.len());
@@ -308,15 +291,15 @@ fn turn_lines(
     let count = front_nonzero(pivot, room.len(), places);
     let places = &places[..count];
     let known = Known {
-        c,
+        step,
         a,
         most: pivot_most,
         places,
     };
-    if !clear_objective(objective, objective_size, pivot, known, room.len(), limit) {
+    if !clear_objective(objective, objective_size, pivot, known, room.len()) {
         return false;
     }
-    clear_rows(rows, sizes, step.column_places, known, room, r, bound)
+    clear_rows(rows, sizes, known, room)
 }
 
 /// The same, where a line has `width` numbers and there is room for more.

@@ -13,8 +13,9 @@ ghost use Rattle.whole_solver.specs.Rows.{AreLinesIn, IsPivot, IsTurned, line_in
 
 use crate::columns::{Entering, least_column};
 use crate::fraction::{fraction, take_line, wide};
+use crate::mix::Step;
 use crate::ratios::leaving;
-use crate::rows::{Step, list_column, turn_rows};
+use crate::rows::{list_column, turn_rows};
 use crate::turn::Turn;
 use crate::wide::widen;
 use compact_table::room::write_numbers;

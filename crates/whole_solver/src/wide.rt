@@ -182,7 +182,7 @@ pub fn clear_wide_line(
     size: &mut u128,
     pivot: Pivot,
 ) -> u128
-    requires column { pivot.known.c < length numbers.old }
+    requires column { pivot.known.step.c < length numbers.old }
     requires width { length numbers.old ≡ length pivot.numbers.now }
     requires numbers { AreSizes size.old numbers.old }
     requires denominator { (0 < denominator) × (denominator ≤ size.old) }
@@ -192,18 +192,18 @@ pub fn clear_wide_line(
     requires below { pivot.known.a ≤ widest }
     requires room { 2 * (size.old * pivot.known.most) ≤ 2 ^ 127 - 1 }
     ensures line { line_of result numbers.new
-        ≡ compact_cleared pivot.entry.known.c pivot.entry.known.a pivot.entry.numbers.now
+        ≡ compact_cleared pivot.entry.known.step.c pivot.entry.known.a pivot.entry.numbers.now
         (line_of denominator numbers.old) }
     ensures sizes { AreSizes size.new numbers.new }
     ensures denominator { result ≤ size.new }
 {
-    let Known { c, a, most, .. } = pivot.known;
-    let x = numbers[c];
+    let Known { step, a, most, .. } = pivot.known;
+    let x = numbers[step.c];
     if x == 0 {
         return denominator;
     }
     let factors = without_common_wide(a, x);
-    numbers[c] = 0;
+    numbers[step.c] = 0;
     mix(numbers, pivot, factors);
     let (times, less) = (factors.p.unsigned_abs(), factors.f.unsigned_abs());
     *size = wide_mixed_size(*size, times, less, most);

@@ -47,4 +47,4 @@ returns c =
     let mixed : c.mix.new.numbers ≡ cross_difference (unsigned_abs c.args.factors.p) c.args.factors.f c.args.numbers.now c.args.pivot.numbers.now =
     mixed_words _ _ c.widen.new.out c.args.pivot.numbers.now c.mix.new.numbers c.mix.ensures ∙ (λ i. cross_difference (unsigned_abs (p i)) (f i) (zs i) c.args.pivot.numbers.now) in
     let line = c.cut_where_not_short-below.ensures ∙ (λ i. cut_where_wide (line_of (below i) (mixed i))) in
-    subst (λ (l : Line). written_line c.narrow.result c.narrow.new.numbers ≡ kept (line_fits c.args.bound l) l) line c.narrow.ensures
+    subst (λ (l : Line). written_line c.narrow.result c.narrow.new.numbers ≡ kept (line_fits c.args.pivot.known.step.bound l) l) line c.narrow.ensures

@@ -12,10 +12,10 @@ invariant-loop-place l =
       width : l.rows.width ≡ l.fn.rows.width;
       spare : l.rows.spare ≡ l.fn.rows.spare;
       places : length l.room ≡ length l.fn.room;
-      pivot : row_at l.rows.rows l.r ≡ row_at l.fn.rows.rows l.r;
-      lines : AreLinesIn l.bound (length l.room) l.rows.rows;
+      pivot : row_at l.rows.rows l.known.step.r ≡ row_at l.fn.rows.rows l.known.step.r;
+      lines : AreLinesIn l.known.step.bound (length l.room) l.rows.rows;
       sizes : AreSizesIn l.sizes (length l.room) l.rows.rows;
       done :
-          AreCleared (length l.fn.room) l.known.c l.known.a l.r (next_row l.column_places l.place-index l.fn.rows.rows) (line_in (length l.fn.room) (row_at l.fn.rows.rows l.r)).numbers
+          AreCleared (length l.fn.room) l.known.step.c l.known.a l.known.step.r (next_row l.column_places l.place-index l.fn.rows.rows) (line_in (length l.fn.room) (row_at l.fn.rows.rows l.known.step.r)).numbers
           l.fn.rows.rows l.rows.rows;
     }

@@ -14,7 +14,7 @@ clear_line-requires-clause-fits c =
     let first = slice_index_or c.args.row.now 0 (pos 0) in
     let fz : FitsSigned w64 first = search rules in
     let size : c.unsigned_abs-denominator.result ≡ unsigned_abs first = simp to_z-of_z at c.unsigned_abs-denominator.ensures.value in
-    rw (size, wide) (line_of_sizes c.args.bound w (line_in w c.args.row.now) c.requires.line)
+    rw (size, wide) (line_of_sizes c.args.known.step.bound w (line_in w c.args.row.now) c.requires.line)
 
 pub returns-clause-line : goal.returns-clause-line
 returns-clause-line c done =
@@ -25,16 +25,16 @@ returns-clause-line c done =
     let first = slice_index_or row 0 (pos 0) in
     let fz : FitsSigned w64 first = search rules in
     let size : c.unsigned_abs-denominator.result ≡ unsigned_abs first = simp to_z-of_z at c.unsigned_abs-denominator.ensures.value in
-    let old : IsLine c.args.bound w (line_of c.unsigned_abs-denominator.result (take (w + 1 - 1) (drop 1 row))) = rw (size, wide) c.requires.line in
+    let old : IsLine c.args.known.step.bound w (line_of c.unsigned_abs-denominator.result (take (w + 1 - 1) (drop 1 row))) = rw (size, wide) c.requires.line in
     let behind = length-drop 1 pivot in
     let count : length (take (w + 1 - 1) (drop 1 pivot)) ≡ w = rw wide (length-take-le w (drop 1 pivot) (omega (arith, behind, c.requires.widths.1))) in
-    let k = cleared_line c.args.bound w c.args.known.c c.args.known.a c.in-Some.below (take (w + 1 - 1) (drop 1 pivot)) c.clear_line.new.numbers (line_of c.unsigned_abs-denominator.result (take (w + 1 - 1) (drop 1 row))) old c.requires.above.0 count c.in-Some.ensures.line in
+    let k = cleared_line c.args.known.step.bound w c.args.known.step.c c.args.known.a c.in-Some.below (take (w + 1 - 1) (drop 1 pivot)) c.clear_line.new.numbers (line_of c.unsigned_abs-denominator.result (take (w + 1 - 1) (drop 1 row))) old c.requires.above.0 count c.in-Some.ensures.line in
     let low = k.1.below in
     let room = c.requires.bound in
     let signed : to_z w64 c.in-Some.below ≡ pos c.in-Some.below = to_z_pos w64 c.in-Some.below (omega (arith, low, room)) in
     let front = front_of_mid w (w + 1 - 1) row c.clear_line.new.numbers (omega (arith, c.requires.widths.0)) k.1.count in
     let line = written_front w (put_mid 1 (w + 1 - 1) row c.clear_line.new.numbers) c.clear_line.new.numbers (number_at row 0) (pos c.in-Some.below) front in
-    rw signed (subst (IsLine c.args.bound w) (sym line) k.1)
+    rw signed (subst (IsLine c.args.known.step.bound w) (sym line) k.1)
 
 pub returns-clause-sizes : goal.returns-clause-sizes
 returns-clause-sizes c done =
