@@ -73,18 +73,12 @@ impl WholeTable {
         arena.reserve(rows)?;
         let names = Vec::with_capacity(alloc, columns)?;
         let basics = Vec::with_capacity(alloc, arena.spare())?;
-        let mut objective = Vec::with_capacity(alloc, width)?;
-        objective.resize(width, 0)?;
-        let mut sizes = Vec::with_capacity(alloc, arena.spare())?;
-        sizes.resize(arena.spare(), 0)?;
-        let mut places = Vec::with_capacity(alloc, width)?;
-        places.resize(width, 0)?;
-        let mut column_places = Vec::with_capacity(alloc, arena.spare())?;
-        column_places.resize(arena.spare(), 0)?;
-        let mut room = Vec::with_capacity(alloc, columns + 1)?;
-        room.resize(columns + 1, 0)?;
-        let mut line = Vec::with_capacity(alloc, width)?;
-        line.resize(width, 0)?;
+        let objective = vec![in alloc; 0_i128; width]?;
+        let sizes = vec![in alloc; 0_u64; arena.spare()]?;
+        let places = vec![in alloc; 0_usize; width]?;
+        let column_places = vec![in alloc; 0_usize; arena.spare()]?;
+        let room = vec![in alloc; 0_i128; columns + 1]?;
+        let line = vec![in alloc; 0_i64; width]?;
         Ok(WholeTable {
             names,
             basics,
