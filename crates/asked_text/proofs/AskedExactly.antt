@@ -16,7 +16,7 @@ use Rattle.guarded_lines.specs.Told.{margin_piece, margin_with}
 use Rattle.guarded_lines.proofs.PlainLines.{margin_plain, need_plain, uncovered_plain}
 use Rattle.quote_lines.specs.declared.prices.QuotedPrice.TheVariants as price
 use Rattle.quote_lines.proofs.QuotedPlain.{price_plain, priced_plain, quoted_plain}
-use Rattle.reply_print.specs.declared.limits.TheConstants.{MAX_LINE, MAX_ACCOUNT, MAX_MARKET}
+use Rattle.reply_print.specs.declared.limits.TheConstants.{MAX_ACCOUNT, MAX_MARKET}
 use Rattle.reply_print.specs.Within.{IsLine, IsAccount, IsMarket, IsSmall}
 use Rattle.reply_print.specs.BatchPieces.{whole_words}
 use Rattle.reply_print.specs.Numbers.{fraction_text}
@@ -28,7 +28,7 @@ use Rattle.reply_print.proofs.WrittenReplies.{each_written, short}
 use Rattle.reply_text.specs.BatchValues.{fraction_from, whole_from}
 use Rattle.reply_text.specs.ReplyValues.{account_at, market_at, not_below}
 use Rattle.reply_text.specs.Taking.{take_at}
-use Rattle.reply_text.proofs.FiveTests.{passes, written_passes}
+use Rattle.reply_text.proofs.FiveTests.{IsPairWithin, pair_sound, passes, written_passes}
 use Rattle.reply_text.proofs.Sound.{Sound, any, after, mapped, either, where_true, at_key, natural_sound, whole_sound}
 use Rattle.reply_text.proofs.SoundCleared.{IsStateWithin, state_sound}
 use Rattle.reply_shape.specs.Look.{word_at}
@@ -37,7 +37,7 @@ use Rattle.asked_text.specs.declared.replies.AskedReply.TheVariants.{Quoted, Pri
 use Rattle.asked_text.specs.Lines.{IsAskedLineWithin, IsAskedWithin, IsMarginWithin, IsNeedWithin, IsPriceWithin, asked_line, asked_piece, request_for}
 use Rattle.asked_text.specs.Laws.{AskedReadExactly}
 use Rattle.asked_text.proofs.AskedTaken.{asked_taken}
-use Rattle.asked_text.specs.Values.{IsAskedLineOf, asked_by, asked_from, asked_reading, asked_tests, least_from, margin_from, need_by, price_at, priced_from, quoted_from, size_at, told_by, uncovered_from}
+use Rattle.asked_text.specs.Values.{IsAskedLineOf, asked_by, asked_reading, asked_replies, asked_tests, least_from, margin_from, need_by, price_at, priced_from, quoted_from, size_at, told_by, uncovered_from}
 
 pub asked_plain : (line : ℕ) (reply : AskedReply) → HasPlainTexts (asked_piece line reply)
 asked_plain line (Quoted market bid ask) = quoted_plain line market bid ask
@@ -152,16 +152,8 @@ asked_sound word d =
     (either IsAskedWithin (bytes_eq word (codes "priced")) _ _ (priced_sound d)
     (either IsAskedWithin (bytes_eq word (codes "margin")) _ _ (margin_sound d) (uncovered_sound d)))
 
-abbrev pub IsPairWithin : ℕ × AskedReply → Type 0
-IsPairWithin pair = IsAskedLineWithin pair.0 pair.1
-
-pub pair_sound : (d : Data) → Sound IsPairWithin (asked_from d)
-pair_sound d =
-    after IsLine IsPairWithin _ _ (natural_sound 1 MAX_LINE (codes "line") d)
-    (λ line l. mapped IsAskedWithin IsPairWithin _ _ (asked_sound (word_at (codes "reply") d) d) (λ reply r. (l, r)))
-
 pub asked_line_of : (text : List ℕ) (line : ℕ) (reply : AskedReply) → asked_reading text ≡ Ok (line, reply) → IsAskedLineOf text line reply
-asked_line_of text line reply e = passes asked_tests text IsPairWithin pair_sound (line, reply) e
+asked_line_of text line reply e = passes asked_tests text (IsPairWithin IsAskedWithin) (pair_sound asked_replies IsAskedWithin asked_sound) (line, reply) e
 
 pub asked_reads : (line : ℕ) (reply : AskedReply) → IsAskedLineWithin line reply → asked_reading (asked_line line reply) ≡ Ok (line, reply)
 asked_reads line reply h = written_passes asked_tests (line, reply) (asked_piece line reply) refl (asked_plain line reply) (asked_written line reply h) (asked_taken line reply h)

@@ -1,5 +1,5 @@
 -- What is told of quotes, prices and margins is taken out of its line again.
-use Rattle.std.proofs.Common.{◌≡◌, ℕ, suc, ◌+◌, ◌≤◌, ◌<◌, ◌^◌, ℤ, pos, negsuc, unsigned_abs, List, [], ◌∷◌, ◌++◌, Bool, true, false, ◌||◌, ◌==◌, nat_le, nat_eq, Option, Some, option_map, option_and_then, codes, decimal, if◌then◌else◌, refl, ap, ap₂, ◌∙◌, arith}
+use Rattle.std.proofs.Common.{◌≡◌, ℕ, suc, ◌+◌, ◌≤◌, ◌<◌, ◌^◌, ℤ, pos, negsuc, unsigned_abs, List, [], ◌∷◌, ◌++◌, Bool, true, false, ◌||◌, ◌==◌, nat_le, nat_eq, Option, Some, option_map, option_and_then, codes, decimal, if◌then◌else◌, refl, ap, ◌∙◌, arith}
 use Rattle.std.specs.List.{AllByRecursion, list_all}
 use Rattle.std.specs.Fmt.{signed_decimal}
 use Rattle.std.specs.Str.{bytes_eq}
@@ -31,7 +31,7 @@ use Rattle.reply_print.proofs.Digits.{all_of}
 use Rattle.reply_shape.specs.ClearedShape.{is_state}
 use Rattle.reply_shape.specs.Look.{is_word, items_all}
 use Rattle.reply_shape.specs.NumberTexts.{is_whole_number}
-use Rattle.reply_text.proofs.FiveTests.{IsTaken}
+use Rattle.reply_text.proofs.FiveTests.{IsTaken, paired}
 use Rattle.reply_text.proofs.Taken.{fraction_number, fraction_taken, items_pass, natural_taken, whole_number, whole_taken}
 use Rattle.reply_text.proofs.TakenBatches.{len_within}
 use Rattle.reply_text.proofs.TakenOutcomes.{all_text, length-entries, state_taken}
@@ -174,11 +174,6 @@ entries_are : (state : State) → AllByRecursion IsSmall (state_entries state) �
 entries_are state h = items_pass IsSmall whole_words is_whole_number whole_number (state_entries state) h
 
 -- ---- the lines
-
--- a pair from its parts
-paired : (taken_line : Option ℕ) (taken : Option AskedReply) (line : ℕ) (reply : AskedReply) → taken_line ≡ Some line → taken ≡ Some reply
-    → option_and_then {U = ℕ × AskedReply} (λ l. option_map {U = ℕ × AskedReply} (λ r. (l, r)) taken) taken_line ≡ Some (line, reply)
-paired taken_line taken line reply e f = ap₂ (λ a b. option_and_then {U = ℕ × AskedReply} (λ (l : ℕ). option_map {U = ℕ × AskedReply} (λ (r : AskedReply). (l, r)) b) a) e f
 
 abbrev IsTakenFrom : ℕ → AskedReply → Type 0
 IsTakenFrom line reply = IsTaken asked_tests (piece_data (asked_piece line reply)) (line, reply)

@@ -44,9 +44,6 @@ shape_by word d =
     else if bytes_eq word (codes "margin") then margin_shape d
     else bytes_eq word (codes "refused") && uncovered_shape d
 
-abbrev pub has_asked_shape : Data → Bool
-has_asked_shape d = shape_by (word_at (codes "reply") d) d
-
 -- ---- numbers or words
 
 abbrev pub is_price : Data → Bool
@@ -74,6 +71,3 @@ numbers_by word d =
     else if bytes_eq word (codes "priced") then prices_numbers d
     else if bytes_eq word (codes "margin") then margin_numbers d
     else has_at (codes "need") is_need d
-
-abbrev pub has_asked_numbers : Data → Bool
-has_asked_numbers d = numbers_by (word_at (codes "reply") d) d

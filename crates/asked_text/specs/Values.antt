@@ -10,18 +10,17 @@ use Rattle.guarded_lines.specs.declared.told.ToldMargin.{ToldMargin}
 use Rattle.guarded_lines.specs.declared.told.ToldMargin.TheVariants as told
 use Rattle.quote_lines.specs.declared.prices.QuotedPrice.{QuotedPrice}
 use Rattle.quote_lines.specs.declared.prices.QuotedPrice.TheVariants as price
-use Rattle.reply_print.specs.declared.limits.TheConstants.{MAX_LINE}
 use Rattle.reply_shape.specs.Look.{word_at}
 use Rattle.reply_text.specs.declared.faults.LineFault.{LineFault}
 use Rattle.reply_text.specs.BatchValues.{fraction_from, whole_from}
 use Rattle.reply_text.specs.OutcomeValues.{state_at}
 use Rattle.reply_text.specs.ReplyValues.{account_at, market_at, not_below}
 use Rattle.reply_text.specs.Taking.{natural_at, take_at}
-use Rattle.reply_text.specs.Tests.{Tests, read_by}
+use Rattle.reply_text.specs.Tests.{ReplyTests, Tests, read_by, tests_of}
 use Rattle.asked_text.specs.declared.replies.AskedReply.{AskedReply}
 use Rattle.asked_text.specs.declared.replies.AskedReply.TheVariants.{Quoted, Priced, Margin, Uncovered}
 use Rattle.asked_text.specs.Lines.{asked_line, IsAskedLineWithin}
-use Rattle.asked_text.specs.Shapes.{has_asked_shape, has_asked_numbers}
+use Rattle.asked_text.specs.Shapes.{numbers_by, shape_by}
 
 -- the size of the whole number at a key, where it is not below 0 and at most a bound
 abbrev pub size_at : ℕ → List ℕ → Data → Option ℕ
@@ -91,17 +90,12 @@ asked_by word d =
     else if bytes_eq word (codes "margin") then margin_from d
     else uncovered_from d
 
-abbrev pub asked_from : Data → Option (ℕ × AskedReply)
-asked_from d = option_and_then (λ line. option_map (λ reply. (line, reply)) (asked_by (word_at (codes "reply") d) d)) (natural_at 1 MAX_LINE (codes "line") d)
+abbrev pub asked_replies : ReplyTests AskedReply
+asked_replies = record { shape_by = shape_by; numbers_by = numbers_by; reply_by = asked_by; line = asked_line }
 
 -- the tests of these lines
 abbrev pub asked_tests : Tests (ℕ × AskedReply)
-asked_tests = record {
-  has_shape = has_asked_shape;
-  has_numbers = has_asked_numbers;
-  taken = asked_from;
-  print = λ pair. asked_line pair.0 pair.1;
-}
+asked_tests = tests_of asked_replies
 
 -- the line and its reply, or the first test that fails
 abbrev pub asked_reading : List ℕ → Result (ℕ × AskedReply) LineFault

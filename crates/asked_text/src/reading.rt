@@ -1,42 +1,37 @@
 //! Lines that tell quotes, prices and margins, as they are read.
-ghost use Rattle.std.specs.Prelude.{◌≡◌, ◌⊎◌, ◌↔◌, IfErr, IfOk, IsTrue, Err, Ok, option_map};
+ghost use Rattle.std.specs.Prelude.{◌≡◌, ◌⊎◌, IfErr, IfOk, Err, Ok};
 ghost use Rattle.serde_json.specs.View.{view};
 ghost use Rattle.reply_text.specs.Tests.{value_by};
 ghost use Rattle.reply_text.specs.declared.faults.LineFault.TheVariants.{Memory};
-ghost use Rattle.asked_text.specs.Lines.{asked_line};
-ghost use Rattle.asked_text.specs.Values.{asked_from as pair_found, asked_tests};
+ghost use Rattle.asked_text.specs.Values.{asked_replies, asked_tests};
 
 use crate::printing::print;
 use crate::replies::AskedReply;
 use crate::shapes::{has_numbers, has_shape};
 use crate::values::asked_from;
-use reply_print::limits::MAX_LINE;
-use reply_shape::look::word_at;
-use reply_text::LineFault;
-use reply_text::reading::is_same;
-use reply_text::taking::natural_at;
+use reply_text::tested::read_value;
+use reply_text::{LineFault, TestedReply};
 use serde_json::Value;
 use std::alloc::{AllocError, Global};
 
-// The line and its reply.
-fn pair_from(alloc: Global, value: &Value) -> Result<Option<(u32, AskedReply)>, AllocError>
-    ensures { IfOk result (λ o. option_map (λ p. (p.0, p.1)) o ≡ pair_found (view value.now)) }
-{
-    let Some(line) = natural_at(value, 1, MAX_LINE, "line") else {
-        return Ok(None);
-    };
-    let Some(reply) = asked_from(alloc, value, word_at(value, "reply"))? else {
-        return Ok(None);
-    };
-    Ok(Some((line as u32, reply)))
-}
+impl TestedReply for AskedReply {
+    ghost tests = { asked_replies };
 
-// Whether the line is the print of what was taken out of it.
-fn is_spelled(alloc: Global, line: u32, reply: &AskedReply, text: &[u8]) -> Result<bool, AllocError>
-    ensures { IfOk result (λ same. IsTrue same ↔ (asked_line line reply.now ≡ text.now)) }
-{
-    let spelled = print(alloc, line, reply)?;
-    Ok(is_same(spelled.as_slice(), text))
+    fn has_shape(value: &Value, word: &str) -> bool {
+        has_shape(value, word)
+    }
+
+    fn has_numbers(value: &Value, word: &str) -> bool {
+        has_numbers(value, word)
+    }
+
+    fn reply_from(alloc: Global, value: &Value, word: &str) -> Result<Option<Self>, AllocError> {
+        asked_from(alloc, value, word)
+    }
+
+    fn print(&self, alloc: Global, line: u32) -> Result<Vec<u8>, AllocError> {
+        print(alloc, line, self)
+    }
 }
 
 /// Reads a line that tells a quote, prices, a margin or a need, by the value of its text: its number and what it tells. Ok
@@ -52,19 +47,5 @@ pub fn read_asked_value(
     ensures err { IfErr result (λ e. (e ≡ Memory)
         ⊎ (value_by asked_tests text.now (view value.now) ≡ Err e)) }
 {
-    let word = word_at(value, "reply");
-    if !has_shape(value, word) {
-        return Err(LineFault::Shape);
-    }
-    if !has_numbers(value, word) {
-        return Err(LineFault::Number);
-    }
-    let Some((line, reply)) = pair_from(alloc, value)? else {
-        return Err(LineFault::Range);
-    };
-    if is_spelled(alloc, line, &reply, text)? {
-        Ok((line, reply))
-    } else {
-        Err(LineFault::Spelling)
-    }
+    read_value::<AskedReply>(alloc, text, value)
 }

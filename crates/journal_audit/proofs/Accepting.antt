@@ -18,10 +18,9 @@ use Rattle.reply_print.proofs.PlainPieces.{HasPlainTexts, reply_plain}
 use Rattle.reply_print.proofs.ReadBack.{read-piece}
 use Rattle.reply_print.proofs.WrittenReplies.{short, written}
 use Rattle.reply_shape.specs.Look.{word_at}
-use Rattle.reply_shape.specs.Shape.{has_shape}
 use Rattle.reply_text.specs.declared.faults.LineFault.TheVariants.{Shape}
-use Rattle.reply_text.specs.Reading.{if_json, json_of, reading}
-use Rattle.reply_text.specs.Tests.{Tests, read_by, value_by}
+use Rattle.reply_text.specs.Reading.{reading, run_tests}
+use Rattle.reply_text.specs.Tests.{Tests, json_by, json_of, read_by, value_by}
 use Rattle.reply_text.proofs.FiveTests.{json_of-piece}
 use Rattle.reply_text.proofs.RoundTrip.{reading-reply_line}
 use Rattle.reply_text.proofs.Taken.{natural_taken}
@@ -82,13 +81,13 @@ proposal_sound (Unproved f) h = refl
 
 -- no line of a run, no reply to a message, no line of a gate
 record IsBeside (d : Data) : Type 0 where
-  shape : has_shape d ≡ false
+  shape : run_tests.has_shape d ≡ false
   accepted : is_accepted d ≡ false
   gate : bytes_eq (word_at (codes "reply") d) (codes "gate") ≡ false
 
 -- a line of the gate
 record IsOfGate (d : Data) : Type 0 where
-  shape : has_shape d ≡ false
+  shape : run_tests.has_shape d ≡ false
   accepted : is_accepted d ≡ false
   gate : bytes_eq (word_at (codes "reply") d) (codes "gate") ≡ true
 
@@ -115,8 +114,8 @@ gate_beside line (Sessions session) = record { shape = refl; accepted = refl; ga
 gate_beside line (Expecting session expected why) = record { shape = refl; accepted = refl; gate = refl }
 
 module _ (text : List ℕ) (d : Data) (json : json_of text ≡ Some d) where
-  no_run : has_shape d ≡ false → reading text ≡ Err Shape
-  no_run shape = ap (if_json text) json ∙ rw shape refl
+  no_run : run_tests.has_shape d ≡ false → reading text ≡ Err Shape
+  no_run shape = ap (json_by run_tests text) json ∙ rw shape refl
 
   -- as a line of `serve`, and as any line
   record IsFoundAs (f : Finding) : Type 0 where

@@ -6,20 +6,18 @@ use Rattle.std.proofs.lemmas.Slice.Eq.{bytes_eq-Decides}
 use Rattle.form.specs.Between.{Between}
 use Rattle.serde_json.specs.Data.{Data}
 use Rattle.session_gate.specs.declared.limits.TheConstants.{MAX_SESSION, MAX_NUMBER}
-use Rattle.reply_print.specs.declared.limits.TheConstants.{MAX_LINE}
-use Rattle.reply_print.specs.Within.{IsLine}
 use Rattle.reply_shape.specs.Look.{word_at, number_at}
 use Rattle.reply_text.specs.declared.faults.LineFault.{LineFault}
 use Rattle.reply_text.specs.declared.faults.LineFault.TheVariants.{Memory}
-use Rattle.reply_text.specs.Reading.{LineRead, json_of, reading}
-use Rattle.reply_text.specs.Tests.{value_by}
-use Rattle.reply_text.proofs.FiveTests.{never_memory, passes}
+use Rattle.reply_text.specs.Reading.{LineRead, reading, run_tests}
+use Rattle.reply_text.specs.Tests.{json_of, value_by}
+use Rattle.reply_text.proofs.FiveTests.{IsPairWithin, never_memory, never_memory_in, pair_sound, passes}
 use Rattle.reply_text.proofs.Sound.{Sound, after, mapped, either, natural_sound}
 use Rattle.journal_check.specs.declared.findings.Finding.{Finding}
 use Rattle.journal_check.specs.declared.findings.Finding.TheVariants.{Plain, Cleared, Bounded, Faulty}
 use Rattle.journal_check.specs.declared.reports.Reason.TheVariants as reason
 use Rattle.journal_check.specs.Findings.{fault_finding, read_finding, reply_finding}
-use Rattle.journal_check.proofs.LineSays.{FindingSaysBy, IsCountedBy, never_memory as never_read}
+use Rattle.journal_check.proofs.LineSays.{FindingSaysBy, IsCountedBy}
 use Rattle.journal_check.proofs.ReportsSay.{reports_say_by}
 use Rattle.journal_audit.specs.declared.gate_lines.GateLine.{GateLine}
 use Rattle.journal_audit.specs.declared.gate_lines.GateLine.TheVariants.{Sessions, Expecting}
@@ -27,7 +25,7 @@ use Rattle.journal_audit.specs.declared.gate_lines.Why.{Why}
 use Rattle.journal_audit.specs.declared.gate_lines.Why.TheVariants.{Old, Ahead, Changed}
 use Rattle.journal_audit.specs.Accepted.{accepted_line, before_end, between, head_text, if_braced, is_accepted, is_braced, message_from, reply_in, tail_text}
 use Rattle.journal_audit.specs.Findings.{accepted_finding, audit_finding, line_finding, plain_found, reply_found, served_finding, session_beside, unspelled, value_finding}
-use Rattle.journal_audit.specs.GateLines.{IsExpected, IsGateLineWithin, IsGateWithin, IsSessionNumber, expecting_from, gate_by, gate_from, gate_tests, session_at}
+use Rattle.journal_audit.specs.GateLines.{IsExpected, IsGateWithin, IsSessionNumber, expecting_from, gate_by, gate_lines, gate_tests, session_at}
 use Rattle.journal_audit.specs.Laws.{AuditsSay, IsAuditedLineOf, IsFoundFaulty, OfGate, OfServe, audit_counts}
 use Rattle.journal_audit.proofs.ServedLines.{IfSound, IsServedAs, IsSoundAs, fault_sound, read_value, run_sound, served_sound, sounder, value_sound}
 
@@ -46,14 +44,6 @@ gate_sound number d =
     (either IsGateWithin (number == 18) _ _ (expecting_sound Changed d)
     (mapped IsSessionNumber IsGateWithin Sessions (session_at d) (natural_sound 1 MAX_SESSION (codes "session") d) (λ session s. s)))))
 
-abbrev IsPairWithin : ℕ × GateLine → Type 0
-IsPairWithin pair = IsGateLineWithin pair.0 pair.1
-
-pair_sound : (d : Data) → Sound IsPairWithin (gate_from d)
-pair_sound d =
-    after IsLine IsPairWithin _ _ (natural_sound 1 MAX_LINE (codes "line") d)
-    (λ line l. mapped IsGateWithin IsPairWithin _ _ (gate_sound (number_at (codes "number") d) d) (λ refused r. (l, r)))
-
 -- a sound line, which counts as what is found
 abbrev pub IsAuditedAs : List ℕ → Finding → Type 0
 IsAuditedAs = IsCountedBy IsAuditedLineOf audit_counts
@@ -66,7 +56,8 @@ fault_heard text f some = fault_sound (IsAuditedAs text (fault_finding f)) f som
 
 gate_read : (text : List ℕ) (d : Data) → json_of text ≡ Some d → (r : Result (ℕ × GateLine) LineFault) → value_by gate_tests text d ≡ r → IsHeard text (plain_found r)
 gate_read text d json (Ok pair) e =
-    let is_line = passes gate_tests text IsPairWithin pair_sound pair (read_value gate_tests text d json ∙ e) in
+    let sound = pair_sound gate_lines IsGateWithin (λ word d. gate_sound (number_at (codes "number") d) d) in
+    let is_line = passes gate_tests text (IsPairWithin IsGateWithin) sound pair (read_value gate_tests text d json ∙ e) in
     record { reply = OfGate pair.1; is_line = (pair.0, is_line); batch = refl; bounded = refl; optimal = refl }
 gate_read text d json (Err f) e = fault_heard text f (λ memory. never_memory gate_tests text d (e ∙ ap Err memory))
 
@@ -163,7 +154,7 @@ beside_sound text f (Some d) json some =
 
 line_sound : (text : List ℕ) (read : LineRead) → reading text ≡ read → IsHeard text (line_finding text read)
 line_sound text (Ok pair) e = as_heard text (reply_finding pair.1) (run_sound text (reply_finding pair.1) (ap read_finding e))
-line_sound text (Err f) e = beside_sound text f (json_of text) refl (λ memory. never_read text (e ∙ ap Err memory))
+line_sound text (Err f) e = beside_sound text f (json_of text) refl (λ memory. never_memory_in run_tests text (e ∙ ap Err memory))
 
 pub line_heard : (text : List ℕ) → IsHeard text (audit_finding text)
 line_heard text = line_sound text (reading text) refl

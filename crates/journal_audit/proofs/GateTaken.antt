@@ -1,5 +1,5 @@
 -- What a gate refuses is read from its line again.
-use Rattle.std.proofs.Common.{◌≡◌, ℕ, ◌+◌, Option, Some, Ok, option_map, option_and_then, codes, refl, ap, arith}
+use Rattle.std.proofs.Common.{◌≡◌, ℕ, ◌+◌, Some, Ok, option_map, codes, refl, ap, arith}
 use Rattle.serde_json.specs.Data.{Data}
 use Rattle.session_gate.specs.declared.limits.TheConstants.{MAX_SESSION, MAX_NUMBER}
 use Rattle.reply_print.specs.PieceData.{piece_data}
@@ -9,7 +9,7 @@ use Rattle.reply_print.proofs.PlainPieces.{HasPlainTexts}
 use Rattle.reply_print.proofs.WrittenReplies.{short}
 use Rattle.reply_text.specs.Taking.{natural_at}
 use Rattle.reply_text.specs.Tests.{read_by}
-use Rattle.reply_text.proofs.FiveTests.{IsTaken, written_passes}
+use Rattle.reply_text.proofs.FiveTests.{IsTaken, paired, written_passes}
 use Rattle.reply_text.proofs.Taken.{natural_taken}
 use Rattle.reply_text.proofs.TakenReplies.{line_taken, then_taken}
 use Rattle.journal_audit.specs.declared.gate_lines.GateLine.{GateLine}
@@ -48,10 +48,6 @@ gate_written line (Expecting session expected why) h = expecting_written line se
 
 abbrev IsTakenFrom : ℕ → GateLine → Type 0
 IsTakenFrom line refused = IsTaken gate_tests (piece_data (gate_piece line refused)) (line, refused)
-
-paired : (taken_line : Option ℕ) (taken : Option GateLine) (line : ℕ) (refused : GateLine) → taken_line ≡ Some line → taken ≡ Some refused
-    → option_and_then {U = ℕ × GateLine} (λ l. option_map {U = ℕ × GateLine} (λ r. (l, r)) taken) taken_line ≡ Some (line, refused)
-paired taken_line taken line refused e f = then_taken _ taken_line line _ e (ap (option_map {U = ℕ × GateLine} (λ (r : GateLine). (line, r))) f)
 
 expecting_taken : (line session expected : ℕ) (why : Why) → IsGateLineWithin line (Expecting session expected why) → IsTakenFrom line (Expecting session expected why)
 expecting_taken line session expected Old h = record {

@@ -11,9 +11,9 @@ use Rattle.serde_json.specs.Data.{Data}
 use Rattle.reply_shape.specs.Look.{word_at}
 use Rattle.reply_text.specs.declared.faults.LineFault.{LineFault}
 use Rattle.reply_text.specs.declared.faults.LineFault.TheVariants.{NotJson, Shape, Number, Range, Spelling, Memory}
-use Rattle.reply_text.specs.Reading.{LineRead, json_of, reading}
-use Rattle.reply_text.specs.Tests.{Tests, json_by, read_by, value_by}
-use Rattle.reply_text.proofs.FiveTests.{never_memory}
+use Rattle.reply_text.specs.Reading.{LineRead, reading, run_tests}
+use Rattle.reply_text.specs.Tests.{Tests, json_by, json_of, read_by, value_by}
+use Rattle.reply_text.proofs.FiveTests.{never_memory, never_memory_in}
 use Rattle.proposal_text.specs.declared.replies.BoundedOutcome.{BoundedOutcome}
 use Rattle.proposal_text.specs.declared.replies.ProposalReply.{ProposalReply}
 use Rattle.proposal_text.specs.declared.replies.ProposalReply.TheVariants.{Book, Positions, Proposed, Bounded as BoundedReply, Stale, Unproved}
@@ -26,7 +26,7 @@ use Rattle.journal_check.specs.declared.findings.Finding.{Finding}
 use Rattle.journal_check.specs.declared.findings.Finding.TheVariants.{Plain, Cleared, Bounded, Faulty}
 use Rattle.journal_check.specs.Findings.{fault_finding, finding_of, read_finding, reply_finding}
 use Rattle.journal_check.specs.Laws.{IsSoundLineOf, reply_counts}
-use Rattle.journal_check.proofs.LineSays.{FindingSays, IsCountedBy, line_says, never_memory as never_read}
+use Rattle.journal_check.proofs.LineSays.{FindingSays, IsCountedBy, line_says}
 use Rattle.journal_audit.specs.Findings.{beside, bounded_finding, plain_found, proposal_finding, proposal_found, served_finding, tells_asked, tells_proposal, told_finding, value_finding}
 use Rattle.journal_audit.specs.Laws.{IfBounded, IsServedLineOf, OfAsked, OfProposals, OfRun, is_bounded, served_counts}
 
@@ -137,7 +137,7 @@ beside_sound text f (Some d) json some = value_sound text d json f (word_at (cod
 
 told_sound : (text : List ℕ) (read : LineRead) → reading text ≡ read → IsSoundAs text (told_finding text read)
 told_sound text (Ok pair) e = run_sound text (reply_finding pair.1) (ap read_finding e)
-told_sound text (Err f) e = beside_sound text f (json_of text) refl (λ memory. never_read text (e ∙ ap Err memory))
+told_sound text (Err f) e = beside_sound text f (json_of text) refl (λ memory. never_memory_in run_tests text (e ∙ ap Err memory))
 
 pub served_sound : (text : List ℕ) → IsSoundAs text (served_finding text)
 served_sound text = told_sound text (reading text) refl

@@ -9,8 +9,8 @@ use Rattle.cert_check.specs.Proposals.{bounded_verdict_of}
 use Rattle.serde_json.specs.Data.{Data}
 use Rattle.reply_shape.specs.Look.{word_at, number_at}
 use Rattle.reply_text.specs.declared.faults.LineFault.{LineFault}
-use Rattle.reply_text.specs.Reading.{LineRead, json_of, reading}
-use Rattle.reply_text.specs.Tests.{value_by}
+use Rattle.reply_text.specs.Reading.{LineRead, reading}
+use Rattle.reply_text.specs.Tests.{json_of, value_by}
 use Rattle.proposal_text.specs.declared.replies.ProposalReply.{ProposalReply}
 use Rattle.proposal_text.specs.declared.replies.ProposalReply.TheVariants as told
 use Rattle.proposal_text.specs.ReplyValues.{proposal_tests}

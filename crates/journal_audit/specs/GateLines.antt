@@ -3,13 +3,12 @@ use Rattle.std.specs.Prelude.{ℕ, ◌≡◌, ◌+◌, ⊤, List, Bool, true, �
 use Rattle.form.specs.Between.{Between}
 use Rattle.serde_json.specs.Data.{Data}
 use Rattle.session_gate.specs.declared.limits.TheConstants.{MAX_SESSION, MAX_NUMBER}
-use Rattle.reply_print.specs.declared.limits.TheConstants.{MAX_LINE}
 use Rattle.reply_print.specs.BatchPieces.{natural}
 use Rattle.reply_print.specs.Piece.{Piece, words, object, Fields, no_fields, field, piece_text}
 use Rattle.reply_print.specs.Within.{IsLine}
 use Rattle.reply_shape.specs.Look.{has_members, has_at, is_whole, is_word, number_at}
 use Rattle.reply_text.specs.Taking.{natural_at}
-use Rattle.reply_text.specs.Tests.{Tests}
+use Rattle.reply_text.specs.Tests.{ReplyTests, Tests, tests_of}
 use Rattle.journal_audit.specs.declared.gate_lines.GateLine.{GateLine}
 use Rattle.journal_audit.specs.declared.gate_lines.GateLine.TheVariants.{Malformed, Sessions, Expecting}
 use Rattle.journal_audit.specs.declared.gate_lines.Why.{Why}
@@ -102,21 +101,21 @@ gate_by number d =
     else if number == 18 then expecting_from Changed d
     else option_map Sessions (session_at d)
 
-abbrev pub gate_from : Data → Option (ℕ × GateLine)
-gate_from d =
-    option_and_then (λ line. option_map (λ refused. (line, refused)) (gate_by (number_at (codes "number") d) d)) (natural_at 1 MAX_LINE (codes "line") d)
+abbrev pub gate_from : Data → Option GateLine
+gate_from d = gate_by (number_at (codes "number") d) d
 
-abbrev pub no_numbers : Data → Bool
-no_numbers d = true
-
--- the tests of these lines, which have no text of a number
-abbrev pub gate_tests : Tests (ℕ × GateLine)
-gate_tests = record {
-  has_shape = has_gate_shape;
-  has_numbers = no_numbers;
-  taken = gate_from;
-  print = λ pair. gate_line pair.0 pair.1;
+-- all have one word, and no text of a number
+abbrev pub gate_lines : ReplyTests GateLine
+gate_lines = record {
+  shape_by = λ word. has_gate_shape;
+  numbers_by = λ word d. true;
+  reply_by = λ word. gate_from;
+  line = gate_line;
 }
+
+-- the tests of these lines
+abbrev pub gate_tests : Tests (ℕ × GateLine)
+gate_tests = tests_of gate_lines
 
 -- the text is such a line, within its ranges
 abbrev pub IsGateLineOf : List ℕ → ℕ → GateLine → Type 0

@@ -1,18 +1,17 @@
 // Lines of the gate, as they are read.
-ghost use Rattle.std.specs.Prelude.{◌≡◌, ◌⊎◌, ◌↔◌, IfErr, IfOk, IsTrue, Err, Ok, option_map};
+ghost use Rattle.std.specs.Prelude.{◌≡◌, ◌⊎◌, IfErr, IfOk, Err, Ok, option_map};
 ghost use Rattle.serde_json.specs.View.{view};
 ghost use Rattle.reply_print.specs.PieceData.{piece_data};
 ghost use Rattle.reply_text.specs.Tests.{value_by};
 ghost use Rattle.reply_text.specs.declared.faults.LineFault.TheVariants.{Memory};
 ghost use Rattle.journal_audit.specs.declared.gate_lines.GateLine.TheVariants as refused;
-ghost use Rattle.journal_audit.specs.GateLines.{expecting_from as expecting_found, expecting_shape as expecting_is, gate_by as refused_found, gate_from as gate_found, gate_line, gate_piece, gate_shape_by as shape_is, gate_tests, has_reason as reason_is, session_at as session_found, sessions_shape as sessions_are, why_number as number_is, why_word as word_is};
+ghost use Rattle.journal_audit.specs.GateLines.{expecting_from as expecting_found, expecting_shape as expecting_is, gate_by as refused_found, gate_line, gate_lines, gate_piece, gate_shape_by as shape_is, gate_tests, has_reason as reason_is, session_at as session_found, sessions_shape as sessions_are, why_number as number_is, why_word as word_is};
 
 use crate::gate_lines::{GateLine, Why};
-use reply_print::limits::MAX_LINE;
 use reply_shape::look::{has_members, has_whole, has_word, number_at};
-use reply_text::LineFault;
-use reply_text::reading::is_same;
 use reply_text::taking::natural_at;
+use reply_text::tested::read_value;
+use reply_text::{LineFault, TestedReply};
 use serde_json::{Value, json};
 use session_gate::{MAX_NUMBER, MAX_SESSION};
 use std::alloc::{AllocError, Global};
@@ -164,19 +163,24 @@ fn refused_from(value: &Value, number: u64) -> Option<GateLine>
     }
 }
 
-fn gate_from(value: &Value) -> Option<(u32, GateLine)>
-    ensures { option_map (λ p. (p.0, p.1)) result ≡ gate_found (view value.now) }
-{
-    let line = natural_at(value, 1, MAX_LINE, "line")? as u32;
-    let refused = refused_from(value, number_at(value, "number"))?;
-    Some((line, refused))
-}
+impl TestedReply for GateLine {
+    ghost tests = { gate_lines };
 
-fn is_spelled(alloc: Global, line: u32, refused: GateLine, text: &[u8]) -> Result<bool, AllocError>
-    ensures { IfOk result (λ same. IsTrue same ↔ (gate_line line refused ≡ text.now)) }
-{
-    let spelled = print(alloc, line, refused)?;
-    Ok(is_same(spelled.as_slice(), text))
+    fn has_shape(value: &Value, _word: &str) -> bool {
+        has_shape(value, number_at(value, "number"))
+    }
+
+    fn has_numbers(_value: &Value, _word: &str) -> bool {
+        true
+    }
+
+    fn reply_from(_alloc: Global, value: &Value, _word: &str) -> Result<Option<Self>, AllocError> {
+        Ok(refused_from(value, number_at(value, "number")))
+    }
+
+    fn print(&self, alloc: Global, line: u32) -> Result<Vec<u8>, AllocError> {
+        print(alloc, line, *self)
+    }
 }
 
 // Reads a line of the gate by the value of its text.
@@ -190,15 +194,5 @@ pub(crate) fn read_gate_value(
     ensures err { IfErr result (λ e. (e ≡ Memory)
         ⊎ (value_by gate_tests text.now (view value.now) ≡ Err e)) }
 {
-    if !has_shape(value, number_at(value, "number")) {
-        return Err(LineFault::Shape);
-    }
-    let Some((line, refused)) = gate_from(value) else {
-        return Err(LineFault::Range);
-    };
-    if is_spelled(alloc, line, refused, text)? {
-        Ok((line, refused))
-    } else {
-        Err(LineFault::Spelling)
-    }
+    read_value::<GateLine>(alloc, text, value)
 }

@@ -1,6 +1,5 @@
 -- What is found of a line says what the line is.
-use Rattle.std.proofs.Common.{◌≡◌, ℕ, List, Bool, true, false, Option, Some, None, Ok, Err, refl, sym, ap, ◌∙◌, true≢false, if◌then◌else◌}
-use Rattle.std.specs.Str.{bytes_eq}
+use Rattle.std.proofs.Common.{◌≡◌, ℕ, List, Ok, Err, refl}
 use Rattle.frac.specs.Range.{limit}
 use Rattle.form.specs.declared.orders.Batch.{Batch}
 use Rattle.cert_check.specs.declared.outcome.No.{No}
@@ -11,15 +10,11 @@ use Rattle.cert_check.specs.declared.outcome.Outcome.{Outcome}
 use Rattle.cert_check.specs.Conditions.{IsFirstUnmet}
 use Rattle.cert_check.specs.Events.{verdict_of}
 use Rattle.cert_check.proofs.Yes.{said, yes_covers, yes_has_its_measure, yes_on_optimal_proves}
-use Rattle.serde_json.specs.Data.{Data}
 use Rattle.reply_print.specs.declared.replies.Reply.{Reply}
 use Rattle.reply_print.specs.declared.replies.Reply.TheVariants.{Opened, Deposited, Withdrawn, Listed, Placed, Cancelled, Cleared as ClearedReply, Settled, Balance, Refused}
-use Rattle.reply_print.specs.ReplyPieces.{reply_line}
-use Rattle.reply_shape.specs.NumberTexts.{has_numbers}
-use Rattle.reply_shape.specs.Shape.{has_shape}
 use Rattle.reply_text.specs.declared.faults.LineFault.TheVariants as fault
-use Rattle.reply_text.specs.Reading.{LineRead, reading, IsLineOf, if_json, json_of, if_in_range}
-use Rattle.reply_text.specs.ReplyValues.{pair_from}
+use Rattle.reply_text.specs.Reading.{LineRead, reading, IsLineOf, run_tests}
+use Rattle.reply_text.proofs.FiveTests.{never_memory_in}
 use Rattle.reply_text.proofs.RoundTrip.{reading_spells}
 use Rattle.journal_check.specs.declared.findings.Finding.{Finding}
 use Rattle.journal_check.specs.declared.findings.Finding.TheVariants.{Plain, Cleared, Bounded, Faulty}
@@ -44,37 +39,6 @@ FindingSaysBy IsLine counts Fails text Plain = IsCountedBy IsLine counts text Pl
 
 abbrev pub FindingSays : List ℕ → Finding → Type 0
 FindingSays = FindingSaysBy IsSoundLineOf reply_counts HasReason
-
--- ---- no line reads as want of memory
-
-abbrev is_memory : LineRead → Bool
-is_memory (Ok pair) = false
-is_memory (Err fault.NotJson) = false
-is_memory (Err fault.Shape) = false
-is_memory (Err fault.Number) = false
-is_memory (Err fault.Range) = false
-is_memory (Err fault.Spelling) = false
-is_memory (Err fault.Memory) = true
-
-spelled : (pair : ℕ × Reply) (b : Bool) → is_memory (if b then Ok pair else Err fault.Spelling) ≡ false
-spelled pair true = refl
-spelled pair false = refl
-
-in_range : (text : List ℕ) (taken : Option (ℕ × Reply)) → is_memory (if_in_range text taken) ≡ false
-in_range text None = refl
-in_range text (Some pair) = spelled pair (bytes_eq (reply_line pair.0 pair.1) text)
-
-tested : (read : LineRead) (shape numbers : Bool) → is_memory read ≡ false → is_memory (if shape then (if numbers then read else Err fault.Number) else Err fault.Shape) ≡ false
-tested read true true h = h
-tested read true false h = refl
-tested read false numbers h = refl
-
-json : (text : List ℕ) (value : Option Data) → is_memory (if_json text value) ≡ false
-json text None = refl
-json text (Some d) = tested (if_in_range text (pair_from d)) (has_shape d) (has_numbers d) (in_range text (pair_from d))
-
-pub never_memory : (text : List ℕ) → reading text ≡ Err fault.Memory → ⊥
-never_memory text e = true≢false (sym (ap is_memory e) ∙ json text (json_of text))
 
 -- ---- what is found
 
@@ -135,7 +99,7 @@ found text (Err fault.Shape) e = e
 found text (Err fault.Number) e = e
 found text (Err fault.Range) e = e
 found text (Err fault.Spelling) e = e
-found text (Err fault.Memory) e = absurd (never_memory text e)
+found text (Err fault.Memory) e = absurd (never_memory_in run_tests text e)
 
 pub line_says : (text : List ℕ) → FindingSays text (finding_of text)
 line_says text = found text (reading text) refl

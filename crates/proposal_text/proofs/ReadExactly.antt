@@ -5,16 +5,16 @@ use Rattle.std.proofs.lemmas.Option.{none-some, same_Some}
 use Rattle.reply_print.specs.PieceData.{piece_data}
 use Rattle.reply_text.specs.Tests.{read_by}
 use Rattle.reply_text.specs.declared.faults.LineFault.{LineFault}
-use Rattle.reply_text.proofs.FiveTests.{IsTaken, passes, written_passes}
+use Rattle.reply_text.proofs.FiveTests.{IsPairWithin, IsTaken, pair_sound, passes, written_passes}
 use Rattle.proposal_text.specs.declared.submissions.Submission.{Submission}
 use Rattle.proposal_text.specs.declared.replies.ProposalReply.{ProposalReply}
 use Rattle.proposal_text.specs.Laws.{SubmissionsReadExactly, RepliesReadExactly}
 use Rattle.proposal_text.specs.Pieces.{submission_piece, submission_text, proposal_piece, proposal_line}
-use Rattle.proposal_text.specs.ReplyValues.{IsProposalLineOf, proposal_tests, reply_reading}
+use Rattle.proposal_text.specs.ReplyValues.{IsProposalLineOf, proposal_replies, proposal_tests, reply_reading}
 use Rattle.proposal_text.specs.Submissions.{IsTextOf, submission_of, submission_tests}
-use Rattle.proposal_text.specs.Within.{IsSubmissionWithin, IsProposalLineWithin}
+use Rattle.proposal_text.specs.Within.{IsSubmissionWithin, IsProposalReplyWithin, IsProposalLineWithin}
 use Rattle.proposal_text.proofs.PlainProposals.{submission_plain, reply_plain}
-use Rattle.proposal_text.proofs.SoundProposals.{submission_sound, pair_sound, IsPairWithin}
+use Rattle.proposal_text.proofs.SoundProposals.{submission_sound, reply_sound}
 use Rattle.proposal_text.proofs.TakenProposals.{submission_is, submission_numbered, submission_taken, reply_taken}
 use Rattle.proposal_text.proofs.WrittenProposals.{submission_written, reply_written}
 
@@ -49,7 +49,8 @@ pub reply_reads : (line : ℕ) (reply : ProposalReply) → IsProposalLineWithin 
 reply_reads line reply h = written_passes proposal_tests (line, reply) (proposal_piece line reply) refl (reply_plain line reply) (reply_written line reply h) (reply_taken line reply h)
 
 pub line_of : (text : List ℕ) (line : ℕ) (reply : ProposalReply) → reply_reading text ≡ Ok (line, reply) → IsProposalLineOf text line reply
-line_of text line reply e = passes proposal_tests text IsPairWithin pair_sound (line, reply) e
+line_of text line reply e =
+    passes proposal_tests text (IsPairWithin IsProposalReplyWithin) (pair_sound proposal_replies IsProposalReplyWithin reply_sound) (line, reply) e
 
 pub replies_read_exactly : RepliesReadExactly
 replies_read_exactly text line reply = (line_of text line reply, λ h. ap reply_reading h.1 ∙ reply_reads line reply h.0)

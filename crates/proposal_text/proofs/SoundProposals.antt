@@ -11,8 +11,8 @@ use Rattle.cert_check.specs.declared.outcome.Mark.{Mark}
 use Rattle.cert_check.specs.declared.outcome.Mark.TheVariants as mark
 use Rattle.serde_json.specs.Data.{Data}
 use Rattle.serde_json.specs.Find.{as_number, as_u64}
-use Rattle.reply_print.specs.declared.limits.TheConstants.{MAX_LINE, MAX_ACCOUNT, MAX_MARKET, MAX_ORDER, MAX_BATCH, MAX_BUDGET}
-use Rattle.reply_print.specs.Within.{IsLine, IsAccount, IsMarket, IsOrderNumber, IsBatchNumber, IsBatchWithin, IsMarkWithin}
+use Rattle.reply_print.specs.declared.limits.TheConstants.{MAX_ACCOUNT, MAX_MARKET, MAX_ORDER, MAX_BATCH, MAX_BUDGET}
+use Rattle.reply_print.specs.Within.{IsAccount, IsMarket, IsOrderNumber, IsBatchNumber, IsBatchWithin, IsMarkWithin}
 use Rattle.reply_text.specs.BatchValues.{fraction_from, side_at}
 use Rattle.reply_text.specs.OutcomeValues.{certificate_from}
 use Rattle.reply_text.specs.ReplyValues.{account_at, market_at, batch_from}
@@ -22,9 +22,9 @@ use Rattle.reply_text.proofs.SoundCleared.{IsBundleListed, batch_sound, bundle_s
 use Rattle.form.specs.Between.{Between}
 use Rattle.proposal_text.specs.declared.replies.ProposalReply.{ProposalReply}
 use Rattle.proposal_text.specs.declared.replies.ProposalReply.TheVariants.{Book, Positions, Proposed, Bounded, Stale, Unproved}
-use Rattle.proposal_text.specs.ReplyValues.{book_from, filled, fill_at, position_of, position_from, positions_from, proposed_from, bounded_of, stop_by_word, outcome_from, bounded_from, failed_by_word, reply_by, reply_from}
+use Rattle.proposal_text.specs.ReplyValues.{book_from, filled, fill_at, position_of, position_from, positions_from, proposed_from, bounded_of, stop_by_word, outcome_from, bounded_from, failed_by_word, reply_by}
 use Rattle.proposal_text.specs.Submissions.{proposal_of, proposal_from, order_number_from, few_numbers, order_numbers_at, submission_with, submission_from}
-use Rattle.proposal_text.specs.Within.{IsProposalWithin, IsSubmissionWithin, IsPositionWithin, IsBoundedWithin, IsProposalReplyWithin, IsProposalLineWithin}
+use Rattle.proposal_text.specs.Within.{IsProposalWithin, IsSubmissionWithin, IsPositionWithin, IsBoundedWithin, IsProposalReplyWithin}
 use Rattle.reply_shape.specs.Look.{number_at, word_at}
 
 -- ---- proposals
@@ -131,11 +131,3 @@ reply_sound word d =
     (either IsProposalReplyWithin (bytes_eq word (codes "proposed")) _ _ (proposed_sound d)
     (either IsProposalReplyWithin (bytes_eq word (codes "cleared")) _ _ (bounded_sound d)
     (refused_sound (number_at (codes "number") d == 20) (Unproved (failed_by_word (word_at (codes "failed") d))) tt Stale tt))))
-
-abbrev pub IsPairWithin : ℕ × ProposalReply → Type 0
-IsPairWithin pair = IsProposalLineWithin pair.0 pair.1
-
-pub pair_sound : (d : Data) → Sound IsPairWithin (reply_from d)
-pair_sound d =
-    after IsLine IsPairWithin _ _ (natural_sound 1 MAX_LINE (codes "line") d)
-    (λ line l. mapped IsProposalReplyWithin IsPairWithin _ _ (reply_sound (word_at (codes "reply") d) d) (λ reply r. (l, r)))

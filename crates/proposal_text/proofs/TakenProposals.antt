@@ -1,5 +1,5 @@
 -- What is written of proposals and of the replies about them is taken out again.
-use Rattle.std.proofs.Common.{◌≡◌, ℕ, ◌≤◌, ◌≤ℤ◌, ℤ, pos, negsuc, int_le, List, [], ◌∷◌, length, true, false, Option, Some, option_map, option_and_then, codes, refl, sym, ap, ap₂, ◌∙◌, arith, true≢false}
+use Rattle.std.proofs.Common.{◌≡◌, ℕ, ◌≤◌, ◌≤ℤ◌, ℤ, pos, negsuc, int_le, List, [], ◌∷◌, length, true, false, Some, option_map, option_and_then, codes, refl, sym, ap, ◌∙◌, arith, true≢false}
 use Rattle.std.specs.List.{AllByRecursion}
 use Rattle.std.proofs.lemmas.Bool.{and_from, le-leb}
 use Rattle.std.proofs.lemmas.Int.{ints}
@@ -23,7 +23,7 @@ use Rattle.reply_text.specs.BatchValues.{fraction_from, leg_from, order_from}
 use Rattle.reply_text.specs.ReplyValues.{few_orders}
 use Rattle.reply_text.specs.Taking.{items_map, list_at, take_at}
 use Rattle.reply_text.specs.OutcomeValues.{certificate_from}
-use Rattle.reply_text.proofs.FiveTests.{IsTaken}
+use Rattle.reply_text.proofs.FiveTests.{IsTaken, paired}
 use Rattle.reply_text.proofs.Taken.{natural_taken, fraction_taken, fraction_number, items_pass, items_taken}
 use Rattle.reply_text.proofs.TakenBatches.{IsWrittenOrder, order_is_order, order_taken, leg_taken, leg_is_leg, bundle_made_of, legs_of, side_is, side_taken, len_within}
 use Rattle.reply_text.proofs.TakenCleared.{batch_of, fills_are_texts, fills_are_fractions, fills_taken}
@@ -159,11 +159,6 @@ failed_taken failed.Measure = refl
 failed_taken failed.Wide = refl
 
 -- ---- replies
-
--- a pair from its parts
-paired : (taken_line : Option ℕ) (taken : Option ProposalReply) (line : ℕ) (reply : ProposalReply) → taken_line ≡ Some line → taken ≡ Some reply
-    → option_and_then {U = ℕ × ProposalReply} (λ l. option_map {U = ℕ × ProposalReply} (λ r. (l, r)) taken) taken_line ≡ Some (line, reply)
-paired taken_line taken line reply e f = ap₂ (λ a b. option_and_then {U = ℕ × ProposalReply} (λ (l : ℕ). option_map {U = ℕ × ProposalReply} (λ (r : ProposalReply). (l, r)) b) a) e f
 
 abbrev IsTakenFrom : ℕ → ProposalReply → Type 0
 IsTakenFrom line reply = IsTaken proposal_tests (piece_data (proposal_piece line reply)) (line, reply)

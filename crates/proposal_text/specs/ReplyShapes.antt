@@ -3,7 +3,7 @@ use Rattle.std.specs.Prelude.{ℕ, List, Bool, true, false, ◌&&◌, ◌||◌, 
 use Rattle.std.specs.Str.{bytes_eq}
 use Rattle.serde_json.specs.Data.{Data}
 use Rattle.reply_shape.specs.ClearedShape.{are_legs, is_side, order_shape}
-use Rattle.reply_shape.specs.Look.{has_members, has_at, is_whole, is_text, is_word, is_list, word_at, number_at}
+use Rattle.reply_shape.specs.Look.{has_members, has_at, is_whole, is_text, is_word, is_list, number_at}
 use Rattle.reply_shape.specs.NumberTexts.{is_fraction}
 use Rattle.proposal_text.specs.Submissions.{proposal_shape, proposal_numbers}
 
@@ -80,9 +80,6 @@ shape_by word d =
     else if bytes_eq word (codes "cleared") then bounded_shape d
     else bytes_eq word (codes "refused") && refused_shape (number_at (codes "number") d) d
 
-abbrev pub has_reply_shape : Data → Bool
-has_reply_shape d = shape_by (word_at (codes "reply") d) d
-
 -- ---- texts of numbers
 
 abbrev pub position_numbers : Data → Bool
@@ -99,6 +96,3 @@ numbers_by word d =
     else if bytes_eq word (codes "proposed") then proposed_numbers d
     else if bytes_eq word (codes "cleared") then has_at (codes "bound") is_fraction d && proposal_numbers d
     else true
-
-abbrev pub has_reply_numbers : Data → Bool
-has_reply_numbers d = numbers_by (word_at (codes "reply") d) d

@@ -7,12 +7,12 @@ use Rattle.frac.specs.declared.frac128.Frac128.{Frac128}
 use Rattle.settlement.specs.declared.position.Position.{Position}
 use Rattle.serde_json.specs.Data.{Data}
 use Rattle.cert_check.specs.declared.outcome.Proposal.{Proposal}
-use Rattle.reply_print.specs.declared.limits.TheConstants.{MAX_LINE, MAX_BATCH, MAX_ORDER, MAX_BUDGET}
+use Rattle.reply_print.specs.declared.limits.TheConstants.{MAX_BATCH, MAX_ORDER, MAX_BUDGET}
 use Rattle.reply_shape.specs.Look.{word_at, number_at}
 use Rattle.reply_text.specs.BatchValues.{fraction_from, bundle_from, side_at}
 use Rattle.reply_text.specs.ReplyValues.{account_at, market_at, batch_from}
 use Rattle.reply_text.specs.Taking.{natural_at, list_at, take_at}
-use Rattle.reply_text.specs.Tests.{Tests, read_by}
+use Rattle.reply_text.specs.Tests.{ReplyTests, Tests, read_by, tests_of}
 use Rattle.reply_text.specs.declared.faults.LineFault.{LineFault}
 use Rattle.proposal_text.specs.declared.replies.RunStop.{RunStop}
 use Rattle.proposal_text.specs.declared.replies.RunStop.TheVariants as stop
@@ -22,7 +22,7 @@ use Rattle.proposal_text.specs.declared.replies.Failed.TheVariants as failed
 use Rattle.proposal_text.specs.declared.replies.ProposalReply.{ProposalReply}
 use Rattle.proposal_text.specs.declared.replies.ProposalReply.TheVariants.{Book, Positions, Proposed, Bounded, Stale, Unproved}
 use Rattle.proposal_text.specs.Pieces.{proposal_line}
-use Rattle.proposal_text.specs.ReplyShapes.{has_reply_shape, has_reply_numbers}
+use Rattle.proposal_text.specs.ReplyShapes.{numbers_by, shape_by}
 use Rattle.proposal_text.specs.Submissions.{proposal_from}
 use Rattle.proposal_text.specs.Within.{IsProposalLineWithin}
 
@@ -118,17 +118,12 @@ reply_by word d =
     else if bytes_eq word (codes "cleared") then bounded_from d
     else Some (refused_from d)
 
-abbrev pub reply_from : Data → Option (ℕ × ProposalReply)
-reply_from d = option_and_then (λ line. option_map (λ reply. (line, reply)) (reply_by (word_at (codes "reply") d) d)) (natural_at 1 MAX_LINE (codes "line") d)
+abbrev pub proposal_replies : ReplyTests ProposalReply
+proposal_replies = record { shape_by = shape_by; numbers_by = numbers_by; reply_by = reply_by; line = proposal_line }
 
 -- the tests of these lines
 abbrev pub proposal_tests : Tests (ℕ × ProposalReply)
-proposal_tests = record {
-  has_shape = has_reply_shape;
-  has_numbers = has_reply_numbers;
-  taken = reply_from;
-  print = λ pair. proposal_line pair.0 pair.1;
-}
+proposal_tests = tests_of proposal_replies
 
 -- the line and its reply, or the first test that fails
 abbrev pub reply_reading : List ℕ → Result (ℕ × ProposalReply) LineFault

@@ -1,47 +1,38 @@
 //! Lines of replies about proposals that are read.
-ghost use Rattle.std.specs.Prelude.{◌≡◌, ◌⊎◌, ◌↔◌, IfErr, IfOk, IsTrue, Err, Ok, option_map};
+ghost use Rattle.std.specs.Prelude.{◌≡◌, ◌⊎◌, IfErr, IfOk, Err, Ok};
 ghost use Rattle.serde_json.specs.View.{view};
 ghost use Rattle.reply_text.specs.Tests.{value_by};
 ghost use Rattle.reply_text.specs.declared.faults.LineFault.TheVariants.{Memory};
-ghost use Rattle.proposal_text.specs.Pieces.{proposal_line};
-ghost use Rattle.proposal_text.specs.ReplyValues.{IsProposalLineOf, proposal_tests, reply_from as pair_found, reply_reading};
+ghost use Rattle.proposal_text.specs.ReplyValues.{IsProposalLineOf, proposal_replies, proposal_tests, reply_reading};
 
 use crate::printing::print_proposal_reply;
 use crate::replies::ProposalReply;
 use crate::reply_shapes::{has_numbers, has_shape};
 use crate::reply_values::reply_from;
-use reply_print::limits::MAX_LINE;
-use reply_shape::look::word_at;
-use reply_text::LineFault;
-use reply_text::reading::{is_same, json_value};
-use reply_text::taking::natural_at;
+use reply_text::reading::json_value;
+use reply_text::tested::read_value;
+use reply_text::{LineFault, TestedReply};
 use serde_json::Value;
 use std::alloc::{AllocError, Global};
 
-// The line and its reply.
-fn pair_from(alloc: Global, value: &Value) -> Result<Option<(u32, ProposalReply)>, AllocError>
-    ensures { IfOk result (λ o. option_map (λ p. (p.0, p.1)) o ≡ pair_found (view value.now)) }
-{
-    let Some(line) = natural_at(value, 1, MAX_LINE, "line") else {
-        return Ok(None);
-    };
-    let Some(reply) = reply_from(alloc, value, word_at(value, "reply"))? else {
-        return Ok(None);
-    };
-    Ok(Some((line as u32, reply)))
-}
+impl TestedReply for ProposalReply {
+    ghost tests = { proposal_replies };
 
-// Whether the line is the print of what was taken out of it.
-fn is_spelled(
-    alloc: Global,
-    line: u32,
-    reply: &ProposalReply,
-    text: &[u8],
-) -> Result<bool, AllocError>
-    ensures { IfOk result (λ same. IsTrue same ↔ (proposal_line line reply.now ≡ text.now)) }
-{
-    let spelled = print_proposal_reply(alloc, line, reply)?;
-    Ok(is_same(spelled.as_slice(), text))
+    fn has_shape(value: &Value, word: &str) -> bool {
+        has_shape(value, word)
+    }
+
+    fn has_numbers(value: &Value, word: &str) -> bool {
+        has_numbers(value, word)
+    }
+
+    fn reply_from(alloc: Global, value: &Value, word: &str) -> Result<Option<Self>, AllocError> {
+        reply_from(alloc, value, word)
+    }
+
+    fn print(&self, alloc: Global, line: u32) -> Result<Vec<u8>, AllocError> {
+        print_proposal_reply(alloc, line, self)
+    }
 }
 
 /// The tests on the value of a text, of which the reply's word is one of these lines'. Ok and the errors as
@@ -56,21 +47,7 @@ pub fn read_proposal_value(
     ensures err { IfErr result (λ e. (e ≡ Memory)
         ⊎ (value_by proposal_tests text.now (view value.now) ≡ Err e)) }
 {
-    let word = word_at(value, "reply");
-    if !has_shape(value, word) {
-        return Err(LineFault::Shape);
-    }
-    if !has_numbers(value, word) {
-        return Err(LineFault::Number);
-    }
-    let Some((line, reply)) = pair_from(alloc, value)? else {
-        return Err(LineFault::Range);
-    };
-    if is_spelled(alloc, line, &reply, text)? {
-        Ok((line, reply))
-    } else {
-        Err(LineFault::Spelling)
-    }
+    read_value::<ProposalReply>(alloc, text, value)
 }
 
 /// Reads a line: its number and its reply about proposals. Ok exactly where the text is the print of the pair that is

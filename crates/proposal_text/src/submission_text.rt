@@ -25,8 +25,9 @@ use reply_shape::cleared_shape::{are_texts, certificate_shape};
 use reply_shape::look::{has_at, has_members, has_text, is_list, is_whole};
 use reply_text::LineFault;
 use reply_text::certificate_values::{certificate_at, fills_at, fraction_at};
-use reply_text::reading::{is_same, json_value};
+use reply_text::reading::json_value;
 use reply_text::taking::{from_to, list_at};
+use reply_text::tested::is_same;
 use serde_json::Value;
 use std::alloc::{AllocError, Global};
 

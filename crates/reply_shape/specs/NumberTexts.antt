@@ -53,6 +53,3 @@ numbers_by word d =
     else if bytes_eq word (codes "settled") then has_at (codes "payouts") (is_list paid_numbers) d
     else if bytes_eq word (codes "balance") then has_at (codes "balance") is_whole_number d && has_at (codes "reserved") is_whole_number d
     else true
-
-abbrev pub has_numbers : Data → Bool
-has_numbers d = numbers_by (word_at (codes "reply") d) d

@@ -3,7 +3,7 @@ use Rattle.std.specs.Prelude.{ℕ, List, Bool, true, false, ◌&&◌, nat_le, co
 use Rattle.std.specs.Str.{bytes_eq}
 use Rattle.serde_json.specs.Data.{Data}
 use Rattle.reply_shape.specs.ClearedShape.{cleared_shape}
-use Rattle.reply_shape.specs.Look.{has_members, has_at, is_whole, is_text, is_word, is_list, word_at, number_at}
+use Rattle.reply_shape.specs.Look.{has_members, has_at, is_whole, is_text, is_word, is_list, number_at}
 use Rattle.reply_print.specs.declared.limits.TheConstants.{MAX_REFUSAL}
 use Rattle.reply_print.specs.Words.{is_range_refusal, reason_word}
 
@@ -68,6 +68,3 @@ shape_by word d =
     else if bytes_eq word (codes "balance") then balance_shape d
     else if bytes_eq word (codes "refused") then refused_shape d
     else false
-
-abbrev pub has_shape : Data → Bool
-has_shape d = shape_by (word_at (codes "reply") d) d

@@ -1,19 +1,21 @@
 -- The tests over any kind of line: what passes them is within its ranges and spelled so, and what is written passes them.
-use Rattle.std.proofs.Common.{◌≡◌, List, ℕ, Bool, true, false, Option, Some, None, Result, Ok, Err, refl, sym, ap, ◌∙◌, subst, arith, true≢false, if◌then◌else◌}
+use Rattle.std.proofs.Common.{◌≡◌, List, ℕ, Bool, true, false, Option, Some, None, option_map, option_and_then, Result, Ok, Err, refl, sym, ap, ap₂, ◌∙◌, subst, arith, true≢false, if◌then◌else◌, codes}
 use Rattle.std.specs.Str.{bytes_eq}
 use Rattle.std.proofs.lemmas.Slice.Eq.{bytes_eq-Decides}
 use Rattle.serde_json.specs.Data.{Data}
+use Rattle.reply_print.specs.declared.limits.TheConstants.{MAX_LINE}
 use Rattle.reply_print.specs.Piece.{Piece, piece_text}
 use Rattle.reply_print.specs.PieceData.{piece_data}
+use Rattle.reply_print.specs.Within.{IsLine}
 use Rattle.reply_print.specs.Written.{IsWritten}
 use Rattle.reply_print.proofs.Ascii.{utf8-piece}
 use Rattle.reply_print.proofs.PlainPieces.{HasPlainTexts}
 use Rattle.reply_print.proofs.ReadBack.{read-piece}
+use Rattle.reply_shape.specs.Look.{word_at}
 use Rattle.reply_text.specs.declared.faults.LineFault.{LineFault}
 use Rattle.reply_text.specs.declared.faults.LineFault.TheVariants.{NotJson, Shape, Number, Range, Spelling, Memory}
-use Rattle.reply_text.specs.Reading.{json_of}
-use Rattle.reply_text.specs.Tests.{Tests, spelled_by, in_range_by, value_by, json_by, read_by}
-use Rattle.reply_text.proofs.Sound.{Sound}
+use Rattle.reply_text.specs.Tests.{ReplyTests, Tests, in_range_by, json_by, json_of, read_by, spelled_by, tests_of, value_by}
+use Rattle.reply_text.proofs.Sound.{Sound, after, mapped, natural_sound}
 
 -- the text of a piece reads as its value
 pub json_of-piece : (p : Piece) → HasPlainTexts p → IsWritten 6 p → json_of (piece_text p) ≡ Some (piece_data p)
@@ -92,9 +94,18 @@ module _ {A : Type 0} (tests : Tests A) (text : List ℕ) where
   tested read true false h = refl
   tested read false numbers h = refl
 
+  value_read : (d : Data) → is_memory (value_by tests text d) ≡ false
+  value_read d = tested (in_range_by tests text (tests.taken d)) (tests.has_shape d) (tests.has_numbers d) (in_range (tests.taken d))
+
   pub never_memory : (d : Data) → value_by tests text d ≡ Err Memory → ⊥
-  never_memory d e =
-      true≢false (sym (ap is_memory e) ∙ tested (in_range_by tests text (tests.taken d)) (tests.has_shape d) (tests.has_numbers d) (in_range (tests.taken d)))
+  never_memory d e = true≢false (sym (ap is_memory e) ∙ value_read d)
+
+  json_read : (o : Option Data) → is_memory (json_by tests text o) ≡ false
+  json_read None = refl
+  json_read (Some d) = value_read d
+
+  pub never_memory_in : read_by tests text ≡ Err Memory → ⊥
+  never_memory_in e = true≢false (sym (ap is_memory e) ∙ json_read (json_of text))
 
 -- ---- what is written
 
@@ -109,3 +120,21 @@ pub written_passes : {A : Type 0} (tests : Tests A) (a : A) (p : Piece) → test
 written_passes tests a p print plain h t =
     ap (json_by tests (tests.print a)) (ap json_of print ∙ json_of-piece p plain h)
     ∙ spelled tests (tests.print a) (piece_data p) a t.shape t.numbers t.taken refl
+
+-- ---- replies of a kind, each told on a numbered line
+
+-- a pair from its parts
+pub paired : {R : Type 0} (taken_line : Option ℕ) (taken : Option R) (line : ℕ) (reply : R) → taken_line ≡ Some line → taken ≡ Some reply
+    → option_and_then {U = ℕ × R} (λ l. option_map {U = ℕ × R} (λ r. (l, r)) taken) taken_line ≡ Some (line, reply)
+paired {R} taken_line taken line reply e f = ap₂ (λ a b. option_and_then {U = ℕ × R} (λ (l : ℕ). option_map {U = ℕ × R} (λ (r : R). (l, r)) b) a) e f
+
+-- a number of a line, and a reply within its ranges
+abbrev pub IsPairWithin : {R : Type 0} → (R → Type 0) → ℕ × R → Type 0
+IsPairWithin IsReplyWithin pair = IsLine pair.0 × IsReplyWithin pair.1
+
+-- what is taken out of a line is within its ranges, where each reply is
+pub pair_sound : {R : Type 0} (kind : ReplyTests R) (IsReplyWithin : R → Type 0) → ((word : List ℕ) (d : Data) → Sound IsReplyWithin (kind.reply_by word d))
+    → (d : Data) → Sound (IsPairWithin IsReplyWithin) ((tests_of kind).taken d)
+pair_sound kind IsReplyWithin sound d =
+    after IsLine (IsPairWithin IsReplyWithin) _ _ (natural_sound 1 MAX_LINE (codes "line") d)
+    (λ line l. mapped IsReplyWithin (IsPairWithin IsReplyWithin) _ _ (sound (word_at (codes "reply") d) d) (λ reply r. (l, r)))

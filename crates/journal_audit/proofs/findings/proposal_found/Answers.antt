@@ -1,7 +1,6 @@
 use Rattle.std.proofs.Common.{rules, ◌≡◌, Some, Ok, refl, ap, ◌∙◌}
 use Rattle.serde_json.specs.View.{view}
-use Rattle.reply_text.specs.Reading.{json_of}
-use Rattle.reply_text.specs.Tests.{json_by, value_by}
+use Rattle.reply_text.specs.Tests.{json_by, json_of, value_by}
 use Rattle.proposal_text.specs.ReplyValues.{proposal_tests}
 use Rattle.proposal_text.proofs.ReadExactly.{line_of}
 use Rattle.journal_check.proofs.Found.{by_read}
