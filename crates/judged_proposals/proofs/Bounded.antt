@@ -20,7 +20,7 @@ use Rattle.form.specs.Limits.{IsOrderWithin}
 use Rattle.form.specs.Payoff.{bundle_of, bundle_payoff}
 use Rattle.measure.specs.Sums.{add_gain, bound_of, gain_at, has_unit_mass, plus_gain, price_of}
 use Rattle.settlement.specs.declared.limits.TheConstants.{MAX_PAYOFF}
-use Rattle.judged_proposals.proofs.Sums.{plus_fits}
+use Rattle.settlement.proofs.Worth.{plus_fits}
 use Rattle.judged_proposals.specs.Judged.{zero_prices}
 use Rattle.judged_proposals.proofs.Payoffs.{pays, small_at_zero}
 

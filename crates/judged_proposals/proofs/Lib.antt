@@ -1,4 +1,3 @@
-mod Sums
 mod Payoffs
 mod NothingOwed
 mod Bounded

@@ -13,7 +13,7 @@ use Rattle.form.specs.Payoff.{bundle_of, bundle_payoff, leg_of, legs_in, option_
 use Rattle.form.specs.Steps.{bundle_payoff_of}
 use Rattle.form.proofs.SameBundle.{length-legs_in}
 use Rattle.settlement.specs.declared.limits.TheConstants.{MAX_PAYOFF}
-use Rattle.judged_proposals.proofs.Sums.{IsSmall, legs_fit, legs_small, reach, sizes_few, sizes_of}
+use Rattle.settlement.proofs.Worth.{IsSmall, legs_fit, legs_small, reach, sizes_few, sizes_of}
 
 -- what a bundle pays at a state, which fits and is small
 pub record Pays (order : Order) (z : List ℕ) : Type 0 where

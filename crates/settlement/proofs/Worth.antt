@@ -24,12 +24,12 @@ use Rattle.settlement.specs.declared.limits.TheConstants.{MAX_PAYOFF, MAX_SETTLE
 use Rattle.settlement.specs.Payout.{IsSettledAt, worth_at}
 
 -- ---- sums of products, of which the sizes are small together
-abbrev reach : List ℤ → List ℕ → ℕ
+abbrev pub reach : List ℤ → List ℕ → ℕ
 reach [] z = 0
 reach (a ∷ v) [] = 0
 reach (a ∷ v) (x ∷ z) = unsigned_abs a * x + reach v z
 
-plus_fits : (t a b : ℤ) → unsigned_abs t + unsigned_abs (a *ℤ b) ≤ limit → plus_product limit (whole t) (whole a) (whole b) ≡ Ok (whole (t +ℤ (a *ℤ b)))
+pub plus_fits : (t a b : ℤ) → unsigned_abs t + unsigned_abs (a *ℤ b) ≤ limit → plus_product limit (whole t) (whole a) (whole b) ≡ Ok (whole (t +ℤ (a *ℤ b)))
 plus_fits t a b le =
     let product : unsigned_abs (a *ℤ b) ≤ limit = omega arith in
     let first : unsigned_abs t ≤ limit = omega arith in
@@ -70,20 +70,20 @@ payoff_small v z = below (dot v z) (dot_small v z)
     below (negsuc n) le = omega arith
 
 -- ---- legs
-abbrev sizes_of : List Leg → ℕ
+abbrev pub sizes_of : List Leg → ℕ
 sizes_of legs = sum (map (λ (leg : Leg). unsigned_abs leg.count) legs)
 
 sizes_more : (leg : Leg) (legs : List Leg) → sizes_of (leg ∷ legs) ≡ unsigned_abs leg.count + sizes_of legs
 sizes_more leg legs = sum_by-cons (λ (n : ℕ). n) (unsigned_abs leg.count) (map (λ (leg : Leg). unsigned_abs leg.count) legs)
 
-sizes_few : (legs : List Leg) → All IsCounted legs → sizes_of legs ≤ length legs * MAX_COUNT
+pub sizes_few : (legs : List Leg) → All IsCounted legs → sizes_of legs ≤ length legs * MAX_COUNT
 sizes_few [] counted = omega arith
 sizes_few (leg ∷ legs) counted =
     let first = All-head IsCounted leg legs counted in
     omega (arith, sizes_more leg legs, first.1, sizes_few legs (All-tail IsCounted leg legs counted))
 
 module _ (z : List ℕ) where
-  abbrev IsSmall : Leg → Type 0
+  abbrev pub IsSmall : Leg → Type 0
   IsSmall leg = reach (option_of leg.form) z ≤ MAX_PAYOFF
 
   leg_small : (leg : Leg) → IsSmall leg → unsigned_abs (leg.count *ℤ pos (payoff (option_of leg.form) z)) ≤ unsigned_abs leg.count * MAX_PAYOFF
@@ -92,7 +92,7 @@ module _ (z : List ℕ) where
       let most = mul-le-mul_left (unsigned_abs leg.count) pays in
       omega (arith, unsigned_abs-mul leg.count (pos (payoff (option_of leg.form) z)))
 
-  legs_fit : (t : ℤ) (legs : List Leg) → All IsSmall legs → unsigned_abs t + sizes_of legs * MAX_PAYOFF ≤ limit
+  pub legs_fit : (t : ℤ) (legs : List Leg) → All IsSmall legs → unsigned_abs t + sizes_of legs * MAX_PAYOFF ≤ limit
       → fold_steps (add_leg limit z) (whole t) (map leg_of legs) ≡ Ok (whole (t +ℤ bundle_payoff (map leg_of legs) z))
   legs_fit t [] small le = ap (λ (d : ℤ). Ok (whole d)) (omega (arith, ints))
   legs_fit t (leg ∷ legs) small le =
@@ -106,7 +106,7 @@ module _ (z : List ℕ) where
       ∙ legs_fit (t +ℤ amount) legs (All-tail IsSmall leg legs small) (omega (arith, ints))
       ∙ ap (λ (d : ℤ). Ok (whole d)) (omega (arith, ints))
 
-  legs_small : (legs : List Leg) → All IsSmall legs → unsigned_abs (bundle_payoff (map leg_of legs) z) ≤ sizes_of legs * MAX_PAYOFF
+  pub legs_small : (legs : List Leg) → All IsSmall legs → unsigned_abs (bundle_payoff (map leg_of legs) z) ≤ sizes_of legs * MAX_PAYOFF
   legs_small [] small = omega arith
   legs_small (leg ∷ legs) small =
       omega (arith, ints, sizes_more leg legs, leg_small leg (All-head IsSmall leg legs small), legs_small legs (All-tail IsSmall leg legs small))
