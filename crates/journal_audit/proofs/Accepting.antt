@@ -5,6 +5,7 @@ use Rattle.std.proofs.lemmas.Slice.Eq.{bytes_eq-Decides}
 use Rattle.std.proofs.Math.Seq.{take-append_seam, drop-append_seam}
 use Rattle.form.specs.Between.{Between}
 use Rattle.serde_json.specs.Data.{Data}
+use Rattle.session_gate.specs.Heads.{accepted_head}
 use Rattle.session_gate.specs.declared.limits.TheConstants.{MAX_SESSION, MAX_NUMBER}
 use Rattle.reply_print.specs.declared.replies.Reply.{Reply}
 use Rattle.reply_print.specs.declared.replies.Reply.TheVariants.{Opened, Deposited, Withdrawn, Listed, Placed, Cancelled, Cleared as ClearedReply, Settled, Balance, Refused}
@@ -44,7 +45,7 @@ use Rattle.journal_check.specs.Findings.{cleared_finding, fault_in, reply_findin
 use Rattle.journal_check.specs.Laws.{IfCleared, IsCertified, IsSoundLineOf}
 use Rattle.journal_audit.specs.declared.gate_lines.GateLine.{GateLine}
 use Rattle.journal_audit.specs.declared.gate_lines.GateLine.TheVariants.{Malformed, Sessions, Expecting}
-use Rattle.journal_audit.specs.Accepted.{accepted_line, before_end, between, head_text, if_braced, is_accepted, is_braced, is_object, message_from, reply_in, tail_text}
+use Rattle.journal_audit.specs.Accepted.{accepted_line, before_end, between, if_braced, is_accepted, is_braced, is_object, message_from, reply_in, tail_text}
 use Rattle.journal_audit.specs.Findings.{accepted_finding, audit_finding, beside, bounded_finding, line_finding, plain_found, proposal_finding, proposal_found, reply_found, served_finding, session_beside, tells_asked, tells_proposal, told_finding, unspelled, value_finding}
 use Rattle.journal_audit.specs.GateLines.{IsGateLineOf, IsSessionNumber, gate_piece, gate_tests}
 use Rattle.journal_audit.specs.Laws.{AuditedReply, IfBounded, IsAcceptedLineOf, IsAuditedLine, IsAuditedLineOf, IsProposedLineOf, IsServedLineOf, IsToldLineOf, OfAsked, OfGate, OfProposals, OfRun, OfServe, ServedReply, SoundLinesAreFoundSo}
@@ -344,8 +345,8 @@ module _ (number session : ℕ) (n : Between 1 MAX_NUMBER number) (s : IsSession
 
   reply_within : (text : List ℕ) → text ≡ accepted_line number session (piece_text p) → reply_in text (number, session) ≡ Some (piece_text p)
   reply_within text e =
-      ap (λ l. option_and_then if_braced (between (head_text number) (tail_text session) l)) e
-      ∙ ap (option_and_then if_braced) (enclosed (head_text number) (tail_text session) (piece_text p))
+      ap (λ l. option_and_then if_braced (between (accepted_head number) (tail_text session) l)) e
+      ∙ ap (option_and_then if_braced) (enclosed (accepted_head number) (tail_text session) (piece_text p))
       ∙ rw (object_braced p is) refl
 
   accepted_heard : (text : List ℕ) → text ≡ accepted_line number session (piece_text p) → audit_finding text ≡ unspelled (served_finding (piece_text p))

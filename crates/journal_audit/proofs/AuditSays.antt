@@ -5,6 +5,7 @@ use Rattle.std.proofs.lemmas.List.{take-append-drop}
 use Rattle.std.proofs.lemmas.Slice.Eq.{bytes_eq-Decides}
 use Rattle.form.specs.Between.{Between}
 use Rattle.serde_json.specs.Data.{Data}
+use Rattle.session_gate.specs.Heads.{accepted_head}
 use Rattle.session_gate.specs.declared.limits.TheConstants.{MAX_SESSION, MAX_NUMBER}
 use Rattle.reply_shape.specs.Look.{word_at, number_at}
 use Rattle.reply_text.specs.declared.faults.LineFault.{LineFault}
@@ -23,7 +24,7 @@ use Rattle.journal_audit.specs.declared.gate_lines.GateLine.{GateLine}
 use Rattle.journal_audit.specs.declared.gate_lines.GateLine.TheVariants.{Sessions, Expecting}
 use Rattle.journal_audit.specs.declared.gate_lines.Why.{Why}
 use Rattle.journal_audit.specs.declared.gate_lines.Why.TheVariants.{Old, Ahead, Changed}
-use Rattle.journal_audit.specs.Accepted.{accepted_line, before_end, between, head_text, if_braced, is_accepted, is_braced, message_from, reply_in, tail_text}
+use Rattle.journal_audit.specs.Accepted.{accepted_line, before_end, between, if_braced, is_accepted, is_braced, message_from, reply_in, tail_text}
 use Rattle.journal_audit.specs.Findings.{accepted_finding, audit_finding, line_finding, plain_found, reply_found, served_finding, session_beside, unspelled, value_finding}
 use Rattle.journal_audit.specs.GateLines.{IsExpected, IsGateWithin, IsSessionNumber, expecting_from, gate_by, gate_lines, gate_tests, session_at}
 use Rattle.journal_audit.specs.Laws.{AuditsSay, IsAuditedLineOf, IsFoundFaulty, OfGate, OfServe, audit_counts}
@@ -87,8 +88,8 @@ braced P text h = either P (is_braced text) (Some text) None h tt
 
 reply_stands : (text : List ℕ) (message : ℕ × ℕ) → Sound (λ reply. text ≡ accepted_line message.0 message.1 reply) (reply_in text message)
 reply_stands text message =
-    let P = Stands (head_text message.0) (tail_text message.1) text in
-    after P P if_braced (between (head_text message.0) (tail_text message.1) text) (stands _ (head_text message.0) (tail_text message.1) text refl) (λ reply h. braced P reply h)
+    let P = Stands (accepted_head message.0) (tail_text message.1) text in
+    after P P if_braced (between (accepted_head message.0) (tail_text message.1) text) (stands _ (accepted_head message.0) (tail_text message.1) text refl) (λ reply h. braced P reply h)
 
 abbrev IsMessage : ℕ × ℕ → Type 0
 IsMessage message = Between 1 MAX_NUMBER message.0 × IsSessionNumber message.1

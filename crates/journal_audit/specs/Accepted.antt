@@ -4,19 +4,17 @@ use Rattle.std.specs.Str.{bytes_eq}
 use Rattle.serde_json.specs.Data.{Data}
 use Rattle.serde_json.specs.Find.{as_object}
 use Rattle.session_gate.specs.declared.limits.TheConstants.{MAX_SESSION, MAX_NUMBER}
+use Rattle.session_gate.specs.Heads.{accepted_head}
 use Rattle.reply_shape.specs.Look.{has_members, has_at, is_whole}
 use Rattle.reply_text.specs.Taking.{natural_at}
 
--- up to the reply, and behind it
-abbrev pub head_text : ℕ → List ℕ
-head_text number = codes "{\"number\":" ++ (decimal number ++ codes ",\"of\":")
-
+-- behind the reply
 abbrev pub tail_text : ℕ → List ℕ
 tail_text session = codes ",\"session\":" ++ (decimal session ++ codes "}")
 
 -- the line of the reply to a message of this number in this session, without its line feed
 abbrev pub accepted_line : ℕ → ℕ → List ℕ → List ℕ
-accepted_line number session reply = head_text number ++ (reply ++ tail_text session)
+accepted_line number session reply = accepted_head number ++ (reply ++ tail_text session)
 
 -- ---- as they are read
 
@@ -51,4 +49,4 @@ if_braced text = if is_braced text then Some text else None
 
 -- the text of the reply to a message, where the line is spelled as such a line is
 abbrev pub reply_in : List ℕ → ℕ × ℕ → Option (List ℕ)
-reply_in text message = option_and_then if_braced (between (head_text message.0) (tail_text message.1) text)
+reply_in text message = option_and_then if_braced (between (accepted_head message.0) (tail_text message.1) text)

@@ -1,7 +1,8 @@
 // Lines that tell the reply to an accepted message, as they are read.
 ghost use Rattle.std.specs.Prelude.{◌≡◌, IfOk, option_and_then, option_map, string_bytes};
 ghost use Rattle.serde_json.specs.View.{view};
-ghost use Rattle.journal_audit.specs.Accepted.{before_end, between, head_text, if_braced, is_accepted as accepted_is, is_braced as braced_is, is_object as object_is, message_from as message_found, reply_in as reply_found, tail_text};
+ghost use Rattle.session_gate.specs.Heads.{accepted_head};
+ghost use Rattle.journal_audit.specs.Accepted.{before_end, between, if_braced, is_accepted as accepted_is, is_braced as braced_is, is_object as object_is, message_from as message_found, reply_in as reply_found, tail_text};
 
 use reply_shape::look::{has_at, has_members, has_whole};
 use reply_text::taking::natural_at;
@@ -35,7 +36,7 @@ pub(crate) fn message_from(value: &Value) -> Option<(u32, u32)>
 }
 
 fn head(alloc: Global, number: u32) -> Result<String, AllocError>
-    ensures { IfOk result (λ text. string_bytes text ≡ head_text number) }
+    ensures { IfOk result (λ text. string_bytes text ≡ accepted_head number) }
 {
     format!(in alloc; "{{\"number\":{number},\"of\":")
 }

@@ -20,6 +20,7 @@ use Rattle.session_gate.specs.declared.limits.TheConstants.{MAX_NUMBER, MAX_SESS
 use Rattle.session_gate.specs.Answers.{answer_by, answer_to, has_kept_body, is_ahead, is_last, is_old, is_one_too_many}
 use Rattle.session_gate.specs.Bodies.{is_body}
 use Rattle.session_gate.specs.Gate.{KnownSessions, LastAccepted, Message, accepted_as, kept_of, message_of, next_number, keep}
+use Rattle.session_gate.specs.Heads.{accepted_head}
 use Rattle.session_gate.proofs.AnswerLaws.{repeats_are_kept}
 use Rattle.session_gate.proofs.KnownBefore.{kept_of-keep}
 use Rattle.session_lines.specs.Answers.{kept_reply, reply_of}
@@ -31,7 +32,7 @@ use Rattle.journal_audit.specs.declared.gate_lines.GateLine.{GateLine}
 use Rattle.journal_audit.specs.declared.gate_lines.GateLine.TheVariants as gate
 use Rattle.journal_audit.specs.declared.gate_lines.Why.{Why}
 use Rattle.journal_audit.specs.declared.gate_lines.Why.TheVariants as why
-use Rattle.journal_audit.specs.Accepted.{accepted_line, head_text, tail_text}
+use Rattle.journal_audit.specs.Accepted.{accepted_line, tail_text}
 use Rattle.journal_audit.specs.GateLines.{IsExpected, IsGateWithin, IsSessionNumber, gate_line, gate_piece, why_number, why_word}
 use Rattle.journal_audit.specs.Laws.{IsServedLineOf, OfGate, OfServe, ServedReply}
 use Rattle.journal_audit.proofs.GateTaken.{gate_plain}
@@ -133,7 +134,7 @@ number_has_none n = plain_has_none (decimal n) (plain-decimal n)
 
 accepted_has_none : (session number : ℕ) (reply : List ℕ) → HasNoFeed reply → HasNoFeed (accepted_line number session reply)
 accepted_has_none session number reply one =
-    both_have_none (head_text number) (reply ++ tail_text session)
+    both_have_none (accepted_head number) (reply ++ tail_text session)
     (both_have_none (codes "{\"number\":") _ (tested_has_none (codes "{\"number\":") refl)
     (both_have_none (decimal number) (codes ",\"of\":") (number_has_none number) (tested_has_none (codes ",\"of\":") refl)))
     (both_have_none reply (tail_text session) one

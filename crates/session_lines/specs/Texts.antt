@@ -3,11 +3,9 @@ use Rattle.std.specs.Prelude.{ℕ, List, ◌++◌, Option, None, Some, unwrap_or
 use Rattle.session_gate.specs.declared.answer.Answer.{Answer}
 use Rattle.session_gate.specs.declared.answer.Answer.TheVariants.{First, Repeat, Old, Ahead, Changed, Sessions}
 use Rattle.session_gate.specs.Gate.{Message}
+pub use Rattle.session_gate.specs.Heads.{accepted_head}
 
--- an accepted message, up to the reply and behind it
-abbrev pub accepted_head : ℕ → List ℕ
-accepted_head number = codes "{\"number\":" ++ (decimal number ++ codes ",\"of\":")
-
+-- an accepted message, behind the reply
 abbrev pub accepted_tail : ℕ → List ℕ
 accepted_tail session = codes ",\"session\":" ++ (decimal session ++ codes "}\n")
 
