@@ -78,6 +78,9 @@ no_feed [] h k d lt = absurd (omega arith)
 no_feed (b ∷ s) h zero d lt = no_feed_byte b (and_parts (is_printed b) (are_printed s) h).0
 no_feed (b ∷ s) h (suc k) d lt = no_feed s (and_parts (is_printed b) (are_printed s) h).1 k d (omega arith)
 
--- no line has a line feed
+-- no text of a piece has a line feed, and so no line
+pub piece_has_no_feed : (n : ℕ) (p : Piece) → IsWritten n p → All (λ b. (b == 10) ≡ false) (piece_text p)
+piece_has_no_feed n p h = no_feed (piece_text p) (printed-piece n p h)
+
 pub line_has_no_feed : (line : ℕ) (reply : Reply) → IsWithin line reply → All (λ b. (b == 10) ≡ false) (reply_line line reply)
-line_has_no_feed line reply h = no_feed (reply_line line reply) (printed-piece 6 (reply_piece line reply) (written line reply h))
+line_has_no_feed line reply h = piece_has_no_feed 6 (reply_piece line reply) (written line reply h)

@@ -35,14 +35,15 @@ use Rattle.journal_audit.specs.declared.gate_lines.Why.TheVariants as why
 use Rattle.journal_audit.specs.Accepted.{accepted_line, tail_text}
 use Rattle.journal_audit.specs.GateLines.{IsExpected, IsGateWithin, IsSessionNumber, gate_line, gate_piece, why_number, why_word}
 use Rattle.journal_audit.specs.Laws.{IsServedLineOf, OfGate, OfServe, ServedReply}
-use Rattle.journal_audit.proofs.GateTaken.{gate_plain}
+use Rattle.journal_audit.proofs.GateTaken.{gate_written}
 use Rattle.reply_print.specs.Within.{IsLine}
 use Rattle.proposal_lines.specs.Output.{proposing_line}
 use Rattle.proposal_lines.specs.ProposingState.{ProposingState, empty_state}
 use Rattle.reply_ranges.proofs.ServedLines.{Stands, answers, empty_stands}
 use Rattle.reply_ranges.proofs.Reports.{HasNoFeed}
 use Rattle.reply_ranges.proofs.Runs.{IsAnswered}
-use Rattle.reply_ranges.proofs.Texts.{both_have_none, piece_has_none, plain_has_none, with_byte}
+use Rattle.reply_ranges.proofs.Texts.{both_have_none, plain_has_none, with_byte}
+use Rattle.reply_print.proofs.Ascii.{piece_has_no_feed}
 use Rattle.reply_print.proofs.Digits.{plain-decimal}
 
 -- ---- what a line says as a message
@@ -182,7 +183,7 @@ module _ (number : ℕ) (state : SessionsState ProposingState) (few : number ≤
     is = is;
     accepted = record {
       sound = record { reply = OfGate refused; is_line = (number, ((is_line, within), refl)) };
-      one = piece_has_none (gate_piece number refused) (gate_plain number refused);
+      one = piece_has_no_feed 6 (gate_piece number refused) (gate_written number refused (is_line, within));
     };
     stands = passes number state before;
   }

@@ -1,27 +1,24 @@
 -- The lines of replies within their ranges are sound ones, without a line feed.
-use Rattle.std.proofs.Common.{◌≡◌, ℕ, List, [], ◌∷◌, ◌++◌, Bool, true, false, ◌==◌, refl, arith}
+use Rattle.std.proofs.Common.{◌≡◌, ℕ, List, [], ◌∷◌, ◌++◌, true, false, ◌==◌, refl, arith}
 use Rattle.std.proofs.lemmas.Bool.{and_parts}
 use Rattle.std.proofs.lemmas.Bool.Decides.{nat_tests}
 use Rattle.std.proofs.lemmas.List.Elements.{All-nil, All-cons, All-append}
-use Rattle.std.specs.Fmt.{signed_decimal}
 use Rattle.cert_check.proofs.Yes.{yes_covers, yes_has_its_measure, yes_on_optimal_proves}
 use Rattle.exchange_core.specs.Covered as core
 use Rattle.exchange_lines.specs.Promises.{IsJudgedYes}
 use Rattle.reply_print.specs.declared.replies.Reply.{Reply}
 use Rattle.reply_print.specs.declared.replies.Reply.TheVariants.{Opened, Deposited, Withdrawn, Listed, Placed, Cancelled, Cleared, Settled, Balance, Refused}
-use Rattle.reply_print.specs.Piece.{Piece, whole, words, list, object, Pieces, no_pieces, piece, Fields, no_fields, field, piece_text, pieces_text, fields_text, comma_after}
-use Rattle.reply_print.specs.ReplyPieces.{reply_line, reply_piece}
+use Rattle.reply_print.specs.ReplyPieces.{reply_line}
 use Rattle.reply_print.specs.Within.{IsWithin}
 use Rattle.reply_print.specs.Written.{is_plain, is_plain_byte}
-use Rattle.reply_print.proofs.Digits.{plain-signed_decimal}
-use Rattle.reply_print.proofs.PlainPieces.{HasPlainFields, HasPlainTexts, HavePlainTexts, reply_plain}
+use Rattle.reply_print.proofs.Ascii.{line_has_no_feed, piece_has_no_feed}
 use Rattle.proposal_text.specs.declared.replies.ProposalReply.{ProposalReply}
 use Rattle.proposal_text.specs.Pieces.{proposal_line, proposal_piece}
 use Rattle.proposal_text.specs.Within.{IsProposalLineWithin}
-use Rattle.proposal_text.proofs.PlainProposals.{reply_plain as proposal_plain}
+use Rattle.proposal_text.proofs.WrittenProposals.{reply_written as proposal_written}
 use Rattle.asked_text.specs.declared.replies.AskedReply.{AskedReply}
 use Rattle.asked_text.specs.Lines.{IsAskedLineWithin, asked_line, asked_piece}
-use Rattle.asked_text.proofs.AskedExactly.{asked_plain}
+use Rattle.asked_text.proofs.AskedExactly.{asked_written}
 use Rattle.journal_check.specs.Laws.{IfCleared, IsCertified}
 use Rattle.journal_audit.specs.Laws.{IfBounded, IsServedLineOf, OfAsked, OfProposals, OfRun, ServedReply}
 use Rattle.reply_ranges.proofs.Reports.{HasNoFeed}
@@ -45,32 +42,6 @@ both_have_none front back f b = All-append IsNoFeed front back f b
 -- a byte in front
 pub with_byte : (b : ℕ) (text : List ℕ) → (b == 10) ≡ false → HasNoFeed text → HasNoFeed (b ∷ text)
 with_byte b text other h = All-cons IsNoFeed b text other h
-
-comma_has_none : (later : Bool) (text : List ℕ) → HasNoFeed text → HasNoFeed (comma_after later ++ text)
-comma_has_none true text h = with_byte 44 text refl h
-comma_has_none false text h = h
-
-abbrev one_byte : (b : ℕ) → (b == 10) ≡ false → HasNoFeed (b ∷ [])
-one_byte b other = with_byte b [] other (All-nil IsNoFeed)
-
-mutual
-  pub piece_has_none : (p : Piece) → HasPlainTexts p → HasNoFeed (piece_text p)
-  piece_has_none (whole z) h = plain_has_none (signed_decimal z) (plain-signed_decimal z)
-  piece_has_none (words s) h = with_byte 34 (s ++ 34 ∷ []) refl (both_have_none s (34 ∷ []) (plain_has_none s h) (one_byte 34 refl))
-  piece_has_none (list ps) h = with_byte 91 (pieces_text false ps) refl (pieces_have_none false ps h)
-  piece_has_none (object fs) h = with_byte 123 (fields_text false fs) refl (fields_have_none false fs h)
-
-  pieces_have_none : (later : Bool) (ps : Pieces) → HavePlainTexts ps → HasNoFeed (pieces_text later ps)
-  pieces_have_none later no_pieces h = one_byte 93 refl
-  pieces_have_none later (piece p ps) h =
-      comma_has_none later (piece_text p ++ pieces_text true ps) (both_have_none (piece_text p) (pieces_text true ps) (piece_has_none p h.0) (pieces_have_none true ps h.1))
-
-  fields_have_none : (later : Bool) (fs : Fields) → HasPlainFields fs → HasNoFeed (fields_text later fs)
-  fields_have_none later no_fields h = one_byte 125 refl
-  fields_have_none later (field key p fs) h =
-      comma_has_none later _
-      (both_have_none (34 ∷ (key ++ 34 ∷ [])) _ (with_byte 34 (key ++ 34 ∷ []) refl (both_have_none key (34 ∷ []) (plain_has_none key h.0) (one_byte 34 refl)))
-      (with_byte 58 _ refl (both_have_none (piece_text p) (fields_text true fs) (piece_has_none p h.1) (fields_have_none true fs h.2))))
 
 -- ---- the line of a reply, with its line feed
 pub record IsServedText (bytes : List ℕ) : Type 0 where
@@ -104,7 +75,7 @@ run_text number reply within judged = record {
   is = refl;
   reply = OfRun reply;
   served = record { line = number; is_line = (within, refl); certified = certified reply judged };
-  one = piece_has_none (reply_piece number reply) (reply_plain number reply);
+  one = line_has_no_feed number reply within;
 }
 
 pub proposal_text : (number : ℕ) (reply : ProposalReply) → IsProposalLineWithin number reply → IfBounded reply → IsServedText (proposal_line number reply ++ 10 ∷ [])
@@ -113,7 +84,7 @@ proposal_text number reply within proved = record {
   is = refl;
   reply = OfProposals reply;
   served = record { line = number; is_line = (within, refl); proved = proved };
-  one = piece_has_none (proposal_piece number reply) (proposal_plain number reply);
+  one = piece_has_no_feed 6 (proposal_piece number reply) (proposal_written number reply within);
 }
 
 pub asked_text : (number : ℕ) (reply : AskedReply) → IsAskedLineWithin number reply → IsServedText (asked_line number reply ++ 10 ∷ [])
@@ -122,5 +93,5 @@ asked_text number reply within = record {
   is = refl;
   reply = OfAsked reply;
   served = (number, (within, refl));
-  one = piece_has_none (asked_piece number reply) (asked_plain number reply);
+  one = piece_has_no_feed 6 (asked_piece number reply) (asked_written number reply within);
 }
