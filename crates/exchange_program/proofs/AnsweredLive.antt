@@ -6,14 +6,16 @@ use Rattle.std.specs.Io.KnownBytes.{Appends}
 use Rattle.port_io.specs.Writes.{AppendsFront}
 use Rattle.proposal_lines.specs.Output.{proposing_line}
 use Rattle.proposal_lines.specs.ProposingState.{empty_state}
+use Rattle.live_lines.specs.Answering.{Answering}
 use Rattle.live_lines.specs.Output.{output_of}
-use Rattle.live_lines.specs.Serving.{Known, WroteAll, WroteBefore, WroteLines}
+use Rattle.live_lines.specs.Serving.{AnsweredAll, AnsweredBefore, AnsweredLines, AnsweredSome, Known, WroteAll, WroteSome}
 use Rattle.live_lines.specs.Serving as live
 use Rattle.live_lines.specs.Taken.{with_feeds}
 use Rattle.live_lines.specs.declared.ended.Ended.{Ended}
 use Rattle.live_lines.specs.declared.ended.Ended.TheVariants as ended
 use Rattle.live_lines.proofs.Fronts.{no_front}
-use Rattle.live_lines.proofs.Serves.{known_of}
+use Rattle.live_lines.proofs.Serves.{all_so, before_so, known_of, lines_so, some_so}
+use Rattle.live_lines.proofs.Steps.{one_output}
 use Rattle.program_words.specs.declared.requests.Request.{Request}
 use Rattle.program_words.specs.declared.requests.Request.TheVariants.{Lines, Check, Sessions, Serve, Propose, Demo}
 use Rattle.program_words.specs.declared.requests.Served.{Served}
@@ -55,17 +57,26 @@ end_of_two end first second status p which = elim which [
 ]
 
 -- ---- by one way of answering
-module _ {S : Type 0} (step : ℕ → S → List ℕ → List ℕ × S) (skips : Bool) (start : S) where
-  pub served_by : (known : Known) (end : Ended) → (end ≡ ended.Done → WroteAll step skips start known)
-      → (end ≡ ended.ReadFault → WroteLines step skips start known) → (end ≡ ended.TooLong → WroteBefore step skips start known)
-      → ((end ≡ ended.WriteFault) ⊎ (end ≡ ended.Memory) → live.WroteFront step skips start known)
-      → ServedBy step skips start (status_at end) known
-  served_by known ended.Done all lines before front = all refl
-  served_by known ended.ReadFault all lines before front = lines refl
-  served_by known ended.WriteFault all lines before front = front (inl refl)
-  served_by known ended.TooLong all lines before front = before refl
-  served_by known ended.Memory all lines before front = front (inr refl)
+module _ {S : Type 0} (Answers : Answering S) (step : ℕ → S → List ℕ → List ℕ × S)
+    (is : (number : ℕ) (old : S) (line text : List ℕ) (new : S) → Answers number old line text new → (text, new) ≡ step number old line)
+    (skips : Bool) (start : S) (known : Known) where
+  wrote : (bytes : List ℕ) → live.Wrote Answers skips start known bytes → Appends known.written known.writes (output_of step skips start bytes)
+  wrote bytes h = subst (Appends known.written known.writes) (one_output Answers step is skips start bytes h.0 h.1) h.2
 
+  wrote_some : (bytes : List ℕ) → WroteSome Answers skips start known bytes → AppendsFront known.written known.writes (output_of step skips start bytes)
+  wrote_some bytes h = subst (AppendsFront known.written known.writes) (one_output Answers step is skips start bytes h.0 h.1) h.2
+
+  pub served_by : (end : Ended) → (end ≡ ended.Done → AnsweredAll Answers skips start known)
+      → (end ≡ ended.ReadFault → AnsweredLines Answers skips start known) → (end ≡ ended.TooLong → AnsweredBefore Answers skips start known)
+      → ((end ≡ ended.WriteFault) ⊎ (end ≡ ended.Memory) → AnsweredSome Answers skips start known)
+      → ServedBy step skips start (status_at end) known
+  served_by ended.Done all lines before front = all_so skips known _ _ wrote (all refl)
+  served_by ended.ReadFault all lines before front = lines_so skips known _ _ wrote (lines refl)
+  served_by ended.WriteFault all lines before front = some_so skips known _ _ wrote_some (front (inl refl))
+  served_by ended.TooLong all lines before front = before_so skips known _ _ wrote (before refl)
+  served_by ended.Memory all lines before front = some_so skips known _ _ wrote_some (front (inr refl))
+
+module _ {S : Type 0} (step : ℕ → S → List ℕ → List ℕ × S) (skips : Bool) (start : S) where
   -- the output of all that was left is written
   all_written : (known : Known) → WroteAll step skips start known
       → (input : List ℕ) × IfSome known.left (λ told. input ≡ told) × Appends known.written known.writes (output_of step skips start input)

@@ -8,7 +8,7 @@ ghost use Rattle.live_lines.specs.Serving.{IsInputWithin};
 ghost use Rattle.exchange_program.specs.Live.{ServedAt, ServedBy, served_output, skips_mark, status_at};
 
 use crate::status::Status;
-use live_lines::{Ended, LineAnswers};
+use live_lines::{Ended, LineSteps};
 use port_io::{Sink, Source};
 use program_words::Served;
 use proposal_lines::ProposalLines;
@@ -29,7 +29,7 @@ pub(crate) fn status_at(end: Ended) -> Status
 }
 
 // Answers all that is left, by one way.
-fn answer_by<A: LineAnswers + Drop, S: Source, K: Sink>(
+fn answer_by<A: LineSteps + Drop, S: Source, K: Sink>(
     alloc: Global,
     answers: A,
     skips: bool,

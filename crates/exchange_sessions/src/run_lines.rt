@@ -3,9 +3,10 @@ ghost use Rattle.std.specs.Prelude.{◌≡◌, ◌<◌, ◌==◌, ◌≤◌, fal
 ghost use Rattle.std.specs.List.{list_any};
 ghost use Rattle.exchange_core.specs.ExchangeState.{empty_exchange};
 ghost use Rattle.exchange_lines.specs.Output.{line_output};
+ghost use Rattle.live_lines.specs.Answering.{by_step};
 
 use exchange_core::Exchange;
-use live_lines::LineAnswers;
+use live_lines::{LineAnswers, LineSteps};
 use std::alloc::{AllocError, Global};
 use std::marker::Model;
 
@@ -35,11 +36,17 @@ impl RunLines {
 }
 
 impl LineAnswers for RunLines {
-    ghost step = { line_output };
+    ghost answers = { by_step line_output };
 
     fn answer(&mut self, alloc: Global, number: u32, line: &[u8]) -> Result<Vec<u8>, AllocError> {
         exchange_lines::answer(alloc, &mut self.exchange, number, line)
     }
 
-    ghost goes_on = { λ _ _ _. (tt, λ _. tt) };
+    ghost goes_on = { λ _ _ _. (tt, λ _ _ _ _. tt) };
+}
+
+impl LineSteps for RunLines {
+    ghost step = { line_output };
+
+    ghost steps = { λ _ _ _ _ _. (λ is. is, λ is. is) };
 }

@@ -7,5 +7,6 @@ pub mod Pieces
 pub mod Places
 pub mod Serves
 pub mod Standing
+pub mod Steps
 pub mod Takes
 pub mod Within

@@ -4,20 +4,21 @@ use Rattle.std.proofs.KnownBytes.{Appends-nil, Appends-trans, Consumes-kept, Con
 use Rattle.std.specs.Io.KnownBytes.{Appends, Consumes, IsAtEnd, Keeps}
 use Rattle.std.specs.Prelude.{IsSomeAnd}
 use Rattle.port_io.specs.Faults.{Rose, last_count, raised_by}
-use Rattle.port_io.specs.Writes.{AppendsFront}
 use Rattle.command_text.specs.Fields.{begins_with_mark}
 use Rattle.command_text.specs.Lines.{mark_size}
+use Rattle.command_text.proofs.LineParts.{cut}
+use Rattle.live_lines.specs.Answering.{Answering, IsLastAnswer, IsOutput}
 use Rattle.live_lines.specs.Ended.{ended_by}
 use Rattle.live_lines.specs.Open.{Open, count_limit, line_limit, new_open, unmarked}
-use Rattle.live_lines.specs.Output.{last_answer, output_of}
-use Rattle.live_lines.specs.Serving.{Came, Counts, Ends, IsInputWithin, IsOver, Known, TellsTooLong, TookAll, TurnsTo, WroteBefore, WroteFront, WroteSome, piece_limit}
+use Rattle.live_lines.specs.Serving.{AnsweredBefore, AnsweredLines, AnsweredSome, BeganSome, Came, Counts, Ends, IsInputWithin, IsOver, Known, OfAll, OfBefore, OfLines, OfSome, TellsTooLong, TookAll, TurnsTo, Wrote, WroteFirst, piece_limit}
 use Rattle.live_lines.specs.Taken.{AreWithin, IsOpenWithin, Took, with_feeds}
 use Rattle.live_lines.specs.declared.ended.Ended.{Ended}
 use Rattle.live_lines.specs.declared.ended.Ended.TheVariants as ended
 use Rattle.live_lines.specs.declared.stop.LiveStop.{LiveStop}
 use Rattle.live_lines.specs.declared.stop.LiveStop.TheVariants.{WriteFault, TooLong, Memory}
-use Rattle.live_lines.proofs.Fronts.{front_behind, front_longer}
-use Rattle.live_lines.proofs.Outputs.{lines_alone, lines_begin, lines_written, whole_output}
+use Rattle.live_lines.proofs.Cuts.{cut_lines}
+use Rattle.live_lines.proofs.Fronts.{front_behind, whole_front}
+use Rattle.live_lines.proofs.Outputs.{alone_lines, lines_alone, lines_written, whole_output}
 use Rattle.live_lines.proofs.Takes.{completes_more, stops_more, took_more, took_none}
 use Rattle.live_lines.proofs.Within.{more_than_limit, tells_none, took_within}
 
@@ -43,9 +44,9 @@ taken_whole (Some xs) (Some ys) None bytes gave kept at_end = absurd kept
 taken_whole (Some xs) (Some ys) (Some zs) bytes gave kept at_end =
     (sym (gave ∙ ap (λ l. bytes ++ l) at_end ∙ append-nil bytes), ap (λ (l : List ℕ). Some l) (kept ∙ at_end))
 
-of_whole : (left : Option (List ℕ)) (bytes : List ℕ) (Q : Type 0) (P : List ℕ → Type 0) → IfSome left (λ input. (bytes ≡ input) × Q) → P bytes → IfSome left P
+of_whole : (left : Option (List ℕ)) (bytes : List ℕ) (Q : Type 0) (P : List ℕ → Type 0) → IfSome left (λ input. (bytes ≡ input) × Q) → (Q → P bytes) → IfSome left P
 of_whole None bytes Q P all p = tt
-of_whole (Some input) bytes Q P all p = subst P all.0 p
+of_whole (Some input) bytes Q P all p = subst P all.0 (p all.1)
 
 pub open_within : (skips : Bool) → IsOpenWithin (new_open skips)
 open_within true = (refl, omega arith, λ lt. absurd (omega arith))
@@ -61,56 +62,57 @@ counted_more taken takes now a b p q = omega (arith, p, q)
 counted_less : (taken now a b : ℕ) → a ≤ b → now ≡ raised_by taken b → raised_by taken a ≤ now
 counted_less taken now a b le is = omega (arith, le, is)
 
-module _ {S : Type 0} (step : ℕ → S → List ℕ → List ℕ × S) where
+module _ {S : Type 0} (Answers : Answering S) where
   pub came_none : (state : S) (line : Open) (left written : Option (List ℕ)) (read write taken : ℕ) → IsOpenWithin line → taken ≤ last_count
-      → Came step state line state line (known_of left left written written) (counts_of read read write write taken taken)
+      → Came Answers state line state line (known_of left left written written) (counts_of read read write write taken taken)
   came_none state line left written read write taken within low = record {
     bytes = [];
     text = [];
     gave = Consumes-nil left;
     counted = counted_none taken low;
     wrote = Appends-nil written;
-    took = took_none step line.skips state line refl within;
+    took = took_none Answers line.skips state line refl within;
     read_calm = refl;
     write_calm = refl;
   }
 
   module _ (old state : S) (first line : Open) (left still written writes : Option (List ℕ)) (read reads write writers taken takes : ℕ)
-      (came : Came step old first state line (known_of left still written writes) (counts_of read reads write writers taken takes)) where
+      (came : Came Answers old first state line (known_of left still written writes) (counts_of read reads write writers taken takes)) where
     pub came_more : (after : S) (next : Open) (stays adds : Option (List ℕ)) (r w t : ℕ)
-        → Came step state line after next (known_of still stays writes adds) (counts_of reads r writers w takes t)
-        → Came step old first after next (known_of left stays written adds) (counts_of read r write w taken t)
+        → Came Answers state line after next (known_of still stays writes adds) (counts_of reads r writers w takes t)
+        → Came Answers old first after next (known_of left stays written adds) (counts_of read r write w taken t)
     came_more after next stays adds r w t more = record {
       bytes = came.bytes ++ more.bytes;
       text = came.text ++ more.text;
       gave = Consumes-trans left still stays came.bytes more.bytes came.gave more.gave;
       counted = counted_more taken takes t (length came.bytes) (length more.bytes) came.counted more.counted ∙ ap (raised_by taken) (sym (length-append came.bytes more.bytes));
       wrote = Appends-trans written writes adds came.text more.text came.wrote more.wrote;
-      took = took_more step old state after first line next came.bytes more.bytes came.text more.text came.took more.took;
+      took = took_more Answers old state first line came.bytes came.text came.took more.bytes more.text after next more.took;
       read_calm = more.read_calm ∙ came.read_calm;
       write_calm = more.write_calm ∙ came.write_calm;
     }
 
 -- ---- how a turn ends
-module _ {S : Type 0} (step : ℕ → S → List ℕ → List ℕ × S) (skips : Bool) (start state : S) (line : Open) (left still written writes : Option (List ℕ))
-    (read reads write writers taken takes : ℕ) (came : Came step start (new_open skips) state line (known_of left still written writes) (counts_of read reads write writers taken takes)) where
+module _ {S : Type 0} (Answers : Answering S) (skips : Bool) (start state : S) (line : Open) (left still written writes : Option (List ℕ))
+    (read reads write writers taken takes : ℕ) (came : Came Answers start (new_open skips) state line (known_of left still written writes) (counts_of read reads write writers taken takes)) where
   long_after : (stays adds : Option (List ℕ)) (r w t limit : ℕ) → limit ≤ piece_limit
-      → TellsTooLong step state line limit (known_of still stays writes adds) (counts_of reads r writers w takes t)
-      → WroteBefore step skips start (known_of left stays written adds) × (raised_by taken (line_limit + 1) ≤ t)
+      → TellsTooLong Answers state line limit (known_of still stays writes adds) (counts_of reads r writers w takes t)
+      → AnsweredBefore Answers skips start (known_of left stays written adds) × (raised_by taken (line_limit + 1) ≤ t)
   long_after stays adds r w t limit low told =
       let piece = told.0 in
-      let all = stops_more step start state (new_open skips) line came.bytes piece came.text told.1 came.took told.6 in
-      let text = all.answers ∙ sym (lines_alone step skips start all.lines all.within) in
-      let many = more_than_limit skips all.lines all.rest all.too_long in
+      let stops = stops_more Answers start state (new_open skips) line came.bytes came.text came.took piece told.1 told.6 in
+      let all = stops.0 in
+      let text = came.text ++ told.1 in
+      let many = more_than_limit skips all.lines all.rest stops.1 in
       let now = counted_more taken takes t (length came.bytes) (length piece) came.counted told.4 in (
         (
           all.lines,
           all.rest,
           subst (Consumes left stays) all.split (Consumes-trans left still stays came.bytes piece came.gave told.2),
           all.within,
-          all.too_long,
-          subst (Appends written adds) text (Appends-trans written writes adds came.text told.1 came.wrote told.5),
-          (came.bytes, piece, sym all.split, omega (arith, told.3, low), took_within step skips start state line came.bytes came.text came.took),
+          stops.1,
+          (text, lines_alone Answers skips start all.lines text all.after all.within all.answers, Appends-trans written writes adds came.text told.1 came.wrote told.5),
+          (came.bytes, piece, sym all.split, omega (arith, told.3, low), took_within Answers skips start state line came.bytes came.text came.took),
         ),
         counted_less taken t (line_limit + 1) (length came.bytes + length piece) (omega (arith, many, ap length all.split, length-append came.bytes piece)) now,
       )
@@ -119,63 +121,74 @@ module _ {S : Type 0} (step : ℕ → S → List ℕ → List ℕ × S) (skips :
   all_taken : (stays adds : Option (List ℕ)) → IsOver (known_of still stays writes adds) → TookAll (known_of left stays written adds) came.bytes
   all_taken stays adds over = (Consumes-kept left still stays came.bytes came.gave over.0, taken_whole left still stays came.bytes came.gave over.0 over.1)
 
-  -- behind what was written comes the last answer
-  whole : came.text ++ last_answer step state line ≡ output_of step skips start came.bytes
-  whole = whole_output step skips start state line came.bytes came.text came.took
+  -- behind what was written comes a last answer
+  whole : (last : List ℕ) → IsLastAnswer Answers state line last → IsOutput Answers skips start came.bytes (came.text ++ last)
+  whole last left = whole_output Answers skips start state line came.bytes came.text last came.took left
 
-  front_after : (stays adds : Option (List ℕ)) → WroteSome step state line (known_of still stays writes adds)
-      → WroteFront step skips start (known_of left stays written adds)
+  -- nothing more is written
+  lines_after : (stays adds : Option (List ℕ)) → Keeps still stays → adds ≡ writes → AnsweredLines Answers skips start (known_of left stays written adds)
+  lines_after stays adds kept same = (
+    came.took.lines,
+    line.rest,
+    subst (Consumes left stays) came.took.split (Consumes-kept left still stays came.bytes came.gave kept),
+    came.took.within,
+    came.took.open_within.0,
+    (
+      came.text,
+      lines_written Answers skips start state line came.bytes came.text came.took,
+      subst (λ now. Appends written now came.text) (sym same) came.wrote,
+    ),
+  )
+
+  front_after : (stays adds : Option (List ℕ)) → BeganSome Answers state line (known_of still stays writes adds)
+      → AnsweredSome Answers skips start (known_of left stays written adds)
   front_after stays adds some = elim some [
     | inl lines ↦
-        let all = completes_more step start state (new_open skips) line came.bytes lines.0 came.text lines.1 came.took lines.4 in
-        let text = all.answers ∙ sym (lines_alone step skips start all.lines all.within) in
+        let all = completes_more Answers start state (new_open skips) line came.bytes came.text came.took lines.0 lines.1 lines.4 in
+        let text = came.text ++ lines.1 in
         inl (
           all.lines,
           all.rest,
           subst (Consumes left stays) all.split (Consumes-trans left still stays came.bytes lines.0 came.gave lines.2),
           all.within,
-          subst (AppendsFront written adds) text (front_behind written writes adds came.text lines.1 came.wrote lines.3),
+          (text, lines_alone Answers skips start all.lines text all.after all.within all.answers, front_behind written writes adds came.text lines.1 came.wrote lines.3),
         )
-    | inr last ↦ inr (
-      came.bytes,
-      all_taken stays adds last.0,
-      subst (AppendsFront written adds) whole (front_behind written writes adds came.text (last_answer step state line) came.wrote last.1),
-    )
+    | inr over ↦ elim over.1 [
+      | inl same ↦
+          let lines = lines_after stays adds over.0.0 same in
+          inl (lines.0, lines.1, lines.2, lines.3, (lines.5.0, lines.5.1, whole_front written adds lines.5.0 lines.5.2))
+      | inr last ↦ inr (
+        came.bytes,
+        all_taken stays adds over.0,
+        (came.text ++ last.0, whole last.0 last.1, front_behind written writes adds came.text last.0 came.wrote last.2),
+      )
+    ]
   ]
 
   pub ends_after : (after : S) (next : Open) (stays adds : Option (List ℕ)) (r w t limit : ℕ) (e : Ended) → limit ≤ piece_limit
-      → TurnsTo step state line after next limit (known_of still stays writes adds) (counts_of reads r writers w takes t) (Some e)
-      → Ends step skips start (known_of left stays written adds) (counts_of read r write w taken t) e
-  ends_after after next stays adds r w t limit ended.Done low turn = (
-    came.bytes,
-    all_taken stays adds turn.0,
-    took_within step skips start state line came.bytes came.text came.took,
-    subst (Appends written adds) whole (Appends-trans written writes adds came.text (last_answer step state line) came.wrote turn.1),
-  )
-  ends_after after next stays adds r w t limit ended.ReadFault low turn = (
-    (
-      came.took.lines,
-      line.rest,
-      subst (Consumes left stays) came.took.split (Consumes-kept left still stays came.bytes came.gave turn.0),
-      came.took.within,
-      came.took.open_within.0,
-      subst (Appends written adds) (lines_written step skips start state line came.bytes came.text came.took) (subst (λ now. Appends written now came.text) (sym turn.1) came.wrote),
-    ),
-    subst (λ n. Rose n r) came.read_calm turn.2,
-  )
+      → TurnsTo Answers state line after next limit (known_of still stays writes adds) (counts_of reads r writers w takes t) (Some e)
+      → Ends Answers skips start (known_of left stays written adds) (counts_of read r write w taken t) e
+  ends_after after next stays adds r w t limit ended.Done low turn =
+      let last = turn.1 in (
+        came.bytes,
+        all_taken stays adds turn.0,
+        took_within Answers skips start state line came.bytes came.text came.took,
+        (came.text ++ last.0, whole last.0 last.1, Appends-trans written writes adds came.text last.0 came.wrote last.2),
+      )
+  ends_after after next stays adds r w t limit ended.ReadFault low turn = (lines_after stays adds turn.0 turn.1, subst (λ n. Rose n r) came.read_calm turn.2)
   ends_after after next stays adds r w t limit ended.WriteFault low turn = (front_after stays adds turn.0, subst (λ n. Rose n w) came.write_calm turn.1)
   ends_after after next stays adds r w t limit ended.TooLong low turn =
       let long = long_after stays adds r w t limit low turn.0 in (long.0, turn.1 ∙ came.read_calm, long.1)
   ends_after after next stays adds r w t limit ended.Memory low turn = front_after stays adds turn
 
 -- ---- which end a stop makes
-pub turn_stops : {S : Type 0} (step : ℕ → S → List ℕ → List ℕ × S) (old : S) (line : Open) (new : S) (next : Open) (limit : ℕ) (known : Known) (counts : Counts) (stop : LiveStop)
-    → WroteSome step old line known → (stop ≡ WriteFault → Rose counts.write counts.writes)
-    → (stop ≡ TooLong → TellsTooLong step old line limit known counts × (counts.reads ≡ counts.read))
-    → TurnsTo step old line new next limit known counts (Some (ended_by stop))
-turn_stops step old line new next limit known counts WriteFault some rose long = (some, rose refl)
-turn_stops step old line new next limit known counts TooLong some rose long = long refl
-turn_stops step old line new next limit known counts Memory some rose long = some
+pub turn_stops : {S : Type 0} (Answers : Answering S) (old : S) (line : Open) (new : S) (next : Open) (limit : ℕ) (known : Known) (counts : Counts) (stop : LiveStop)
+    → BeganSome Answers old line known → (stop ≡ WriteFault → Rose counts.write counts.writes)
+    → (stop ≡ TooLong → TellsTooLong Answers old line limit known counts × (counts.reads ≡ counts.read))
+    → TurnsTo Answers old line new next limit known counts (Some (ended_by stop))
+turn_stops Answers old line new next limit known counts WriteFault some rose long = (some, rose refl)
+turn_stops Answers old line new next limit known counts TooLong some rose long = long refl
+turn_stops Answers old line new next limit known counts Memory some rose long = some
 
 -- ---- each piece makes the rest smaller
 size_if : (b : Bool) (n : ℕ) (line : List ℕ) → n ≤ 3 → length line ≤ length (if b then drop n line else line) + 3
@@ -206,65 +219,89 @@ falls : (number next lines rest size bytes : ℕ) → next ≡ number + lines �
 falls number next zero rest size bytes is few low within some g = let e : size ≡ rest + bytes = g refl in omega arith
 falls number next (suc lines) rest size bytes is few low within some g = omega arith
 
-pub smaller : {S : Type 0} (step : ℕ → S → List ℕ → List ℕ × S) (start state after : S) (skips : Bool) (line next : Open) (before told bytes tells : List ℕ)
-    → Took step start (new_open skips) state line before told → Took step state line after next bytes tells → 1 ≤ length bytes
+pub smaller : {S : Type 0} (Answers : Answering S) (start state after : S) (skips : Bool) (line next : Open) (before told bytes tells : List ℕ)
+    → Took Answers start (new_open skips) state line before told → Took Answers state line after next bytes tells → 1 ≤ length bytes
     → 16777220 * (16777218 - next.number) + (16777220 - length next.rest) < 16777220 * (16777218 - line.number) + (16777220 - length line.rest)
-smaller step start state after skips line next before told bytes tells p q some =
-    let all = took_more step start state after (new_open skips) line next before bytes told tells p q in
+smaller Answers start state after skips line next before told bytes tells p q some =
+    let all = took_more Answers start state (new_open skips) line before told p bytes tells after next q in
     let few : next.number ≤ 16777217 = omega (arith, all.count, count_within skips 1 all.lines all.within (omega arith)) in
     falls line.number next.number (length q.lines) (length line.rest) (length next.rest) (length bytes) q.count few
     (omega (arith, bare_size line.skips line.number line.rest, p.open_within.1)) (omega (arith, bare_size next.skips next.number next.rest, q.open_within.1)) some
     (grows q.lines line.rest bytes next.rest q.split)
 
 -- ---- an input within the limits tells no line that is too long
-past_limits : {S : Type 0} (step : ℕ → S → List ℕ → List ℕ × S) (skips : Bool) (start : S) (left still written writes : Option (List ℕ))
-    → WroteBefore step skips start (known_of left still written writes)
-    → IfSome left (λ input. ¬ (IsInputWithin skips input))
-past_limits step skips start None still written writes h = tt
-past_limits step skips start (Some xs) None written writes h = absurd h.2
-past_limits step skips start (Some xs) (Some ys) written writes h =
-    λ within. tells_none skips h.0 h.1 ys h.3 h.4 (subst (IsInputWithin skips) (h.2 ∙ append_assoc (with_feeds h.0) h.1 ys) within)
+module _ (skips : Bool) where
+  pub past_limits : (left still written writes : Option (List ℕ)) (Said : List ℕ → Type 0) → OfBefore skips (known_of left still written writes) Said
+      → IfSome left (λ input. ¬ (IsInputWithin skips input))
+  past_limits None still written writes Said h = tt
+  past_limits (Some xs) None written writes Said h = absurd h.2
+  past_limits (Some xs) (Some ys) written writes Said h =
+      λ within. tells_none skips h.0 h.1 ys h.3 h.4 (subst (IsInputWithin skips) (h.2 ∙ append_assoc (with_feeds h.0) h.1 ys) within)
 
 not_within : (left : Option (List ℕ)) (P : List ℕ → Type 0) → IfSome left (λ input. ¬ (P input)) → IsSomeAnd left P → ⊥
 not_within None P none some = some
 not_within (Some input) P none some = none some
 
+-- ---- what is said of the bytes
+-- by what it implies
+module _ (skips : Bool) (known : Known) (P Q : List ℕ → Type 0) (implies : (bytes : List ℕ) → P bytes → Q bytes) where
+  pub all_so : OfAll skips known P → OfAll skips known Q
+  all_so h = (h.0, h.1, h.2, implies h.0 h.3)
+
+  pub lines_so : OfLines skips known P → OfLines skips known Q
+  lines_so h = (h.0, h.1, h.2, h.3, h.4, implies (with_feeds h.0) h.5)
+
+  pub before_so : OfBefore skips known P → OfBefore skips known Q
+  before_so h = (h.0, h.1, h.2, h.3, h.4, implies (with_feeds h.0) h.5, h.6)
+
+  pub some_so : OfSome skips known P → OfSome skips known Q
+  some_so h = elim h [
+    | inl lines ↦ inl (lines.0, lines.1, lines.2, lines.3, implies (with_feeds lines.0) lines.4)
+    | inr all ↦ inr (all.0, all.1, implies all.0 all.2)
+  ]
+
+-- of all that was left
+pub said_of_all : (skips : Bool) (known : Known) (P : List ℕ → Type 0) → OfAll skips known P → IfSome known.left (λ input. (known.still ≡ Some []) × P input)
+said_of_all skips known P h = of_whole known.left h.0 (known.still ≡ Some []) (λ input. (known.still ≡ Some []) × P input) h.1.1 (λ none. (none, h.3))
+
 -- ---- what the ends say
-module _ {S : Type 0} (step : ℕ → S → List ℕ → List ℕ × S) (skips : Bool) (start : S) (known : Known) (counts : Counts) where
+module _ {S : Type 0} (Answers : Answering S) (skips : Bool) (start : S) (known : Known) (counts : Counts) where
   -- from the line and the answers that stand at the start
   pub ends_from : (line : Open) (answers : S) (e : Ended) → line ≡ new_open skips → answers ≡ start
-      → Ends step line.skips answers known counts e → Ends step skips start known counts e
-  ends_from line answers e is same h = subst (λ a. Ends step skips a known counts e) same (subst (λ (l : Open). Ends step l.skips answers known counts e) is h)
+      → Ends Answers line.skips answers known counts e → Ends Answers skips start known counts e
+  ends_from line answers e is same h = subst (λ a. Ends Answers skips a known counts e) same (subst (λ (l : Open). Ends Answers l.skips answers known counts e) is h)
 
-  pub front : (e : Ended) → Ends step skips start known counts e → (e ≡ ended.WriteFault) ⊎ (e ≡ ended.Memory)
-      → WroteFront step skips start known
-  front e h which =
-      let EndsAs : Ended → Type 0 = λ x. Ends step skips start known counts x in
-      elim which [
-        | inl is ↦ (subst EndsAs is h).0
-        | inr is ↦ subst EndsAs is h
-      ]
+  module _ (e : Ended) (h : Ends Answers skips start known counts e) where
+    pub all : e ≡ ended.Done → IfSome known.left (λ input. (known.still ≡ Some []) × Wrote Answers skips start known input)
+    all is = said_of_all skips known (Wrote Answers skips start known) (subst (Ends Answers skips start known counts) is h)
 
-  -- it is a front of the output of all bytes that were left
-  pub front_of_all : (e : Ended) → Ends step skips start known counts e → (e ≡ ended.WriteFault) ⊎ (e ≡ ended.Memory)
-      → IfSome known.left (λ input. AppendsFront known.written known.writes (output_of step skips start input))
-  front_of_all e h which =
-      let Is : List ℕ → Type 0 = λ input. AppendsFront known.written known.writes (output_of step skips start input) in
-      elim (front e h which) [
-        | inl some ↦ of_more known.left known.still (with_feeds some.0 ++ some.1) Is some.2 (λ more.
-            let on = lines_begin step skips start some.0 (some.1 ++ more) some.3 in
-            subst Is (sym (append_assoc (with_feeds some.0) some.1 more)) (front_longer known.written known.writes _ _ on.0 some.4 on.1))
-        | inr all ↦ of_whole known.left all.0 (known.still ≡ Some []) Is all.1.1 all.2
-      ]
+    pub front : (e ≡ ended.WriteFault) ⊎ (e ≡ ended.Memory) → AnsweredSome Answers skips start known
+    front which = elim which [
+      | inl is ↦ (subst (Ends Answers skips start known counts) is h).0
+      | inr is ↦ subst (Ends Answers skips start known counts) is h
+    ]
 
-  pub past : (e : Ended) → Ends step skips start known counts e → e ≡ ended.TooLong → IfSome known.left (λ input. ¬ (IsInputWithin skips input))
-  past e h is = past_limits step skips start known.left known.still known.written known.writes (subst (λ x. Ends step skips start known counts x) is h).0
+    -- it is a front of what is written for the first lines of all bytes that were left
+    pub front_of_all : (e ≡ ended.WriteFault) ⊎ (e ≡ ended.Memory) → IfSome known.left (WroteFirst Answers skips start known)
+    front_of_all which = elim (front which) [
+      | inl some ↦ of_more known.left known.still (with_feeds some.0 ++ some.1) (WroteFirst Answers skips start known) some.2 (λ more.
+          let wrote = some.4 in
+          let lines = alone_lines Answers skips start some.0 wrote.0 some.3 wrote.1 in
+          let parts = ap cut (append_assoc (with_feeds some.0) some.1 more) ∙ cut_lines skips 1 some.0 (some.1 ++ more) some.3 in
+          (wrote.0, (some.0, cut (some.1 ++ more), lines.0, parts, lines.1), wrote.2))
+      | inr all ↦ of_whole known.left all.0 (known.still ≡ Some []) (WroteFirst Answers skips start known) all.1.1
+          (λ none. (all.2.0, (cut all.0, [], all.2.1.0, sym (append-nil (cut all.0)), all.2.1.1), all.2.2))
+    ]
+
+    pub past : e ≡ ended.TooLong → IfSome known.left (λ input. ¬ (IsInputWithin skips input))
+    past is = past_limits skips known.left known.still known.written known.writes (Wrote Answers skips start known) (subst (Ends Answers skips start known counts) is h).0
 
   -- within the limits, and without a fault
-  pub complete : (e : Ended) → Ends step skips start known counts e → IsSomeAnd known.left (IsInputWithin skips) → ¬ (Rose counts.read counts.reads)
+  pub complete : (e : Ended) → Ends Answers skips start known counts e → IsSomeAnd known.left (IsInputWithin skips) → ¬ (Rose counts.read counts.reads)
       → ¬ (Rose counts.write counts.writes) → (e ≡ ended.Done) ⊎ (e ≡ ended.Memory)
   complete ended.Done h within r w = inl refl
   complete ended.ReadFault h within r w = absurd (r h.1)
   complete ended.WriteFault h within r w = absurd (w h.1)
-  complete ended.TooLong h within r w = absurd (not_within known.left (IsInputWithin skips) (past_limits step skips start known.left known.still known.written known.writes h.0) within)
+  complete ended.TooLong h within r w =
+      absurd (not_within known.left (IsInputWithin skips) (past_limits skips known.left known.still known.written known.writes (Wrote Answers skips start known) h.0) within)
   complete ended.Memory h within r w = inr refl

@@ -4,6 +4,7 @@ use Rattle.std.proofs.lemmas.Bool.{cases_Bool}
 use Rattle.std.specs.Prelude.{nat_eq}
 use Rattle.command_text.specs.Lines.{mark_size, without_last_empty}
 use Rattle.command_text.proofs.LineParts.{cut, cut_feed, cut_other, cut_parts}
+use Rattle.live_lines.specs.Answering.{Answering}
 use Rattle.live_lines.specs.Open.{FitsLine, IsOneLine, Open, count_limit, line_limit, new_open}
 use Rattle.live_lines.specs.Serving.{IsInputWithin}
 use Rattle.live_lines.specs.Taken.{AreWithin, IsTooLong, Took, with_feeds}
@@ -100,9 +101,9 @@ last_within : (skips : Bool) (number : ℕ) (rest : List ℕ) → IsOneLine rest
 last_within skips number [] one fits few = tt
 last_within skips number (b ∷ rest) one fits few = (few (omega arith), one, fits, tt)
 
-pub took_within : {S : Type 0} (step : ℕ → S → List ℕ → List ℕ × S) (skips : Bool) (start state : S) (line : Open) (bytes text : List ℕ)
-    → Took step start (new_open skips) state line bytes text → IsInputWithin skips bytes
-took_within step skips start state line bytes text h =
+pub took_within : {S : Type 0} (Answers : Answering S) (skips : Bool) (start state : S) (line : Open) (bytes text : List ℕ)
+    → Took Answers start (new_open skips) state line bytes text → IsInputWithin skips bytes
+took_within Answers skips start state line bytes text h =
     let number = 1 + length h.lines in
     let fits = subst (λ n. FitsLine skips n line.rest) h.count (subst (λ s. FitsLine s line.number line.rest) h.same h.open_within.1) in
     let last = last_within skips number line.rest h.open_within.0 fits (λ some. omega (arith, h.count, h.open_within.2 some)) in

@@ -3,9 +3,8 @@ ghost use Rattle.std.specs.Prelude.{◌≡◌, ◌≤◌, ◌<◌, ◌++◌, ℕ
 ghost use Rattle.std.specs.Io.KnownBytes.{Appends};
 ghost use Rattle.port_io.specs.Faults.{Rose};
 ghost use Rattle.port_io.specs.Writes.{AppendsFront};
-ghost use Rattle.live_lines.specs.Open.{IsOneLine, count_limit, line_text};
-ghost use Rattle.live_lines.specs.Output.{answer_to};
-ghost use Rattle.live_lines.specs.Turns.{Turned};
+ghost use Rattle.live_lines.specs.Open.{IsOneLine, count_limit};
+ghost use Rattle.live_lines.specs.Turns.{AddsAnswer, Turned};
 
 use crate::answers::LineAnswers;
 use crate::open_line::{MAX_LINES, OpenLine};
@@ -25,12 +24,8 @@ pub(crate) fn add_answer<A: LineAnswers>(
 ) -> Result<(), AllocError>
     requires few { 0 < length line.now.rest → line.now.number ≤ count_limit }
     requires next { A.stands line.now.number answers.old }
-    ensures text { OnOk result (replies.new.items ≡ replies.old.items
-        ++ (answer_to A.step line.now.number answers.old
-        (line_text line.now.skips line.now.number line.now.rest)).0) }
-    ensures state { OnOk result (answers.new
-        ≡ (answer_to A.step line.now.number answers.old
-        (line_text line.now.skips line.now.number line.now.rest)).1) }
+    ensures { OnOk result (AddsAnswer A.answers answers.old line.now answers.new replies.old.items
+        replies.new.items) }
 {
     let text = line.text();
     if text.is_empty() {
@@ -52,7 +47,7 @@ pub(crate) fn take_line<A: LineAnswers>(
     requires some { 0 < length bytes.now }
     requires one_line { IsOneLine line.old.rest }
     requires next { A.stands line.old.number answers.old }
-    ensures { IfOk result (λ used. Turned A.step answers.old line.old answers.new line.new
+    ensures { IfOk result (λ used. Turned A.answers answers.old line.old answers.new line.new
         bytes.now replies.old.items replies.new.items used) }
 {
     if line.number() > MAX_LINES {

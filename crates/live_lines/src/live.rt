@@ -4,8 +4,8 @@ ghost use Rattle.std.specs.Io.KnownBytes.{Appends};
 ghost use Rattle.port_io.specs.Faults.{Rose};
 ghost use Rattle.port_io.specs.Writes.{AppendsFront};
 ghost use Rattle.live_lines.specs.Open.{new_open};
-ghost use Rattle.live_lines.specs.Output.{last_answer};
 ghost use Rattle.live_lines.specs.Taken.{Completes, IsOpenWithin, Stops, Took};
+ghost use Rattle.live_lines.specs.Turns.{BeganLast, WroteLast};
 
 use crate::answering::{add_answer, take_line, write_full};
 use crate::answers::LineAnswers;
@@ -47,18 +47,18 @@ impl<A: LineAnswers> Live<A> {
         requires next { A.stands self.old.line.number self.old.answers }
         ensures ok { OnOk result ((text : List ℕ)
             × Appends (K.written sink.old) (K.written sink.new) text
-            × Took A.step self.old.answers self.old.line self.new.answers self.new.line
+            × Took A.answers self.old.answers self.old.line self.new.answers self.new.line
             piece.now text) }
         ensures calm { OnOk result (K.faults sink.new ≡ K.faults sink.old) }
 
         ensures too_long { IsErrOf result LiveStop.TooLong → (text : List ℕ)
             × Appends (K.written sink.old) (K.written sink.new) text
-            × Stops A.step self.old.answers self.old.line piece.now text }
+            × Stops A.answers self.old.answers self.old.line piece.now text }
         ensures fault { IsErrOf result LiveStop.WriteFault →
             Rose (K.faults sink.old) (K.faults sink.new) }
         ensures front { OnErr result ((text : List ℕ)
             × AppendsFront (K.written sink.old) (K.written sink.new) text
-            × Completes A.step self.old.answers self.old.line piece.now text) }
+            × Completes A.answers self.old.answers self.old.line piece.now text) }
     {
         let mut replies = Vec::new(alloc);
         let mut start = 0;
@@ -80,15 +80,15 @@ impl<A: LineAnswers> Live<A> {
     pub fn finish<K: Sink>(&mut self, alloc: Global, sink: &mut K) -> Result<(), LiveStop>
         requires within { IsOpenWithin self.old.line }
         requires next { A.stands self.old.line.number self.old.answers }
-        ensures ok { OnOk result (Appends (K.written sink.old) (K.written sink.new)
-            (last_answer A.step self.old.answers self.old.line)) }
+        ensures ok { OnOk result (WroteLast A.answers self.old.answers self.old.line
+            (K.written sink.old) (K.written sink.new)) }
         ensures calm { OnOk result (K.faults sink.new ≡ K.faults sink.old) }
 
         ensures not_too_long { result ≢ Err LiveStop.TooLong }
         ensures fault { IsErrOf result LiveStop.WriteFault →
             Rose (K.faults sink.old) (K.faults sink.new) }
-        ensures front { OnErr result (AppendsFront (K.written sink.old) (K.written sink.new)
-            (last_answer A.step self.old.answers self.old.line)) }
+        ensures front { OnErr result (BeganLast A.answers self.old.answers self.old.line
+            (K.written sink.old) (K.written sink.new)) }
     {
         let mut reply = Vec::new(alloc);
         add_answer(alloc, &mut self.answers, &self.line, &mut reply)?;

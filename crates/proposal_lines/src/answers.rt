@@ -10,6 +10,7 @@ ghost use Rattle.form.specs.Limits.{IsWithinLimits};
 ghost use Rattle.guarded_lines.specs.Bodies.{guarded_body_of};
 ghost use Rattle.guarded_lines.specs.Within.{GuardedBodyIsWithin};
 ghost use Rattle.guarded_lines.specs.declared.bodies.GuardedBody.TheVariants as GuardedBody;
+ghost use Rattle.live_lines.specs.Answering.{by_step};
 ghost use Rattle.order_book.specs.Book.{batch_of, market_of};
 ghost use Rattle.proposal_lines.specs.Clears.{clear_reply, clear_said};
 ghost use Rattle.proposal_lines.specs.Output.{other_line, proposing_line, unproposed_line, written_reply};
@@ -27,7 +28,7 @@ use command_text::asked::Fault;
 use exchange_core::Exchange;
 use form::Batch;
 use guarded_lines::{GuardedBody, guarded_body_of};
-use live_lines::LineAnswers;
+use live_lines::{LineAnswers, LineSteps};
 use std::alloc::{AllocError, Global};
 use std::marker::Model;
 
@@ -260,7 +261,7 @@ impl ProposalLines {
 }
 
 impl LineAnswers for ProposalLines {
-    ghost step = { proposing_line };
+    ghost answers = { by_step proposing_line };
 
     fn answer(&mut self, alloc: Global, number: u32, line: &[u8]) -> Result<Vec<u8>, AllocError> {
         match after_word(line) {
@@ -269,5 +270,11 @@ impl LineAnswers for ProposalLines {
         }
     }
 
-    ghost goes_on = { λ _ _ _. (tt, λ _. tt) };
+    ghost goes_on = { λ _ _ _. (tt, λ _ _ _ _. tt) };
+}
+
+impl LineSteps for ProposalLines {
+    ghost step = { proposing_line };
+
+    ghost steps = { λ _ _ _ _ _. (λ is. is, λ is. is) };
 }

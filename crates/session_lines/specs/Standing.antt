@@ -1,5 +1,6 @@
 -- Before a line of an input: there were fewer bodies than lines.
-use Rattle.std.proofs.Common.{◌<◌, ℕ, ◌+◌, List, Option, None, Some, arith}
+use Rattle.std.proofs.Common.{◌≡◌, ◌<◌, ◌↔◌, ℕ, ◌+◌, List, Option, None, Some, refl, sym, subst, arith}
+use Rattle.live_lines.specs.Answering.{Answering, by_step}
 use Rattle.session_gate.specs.declared.answer.Answer.{Answer}
 use Rattle.session_gate.specs.declared.answer.Answer.TheVariants.{First, Repeat, Old, Ahead, Changed, Sessions}
 use Rattle.session_gate.specs.Answers.{answer_to}
@@ -11,15 +12,19 @@ use Rattle.session_lines.specs.Sessions.{SessionsState, after_as, said_step, ses
 abbrev pub StandsBefore : {S : Type 0} → (ℕ → S → Type 0) → ℕ → SessionsState S → Type 0
 StandsBefore stands number state = (state.0.served < number) × stands (state.0.served + 1) state.1
 
-module _ {S : Type 0} (step : ℕ → S → List ℕ → List ℕ × S) (stands : ℕ → S → Type 0)
-    (on : (number : ℕ) (state : S) → stands number state → stands (number + 1) state × ((line : List ℕ) → stands (number + 1) (step number state line).1))
+module _ {S : Type 0} (Answers : Answering S) (step : ℕ → S → List ℕ → List ℕ × S)
+    (steps : (number : ℕ) (old : S) (line text : List ℕ) (new : S) → Answers number old line text new ↔ ((text, new) ≡ step number old line)) (stands : ℕ → S → Type 0)
+    (on : (number : ℕ) (state : S) → stands number state → stands (number + 1) state × ((line text : List ℕ) (new : S) → Answers number state line text new → stands (number + 1) new))
     (number : ℕ) (state : SessionsState S) (h : StandsBefore stands number state) where
   -- no body more
   none_more : StandsBefore stands (number + 1) state
   none_more = (omega (arith, h.0), h.1)
 
   behind_answer : (message : Message) (answer : Answer) → StandsBefore stands (number + 1) (after_as step answer state message)
-  behind_answer message First = (omega (arith, h.0), (on (state.0.served + 1) state.1 h.1).1 message.body)
+  behind_answer message First =
+      let number = state.0.served + 1 in
+      let now = step number state.1 message.body in
+      (omega (arith, h.0), (on number state.1 h.1).1 message.body now.0 now.1 ((steps number state.1 message.body now.0 now.1).1 refl))
   behind_answer message Repeat = none_more
   behind_answer message (Old expected) = none_more
   behind_answer message (Ahead expected) = none_more
@@ -31,5 +36,6 @@ module _ {S : Type 0} (step : ℕ → S → List ℕ → List ℕ × S) (stands 
   behind_said (Some message) = behind_answer message (answer_to state.0 message)
 
   -- behind a line, empty or answered
-  pub stands_behind : StandsBefore stands (number + 1) state × ((line : List ℕ) → StandsBefore stands (number + 1) (session_step step number state line).1)
-  stands_behind = (none_more, λ line. behind_said (message_in line))
+  pub stands_behind : StandsBefore stands (number + 1) state
+      × ((line text : List ℕ) (new : SessionsState S) → by_step (session_step step) number state line text new → StandsBefore stands (number + 1) new)
+  stands_behind = (none_more, λ line text new is. subst (λ (r : List ℕ × SessionsState S). StandsBefore stands (number + 1) r.1) (sym is) (behind_said (message_in line)))

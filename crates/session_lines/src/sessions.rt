@@ -1,6 +1,7 @@
 // The messages of sessions, each answered as a line.
 ghost use Rattle.std.specs.Prelude.{◌≡◌, ◌<◌, ◌+◌, ◌==◌, false, length, IfOk, IsTrue, OnOk, Some};
 ghost use Rattle.std.specs.List.{list_any};
+ghost use Rattle.live_lines.specs.Answering.{by_step};
 ghost use Rattle.session_gate.specs.Bodies.{is_body};
 ghost use Rattle.session_gate.specs.Gate.{IsNumber, message_of};
 ghost use Rattle.session_gate.specs.declared.limits.TheConstants.{MAX_BODIES};
@@ -11,19 +12,19 @@ ghost use Rattle.session_lines.specs.Standing.{StandsBefore, stands_behind};
 
 use crate::messages::{Sent, message};
 use crate::texts::{print_malformed, print_told};
-use live_lines::LineAnswers;
+use live_lines::{LineAnswers, LineSteps};
 use session_gate::{Answer, Gate};
 use std::alloc::{AllocError, Global};
 use std::marker::Model;
 
 /// The known sessions, and what answers the bodies of their messages, each as the next line of one input.
 #[derive(Drop)]
-pub struct SessionLines<A: LineAnswers> {
+pub struct SessionLines<A: LineSteps> {
     gate: Gate,
     bodies: A,
 }
 
-impl<A: LineAnswers> Model for SessionLines<A> {
+impl<A: LineSteps> Model for SessionLines<A> {
     ghost use Rattle.session_lines.specs.Sessions.{SessionsState};
 
     ghost Value = { SessionsState A };
@@ -50,7 +51,7 @@ pub fn kept_reply(gate: &Gate, session: u32) -> &[u8]
     }
 }
 
-impl<A: LineAnswers> SessionLines<A> {
+impl<A: LineSteps> SessionLines<A> {
     /// No session is known; what answers the bodies stands before its first line. Takes no memory.
     pub fn new(alloc: Global, bodies: A) -> Self
         ensures { result ≡ new_sessions bodies }
@@ -105,8 +106,8 @@ impl<A: LineAnswers> SessionLines<A> {
     }
 }
 
-impl<A: LineAnswers> LineAnswers for SessionLines<A> {
-    ghost step = { session_step A.step };
+impl<A: LineSteps> LineAnswers for SessionLines<A> {
+    ghost answers = { by_step (session_step A.step) };
 
     ghost stands = { StandsBefore A.stands };
 
@@ -117,5 +118,11 @@ impl<A: LineAnswers> LineAnswers for SessionLines<A> {
         }
     }
 
-    ghost goes_on = { stands_behind A.step A.stands A.goes_on };
+    ghost goes_on = { stands_behind A.answers A.step A.steps A.stands A.goes_on };
+}
+
+impl<A: LineSteps> LineSteps for SessionLines<A> {
+    ghost step = { session_step A.step };
+
+    ghost steps = { λ _ _ _ _ _. (λ is. is, λ is. is) };
 }

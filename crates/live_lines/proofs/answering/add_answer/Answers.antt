@@ -1,5 +1,6 @@
-use Rattle.std.proofs.Common.{◌≤◌, ◌<◌, length, rules, sym, subst}
+use Rattle.std.proofs.Common.{◌≡◌, ◌≤◌, ◌<◌, length, rules, sym, subst}
 use Rattle.live_lines.specs.Open.{count_limit}
+use Rattle.live_lines.proofs.Pieces.{none_added, some_added}
 use Rattle.live_lines.proofs.Standing.{some_bytes}
 use Rattle.live_lines.proofs.answering.add_answer.Goals as goal
 
@@ -12,3 +13,8 @@ answer-requires-clause-few g c =
 
 pub answer-requires-clause-next : goal.answer-requires-clause-next
 answer-requires-clause-next g c = subst (λ number. g.A.LineAnswers.stands number c.args.answers.now) (sym c.number.ensures) c.requires.next
+
+pub returns-then-is_empty : goal.returns-then-is_empty
+returns-then-is_empty g c =
+    let none : length c.text-text.result.now ≡ 0 = search rules in
+    none_added g.A.LineAnswers.answers c.args.answers.now c.args.answers.now c.args.line.now c.text-text.result.now c.text-text.ensures.text c.args.replies.now.items none

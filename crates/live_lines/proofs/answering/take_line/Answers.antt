@@ -1,7 +1,6 @@
-use Rattle.std.proofs.Common.{◌≡◌, ℕ, List, [], ◌++◌, take, drop, rules, refl, sym, ap, subst, arith, take-append-drop, append-nil, length}
+use Rattle.std.proofs.Common.{◌≡◌, ℕ, List, [], ◌++◌, take, drop, rules, sym, ap, subst, arith, take-append-drop, append-nil, length}
 use Rattle.std.proofs.lemmas.List.{take_all}
-use Rattle.live_lines.specs.Open.{FitsLine, IsOneLine, Open, line_text}
-use Rattle.live_lines.specs.Output.{answer_to}
+use Rattle.live_lines.specs.Open.{FitsLine, IsOneLine, Open}
 use Rattle.live_lines.specs.Taken.{Took}
 use Rattle.live_lines.proofs.OneLine.{front_one, whole_one, one_append, feed_taken}
 use Rattle.live_lines.proofs.Takes.{ended, kept, too_many, too_wide}
@@ -55,16 +54,16 @@ returns-in_ok-add_answer-in-Some g c =
     let end = c.in-Some.end in
     let line = c.args.line.now in
     let whole = c.add.new.self in
-    let step = g.A.LineAnswers.step in
-    let text = (answer_to step whole.number c.args.answers.now (line_text whole.skips whole.number whole.rest)).0 in
+    let Answers = g.A.LineAnswers.answers in
+    let told = c.in_ok-add_answer-in-Some.ensures in
     let one = still_one line whole (take end bytes) c.in_ok-add-in-Some.ensures c.requires.one_line (front_one _ _ c.in-Some.ensures) in
     let fits : FitsLine whole.skips whole.number whole.rest = c.if-not-fits.ensures.0 (search rules) in (
       omega arith,
       omega (arith, c.in-Some.ensures.0.high),
-      text,
-      c.in_ok-add_answer-in-Some.ensures.text,
-      subst (λ b. Took step c.args.answers.now line c.add_answer.new.answers c.end.new.self b text) (sym (feed_taken bytes end c.in-Some.ensures))
-          (ended step c.args.answers.now c.add_answer.new.answers line whole c.end.new.self (take end bytes) text c.in_ok-add-in-Some.ensures c.end.ensures (omega arith) one fits refl c.in_ok-add_answer-in-Some.ensures.state),
+      told.0,
+      told.1,
+      subst (λ b. Took Answers c.args.answers.now line c.add_answer.new.answers c.end.new.self b told.0) (sym (feed_taken bytes end c.in-Some.ensures))
+          (ended Answers c.args.answers.now c.add_answer.new.answers line whole c.end.new.self (take end bytes) told.0 c.in_ok-add-in-Some.ensures c.end.ensures (omega arith) one fits told.2),
     )
 
 pub returns-else-not-fits-2 : goal.returns-else-not-fits-2
@@ -75,11 +74,11 @@ returns-else-not-fits-2 g c =
     let one = still_one line next bytes c.in_ok-add-in-None.ensures c.requires.one_line (whole_one _ c.in-None.ensures) in
     let fits : FitsLine next.skips next.number next.rest = c.if-not-fits-2.ensures.0 (search rules) in
     let number : next.number ≡ line.number = ap (λ (l : Open). l.number) c.in_ok-add-in-None.ensures in
-    let step = g.A.LineAnswers.step in
-    let took = kept step _ line next bytes c.in_ok-add-in-None.ensures (one, fits, λ lt. omega (arith, number)) in (
+    let Answers = g.A.LineAnswers.answers in
+    let took = kept Answers _ line next bytes c.in_ok-add-in-None.ensures (one, fits, λ lt. omega (arith, number)) in (
       omega (arith, c.requires.some),
       omega arith,
       [],
       sym (append-nil _),
-      subst (λ b. Took step c.args.answers.now line c.args.answers.now next b []) (sym (take_all (length bytes) bytes (omega arith))) took,
+      subst (λ b. Took Answers c.args.answers.now line c.args.answers.now next b []) (sym (take_all (length bytes) bytes (omega arith))) took,
     )

@@ -13,15 +13,15 @@ reads-init g c =
     let sink = c.args.sink.now in
     let known = known_of (S.left source) (S.left source) (g.K.Sink.written sink) (g.K.Sink.written sink) in
     let counts = counts_of (S.faults source) (S.faults source) (g.K.Sink.faults sink) (g.K.Sink.faults sink) (S.taken source) (S.taken source) in
-    subst (λ first. Came g.A.LineAnswers.step live.answers first live.answers live.line known counts) c.requires.fresh
-    (came_none g.A.LineAnswers.step live.answers live.line _ _ _ _ _ (subst IsOpenWithin (sym c.requires.fresh) (open_within live.line.skips)) (g.met.S.Source.taken_stops source))
+    subst (λ first. Came g.A.LineAnswers.answers live.answers first live.answers live.line known counts) c.requires.fresh
+    (came_none g.A.LineAnswers.answers live.answers live.line _ _ _ _ _ (subst IsOpenWithin (sym c.requires.fresh) (open_within live.line.skips)) (g.met.S.Source.taken_stops source))
 
 pub turn-requires-clause-within : goal.turn-requires-clause-within
 turn-requires-clause-within g c = c.reads.invariant.took.open_within
 
 pub turn-requires-clause-next : goal.turn-requires-clause-next
 turn-requires-clause-next g c =
-    took_stands g.A.LineAnswers.step g.A.LineAnswers.stands g.met.A.LineAnswers.goes_on _ _ _ _ _ _ c.reads.invariant.took c.requires.first
+    took_stands g.A.LineAnswers.answers g.A.LineAnswers.stands g.met.A.LineAnswers.goes_on _ _ _ _ _ _ c.reads.invariant.took c.requires.first
 
 pub returns-in-Some : goal.returns-in-Some
 returns-in-Some g c =

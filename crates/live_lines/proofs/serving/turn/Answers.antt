@@ -31,7 +31,7 @@ returns-in-Err g c =
     let gave = c.in-Got.ensures.bytes in
     let counted = c.in-Got.ensures.count ∙ ap (raised_by (g.S.Source.taken c.args.source.now)) (sym size) in
     let cut = c.in-Err.ensures.front in
-    rw c.ended_of.ensures (turn_stops g.A.LineAnswers.step c.args.live.now.answers c.args.live.now.line c.take.new.self.answers c.take.new.self.line (length c.args.buf.now)
+    rw c.ended_of.ensures (turn_stops g.A.LineAnswers.answers c.args.live.now.answers c.args.live.now.line c.take.new.self.answers c.take.new.self.line (length c.args.buf.now)
     (known_of (g.S.Source.left c.args.source.now) (g.S.Source.left c.read.new.self) (g.K.Sink.written c.args.sink.now) (g.K.Sink.written c.take.new.sink))
     (counts_of (g.S.Source.faults c.args.source.now) (g.S.Source.faults c.read.new.self) (g.K.Sink.faults c.args.sink.now) (g.K.Sink.faults c.take.new.sink) (g.S.Source.taken c.args.source.now) (g.S.Source.taken c.read.new.self))
     c.in-Err.stop
@@ -41,7 +41,7 @@ returns-in-Err g c =
 
 pub returns-in-Err-finish : goal.returns-in-Err-finish
 returns-in-Err-finish g c =
-    rw c.ended_of-in-Err-finish.ensures (turn_stops g.A.LineAnswers.step c.args.live.now.answers c.args.live.now.line c.finish.new.self.answers c.finish.new.self.line (length c.args.buf.now)
+    rw c.ended_of-in-Err-finish.ensures (turn_stops g.A.LineAnswers.answers c.args.live.now.answers c.args.live.now.line c.finish.new.self.answers c.finish.new.self.line (length c.args.buf.now)
     (known_of (g.S.Source.left c.args.source.now) (g.S.Source.left c.read.new.self) (g.K.Sink.written c.args.sink.now) (g.K.Sink.written c.finish.new.sink))
     (counts_of (g.S.Source.faults c.args.source.now) (g.S.Source.faults c.read.new.self) (g.K.Sink.faults c.args.sink.now) (g.K.Sink.faults c.finish.new.sink) (g.S.Source.taken c.args.source.now) (g.S.Source.taken c.read.new.self))
     c.in-Err-finish.stop

@@ -8,7 +8,7 @@ use Rattle.live_lines.proofs.live.Live.take.Goals as goal
 
 pub take_line-requires-clause-next : goal.take_line-requires-clause-next
 take_line-requires-clause-next g c =
-    took_stands g.A.LineAnswers.step g.A.LineAnswers.stands g.met.A.LineAnswers.goes_on _ _ _ _ _ _ c.loop-start.invariant.answered.took c.requires.next
+    took_stands g.A.LineAnswers.answers g.A.LineAnswers.stands g.met.A.LineAnswers.goes_on _ _ _ _ _ _ c.loop-start.invariant.answered.took c.requires.next
 
 pub returns-in_err-taken-clause-front : goal.returns-in_err-taken-clause-front
 returns-in_err-taken-clause-front g c =
