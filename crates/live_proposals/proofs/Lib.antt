@@ -1,3 +1,1 @@
-pub mod LineTurns
-pub mod NotedTexts
-pub mod ProposalEnds
+pub mod Texts

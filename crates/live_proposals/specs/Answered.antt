@@ -27,3 +27,7 @@ AreAnswers (text ∷ texts) written =
 -- the text is what is written for the lines of these bytes
 abbrev pub IsWrittenFor : List ℕ → List ℕ → Type 0
 IsWrittenFor bytes written = AreAnswers (texts_in bytes) written
+
+-- this way of answering, whatever the state
+abbrev pub proposes : {S : Type 0} → ℕ → S → List ℕ → List ℕ → S → Type 0
+proposes number old line text new = IsAnswerTo line text

@@ -2,7 +2,5 @@
 #![tactic(auto)]
 
 mod live;
-mod turns;
 
 pub use live::propose_live;
-pub use turns::turn;

@@ -1,54 +1,36 @@
 // The answers to an input, between two reads.
-ghost use Rattle.std.specs.Prelude.{◌≡◌, ◌⊎◌, ◌≤◌, ◌<◌, ◌+◌, List, ℕ, Some, [], length, IfSome, IsSomeAnd, true};
+ghost use Rattle.std.specs.Prelude.{◌≡◌, ◌⊎◌, ◌≤◌, ◌+◌, List, ℕ, Some, [], IfSome, IsSomeAnd, true};
 ghost use Rattle.std.specs.Io.KnownBytes.{Appends};
 ghost use Rattle.port_io.specs.Faults.{Rose, raised_by};
-ghost use Rattle.live_lines.specs.Open.{line_limit, new_open};
-ghost use Rattle.live_lines.specs.Serving.{IsInputWithin, piece_limit};
-ghost use Rattle.live_proposals.specs.Answered.{IsWrittenFor};
-ghost use Rattle.live_proposals.specs.Proposing.{Ends, WroteAll, WroteBefore, WroteFront, WroteFrontOf, WroteLines};
+ghost use Rattle.live_lines.specs.Open.{line_limit};
+ghost use Rattle.live_lines.specs.Serving.{IsInputWithin};
+ghost use Rattle.live_proposals.specs.Answered.{IsWrittenFor, proposes};
+ghost use Rattle.live_proposals.specs.Proposing.{WroteAll, WroteBefore, WroteFront, WroteFrontOf, WroteLines};
 
-use crate::turns::turn;
-use live_lines::{Ended, OpenLine};
+use book_proposals::propose_for;
+use live_lines::{Ended, LineAnswers};
 use port_io::{Sink, Source};
-use std::alloc::Global;
+use std::alloc::{AllocError, Global};
 
-// Answers all that is left, by this buffer.
-fn answer_reads<S: Source, K: Sink>(
-    alloc: Global,
-    line: &mut OpenLine,
-    buf: &mut [u8],
-    source: &mut S,
-    sink: &mut K,
-) -> Ended
-    requires some { 0 < length buf.old }
-    requires few { length buf.old ≤ piece_limit }
-    requires fresh { line.old ≡ new_open true }
-    ensures { Ends (record {
-      left = S.left source.old;
-      still = S.left source.new;
-      written = K.written sink.old;
-      writes = K.written sink.new;
-    })
-        (record {
-          read = S.faults source.old;
-          reads = S.faults source.new;
-          write = K.faults sink.old;
-          writes = K.faults sink.new;
-          taken = S.taken source.old;
-          takes = S.taken source.new;
-        }) result }
-{
-    'reads: loop {
-        if let Some(end) = turn(alloc, line, buf, source, sink) {
-            return end;
-        }
+// Answers a line by what is proposed for it. Which proposal it is, is left open.
+#[derive(Clone, Copy, Debug)]
+struct ProposedLines;
+
+impl LineAnswers for ProposedLines {
+    ghost answers = { proposes };
+
+    fn answer(&mut self, alloc: Global, _number: u32, line: &[u8]) -> Result<Vec<u8>, AllocError> {
+        propose_for(alloc, line)
     }
+
+    ghost goes_on = { λ _ _ _. (tt, λ _ _ _ _. tt) };
 }
 
 /// Reads all that is left and answers its lines, each before the next read. The mark at the start
 /// of the input is skipped.
 ///
-/// At most 65,536 bytes are taken in a read, and each answer is written as soon as it is there.
+/// At most 65,536 bytes are taken in a read. The answers to the lines that they complete are written
+/// together, or each time that they are as many bytes.
 pub fn propose_live<S: Source, K: Sink>(alloc: Global, source: &mut S, sink: &mut K) -> Ended
     // What is written are the answers to all lines that were left.
     ensures done { result ≡ Ended.Done → WroteAll (record {
@@ -112,7 +94,5 @@ pub fn propose_live<S: Source, K: Sink>(alloc: Global, source: &mut S, sink: &mu
         ¬ Rose (K.faults sink.old) (K.faults sink.new) →
         (result ≡ Ended.Done) ⊎ (result ≡ Ended.Memory) }
 {
-    let mut line = OpenLine::new(alloc, true);
-    let mut buf = [0u8; 65_536];
-    answer_reads(alloc, &mut line, &mut buf, source, sink)
+    live_lines::serve(alloc, ProposedLines, true, source, sink)
 }
