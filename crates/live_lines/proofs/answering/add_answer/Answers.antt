@@ -1,6 +1,6 @@
 use Rattle.std.proofs.Common.{◌≡◌, ◌≤◌, ◌<◌, length, rules, sym, subst}
 use Rattle.live_lines.specs.Open.{count_limit}
-use Rattle.live_lines.proofs.Pieces.{none_added, some_added}
+use Rattle.live_lines.proofs.Pieces.{none_added}
 use Rattle.live_lines.proofs.Standing.{some_bytes}
 use Rattle.live_lines.proofs.answering.add_answer.Goals as goal
 
