@@ -14,6 +14,7 @@ use Rattle.form.specs.declared.orders.Side.TheVariants.{Buy, Sell}
 use Rattle.form.specs.declared.orders.Order.{Order}
 use Rattle.form.specs.declared.orders.Batch.{Batch}
 use Rattle.settlement.specs.declared.position.PaidOut.{PaidOut}
+use Rattle.measure.specs.declared.measures.Measure.{Measure}
 use Rattle.measure.specs.declared.measures.Weighted.{Weighted}
 use Rattle.sign_tree.specs.declared.trees.Node.{Node}
 use Rattle.sign_tree.specs.declared.trees.Node.TheVariants.{Split, Leaf}
@@ -29,7 +30,7 @@ use Rattle.reply_print.specs.OutcomePieces.{state_entries}
 use Rattle.reply_print.specs.Within.{IsSmall, IsOrderWithin, IsBatchWithin, IsPlace, IsNodeWithin, IsCoverWithin, IsPointWithin, IsMarkWithin, IsOutcomeWithin, HasItsSide, IsPaidWithin, IsRefusal, IsReplyWithin, leaves_of}
 use Rattle.reply_print.specs.Words.{is_range_refusal}
 use Rattle.quick_reader.specs.Options.{has_limits}
-use Rattle.quick_reader.specs.Ranges.{is_from_to, is_small, has_options, has_numbers, is_order, is_batch, is_place, is_node, is_multiplier, is_cover, is_point, is_mark, is_outcome, has_its_side, is_paid, is_field, is_reply}
+use Rattle.quick_reader.specs.Ranges.{is_from_to, is_small, has_options, has_numbers, is_order, is_batch, is_place, is_node, is_multiplier, is_cover, is_point, is_certificate, is_mark, is_outcome, has_its_side, is_paid, is_field, is_reply}
 use Rattle.quick_reader.proofs.Options.{listed-from}
 
 each : {A : Type 0} (P : A → Type 0) (p : A → Bool) → ((x : A) → p x ≡ true → P x) → (xs : List A) → list_all p xs ≡ true → AllByRecursion P xs
@@ -101,10 +102,13 @@ cover_within (Tree tree) e =
 point_within : (point : Weighted) → is_point point ≡ true → IsPointWithin point
 point_within point e = each IsSmall is_small small (state_entries point.state) e
 
-mark_within : (m : Mark) → is_mark m ≡ true → IsMarkWithin m
-mark_within (mark.Optimal cover measure) e =
+pub certificate_within : (cover : Cover) (measure : Measure) → is_certificate cover measure ≡ true → IsCoverWithin cover × AllByRecursion IsPointWithin measure.points
+certificate_within cover measure e =
     let parts = and_parts (is_cover cover) _ e in
     (cover_within cover parts.0, each IsPointWithin is_point point_within measure.points parts.1)
+
+mark_within : (m : Mark) → is_mark m ≡ true → IsMarkWithin m
+mark_within (mark.Optimal cover measure) e = certificate_within cover measure e
 mark_within (mark.Wide w) e = absurd (true≢false (sym e))
 mark_within mark.Budget e = tt
 

@@ -11,6 +11,7 @@ use Rattle.form.specs.Bundles.{legs_in, count_sizes}
 use Rattle.form.specs.Payoff.{option_of}
 use Rattle.settlement.specs.declared.limits.TheConstants.{MAX_GAIN}
 use Rattle.settlement.specs.declared.position.PaidOut.{PaidOut}
+use Rattle.measure.specs.declared.measures.Measure.{Measure}
 use Rattle.measure.specs.declared.measures.Weighted.{Weighted}
 use Rattle.sign_tree.specs.declared.trees.Node.{Node}
 use Rattle.sign_tree.specs.declared.trees.Node.TheVariants.{Split, Leaf}
@@ -72,8 +73,11 @@ is_cover (Tree tree) = is_tree tree.nodes tree.multipliers
 abbrev pub is_point : Weighted → Bool
 is_point point = list_all is_small (state_entries point.state)
 
+abbrev pub is_certificate : Cover → Measure → Bool
+is_certificate cover measure = is_cover cover && list_all is_point measure.points
+
 abbrev pub is_mark : Mark → Bool
-is_mark (mark.Optimal cover measure) = is_cover cover && list_all is_point measure.points
+is_mark (mark.Optimal cover measure) = is_certificate cover measure
 is_mark (mark.Wide w) = false
 is_mark mark.Budget = true
 

@@ -4,11 +4,11 @@
 
 mod certificates;
 mod cursor;
+mod guessing;
 mod items;
 mod orders;
-mod proposing;
 pub mod ranges;
 mod replies;
 mod stop;
 
-pub use proposing::propose;
+pub use guessing::guess;

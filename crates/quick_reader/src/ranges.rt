@@ -1,10 +1,10 @@
 //! Whether a reply is within its ranges.
 ghost use Rattle.std.specs.Prelude.{IsTrue, ◌≡◌, ◌≤◌, ◌*◌, ◌==◌, length, map, nat_le, unsigned_abs};
-ghost use Rattle.std.specs.List.{list_all, sum};
+ghost use Rattle.std.specs.List.{AllByRecursion, list_all, sum};
 ghost use Rattle.form.specs.Bundles.{count_sizes};
 ghost use Rattle.form.specs.Payoff.{option_of};
 ghost use Rattle.reply_print.specs.OutcomePieces.{count_of as count_is};
-ghost use Rattle.reply_print.specs.Within.{IsWithin, leaves_of};
+ghost use Rattle.reply_print.specs.Within.{IsCoverWithin, IsPointWithin, IsWithin, leaves_of};
 ghost use Rattle.quick_reader.specs.Options.{has_limits as limits_kept, is_zero};
 ghost use Rattle.quick_reader.specs.Ranges as tests;
 
@@ -13,7 +13,7 @@ use form::{
     Batch, Bundle, Leg, MAX_OPTIONS, MAX_ORDERS, MAX_PRICE, MAX_QUANTITY, MAX_STRIKE,
     MAX_UNDERLYINGS, MAX_WEIGHT, Order, Side,
 };
-use measure::Weighted;
+use measure::{Measure, Weighted};
 use reply_print::Reply;
 use reply_print::limits::{
     MAX_ACCOUNT, MAX_BATCH, MAX_BUDGET, MAX_FIELD, MAX_LAPSED, MAX_LINE, MAX_MARKET, MAX_ORDER,
@@ -210,13 +210,25 @@ fn are_points(points: &[Weighted]) -> bool
     points.iter().all(|point| is_point(point))
 }
 
+fn is_certificate(cover: &Cover, measure: &Measure) -> bool
+    ensures { result ≡ tests.is_certificate cover.now measure.now }
+{
+    is_cover(cover) && are_points(measure.points.as_slice())
+}
+
+/// Yes only where a cover and a measure are within their ranges. Takes no memory.
+pub fn is_certificate_within(cover: &Cover, measure: &Measure) -> bool
+    ensures { IsTrue result →
+        IsCoverWithin cover.now × AllByRecursion IsPointWithin measure.now.points }
+{
+    is_certificate(cover, measure)
+}
+
 fn is_mark(mark: &Mark) -> bool
     ensures { result ≡ tests.is_mark mark.now }
 {
     match mark {
-        Mark::Optimal { cover, measure } => {
-            is_cover(cover) && are_points(measure.points.as_slice())
-        }
+        Mark::Optimal { cover, measure } => is_certificate(cover, measure),
         Mark::Wide(_) => false,
         Mark::Budget => true,
     }
@@ -325,8 +337,7 @@ fn is_reply(reply: &Reply) -> bool
     }
 }
 
-/// Whether a line and its reply are within their ranges; no where the reply is marked wide. Takes
-/// no memory.
+/// Yes only where a line and its reply are within their ranges. Takes no memory.
 pub fn is_within(line: u32, reply: &Reply) -> bool
     ensures { IsTrue result → IsWithin line reply.now }
 {

@@ -9,9 +9,9 @@ use crate::stop::Stop;
 use reply_print::Reply;
 use std::alloc::{AllocError, Global};
 
-/// The line and the reply whose print this text may be; it need not be. None where it is no such
-/// print, and where the reply is marked wide, which is not read here. The error is want of memory.
-pub fn propose(alloc: Global, text: &[u8]) -> Result<Option<(u32, Reply)>, AllocError>
+/// A guess at the line and the reply whose print this text is, or none. All that is promised of a
+/// guess is that it is within its ranges. The error is want of memory.
+pub fn guess(alloc: Global, text: &[u8]) -> Result<Option<(u32, Reply)>, AllocError>
     ensures { IfOk result (λ o. IfSome o (λ p. IsWithin p.0 p.1)) }
 {
     match line_and_reply(alloc, &mut Cursor::new(text)) {
