@@ -3,3 +3,5 @@ pub mod LiveOrders
 pub mod ProposalsWithin
 pub mod ReadAsHandedIn
 pub mod RisingNumbers
+pub mod ShortLines
+pub mod TakenProposals

@@ -1,12 +1,9 @@
--- Proposals whose numbers are within the ranges of their texts.
-use Rattle.std.proofs.Common.{◌≡◌, ℕ, ◌≤◌, ◌≤ℤ◌, ◌<◌, ◌^◌, ◌==◌, ℤ, List, [], ◌∷◌, Bool, true, length, map, take, drop, get_or, replicate, unsigned_abs, pos, negsuc, arith, ap, sym, ◌∙◌, subst}
-use Rattle.std.specs.List.{All, AllByRecursion, list_all}
-use Rattle.std.proofs.lemmas.Bool.{and_parts, leb-true, ltb-true}
-use Rattle.std.proofs.lemmas.Bool.Decides.{nat_tests}
+-- A proposal of nothing, and what is handed in, are within the ranges of their texts.
+use Rattle.std.proofs.Common.{◌≡◌, ℕ, ◌≤◌, ◌≤ℤ◌, ◌<◌, ℤ, List, [], ◌∷◌, length, map, take, drop, get_or, replicate, unsigned_abs, pos, negsuc, arith, ap, sym, ◌∙◌, subst}
+use Rattle.std.specs.List.{All, AllByRecursion}
 use Rattle.std.proofs.lemmas.Int.{ints}
 use Rattle.std.proofs.lemmas.List.{get_or-map, get_or-take, get_or_default, length-map, length-take}
 use Rattle.std.proofs.lemmas.List.Elements.{All-cons, All-replicate, recursion_from_All}
-use Rattle.std.proofs.lemmas.List.Sums.{AllPass-from_list_all}
 use Rattle.form.specs.declared.states.State.{State}
 use Rattle.form.specs.declared.orders.Batch.{Batch}
 use Rattle.form.specs.declared.orders.Order.{Order}
@@ -16,8 +13,6 @@ use Rattle.clearing_model.specs.Certificate.{Point}
 use Rattle.measure.specs.Points.{point_of}
 use Rattle.measure.specs.declared.measures.Weighted.{Weighted}
 use Rattle.sign_tree.specs.declared.trees.Multiplier.{Multiplier}
-use Rattle.sign_tree.specs.declared.trees.Node.{Node}
-use Rattle.sign_tree.specs.declared.trees.Node.TheVariants.{Split, Leaf}
 use Rattle.cert_check.specs.declared.outcome.Cover.{Cover}
 use Rattle.cert_check.specs.declared.outcome.Cover.TheVariants.{Line, Tree}
 use Rattle.cert_check.specs.declared.outcome.Proposal.{Proposal}
@@ -26,39 +21,6 @@ use Rattle.judged_proposals.specs.Judged.{IsBareCover, ProposesNothing, zero_pri
 use Rattle.reply_print.specs.Within.{IsBatchWithin, IsCoverWithin, IsNodeWithin, IsOrderNumber, IsOrderWithin, IsPlace, IsPointWithin, IsSmall, leaves_of}
 use Rattle.proposal_text.specs.Within.{IsProposalWithin, IsSubmissionWithin}
 use Rattle.book_proposals.specs.Answers.{submission_for}
-use Rattle.book_proposals.specs.Ranges.{cover_fits, entry_fits, multiplier_fits, node_fits, place_fits, point_fits, proposal_fits}
-
--- what each of a list passes, each has
-each : {X : Type 0} (test : X → Bool) (P : X → Type 0) → ((x : X) → test x ≡ true → P x) → (xs : List X) → list_all test xs ≡ true → AllByRecursion P xs
-each test P on xs all = recursion_from_All P xs (λ k d lt. on _ (AllPass-from_list_all test xs all k d lt))
-
-place_within : (place : ℕ) → place_fits place ≡ true → IsPlace place
-place_within place fits = let parts = and_parts _ _ fits in (leb-true 1 place parts.0, leb-true place _ parts.1)
-
-node_within : (node : Node) → node_fits node ≡ true → IsNodeWithin node
-node_within (Split place) fits = place_within place fits
-node_within (Leaf count) fits = tt
-
-same_number : (a b : ℕ) → (a == b) ≡ true → a ≡ b
-same_number a b e = grind (arith, nat_tests, e)
-
-cover_within : (cover : Cover) → cover_fits cover ≡ true → IsCoverWithin cover
-cover_within Line fits = tt
-cover_within (Tree tree) fits =
-    let parts = and_parts _ _ fits in
-    let more = and_parts _ _ parts.1 in (
-      each node_fits IsNodeWithin node_within tree.nodes parts.0,
-      each multiplier_fits (λ (m : Multiplier). IsPlace m.place) (λ m fits. place_within m.place fits) tree.multipliers more.0,
-      same_number (leaves_of tree.nodes) (length tree.multipliers) more.1,
-    )
-
-point_within : (point : Weighted) → point_fits point ≡ true → IsPointWithin point
-point_within point fits = each entry_fits IsSmall (λ z small. ltb-true (unsigned_abs z) (2 ^ 127) small) (state_entries point.state) fits
-
-pub proposal_within : (proposal : Proposal) → proposal_fits proposal ≡ true → IsProposalWithin proposal
-proposal_within proposal fits =
-    let parts = and_parts _ _ fits in
-    (cover_within proposal.cover parts.0, each point_fits IsPointWithin point_within proposal.measure.points parts.1)
 
 -- ---- a proposal of nothing
 small_entry : (z : ℤ) → pos 0 ≤ℤ z → positive_part z ≤ 1 → IsSmall z

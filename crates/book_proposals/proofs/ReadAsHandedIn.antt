@@ -1,5 +1,5 @@
 -- A line that hands something in for a market is read as that.
-use Rattle.std.proofs.Common.{◌≡◌, ℕ, suc, ◌+◌, ◌<◌, ◌^◌, ◌==◌, ◌&&◌, List, [], ◌∷◌, ◌++◌, Bool, true, false, not, length, take, drop, position, pos, unsigned_abs, Option, Some, None, Ok, if◌then◌else◌, refl, ap, ◌∙◌, arith, length-append}
+use Rattle.std.proofs.Common.{◌≡◌, ℕ, suc, ◌+◌, ◌<◌, ◌≤◌, ◌^◌, ◌==◌, ◌&&◌, List, [], ◌∷◌, ◌++◌, Bool, true, false, not, length, take, drop, position, pos, unsigned_abs, Option, Some, None, Ok, if◌then◌else◌, refl, ap, ◌∙◌, arith, length-append}
 use Rattle.std.specs.Char.{is_ascii_digit}
 use Rattle.std.specs.Fmt.{decimal}
 use Rattle.std.specs.List.{list_all, prefix_len}
@@ -15,6 +15,7 @@ use Rattle.command_text.specs.declared.ranges.TheConstants.{MARKET}
 use Rattle.command_text.specs.Asked.{either_fault, fault_in, fault_of, natural_in, read_in, value_or_zero, without_zero}
 use Rattle.command_text.specs.Numbers.{number_in, placed_in}
 use Rattle.command_text.specs.Trades.{unless, with_some}
+use Rattle.live_lines.specs.Open.{line_limit}
 use Rattle.reply_print.specs.Within.{IsMarket}
 use Rattle.reply_text.proofs.Digits.{digits-decimal, is_natural-decimal, natural_value-decimal}
 use Rattle.proposal_lines.specs.declared.proposed.Proposed.{Proposed}
@@ -26,6 +27,7 @@ use Rattle.proposal_text.specs.Within.{IsSubmissionWithin}
 use Rattle.proposal_text.proofs.ReadExactly.{submission_reads}
 use Rattle.book_proposals.specs.Answers.{proposing_text, submission_for}
 use Rattle.book_proposals.specs.Laws.{ProposalsAreSubmissions, ProposingIsRead}
+use Rattle.book_proposals.proofs.ShortLines.{one_line}
 
 -- ---- the first comma
 other_byte : (d : ℕ) → is_ascii_digit d ≡ true → not (d == 44) ≡ true
@@ -95,7 +97,19 @@ proposing_is_read market s is within =
     let line = decimal market ++ 44 ∷ submission_text s in
     ap Some (ap (λ (o : Option ℕ). with_some o (proposed_at line)) (comma_behind (decimal market) (submission_text s) (digits-decimal market small)) ∙ read_at market s is within)
 
+-- behind a line feed
+line_short : (line text : List ℕ) → text ≡ line ++ 10 ∷ [] → length text ≤ line_limit + 1 → length line ≤ line_limit
+line_short line text is short = omega (arith, ap length is, length-append line (10 ∷ []), short)
+
 pub proposals_are_submissions : ProposalsAreSubmissions
 proposals_are_submissions told text market batch book proposed =
     let submission = submission_for batch proposed.proposal in
-    (proposing_text market submission, proposed.proposal, proposed.is, proposing_is_read market submission book.told.0.1.0 proposed.within, proposed.judged)
+    let line = proposing_text market submission in
+    let listed = book.told.0.1.0 in (
+      line,
+      proposed.proposal,
+      proposed.is,
+      (one_line market submission listed proposed.within, line_short line text proposed.is proposed.short),
+      proposing_is_read market submission listed proposed.within,
+      proposed.judged,
+    )

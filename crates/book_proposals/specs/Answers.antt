@@ -1,10 +1,11 @@
 -- What is proposed for a line: for the print of a book reply a proposal that is judged a bound for its orders, and nothing for any other.
-use Rattle.std.specs.Prelude.{ℕ, ◌≡◌, ◌⊎◌, List, [], ◌∷◌, ◌++◌, map, codes, decimal}
+use Rattle.std.specs.Prelude.{ℕ, ◌≡◌, ◌+◌, ◌≤◌, ◌⊎◌, List, [], ◌∷◌, ◌++◌, length, map, codes, decimal}
 use Rattle.form.specs.declared.orders.Batch.{Batch}
 use Rattle.form.specs.declared.orders.Order.{Order}
 use Rattle.form.specs.Limits.{IsWithinLimits}
 use Rattle.cert_check.specs.declared.outcome.Proposal.{Proposal}
 use Rattle.judged_proposals.specs.Judged.{IsJudgedBound}
+use Rattle.live_lines.specs.Open.{line_limit}
 use Rattle.proposal_text.specs.declared.submissions.Submission.{Submission}
 use Rattle.proposal_text.specs.declared.replies.ProposalReply.TheVariants.{Book}
 use Rattle.proposal_text.specs.Pieces.{submission_text}
@@ -12,8 +13,9 @@ use Rattle.proposal_text.specs.ReplyValues.{IsProposalLineOf}
 use Rattle.proposal_text.specs.Within.{IsSubmissionWithin}
 
 -- The line is the print of a reply that tells the live orders of a market, and they are such: at most 256, for options on its underlyings,
--- by rising number. A line that tells other orders is no reply to `book`, and no proposal for them could be judged a bound or be for live
--- orders; nothing is written for it. That there are no orders is told too, and something is proposed for them.
+-- by rising number. A line that tells other orders is no reply to `book`: for options on other underlyings no proposal is judged a bound, and
+-- orders whose numbers do not rise are never the live ones, so that what is proposed for them would always be stale. Nothing is written for
+-- it. That there are no orders is told too, and something is proposed for them.
 pub record IsBookOf (line : List ℕ) (market : ℕ) (batch : Batch) : Type 0 where
   pub number : ℕ
   pub told : IsProposalLineOf line number (Book market batch)
@@ -27,12 +29,14 @@ submission_for batch proposal = record { orders = map (λ (order : Order). order
 abbrev pub proposing_text : ℕ → Submission → List ℕ
 proposing_text market submission = codes "propose," ++ (decimal market ++ (codes "," ++ submission_text submission))
 
--- the text is such a line, with its line feed, of a proposal that is judged a bound for the orders and within its ranges
+-- the text is such a line, with its line feed, of a proposal that is judged a bound for the orders and within its ranges; the line is as short
+-- as an exchange takes it
 pub record IsProposed (market : ℕ) (batch : Batch) (text : List ℕ) : Type 0 where
   pub proposal : Proposal
   pub judged : IsJudgedBound batch proposal
   pub within : IsSubmissionWithin (submission_for batch proposal)
   pub is : text ≡ proposing_text market (submission_for batch proposal) ++ 10 ∷ []
+  pub short : length text ≤ line_limit + 1
 
 -- the line tells no market's live orders
 abbrev pub IsNoBook : List ℕ → Type 0

@@ -1,4 +1,3 @@
 pub mod Answers
 pub mod Found
 pub mod Laws
-pub mod Ranges

@@ -1,27 +1,27 @@
 //! The answer to a line.
-ghost use Rattle.std.specs.Prelude.{◌≡◌, ◌++◌, [], ◌∷◌, IfOk, map};
+ghost use Rattle.std.specs.Prelude.{◌≡◌, ◌≤◌, ◌+◌, ◌++◌, [], ◌∷◌, IfOk, IfSome, IsTrue, length, map};
 ghost use Rattle.form.specs.declared.orders.Order.{Order};
 ghost use Rattle.form.specs.Limits.{IsWithinLimits};
-ghost use Rattle.judged_proposals.specs.Judged.{IsJudgedBound};
-ghost use Rattle.proposal_text.specs.Within.{IsProposalWithin};
+ghost use Rattle.live_lines.specs.Open.{line_limit};
 ghost use Rattle.reply_print.specs.Within.{IsBatchWithin};
-ghost use Rattle.book_proposals.specs.Answers.{IsAnswerTo, IsProposed, proposing_text};
+ghost use Rattle.book_proposals.specs.Answers.{IsAnswerTo, IsProposed, proposing_text, submission_for};
 
 use crate::books::book_of;
-use crate::ranges::is_within;
 use cert_check::Proposal;
 use form::{Batch, Order};
 use itoa::Buffer;
 use judged_proposals::nothing;
+use live_lines::MAX_LINE;
 use near_solver::propose;
 use proposal_text::{Submission, print_submission};
 use proposals::OrderNumbers;
+use quick_reader::ranges::is_certificate_within;
 use std::alloc::{AllocError, Global};
 
 /// What is written for a line without its line feed: where it is the print of a reply that tells
 /// the live orders of a market, the line `propose,MARKET,PROPOSAL` and a line feed, with a proposal
-/// for just these orders that is judged a bound; and nothing for any other line. The only error is
-/// want of memory.
+/// for just these orders that is judged a bound, as short as an exchange takes it; and nothing for
+/// any other line. The only error is want of memory.
 pub fn propose_for(alloc: Global, line: &[u8]) -> Result<Vec<u8>, AllocError>
     ensures answer { IfOk result (λ text. IsAnswerTo line.now text.items) }
 {
@@ -31,17 +31,59 @@ pub fn propose_for(alloc: Global, line: &[u8]) -> Result<Vec<u8>, AllocError>
     }
 }
 
-// The line of a proposal for the live orders of a market.
+// The line of a proposal for the live orders of a market: of what the solver proposes, where an
+// exchange reads its line, and else of nothing.
 fn proposal_for(alloc: Global, market: u32, batch: &Batch) -> Result<Vec<u8>, AllocError>
     requires within { IsWithinLimits batch.now }
     requires ranges { IsBatchWithin batch.now }
     ensures { IfOk result (λ text. IsProposed market batch.now text.items) }
 {
+    match found_line(alloc, market, batch)? {
+        Some(line) => Ok(line),
+        None => proposing_line(alloc, market, batch, nothing(alloc, batch)?),
+    }
+}
+
+// The line of what the solver proposes, where its numbers are within their ranges and it is short.
+fn found_line(alloc: Global, market: u32, batch: &Batch) -> Result<Option<Vec<u8>>, AllocError>
+    requires within { IsWithinLimits batch.now }
+    requires ranges { IsBatchWithin batch.now }
+    ensures { IfOk result (λ line. IfSome line (λ text. IsProposed market batch.now text.items)) }
+{
+    let proposal = propose(alloc, batch)?;
+    if !is_certificate_within(&proposal.cover, &proposal.measure) {
+        return Ok(None);
+    }
+    let line = proposing_line(alloc, market, batch, proposal)?;
+    if is_short(&line) {
+        Ok(Some(line))
+    } else {
+        Ok(None)
+    }
+}
+
+// Whether an exchange takes a line with its line feed.
+fn is_short(line: &[u8]) -> bool
+    ensures { IsTrue result → length line.now ≤ line_limit + 1 }
+{
+    line.len() <= MAX_LINE + 1
+}
+
+// The line of a proposal for a market's live orders, and a line feed.
+fn proposing_line(
+    alloc: Global,
+    market: u32,
+    batch: &Batch,
+    proposal: Proposal,
+) -> Result<Vec<u8>, AllocError>
+    ensures { IfOk result (λ line.
+        line.items ≡ proposing_text market (submission_for batch.now proposal) ++ 10 ∷ []) }
+{
     let submission = Submission {
         orders: OrderNumbers::from_vec(numbers_of(alloc, batch.orders.as_slice())?),
-        proposal: readable_proposal(alloc, batch)?,
+        proposal,
     };
-    proposing_line(alloc, market, &submission)
+    submitting_line(alloc, market, &submission)
 }
 
 // The numbers of orders.
@@ -52,22 +94,8 @@ fn numbers_of(alloc: Global, orders: &[Order]) -> Result<Vec<u64>, AllocError>
     orders.iter().map(|order| order.id).collect(alloc)
 }
 
-// What the solver proposes, where its text is one that is read, and else a proposal of nothing.
-fn readable_proposal(alloc: Global, batch: &Batch) -> Result<Proposal, AllocError>
-    requires within { IsWithinLimits batch.now }
-    ensures judged { IfOk result (IsJudgedBound batch.now) }
-    ensures ranges { IfOk result IsProposalWithin }
-{
-    let proposal = propose(alloc, batch)?;
-    if is_within(&proposal) {
-        Ok(proposal)
-    } else {
-        nothing(alloc, batch)
-    }
-}
-
 // The line that hands something in for a market, and a line feed.
-fn proposing_line(
+fn submitting_line(
     alloc: Global,
     market: u32,
     submission: &Submission,

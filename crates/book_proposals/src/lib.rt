@@ -6,7 +6,6 @@ pub mod answers;
 mod books;
 pub mod laws;
 mod limits;
-mod ranges;
 #[cfg(test)]
 mod tests;
 

@@ -1,0 +1,14 @@
+use Rattle.std.proofs.Common.{rules}
+use Rattle.book_proposals.proofs.ProposalsWithin.{submission_within}
+use Rattle.book_proposals.proofs.answers.found_line.Goals as goal
+
+pub returns-then-is_short : goal.returns-then-is_short
+returns-then-is_short c =
+    let proposal = c.in_ok-proposal.proposal in
+    record {
+      proposal = proposal;
+      judged = c.in_ok-proposal.ensures;
+      within = submission_within c.args.batch.now proposal c.requires.ranges (c.is_certificate_within.ensures (search rules));
+      is = c.in_ok-line.ensures;
+      short = c.is_short.ensures c.if-is_short.true;
+    }
