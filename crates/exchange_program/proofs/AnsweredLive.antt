@@ -22,7 +22,7 @@ use Rattle.program_words.specs.declared.requests.Served.{Served}
 use Rattle.program_words.specs.declared.requests.Served.TheVariants as served
 use Rattle.session_lines.specs.Sessions.{new_sessions, session_step}
 use Rattle.exchange_program.specs.Live.{ServedAt, ServedBy, served_output, status_at}
-use Rattle.exchange_program.specs.Requests.{OfSomeInput, Promised, WhereServe}
+use Rattle.exchange_program.specs.Requests.{OfSomeInput, Promised, PromisedFront, WhereServe}
 use Rattle.exchange_program.specs.Wrote.{Wrote, WroteFront}
 use Rattle.exchange_program.specs.declared.status.Status.{Status}
 use Rattle.exchange_program.specs.declared.status.Status.TheVariants.{Done, Usage, ReadFault, WriteFault, TooLong, CheckNo, Memory}
@@ -108,7 +108,7 @@ front_served served.Sessions known which =
 
 front_told : (kind : Served) (left old new : Option (List ℕ)) → (input : List ℕ) × AppendsFront old new (served_output kind input)
     → IfSome left (λ input. AppendsFront old new (served_output kind input))
-    → OfSomeInput (Serve kind) left (λ input. WroteFront old new (Promised (Serve kind) input))
+    → OfSomeInput (Serve kind) left (λ input. WroteFront old new (PromisedFront (Serve kind) input))
 front_told kind None old new some front = (some.0, tt, (served_output kind some.0, told_served kind some.0, some.1))
 front_told kind (Some input) old new some front = (input, refl, (served_output kind input, told_served kind input, front))
 
@@ -122,7 +122,7 @@ module _ (kind : Served) (known : Known) (status : Status) (answered : ServedAt 
       (all.0, all.1, (served_output kind all.0, told_served kind all.0, all.2))
 
   pub told_part : (status ≡ WriteFault) ⊎ (status ≡ Memory) → IfSome known.left (λ input. AppendsFront known.written known.writes (served_output kind input))
-      → OfSomeInput (Serve kind) known.left (λ input. WroteFront known.written known.writes (Promised (Serve kind) input))
+      → OfSomeInput (Serve kind) known.left (λ input. WroteFront known.written known.writes (PromisedFront (Serve kind) input))
   told_part which front =
       let at : ServedAt kind WriteFault known ⊎ ServedAt kind Memory known = elim which [ inl is ↦ inl (as_is WriteFault is) | inr is ↦ inr (as_is Memory is) ] in
       front_told kind known.left known.written known.writes (front_served kind known at) front

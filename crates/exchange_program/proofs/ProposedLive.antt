@@ -13,7 +13,7 @@ use Rattle.live_proposals.specs.Proposing.{WroteAll, WroteBefore, WroteFront, Wr
 use Rattle.program_words.specs.declared.requests.Request.{Request}
 use Rattle.program_words.specs.declared.requests.Request.TheVariants.{Lines, Check, Sessions, Serve, Propose, Demo}
 use Rattle.exchange_program.specs.Live.{AnswerFirst, ProposedAt, status_at}
-use Rattle.exchange_program.specs.Requests.{OfSomeInput, Promised, WherePropose}
+use Rattle.exchange_program.specs.Requests.{OfSomeInput, Promised, PromisedFront, WherePropose}
 use Rattle.exchange_program.specs.Wrote as told
 use Rattle.exchange_program.specs.declared.status.Status.{Status}
 use Rattle.exchange_program.specs.declared.status.Status.TheVariants.{Done, WriteFault, Memory}
@@ -48,12 +48,10 @@ module _ (known : Known) (status : Status) (proposed : ProposedAt status known) 
 
   pub told_all : status ≡ Done → OfSomeInput Propose known.left (λ input. told.Wrote known.written known.writes (Promised Propose input))
   told_all is =
-      let all = as_is Done is in
-      let wrote = all.3 in
-      (all.0, IfSome_then known.left all.1.1 (λ input same. same.0), (wrote.0, all_first all.0 wrote.0 wrote.1, wrote.2))
+      let all = as_is Done is in (all.0, IfSome_then known.left all.1.1 (λ input same. same.0), all.3)
 
   pub told_part : (status ≡ WriteFault) ⊎ (status ≡ Memory) → IfSome known.left (WroteFrontOf known)
-      → OfSomeInput Propose known.left (λ input. told.WroteFront known.written known.writes (Promised Propose input))
+      → OfSomeInput Propose known.left (λ input. told.WroteFront known.written known.writes (PromisedFront Propose input))
   told_part which front =
       let at : WroteFront known = elim which [ inl is ↦ as_is WriteFault is | inr is ↦ as_is Memory is ] in
       front_of known.left known.written known.writes (some_front known at)

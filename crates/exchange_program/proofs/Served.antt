@@ -29,7 +29,7 @@ use Rattle.quote_lines.proofs.AsRun.{quotes_tell_answers}
 use Rattle.exchange_program.specs.Journals.{IsSoundIn, NamesFault, SaysIn, report_in, report_line}
 use Rattle.exchange_program.specs.Live.{ServedTell, served_output}
 use Rattle.exchange_program.specs.Modes.{IsBesideIn, mode_output, step_in}
-use Rattle.exchange_program.specs.Requests.{IsReadFirst, OfInput, OfSomeInput, Promised, WhereCheck, OfOutput, status_by, status_for}
+use Rattle.exchange_program.specs.Requests.{IsReadFirst, OfInput, OfSomeInput, Promised, PromisedFront, WhereCheck, OfOutput, status_by, status_for}
 use Rattle.exchange_program.specs.Wrote.{Wrote, WroteFront}
 use Rattle.exchange_program.specs.declared.status.Status.{Status}
 use Rattle.exchange_program.specs.declared.status.Status.TheVariants.{Done, Usage, CheckNo}
@@ -62,9 +62,19 @@ pub told : (request : Request) (left old new : Option (List ℕ)) (input : List 
     → OfOutput request input (Appends old new) → OfSomeInput request left (λ input. Wrote old new (Promised request input))
 told request left old new input first is wrote = (input, is, promised request input (Appends old new) first wrote)
 
+-- a front of it is promised the same
+front_promised : (request : Request) (input bytes : List ℕ) → IsReadFirst request → Promised request input bytes → PromisedFront request input bytes
+front_promised (Lines mode) input bytes first are = are
+front_promised (Check journal) input bytes first are = are
+front_promised Sessions input bytes first are = are
+front_promised (Serve kind) input bytes first are = absurd first
+front_promised Propose input bytes first are = absurd first
+front_promised (Demo seed count) input bytes first are = are
+
 pub told_front : (request : Request) (left old new : Option (List ℕ)) (input : List ℕ) → IsReadFirst request → IsInput request left input
-    → OfOutput request input (AppendsFront old new) → OfSomeInput request left (λ input. WroteFront old new (Promised request input))
-told_front request left old new input first is wrote = (input, is, promised request input (AppendsFront old new) first wrote)
+    → OfOutput request input (AppendsFront old new) → OfSomeInput request left (λ input. WroteFront old new (PromisedFront request input))
+told_front request left old new input first is wrote =
+    let all = promised request input (AppendsFront old new) first wrote in (input, is, (all.0, front_promised request input all.0 first all.1, all.2))
 
 -- some input there is
 if_told : (left : Option (List ℕ)) → (input : List ℕ) × IfSome left (λ told. input ≡ told)
@@ -80,7 +90,7 @@ some_input Propose left = if_told left
 some_input (Demo seed count) left = ([], refl)
 
 -- nothing at all is a front of it
-some_promised : (request : Request) (input : List ℕ) → (bytes : List ℕ) × Promised request input bytes
+some_promised : (request : Request) (input : List ℕ) → (bytes : List ℕ) × PromisedFront request input bytes
 some_promised (Lines mode) input = (mode_output mode input, told_in mode input)
 some_promised (Check journal) input = ([], tt)
 some_promised Sessions input = (sessions_output input, output_tells_once input)
@@ -88,13 +98,13 @@ some_promised (Serve kind) input = (served_output kind input, told_served kind i
 some_promised Propose input = ([], ([], texts_in input, refl, refl))
 some_promised (Demo seed count) input = ([], tt)
 
-pub nothing_told : (request : Request) (left old : Option (List ℕ)) → OfSomeInput request left (λ input. WroteFront old old (Promised request input))
+pub nothing_told : (request : Request) (left old : Option (List ℕ)) → OfSomeInput request left (λ input. WroteFront old old (PromisedFront request input))
 nothing_told request left old =
     let some = some_input request left in
     let told = some_promised request some.0 in
     (some.0, some.1, (told.0, told.1, no_front old old told.0 refl))
 
-pub nothing_told_yet : (asked : Option Request) (left old : Option (List ℕ)) → IfSome asked (λ request. OfSomeInput request left (λ input. WroteFront old old (Promised request input)))
+pub nothing_told_yet : (asked : Option Request) (left old : Option (List ℕ)) → IfSome asked (λ request. OfSomeInput request left (λ input. WroteFront old old (PromisedFront request input)))
 nothing_told_yet None left old = tt
 nothing_told_yet (Some request) left old = nothing_told request left old
 

@@ -8,6 +8,7 @@ use Rattle.journal_check.specs.declared.reports.Report.{Report}
 use Rattle.journal_check.specs.declared.reports.Report.TheVariants.{Sound, Faulty}
 use Rattle.live_lines.specs.Open.{line_limit}
 use Rattle.live_lines.specs.Serving as live_input
+use Rattle.live_proposals.specs.Answered.{IsWrittenFor}
 use Rattle.program_words.specs.declared.requests.Journal.{Journal}
 use Rattle.program_words.specs.declared.requests.Request.{Request}
 use Rattle.program_words.specs.declared.requests.Request.TheVariants.{Lines, Check, Sessions, Serve, Propose, Demo}
@@ -118,15 +119,24 @@ abbrev pub HasEnded : Status → Type 0
 HasEnded status = (status ≡ Done) ⊎ (status ≡ CheckNo)
 
 -- ---- facts of one request alone
--- what is promised of the bytes that are written for an input: its lines are told their answers, and its messages each once; proposals are
--- for the books among its first lines
+-- what is promised of the bytes that are written for an input: its lines are told their answers, and its messages each once; each book has
+-- its proposal
 abbrev pub Promised : Request → List ℕ → List ℕ → Type 0
 Promised (Lines mode) input bytes = TellAnswers (IsBesideIn mode) (step_in mode) input bytes
 Promised (Check journal) input bytes = Unit {0}
 Promised Sessions input bytes = TellOnce input bytes
 Promised (Serve served) input bytes = ServedTell served input bytes
-Promised Propose input bytes = AnswerFirst input bytes
+Promised Propose input bytes = IsWrittenFor input bytes
 Promised (Demo seed count) input bytes = Unit {0}
+
+-- and of those of which a front is written: the same, but that proposals may be for the books among its first lines
+abbrev pub PromisedFront : Request → List ℕ → List ℕ → Type 0
+PromisedFront (Lines mode) input bytes = Promised (Lines mode) input bytes
+PromisedFront (Check journal) input bytes = Promised (Check journal) input bytes
+PromisedFront Sessions input bytes = Promised Sessions input bytes
+PromisedFront (Serve served) input bytes = Promised (Serve served) input bytes
+PromisedFront Propose input bytes = AnswerFirst input bytes
+PromisedFront (Demo seed count) input bytes = Promised (Demo seed count) input bytes
 
 abbrev pub WhereCheck : Request → (Journal → Type 0) → Type 0
 WhereCheck (Lines mode) P = Unit {0}

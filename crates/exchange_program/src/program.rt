@@ -9,7 +9,7 @@ ghost use Rattle.journal_check.specs.JournalLines.{lines_of};
 ghost use Rattle.program_words.specs.Requests.{request_of};
 ghost use Rattle.exchange_program.specs.Live.{ProposedAt, ServedAt};
 ghost use Rattle.exchange_program.specs.Journals.{IsSoundIn, NamesFault};
-ghost use Rattle.exchange_program.specs.Requests.{Asked, HasEnded, IsCheck, IsInputWithin, IsPastLimit, IsReadFirst, IsReadWhole, OfInput, OfOutput, OfSomeInput, Promised, WhereCheck, WhereDemo, WherePropose, WhereServe, WithLimit, past_size, status_for};
+ghost use Rattle.exchange_program.specs.Requests.{Asked, HasEnded, IsCheck, IsInputWithin, IsPastLimit, IsReadFirst, IsReadWhole, OfInput, OfOutput, OfSomeInput, Promised, PromisedFront, WhereCheck, WhereDemo, WherePropose, WhereServe, WithLimit, past_size, status_for};
 ghost use Rattle.exchange_program.specs.Wrote.{Wrote, WroteFront};
 
 use crate::live::answer_live;
@@ -71,7 +71,7 @@ pub fn exchange<S: Source, K: Sink>(
     ensures told_front { (result ≡ Status.WriteFault) ⊎ (result ≡ Status.Memory) →
         Asked (map string_bytes words.now) (λ request.
         OfSomeInput request (S.left source.old) (λ input.
-        WroteFront (K.written sink.old) (K.written sink.new) (Promised request input))) }
+        WroteFront (K.written sink.old) (K.written sink.new) (PromisedFront request input))) }
 
     // Where a check is done every line is sound, and else its report names the first that is not.
     ensures sound { result ≡ Status.Done →

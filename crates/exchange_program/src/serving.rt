@@ -8,7 +8,7 @@ ghost use Rattle.port_io.specs.Writes.{AppendsFront};
 ghost use Rattle.journal_check.specs.JournalLines.{lines_of};
 ghost use Rattle.program_words.specs.Requests.{IsRequestWithin};
 ghost use Rattle.exchange_program.specs.Journals.{IsSoundIn, NamesFault};
-ghost use Rattle.exchange_program.specs.Requests.{HasEnded, IsCheck, IsInputWithin, IsPastLimit, IsReadFirst, IsReadWhole, OfInput, OfOutput, OfSomeInput, Promised, WhereCheck, WhereDemo, WithLimit, past_size, status_for};
+ghost use Rattle.exchange_program.specs.Requests.{HasEnded, IsCheck, IsInputWithin, IsPastLimit, IsReadFirst, IsReadWhole, OfInput, OfOutput, OfSomeInput, Promised, PromisedFront, WhereCheck, WhereDemo, WithLimit, past_size, status_for};
 ghost use Rattle.exchange_program.specs.Wrote.{Wrote, WroteFront};
 
 use crate::check::{MAX_JOURNAL, report_on};
@@ -115,7 +115,7 @@ pub(crate) fn serve<S: Source, K: Sink>(
         Wrote (K.written sink.old) (K.written sink.new) (Promised request input)) }
     ensures told_front { (result ≡ Status.WriteFault) ⊎ (result ≡ Status.Memory) →
         OfSomeInput request (S.left source.old) (λ input.
-        WroteFront (K.written sink.old) (K.written sink.new) (Promised request input)) }
+        WroteFront (K.written sink.old) (K.written sink.new) (PromisedFront request input)) }
 
     // Where a check is done every line is sound, and else its report names the first that is not.
     ensures sound { result ≡ Status.Done →
