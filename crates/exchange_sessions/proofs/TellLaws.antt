@@ -11,7 +11,7 @@ use Rattle.live_lines.specs.Output.{output_of}
 use Rattle.all_lines.proofs.Outputs.{outputs_are_of_lines}
 use Rattle.session_gate.specs.Runs.{Replies}
 use Rattle.session_lines.specs.Answers.{answers_by}
-use Rattle.session_lines.specs.Laws.{TellOnce, accepted_bodies, as_input}
+use Rattle.session_lines.specs.Laws.{TellOnce, accepted_bodies, as_input, replies_text, told_first}
 use Rattle.session_lines.specs.Served.{EndsLines, reply_by}
 use Rattle.session_lines.proofs.Served.{feed_again}
 use Rattle.session_lines.proofs.SessionOutputs.{outputs_tell_once}
@@ -23,7 +23,7 @@ use Rattle.proposal_lines.proofs.Ends as proposing
 use Rattle.proposal_lines.proofs.Telling.{outputs_tell_proposals}
 use Rattle.exchange_sessions.specs.AllLines.{SessionsTellOnce, all_sessions_output}
 use Rattle.exchange_sessions.specs.Answers.{answers, sessions_output}
-use Rattle.exchange_sessions.specs.Laws.{OutputTellsOnce, RepliesAreOfOneInput, SessionsTold}
+use Rattle.exchange_sessions.specs.Laws.{OutputTellsOnce, SessionsTold}
 use Rattle.exchange_sessions.specs.Served.{exchange_reply}
 
 -- the replies are the output of the bodies as one input, and keep what that keeps
@@ -41,7 +41,8 @@ ends_lines number state line = feed_again (reply_line number (reply_to state (bo
 output_is_run : (input : List ℕ) → output_of line_output true empty_exchange input ≡ output input
 output_is_run input = outputs_are_of_lines line_output input ∙ runs_are_by_lines input
 
-pub replies_are_of_one_input : RepliesAreOfOneInput
+-- the replies told to the messages answered First are the output of their bodies as one input
+replies_are_of_one_input : (input : List ℕ) → replies_text (told_first (answers input)) ≡ output (as_input (accepted_bodies (answers input)))
 replies_are_of_one_input input =
     (outputs_tell_once line_output ends_lines true empty_exchange input).replies ∙ output_is_run (as_input (accepted_bodies (answers input)))
 

@@ -1,12 +1,12 @@
 -- What is promised of the answers of an exchange to any input.
-use Rattle.std.specs.Prelude.{◌≡◌, ℕ, List}
+use Rattle.std.specs.Prelude.{ℕ, List}
 use Rattle.exchange_lines.specs.Output.{line_output, output}
 use Rattle.exchange_lines.specs.Promises.{IsNoText, TellAnswers}
 use Rattle.session_gate.specs.Runs.{Replies}
 use Rattle.session_lines.specs.Answers.{answers_by}
 use Rattle.session_lines.specs.Laws as lines
 use Rattle.session_lines.specs.Laws.{accepted_bodies, as_input, replies_text, told_first}
-use Rattle.exchange_sessions.specs.Answers.{answers, sessions_output}
+use Rattle.exchange_sessions.specs.Answers.{sessions_output}
 use Rattle.exchange_sessions.specs.Served.{exchange_reply}
 
 -- ---- by any server
@@ -17,22 +17,6 @@ pub record SessionsTold (reply : Replies) (output_by : List ℕ → List ℕ) (T
   pub promises : Tell (as_input (accepted_bodies (answers_by reply input))) (replies_text (told_first (answers_by reply input)))
 
 -- ---- by a run's
--- The exchange took the bodies of the messages that were answered First, in order.
-abbrev pub TakesAccepted : Type 0
-TakesAccepted = lines.TakesAccepted exchange_reply
-
--- Those of one session have the numbers 1, 2, 3 and so on, each once.
-abbrev pub AcceptsInOrder : Type 0
-AcceptsInOrder = lines.AcceptsInOrder exchange_reply
-
--- The replies told to the messages answered First are the output of their bodies as one input.
-abbrev pub RepliesAreOfOneInput : Type 0
-RepliesAreOfOneInput = (input : List ℕ) → replies_text (told_first (answers input)) ≡ output (as_input (accepted_bodies (answers input)))
-
--- A Repeat tells the reply that was told to its First.
-abbrev pub RepeatsTellTheSame : Type 0
-RepeatsTellTheSame = lines.RepeatsTellTheSame exchange_reply
-
 -- they tell each message once, and the bodies are answered as a run's lines
 abbrev pub TellOnce : List ℕ → List ℕ → Type 0
 TellOnce input bytes = SessionsTold exchange_reply output (TellAnswers IsNoText line_output) input bytes
