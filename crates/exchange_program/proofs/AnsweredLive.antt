@@ -8,14 +8,14 @@ use Rattle.proposal_lines.specs.Output.{proposing_line}
 use Rattle.proposal_lines.specs.ProposingState.{empty_state}
 use Rattle.live_lines.specs.Answering.{Answering}
 use Rattle.live_lines.specs.Output.{output_of}
-use Rattle.live_lines.specs.Serving.{AnsweredAll, AnsweredBefore, AnsweredLines, AnsweredSome, Known, WroteAll, WroteSome}
+use Rattle.live_lines.specs.Serving.{AnsweredAll, AnsweredBefore, AnsweredLines, AnsweredSome, Known, WroteAll, WroteFirst, WroteSome}
 use Rattle.live_lines.specs.Serving as live
 use Rattle.live_lines.specs.Taken.{with_feeds}
 use Rattle.live_lines.specs.declared.ended.Ended.{Ended}
 use Rattle.live_lines.specs.declared.ended.Ended.TheVariants as ended
 use Rattle.live_lines.proofs.Fronts.{no_front}
 use Rattle.live_lines.proofs.Serves.{all_so, before_so, known_of, lines_so, some_so}
-use Rattle.live_lines.proofs.Steps.{one_output}
+use Rattle.live_lines.proofs.Steps.{front_of_all, one_output}
 use Rattle.program_words.specs.declared.requests.Request.{Request}
 use Rattle.program_words.specs.declared.requests.Request.TheVariants.{Lines, Check, Sessions, Serve, Propose, Demo}
 use Rattle.program_words.specs.declared.requests.Served.{Served}
@@ -75,6 +75,11 @@ module _ {S : Type 0} (Answers : Answering S) (step : ℕ → S → List ℕ →
   served_by ended.WriteFault all lines before front = some_so skips known _ _ wrote_some (front (inl refl))
   served_by ended.TooLong all lines before front = before_so skips known _ _ wrote (before refl)
   served_by ended.Memory all lines before front = some_so skips known _ _ wrote_some (front (inr refl))
+
+  -- a front of the output of all that was left
+  pub front_by : IfSome known.left (WroteFirst Answers skips start known)
+      → IfSome known.left (λ input. AppendsFront known.written known.writes (output_of step skips start input))
+  front_by front = IfSome_then known.left front (λ input some. front_of_all Answers step is skips start input some.0 some.1 known.written known.writes some.2)
 
 module _ {S : Type 0} (step : ℕ → S → List ℕ → List ℕ × S) (skips : Bool) (start : S) where
   -- the output of all that was left is written

@@ -1,10 +1,8 @@
 use Rattle.std.proofs.Common.{sym, ap, subst, ◌∙◌, inl, inr}
-use Rattle.std.proofs.lemmas.Option.{IfSome_then}
 use Rattle.live_lines.specs.declared.ended.Ended.TheVariants as ended
 use Rattle.live_lines.proofs.Serves.{known_of}
-use Rattle.live_lines.proofs.Steps.{front_of_all}
 use Rattle.exchange_program.specs.Live.{ServedBy, status_at}
-use Rattle.exchange_program.proofs.AnsweredLive.{end_is, end_of_two, served_by}
+use Rattle.exchange_program.proofs.AnsweredLive.{end_is, end_of_two, front_by, served_by}
 use Rattle.exchange_program.proofs.live.answer_by.Goals as goal
 
 pub returns-clause-served : goal.returns-clause-served
@@ -32,9 +30,9 @@ returns-clause-too_many g c = λ is. c.serve-end.ensures.too_many (end_is c.serv
 
 pub returns-clause-front : goal.returns-clause-front
 returns-clause-front g c = λ which.
-    IfSome_then _ (c.serve-end.ensures.front_of_all (end_of_two c.serve-end.result ended.WriteFault ended.Memory c.status_at.result c.status_at.ensures which))
-    (λ input h. front_of_all g.A.LineAnswers.answers g.A.LineSteps.step (λ number old line text new h. (g.met.A.LineSteps.steps number old line text new).0 h)
-    c.args.skips c.args.answers input h.0 h.1 _ _ h.2)
+    let known = known_of (g.S.Source.left c.args.source.now) (g.S.Source.left c.serve-end.new.source) (g.K.Sink.written c.args.sink.now) (g.K.Sink.written c.serve-end.new.sink) in
+    front_by g.A.LineAnswers.answers g.A.LineSteps.step (λ number old line text new h. (g.met.A.LineSteps.steps number old line text new).0 h) c.args.skips c.args.answers known
+    (c.serve-end.ensures.front_of_all (end_of_two c.serve-end.result ended.WriteFault ended.Memory c.status_at.result c.status_at.ensures which))
 
 pub returns-clause-complete : goal.returns-clause-complete
 returns-clause-complete g c = λ within r w.
