@@ -8,8 +8,10 @@ pub mod master;
 pub mod node;
 pub mod numbers;
 pub mod points;
+pub mod sides;
 
 pub use book::{Book, NearLeg, NearOrder, Scales};
 pub use master::{Master, SMALL};
 pub use node::{Found, LegMultiplier, Question, RAY_TOLERANCE, solve_closing, solve_node};
 pub use points::NearState;
+pub use sides::{SolvedNode, solve_for_sides};

@@ -289,7 +289,7 @@ impl Master {
     }
 
     fn solve_once(&mut self, book: &Book) -> Result<(), AllocError> {
-        self.table.dual(MASTER_TURNS)?;
+        self.table.dual(0, MASTER_TURNS)?;
         self.read_fills(book);
         self.drop_far(book);
         Ok(())

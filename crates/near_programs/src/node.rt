@@ -6,7 +6,7 @@ use near_tables::{Table, Turns, add_entry, entry};
 use std::alloc::{AllocError, Global};
 
 // The turns of a node's program.
-const NODE_TURNS: Turns = Turns {
+pub(crate) const NODE_TURNS: Turns = Turns {
     small: SMALL,
     pivot: 5.960464477539063e-8,
     cap: 400,
@@ -50,7 +50,7 @@ impl Found {
 
 // A column: the leg, the factor of its form, and its bound.
 #[derive(Clone, Copy)]
-struct Column {
+pub(crate) struct Column {
     leg: usize,
     factor: f64,
     form: [f64; 9],
@@ -119,7 +119,11 @@ fn column_of(i: usize, leg: &NearLeg, question: Question) -> Option<Column> {
     })
 }
 
-fn columns_of(alloc: Global, book: &Book, question: Question) -> Result<Vec<Column>, AllocError> {
+pub(crate) fn columns_of(
+    alloc: Global,
+    book: &Book,
+    question: Question,
+) -> Result<Vec<Column>, AllocError> {
     let mut columns = Vec::new(alloc);
     for (i, leg) in book.legs.iter().enumerate() {
         if let Some(column) = column_of(i, leg, question) {
@@ -222,7 +226,7 @@ fn largest_column(table: &Table, row: usize) -> Option<usize> {
 }
 
 // Brings the common slack to 0; answers what is left of it.
-fn first_phase(table: &mut Table, slack: usize) -> Result<f64, AllocError> {
+pub(crate) fn first_phase(table: &mut Table, slack: usize) -> Result<f64, AllocError> {
     let Some(worst) = worst_row(table) else {
         return Ok(0.0);
     };
@@ -277,7 +281,7 @@ fn add_slopes(
 }
 
 // The node's table.
-fn table_of(
+pub(crate) fn table_of(
     alloc: Global,
     book: &Book,
     columns: &[Column],

@@ -4,6 +4,7 @@ use near_programs::node::{
     Found, Question, RAY_TOLERANCE, fill_of, long_sums, sign_at, solve_node,
 };
 use near_programs::points::{NearState, net_at, reach_from_zero, state_of};
+use near_programs::sides::{SolvedNode, solve_for_sides};
 use near_programs::{Book, LegMultiplier, Master, NearLeg};
 use near_tables::{add_times, entry, from_zero, set_entry};
 use std::alloc::{AllocError, Global};
@@ -162,21 +163,20 @@ impl Leaf {
         if self.is_split || self.is_still_closed(aim) {
             return Ok(None);
         }
-        let found = solve_signs(aim, &self.signs)?;
+        let found = solve_node(aim.alloc, aim.book, question_of(aim, &self.signs))?;
         self.keep(aim, &found)?;
         Ok(open_by(aim, place, &found))
     }
 }
 
-// Solves the program of a leaf with these signs.
-fn solve_signs(aim: Aim, signs: &[i8]) -> Result<Found, AllocError> {
-    let question = Question {
+// The question of a leaf with these signs.
+fn question_of<'a>(aim: Aim<'a>, signs: &'a [i8]) -> Question<'a> {
+    Question {
         fills: &aim.master.fills,
         signs,
         holds: true,
         below: 0.0,
-    };
-    solve_node(aim.alloc, aim.book, question)
+    }
 }
 
 // By how much more than the liability a leaf wants; 0 where that is forgiven.
@@ -277,25 +277,41 @@ fn place_of_most(numbers: &[f64]) -> Option<usize> {
 }
 
 // What a split of an open leaf at a leg gains: how much of the excess each side has no more, one times the other.
-fn gain_of_split(aim: Aim, signs: &[i8], leg: usize, excess: f64) -> Result<f64, AllocError> {
-    let plus = excess_with(aim, signs, leg, 1)?;
-    let minus = excess_with(aim, signs, leg, -1)?;
+fn gain_of_split(aim: Aim, node: &SolvedNode, leg: usize, excess: f64) -> Result<f64, AllocError> {
+    let Some(leg) = aim.book.legs.get(leg) else {
+        return Ok(0.0);
+    };
+    let plus = excess_with(aim, node, leg, 1.0)?;
+    let minus = excess_with(aim, node, leg, -1.0)?;
     let least = excess * LEAST_GAIN;
     Ok((excess - plus).max(least) * (excess - minus).max(least))
 }
 
 // What is exceeded with one more sign.
-fn excess_with(aim: Aim, signs: &[i8], leg: usize, sign: i8) -> Result<f64, AllocError> {
-    let signs = with_sign(aim.alloc, signs, leg, sign)?;
-    let found = solve_signs(aim, &signs)?;
-    Ok(excess_of(aim, &found))
+fn excess_with(aim: Aim, node: &SolvedNode, leg: &NearLeg, sign: f64) -> Result<f64, AllocError> {
+    let fill = fill_of(leg, &aim.master.fills);
+    let excess = node.value_with(leg, fill, sign)? - aim.master.liability;
+    Ok(if excess <= aim.forgiven { 0.0 } else { excess })
+}
+
+// The leg at which an open leaf is split with care: along a ray the one that is overstated most.
+fn careful_split(
+    aim: Aim,
+    signs: &[i8],
+    excess: f64,
+    overs: &mut [f64],
+) -> Result<Option<usize>, AllocError> {
+    match solve_for_sides(aim.alloc, aim.book, question_of(aim, signs))? {
+        Some(node) => best_split(aim, &node, excess, overs),
+        None => Ok(place_of_most(overs)),
+    }
 }
 
 // Of the legs that are overstated most, the one at which a split gains most.
 fn best_split(
     aim: Aim,
-    signs: &[i8],
-    open: &Open,
+    node: &SolvedNode,
+    excess: f64,
     overs: &mut [f64],
 ) -> Result<Option<usize>, AllocError> {
     let mut most = 0.0;
@@ -305,7 +321,7 @@ fn best_split(
             break;
         };
         set_entry(overs, leg, 0.0);
-        let gain = gain_of_split(aim, signs, leg, open.excess)?;
+        let gain = gain_of_split(aim, node, leg, excess)?;
         if gain > most {
             most = gain;
             best = Some(leg);
@@ -462,7 +478,7 @@ impl Tree {
         };
         let mut overs = all_overstated(aim, &leaf.signs, &open.point)?;
         if self.is_careful {
-            best_split(aim, &leaf.signs, open, &mut overs)
+            careful_split(aim, &leaf.signs, open.excess, &mut overs)
         } else {
             Ok(place_of_most(&overs))
         }

@@ -129,15 +129,15 @@ impl Table {
     }
 
     // The column that keeps the objective's entries from 0 on.
-    fn dual_column(&self, row: usize, turns: Turns) -> Option<usize> {
+    fn dual_column(&self, objective: usize, row: usize, turns: Turns) -> Option<usize> {
         let numbers = self.rows().get(row)?;
-        let costs = self.rows().first()?;
+        let costs = self.rows().get(objective)?;
         let least = least_ratio(numbers, costs, self.width(), turns);
         largest_within(numbers, costs, self.width(), turns.pivot, least)
     }
 
     // One turn of the dual method. Answers whether there was one.
-    fn dual_turn(&mut self, turns: Turns) -> Result<bool, AllocError> {
+    fn dual_turn(&mut self, objective: usize, turns: Turns) -> Result<bool, AllocError> {
         let misfit = self.leaving(turns.small);
         let Some(row) = misfit.row else {
             return Ok(false);
@@ -145,21 +145,21 @@ impl Table {
         if misfit.above {
             self.flip_basic(row);
         }
-        let Some(column) = self.dual_column(row, turns) else {
+        let Some(column) = self.dual_column(objective, row, turns) else {
             return Ok(false);
         };
-        if self.at(0, column) < 0.0 {
-            self.set(0, column, 0.0);
+        if self.at(objective, column) < 0.0 {
+            self.set(objective, column, 0.0);
         }
         self.pivot(row, column)?;
         Ok(true)
     }
 
-    /// From a table whose first objective has no entry below 0: makes the right sides fit their bounds, until they do, cannot,
-    /// or all turns are taken.
-    pub fn dual(&mut self, turns: Turns) -> Result<(), AllocError> {
+    /// From a table in which this objective has no entry below 0: makes the right sides fit their bounds, until they do,
+    /// cannot, or all turns are taken.
+    pub fn dual(&mut self, objective: usize, turns: Turns) -> Result<(), AllocError> {
         for _ in 0..turns.cap {
-            if !self.dual_turn(turns)? {
+            if !self.dual_turn(objective, turns)? {
                 break;
             }
         }
