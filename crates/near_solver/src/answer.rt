@@ -146,3 +146,12 @@ pub fn answer_of(
         measure: numbers.measure,
     }))
 }
+
+/// The surplus of what was found, in units of 2^-40, and below 0 where nothing was.
+pub fn surplus_of(found: &Option<Proposal>) -> i128 {
+    let Some(proposal) = found else {
+        return -1;
+    };
+    let (above, below) = proposal.claim.surplus.parts();
+    above.saturating_mul(two_to(FILL_BITS).div_euclid(below.max(1)))
+}

@@ -1,9 +1,9 @@
 //! The whole solver.
 
-use crate::answer::{Solved, answer_of};
+use crate::answer::{Solved, answer_of, surplus_of};
 use crate::closing::{Closing, close_tree, costs_of};
 use crate::line::line_liability;
-use crate::parts::{count_long, part_of};
+use crate::parts::{Growth, part_of};
 use crate::rounding::{
     WholeMeasure, gains_of, less_fills, measure_of, premium, rounded_fills, scaled_unit,
 };
@@ -18,12 +18,8 @@ use std::alloc::{AllocError, Global};
 
 // How often fills are covered: as they are, and made less.
 const ATTEMPTS: u32 = 4;
-// The orders with a long leg in the first part.
-const FIRST_PART: usize = 12;
 // The most parts.
-const PARTS: u32 = 12;
-// The most parts that do not fit.
-const MISFITS: u32 = 3;
+const PARTS: u32 = 20;
 // The most rounds.
 const ROUNDS: u32 = 400;
 // The most states that climbs add in a round.
@@ -247,30 +243,14 @@ fn covered(
     answer_of(alloc, &solved, cover)
 }
 
-// How many of the orders with a long leg the next part keeps, where a part of `fits` fits and one of `fails` does not: more by
-// half, or between the two. None where they are near.
-fn next_kept(fits: usize, fails: usize) -> Option<usize> {
-    let more = fits.saturating_add(fits / 2).max(FIRST_PART);
-    if more < fails {
-        return Some(more);
-    }
-    let between = fits.saturating_add(fails.saturating_sub(fits) / 2);
-    if between > fits.saturating_add(fits / 16) {
-        Some(between)
-    } else {
-        None
-    }
-}
-
-// Solves the part that keeps so many. None where its tree is full or long.
+// Solves the part that keeps these orders. None where its tree is full or long.
 fn solve_part(
     alloc: Global,
     book: &Book,
-    gains: &[i128],
-    kept: usize,
+    keeps: &[bool],
     measure: &WholeMeasure,
 ) -> Result<Option<Proposal>, AllocError> {
-    let part = part_of(alloc, book, gains, kept)?;
+    let part = part_of(alloc, book, keeps)?;
     let mut tree = Tree::new(alloc, &part, true)?;
     let mut master = first_program(alloc, &part)?;
     solve_part_in(alloc, &part, &mut master, &mut tree, measure)
@@ -288,58 +268,43 @@ fn solve_part_in(
     finish(alloc, part, master, tree, measure)
 }
 
-// The parts tried so far: how many orders with a long leg the largest keeps that fits, and the smallest that does not, how
-// many did not fit, and the proposal of the largest that did.
-#[derive(Drop)]
-struct Tried {
-    fits: usize,
-    fails: usize,
-    misfits: u32,
-    best: Option<Proposal>,
-}
-
-impl Tried {
-    // How many orders with a long leg the next part keeps. None where there is none.
-    fn next_kept(&self) -> Option<usize> {
-        if self.misfits >= MISFITS {
-            return None;
-        }
-        next_kept(self.fits, self.fails)
-    }
-
-    // Notes a part, and its proposal where it fits.
-    fn note(&mut self, kept: usize, found: Option<Proposal>) {
-        if found.is_some() {
-            self.fits = kept;
-            self.best = found;
-        } else {
-            self.fails = kept;
-            self.misfits = self.misfits.saturating_add(1);
-        }
-    }
-}
-
-// Solves parts of the book. Answers that of the largest part that fits.
+// Solves parts of the book. Answers that of the part that earns most.
 fn solve_parts(
     alloc: Global,
     book: &Book,
     measure: &WholeMeasure,
 ) -> Result<Option<Proposal>, AllocError> {
     let gains = gains_of(alloc, book, measure)?;
-    let mut tried = Tried {
-        fits: 0,
-        fails: count_long(book),
-        misfits: 0,
-        best: None,
-    };
+    let mut growth = Growth::new(alloc, book, &gains)?;
+    let mut best = None;
     for _ in 0..PARTS {
-        let Some(kept) = tried.next_kept() else {
+        if growth.is_over() {
             break;
-        };
-        let found = solve_part(alloc, book, &gains, kept, measure)?;
-        tried.note(kept, found);
+        }
+        try_part(alloc, book, measure, &mut growth, &mut best)?;
     }
-    Ok(tried.best)
+    Ok(best)
+}
+
+// Solves the next part, and keeps its proposal where it earns more.
+fn try_part(
+    alloc: Global,
+    book: &Book,
+    measure: &WholeMeasure,
+    growth: &mut Growth,
+    best: &mut Option<Proposal>,
+) -> Result<(), AllocError> {
+    let keeps = growth.with_next()?;
+    let found = solve_part(alloc, book, &keeps, measure)?;
+    if found.is_none() {
+        growth.leave();
+        return Ok(());
+    }
+    growth.take(keeps);
+    if surplus_of(&found) > surplus_of(best) {
+        *best = found;
+    }
+    Ok(())
 }
 
 // The answer for the whole book: parts of it where its tree is full or long.
