@@ -1,11 +1,12 @@
 -- One step of the run over rows of whole numbers, and from that run to the run over fractions.
 use Rattle.std.proofs.Common.{◌≡◌, ℕ, zero, suc, ◌+◌, ◌-◌, ◌*◌, ◌<◌, ◌≤◌, length, refl, sym, ◌∙◌, ap, subst, arith, true}
 use Rattle.std.specs.Prelude.{Some, None}
+use Rattle.std.proofs.Math.Nat.{mul-le-mul_left}
 use Rattle.table_run.specs.Program.{LinearProgram}
 use Rattle.table_run.specs.Optimum.{IsProgram}
 use Rattle.table_run.specs.Ending.{Ending, no_unit_left, unbounded, done}
 use Rattle.table_run.specs.Run.{Optimum, run}
-use Rattle.whole_rows.specs.Compact.{CompactTable, Column, compact_entering, compact_turn, compact_objective_fits, compact_read_off, compact_direction, compact_run_from, compact_run, first_compact_table}
+use Rattle.whole_rows.specs.Compact.{CompactTable, Column, compact_entering, compact_turn, compact_turn_fits, compact_read_off, compact_direction, compact_run_from, compact_run, first_compact_table}
 use Rattle.whole_rows.proofs.CompactFirst.{compact_runs_end_the_same}
 use Rattle.whole_solver.specs.declared.table.WholeTable.{WholeTable}
 use Rattle.whole_solver.specs.declared.columns.Entering.{Entering}
@@ -28,42 +29,42 @@ use Rattle.simplex.specs.declared.whole_run.WholeEnd.TheVariants.{Optimal as Who
 use Rattle.simplex.specs.declared.stage.Stage.TheVariants.{WholeOptimal, WholeUnbounded}
 use Rattle.simplex.specs.declared.stop.RunStop.TheVariants.{Budget as RunBudget}
 
-pub whole_ends : (b limit n m left spent : ℕ) (t : CompactTable) → compact_entering t ≡ None → compact_run_from b limit n m left spent t ≡ Some (compact_read_off n m t spent)
+pub whole_ends : (limit n m left spent : ℕ) (t : CompactTable) → compact_entering t ≡ None → compact_run_from limit n m left spent t ≡ Some (compact_read_off n m t spent)
 unfolding compact_run_from
-whole_ends b limit n m zero spent t h = rw h refl
-whole_ends b limit n m (suc left) spent t h = rw h refl
+whole_ends limit n m zero spent t h = rw h refl
+whole_ends limit n m (suc left) spent t h = rw h refl
 
-pub whole_out : (b limit n m left spent : ℕ) (t : CompactTable) (c : Column) → compact_entering t ≡ Some c → left ≡ 0 → compact_run_from b limit n m left spent t ≡ Some (no_unit_left spent)
+pub whole_out : (limit n m left spent : ℕ) (t : CompactTable) (c : Column) → compact_entering t ≡ Some c → left ≡ 0 → compact_run_from limit n m left spent t ≡ Some (no_unit_left spent)
 unfolding compact_run_from
-whole_out b limit n m zero spent t c h z = rw h refl
-whole_out b limit n m (suc left) spent t c h z = absurd (omega (arith, z))
+whole_out limit n m zero spent t c h z = rw h refl
+whole_out limit n m (suc left) spent t c h z = absurd (omega (arith, z))
 
-pub whole_moves : (b limit n m left spent : ℕ) (t next : CompactTable) (c : Column) → compact_entering t ≡ Some c → compact_turn c.place t ≡ Some next → compact_objective_fits limit c.place t ≡ true → rows_fit b next.rows ≡ true → 0 < left
-    → compact_run_from b limit n m left spent t ≡ compact_run_from b limit n m (left - 1) (spent + 1) next
+pub whole_moves : (limit n m left spent : ℕ) (t next : CompactTable) (c : Column) → compact_entering t ≡ Some c → compact_turn c.place t ≡ Some next → compact_turn_fits limit c.place t ≡ true → rows_fit limit next.rows ≡ true → 0 < left
+    → compact_run_from limit n m left spent t ≡ compact_run_from limit n m (left - 1) (spent + 1) next
 unfolding compact_run_from
-whole_moves b limit n m zero spent t next c h k o f p = absurd (omega (arith, p))
-whole_moves b limit n m (suc left) spent t next c h k o f p = let less : suc left - 1 ≡ left = omega arith in rw (h, k, o, f, less) refl
+whole_moves limit n m zero spent t next c h k o f p = absurd (omega (arith, p))
+whole_moves limit n m (suc left) spent t next c h k o f p = let less : suc left - 1 ≡ left = omega arith in rw (h, k, o, f, less) refl
 
-pub whole_unlimited : (b limit n m left spent : ℕ) (t : CompactTable) (c : Column) → compact_entering t ≡ Some c → compact_turn c.place t ≡ None → 0 < left
-    → compact_run_from b limit n m left spent t ≡ Some (unbounded (compact_direction n c t) (spent + 1))
+pub whole_unlimited : (limit n m left spent : ℕ) (t : CompactTable) (c : Column) → compact_entering t ≡ Some c → compact_turn c.place t ≡ None → 0 < left
+    → compact_run_from limit n m left spent t ≡ Some (unbounded (compact_direction n c t) (spent + 1))
 unfolding compact_run_from
-whole_unlimited b limit n m zero spent t c h k p = absurd (omega (arith, p))
-whole_unlimited b limit n m (suc left) spent t c h k p = rw (h, k) refl
+whole_unlimited limit n m zero spent t c h k p = absurd (omega (arith, p))
+whole_unlimited limit n m (suc left) spent t c h k p = rw (h, k) refl
 
 pub whole_found_is : (n m spent : ℕ) (t : CompactTable) → length t.names ≡ n → compact_read_off n m t spent ≡ done (whole_optimum_in n m t) spent
 unfolding compact_read_off
 whole_found_is n m spent t e = refl
 
 -- ---- the run of the program
-started : (b limit left spent : ℕ) (p : LinearProgram) (t : CompactTable) → t ≡ first_compact_table p → rows_fit b t.rows ≡ true → compact_run b limit p left spent ≡ compact_run_from b limit p.variables p.rows left spent t
+started : (limit left spent : ℕ) (p : LinearProgram) (t : CompactTable) → t ≡ first_compact_table p → rows_fit limit t.rows ≡ true → compact_run limit p left spent ≡ compact_run_from limit p.variables p.rows left spent t
 unfolding compact_run
-started b limit left spent p t first fits =
-    let test : rows_fit b (first_compact_table p).rows ≡ true = ap (λ (u : CompactTable). rows_fit b u.rows) (sym first) ∙ fits in
-    rw test (ap (compact_run_from b limit p.variables p.rows left spent) (sym first))
+started limit left spent p t first fits =
+    let test : rows_fit limit (first_compact_table p).rows ≡ true = ap (λ (u : CompactTable). rows_fit limit u.rows) (sym first) ∙ fits in
+    rw test (ap (compact_run_from limit p.variables p.rows left spent) (sym first))
 
-pub whole_is_run : (b limit left spent : ℕ) (p : LinearProgram) (t : CompactTable) (E : Ending Optimum) → IsProgram p → 2 * (b * b) ≤ limit → t ≡ first_compact_table p → rows_fit b t.rows ≡ true
-    → compact_run_from b limit p.variables p.rows left spent t ≡ Some E → run limit p left spent ≡ E
-whole_is_run b limit left spent p t E g room first fits h = compact_runs_end_the_same b limit p left spent E g room (started b limit left spent p t first fits ∙ h)
+pub whole_is_run : (limit left spent : ℕ) (p : LinearProgram) (t : CompactTable) (E : Ending Optimum) → IsProgram p → t ≡ first_compact_table p → rows_fit limit t.rows ≡ true
+    → compact_run_from limit p.variables p.rows left spent t ≡ Some E → run limit p left spent ≡ E
+whole_is_run limit left spent p t E g first fits h = compact_runs_end_the_same limit p left spent E g (started limit left spent p t first fits ∙ h)
 
 pub within_wider : (b c limit : ℕ) (w : WholeTable) → b ≤ c → IsWithin b limit w → IsWithin c limit w
 within_wider b c limit w low g =
@@ -73,6 +74,11 @@ within_wider b c limit w low g =
       objective = g.objective;
       objective_size = g.objective_size;
     }
+
+-- a bound that leaves room is within the limit
+pub room_above : (b limit : ℕ) → 2 * (b * b) ≤ limit → b ≤ limit
+room_above zero limit h = omega arith
+room_above (suc b) limit h = let more : suc b * 1 ≤ suc b * suc b = mul-le-mul_left (suc b) (omega arith) in omega (arith, more, h)
 
 -- ---- a run of the program that was taken in
 pub record IsStarted (limit b : ℕ) (p : LinearProgram) (w : WholeTable) : Type 0 where
@@ -95,11 +101,11 @@ first_columns q = refl
 
 -- the limit is that of the numbers, as the code holds it
 module _ {A : Type 0} (value : A → Fraction) (limit held b left spent after : ℕ) (p : LinearProgram) (t : Table A) (w1 w2 : WholeTable) (g : IsStarted limit b p w1) (same : held ≡ limit) (shape : SameShape w1 w2) where
-  is_run : (E : Ending Optimum) → compact_run_from b held p.variables p.rows left spent (as_whole w1) ≡ Some E → run limit p left spent ≡ E
+  is_run : (E : Ending Optimum) → compact_run_from held p.variables p.rows left spent (as_whole w1) ≡ Some E → run limit p left spent ≡ E
   is_run E h =
-      let fits = rows_fit_in b (length w1.names.items + 1) w1.basics.items w1.rows.rows g.within.rows in
-      let of_limit = ap (λ (l : ℕ). compact_run_from b l p.variables p.rows left spent (as_whole w1)) (sym same) in
-      whole_is_run b limit left spent p (as_whole w1) E g.given.program g.usable.room g.first fits (of_limit ∙ h)
+      let fits = rows_fit_in limit (length w1.names.items + 1) w1.basics.items w1.rows.rows (within_wider b limit limit w1 (room_above b limit g.usable.room) g.within).rows in
+      let of_limit = ap (λ (l : ℕ). compact_run_from l p.variables p.rows left spent (as_whole w1)) (sym same) in
+      whole_is_run limit left spent p (as_whole w1) E g.given.program g.first fits (of_limit ∙ h)
 
   there : IsWithin b held w2 → IsReadable limit w2
   there h = record { read = g.usable.read; within = within_wider b widest limit w2 g.usable.below (subst (λ (l : ℕ). IsWithin b l w2) same h) }
@@ -114,7 +120,7 @@ module _ {A : Type 0} (value : A → Fraction) (limit held b left spent after : 
       let many = shape.rows in
       omega (arith, columns, names, many)
 
-  pub whole_optimum : IsWholeEnd b held p.variables p.rows WholeOptimum after w2 (compact_run_from b held p.variables p.rows left spent (as_whole w1))
+  pub whole_optimum : IsWholeEnd b held p.variables p.rows WholeOptimum after w2 (compact_run_from held p.variables p.rows left spent (as_whole w1))
       → IsStageOf value limit p (run limit p left spent) WholeOptimal after t w2
   whole_optimum h =
       let found : run limit p left spent ≡ compact_read_off (length w2.names.items) (length w2.rows.rows) (as_whole w2) after =
@@ -128,7 +134,7 @@ module _ {A : Type 0} (value : A → Fraction) (limit held b left spent after : 
         there = there h.1;
       }
 
-  pub whole_ray : (c : Entering) → IsWholeEnd b held p.variables p.rows (WholeRay c) after w2 (compact_run_from b held p.variables p.rows left spent (as_whole w1))
+  pub whole_ray : (c : Entering) → IsWholeEnd b held p.variables p.rows (WholeRay c) after w2 (compact_run_from held p.variables p.rows left spent (as_whole w1))
       → IsStageOf value limit p (run limit p left spent) (WholeUnbounded c) after t w2
   whole_ray c h =
       let e : unbounded (compact_direction (length w2.names.items) (as_column c) (as_whole w2)) after ≡ run limit p left spent =
@@ -140,7 +146,7 @@ module _ {A : Type 0} (value : A → Fraction) (limit held b left spent after : 
         there = (there h.1, h.2);
       }
 
-  pub whole_no_unit : IsWholeEnd b held p.variables p.rows NoUnit after w2 (compact_run_from b held p.variables p.rows left spent (as_whole w1))
+  pub whole_no_unit : IsWholeEnd b held p.variables p.rows NoUnit after w2 (compact_run_from held p.variables p.rows left spent (as_whole w1))
       → EndsInStop (run limit p left spent) RunBudget after
   whole_no_unit h =
       let e : no_unit_left after ≡ run limit p left spent = sym (is_run _ h) in

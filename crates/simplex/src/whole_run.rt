@@ -1,5 +1,5 @@
 //! The run over rows of whole numbers.
-ghost use Rattle.std.specs.Prelude.{◌≡◌, ◌-◌, ◌^◌, ◌≤◌, ℕ};
+ghost use Rattle.std.specs.Prelude.{◌≡◌, ◌-◌, ◌*◌, ◌^◌, ◌≤◌, ℕ};
 ghost use Rattle.whole_rows.specs.Compact.{compact_run_from};
 ghost use Rattle.whole_solver.specs.Tables.{as_whole, IsWithin, SameShape};
 ghost use Rattle.whole_rows.specs.Lines.{widest};
@@ -25,10 +25,11 @@ pub enum WholeEnd {
 /// or the objective row would leave the limit.
 pub fn whole_run(table: &mut WholeTable, bound: u64, limit: u128, budget: &mut Budget) -> WholeEnd
     requires bound { bound ≤ widest }
+    requires room { 2 * (bound * bound) ≤ limit }
     requires objective { limit ≤ 2 ^ 127 - 1 }
     requires within { IsWithin bound limit table.old }
     ensures run { (n m : ℕ) → IsWholeEnd bound limit n m result budget.new.spent table.new
-        (compact_run_from bound limit n m (budget.old.limit - budget.old.spent) budget.old.spent
+        (compact_run_from limit n m (budget.old.limit - budget.old.spent) budget.old.spent
         (as_whole table.old)) }
     ensures shape { SameShape table.old table.new }
     ensures limit { budget.new.limit ≡ budget.old.limit }

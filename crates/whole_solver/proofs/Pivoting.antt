@@ -1,13 +1,17 @@
 -- A turn of the table whose lists are kept apart.
-use Rattle.std.proofs.Common.{◌≡◌, ℕ, zero, suc, ◌+◌, ◌<◌, List, [], ◌∷◌, length, set, get_or, refl, sym, ◌∙◌, ap, subst, arith, true, ℤ, pos, unsigned_abs, length-set}
-use Rattle.std.specs.Prelude.{Some, None, int_lt}
+use Rattle.std.proofs.Common.{◌≡◌, ℕ, zero, suc, ◌+◌, ◌*◌, ◌<◌, ◌≤◌, List, [], ◌∷◌, length, set, get_or, refl, sym, ◌∙◌, ap, subst, arith, Bool, true, false, nat_eq, ℤ, pos, unsigned_abs, length-set}
+use Rattle.std.specs.Prelude.{Some, None, int_lt, if◌then◌else◌}
+use Rattle.std.proofs.lemmas.Bool.{leb-true}
+use Rattle.std.proofs.Math.Nat.{mul-le-mul}
+use Rattle.arithmetic.proofs.Tests.{and_true}
 use Rattle.std.proofs.lemmas.List.{length-map}
 use Rattle.table_run.specs.Choice.{Ratio, least}
 use Rattle.compact_run.proofs.Columns.{same_test, other_test}
 use Rattle.compact_table.specs.Candidates.{best_with}
-use Rattle.whole_rows.specs.Lines.{Line, WholeRow, line_of, number_at, line_at, no_line, rows_fit}
-use Rattle.whole_rows.specs.Turning.{cut, whole_ratios, mix_fits, leaving_fits}
-use Rattle.whole_rows.specs.Compact.{CompactTable, basic_of, turned_in, compact_cleared, compact_rows_after, compact_pivoted, compact_leave, compact_turn, compact_objective_fits}
+use Rattle.whole_rows.specs.Lines.{Line, WholeRow, IsLine, line_size, line_of, number_at, line_at, no_line, rows_fit}
+use Rattle.whole_rows.specs.Turning.{cut, whole_ratios, steps_within, row_steps_within, rows_steps_within, lines_steps_within, leaving_fits}
+use Rattle.whole_rows.specs.Compact.{CompactTable, basic_of, turned_in, compact_cleared, compact_rows_after, compact_pivoted, compact_leave, compact_turn, compact_turn_fits}
+use Rattle.whole_rows.proofs.LineSteps.{sizes_least, steps_within_room}
 use Rattle.whole_rows.proofs.TurnSteps.{AllOf, IsCandidate, candidates, Leaves, leaves}
 use Rattle.whole_solver.specs.Rows.{line_in, lines_in, row_at, beside_basics, lines_after, AreLinesIn, IsTurned, IsPivot}
 use Rattle.whole_solver.specs.Tables.{table_of}
@@ -128,11 +132,11 @@ turn_pivots c r t h = step (whole_ratios (length t.names) c 0 t.rows) h
     step [] k = absurd cc
     step (q ∷ qs) k = let place : (least q qs).place ≡ r = cc in rw place refl
 
-pub turn_fits : (limit c r : ℕ) (t : CompactTable) → best_with None (whole_ratios (length t.names) c 0 t.rows) ≡ Some r → mix_fits limit t.objective (cut (line_at t.rows r)) ≡ true → compact_objective_fits limit c t ≡ true
-unfolding compact_objective_fits
+pub turn_fits : (limit c r : ℕ) (t : CompactTable) → best_with None (whole_ratios (length t.names) c 0 t.rows) ≡ Some r → lines_steps_within limit c r t.objective t.rows ≡ true → compact_turn_fits limit c t ≡ true
+unfolding compact_turn_fits
 turn_fits limit c r t h fits = step (whole_ratios (length t.names) c 0 t.rows) h
   where
-    step : (qs : List Ratio) → best_with None qs ≡ Some r → leaving_fits limit t.objective t.rows qs ≡ true
+    step : (qs : List Ratio) → best_with None qs ≡ Some r → leaving_fits limit c t.objective t.rows qs ≡ true
     step [] k = absurd cc
     step (q ∷ qs) k = let place : (least q qs).place ≡ r = cc in rw place fits
 
@@ -164,6 +168,26 @@ pivot_there c r names basics rows objective same h = step (whole_ratios (length 
         record { row = low; above = subst (λ (l : Line). int_lt (pos 0) (number_at l.numbers c) ≡ true) line there.above }
 
 -- ---- within the bound
+-- rows within a bound that leaves room are cleared within the limit
+steps_in_room : (b limit w e : ℕ) (pivot l : Line) → 2 * (b * b) ≤ limit → IsLine b w pivot → IsLine b w l → steps_within limit e pivot l ≡ true
+steps_in_room b limit w e pivot l room p g =
+    let size : line_size l ≤ b = leb-true (line_size l) b (sym (sizes_least b l) ∙ line_of_sizes b w l g) in
+    let pivot_size : line_size pivot ≤ b = leb-true (line_size pivot) b (sym (sizes_least b pivot) ∙ line_of_sizes b w pivot p) in
+    let less : line_size l * line_size pivot ≤ b * b = mul-le-mul size pivot_size in
+    steps_within_room limit e pivot l (omega (arith, less, room))
+
+pub rows_in_room : (b limit w e r i : ℕ) (pivot : Line) (bs : List ℕ) (rows : List (List ℤ)) → 2 * (b * b) ≤ limit → IsLine b w pivot → AreLinesIn b w rows → rows_steps_within limit e r pivot i (beside_basics bs (lines_in w rows)) ≡ true
+unfolding rows_steps_within
+rows_in_room b limit w e r i pivot [] rows room p g = refl
+rows_in_room b limit w e r i pivot (v ∷ bs) [] room p g = refl
+rows_in_room b limit w e r i pivot (v ∷ bs) (x ∷ rows) room p g =
+    and_true (row_steps_within limit e r pivot i (line_in w x)) (rows_steps_within limit e r pivot (i + 1) (beside_basics bs (lines_in w rows)))
+    (step (nat_eq i r)) (rows_in_room b limit w e r (i + 1) pivot bs rows room p (λ j q. g (suc j) (omega (arith, q))))
+  where
+    step : (same : Bool) → (if same then true else steps_within limit e pivot (line_in w x)) ≡ true
+    step true = refl
+    step false = steps_in_room b limit w e pivot (line_in w x) room p (g 0 (omega arith))
+
 pub rows_fit_in : (b w : ℕ) (bs : List ℕ) (rows : List (List ℤ)) → AreLinesIn b w rows → rows_fit b (beside_basics bs (lines_in w rows)) ≡ true
 unfolding rows_fit
 rows_fit_in b w [] rows g = refl

@@ -8,8 +8,8 @@ use Rattle.std.proofs.lemmas.Slice.{take-put_mid}
 use borrow.Rule.Slice.PartMut.{put_mid}
 use Rattle.whole_rows.specs.Lines.{Line, IsLine, AreSizes, line_size, line_of, number_at, no_line, line_fits}
 use Rattle.whole_rows.specs.Compact.{compact_cleared, turned_in}
-use Rattle.whole_rows.specs.Turning.{cut}
-use Rattle.whole_rows.proofs.LineSteps.{cut_within, line_of_fit, fit_of_sizes, sizes_least}
+use Rattle.whole_rows.specs.Turning.{cut, step_size}
+use Rattle.whole_rows.proofs.LineSteps.{cut_within, line_of_fit, fit_of_sizes, sizes_least, steps_below_twice}
 use Rattle.whole_rows.proofs.TurnSteps.{size_above, cut_above}
 use Rattle.whole_rows.proofs.CompactRun.{cleared_shaped}
 use Rattle.whole_rows.proofs.CompactFirst.{cleared_lines_fit, set_sizes}
@@ -148,7 +148,10 @@ pub wide_cleared : (size most limit w c a d : ℕ) (row pivot ns : List ℤ) →
 wide_cleared size most limit w c a d row pivot ns g s sp wide pa la room told =
     let behind = length-drop 1 pivot in
     let count : length (take w (drop 1 pivot)) ≡ w = length-take-le w (drop 1 pivot) (omega (arith, behind, wide)) in
-    subst (IsLine limit w) (sym told) (cleared_lines_fit size most limit w c a (line_in w pivot).numbers (line_in w row) room (line_of_size size limit w row g s) sp count pa la)
+    let line = line_of_size size limit w row g s in
+    let x = unsigned_abs (number_at (line_in w row).numbers c) in
+    let twice : step_size size x a most ≤ 2 * (size * most) = steps_below_twice size x a most (line.sizes c) la in
+    subst (IsLine limit w) (sym told) (cleared_lines_fit size most limit w c a (line_in w pivot).numbers (line_in w row) (omega (arith, twice, room)) line sp count pa)
 
 -- ---- the loop over the rows
 pub length-after : (c a r : ℕ) (pivot : List ℤ) (i : ℕ) (lines : List Line) → length (lines_after c a r pivot i lines) ≡ length lines

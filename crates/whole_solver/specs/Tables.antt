@@ -4,7 +4,7 @@ use Rattle.exact_num.specs.Fraction.{Fraction, whole, reduced}
 use Rattle.compact_run.specs.Compact.{CompactTable as FractionTable}
 use Rattle.whole_rows.specs.Lines.{IsLine, number_at, taken_in, row_taken_in}
 use Rattle.whole_rows.specs.Running.{whole_where_basic}
-use Rattle.whole_rows.specs.Compact.{CompactTable, Column, compact_turn, compact_objective_fits}
+use Rattle.whole_rows.specs.Compact.{CompactTable, Column, compact_turn, compact_turn_fits}
 use Rattle.whole_solver.specs.declared.table.WholeTable.{WholeTable}
 use Rattle.whole_solver.specs.declared.turn.Turn.{Turn}
 use Rattle.whole_solver.specs.declared.turn.Turn.TheVariants.{Moved, Unlimited, GivenUp}
@@ -55,7 +55,7 @@ pub record IsListed (c count : ℕ) (t : WholeTable) : Type 0 where
 -- ---- a turn: the table after it, where it is not given up
 abbrev pub IsTurn : ℕ → ℕ → ℕ → Turn → WholeTable → WholeTable → Type 0
 IsTurn bound limit c Moved old new =
-    (compact_turn c (as_whole old) ≡ Some (as_whole new)) × (compact_objective_fits limit c (as_whole old) ≡ true) × IsWithin bound limit new
+    (compact_turn c (as_whole old) ≡ Some (as_whole new)) × (compact_turn_fits limit c (as_whole old) ≡ true) × IsWithin bound limit new
 IsTurn bound limit c Unlimited old new = (compact_turn c (as_whole old) ≡ None) × (as_whole new ≡ as_whole old) × IsWithin bound limit new
 IsTurn bound limit c GivenUp old new = Unit {0}
 

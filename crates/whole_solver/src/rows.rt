@@ -3,7 +3,7 @@
 ghost use Rattle.std.specs.Prelude.{◌≡◌, ◌+◌, ◌-◌, ◌*◌, ◌^◌, ◌<◌, ◌≤◌, false, length, pos, true, unsigned_abs, slice_set, take};
 ghost use Rattle.whole_rows.specs.Lines.{AreSizes, IsLine, line_size, number_at, widest};
 ghost use Rattle.whole_rows.specs.Compact.{compact_cleared};
-ghost use Rattle.whole_rows.specs.Turning.{cut, mix_fits};
+ghost use Rattle.whole_rows.specs.Turning.{cut, steps_within};
 ghost use Rattle.whole_solver.specs.Rows.{AreLinesIn, AreSizesIn, IsPivot, IsTurned, column_in, line_in, lines_after, lines_in, nonzero_in, pivot_line, row_at};
 
 use crate::divisor::{common_short, divide_numbers};
@@ -268,9 +268,9 @@ fn turn_lines(
         (line_in (length room.old) objective.old) }
     requires objective_size { IsLine objective_size.old (length room.old)
         (line_in (length room.old) objective.old) }
-    ensures fits { result ≡ true → mix_fits step.entry.limit
-        (line_in (length room.old) objective.old)
-        (cut (line_in (length room.old) (row_at rows.old.rows step.entry.r))) ≡ true }
+    ensures fits { result ≡ true → steps_within step.entry.limit step.entry.c
+        (cut (line_in (length room.old) (row_at rows.old.rows step.entry.r)))
+        (line_in (length room.old) objective.old) ≡ true }
     ensures turned { result ≡ true → IsTurned (length room.old) step.entry.c step.entry.r
         rows.old.rows objective.old rows.new.rows objective.new }
     ensures lines { result ≡ true → AreLinesIn step.entry.bound (length room.old) rows.new.rows }
@@ -326,8 +326,9 @@ pub fn turn_rows(
     requires places { width ≤ length places.old }
     requires objective { IsLine step.limit width (line_in width objective.old) }
     requires objective_size { IsLine objective_size.old width (line_in width objective.old) }
-    ensures fits { result ≡ true → mix_fits step.entry.limit (line_in width objective.old)
-        (cut (line_in width (row_at rows.old.rows step.entry.r))) ≡ true }
+    ensures fits { result ≡ true → steps_within step.entry.limit step.entry.c
+        (cut (line_in width (row_at rows.old.rows step.entry.r)))
+        (line_in width objective.old) ≡ true }
     ensures turned { result ≡ true → IsTurned width step.entry.c step.entry.r
         rows.old.rows objective.old rows.new.rows objective.new }
     ensures lines { result ≡ true → AreLinesIn step.entry.bound width rows.new.rows }

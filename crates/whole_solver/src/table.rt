@@ -1,5 +1,5 @@
 //! The table of a run. Nothing outside this file knows how it is laid out.
-ghost use Rattle.std.specs.Prelude.{◌≡◌, ◌+◌, ◌-◌, ◌^◌, ◌<◌, ◌≤◌, ℕ, IfOk, IfSome, [], length, map, position, true, unsigned_abs, vec_capacity, vec_len, slice_index_or, slice_set, ◌==◌};
+ghost use Rattle.std.specs.Prelude.{◌≡◌, ◌+◌, ◌-◌, ◌*◌, ◌^◌, ◌<◌, ◌≤◌, ℕ, IfOk, IfSome, [], length, map, position, true, unsigned_abs, vec_capacity, vec_len, slice_index_or, slice_set, ◌==◌};
 ghost use Rattle.std.specs.Option.{option_map};
 ghost use Rattle.compact_table.specs.Candidates.{best_with};
 ghost use Rattle.table_run.specs.Places.{numbers};
@@ -7,7 +7,7 @@ ghost use Rattle.compact_run.specs.Compact.{compact_first};
 ghost use Rattle.whole_rows.specs.Compact.{compact_entering, compact_pivoted, price_of};
 ghost use Rattle.whole_rows.specs.Lines.{IsLine, entry_of, taken_in, widest};
 ghost use Rattle.whole_rows.specs.Running.{whole_where_basic};
-ghost use Rattle.whole_rows.specs.Turning.{cut, mix_fits, whole_ratios};
+ghost use Rattle.whole_rows.specs.Turning.{cut, steps_within, whole_ratios};
 ghost use Rattle.whole_solver.specs.Choices.{as_column};
 ghost use Rattle.whole_solver.specs.Rows.{AreLinesIn, IsPivot, IsTurned, line_in, row_at};
 
@@ -256,9 +256,9 @@ impl WholeTable {
         requires bound { bound ≤ widest }
         requires objective { limit ≤ 2 ^ 127 - 1 }
         requires within { IsWithin bound limit self.old }
-        ensures fits { result ≡ true → mix_fits limit
-            (line_in (width_of self.old) self.old.objective.items)
-            (cut (line_in (width_of self.old) (row_at self.old.rows.rows r))) ≡ true }
+        ensures fits { result ≡ true → steps_within limit c
+            (cut (line_in (width_of self.old) (row_at self.old.rows.rows r)))
+            (line_in (width_of self.old) self.old.objective.items) ≡ true }
         ensures turned { result ≡ true → IsTurned (width_of self.old) c r
             self.old.rows.rows self.old.objective.items
             self.new.rows.rows self.new.objective.items }
@@ -313,9 +313,9 @@ impl WholeTable {
         requires bound { bound ≤ widest }
         requires objective { limit ≤ 2 ^ 127 - 1 }
         requires within { IsWithin bound limit self.old }
-        ensures fits { result ≡ true → mix_fits limit
-            (line_in (width_of self.old) self.old.objective.items)
-            (cut (line_in (width_of self.old) (row_at self.old.rows.rows r))) ≡ true }
+        ensures fits { result ≡ true → steps_within limit c
+            (cut (line_in (width_of self.old) (row_at self.old.rows.rows r)))
+            (line_in (width_of self.old) self.old.objective.items) ≡ true }
         ensures table { result ≡ true
             → as_whole self.new ≡ compact_pivoted c r (as_whole self.old) }
         ensures within { result ≡ true → IsWithin bound limit self.new }
@@ -333,6 +333,7 @@ impl WholeTable {
     pub fn turn(&mut self, c: usize, bound: u64, limit: u128) -> Turn
         requires column { c < length self.old.names.items }
         requires bound { bound ≤ widest }
+        requires room { 2 * (bound * bound) ≤ limit }
         requires objective { limit ≤ 2 ^ 127 - 1 }
         requires within { IsWithin bound limit self.old }
         ensures turn { IsTurn bound limit c result self.old self.new }

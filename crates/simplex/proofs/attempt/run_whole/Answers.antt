@@ -1,8 +1,15 @@
-use Rattle.std.proofs.Common.{◌≡◌, ◌-◌, rules, unsigned_abs}
+use Rattle.std.proofs.Common.{◌≡◌, ◌-◌, arith, rules, unsigned_abs}
 use Rattle.sparse_program.specs.Rows.{program_in}
 use Rattle.whole_solver.specs.Within.{IsUsable}
 use Rattle.simplex.proofs.WholeSteps.{started_at, whole_optimum, whole_ray, whole_no_unit}
 use Rattle.simplex.proofs.attempt.run_whole.Goals as goal
+
+pub whole_run-requires-clause-room : goal.whole_run-requires-clause-room
+whole_run-requires-clause-room g c =
+    let usable : IsUsable (unsigned_abs g.N.Exact.LIMIT) c.in-Some.bound = search rules in
+    let same : c.unsigned_abs-limit.result ≡ unsigned_abs g.N.Exact.LIMIT = search rules in
+    let room = usable.room in
+    omega (arith, same, room)
 
 pub returns-in-Optimal-clause-tried : goal.returns-in-Optimal-clause-tried
 returns-in-Optimal-clause-tried g c t given =

@@ -9,19 +9,19 @@ use Rattle.whole_solver.specs.Choices.{as_column}
 use Rattle.whole_solver.specs.Tables.{as_whole, IsTurn}
 use Rattle.whole_solver.proofs.Pivoting.{rows_fit_in}
 use Rattle.simplex.proofs.RunSteps.{spent_one, spent_none}
-use Rattle.simplex.proofs.WholeSteps.{whole_ends, whole_out, whole_moves, whole_unlimited}
+use Rattle.simplex.proofs.WholeSteps.{room_above, within_wider, whole_ends, whole_out, whole_moves, whole_unlimited}
 use Rattle.simplex.proofs.whole_run.whole_run.Goals as goal
 
 pub returns-clause-run : goal.returns-clause-run
 returns-clause-run c n m =
     let enters = sym c.entering.ensures.column ∙ ap (λ (e : Option Entering). option_map as_column e) c.in_default.is in
-    (sym (c.loop-column.invariant.rest n m) ∙ whole_ends c.args.bound c.args.limit n m _ _ _ enters, c.loop-column.invariant.within)
+    (sym (c.loop-column.invariant.rest n m) ∙ whole_ends c.args.limit n m _ _ _ enters, c.loop-column.invariant.within)
 
 pub returns-then-not-spend-clause-run : goal.returns-then-not-spend-clause-run
 returns-then-not-spend-clause-run c n m =
     let s = spent_none c.spend.result c.loop-column.budget.spent c.loop-column.budget.limit c.spend.new.self.spent c.spend.ensures.answer c.spend.ensures.spent c.if-not-spend.true in
     let enters = sym c.entering.ensures.column ∙ ap (λ (e : Option Entering). option_map as_column e) c.in-Some.is in
-    sym (c.loop-column.invariant.rest n m) ∙ whole_out c.args.bound c.args.limit n m (c.loop-column.budget.limit - c.loop-column.budget.spent) _ _ _ enters (omega (arith, s.0)) ∙ ap (λ (k : ℕ). Some (no_unit_left k)) (sym s.1)
+    sym (c.loop-column.invariant.rest n m) ∙ whole_out c.args.limit n m (c.loop-column.budget.limit - c.loop-column.budget.spent) _ _ _ enters (omega (arith, s.0)) ∙ ap (λ (k : ℕ). Some (no_unit_left k)) (sym s.1)
 
 pub returns-in-Unlimited-clause-run : goal.returns-in-Unlimited-clause-run
 returns-in-Unlimited-clause-run c n m =
@@ -29,9 +29,9 @@ returns-in-Unlimited-clause-run c n m =
     let enters = sym c.entering.ensures.column ∙ ap (λ (e : Option Entering). option_map as_column e) c.in-Some.is in
     let column = c.in-Some.column in
     let told = subst (λ (r : Turn). IsTurn c.args.bound c.args.limit column.place r c.loop-column.table c.turn.new.self) c.in-Unlimited.is c.turn.ensures.turn in
-    let run0 = compact_run_from c.args.bound c.args.limit n m (c.args.budget.now.limit - c.args.budget.now.spent) c.args.budget.now.spent (as_whole c.args.table.now) in
+    let run0 = compact_run_from c.args.limit n m (c.args.budget.now.limit - c.args.budget.now.spent) c.args.budget.now.spent (as_whole c.args.table.now) in
     let ends = sym (c.loop-column.invariant.rest n m)
-    ∙ whole_unlimited c.args.bound c.args.limit n m (c.loop-column.budget.limit - c.loop-column.budget.spent) _ _ _ enters told.0 (omega (arith, s.0))
+    ∙ whole_unlimited c.args.limit n m (c.loop-column.budget.limit - c.loop-column.budget.spent) _ _ _ enters told.0 (omega (arith, s.0))
     ∙ ap (λ (k : ℕ). Some (unbounded (compact_direction n (as_column column) (as_whole c.loop-column.table)) k)) (sym s.1) in
     let inside : column.place < length c.loop-column.table.names.items = search rules in (
       subst (λ (t : CompactTable). run0 ≡ Some (unbounded (compact_direction n (as_column column) t) c.spend.new.self.spent)) (sym told.1) ends,
@@ -45,7 +45,7 @@ loop-column-preserved c =
     let enters = sym c.entering.ensures.column ∙ ap (λ (e : Option Entering). option_map as_column e) c.in-Some.is in
     let told = subst (λ (r : Turn). IsTurn c.args.bound c.args.limit c.in-Some.column.place r c.loop-column.table c.turn.new.self) c.in-Moved.is c.turn.ensures.turn in
     let next = c.turn.new.self in
-    let fits = rows_fit_in c.args.bound (length next.names.items + 1) next.basics.items next.rows.rows told.2.rows in
+    let fits = rows_fit_in c.args.limit (length next.names.items + 1) next.basics.items next.rows.rows (within_wider c.args.bound c.args.limit c.args.limit next (room_above c.args.bound c.args.limit c.requires.room) told.2).rows in
     let left : c.spend.new.self.limit - c.spend.new.self.spent ≡ c.loop-column.budget.limit - c.loop-column.budget.spent - 1 = omega (arith, s.1, c.spend.ensures.limit) in
     let turned = c.turn.ensures.shape in
     let before = c.loop-column.invariant.shape in
@@ -58,8 +58,8 @@ loop-column-preserved c =
       };
       within = told.2;
       rest = λ n m.
-          ap (λ (k : ℕ). compact_run_from c.args.bound c.args.limit n m k c.spend.new.self.spent (as_whole next)) left
-          ∙ ap (λ (k : ℕ). compact_run_from c.args.bound c.args.limit n m (c.loop-column.budget.limit - c.loop-column.budget.spent - 1) k (as_whole next)) s.1
-          ∙ sym (whole_moves c.args.bound c.args.limit n m (c.loop-column.budget.limit - c.loop-column.budget.spent) _ _ _ _ enters told.0 told.1 fits (omega (arith, s.0)))
+          ap (λ (k : ℕ). compact_run_from c.args.limit n m k c.spend.new.self.spent (as_whole next)) left
+          ∙ ap (λ (k : ℕ). compact_run_from c.args.limit n m (c.loop-column.budget.limit - c.loop-column.budget.spent - 1) k (as_whole next)) s.1
+          ∙ sym (whole_moves c.args.limit n m (c.loop-column.budget.limit - c.loop-column.budget.spent) _ _ _ _ enters told.0 told.1 fits (omega (arith, s.0)))
           ∙ c.loop-column.invariant.rest n m;
     }

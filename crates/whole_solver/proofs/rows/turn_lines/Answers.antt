@@ -1,8 +1,7 @@
 use Rattle.std.proofs.Common.{◌≡◌, ◌<◌, ◌≤◌, ◌*◌, ◌∙◌, sym, ap, subst, arith, length, set, ℕ, List, ℤ}
 use Rattle.whole_rows.specs.Lines.{Line, AreSizes, line_size, widest}
-use Rattle.std.proofs.lemmas.Bool.{le-leb}
 use Rattle.std.proofs.Math.Nat.{mul-le-mul}
-use Rattle.whole_rows.proofs.LineSteps.{cut_within}
+use Rattle.whole_rows.proofs.LineSteps.{cut_within, steps_within_room}
 use Rattle.whole_rows.specs.Compact.{compact_cleared, turned_in}
 use Rattle.whole_rows.specs.Turning.{cut}
 use Rattle.whole_solver.specs.Rows.{column_in, line_in, lines_in, lines_after, row_at, pivot_line, AreLinesIn, AreSizesIn, nonzero_in}
@@ -107,4 +106,4 @@ returns-clause-fits c done =
     let size = line_size (line_in w c.args.objective.now) in
     let less : size * line_size (cut x) ≤ size * most = mul-le-mul (omega arith) small in
     let room = c.clear_objective.ensures.fits c.if-not-clear_objective.false in
-    le-leb _ c.args.step.limit (omega (arith, less, room))
+    steps_within_room c.args.step.limit c.args.step.c (cut x) (line_in w c.args.objective.now) (omega (arith, less, room))

@@ -1,10 +1,13 @@
-use Rattle.std.proofs.Common.{◌≡◌, ◌∙◌, ap, sym, subst, arith, true}
-use Rattle.std.specs.Prelude.{Some}
+use Rattle.std.proofs.Common.{◌≡◌, ◌∙◌, ◌+◌, length, ap, sym, subst, arith, true}
+use Rattle.std.specs.Prelude.{Some, ◌&&◌}
+use Rattle.arithmetic.proofs.Tests.{and_true}
 use Rattle.whole_rows.specs.Lines.{Line}
-use Rattle.whole_rows.specs.Compact.{CompactTable, compact_objective_fits, compact_turn}
-use Rattle.whole_rows.specs.Turning.{cut, mix_fits}
+use Rattle.whole_rows.specs.Compact.{CompactTable, compact_turn_fits, compact_turn}
+use Rattle.whole_rows.specs.Turning.{cut, steps_within, rows_steps_within}
+use Rattle.whole_rows.proofs.LineSteps.{cut_within}
+use Rattle.whole_solver.specs.Rows.{line_in, row_at}
 use Rattle.whole_solver.specs.Tables.{as_whole}
-use Rattle.whole_solver.proofs.Pivoting.{line_there, pivot_there, turn_fits, turn_none, turn_pivots}
+use Rattle.whole_solver.proofs.Pivoting.{line_there, pivot_there, rows_in_room, turn_fits, turn_none, turn_pivots}
 use Rattle.whole_solver.proofs.table.WholeTable.turn.Goals as goal
 
 pub pivot-requires-clause-pivot : goal.pivot-requires-clause-pivot
@@ -29,9 +32,16 @@ returns-then-pivot-clause-turn c =
     let t = c.list_column-count.new.self in
     let same = c.list_column-count.ensures.table in
     let p = pivot_there c.args.c c.in-Some.r t.names.items t.basics.items t.rows.rows t.objective.items (omega (arith, t.count, t.basics.ok)) place in
+    let w = length t.names.items + 1 in
     let line = line_there t.names.items t.basics.items t.rows.rows c.in-Some.r (omega (arith, t.count, t.basics.ok)) p.row in
-    let fits = subst (λ (l : Line). mix_fits c.args.limit (as_whole t).objective (cut l) ≡ true) (sym line) (c.pivot.ensures.fits c.if-pivot.true) in (
+    let within = c.list_column-count.ensures.within c.args.bound c.args.limit c.requires.within in
+    let leaving = cut (line_in w (row_at t.rows.rows c.in-Some.r)) in
+    let objective : steps_within c.args.limit c.args.c leaving (as_whole t).objective ≡ true = c.pivot.ensures.fits c.if-pivot.true in
+    let pivot = cut_within c.args.bound w (line_in w (row_at t.rows.rows c.in-Some.r)) (within.rows c.in-Some.r p.row) in
+    let rows = rows_in_room c.args.bound c.args.limit w c.args.c c.in-Some.r 0 leaving t.basics.items t.rows.rows c.requires.room pivot within.rows in
+    let both = and_true (steps_within c.args.limit c.args.c leaving (as_whole t).objective) (rows_steps_within c.args.limit c.args.c c.in-Some.r leaving 0 (as_whole t).rows) objective rows in
+    let fits = subst (λ (l : Line). (steps_within c.args.limit c.args.c (cut l) (as_whole t).objective && rows_steps_within c.args.limit c.args.c c.in-Some.r (cut l) 0 (as_whole t).rows) ≡ true) (sym line) both in (
       ap (compact_turn c.args.c) (sym same) ∙ turn_pivots c.args.c c.in-Some.r (as_whole t) place ∙ ap Some (sym (c.pivot.ensures.table c.if-pivot.true)),
-      ap (λ (u : CompactTable). compact_objective_fits c.args.limit c.args.c u) (sym same) ∙ turn_fits c.args.limit c.args.c c.in-Some.r (as_whole t) place fits,
+      ap (λ (u : CompactTable). compact_turn_fits c.args.limit c.args.c u) (sym same) ∙ turn_fits c.args.limit c.args.c c.in-Some.r (as_whole t) place fits,
       c.pivot.ensures.within c.if-pivot.true,
     )
