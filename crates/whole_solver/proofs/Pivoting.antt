@@ -1,7 +1,6 @@
 -- A turn of the table whose lists are kept apart.
 use Rattle.std.proofs.Common.{◌≡◌, ℕ, zero, suc, ◌+◌, ◌*◌, ◌<◌, ◌≤◌, List, [], ◌∷◌, length, set, get_or, refl, sym, ◌∙◌, ap, subst, arith, Bool, true, false, nat_eq, ℤ, pos, unsigned_abs, length-set}
 use Rattle.std.specs.Prelude.{Some, None, int_lt, if◌then◌else◌}
-use Rattle.std.proofs.lemmas.Bool.{leb-true}
 use Rattle.std.proofs.Math.Nat.{mul-le-mul}
 use Rattle.arithmetic.proofs.Tests.{and_true}
 use Rattle.std.proofs.lemmas.List.{length-map}
@@ -11,12 +10,12 @@ use Rattle.compact_table.specs.Candidates.{best_with}
 use Rattle.whole_rows.specs.Lines.{Line, WholeRow, IsLine, line_size, line_of, number_at, line_at, no_line, rows_fit}
 use Rattle.whole_rows.specs.Turning.{cut, whole_ratios, steps_within, row_steps_within, rows_steps_within, lines_steps_within, leaving_fits}
 use Rattle.whole_rows.specs.Compact.{CompactTable, basic_of, turned_in, compact_cleared, compact_rows_after, compact_pivoted, compact_leave, compact_turn, compact_turn_fits}
-use Rattle.whole_rows.proofs.LineSteps.{sizes_least, steps_within_room}
+use Rattle.whole_rows.proofs.LineSteps.{steps_within_room}
 use Rattle.whole_rows.proofs.TurnSteps.{AllOf, IsCandidate, candidates, Leaves, leaves}
 use Rattle.whole_solver.specs.Rows.{line_in, lines_in, row_at, beside_basics, lines_after, AreLinesIn, IsTurned, IsPivot}
 use Rattle.whole_solver.specs.Tables.{table_of}
 use Rattle.whole_solver.proofs.Choosing.{line_place, length-beside}
-use Rattle.whole_solver.proofs.Turned.{line_of_sizes}
+use Rattle.whole_solver.proofs.Turned.{line_of_sizes, size_below}
 
 -- ---- the rows beside their basic variables
 pub line_beside : (bs : List ℕ) (lines : List Line) (r : ℕ) → length bs ≡ length lines → line_at (beside_basics bs lines) r ≡ get_or lines r no_line
@@ -171,9 +170,7 @@ pivot_there c r names basics rows objective same h = step (whole_ratios (length 
 -- rows within a bound that leaves room are cleared within the limit
 steps_in_room : (b limit w e : ℕ) (pivot l : Line) → 2 * (b * b) ≤ limit → IsLine b w pivot → IsLine b w l → steps_within limit e pivot l ≡ true
 steps_in_room b limit w e pivot l room p g =
-    let size : line_size l ≤ b = leb-true (line_size l) b (sym (sizes_least b l) ∙ line_of_sizes b w l g) in
-    let pivot_size : line_size pivot ≤ b = leb-true (line_size pivot) b (sym (sizes_least b pivot) ∙ line_of_sizes b w pivot p) in
-    let less : line_size l * line_size pivot ≤ b * b = mul-le-mul size pivot_size in
+    let less : line_size l * line_size pivot ≤ b * b = mul-le-mul (size_below b w l g) (size_below b w pivot p) in
     steps_within_room limit e pivot l (omega (arith, less, room))
 
 pub rows_in_room : (b limit w e r i : ℕ) (pivot : Line) (bs : List ℕ) (rows : List (List ℤ)) → 2 * (b * b) ≤ limit → IsLine b w pivot → AreLinesIn b w rows → rows_steps_within limit e r pivot i (beside_basics bs (lines_in w rows)) ≡ true

@@ -1,7 +1,10 @@
 -- The rows of a turn.
-use Rattle.std.proofs.Common.{◌≡◌, ℕ, zero, suc, ◌+◌, ◌-◌, ◌*◌, ◌<◌, ◌≤◌, List, [], ◌∷◌, length, take, drop, set, get_or, add-one, refl, sym, ◌∙◌, ap, subst, arith, Bool, true, false, ℤ, pos, unsigned_abs, length-set}
+use Rattle.std.proofs.Common.{◌≡◌, ℕ, zero, suc, ◌+◌, ◌-◌, ◌*◌, ◌/◌, ◌^◌, ◌<◌, ◌≤◌, List, [], ◌∷◌, length, take, drop, set, get_or, add-one, refl, sym, ◌∙◌, ap, subst, arith, Bool, true, false, ℤ, pos, unsigned_abs, to_z, length-set}
+use mir.Syntax.{w128}
+use Rattle.std.proofs.lemmas.Int.{to_z_pos}
+use Rattle.arithmetic.specs.Gcd.{gcd}
 use Rattle.std.specs.Prelude.{Some, nat_eq, if◌then◌else◌}
-use Rattle.std.proofs.lemmas.Bool.{le-leb, leb-true, eq-eqb, ne_eqb}
+use Rattle.std.proofs.lemmas.Bool.{le-leb, eq-eqb, ne_eqb}
 use Rattle.std.proofs.lemmas.List.{length-map, length-drop, length-take-le, map-set, get_or-set_same}
 use Rattle.std.proofs.Math.Nat.{mul-le-mul}
 use Rattle.std.proofs.lemmas.Slice.{take-put_mid}
@@ -9,7 +12,7 @@ use borrow.Rule.Slice.PartMut.{put_mid}
 use Rattle.whole_rows.specs.Lines.{Line, IsLine, AreSizes, line_size, line_of, number_at, no_line, line_fits}
 use Rattle.whole_rows.specs.Compact.{compact_cleared, turned_in}
 use Rattle.whole_rows.specs.Turning.{cut, step_size}
-use Rattle.whole_rows.proofs.LineSteps.{cut_within, line_of_fit, fit_of_sizes, sizes_least, steps_below_twice}
+use Rattle.whole_rows.proofs.LineSteps.{cut_within, line_of_fit, fit_of_sizes, size_at_most, sizes_bound}
 use Rattle.whole_rows.proofs.TurnSteps.{size_above, cut_above}
 use Rattle.whole_rows.proofs.CompactRun.{cleared_shaped}
 use Rattle.whole_rows.proofs.CompactFirst.{cleared_lines_fit, set_sizes}
@@ -17,7 +20,7 @@ use Rattle.compact_run.proofs.Columns.{same_test, other_test}
 use Rattle.compact_table.proofs.ArenaSteps.{at_set_same, set_here}
 use Rattle.whole_solver.specs.Within.{kept}
 use Rattle.whole_solver.specs.Rows.{column_in, line_in, lines_in, nonzero_in, row_at, pivot_line, line_after, lines_after, AreLinesIn, AreSizesIn, IsPivot}
-use Rattle.whole_solver.proofs.Numbers.{kept_some, no_size, written_more, written_all}
+use Rattle.whole_solver.proofs.Numbers.{kept_some, written_more, written_all}
 use Rattle.whole_solver.proofs.Choosing.{line_place}
 use Rattle.whole_solver.proofs.Listed.{IsGap, column_number}
 use Rattle.whole_solver.proofs.Sparse.{nonzero_set}
@@ -104,17 +107,6 @@ front_sizes b w (d ∷ xs) s =
     let same = rw (add-one w) at s in
     (λ j. same (suc j), same 0)
 
-pub sizes_front : (b w : ℕ) (row : List ℤ) → IsLine b w (line_in w row) → AreSizes b (take (w + 1) row)
-sizes_front b w [] g = subst (λ (k : ℕ). AreSizes b (take k [])) (sym (add-one w)) (no_size b)
-sizes_front b w (d ∷ xs) g = subst (λ (k : ℕ). AreSizes b (take k (d ∷ xs))) (sym (add-one w)) at_place
-  where
-    at_place : (j : ℕ) → unsigned_abs (number_at (d ∷ take w xs) j) ≤ b
-    at_place zero = g.below
-    at_place (suc j) = g.sizes j
-
-pub line_resized : (b s w : ℕ) (l : Line) → IsLine b w l → l.denominator ≤ s → AreSizes s l.numbers → IsLine s w l
-line_resized b s w l g low sizes = record { positive = g.positive; below = low; sizes = sizes; count = g.count }
-
 -- the sizes of a line whose number in column c is exchanged for the denominator
 pub unset_sizes : (b c : ℕ) (v : ℤ) (zs : List ℤ) → AreSizes b (set zs c v) → unsigned_abs (number_at zs c) ≤ b → AreSizes b zs
 unset_sizes b c v [] s q j = s j
@@ -130,28 +122,7 @@ placed_size b w c a most l y g column is_a is_y sizes low =
     let inside : c < length l.numbers = (let count = g.count in omega (arith, column, count)) in
     let own : number_at (set l.numbers c (pos l.denominator)) c ≡ pos l.denominator = get_or-set_same l.numbers c (pos l.denominator) (pos 0) inside in
     let numbers = unset_sizes most c (pos l.denominator) l.numbers set_sizes (subst (λ (k : ℕ). k ≤ most) is_a low) in
-    leb-true (line_size l) most
-    (sym (sizes_least most l) ∙ line_of_sizes most w l (record { positive = g.positive; below = subst (λ (z : ℤ). unsigned_abs z ≤ most) own (set_sizes c); sizes = numbers; count = g.count }))
-
--- ---- the objective row
-pub line_of_size : (size limit w : ℕ) (row : List ℤ) → IsLine limit w (line_in w row) → AreSizes size (take (w + 1) row) → IsLine size w (line_in w row)
-line_of_size size limit w row g s = let front = front_sizes size w row s in record { positive = g.positive; below = front.1; sizes = front.0; count = g.count }
-
-pub mix_room : (size most limit w : ℕ) (l : Line) → IsLine size w l → 2 * (size * most) ≤ limit → 2 * (line_size l * most) ≤ limit
-mix_room size most limit w l g room =
-    let low : line_size l ≤ size = leb-true (line_size l) size (sym (sizes_least size l) ∙ line_of_sizes size w l g) in
-    let less : line_size l * most ≤ size * most = mul-le-mul low (omega arith) in
-    omega (arith, less, room)
-
-pub wide_cleared : (size most limit w c a d : ℕ) (row pivot ns : List ℤ) → IsLine limit w (line_in w row) → AreSizes size (take (w + 1) row) → AreSizes most (line_in w pivot).numbers → w < length pivot → 0 < a → a ≤ most → 2 * (size * most) ≤ limit
-    → line_of d ns ≡ compact_cleared c a (line_in w pivot).numbers (line_in w row) → IsLine limit w (line_of d ns)
-wide_cleared size most limit w c a d row pivot ns g s sp wide pa la room told =
-    let behind = length-drop 1 pivot in
-    let count : length (take w (drop 1 pivot)) ≡ w = length-take-le w (drop 1 pivot) (omega (arith, behind, wide)) in
-    let line = line_of_size size limit w row g s in
-    let x = unsigned_abs (number_at (line_in w row).numbers c) in
-    let twice : step_size size x a most ≤ 2 * (size * most) = steps_below_twice size x a most (line.sizes c) la in
-    subst (IsLine limit w) (sym told) (cleared_lines_fit size most limit w c a (line_in w pivot).numbers (line_in w row) (omega (arith, twice, room)) line sp count pa)
+    size_at_most most l.denominator l.numbers (subst (λ (z : ℤ). unsigned_abs z ≤ most) own (set_sizes c)) numbers
 
 -- ---- the loop over the rows
 pub length-after : (c a r : ℕ) (pivot : List ℤ) (i : ℕ) (lines : List Line) → length (lines_after c a r pivot i lines) ≡ length lines
@@ -288,6 +259,35 @@ written_front w (y ∷ row) ns x d e = ap (λ (zs : List ℤ). line_of (unsigned
 pub taken_front : (w : ℕ) (row ns : List ℤ) (d : ℤ) → take (suc w) row ≡ d ∷ ns → line_in w row ≡ line_of (unsigned_abs d) ns
 taken_front w [] ns d e = absurd cc
 taken_front w (y ∷ row) ns d e = ap (λ (zs : List ℤ). line_of (unsigned_abs (number_at zs 0)) (drop 1 zs)) e
+
+-- ---- the objective row
+pub size_below : (size n : ℕ) (l : Line) → IsLine size n l → line_size l ≤ size
+size_below size n l g = size_at_most size l.denominator l.numbers g.below g.sizes
+
+pub line_below : (limit size n : ℕ) (l : Line) → IsLine limit n l → line_size l ≤ size → IsLine size n l
+line_below limit size n l g low = line_wider (line_size l) size n l low (sizes_bound n l (record { positive = g.positive; count = g.count }))
+
+-- a smaller pivot row makes no greater steps
+pub steps_less : (size x a low most : ℕ) → low ≤ most → step_size size x a low ≤ step_size size x a most
+steps_less size x a low most h = let less : x / gcd x a * low ≤ x / gcd x a * most = mul-le-mul (omega arith) h in omega (arith, less)
+
+-- the row that is written
+pub record IsWritten (limit w d : ℕ) (row ns : List ℤ) : Type 0 where
+  pub line : IsLine limit w (line_of d ns)
+  pub written : line_in w (set (put_mid 1 (w + 1 - 1) row ns) 0 (to_z w128 d)) ≡ line_of d ns
+
+pub objective_written : (most limit w c a d : ℕ) (row pivot ns : List ℤ) → limit ≤ 2 ^ 127 - 1 → w < length row → w < length pivot → IsLine limit w (line_in w row) → AreSizes most (line_in w pivot).numbers → 0 < a
+    → step_size (line_size (line_in w row)) (unsigned_abs (number_at (line_in w row).numbers c)) a most ≤ limit → line_of d ns ≡ compact_cleared c a (line_in w pivot).numbers (line_in w row) → IsWritten limit w d row ns
+objective_written most limit w c a d row pivot ns held wide_row wide g sizes above room told =
+    let behind = length-drop 1 pivot in
+    let count : length (take w (drop 1 pivot)) ≡ w = length-take-le w (drop 1 pivot) (omega (arith, behind, wide)) in
+    let own = sizes_bound w (line_in w row) (record { positive = g.positive; count = g.count }) in
+    let line : IsLine limit w (line_of d ns) = subst (IsLine limit w) (sym told) (cleared_lines_fit (line_size (line_in w row)) most limit w c a (line_in w pivot).numbers (line_in w row) room own sizes count above) in
+    let low = line.below in
+    let signed : to_z w128 d ≡ pos d = to_z_pos w128 d (omega (arith, low, held)) in
+    let front = front_of_mid w (w + 1 - 1) row ns (omega (arith, wide_row)) line.count in
+    let written = written_front w (put_mid 1 (w + 1 - 1) row ns) ns (number_at row 0) (pos d) front in
+    record { line = line; written = rw signed written }
 
 pub sizes_more : (b j : ℕ) (zs : List ℤ) (v : ℤ) → j < length zs → ((k : ℕ) → k < j → unsigned_abs (number_at zs k) ≤ b) → unsigned_abs v ≤ b → (k : ℕ) → k < j + 1 → unsigned_abs (number_at (set zs j v) k) ≤ b
 sizes_more b j [] v low h q k lt = absurd (omega (arith, low))

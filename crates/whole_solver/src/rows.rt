@@ -3,13 +3,13 @@
 ghost use Rattle.std.specs.Prelude.{◌≡◌, ◌+◌, ◌-◌, ◌*◌, ◌^◌, ◌<◌, ◌≤◌, false, length, pos, true, unsigned_abs, slice_set, take};
 ghost use Rattle.whole_rows.specs.Lines.{AreSizes, IsLine, line_size, number_at, widest};
 ghost use Rattle.whole_rows.specs.Compact.{compact_cleared};
-ghost use Rattle.whole_rows.specs.Turning.{cut, steps_within};
+ghost use Rattle.whole_rows.specs.Turning.{cut, step_size, steps_within};
 ghost use Rattle.whole_solver.specs.Rows.{AreLinesIn, AreSizesIn, IsPivot, IsTurned, column_in, line_in, lines_after, lines_in, nonzero_in, pivot_line, row_at};
 
 use crate::divisor::{common_short, divide_numbers};
 use crate::line::{clear_line, list_nonzero, list_place, size_of};
 use crate::mix::{Known, Pivot, Step};
-use crate::wide::{clear_wide_line, wide_size_to_mix};
+use crate::wide::clear_wide_line;
 use lists::RowArena;
 
 /// Brings the line of so many numbers at the front of the row to lowest terms.
@@ -135,8 +135,8 @@ fn clear_sized(
     true
 }
 
-/// Clears the pivot's column of the objective row, where the sizes of both rows say that it stays
-/// within the limit, and says whether they do. The row is at most `kept`, which is kept so.
+/// Clears the pivot's column of the objective row, where the sizes of both rows say that each step
+/// is within the limit, and says whether they do. The row is at most `kept`, which is kept so.
 fn clear_objective(
     objective: &mut [i128],
     kept: &mut u128,
@@ -148,14 +148,14 @@ fn clear_objective(
     requires widths { (width < length objective.old) × (width < length pivot.now) }
     requires pivot { AreSizes known.most (line_in width pivot.now).numbers }
     requires places { known.places.now ≡ nonzero_in (line_in width pivot.now).numbers }
-    requires above { (0 < known.a) × (known.a ≤ known.most) }
+    requires above { 0 < known.a }
     requires below { known.a ≤ widest }
     requires limit { known.step.limit ≤ 2 ^ 127 - 1 }
     requires line { IsLine known.step.limit width (line_in width objective.old) }
     requires kept { IsLine kept.old width (line_in width objective.old) }
-    ensures fits { result ≡ true
-        → 2 * (line_size (line_in width objective.old) * known.entry.most)
-        ≤ known.entry.step.limit }
+    ensures fits { result ≡ true → step_size (line_size (line_in width objective.old))
+        (unsigned_abs (number_at (line_in width objective.old).numbers known.entry.step.c))
+        known.entry.a known.entry.most ≤ known.entry.step.limit }
     ensures cleared { result ≡ true → line_in width objective.new
         ≡ compact_cleared known.entry.step.c known.entry.a (line_in width pivot.now).numbers
         (line_in width objective.old) }
@@ -163,19 +163,16 @@ fn clear_objective(
         → IsLine known.entry.step.limit width (line_in width objective.new) }
     ensures kept { result ≡ true → IsLine kept.new width (line_in width objective.new) }
 {
-    let limit = known.step.limit;
-    let Some(mut size) = wide_size_to_mix(*kept, &objective[..width + 1], known.most, limit) else {
-        return false;
-    };
     let denominator = objective[0].unsigned_abs();
     let numbers = &mut objective[1..width + 1];
     let pivot = Pivot {
         numbers: &pivot[1..width + 1],
         known,
     };
-    let below = clear_wide_line(denominator, numbers, &mut size, pivot);
+    let Some(below) = clear_wide_line(denominator, numbers, kept, pivot) else {
+        return false;
+    };
     objective[0] = below as i128;
-    *kept = size;
     true
 }
 

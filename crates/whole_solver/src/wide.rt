@@ -1,10 +1,10 @@
 //! Lines of 128 bits: the objective row, which the bound of the rows is none for, and a row whose
 //! steps 64 bits do not hold.
-ghost use Rattle.std.specs.Prelude.{◌≡◌, IfSome, ◌<◌, ◌≤◌, ◌+◌, ◌-◌, ◌*◌, ◌/◌, ◌^◌, true, pos, unsigned_abs, length, map, int_div};
+ghost use Rattle.std.specs.Prelude.{◌≡◌, IfSome, ◌<◌, ◌≤◌, ◌+◌, ◌-◌, ◌*◌, ◌/◌, ◌^◌, pos, unsigned_abs, length, map, int_div};
 ghost use Rattle.arithmetic.specs.Gcd.{gcd as gcd_of};
 ghost use Rattle.whole_rows.specs.Compact.{compact_cleared};
-ghost use Rattle.whole_rows.specs.Lines.{AreSizes, line_of, numbers_fit, widest};
-ghost use Rattle.whole_rows.specs.Turning.{cut, cut_where_wide};
+ghost use Rattle.whole_rows.specs.Lines.{AreSizes, IsLine, line_of, line_size, number_at, numbers_fit, widest};
+ghost use Rattle.whole_rows.specs.Turning.{cut, cut_where_wide, step_size};
 ghost use Rattle.whole_solver.specs.Rows.{nonzero_in};
 
 use crate::divisor::{common, common_with_wide, divisor_of, whole_quotient, wide_quotient};
@@ -45,43 +45,53 @@ fn wide_size(numbers: &[i128]) -> u128
     size
 }
 
-/// Whether a row of this size may be mixed with a pivot row of that one, within the limit.
-fn may_mix(size: u128, pivot_size: u64, limit: u128) -> bool
-    ensures { result ≡ true → 2 * (size * pivot_size) ≤ limit }
+/// The size of numbers of size `most` times `times`, less `less` times those of size `pivot_most`,
+/// where it is within the limit.
+fn wide_mixed_size(
+    most: u128,
+    times: u128,
+    less: u128,
+    pivot_most: u64,
+    limit: u128,
+) -> Option<u128>
+    ensures { IfSome result (λ size.
+        (size ≡ most * times + less * pivot_most) × (size ≤ limit)) }
 {
-    let Some(product) = size.checked_mul(pivot_size as u128) else {
-        return false;
+    let Some(own) = most.checked_mul(times) else {
+        return None;
     };
-    let Some(twice) = product.checked_mul(2) else {
-        return false;
+    let Some(other) = less.checked_mul(pivot_most as u128) else {
+        return None;
     };
-    twice <= limit
+    let Some(size) = own.checked_add(other) else {
+        return None;
+    };
+    if size <= limit { Some(size) } else { None }
 }
 
-/// A size of the line with which it may be mixed with a pivot row of that size: the one that is
-/// kept, or where it is too great one that is made anew.
-pub fn wide_size_to_mix(kept: u128, line: &[i128], pivot_size: u64, limit: u128) -> Option<u128>
-    requires { AreSizes kept line.now }
-    ensures sizes { IfSome result (λ size. AreSizes size line.now) }
-    ensures room { IfSome result (λ size. 2 * (size * pivot_size) ≤ limit) }
+/// The size of the line when it is mixed, where it is within the limit: by the one that is kept, or
+/// where that is too great by one that is made anew.
+fn wide_size_to_mix(
+    denominator: u128,
+    numbers: &[i128],
+    kept: u128,
+    factors: Factors<i128>,
+    known: Known,
+) -> Option<u128>
+    requires { line_size (line_of denominator numbers.now) ≤ kept }
+    ensures mixed { IfSome result (λ size. line_size (line_of denominator numbers.now)
+        * unsigned_abs factors.p + unsigned_abs factors.f * known.entry.most ≤ size) }
+    ensures within { IfSome result (λ size. size ≤ known.entry.step.limit) }
 {
-    if may_mix(kept, pivot_size, limit) {
-        return Some(kept);
+    let Known { step, most, .. } = known;
+    let (times, less) = (factors.p.unsigned_abs(), factors.f.unsigned_abs());
+    match wide_mixed_size(kept, times, less, most, step.limit) {
+        Some(size) => Some(size),
+        None => {
+            let anew = wide_size(numbers) | denominator;
+            wide_mixed_size(anew, times, less, most, step.limit)
+        }
     }
-    let size = wide_size(line);
-    if may_mix(size, pivot_size, limit) {
-        Some(size)
-    } else {
-        None
-    }
-}
-
-/// The size of such numbers when they are mixed.
-fn wide_mixed_size(size: u128, p: u128, f: u128, pivot_size: u64) -> u128
-    requires { size * p + f * pivot_size ≤ 2 ^ 127 - 1 }
-    ensures { result ≡ size * p + f * pivot_size }
-{
-    size * p + f * pivot_size as u128
 }
 
 /// Whether 64 bits hold each number.
@@ -138,11 +148,9 @@ pub fn cut_where_not_short(denominator: u128, numbers: &mut [i128]) -> u128
 fn cut_in_place(denominator: u128, numbers: &mut [i128], size: &mut u128) -> u128
     requires above { 0 < denominator }
     requires below { denominator < 2 ^ 127 }
-    requires sizes { AreSizes size.old numbers.old }
-    requires denominator { denominator ≤ size.old }
+    requires size { line_size (line_of denominator numbers.old) ≤ size.old }
     ensures line { line_of result numbers.new ≡ cut_where_wide (line_of denominator numbers.old) }
-    ensures sizes { AreSizes size.new numbers.new }
-    ensures denominator { result ≤ size.new }
+    ensures size { line_size (line_of result numbers.new) ≤ size.new }
 {
     if *size <= WIDEST {
         return denominator;
@@ -173,39 +181,44 @@ fn without_common_wide(a: u64, x: i128) -> Factors<i128>
     }
 }
 
-/// Clears the pivot's column of the line, and answers the line's new denominator. The line is at
-/// most `size`, which is kept so: this and the size of the pivot's numbers are so small that 128
-/// bits hold each step.
+/// Clears the pivot's column of the line, where the sizes of both rows say that each step is within
+/// the limit, and answers the line's new denominator. The line is at most `size`, which is kept so.
 pub fn clear_wide_line(
     denominator: u128,
     numbers: &mut [i128],
     size: &mut u128,
     pivot: Pivot,
-) -> u128
+) -> Option<u128>
     requires column { pivot.known.step.c < length numbers.old }
     requires width { length numbers.old ≡ length pivot.numbers.now }
-    requires numbers { AreSizes size.old numbers.old }
-    requires denominator { (0 < denominator) × (denominator ≤ size.old) }
+    requires line { IsLine pivot.known.step.limit (length numbers.old)
+        (line_of denominator numbers.old) }
+    requires size { line_size (line_of denominator numbers.old) ≤ size.old }
     requires pivot { AreSizes pivot.known.most pivot.numbers.now }
     requires places { pivot.known.places.now ≡ nonzero_in pivot.numbers.now }
-    requires above { (0 < pivot.known.a) × (pivot.known.a ≤ pivot.known.most) }
+    requires above { 0 < pivot.known.a }
     requires below { pivot.known.a ≤ widest }
-    requires room { 2 * (size.old * pivot.known.most) ≤ 2 ^ 127 - 1 }
-    ensures line { line_of result numbers.new
+    requires limit { pivot.known.step.limit ≤ 2 ^ 127 - 1 }
+    ensures fits { IfSome result (λ d. step_size (line_size (line_of denominator numbers.old))
+        (unsigned_abs (number_at numbers.old pivot.entry.known.step.c)) pivot.entry.known.a
+        pivot.entry.known.most ≤ pivot.entry.known.step.limit) }
+    ensures line { IfSome result (λ d. line_of d numbers.new
         ≡ compact_cleared pivot.entry.known.step.c pivot.entry.known.a pivot.entry.numbers.now
-        (line_of denominator numbers.old) }
-    ensures sizes { AreSizes size.new numbers.new }
-    ensures denominator { result ≤ size.new }
+        (line_of denominator numbers.old)) }
+    ensures size { IfSome result (λ d. line_size (line_of d numbers.new) ≤ size.new) }
 {
-    let Known { step, a, most, .. } = pivot.known;
+    let Known { step, a, .. } = pivot.known;
     let x = numbers[step.c];
     if x == 0 {
-        return denominator;
+        return Some(denominator);
     }
     let factors = without_common_wide(a, x);
+    let Some(mixed) = wide_size_to_mix(denominator, numbers, *size, factors, pivot.known) else {
+        return None;
+    };
     numbers[step.c] = 0;
     mix(numbers, pivot, factors);
-    let (times, less) = (factors.p.unsigned_abs(), factors.f.unsigned_abs());
-    *size = wide_mixed_size(*size, times, less, most);
-    cut_in_place(denominator * times, numbers, size)
+    *size = mixed;
+    let below = denominator * factors.p.unsigned_abs();
+    Some(cut_in_place(below, numbers, size))
 }

@@ -1,11 +1,11 @@
-use Rattle.std.proofs.Common.{◌≡◌, ◌<◌, ◌≤◌, ◌*◌, ◌∙◌, sym, ap, subst, arith, length, set, ℕ, List, ℤ}
-use Rattle.whole_rows.specs.Lines.{Line, AreSizes, line_size, widest}
-use Rattle.std.proofs.Math.Nat.{mul-le-mul}
-use Rattle.whole_rows.proofs.LineSteps.{cut_within, steps_within_room}
+use Rattle.std.proofs.Common.{◌≡◌, ◌<◌, ◌≤◌, ◌∙◌, unsigned_abs, sym, ap, subst, arith, length, set, ℕ, List, ℤ}
+use Rattle.whole_rows.specs.Lines.{Line, AreSizes, line_size, number_at, widest}
+use Rattle.std.proofs.lemmas.Bool.{le-leb}
+use Rattle.whole_rows.proofs.LineSteps.{cut_within}
 use Rattle.whole_rows.specs.Compact.{compact_cleared, turned_in}
-use Rattle.whole_rows.specs.Turning.{cut}
+use Rattle.whole_rows.specs.Turning.{cut, step_size}
 use Rattle.whole_solver.specs.Rows.{column_in, line_in, lines_in, lines_after, row_at, pivot_line, AreLinesIn, AreSizesIn, nonzero_in}
-use Rattle.whole_solver.proofs.Turned.{line_wider, lines_set, listed_still, placed, placed_size, sizes_in_set, turned_rows}
+use Rattle.whole_solver.proofs.Turned.{line_wider, lines_set, listed_still, placed, placed_size, sizes_in_set, steps_less, turned_rows}
 use Rattle.whole_solver.proofs.rows.turn_lines.Goals as goal
 
 pub place_pivot-a-requires-clause-line : goal.place_pivot-a-requires-clause-line
@@ -13,11 +13,8 @@ place_pivot-a-requires-clause-line c = line_wider c.args.step.bound widest (leng
 
 pub clear_objective-requires-clause-above : goal.clear_objective-requires-clause-above
 clear_objective-requires-clause-above c =
-    let w = length c.args.room.now in
     let told = c.place_pivot-a.ensures in
-    let p = placed c.args.step.bound w c.args.step.c c.args.step.r c.place_pivot-a.result c.args.rows.now.rows (row_at c.place_pivot-a.new.rows.rows c.args.step.r) c.requires.column c.requires.pivot c.requires.lines told.denominator told.pivot in
-    let most = c.front_size-pivot_most.result in
-    (p.above, subst (λ (k : ℕ). k ≤ most) (ap (λ (m : Line). m.denominator) told.pivot) (subst (λ (z : List ℤ). (line_in w z).denominator ≤ most) c.row-pivot.ensures.row c.front_size-pivot_most.ensures.denominator))
+    (placed c.args.step.bound (length c.args.room.now) c.args.step.c c.args.step.r c.place_pivot-a.result c.args.rows.now.rows (row_at c.place_pivot-a.new.rows.rows c.args.step.r) c.requires.column c.requires.pivot c.requires.lines told.denominator told.pivot).above
 
 pub clear_objective-requires-clause-below : goal.clear_objective-requires-clause-below
 clear_objective-requires-clause-below c =
@@ -103,7 +100,9 @@ returns-clause-fits c done =
     let sizes = subst (λ (z : List ℤ). AreSizes most (line_in w z).numbers) c.row-pivot.ensures.row c.front_size-pivot_most.ensures.numbers in
     let low = subst (λ (k : ℕ). k ≤ most) (ap (λ (m : Line). m.denominator) told.pivot) (subst (λ (z : List ℤ). (line_in w z).denominator ≤ most) c.row-pivot.ensures.row c.front_size-pivot_most.ensures.denominator) in
     let small = placed_size c.args.step.bound w c.args.step.c c.place_pivot-a.result most (cut x) y (cut_within c.args.step.bound w x (c.requires.lines r c.requires.pivot.row)) c.requires.column told.denominator told.pivot sizes low in
-    let size = line_size (line_in w c.args.objective.now) in
-    let less : size * line_size (cut x) ≤ size * most = mul-le-mul (omega arith) small in
+    let l = line_in w c.args.objective.now in
+    let x_size = unsigned_abs (number_at l.numbers c.args.step.c) in
     let room = c.clear_objective.ensures.fits c.if-not-clear_objective.false in
-    steps_within_room c.args.step.limit c.args.step.c (cut x) (line_in w c.args.objective.now) (omega (arith, less, room))
+    let less = steps_less (line_size l) x_size c.place_pivot-a.result (line_size (cut x)) most small in
+    let within : step_size (line_size l) x_size c.place_pivot-a.result (line_size (cut x)) ≤ c.args.step.limit = omega (arith, less, room) in
+    le-leb _ c.args.step.limit (subst (λ (a : ℕ). step_size (line_size l) x_size a (line_size (cut x)) ≤ c.args.step.limit) told.denominator within)
