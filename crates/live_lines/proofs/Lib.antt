@@ -9,4 +9,5 @@ pub mod Serves
 pub mod Standing
 pub mod Steps
 pub mod Takes
+pub mod Turning
 pub mod Within

@@ -1,5 +1,5 @@
 -- A piece that is taken line by line.
-use Rattle.std.proofs.Common.{◌≡◌, ◌≤◌, ◌<◌, ℕ, ◌+◌, ◌-◌, List, [], ◌∷◌, ◌++◌, take, drop, length, refl, sym, ap, subst, ◌∙◌, inr, arith, take-append-drop, append-nil, append_assoc, length-drop, Option, None, Some}
+use Rattle.std.proofs.Common.{◌≡◌, ◌≤◌, ℕ, ◌+◌, ◌-◌, List, [], ◌∷◌, ◌++◌, take, drop, length, refl, sym, ap, subst, ◌∙◌, inr, arith, take-append-drop, append-nil, append_assoc, length-drop, Option, None, Some}
 use Rattle.std.proofs.KnownBytes.{Appends-nil, Appends-trans}
 use Rattle.std.proofs.lemmas.List.{take_all, take_rest}
 use Rattle.std.proofs.Math.Seq.{take-add}
@@ -18,16 +18,9 @@ module _ {S : Type 0} (Answers : Answering S) (old new : S) where
   empty_line number [] none = (refl, refl)
   empty_line number (b ∷ line) none = absurd (omega (arith, none))
 
-  some_line : (number : ℕ) (line reply : List ℕ) → 0 < length line → Answers number old line reply new → AnswersLine Answers number old line reply new
-  some_line number [] reply some h = absurd (omega (arith, some))
-  some_line number (b ∷ line) reply some h = h
-
   module _ (line : Open) (text : List ℕ) (is : text ≡ line_text line.skips line.number line.rest) (before : List ℕ) where
     pub none_added : length text ≡ 0 → AddsAnswer Answers old line old before before
     none_added none = ([], sym (append-nil before), subst (λ t. AnswersLine Answers line.number old t [] old) is (empty_line line.number text none))
-
-    pub some_added : (reply : List ℕ) → 0 < length text → Answers line.number old text reply new → AddsAnswer Answers old line new before (before ++ reply)
-    some_added reply some h = (reply, refl, subst (λ t. AnswersLine Answers line.number old t reply new) is (some_line line.number text reply some h))
 
   -- at the end, to a text that was empty
   module _ (line : Open) (before after : List ℕ) (none : before ≡ []) (adds : AddsAnswer Answers old line new before after) (written writes : Option (List ℕ)) where

@@ -8,18 +8,16 @@ use Rattle.command_text.specs.Fields.{begins_with_mark}
 use Rattle.command_text.specs.Lines.{mark_size}
 use Rattle.command_text.proofs.LineParts.{cut}
 use Rattle.live_lines.specs.Answering.{Answering, IsLastAnswer, IsOutput}
-use Rattle.live_lines.specs.Ended.{ended_by}
 use Rattle.live_lines.specs.Open.{Open, count_limit, line_limit, new_open, unmarked}
-use Rattle.live_lines.specs.Serving.{AnsweredBefore, AnsweredLines, AnsweredSome, BeganSome, Came, Counts, Ends, IsInputWithin, IsOver, Known, OfAll, OfBefore, OfLines, OfSome, TellsTooLong, TookAll, TurnsTo, Wrote, WroteFirst, piece_limit}
+use Rattle.live_lines.specs.Serving.{AnsweredBefore, AnsweredLines, AnsweredSome, Counts, Ends, IsInputWithin, Known, OfAll, OfBefore, OfLines, OfSome, TookAll, Wrote, WroteFirst, piece_limit}
 use Rattle.live_lines.specs.Taken.{AreWithin, IsOpenWithin, Took, with_feeds}
 use Rattle.live_lines.specs.declared.ended.Ended.{Ended}
 use Rattle.live_lines.specs.declared.ended.Ended.TheVariants as ended
-use Rattle.live_lines.specs.declared.stop.LiveStop.{LiveStop}
-use Rattle.live_lines.specs.declared.stop.LiveStop.TheVariants.{WriteFault, TooLong, Memory}
 use Rattle.live_lines.proofs.Cuts.{cut_lines}
 use Rattle.live_lines.proofs.Fronts.{front_behind, whole_front}
 use Rattle.live_lines.proofs.Outputs.{alone_lines, lines_alone, lines_written, whole_output}
 use Rattle.live_lines.proofs.Takes.{completes_more, stops_more, took_more, took_none}
+use Rattle.live_lines.proofs.Turning.{BeganSome, Came, IsOver, ReadsTo, TellsTooLong}
 use Rattle.live_lines.proofs.Within.{more_than_limit, tells_none, took_within}
 
 -- what was left and written at the start, and now
@@ -78,10 +76,10 @@ module _ {S : Type 0} (Answers : Answering S) where
 
   module _ (old state : S) (first line : Open) (left still written writes : Option (List ℕ)) (read reads write writers taken takes : ℕ)
       (came : Came Answers old first state line (known_of left still written writes) (counts_of read reads write writers taken takes)) where
-    pub came_more : (after : S) (next : Open) (stays adds : Option (List ℕ)) (r w t : ℕ)
-        → Came Answers state line after next (known_of still stays writes adds) (counts_of reads r writers w takes t)
+    pub came_more : (after : S) (next : Open) (stays adds : Option (List ℕ)) (r w t limit : ℕ)
+        → ReadsTo Answers state line after next limit (known_of still stays writes adds) (counts_of reads r writers w takes t) None
         → Came Answers old first after next (known_of left stays written adds) (counts_of read r write w taken t)
-    came_more after next stays adds r w t more = record {
+    came_more after next stays adds r w t limit on = let more = on.0 in record {
       bytes = came.bytes ++ more.bytes;
       text = came.text ++ more.text;
       gave = Consumes-trans left still stays came.bytes more.bytes came.gave more.gave;
@@ -166,7 +164,7 @@ module _ {S : Type 0} (Answers : Answering S) (skips : Bool) (start state : S) (
   ]
 
   pub ends_after : (after : S) (next : Open) (stays adds : Option (List ℕ)) (r w t limit : ℕ) (e : Ended) → limit ≤ piece_limit
-      → TurnsTo Answers state line after next limit (known_of still stays writes adds) (counts_of reads r writers w takes t) (Some e)
+      → ReadsTo Answers state line after next limit (known_of still stays writes adds) (counts_of reads r writers w takes t) (Some e)
       → Ends Answers skips start (known_of left stays written adds) (counts_of read r write w taken t) e
   ends_after after next stays adds r w t limit ended.Done low turn =
       let last = turn.1 in (
@@ -180,15 +178,6 @@ module _ {S : Type 0} (Answers : Answering S) (skips : Bool) (start state : S) (
   ends_after after next stays adds r w t limit ended.TooLong low turn =
       let long = long_after stays adds r w t limit low turn.0 in (long.0, turn.1 ∙ came.read_calm, long.1)
   ends_after after next stays adds r w t limit ended.Memory low turn = front_after stays adds turn
-
--- ---- which end a stop makes
-pub turn_stops : {S : Type 0} (Answers : Answering S) (old : S) (line : Open) (new : S) (next : Open) (limit : ℕ) (known : Known) (counts : Counts) (stop : LiveStop)
-    → BeganSome Answers old line known → (stop ≡ WriteFault → Rose counts.write counts.writes)
-    → (stop ≡ TooLong → TellsTooLong Answers old line limit known counts × (counts.reads ≡ counts.read))
-    → TurnsTo Answers old line new next limit known counts (Some (ended_by stop))
-turn_stops Answers old line new next limit known counts WriteFault some rose long = (some, rose refl)
-turn_stops Answers old line new next limit known counts TooLong some rose long = long refl
-turn_stops Answers old line new next limit known counts Memory some rose long = some
 
 -- ---- each piece makes the rest smaller
 size_if : (b : Bool) (n : ℕ) (line : List ℕ) → n ≤ 3 → length line ≤ length (if b then drop n line else line) + 3
