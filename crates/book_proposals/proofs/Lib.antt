@@ -5,3 +5,4 @@ pub mod ReadAsHandedIn
 pub mod RisingNumbers
 pub mod ShortLines
 pub mod TakenProposals
+pub mod Texts

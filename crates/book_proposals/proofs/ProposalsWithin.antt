@@ -10,14 +10,14 @@ use Rattle.form.specs.declared.orders.Order.{Order}
 use Rattle.form.specs.States.{vector_of}
 use Rattle.form.specs.Vector.{positive_part}
 use Rattle.clearing_model.specs.Certificate.{Point}
-use Rattle.measure.specs.Points.{point_of}
-use Rattle.measure.specs.declared.measures.Weighted.{Weighted}
+use Rattle.cert_check.specs.Points.{point_of}
+use Rattle.cert_check.specs.declared.measures.Weighted.{Weighted}
 use Rattle.sign_tree.specs.declared.trees.Multiplier.{Multiplier}
 use Rattle.cert_check.specs.declared.outcome.Cover.{Cover}
 use Rattle.cert_check.specs.declared.outcome.Cover.TheVariants.{Line, Tree}
 use Rattle.cert_check.specs.declared.outcome.Proposal.{Proposal}
 use Rattle.reply_print.specs.OutcomePieces.{state_entries}
-use Rattle.judged_proposals.specs.Judged.{IsBareCover, ProposesNothing, zero_prices}
+use Rattle.proposals.specs.Judged.{IsBareCover, ProposesNothing, zero_prices}
 use Rattle.reply_print.specs.Within.{IsBatchWithin, IsCoverWithin, IsNodeWithin, IsOrderNumber, IsOrderWithin, IsPlace, IsPointWithin, IsSmall, leaves_of}
 use Rattle.proposal_text.specs.Within.{IsProposalWithin, IsSubmissionWithin}
 use Rattle.book_proposals.specs.Answers.{submission_for}

@@ -12,12 +12,12 @@ use Rattle.form.specs.declared.orders.Batch.{Batch}
 use Rattle.form.specs.declared.orders.Order.{Order}
 use Rattle.frac.specs.declared.frac128.Frac128.{Frac128}
 use Rattle.frac.specs.Value.{fraction_of}
-use Rattle.measure.specs.declared.measures.Weighted.{Weighted}
-use Rattle.measure.specs.Points.{point_of}
+use Rattle.cert_check.specs.declared.measures.Weighted.{Weighted}
+use Rattle.cert_check.specs.Points.{point_of}
 use Rattle.cert_check.specs.declared.outcome.Cover.{Cover}
 use Rattle.cert_check.specs.declared.outcome.Cover.TheVariants.{Line, Tree}
 use Rattle.cert_check.specs.declared.outcome.Proposal.{Proposal}
-use Rattle.judged_proposals.specs.Judged.{IsBareCover, ProposesNothing}
+use Rattle.proposals.specs.Judged.{IsBareCover, ProposesNothing}
 use Rattle.live_lines.specs.Open.{IsOneLine, line_limit}
 use Rattle.live_lines.proofs.OneLine.{one_append}
 use Rattle.reply_print.specs.BatchPieces.{each, fraction, natural, pieces_of, whole_words}

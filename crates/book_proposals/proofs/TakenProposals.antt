@@ -29,9 +29,9 @@ use Rattle.frac.specs.ValueOf.{value_from}
 use Rattle.frac.specs.declared.frac128.Frac128.{Frac128}
 use Rattle.frac.proofs.PartSteps.{value_from-fraction_of}
 use Rattle.clearing_model.specs.Certificate.{Point}
-use Rattle.measure.specs.Points.{points_of}
-use Rattle.measure.specs.Sums.{add_gain, bound_of, gain_at, plus_gain, price_of}
-use Rattle.measure.proofs.Sound.{bound_is_lowest, weights_lowest}
+use Rattle.cert_check.specs.Points.{points_of}
+use Rattle.cert_check.specs.MeasureSums.{add_gain, bound_of, gain_at, plus_gain, price_of}
+use Rattle.cert_check.proofs.MeasureSound.{bound_is_lowest, weights_lowest}
 use Rattle.order_book.specs.Numbers.{numbers_of}
 use Rattle.proposal_lines.specs.KeptByMarket.{KeptProposals}
 use Rattle.proposal_lines.specs.Laws.{IsRefused}

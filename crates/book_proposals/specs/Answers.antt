@@ -4,7 +4,7 @@ use Rattle.form.specs.declared.orders.Batch.{Batch}
 use Rattle.form.specs.declared.orders.Order.{Order}
 use Rattle.form.specs.Limits.{IsWithinLimits}
 use Rattle.cert_check.specs.declared.outcome.Proposal.{Proposal}
-use Rattle.judged_proposals.specs.Judged.{IsJudgedBound}
+use Rattle.proposals.specs.Judged.{IsJudgedBound}
 use Rattle.live_lines.specs.Open.{line_limit}
 use Rattle.proposal_text.specs.declared.submissions.Submission.{Submission}
 use Rattle.proposal_text.specs.declared.replies.ProposalReply.TheVariants.{Book}

@@ -4,7 +4,7 @@ use Rattle.exchange_core.specs.Refusals.{by_book}
 use Rattle.exchange_core.specs.Step.{batch_in}
 use Rattle.form.specs.declared.orders.Batch.{Batch}
 use Rattle.cert_check.specs.declared.outcome.Proposal.{Proposal}
-use Rattle.judged_proposals.specs.Judged.{IsJudgedBound}
+use Rattle.proposals.specs.Judged.{IsJudgedBound}
 use Rattle.live_lines.specs.Open.{IsOneLine, line_limit}
 use Rattle.reply_print.specs.Within.{IsMarket}
 use Rattle.order_book.specs.Refusals.{live_refusals}
@@ -13,7 +13,7 @@ use Rattle.proposal_lines.specs.Proposed.{after_word, proposed_of, proposed_repl
 use Rattle.proposal_lines.specs.ProposingState.{ProposingState}
 use Rattle.proposal_text.specs.declared.submissions.Submission.{Submission}
 use Rattle.proposal_text.specs.Within.{IsSubmissionWithin}
-use Rattle.refusals.specs.Refusals.{first_of}
+use Rattle.lists.specs.Refusals.{first_of}
 use Rattle.book_proposals.specs.Answers.{IsBookOf, IsProposed, proposing_text, submission_for}
 
 -- a line is read as handing in just this for the market

@@ -1,3 +1,5 @@
 pub mod Answers
 pub mod Found
 pub mod Laws
+pub mod LiveAnswers
+pub mod Proposing

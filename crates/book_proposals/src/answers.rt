@@ -10,11 +10,10 @@ use crate::books::book_of;
 use cert_check::Proposal;
 use form::{Batch, Order};
 use itoa::Buffer;
-use judged_proposals::nothing;
 use live_lines::MAX_LINE;
 use near_solver::propose;
 use proposal_text::{Submission, print_submission};
-use proposals::OrderNumbers;
+use proposals::{OrderNumbers, nothing};
 use quick_reader::ranges::is_certificate_within;
 use std::alloc::{AllocError, Global};
 

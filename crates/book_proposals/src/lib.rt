@@ -1,12 +1,14 @@
-//! What is proposed for the reply to a line `book`: a proposal for just the orders that it tells,
-//! which is judged a bound.
+//! What is proposed for the reply to a line `book`, a proposal for just the orders that it tells,
+//! which is judged a bound; and such lines as they come, each answered between two reads.
 #![tactic(auto)]
 
 pub mod answers;
 mod books;
 pub mod laws;
 mod limits;
+mod live;
 #[cfg(test)]
 mod tests;
 
 pub use answers::propose_for;
+pub use live::propose_live;

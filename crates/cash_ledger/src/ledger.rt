@@ -4,7 +4,7 @@ ghost use Rattle.cash_ledger.specs.declared.ledger.LedgerRefusal.TheVariants as 
 ghost use Rattle.cash_ledger.specs.Entries.{balance_of, deposit_of, withdrawal_of, transfer_of, IsBounded, AreBounded};
 ghost use Rattle.cash_ledger.specs.Ledger.{is_open, if_open, balance_in, reserved_of, free_of, KeepsReserves, SetsReserve};
 ghost use Rattle.cash_ledger.specs.Refusals.{unless_memory, open_refusals, account_refusals, funds_refusals};
-ghost use Rattle.refusals.specs.Refusals.{TellsFirst};
+ghost use Rattle.lists.specs.Refusals.{TellsFirst};
 
 use crate::accounts::Accounts;
 use crate::entry::{Cause, Entry};

@@ -7,7 +7,7 @@ use Rattle.clearing_model.specs.Certificate.{FillsCover, AreFractionFills, IsPre
 use Rattle.market_laws.proofs.Certificate.{line_certificate_covers, written_tree_covers, balanced_fills_cover, cover_and_measure_are_optimal}
 use Rattle.sign_tree.specs.Read.{node_of, placed_of}
 use Rattle.sign_tree.proofs.Decided.{multipliers_lowest}
-use Rattle.measure.specs.Points.{point_of}
+use Rattle.cert_check.specs.Points.{point_of}
 use Rattle.cert_check.specs.declared.outcome.Cover.TheVariants.{Line, Tree}
 use Rattle.cert_check.specs.declared.outcome.Mark.{Mark}
 use Rattle.cert_check.specs.declared.outcome.Mark.TheVariants.{Optimal, Wide, Budget}

@@ -19,11 +19,11 @@ use Rattle.sign_tree.specs.Read.{node_of, placed_of}
 use Rattle.sign_tree.proofs.Sound.{walks_close_trees}
 use Rattle.sign_tree.proofs.Refuted.{open_walks_close_no_tree}
 use Rattle.sign_tree.proofs.Decided.{multipliers_lowest}
-use Rattle.measure.specs.declared.measures.Measure.{Measure}
-use Rattle.measure.specs.Points.{point_of}
-use Rattle.measure.specs.Sums.{has_unit_mass, bound_of}
+use Rattle.cert_check.specs.declared.measures.Measure.{Measure}
+use Rattle.cert_check.specs.Points.{point_of}
+use Rattle.cert_check.specs.MeasureSums.{has_unit_mass, bound_of}
 use Rattle.exact_num.specs.Tests.{is_same}
-use Rattle.measure.proofs.Sound.{masses_are_exact, bounds_are_exact, bound_is_lowest, weights_lowest}
+use Rattle.cert_check.proofs.MeasureSound.{masses_are_exact, bounds_are_exact, bound_is_lowest, weights_lowest}
 use Rattle.exact_num.proofs.Tested.{same_passes}
 use Rattle.cert_check.specs.declared.outcome.Cover.{Cover}
 use Rattle.cert_check.specs.declared.outcome.Cover.TheVariants.{Line, Tree}

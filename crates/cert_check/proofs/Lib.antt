@@ -1,3 +1,5 @@
+pub mod MeasureSound
+pub mod MeasureDuality
 pub mod Shapes
 pub mod Surplus
 pub mod Fallback

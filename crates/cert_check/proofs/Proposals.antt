@@ -15,10 +15,10 @@ use Rattle.frac.specs.Value.{fraction_of}
 use Rattle.form.specs.declared.orders.Order.{Order}
 use Rattle.form.specs.declared.orders.Batch.{Batch}
 use Rattle.market_laws.proofs.Bounds.{cover_and_measure_bound}
-use Rattle.measure.specs.declared.measures.Measure.{Measure}
-use Rattle.measure.specs.Points.{points_of}
-use Rattle.measure.specs.Sums.{bound_of}
-use Rattle.measure.proofs.Sound.{bounds_are_exact, bound_is_lowest, weights_lowest}
+use Rattle.cert_check.specs.declared.measures.Measure.{Measure}
+use Rattle.cert_check.specs.Points.{points_of}
+use Rattle.cert_check.specs.MeasureSums.{bound_of}
+use Rattle.cert_check.proofs.MeasureSound.{bounds_are_exact, bound_is_lowest, weights_lowest}
 use Rattle.cert_check.specs.declared.outcome.No.{No}
 use Rattle.cert_check.specs.declared.outcome.No.TheVariants as no
 use Rattle.cert_check.specs.declared.outcome.Outcome.{Outcome}

@@ -19,9 +19,9 @@ use Rattle.clearing_model.specs.Certificate.{Point, IsFill, AreFractionFills}
 use Rattle.form.proofs.DotSteps.{length-vector_of}
 use Rattle.form.proofs.Vectors.{length-option_of}
 use Rattle.form.proofs.BundleLegs.{is_bundle_of, on_count-from, on_count-true}
-use Rattle.measure.specs.declared.measures.Weighted.{Weighted}
-use Rattle.measure.specs.declared.measures.Measure.{Measure}
-use Rattle.measure.specs.Points.{point_of}
+use Rattle.cert_check.specs.declared.measures.Weighted.{Weighted}
+use Rattle.cert_check.specs.declared.measures.Measure.{Measure}
+use Rattle.cert_check.specs.Points.{point_of}
 use Rattle.arithmetic.proofs.Tests.{and_true, int_le-true, int_le-yes}
 use Rattle.cert_check.specs.declared.outcome.Cover.{Cover}
 use Rattle.cert_check.specs.declared.outcome.Cover.TheVariants.{Line, Tree}

@@ -11,8 +11,8 @@ use Rattle.clearing_model.specs.Clearing.{AreOn}
 use Rattle.clearing_model.specs.Balance.{AreBalanced}
 use Rattle.clearing_model.specs.Certificate.{AreFractionFills, IsPremiumLessLiability, LineCloses, ClosesAsWritten, Point, HasUnitMass, MeasureProves}
 use Rattle.sign_tree.specs.Read.{node_of, placed_of}
-use Rattle.measure.specs.declared.measures.Measure.{Measure}
-use Rattle.measure.specs.Points.{point_of}
+use Rattle.cert_check.specs.declared.measures.Measure.{Measure}
+use Rattle.cert_check.specs.Points.{point_of}
 use Rattle.cert_check.specs.declared.outcome.Cover.{Cover}
 use Rattle.cert_check.specs.declared.outcome.Cover.TheVariants.{Line, Tree}
 use Rattle.cert_check.specs.declared.outcome.Mark.{Mark}

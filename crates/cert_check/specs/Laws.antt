@@ -6,8 +6,8 @@ use Rattle.frac.specs.Value.{fraction_of}
 use Rattle.form.specs.declared.orders.Batch.{Batch}
 use Rattle.clearing_model.specs.Clearing.{AreOn, IsGreatest}
 use Rattle.clearing_model.specs.Certificate.{FillsCover, IsFractionMeasure, MeasureProves}
-use Rattle.measure.specs.declared.measures.Measure.{Measure}
-use Rattle.measure.specs.Points.{point_of}
+use Rattle.cert_check.specs.declared.measures.Measure.{Measure}
+use Rattle.cert_check.specs.Points.{point_of}
 use Rattle.cert_check.specs.declared.outcome.Outcome.{Outcome}
 use Rattle.cert_check.specs.declared.outcome.Judgement.{Judgement}
 use Rattle.cert_check.specs.declared.outcome.Judgement.TheVariants.{Yes}

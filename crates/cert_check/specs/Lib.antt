@@ -1,3 +1,6 @@
+pub mod Points
+pub mod MeasureSums
+pub mod MeasureLaws
 pub mod Shape
 pub mod Tests
 pub mod Cover
@@ -8,5 +11,3 @@ pub mod Proposals
 pub mod ProposalLaws
 pub mod Worked
 pub use Rattle.line_cover.specs.Breakpoints
-pub use Rattle.measure.specs.declared.measures.Measure
-pub use Rattle.measure.specs.Points

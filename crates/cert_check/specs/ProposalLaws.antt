@@ -7,8 +7,8 @@ use Rattle.frac.specs.Value.{fraction_of}
 use Rattle.form.specs.declared.orders.Batch.{Batch}
 use Rattle.clearing_model.specs.Certificate.{IsFractionMeasure, MeasureProves}
 use Rattle.market_laws.specs.Bounds.{BoundTheGreatest}
-use Rattle.measure.specs.declared.measures.Measure.{Measure}
-use Rattle.measure.specs.Points.{points_of}
+use Rattle.cert_check.specs.declared.measures.Measure.{Measure}
+use Rattle.cert_check.specs.Points.{points_of}
 use Rattle.cert_check.specs.declared.outcome.No.{No}
 use Rattle.cert_check.specs.declared.outcome.No.TheVariants as no
 use Rattle.cert_check.specs.declared.outcome.Proposal.{Proposal}

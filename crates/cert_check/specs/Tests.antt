@@ -16,7 +16,7 @@ use Rattle.sign_tree.specs.Read.{node_of, placed_of}
 use Rattle.sign_tree.specs.Legs.{fraction_legs, leg_count}
 use Rattle.sign_tree.specs.Walk.{closes_of}
 use Rattle.sign_tree.specs.declared.closing.TheConstants.{MAX_SIGNS}
-use Rattle.measure.specs.Sums.{has_unit_mass, bound_of}
+use Rattle.cert_check.specs.MeasureSums.{has_unit_mass, bound_of}
 use Rattle.cert_check.specs.declared.outcome.Claim.{Claim}
 use Rattle.cert_check.specs.declared.outcome.Cover.{Cover}
 use Rattle.cert_check.specs.declared.outcome.Cover.TheVariants.{Line, Tree}

@@ -9,8 +9,8 @@ use Rattle.form.specs.declared.orders.Side.TheVariants.{Buy, Sell}
 use Rattle.form.specs.declared.orders.Batch.{Batch}
 use Rattle.form.specs.StateOf.{state_of}
 use Rattle.line_cover.specs.Worked.{order_for, call_on, covered_spread}
-use Rattle.measure.specs.declared.measures.Measure.{Measure}
-use Rattle.measure.specs.declared.measures.Weighted.{Weighted}
+use Rattle.cert_check.specs.declared.measures.Measure.{Measure}
+use Rattle.cert_check.specs.declared.measures.Weighted.{Weighted}
 use Rattle.cert_check.specs.declared.outcome.Cover.TheVariants.{Line}
 use Rattle.cert_check.specs.declared.outcome.Mark.{Mark}
 use Rattle.cert_check.specs.declared.outcome.Mark.TheVariants.{Optimal, Budget}

@@ -4,14 +4,15 @@ ghost use Rattle.std.specs.Prelude.{◌≡◌};
 ghost use Rattle.frac.specs.Range.{limit};
 ghost use Rattle.frac.specs.Value.{fraction_of};
 ghost use Rattle.form.specs.Limits.{HasItsForms};
-ghost use Rattle.measure.specs.Points.{IsOnStates};
+ghost use Rattle.cert_check.specs.Points.{IsOnStates};
 ghost use Rattle.cert_check.specs.Proposals.{as_fraction, compared, measured_bound};
 
+use crate::bounds::bound;
 use crate::checks::measure_holds;
+use crate::measures::Measure;
 use crate::outcome::{Judgement, No, Unproved};
 use form::Batch;
 use frac::Frac128;
-use measure::{Measure, bound};
 
 // The bound of the measure, where it is one.
 pub(crate) fn measured_bound(batch: &Batch, measure: &Measure) -> Result<Frac128, Unproved>

@@ -6,17 +6,19 @@ ghost use Rattle.frac.specs.Range.{limit};
 ghost use Rattle.frac.specs.Value.{fraction_of};
 ghost use Rattle.form.specs.Limits.{HasItsForms};
 ghost use Rattle.line_cover.specs.Verdict.{line_verdict};
-ghost use Rattle.measure.specs.Points.{IsOnStates, points_of};
+ghost use Rattle.cert_check.specs.Points.{IsOnStates, points_of};
 ghost use Rattle.sign_tree.specs.Verdict.{tree_verdict};
 ghost use Rattle.cert_check.specs.Conditions.{IsCoverOn};
 ghost use Rattle.cert_check.specs.Tests.{HasSigns, add_premium, batch_covered, bound_holds, claim_holds, is_claimed, measure_holds, order_fills, premium_of};
 
+use crate::bounds::bound;
+use crate::mass::is_measure;
+use crate::measures::Measure;
 use crate::outcome::{Claim, Cover};
 use exact_num::{Exact, Wide};
 use form::{Batch, Order, add_for_side};
 use frac::{Frac128, whole};
 use line_cover::{LineVerdict, holds_on_line};
-use measure::{Measure, bound, is_measure};
 use sign_tree::{TreeVerdict, closes};
 
 /// Whether the premium of the fills less the liability is the surplus, and that is not below 0. `Wide` comes exactly

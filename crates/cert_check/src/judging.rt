@@ -6,7 +6,7 @@ ghost use Rattle.frac.specs.Value.{fraction_of};
 ghost use Rattle.form.specs.Limits.{HasItsForms};
 ghost use Rattle.sign_tree.specs.Legs.{leg_count};
 ghost use Rattle.sign_tree.specs.declared.closing.TheConstants.{MAX_SIGNS};
-ghost use Rattle.measure.specs.Points.{IsOnStates};
+ghost use Rattle.cert_check.specs.Points.{IsOnStates};
 ghost use Rattle.cert_check.specs.Conditions.{IfNo, IsFirstUnmet, Meets, OnYes, conditions};
 ghost use Rattle.cert_check.specs.Events.{cover_condition_holds, judge_cover, judge_mark, judge_measure, verdict_of};
 ghost use Rattle.cert_check.specs.Laws.{IsCovered, IsMeasuredIfOptimal, IsProvedIfOptimal};
@@ -16,12 +16,12 @@ ghost use Rattle.cert_check.specs.Shape.{IsMarkOn};
 use crate::bounded::{compared, measured_bound};
 use crate::checks::surplus_holds;
 use crate::cover::mark_covers;
+use crate::measures::Measure;
 use crate::outcome::{Judgement, Mark, No, Outcome};
 use crate::shape::{are_fills, has_shape};
 use exact_num::Wide;
 use form::Batch;
 use frac::Frac128;
-use measure::Measure;
 
 /// The judgement of an outcome. Yes where each condition holds: the shape of the batch, the fills from 0 to their
 /// quantities, the cover, and with the mark optimal the measure and its bound. `No` has the first condition that fails,

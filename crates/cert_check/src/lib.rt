@@ -1,17 +1,28 @@
-//! The verdict on a cleared batch: whether its certificate holds. Nothing here solves anything.
+//! The verdict on a cleared batch: whether its certificate holds, its cover by lines or trees that
+//! are checked below, its measure by the prices that it gives and the bound on every surplus.
+//! Nothing here solves anything.
 #![tactic(auto)]
 
 mod balance;
 mod bounded;
+pub mod bounds;
 pub mod checks;
 mod cover;
 pub mod judging;
 pub mod laws;
+pub mod mass;
+pub mod measure_laws;
+pub mod measures;
 pub mod outcome;
+pub mod prices;
 pub mod proposal;
 mod shape;
 
+pub use bounds::bound;
 pub use checks::{bound_holds, cover_holds, measure_holds, surplus_holds};
 pub use judging::verdict;
+pub use mass::is_measure;
+pub use measures::{Measure, Points, Weighted};
 pub use outcome::{Claim, Cover, Fills, Judgement, Mark, No, Outcome, Proposal, Unproved};
+pub use prices::price_of;
 pub use proposal::{bounded_verdict, judge_proposal};

@@ -3,10 +3,10 @@
 ghost use Rattle.std.specs.Prelude.{◌≡◌};
 ghost use Rattle.cert_check.specs.declared.outcome.Unproved.TheVariants as unproved;
 
+use crate::measures::Measure;
 use exact_num::Wide;
 use frac::Frac128;
 use lists::List;
-use measure::Measure;
 use sign_tree::SignTree;
 
 /// The fills of a batch, one for each order, which contracts see as their list.

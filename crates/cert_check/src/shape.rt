@@ -5,11 +5,11 @@ ghost use Rattle.frac.specs.Value.{fraction_of};
 ghost use Rattle.cert_check.specs.Shape.{are_fills, certificate_fits, cover_fits, forms_have, has_fills, has_shape, is_fill, mark_fits, states_have};
 ghost use Rattle.cert_check.specs.Proposals.{as_optimal};
 
+use crate::measures::{Measure, Weighted};
 use crate::outcome::{Cover, Mark, Outcome, Proposal};
 use exact_num::Exact;
 use form::{Batch, Order};
 use frac::{Frac128, whole};
-use measure::{Measure, Weighted};
 
 // Whether there are as many fills as orders, and forms, states and cover are those of the batch's underlyings.
 pub(crate) fn has_shape(batch: &Batch, outcome: &Outcome) -> bool

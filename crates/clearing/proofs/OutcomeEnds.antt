@@ -16,8 +16,8 @@ use Rattle.table_run.specs.Ending.{Ending, done, wide_at, no_unit_left}
 use Rattle.frac.specs.declared.frac128.Frac128.{Frac128}
 use Rattle.frac.specs.Value.{fraction_of}
 use Rattle.frac.proofs.ValueOf.{value-fraction_of}
-use Rattle.measure.specs.declared.measures.Weighted.{Weighted}
-use Rattle.measure.specs.Points.{point_of}
+use Rattle.cert_check.specs.declared.measures.Weighted.{Weighted}
+use Rattle.cert_check.specs.Points.{point_of}
 use Rattle.cert_check.specs.declared.outcome.Cover.{Cover}
 use Rattle.cert_check.specs.declared.outcome.Mark.TheVariants.{Optimal, Wide, Budget}
 use Rattle.cert_check.specs.declared.outcome.Mark.{Mark}

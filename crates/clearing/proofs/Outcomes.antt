@@ -20,8 +20,8 @@ use Rattle.form.specs.Payoff.{IsState}
 use Rattle.form.proofs.BundleLegs.{is_bundle_of}
 use Rattle.form.specs.States.{vector_of}
 use Rattle.form.specs.StateOf.{state_of, is_state, state_or_first, nine_vector}
-use Rattle.measure.specs.declared.measures.Measure.{Measure}
-use Rattle.measure.specs.Points.{point_of}
+use Rattle.cert_check.specs.declared.measures.Measure.{Measure}
+use Rattle.cert_check.specs.Points.{point_of}
 use Rattle.cert_check.specs.declared.outcome.Cover.{Cover}
 use Rattle.cert_check.specs.declared.outcome.Mark.{Mark}
 use Rattle.cert_check.specs.declared.outcome.Mark.TheVariants.{Wide, Budget}

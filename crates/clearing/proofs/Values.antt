@@ -17,8 +17,8 @@ use Rattle.cert_check.specs.declared.outcome.Cover.{Cover}
 use Rattle.cert_check.specs.declared.outcome.Cover.TheVariants.{Line, Tree}
 use Rattle.rounds.specs.Answers.{IsCoverAs, IsTreeAs}
 use Rattle.rounds.specs.Run.{WrittenCover, by_line, by_tree}
-use Rattle.measure.specs.declared.measures.Weighted.{Weighted}
-use Rattle.measure.specs.Points.{point_of}
+use Rattle.cert_check.specs.declared.measures.Weighted.{Weighted}
+use Rattle.cert_check.specs.Points.{point_of}
 use Rattle.clearing_model.specs.Certificate.{fraction_weight, by_of}
 use Rattle.master_program.specs.Reading.{reading_with}
 use Rattle.clearing.specs.Outcome.{weighted_of, written_node, placed_value, tree_of, cover_of, is_value, are_values, multipliers_in, reading_has_values, has_values}

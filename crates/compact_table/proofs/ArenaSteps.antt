@@ -6,8 +6,8 @@ use Rattle.exact_num.specs.declared.misfit.Wide.{Wide}
 use Rattle.exact_num.specs.Fraction.{Fraction}
 use Rattle.exact_num.specs.Fits.{after, written_back}
 use Rattle.compact_table.proofs.EntrySteps.{front_of, behind, behind_more, done_more, left_less}
-use Rattle.compact_run.specs.Turn.{short_divided, short_cleared}
-use Rattle.compact_run.proofs.Columns.{same_test, other_test}
+use Rattle.equal_runs.specs.CompactTurning.{short_divided, short_cleared}
+use Rattle.equal_runs.proofs.Columns.{same_test, other_test}
 use Rattle.compact_table.specs.Lists.{front, fronts, list_after, lists_after, lists_after_turn}
 
 module _ {A : Type 0} (V : A → List Fraction) (L h k r : ℕ) (P : List Fraction) where

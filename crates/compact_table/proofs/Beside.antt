@@ -5,9 +5,9 @@ use Rattle.exact_num.specs.declared.misfit.Wide.{Wide}
 use Rattle.exact_num.specs.Fraction.{Fraction}
 use Rattle.exact_num.specs.Fits.{after}
 use Rattle.table_run.specs.Table.{Row, row_of, entries_at, basic_at}
-use Rattle.compact_run.specs.Compact.{CompactTable, remove_insert}
-use Rattle.compact_run.specs.Turn.{short_divided, short_cleared, short_rows_after, short_pivoted_at}
-use Rattle.compact_run.proofs.Columns.{same_test, other_test}
+use Rattle.equal_runs.specs.Compact.{CompactTable, remove_insert}
+use Rattle.equal_runs.specs.CompactTurning.{short_divided, short_cleared, short_rows_after, short_pivoted_at}
+use Rattle.equal_runs.proofs.Columns.{same_test, other_test}
 use Rattle.compact_table.specs.Lists.{lists_after, lists_after_turn}
 use Rattle.compact_table.specs.Candidates.{beside_basics, apart}
 

@@ -10,8 +10,8 @@ use Rattle.exact_num.specs.Tests.{is_above_zero}
 use Rattle.table_run.specs.Places.{at}
 use Rattle.table_run.specs.Table.{Row, entries_at, right_side}
 use Rattle.table_run.specs.Choice.{Ratio, ratio_of, join_ratio, by_order, lesser, least}
-use Rattle.compact_run.specs.Steps.{short_quotient, short_ratio_in}
-use Rattle.compact_run.specs.Turn.{short_ratios}
+use Rattle.equal_runs.specs.CompactSteps.{short_quotient, short_ratio_in}
+use Rattle.equal_runs.specs.CompactTurning.{short_ratios}
 use Rattle.compact_table.specs.Candidates.{best_with, beside_basics, short_leaving_of, IsPivot}
 use Rattle.compact_table.proofs.RatioLoop.{length-beside}
 use Rattle.compact_table.proofs.Beside.{entries_beside}

@@ -12,3 +12,5 @@ pub mod Among
 pub mod Starts
 pub mod Reading
 pub mod Turning
+pub mod Written
+pub mod Parts

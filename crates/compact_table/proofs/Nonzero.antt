@@ -7,7 +7,7 @@ use Rattle.exact_num.specs.Fraction.{Fraction, whole}
 use Rattle.exact_num.specs.Fits.{after}
 use Rattle.table_run.specs.Places.{at}
 use Rattle.table_run.specs.Pivot.{each_pair}
-use Rattle.compact_run.specs.Steps.{is_zero, short_less}
+use Rattle.equal_runs.specs.CompactSteps.{is_zero, short_less}
 use Rattle.compact_table.specs.Nonzero.{nonzero_from, nonzero_places, entry_after}
 use Rattle.compact_table.proofs.EntrySteps.{front_of, behind, behind_more}
 

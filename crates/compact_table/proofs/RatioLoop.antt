@@ -9,8 +9,8 @@ use Rattle.table_run.specs.Places.{at}
 use Rattle.table_run.specs.Table.{Row, row_of}
 use Rattle.table_run.specs.Choice.{Ratio, join_ratio, least}
 use Rattle.exact_num.specs.Tests.{is_above_zero}
-use Rattle.compact_run.specs.Steps.{short_quotient, short_ratio_in}
-use Rattle.compact_run.specs.Turn.{short_ratios}
+use Rattle.equal_runs.specs.CompactSteps.{short_quotient, short_ratio_in}
+use Rattle.equal_runs.specs.CompactTurning.{short_ratios}
 use Rattle.compact_table.specs.Candidates.{best_with, with_ratio, beside_basics, short_leaving_of}
 
 -- ---- the ratio of one row

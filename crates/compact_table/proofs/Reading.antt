@@ -7,8 +7,8 @@ use Rattle.std.proofs.lemmas.Bool.Decides.{nat_tests}
 use Rattle.exact_num.specs.Fraction.{Fraction, whole, negated}
 use Rattle.table_run.specs.Places.{at, fraction_zero}
 use Rattle.table_run.specs.Table.{Row, row_of, where_basic}
-use Rattle.compact_run.specs.Compact.{CompactTable, variable_at}
-use Rattle.compact_run.specs.Run.{looked_up}
+use Rattle.equal_runs.specs.Compact.{CompactTable, variable_at}
+use Rattle.equal_runs.specs.CompactRunning.{looked_up}
 use Rattle.compact_table.specs.Candidates.{beside_basics}
 use Rattle.compact_table.specs.Lists.{front}
 use Rattle.compact_table.specs.Tables.{direction_entry}

@@ -6,7 +6,7 @@ use Rattle.exact_num.specs.Fraction.{Fraction, negated}
 use Rattle.table_run.specs.Places.{at, fraction_zero, numbers, values_at}
 use Rattle.table_run.specs.Program.{row}
 use Rattle.table_run.specs.Table.{Row}
-use Rattle.compact_run.specs.Compact.{CompactTable, compact_rows_from}
+use Rattle.equal_runs.specs.Compact.{CompactTable, compact_rows_from}
 use Rattle.compact_table.specs.Candidates.{beside_basics}
 use Rattle.compact_table.specs.Lists.{front, fronts}
 use Rattle.compact_table.specs.Programs.{empty_program, with_row, coefficients_in, program_of}

@@ -6,8 +6,8 @@ use Rattle.exact_num.specs.declared.misfit.Wide.{Wide}
 use Rattle.exact_num.specs.Fraction.{Fraction}
 use Rattle.exact_num.specs.Fits.{after}
 use Rattle.table_run.specs.Choice.{Ratio, least}
-use Rattle.compact_run.specs.Compact.{CompactTable, remove_insert, place_for}
-use Rattle.compact_run.specs.Turn.{short_ratios, short_pivoted, short_pivoted_at, without_limit, stopped_by, compact_turn, short_leave, on_short_ratios, on_or_stopped}
+use Rattle.equal_runs.specs.Compact.{CompactTable, remove_insert, place_for}
+use Rattle.equal_runs.specs.CompactTurning.{short_ratios, short_pivoted, short_pivoted_at, without_limit, stopped_by, compact_turn, short_leave, on_short_ratios, on_or_stopped}
 use Rattle.compact_table.specs.Candidates.{apart, best_with, short_leaving_of}
 use Rattle.compact_table.specs.Lists.{lists_after_turn}
 use Rattle.compact_table.proofs.Beside.{basic_beside, pivoted_apart}

@@ -6,8 +6,8 @@ use Rattle.exact_num.specs.Fits.{after}
 use Rattle.table_run.specs.Places.{at}
 use Rattle.table_run.specs.Table.{Row, row_of}
 use Rattle.table_run.specs.Choice.{Ratio, ratio_of, lesser, least}
-use Rattle.compact_run.specs.Compact.{CompactTable}
-use Rattle.compact_run.specs.Turn.{short_ratios}
+use Rattle.equal_runs.specs.Compact.{CompactTable}
+use Rattle.equal_runs.specs.CompactTurning.{short_ratios}
 use Rattle.compact_table.specs.declared.candidate.Candidate.{Candidate}
 
 abbrev pub as_ratio : {A : Type 0} → (A → Fraction) → Candidate A → Ratio

@@ -3,7 +3,7 @@ use Rattle.std.specs.Prelude.{ℕ, ◌+◌, List, [], ◌∷◌, map, take, if�
 use Rattle.exact_num.specs.declared.misfit.Wide.{Wide}
 use Rattle.exact_num.specs.Fraction.{Fraction}
 use Rattle.exact_num.specs.Fits.{after}
-use Rattle.compact_run.specs.Turn.{short_divided, short_cleared}
+use Rattle.equal_runs.specs.CompactTurning.{short_divided, short_cleared}
 
 -- what the first `width` entries of a row mean, and of each row
 abbrev pub front : {A : Type 0} → (A → Fraction) → ℕ → List A → List Fraction

@@ -4,7 +4,7 @@ use Rattle.exact_num.specs.declared.misfit.Wide.{Wide}
 use Rattle.exact_num.specs.Fraction.{Fraction}
 use Rattle.exact_num.specs.Fits.{after}
 use Rattle.table_run.specs.Places.{at}
-use Rattle.compact_run.specs.Steps.{is_zero, short_less}
+use Rattle.equal_runs.specs.CompactSteps.{is_zero, short_less}
 
 -- the places of the entries that are not 0, rising, the first entry being at place i
 unfoldable pub nonzero_from : ℕ → List Fraction → List ℕ

@@ -6,8 +6,8 @@ use Rattle.exact_num.specs.Fraction.{Fraction, whole, negated}
 use Rattle.table_run.specs.Places.{at, fraction_zero, numbers}
 use Rattle.table_run.specs.Program.{LinearProgram}
 use Rattle.table_run.specs.Table.{where_basic}
-use Rattle.compact_run.specs.Compact.{CompactTable, variable_at}
-use Rattle.compact_run.specs.Turn.{CompactTurn, moved_on, without_limit, stopped_by}
+use Rattle.equal_runs.specs.Compact.{CompactTable, variable_at}
+use Rattle.equal_runs.specs.CompactTurning.{CompactTurn, moved_on, without_limit, stopped_by}
 use Rattle.compact_table.specs.declared.table.Table.{Table}
 use Rattle.compact_table.specs.Lists.{fronts}
 use Rattle.compact_table.specs.Candidates.{apart}

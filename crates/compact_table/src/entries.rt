@@ -4,7 +4,7 @@ ghost use Rattle.exact_num.specs.Fits.{meaning, written_back};
 ghost use Rattle.table_run.specs.Places.{at};
 ghost use Rattle.table_run.specs.Choice.{first_below};
 ghost use Rattle.table_run.specs.Pivot.{each, each_pair};
-ghost use Rattle.compact_run.specs.Steps.{is_zero as is_zero_of, short_quotient, short_difference, short_less};
+ghost use Rattle.equal_runs.specs.CompactSteps.{is_zero as is_zero_of, short_quotient, short_difference, short_less};
 ghost use Rattle.compact_table.specs.Nonzero.{entry_after, nonzero_places};
 
 use exact_num::{Exact, Wide};

@@ -1,4 +1,5 @@
-//! The rows of a table of the columns that are not basic, and its turns, over exact numbers.
+//! A program as it is given, row by row, with its zeros left out; and the rows of a table of the
+//! columns that are not basic, and its turns, over exact numbers.
 #![tactic(auto)]
 
 mod candidate;
@@ -8,7 +9,11 @@ mod ratios;
 pub mod room;
 mod row;
 mod rows;
+pub mod sparse;
+pub mod sparse_entry;
 pub mod table;
 
 pub use entries::is_zero;
+pub use sparse::SparseProgram;
+pub use sparse_entry::Entry;
 pub use table::Table;

@@ -2,7 +2,7 @@
 ghost use Rattle.std.specs.Prelude.{◌≡◌, ◌+◌, ◌<◌, ◌≤◌, length, map, unsigned_abs};
 ghost use Rattle.std.specs.Option.{option_map};
 ghost use Rattle.exact_num.specs.Fits.{meaning};
-ghost use Rattle.compact_run.specs.Steps.{short_ratio_in};
+ghost use Rattle.equal_runs.specs.CompactSteps.{short_ratio_in};
 ghost use Rattle.compact_table.specs.Candidates.{beside_basics, short_leaving_of, IsPivot};
 ghost use Rattle.compact_table.specs.Lists.{fronts};
 

@@ -2,7 +2,7 @@
 ghost use Rattle.std.specs.Prelude.{◌≡◌, ◌≢◌, ◌<◌, length, map, pos, unsigned_abs};
 ghost use Rattle.exact_num.specs.Fits.{written_back};
 ghost use Rattle.table_run.specs.Places.{at};
-ghost use Rattle.compact_run.specs.Turn.{short_divided, short_cleared};
+ghost use Rattle.equal_runs.specs.CompactTurning.{short_divided, short_cleared};
 ghost use Rattle.compact_table.specs.Nonzero.{nonzero_places};
 
 use crate::columns::move_column;

@@ -2,7 +2,7 @@
 ghost use Rattle.std.specs.Prelude.{◌≡◌, ◌≢◌, ◌<◌, ◌≤◌, [], length, map, pos, slice_index_or, unsigned_abs, vec_capacity};
 ghost use Rattle.exact_num.specs.Fits.{written_back};
 ghost use Rattle.table_run.specs.Places.{at};
-ghost use Rattle.compact_run.specs.Turn.{short_divided, short_cleared};
+ghost use Rattle.equal_runs.specs.CompactTurning.{short_divided, short_cleared};
 ghost use Rattle.compact_table.specs.Lists.{front, fronts, lists_after, lists_after_turn};
 ghost use Rattle.compact_table.specs.Nonzero.{nonzero_places};
 

@@ -2,9 +2,9 @@
 ghost use Rattle.std.specs.Prelude.{◌≡◌, ◌+◌, ◌<◌, ◌≤◌, ◌==◌, false, IfOk, IfSome, length, map, position, unsigned_abs, vec_capacity, vec_len, slice_index_or, slice_set, get_or};
 ghost use Rattle.exact_num.specs.Fits.{written_back};
 ghost use Rattle.table_run.specs.Table.{right_side, where_basic};
-ghost use Rattle.compact_run.specs.Compact.{compact_first, entering_place, remove_insert};
-ghost use Rattle.compact_run.specs.Run.{price_of};
-ghost use Rattle.compact_run.specs.Turn.{compact_turn, short_pivoted};
+ghost use Rattle.equal_runs.specs.Compact.{compact_first, entering_place, remove_insert};
+ghost use Rattle.equal_runs.specs.CompactRunning.{price_of};
+ghost use Rattle.equal_runs.specs.CompactTurning.{compact_turn, short_pivoted};
 ghost use Rattle.compact_table.specs.Candidates.{short_leaving_of, IsPivot};
 ghost use Rattle.compact_table.specs.Lists.{lists_after_turn};
 ghost use Rattle.compact_table.specs.Programs.{empty_program, with_row};

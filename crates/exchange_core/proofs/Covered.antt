@@ -18,7 +18,7 @@ use Rattle.order_book.specs.Book.{BookState, batch_of, info_of, market_of}
 use Rattle.order_book.specs.Kept.{IsBookKept}
 use Rattle.order_book.specs.Markets.{MarketState}
 use Rattle.order_book.specs.Refusals.{is_settled, batch_refusals}
-use Rattle.refusals.specs.Refusals.{first_of}
+use Rattle.lists.specs.Refusals.{first_of}
 use Rattle.order_book.proofs.BookKept.{batch_within, market_kept}
 use Rattle.command_text.specs.declared.command.Command.{Command}
 use Rattle.command_text.specs.declared.command.Command.TheVariants.{Open, Deposit, Withdraw, Market, Trade, Bundle, Cancel, Clear, Settle, Balance as BalanceOf}

@@ -12,8 +12,8 @@ use Rattle.order_book.specs.declared.refusal.BookRefusal.{BookRefusal}
 use Rattle.order_book.specs.declared.refusal.BookRefusal.TheVariants as from_book
 use Rattle.order_book.specs.Book.{BookState}
 use Rattle.order_book.specs.Refusals as book_refusals
-use Rattle.refusals.specs.Refusals.{first_of}
-use Rattle.refusals.proofs.FirstRefusal.{IsAlike, first_behind, none_in_both, none_unnamed}
+use Rattle.lists.specs.Refusals.{first_of}
+use Rattle.lists.proofs.FirstRefusal.{IsAlike, first_behind, none_in_both, none_unnamed}
 use Rattle.exchange_core.specs.declared.refusal.Refusal.TheVariants.{NoAccount, AccountExists, NoMarket, MarketExists, Settled, WeightCount, Funds, BookFull, NoOrder, NotOwner, TooMany}
 use Rattle.exchange_core.specs.ExchangeState.{ExchangeState, without_positions}
 use Rattle.exchange_core.specs.Failures.{ledger_failure, book_failure, unless_memory}

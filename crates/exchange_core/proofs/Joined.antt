@@ -8,7 +8,7 @@ use Rattle.order_book.specs.declared.new_order.NewOrder.{NewOrder}
 use Rattle.order_book.specs.Book.{BookState, market_of, live_of, order_of, with_number, with_market, with_order, without_order, after_batch, after_close}
 use Rattle.order_book.specs.Markets.{MarketState, settled_market, live_orders, with_live}
 use Rattle.order_book.specs.Refusals.{market_refusals, place_refusals, batch_refusals}
-use Rattle.refusals.specs.Refusals.{first_of}
+use Rattle.lists.specs.Refusals.{first_of}
 use Rattle.form.specs.declared.limits.TheConstants.{MAX_UNDERLYINGS}
 use Rattle.order_book.specs.Within.{IsNewOrderWithin}
 use Rattle.form.specs.Between.{Between}

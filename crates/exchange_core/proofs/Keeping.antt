@@ -22,7 +22,7 @@ use Rattle.order_book.specs.Book.{BookState, market_of, live_of, with_number, wi
 use Rattle.order_book.specs.Kept.{IsMarketKept}
 use Rattle.order_book.specs.Markets.{MarketState, settled_market, live_orders, with_live}
 use Rattle.order_book.specs.Refusals.{market_refusals, place_refusals as book_place_refusals, batch_refusals}
-use Rattle.refusals.specs.Refusals.{first_of}
+use Rattle.lists.specs.Refusals.{first_of}
 use Rattle.order_book.specs.Within.{IsNewOrderWithin}
 use Rattle.order_book.proofs.Accepting.{listable, accepts, finishable, closable}
 use Rattle.order_book.proofs.AllLive.{live-with_market}

@@ -23,7 +23,7 @@ use Rattle.order_book.specs.Refusals.{batch_refusals}
 use Rattle.order_book.proofs.Accepting.{finishable}
 use Rattle.order_book.proofs.BookKept.{market_kept, orders_within}
 use Rattle.order_book.proofs.MarketLists.{live_found}
-use Rattle.refusals.specs.Refusals.{first_of}
+use Rattle.lists.specs.Refusals.{first_of}
 use Rattle.settlement.specs.declared.position.Position.{Position}
 use Rattle.settlement.specs.Payout.{IsHolding}
 use Rattle.settlement.proofs.Quotients.{above}

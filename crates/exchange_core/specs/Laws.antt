@@ -9,7 +9,7 @@ use Rattle.exchange_core.specs.Step.{batch_in, cleared_with, step}
 use Rattle.frac.specs.declared.frac128.Frac128.{Frac128}
 use Rattle.frac.specs.Value.{fraction_of}
 use Rattle.order_book.specs.Refusals.{batch_refusals}
-use Rattle.refusals.specs.Refusals.{first_of}
+use Rattle.lists.specs.Refusals.{first_of}
 use Rattle.command_text.specs.Within.{IsWithin}
 
 -- what an exchange keeps is kept by each step

@@ -9,7 +9,7 @@ use Rattle.form.specs.declared.orders.Side.TheVariants.{Buy, Sell}
 use Rattle.order_book.specs.declared.new_order.NewOrder.{NewOrder}
 use Rattle.order_book.specs.declared.refusal.BookRefusal.{BookRefusal}
 use Rattle.order_book.specs.Refusals as book
-use Rattle.refusals.specs.Refusals.{first_of, by_name}
+use Rattle.lists.specs.Refusals.{first_of, by_name}
 use Rattle.command_text.specs.declared.command.Command.{Command}
 use Rattle.command_text.specs.declared.command.Command.TheVariants.{Open, Deposit, Withdraw, Market, Trade, Bundle, Cancel, Clear, Settle, Balance}
 use Rattle.exchange_core.specs.declared.refusal.Refusal.{Refusal}

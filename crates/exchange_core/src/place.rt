@@ -7,7 +7,7 @@ ghost use Rattle.exchange_core.specs.ExchangeState.{without_positions};
 ghost use Rattle.exchange_core.specs.Kept.{AreJoined};
 ghost use Rattle.exchange_core.specs.Refusals.{refusals, place_refusals};
 ghost use Rattle.exchange_core.specs.Failures.{unless_memory};
-ghost use Rattle.refusals.specs.Refusals.{TellsFirst};
+ghost use Rattle.lists.specs.Refusals.{TellsFirst};
 
 use crate::failure::Failure;
 use crate::reserve::{release_cost, reserve_cost};

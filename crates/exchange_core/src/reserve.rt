@@ -9,7 +9,7 @@ ghost use Rattle.form.specs.declared.limits.TheConstants.{MAX_PRICE, MAX_QUANTIT
 ghost use Rattle.exchange_core.specs.Kept.{IsPayable};
 ghost use Rattle.exchange_core.specs.Refusals.{order_cost_refusals};
 ghost use Rattle.exchange_core.specs.Reserves.{cost_of, cost_of_new, reserve_of, AddsReserve, FreesReserve, FreesReserves};
-ghost use Rattle.refusals.specs.Refusals.{TellsFirst};
+ghost use Rattle.lists.specs.Refusals.{TellsFirst};
 
 use cash_ledger::{Ledger, LedgerRefusal};
 use form::{Order, Side};

@@ -4,7 +4,7 @@ ghost use Rattle.std.specs.List.{All};
 ghost use Rattle.cash_ledger.specs.Ledger.{is_open, reserved_of, KeepsReserves};
 ghost use Rattle.order_book.specs.Book.{live_of};
 ghost use Rattle.order_book.specs.Refusals.{close_refusals};
-ghost use Rattle.refusals.specs.Refusals.{TellsFirst};
+ghost use Rattle.lists.specs.Refusals.{TellsFirst};
 ghost use Rattle.exchange_core.specs.ExchangeState.{state_of};
 ghost use Rattle.exchange_core.specs.Failures.{unless_memory};
 ghost use Rattle.exchange_core.specs.Kept.{AreJoined, ArePositionsKept, IsPaidOut, IsPayable};

@@ -18,7 +18,7 @@ use Rattle.exchange_core.proofs.Keeping.{empty_is_kept, step_keeps}
 use Rattle.form.specs.declared.orders.Batch.{Batch}
 use Rattle.exchange_lines.specs.Output.{output_from}
 use Rattle.exchange_core.specs.LineReplies.{reply_to}
-use Rattle.house_gain.specs.Runs.{state_by}
+use Rattle.exchange_lines.specs.GainRuns.{state_by}
 use Rattle.exchange_lines.specs.Promises.{IsCoveredIn, IsGreatestIn, IsJudgedYes, IsJudgedYesIn, IsMarkedIn, KeepsPromises, OutputIsAnswers, OfEachAnswer, line_reply}
 use Rattle.exchange_lines.specs.Replies.{Answer, IsMarkedAs, answer_to, answers_from, answers_text, answers}
 use Rattle.reply_print.specs.ReplyPieces.{reply_line}

@@ -9,7 +9,7 @@ use Rattle.command_text.specs.Within.{IsLineWithin}
 use Rattle.command_text.proofs.LinePlaces.{lines_are_at_their_places}
 use Rattle.command_text.proofs.ReadWithin.{lines_are_within}
 use Rattle.exchange_core.specs.ExchangeState.{ExchangeState, empty_exchange}
-use Rattle.house_gain.specs.Runs.{HouseGains, state_by}
+use Rattle.exchange_lines.specs.GainRuns.{HouseGains, state_by}
 use Rattle.exchange_core.specs.LineReplies.{reply_to}
 use Rattle.exchange_lines.specs.LineSteps.{AnswersAsRun, InputLine, LineStep, RunsAreByLines, exchange_by, input_line, input_lines, line_of, output_by}
 use Rattle.exchange_lines.specs.Output.{line_output, output_from}

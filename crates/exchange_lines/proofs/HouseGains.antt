@@ -6,10 +6,10 @@ use Rattle.command_text.specs.Lines.{commands_in}
 use Rattle.command_text.specs.Within.{IsLineWithin}
 use Rattle.command_text.proofs.ReadWithin.{inputs_are_within}
 use Rattle.exchange_core.specs.ExchangeState.{ExchangeState, empty_exchange}
-use Rattle.house_gain.specs.Runs.{HouseGains, replies_by, state_by}
-use Rattle.house_gain.proofs.RunGains.{always_fit, gains_run}
-use Rattle.house_gain.proofs.RunStates.{empty_runs}
-use Rattle.house_gain.proofs.Steps.{body_steps}
+use Rattle.exchange_lines.specs.GainRuns.{HouseGains, replies_by, state_by}
+use Rattle.exchange_lines.proofs.RunGains.{always_fit, gains_run}
+use Rattle.exchange_lines.proofs.RunStates.{empty_runs}
+use Rattle.exchange_lines.proofs.GainSteps.{body_steps}
 use Rattle.exchange_lines.specs.Promises.{AnswersGain, line_reply, replies_of}
 use Rattle.exchange_lines.specs.Replies.{answers_from}
 

@@ -1,3 +1,14 @@
+pub mod BatchSteps
+pub mod FillGains
+pub mod Filters
+pub mod HouseEntries
+pub mod Listings
+pub mod Payouts
+pub mod GainReplies
+pub mod RunGains
+pub mod RunStates
+pub mod GainSteps
+pub mod ZeroPrices
 pub mod Answered
 pub mod AsRun
 pub mod HouseGains

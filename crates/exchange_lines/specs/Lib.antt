@@ -1,3 +1,8 @@
+pub mod Gain
+pub mod GainRuns
+pub mod Moves
+pub mod GainLaws
+pub mod WorkedGains
 pub mod LineSteps
 pub mod Output
 pub mod Promises

@@ -14,7 +14,7 @@ use Rattle.reply_print.specs.declared.replies.Reply.{Reply}
 use Rattle.reply_print.specs.ReplyPieces.{reply_line}
 use Rattle.exchange_core.specs.ExchangeState.{ExchangeState, empty_exchange}
 use Rattle.exchange_core.specs.Kept.{IsKept}
-use Rattle.house_gain.specs.Runs.{HouseGains, state_by}
+use Rattle.exchange_lines.specs.GainRuns.{HouseGains, state_by}
 use Rattle.exchange_lines.specs.LineSteps.{InputLine, LineStep, exchange_of, input_lines, line_of, output_of}
 use Rattle.exchange_lines.specs.Output.{line_output, output}
 use Rattle.exchange_core.specs.LineReplies.{reply_to}

@@ -8,8 +8,8 @@ use Rattle.live_lines.specs.declared.ended.Ended.{Ended}
 use Rattle.live_lines.specs.declared.ended.Ended.TheVariants as ended
 use Rattle.live_lines.proofs.Fronts.{no_front}
 use Rattle.live_lines.proofs.Serves.{known_of}
-use Rattle.live_proposals.specs.Answered.{AreAnswers, texts_in}
-use Rattle.live_proposals.specs.Proposing.{WroteAll, WroteBefore, WroteFront, WroteFrontOf, WroteLines}
+use Rattle.book_proposals.specs.LiveAnswers.{AreAnswers, texts_in}
+use Rattle.book_proposals.specs.Proposing.{WroteAll, WroteBefore, WroteFront, WroteFrontOf, WroteLines}
 use Rattle.program_words.specs.declared.requests.Request.{Request}
 use Rattle.program_words.specs.declared.requests.Request.TheVariants.{Lines, Check, Sessions, Serve, Propose, Demo}
 use Rattle.exchange_program.specs.Live.{AnswerFirst, ProposedAt, status_at}

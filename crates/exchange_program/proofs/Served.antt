@@ -16,7 +16,7 @@ use Rattle.exchange_sessions.specs.Answers.{sessions_output}
 use Rattle.exchange_sessions.proofs.TellLaws.{output_tells_once, sessions_tell_once}
 use Rattle.guarded_lines.proofs.AsRun.{guarded_tell_answers}
 use Rattle.live_lines.proofs.Fronts.{no_front}
-use Rattle.live_proposals.specs.Answered.{texts_in}
+use Rattle.book_proposals.specs.LiveAnswers.{texts_in}
 use Rattle.program_words.specs.declared.requests.Journal.{Journal}
 use Rattle.program_words.specs.declared.requests.Journal.TheVariants as writer
 use Rattle.program_words.specs.declared.requests.Mode.{Mode}

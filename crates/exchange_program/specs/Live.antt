@@ -4,8 +4,8 @@ use Rattle.exchange_sessions.specs.AllLines.{TellAllOnce, all_sessions_output}
 use Rattle.live_lines.specs.Serving.{Known, WroteAll, WroteBefore, WroteFront, WroteLines}
 use Rattle.live_lines.specs.declared.ended.Ended.{Ended}
 use Rattle.live_lines.specs.declared.ended.Ended.TheVariants as ended
-use Rattle.live_proposals.specs.Answered.{AreAnswers, texts_in}
-use Rattle.live_proposals.specs.Proposing as proposing
+use Rattle.book_proposals.specs.LiveAnswers.{AreAnswers, texts_in}
+use Rattle.book_proposals.specs.Proposing as proposing
 use Rattle.program_words.specs.declared.requests.Served.{Served}
 use Rattle.program_words.specs.declared.requests.Served.TheVariants.{Lines, Sessions}
 use Rattle.proposal_lines.specs.Output.{proposing_line}

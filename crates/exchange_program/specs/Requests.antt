@@ -8,7 +8,7 @@ use Rattle.journal_check.specs.declared.reports.Report.{Report}
 use Rattle.journal_check.specs.declared.reports.Report.TheVariants.{Sound, Faulty}
 use Rattle.live_lines.specs.Open.{line_limit}
 use Rattle.live_lines.specs.Serving as live_input
-use Rattle.live_proposals.specs.Answered.{IsWrittenFor}
+use Rattle.book_proposals.specs.LiveAnswers.{IsWrittenFor}
 use Rattle.program_words.specs.declared.requests.Journal.{Journal}
 use Rattle.program_words.specs.declared.requests.Request.{Request}
 use Rattle.program_words.specs.declared.requests.Request.TheVariants.{Lines, Check, Sessions, Serve, Propose, Demo}

@@ -3,12 +3,12 @@ ghost use Rattle.std.specs.Prelude.{◌≡◌, ◌⊎◌, ◌≤◌, ◌+◌, If
 ghost use Rattle.port_io.specs.Faults.{Rose, raised_by};
 ghost use Rattle.live_lines.specs.Open.{line_limit};
 ghost use Rattle.live_lines.specs.Serving.{IsInputWithin};
-ghost use Rattle.live_proposals.specs.Proposing.{WroteFrontOf};
+ghost use Rattle.book_proposals.specs.Proposing.{WroteFrontOf};
 ghost use Rattle.exchange_program.specs.Live.{ProposedAt};
 
 use crate::live::status_at;
 use crate::status::Status;
-use live_proposals::propose_live;
+use book_proposals::propose_live;
 use port_io::{Sink, Source};
 use std::alloc::Global;
 

@@ -8,7 +8,7 @@ use Rattle.exchange_lines.specs.Promises.{IsNoText, TellAnswers}
 use Rattle.exchange_lines.proofs.AsRun.{runs_are_by_lines, runs_tell_answers}
 use Rattle.reply_print.specs.ReplyPieces.{reply_line}
 use Rattle.live_lines.specs.Output.{output_of}
-use Rattle.all_lines.proofs.Outputs.{outputs_are_of_lines}
+use Rattle.proposal_lines.proofs.Outputs.{outputs_are_of_lines}
 use Rattle.session_gate.specs.Runs.{Replies}
 use Rattle.session_lines.specs.Answers.{answers_by}
 use Rattle.session_lines.specs.Laws.{TellOnce, accepted_bodies, as_input, replies_text, told_first}

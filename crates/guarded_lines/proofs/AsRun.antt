@@ -23,7 +23,7 @@ use Rattle.guarded_lines.specs.declared.requests.MarginRequest.{MarginRequest}
 use Rattle.guarded_lines.specs.Bodies.{body_of_request, guarded_body_of_fields}
 use Rattle.guarded_lines.specs.Requests.{request_of}
 use Rattle.guarded_lines.proofs.Words.{margin_is_no_command}
-use Rattle.refusals.specs.Refusals.{first_of}
+use Rattle.lists.specs.Refusals.{first_of}
 use Rattle.guarded_lines.specs.declared.replies.GuardedReply.TheVariants as reply
 use Rattle.guarded_lines.specs.Laws.{GuardedAnswerAsRun, GuardedTellAnswers}
 use Rattle.guarded_lines.specs.Margins.{run_in, margin_refusals, told_of}

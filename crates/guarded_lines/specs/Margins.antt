@@ -8,7 +8,7 @@ use Rattle.frac.specs.Range.{limit as largest}
 use Rattle.frac.specs.ValueOf.{value_of}
 use Rattle.order_book.specs.declared.market.MarketInfo.{MarketInfo}
 use Rattle.order_book.specs.Book.{BookState, info_in}
-use Rattle.refusals.specs.Refusals.{first_of}
+use Rattle.lists.specs.Refusals.{first_of}
 use Rattle.settlement.specs.declared.position.Position.{Position}
 use Rattle.table_run.specs.Ending.{Ending, done, unbounded, wide_at, no_unit_left}
 use Rattle.exchange_core.specs.declared.refusal.Refusal.{Refusal}

@@ -3,7 +3,7 @@ ghost use Rattle.std.specs.Prelude.{◌≡◌, ◌≤◌, ◌+◌, IfOk};
 ghost use Rattle.std.specs.List.{All};
 ghost use Rattle.form.specs.Payoff.{IsOnCount};
 ghost use Rattle.form.specs.declared.limits.TheConstants.{MAX_UNDERLYINGS};
-ghost use Rattle.refusals.specs.Refusals.{first_of};
+ghost use Rattle.lists.specs.Refusals.{first_of};
 ghost use Rattle.settlement.specs.Positions.{IsHeldPosition};
 ghost use Rattle.exchange_core.specs.Held.{positions_of};
 ghost use Rattle.guarded_lines.specs.Margins.{IsMarginIn, market_refusals, margin_reply, told_by, underlyings_in};

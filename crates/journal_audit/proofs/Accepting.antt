@@ -18,7 +18,7 @@ use Rattle.reply_print.proofs.Ascii.{utf8-piece}
 use Rattle.reply_print.proofs.PlainPieces.{HasPlainTexts, reply_plain}
 use Rattle.reply_print.proofs.ReadBack.{read-piece}
 use Rattle.reply_print.proofs.WrittenReplies.{short, written}
-use Rattle.reply_shape.specs.Look.{word_at}
+use Rattle.reply_print.specs.Look.{word_at}
 use Rattle.reply_text.specs.declared.faults.LineFault.TheVariants.{Shape}
 use Rattle.reply_text.specs.Reading.{reading, run_tests}
 use Rattle.reply_text.specs.Tests.{Tests, json_by, json_of, read_by, value_by}
@@ -34,11 +34,11 @@ use Rattle.proposal_text.proofs.PlainProposals.{reply_plain as proposal_plain}
 use Rattle.proposal_text.proofs.ReadExactly.{reply_reads}
 use Rattle.proposal_text.proofs.WrittenProposals.{reply_written as proposal_written}
 use Rattle.guarded_lines.specs.declared.told.ToldMargin.TheVariants as told
-use Rattle.asked_text.specs.declared.replies.AskedReply.{AskedReply}
-use Rattle.asked_text.specs.declared.replies.AskedReply.TheVariants.{Quoted, Priced, Margin, Uncovered}
-use Rattle.asked_text.specs.Lines.{asked_piece}
-use Rattle.asked_text.specs.Values.{asked_tests}
-use Rattle.asked_text.proofs.AskedExactly.{asked_plain, asked_reads, asked_written}
+use Rattle.journal_audit.specs.declared.asked_replies.AskedReply.{AskedReply}
+use Rattle.journal_audit.specs.declared.asked_replies.AskedReply.TheVariants.{Quoted, Priced, Margin, Uncovered}
+use Rattle.journal_audit.specs.AskedLines.{asked_piece}
+use Rattle.journal_audit.specs.AskedValues.{asked_tests}
+use Rattle.journal_audit.proofs.AskedExactly.{asked_plain, asked_reads, asked_written}
 use Rattle.journal_check.specs.declared.findings.Finding.{Finding}
 use Rattle.journal_check.specs.declared.findings.Finding.TheVariants.{Plain, Cleared, Bounded, Faulty}
 use Rattle.journal_check.specs.Findings.{cleared_finding, fault_in, reply_finding}

@@ -7,7 +7,7 @@ use Rattle.form.specs.Between.{Between}
 use Rattle.serde_json.specs.Data.{Data}
 use Rattle.session_gate.specs.Heads.{accepted_head}
 use Rattle.session_gate.specs.declared.limits.TheConstants.{MAX_SESSION, MAX_NUMBER}
-use Rattle.reply_shape.specs.Look.{word_at, number_at}
+use Rattle.reply_print.specs.Look.{word_at, number_at}
 use Rattle.reply_text.specs.declared.faults.LineFault.{LineFault}
 use Rattle.reply_text.specs.declared.faults.LineFault.TheVariants.{Memory}
 use Rattle.reply_text.specs.Reading.{LineRead, reading, run_tests}

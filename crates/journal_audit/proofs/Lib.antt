@@ -1,3 +1,5 @@
+mod AskedTaken
+pub mod AskedExactly
 mod ServedLines
 pub mod AuditSays
 pub mod GateTaken

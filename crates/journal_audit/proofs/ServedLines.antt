@@ -8,7 +8,7 @@ use Rattle.cert_check.specs.declared.outcome.Judgement.TheVariants as judgement
 use Rattle.cert_check.specs.Proposals.{bounded_verdict_of}
 use Rattle.cert_check.proofs.Proposals.{bounded_shows}
 use Rattle.serde_json.specs.Data.{Data}
-use Rattle.reply_shape.specs.Look.{word_at}
+use Rattle.reply_print.specs.Look.{word_at}
 use Rattle.reply_text.specs.declared.faults.LineFault.{LineFault}
 use Rattle.reply_text.specs.declared.faults.LineFault.TheVariants.{NotJson, Shape, Number, Range, Spelling, Memory}
 use Rattle.reply_text.specs.Reading.{LineRead, reading, run_tests}
@@ -19,9 +19,9 @@ use Rattle.proposal_text.specs.declared.replies.ProposalReply.{ProposalReply}
 use Rattle.proposal_text.specs.declared.replies.ProposalReply.TheVariants.{Book, Positions, Proposed, Bounded as BoundedReply, Stale, Unproved}
 use Rattle.proposal_text.specs.ReplyValues.{IsProposalLineOf, proposal_tests}
 use Rattle.proposal_text.proofs.ReadExactly.{line_of}
-use Rattle.asked_text.specs.declared.replies.AskedReply.{AskedReply}
-use Rattle.asked_text.specs.Values.{asked_tests}
-use Rattle.asked_text.proofs.AskedExactly.{asked_line_of}
+use Rattle.journal_audit.specs.declared.asked_replies.AskedReply.{AskedReply}
+use Rattle.journal_audit.specs.AskedValues.{asked_tests}
+use Rattle.journal_audit.proofs.AskedExactly.{asked_line_of}
 use Rattle.journal_check.specs.declared.findings.Finding.{Finding}
 use Rattle.journal_check.specs.declared.findings.Finding.TheVariants.{Plain, Cleared, Bounded, Faulty}
 use Rattle.journal_check.specs.Findings.{fault_finding, finding_of, read_finding, reply_finding}

@@ -5,7 +5,7 @@ use Rattle.serde_json.specs.Data.{Data}
 use Rattle.serde_json.specs.Find.{as_object}
 use Rattle.session_gate.specs.declared.limits.TheConstants.{MAX_SESSION, MAX_NUMBER}
 use Rattle.session_gate.specs.Heads.{accepted_head}
-use Rattle.reply_shape.specs.Look.{has_members, has_at, is_whole}
+use Rattle.reply_print.specs.Look.{has_members, has_at, is_whole}
 use Rattle.reply_text.specs.Taking.{natural_at}
 
 -- behind the reply

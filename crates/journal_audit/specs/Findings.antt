@@ -7,14 +7,14 @@ use Rattle.cert_check.specs.declared.outcome.Judgement.{Judgement}
 use Rattle.cert_check.specs.declared.outcome.Judgement.TheVariants as judgement
 use Rattle.cert_check.specs.Proposals.{bounded_verdict_of}
 use Rattle.serde_json.specs.Data.{Data}
-use Rattle.reply_shape.specs.Look.{word_at, number_at}
+use Rattle.reply_print.specs.Look.{word_at, number_at}
 use Rattle.reply_text.specs.declared.faults.LineFault.{LineFault}
 use Rattle.reply_text.specs.Reading.{LineRead, reading}
 use Rattle.reply_text.specs.Tests.{json_of, value_by}
 use Rattle.proposal_text.specs.declared.replies.ProposalReply.{ProposalReply}
 use Rattle.proposal_text.specs.declared.replies.ProposalReply.TheVariants as told
 use Rattle.proposal_text.specs.ReplyValues.{proposal_tests}
-use Rattle.asked_text.specs.Values.{asked_tests}
+use Rattle.journal_audit.specs.AskedValues.{asked_tests}
 use Rattle.journal_check.specs.declared.findings.Finding.{Finding}
 use Rattle.journal_check.specs.declared.findings.Finding.TheVariants.{Plain, Bounded, Faulty}
 use Rattle.journal_check.specs.declared.reports.Reason.TheVariants.{Range, Spelling, Wide}

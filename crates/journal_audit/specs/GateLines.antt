@@ -6,7 +6,7 @@ use Rattle.session_gate.specs.declared.limits.TheConstants.{MAX_SESSION, MAX_NUM
 use Rattle.reply_print.specs.BatchPieces.{natural}
 use Rattle.reply_print.specs.Piece.{Piece, words, object, Fields, no_fields, field, piece_text}
 use Rattle.reply_print.specs.Within.{IsLine}
-use Rattle.reply_shape.specs.Look.{has_members, has_at, is_whole, is_word, number_at}
+use Rattle.reply_print.specs.Look.{has_members, has_at, is_whole, is_word, number_at}
 use Rattle.reply_text.specs.Taking.{natural_at}
 use Rattle.reply_text.specs.Tests.{ReplyTests, Tests, tests_of}
 use Rattle.journal_audit.specs.declared.gate_lines.GateLine.{GateLine}

@@ -14,8 +14,8 @@ use Rattle.proposal_text.specs.declared.replies.BoundedOutcome.{BoundedOutcome}
 use Rattle.proposal_text.specs.declared.replies.ProposalReply.{ProposalReply}
 use Rattle.proposal_text.specs.declared.replies.ProposalReply.TheVariants as told
 use Rattle.proposal_text.specs.ReplyValues.{IsProposalLineOf}
-use Rattle.asked_text.specs.declared.replies.AskedReply.{AskedReply}
-use Rattle.asked_text.specs.Values.{IsAskedLineOf}
+use Rattle.journal_audit.specs.declared.asked_replies.AskedReply.{AskedReply}
+use Rattle.journal_audit.specs.AskedValues.{IsAskedLineOf}
 use Rattle.journal_check.specs.declared.findings.Finding.TheVariants.{Faulty}
 use Rattle.journal_check.specs.declared.reports.Reason.{Reason}
 use Rattle.journal_check.specs.declared.reports.Report.{Report}

@@ -4,7 +4,7 @@ ghost use Rattle.serde_json.specs.View.{view};
 ghost use Rattle.session_gate.specs.Heads.{accepted_head};
 ghost use Rattle.journal_audit.specs.Accepted.{before_end, between, if_braced, is_accepted as accepted_is, is_braced as braced_is, is_object as object_is, message_from as message_found, reply_in as reply_found, tail_text};
 
-use reply_shape::look::{has_at, has_members, has_whole};
+use reply_print::look::{has_at, has_members, has_whole};
 use reply_text::taking::natural_at;
 use serde_json::Value;
 use session_gate::{MAX_NUMBER, MAX_SESSION};

@@ -8,7 +8,7 @@ ghost use Rattle.journal_audit.specs.declared.gate_lines.GateLine.TheVariants as
 ghost use Rattle.journal_audit.specs.GateLines.{expecting_from as expecting_found, expecting_shape as expecting_is, gate_by as refused_found, gate_line, gate_lines, gate_piece, gate_shape_by as shape_is, gate_tests, has_reason as reason_is, session_at as session_found, sessions_shape as sessions_are, why_number as number_is, why_word as word_is};
 
 use crate::gate_lines::{GateLine, Why};
-use reply_shape::look::{has_members, has_whole, has_word, number_at};
+use reply_print::look::{has_members, has_whole, has_word, number_at};
 use reply_text::taking::natural_at;
 use reply_text::tested::read_value;
 use reply_text::{LineFault, TestedReply};

@@ -1,3 +1,4 @@
+pub mod FirstRefusal
 pub mod ArenaRoom
 pub mod Cuts
 pub mod Fields

@@ -1,10 +1,12 @@
-//! Lists: vectors that contracts see as their items, vectors that are written in place, and rows of one width, one behind
-//! another in one raw block.
+//! Lists: vectors that contracts see as their items, vectors that are written in place, rows of one
+//! width, one behind another in one raw block; and lists of refusals, each with its condition, of
+//! which the first that holds is told.
 #![tactic(auto)]
 
 pub mod arena;
 mod block;
 pub mod list;
+pub mod refusals;
 pub mod room;
 #[cfg(test)]
 mod tests;

@@ -17,3 +17,12 @@ pub mod Verdict
 pub mod Solves
 pub mod Lowest
 pub mod VerdictSums
+pub mod NodeTests
+pub mod NodeShape
+pub mod NodeHolds
+pub mod NodeObjective
+pub mod NodeBounded
+pub mod NodeSteps
+pub mod OneLeg
+pub mod NodeWider
+pub mod WorkedRounds

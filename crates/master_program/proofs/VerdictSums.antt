@@ -7,7 +7,7 @@ use Rattle.frac.specs.Value.{fraction_of}
 use Rattle.frac.specs.declared.frac128.Frac128.{Frac128}
 use Rattle.form.specs.declared.orders.Batch.{Batch}
 use Rattle.exact_num.specs.Steps.{and_then}
-use Rattle.cert_check.specs.Measure.{Measure}
+use Rattle.cert_check.specs.declared.measures.Measure.{Measure}
 use Rattle.cert_check.specs.Points.{point_of}
 use Rattle.cert_check.specs.declared.outcome.Cover.{Cover}
 use Rattle.cert_check.specs.declared.outcome.Mark.TheVariants.{Optimal}

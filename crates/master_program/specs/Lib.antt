@@ -7,3 +7,10 @@ pub mod Certified
 pub mod OptimumLaws
 pub mod Verdict
 pub mod Lowest
+pub mod Roles
+pub mod Node
+pub mod NodeSteps
+pub mod Search
+pub mod Rounds
+pub mod NodeLaws
+pub mod WorkedRounds

@@ -8,7 +8,7 @@ use Rattle.form.specs.declared.orders.Batch.{Batch}
 use Rattle.form.specs.declared.orders.Order.{Order}
 use Rattle.clearing_model.specs.Clearing.{AreOn}
 use Rattle.clearing_model.specs.Certificate.{FillsCover}
-use Rattle.cert_check.specs.Measure.{Measure}
+use Rattle.cert_check.specs.declared.measures.Measure.{Measure}
 use Rattle.exact_num.specs.Steps.{and_then}
 use Rattle.cert_check.specs.Points.{point_of}
 use Rattle.cert_check.specs.declared.outcome.Cover.{Cover}

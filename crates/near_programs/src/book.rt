@@ -3,8 +3,8 @@
 //! Money is divided by 2^money, prices of underlyings by 2^(money - weight), weights by 2^weight, fills by 2^fill.
 
 use crate::numbers::{bits_of, float_of};
+use crate::rows::{power, set_entry};
 use form::{Batch, Leg, Order, Side};
-use near_tables::{power, set_entry};
 use std::alloc::{AllocError, Global};
 use std::num::nearest_i64_to_f64;
 

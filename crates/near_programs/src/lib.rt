@@ -1,17 +1,30 @@
-//! A batch as a solver in floats sees it, and its linear programs: orders, legs and states in numbers about 1 beside whole
-//! numbers, the master program over the states found so far, and the programs of the nodes of a tree of signs. What they find
-//! is near, and nothing is proved of it but that each ends within its turns.
+//! A batch as a solver in floats sees it, its linear programs, and the search over them: orders,
+//! legs and states in numbers about 1 beside whole numbers, the master program over the states
+//! found so far, the programs of the nodes of a tree of signs, and the tables with bounded
+//! variables that solve them; climbs to states at which a near solution owes more than its
+//! liability, and a tree of signs that grows at the leaf of greatest excess. What they find is
+//! near, and nothing is proved of it but that each ends within its turns, nodes and looks.
 #![tactic(auto)]
 
 pub mod book;
+pub mod climbs;
 pub mod master;
 pub mod node;
 pub mod numbers;
 pub mod points;
+mod rows;
 pub mod sides;
+mod steps;
+mod table;
+pub mod tree;
 
 pub use book::{Book, NearLeg, NearOrder, Scales};
+pub use climbs::{Draws, Violated};
 pub use master::{Master, SMALL};
 pub use node::{Found, LegMultiplier, Question, RAY_TOLERANCE, solve_closing, solve_node};
 pub use points::NearState;
+pub use rows::{add_entry, add_times, entry, from_zero, plus_products, power, set_entry};
 pub use sides::{SolvedNode, solve_for_sides};
+pub use steps::Turns;
+pub use table::{Table, UNBOUNDED, variable_at};
+pub use tree::{Leaf, Tree, TreeNode};

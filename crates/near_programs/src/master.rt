@@ -2,10 +2,10 @@
 
 use crate::numbers::float_of;
 use crate::points::{NearState, net_at, payoff, payoff_unit, point_of};
+use crate::rows::{add_entry, add_times, entry, from_zero, plus_products, set_entry};
+use crate::steps::Turns;
+use crate::table::{Table, variable_at};
 use crate::{Book, NearLeg, NearOrder};
-use near_tables::{
-    Table, Turns, add_entry, add_times, entry, from_zero, plus_products, set_entry, variable_at,
-};
 use std::alloc::{AllocError, Global};
 
 /// What the programs take for nothing: 2^-33.

@@ -1,8 +1,10 @@
 //! Programs of nodes: the least liability that closes a leaf, or a ray on which none does.
 
 use crate::master::SMALL;
+use crate::rows::{add_entry, entry};
+use crate::steps::Turns;
+use crate::table::Table;
 use crate::{Book, NearLeg};
-use near_tables::{Table, Turns, add_entry, entry};
 use std::alloc::{AllocError, Global};
 
 // The turns of a node's program.

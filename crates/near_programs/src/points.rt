@@ -2,7 +2,7 @@
 
 use crate::book::{Book, NearLeg, Scales};
 use crate::numbers::{float_of, nearest_whole, set_whole, two_to, whole_at};
-use near_tables::{entry, from_zero, plus_products, power, set_entry};
+use crate::rows::{entry, from_zero, plus_products, power, set_entry};
 
 /// The bits of the greatest entry of a ray.
 pub const RAY_BITS: u32 = 30;

@@ -1,8 +1,9 @@
 //! Programs of a node's sides, each begun where the node's own ended (a warm start).
 
 use crate::node::{NODE_TURNS, Question, columns_of, first_phase, table_of};
+use crate::rows::{from_zero, set_entry};
+use crate::table::Table;
 use crate::{Book, NearLeg};
-use near_tables::{Table, from_zero, set_entry};
 use std::alloc::{AllocError, Global};
 
 // The row of a node's program that asks for the least first entry.

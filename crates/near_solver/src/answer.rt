@@ -1,11 +1,10 @@
 //! What the solver answers: a proposal in fractions.
 
 use crate::rounding::{FILL_BITS, WEIGHT_BITS, WholeMeasure, WholePoint};
-use cert_check::{Claim, Cover, Fills, Proposal};
+use cert_check::{Claim, Cover, Fills, Measure, Points, Proposal, Weighted};
 use exact_num::Exact;
 use form::State;
 use frac::Frac128;
-use measure::{Measure, Points, Weighted};
 use near_programs::numbers::two_to;
 use near_programs::points::NearState;
 use std::alloc::{AllocError, Global};

@@ -6,9 +6,8 @@ use crate::written::Written;
 use cert_check::Cover;
 use near_programs::node::{Question, fill_of, sign_at, solve_closing, solve_node};
 use near_programs::numbers::{float_of, nearest_whole, plus_product, set_whole, two_to, whole_at};
-use near_programs::{Book, LegMultiplier, NearLeg, SMALL};
-use near_search::tree::{Leaf, Tree, TreeNode};
-use near_tables::power;
+use near_programs::tree::{Leaf, Tree, TreeNode};
+use near_programs::{Book, LegMultiplier, NearLeg, SMALL, power};
 use std::alloc::{AllocError, Global};
 
 // How far below 0 slopes are asked to be, one after another.

@@ -2,12 +2,12 @@
 
 ghost use Rattle.std.specs.Prelude.{IfOk};
 ghost use Rattle.form.specs.Limits.{IsWithinLimits};
-ghost use Rattle.judged_proposals.specs.Judged.{IsJudgedBound};
+ghost use Rattle.proposals.specs.Judged.{IsJudgedBound};
 
 use crate::solve::solve_near;
 use cert_check::Proposal;
 use form::Batch;
-use judged_proposals::judged_or_nothing;
+use proposals::judged_or_nothing;
 use std::alloc::{AllocError, Global};
 
 /// What the solver found for the batch, where that is judged a bound, and else a proposal of nothing. How near surplus and bound

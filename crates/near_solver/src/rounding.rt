@@ -2,8 +2,7 @@
 
 use near_programs::numbers::{add_whole, nearest_whole, plus_product, two_to, whole_at};
 use near_programs::points::{NearState, RAY_BITS, payoff, zero_prices};
-use near_programs::{Book, Master, NearLeg, NearOrder, Scales};
-use near_tables::{entry, power};
+use near_programs::{Book, Master, NearLeg, NearOrder, Scales, entry, power};
 use std::alloc::{AllocError, Global};
 
 /// Fills, liability and multipliers are whole multiples of 2^-40.

@@ -11,9 +11,9 @@ use cert_check::{Cover, Proposal};
 use form::Batch;
 use near_programs::numbers::{float_of, nearest_whole};
 use near_programs::points::{bend, unit_ray};
-use near_programs::{Book, Master, NearLeg, NearState, SMALL};
-use near_search::{Draws, Tree, Violated};
-use near_tables::{from_zero, power};
+use near_programs::{
+    Book, Draws, Master, NearLeg, NearState, SMALL, Tree, Violated, from_zero, power,
+};
 use std::alloc::{AllocError, Global};
 
 // How often fills are covered: as they are, and made less.

@@ -14,7 +14,7 @@ use Rattle.order_book.specs.Markets.{MarketState}
 use Rattle.order_book.specs.Book.{BookState, market_of, info_of, is_trading}
 use Rattle.order_book.specs.declared.market.MarketInfo.{MarketInfo}
 use Rattle.order_book.specs.Refusals.{market_refusals, place_refusals, batch_refusals, live_refusals, close_refusals, has_form_for, is_full}
-use Rattle.refusals.specs.Refusals.{first_of}
+use Rattle.lists.specs.Refusals.{first_of}
 
 pub record Accepts (book : BookState) (order : NewOrder) : Type 0 where
   pub market : MarketState

@@ -11,7 +11,7 @@ use Rattle.order_book.specs.Book.{BookState, order_of}
 use Rattle.order_book.specs.Kept.{IsBookKept}
 use Rattle.order_book.specs.Markets.{has_number, holder_of, live_in, with_live_in, without, without_in_each}
 use Rattle.order_book.specs.Refusals.{cancel_refusals}
-use Rattle.refusals.specs.Refusals.{first_of}
+use Rattle.lists.specs.Refusals.{first_of}
 use Rattle.order_book.proofs.BookKept.{market_kept, orders_within}
 use Rattle.order_book.proofs.Holders.{Holds, holds, unheld}
 use Rattle.order_book.proofs.LiveOrders.{found_within}

@@ -8,7 +8,7 @@ ghost use Rattle.order_book.specs.Book.{empty_book, market_of, live_of, order_of
 ghost use Rattle.order_book.specs.Refusals.{unless_memory, market_refusals, order_refusals, room_refusals, place_refusals, live_refusals, batch_refusals, close_refusals, cancel_refusals};
 ghost use Rattle.order_book.specs.Within.{IsNewOrderWithin};
 ghost use Rattle.order_book.specs.Kept.{IsBookKept};
-ghost use Rattle.refusals.specs.Refusals.{TellsFirst};
+ghost use Rattle.lists.specs.Refusals.{TellsFirst};
 
 use crate::limits::{MAX_ACCEPTED, MAX_BATCHES, MAX_MARKETS};
 use crate::market::MarketInfo;

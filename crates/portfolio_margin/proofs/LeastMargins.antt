@@ -20,7 +20,7 @@ use Rattle.clearing_model.specs.Written.{PlacedMultiplier, WrittenNode, WrittenT
 use Rattle.market_laws.proofs.Tree.{closed_trees_hold}
 use Rattle.sign_tree.specs.Read.{placed_of}
 use Rattle.master_program.specs.Master.{zero_prices}
-use Rattle.node_program.specs.Search.{closed, found, search}
+use Rattle.master_program.specs.Search.{closed, found, search}
 use Rattle.search_laws.specs.Search.{IsAsked}
 use Rattle.search_laws.proofs.Searching.{search_closes, search_finds, closed_lowest}
 use Rattle.settlement.specs.declared.position.Position.{Position}

@@ -6,7 +6,7 @@ use Rattle.exact_num.specs.declared.misfit.Wide.{Wide}
 use Rattle.exact_num.specs.Fraction.{Fraction}
 use Rattle.form.specs.Payoff.{scale_of}
 use Rattle.clearing_model.specs.Written.{WrittenTree}
-use Rattle.node_program.specs.Search.{Found, closed, found, search}
+use Rattle.master_program.specs.Search.{Found, closed, found, search}
 use Rattle.search_laws.specs.Search.{IsAsked, IsCounted}
 use Rattle.search_laws.proofs.Searching.{search_ends}
 use Rattle.search_laws.proofs.Units.{search_is_counted}

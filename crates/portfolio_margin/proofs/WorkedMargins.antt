@@ -9,8 +9,8 @@ use Rattle.form.specs.Payoff.{bundle_of}
 use Rattle.form.specs.Steps.{payoff_of, bundle_payoff_of}
 use Rattle.form.specs.StateOf.{state_of}
 use Rattle.master_program.specs.Master.{master_steps}
-use Rattle.node_program.specs.Steps.{node_program_steps}
-use Rattle.node_program.specs.Search.{search_steps}
+use Rattle.master_program.specs.NodeSteps.{node_program_steps}
+use Rattle.master_program.specs.Search.{search_steps}
 use Rattle.portfolio_margin.specs.Run.{margin_steps}
 use Rattle.portfolio_margin.specs.Worked.{MarginsByHand, NeedsByHand}
 

@@ -10,7 +10,7 @@ use Rattle.form.specs.Payoff.{scale_of}
 use Rattle.clearing_model.specs.Written.{WrittenTree}
 use Rattle.line_cover.specs.Net.{net_of}
 use Rattle.master_program.specs.Master.{zero_prices}
-use Rattle.node_program.specs.Search.{Question, Found, closed, found, search, stuck}
+use Rattle.master_program.specs.Search.{Question, Found, closed, found, search, stuck}
 use Rattle.settlement.specs.declared.position.Position.{Position}
 use Rattle.settlement.specs.Premium.{rounded_up}
 use Rattle.table_run.specs.Ending.{Ending, done, on_answer, on_steps}

@@ -9,7 +9,7 @@ use Rattle.clearing_model.specs.Certificate.{ClosesAsWritten}
 use Rattle.clearing_model.specs.Written.{WrittenNode, PlacedMultiplier, nodes_of}
 use Rattle.sign_tree.specs.declared.trees.SignTree.{SignTree}
 use Rattle.sign_tree.specs.Read.{placed_of}
-use Rattle.node_program.specs.Search.{Question, search}
+use Rattle.master_program.specs.Search.{Question, search}
 use Rattle.search_laws.specs.Search.{IsAsked}
 use Rattle.search_laws.proofs.Searching.{search_closes, search_finds}
 use Rattle.pricing_oracle.specs.declared.found.Found.{Found as Answer}

@@ -9,9 +9,9 @@ use Rattle.exact_num.specs.Steps.{fold_steps}
 use Rattle.clearing_model.specs.Tree.{Sign}
 use Rattle.sign_tree.specs.Legs.{FractionLeg}
 use Rattle.sign_tree.specs.Read.{sign_of}
-use Rattle.node_program.specs.Steps.{add_all_earned, add_by_role, counted_node, counted_role, covering_legs}
-use Rattle.node_program.specs.Roles.{Role, Idle, Covering, Free, Above, Below, values}
-use Rattle.node_program.specs.Node.{covers_of, if_covering}
+use Rattle.master_program.specs.NodeSteps.{add_all_earned, add_by_role, counted_node, counted_role, covering_legs}
+use Rattle.master_program.specs.Roles.{Role, Idle, Covering, Free, Above, Below, values}
+use Rattle.master_program.specs.Node.{covers_of, if_covering}
 use Rattle.pricing_oracle.specs.Nodes.{RoleLeg, add_earned_by, covering_of, in_roles, is_covering, node_leg, option_in}
 
 -- what follows a step alike

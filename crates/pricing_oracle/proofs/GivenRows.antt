@@ -11,9 +11,9 @@ use Rattle.compact_table.specs.Programs.{with_row}
 use Rattle.sign_tree.specs.Legs.{FractionLeg}
 use Rattle.sign_tree.specs.Read.{sign_of}
 use Rattle.simplex.specs.Spaces.{given}
-use Rattle.node_program.specs.Roles.{Role, Idle, Covering, Free, Above, Below, entries}
-use Rattle.node_program.specs.Node.{after_zero, if_covering, minus_units, signed_of, with_sign}
-use Rattle.node_program.specs.Steps.{counted_role, cover_rows_steps, signed_row_steps, signed_rows_steps, with_row as row_before}
+use Rattle.master_program.specs.Roles.{Role, Idle, Covering, Free, Above, Below, entries}
+use Rattle.master_program.specs.Node.{after_zero, if_covering, minus_units, signed_of, with_sign}
+use Rattle.master_program.specs.NodeSteps.{counted_role, cover_rows_steps, signed_row_steps, signed_rows_steps, with_row as row_before}
 use Rattle.pricing_oracle.specs.Built.{list_then}
 use Rattle.pricing_oracle.specs.Nodes.{RoleLeg, covering_of, in_roles, is_signed, node_leg, option_in}
 use Rattle.pricing_oracle.specs.Programs.{given_with, signed_entries, unit_at, units_from, with_rows}

@@ -12,15 +12,15 @@ use Rattle.compact_table.specs.Programs.{with_row}
 use Rattle.clearing_model.specs.Tree.{Sign}
 use Rattle.sign_tree.specs.Legs.{FractionLeg}
 use Rattle.simplex.specs.Spaces.{Contents, Workspace, IsProgramGiven, nothing, given, found, rising, stopped, program_given}
-use Rattle.node_program.specs.Roles.{Role, Idle, Covering, Free, Above, Below, entries}
-use Rattle.node_program.specs.Node.{covers_of, minus_units, signed_of}
-use Rattle.node_program.specs.Steps.{counted_node, cover_rows_steps, signed_rows_steps, negated_of, with_row as row_before}
+use Rattle.master_program.specs.Roles.{Role, Idle, Covering, Free, Above, Below, entries}
+use Rattle.master_program.specs.Node.{covers_of, minus_units, signed_of}
+use Rattle.master_program.specs.NodeSteps.{counted_node, cover_rows_steps, signed_rows_steps, negated_of, with_row as row_before}
 use Rattle.pricing_oracle.specs.Built.{list_then}
 use Rattle.pricing_oracle.specs.Filled.{HasMade, HasFilled}
 use Rattle.pricing_oracle.specs.Nodes.{RoleLeg, covering_of, in_roles, is_signed}
 use Rattle.pricing_oracle.specs.Programs.{IsOpen, given_with, signed_entries, unit_at}
 use Rattle.pricing_oracle.proofs.ByRole.{cover_count_is, covers_in, node_is}
-use Rattle.node_program.proofs.Shape.{length-values}
+use Rattle.master_program.proofs.NodeShape.{length-values}
 use Rattle.pricing_oracle.proofs.GivenRows.{row_given, row_stops, rows_end, cover_rows_from, cover_row_first, signed_count, signed_rows_from, signed_row_first, signed_first_count, units_at_first}
 
 -- ---- what stands in a space

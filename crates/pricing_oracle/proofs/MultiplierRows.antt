@@ -6,8 +6,8 @@ use Rattle.exact_num.specs.Fraction.{Fraction}
 use Rattle.exact_num.specs.Tests.{is_above_zero}
 use Rattle.table_run.specs.Places.{at, fraction_zero}
 use Rattle.clearing_model.specs.Written.{PlacedMultiplier}
-use Rattle.node_program.specs.Roles.{Role, Idle, Covering, Free, Above, Below, entries, leg_multipliers, placed_from, with_multiplier}
-use Rattle.node_program.specs.Node.{if_covering, signed_of, with_sign}
+use Rattle.master_program.specs.Roles.{Role, Idle, Covering, Free, Above, Below, entries, leg_multipliers, placed_from, with_multiplier}
+use Rattle.master_program.specs.Node.{if_covering, signed_of, with_sign}
 use Rattle.pricing_oracle.specs.declared.reading.NextRows.{NextRows}
 use Rattle.pricing_oracle.specs.Nodes.{RoleLeg, covering_of, node_leg}
 use Rattle.pricing_oracle.specs.Multipliers.{HasRow, multiplier_in, rows_after}

@@ -26,13 +26,13 @@ use Rattle.simplex.specs.declared.stop.RunStop.{RunStop}
 use Rattle.simplex.specs.declared.stop.RunStop.TheVariants.{Wide as RunWide, Budget as RunBudget}
 use Rattle.simplex.specs.Spaces.{Contents, IsFound, given, program_given, answer_of, contents_after, x_of, y_of, reduced_of, value_of}
 use Rattle.sign_tree.specs.Legs.{FractionLeg}
-use Rattle.node_program.specs.Node.{covers_of, minus_units, node_program, signed_of, size_row}
-use Rattle.node_program.specs.Roles.{split_place, values}
-use Rattle.node_program.specs.Steps.{counted_node, cover_cost_steps, cover_rows_steps, covering_legs, legs_over, node_steps, signed_rows_steps, state_cost_steps}
-use Rattle.node_program.specs.Search.{Question, legs_in, NodeFound, node_at, node_end, on_optimum, on_program, program_at, on_excess, on_state, excess_at, state_of, leaf, leaf_of}
-use Rattle.node_program.proofs.Bounded.{all_at, amounts_parts}
-use Rattle.node_program.proofs.Objective.{wholes}
-use Rattle.node_program.proofs.Steps.{steps_give_node}
+use Rattle.master_program.specs.Node.{covers_of, minus_units, node_program, signed_of, size_row}
+use Rattle.master_program.specs.Roles.{split_place, values}
+use Rattle.master_program.specs.NodeSteps.{counted_node, cover_cost_steps, cover_rows_steps, covering_legs, legs_over, node_steps, signed_rows_steps, state_cost_steps}
+use Rattle.master_program.specs.Search.{Question, legs_in, NodeFound, node_at, node_end, on_optimum, on_program, program_at, on_excess, on_state, excess_at, state_of, leaf, leaf_of}
+use Rattle.master_program.proofs.NodeBounded.{all_at, amounts_parts}
+use Rattle.master_program.proofs.NodeObjective.{wholes}
+use Rattle.master_program.proofs.NodeSteps.{steps_give_node}
 use Rattle.search_laws.specs.Search.{IsAsked}
 use Rattle.search_laws.proofs.Nodes.{NodeShows, legs_stand, node_says, own, own_over, program_over}
 use Rattle.search_laws.proofs.States.{positive_node_has_state}

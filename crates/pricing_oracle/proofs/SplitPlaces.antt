@@ -3,10 +3,10 @@ use Rattle.std.proofs.Common.{◌≡◌, ℕ, suc, ◌+◌, ◌<◌, ◌≤◌, 
 use Rattle.std.specs.Prelude.{int_lt}
 use Rattle.std.proofs.lemmas.List.{drop_all}
 use Rattle.arithmetic.proofs.Lists.{item_first}
-use Rattle.node_program.specs.Roles.{can_split, entries, has_above, has_below, split_from}
+use Rattle.master_program.specs.Roles.{can_split, entries, has_above, has_below, split_from}
 use Rattle.pricing_oracle.specs.Nodes.{RoleLeg, node_leg}
 use Rattle.pricing_oracle.proofs.ByRole.{value_at}
-use Rattle.node_program.proofs.Shape.{length-values}
+use Rattle.master_program.proofs.NodeShape.{length-values}
 
 pub splits_here : (n i : ℕ) (all : List RoleLeg) (l : RoleLeg) (legs : List RoleLeg) → all ≡ l ∷ legs → can_split n (node_leg l) ≡ true → split_from n i (map node_leg all) ≡ Some i
 splits_here n i all l legs is h = ap (λ ls. split_from n i (map node_leg ls)) is ∙ rw h refl

@@ -6,7 +6,7 @@ use Rattle.clearing_model.specs.Tree.{Sign}
 use Rattle.clearing_model.specs.Written.{PlacedMultiplier, WrittenTree, nodes_of, multipliers_of}
 use Rattle.sign_tree.specs.Read.{node_of, placed_of}
 use Rattle.table_run.specs.Ending.{done}
-use Rattle.node_program.specs.Search.{Question, leaf, splits, closed, node_end, search_from}
+use Rattle.master_program.specs.Search.{Question, leaf, splits, closed, node_end, search_from}
 use Rattle.search_laws.specs.Search.{IsAsked}
 use Rattle.search_laws.specs.Sizes.{IsNodePaid, IsPaid}
 use Rattle.search_laws.proofs.Sizes.{branches_are_paid, nodes_are_paid}

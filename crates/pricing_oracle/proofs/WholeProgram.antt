@@ -12,14 +12,14 @@ use Rattle.compact_table.specs.Programs.{empty_program, with_row}
 use Rattle.clearing_model.specs.Tree.{Sign}
 use Rattle.sign_tree.specs.Legs.{FractionLeg}
 use Rattle.simplex.specs.Spaces.{Contents, Workspace, IsProgramGiven, given, program_given}
-use Rattle.node_program.specs.Roles.{NodeLeg, values}
-use Rattle.node_program.specs.Node.{covers_of, minus_units, signed_of, size_row}
-use Rattle.node_program.specs.Steps.{counted_node, cover_cost_steps, cover_rows_steps, covering_legs, node_steps, signed_rows_steps, state_cost_steps}
+use Rattle.master_program.specs.Roles.{NodeLeg, values}
+use Rattle.master_program.specs.Node.{covers_of, minus_units, signed_of, size_row}
+use Rattle.master_program.specs.NodeSteps.{counted_node, cover_cost_steps, cover_rows_steps, covering_legs, node_steps, signed_rows_steps, state_cost_steps}
 use Rattle.pricing_oracle.specs.Built.{list_then}
 use Rattle.pricing_oracle.specs.Filled.{HasMade, HasFilled}
 use Rattle.pricing_oracle.specs.Programs.{IsOpen, costs_steps, given_with, with_rows}
 use Rattle.pricing_oracle.proofs.ByRole.{cover_count_is, covering_is}
-use Rattle.node_program.proofs.Shape.{length-values}
+use Rattle.master_program.proofs.NodeShape.{length-values}
 use Rattle.pricing_oracle.proofs.GivenSteps.{length-steps}
 
 -- the costs and the row of the state's size

@@ -3,7 +3,7 @@ use Rattle.std.proofs.Common.{◌≡◌, ℕ, zero, suc, ◌+◌, List, [], ◌�
 use Rattle.std.proofs.lemmas.List.{map-append}
 use Rattle.exact_num.specs.Fraction.{Fraction, whole}
 use Rattle.table_run.specs.Places.{fraction_zero}
-use Rattle.node_program.specs.Node.{size_row}
+use Rattle.master_program.specs.Node.{size_row}
 use Rattle.pricing_oracle.specs.Programs.{unit_at}
 
 replicate-map : (k : ℕ) (x : ℤ) → map whole (replicate k x) ≡ replicate k (whole x)

@@ -14,7 +14,7 @@ use Rattle.simplex.specs.declared.stop.RunStop.{RunStop}
 use Rattle.simplex.specs.declared.stop.Stop.{Stop}
 use Rattle.simplex.specs.declared.stop.Stop.TheVariants.{Wide, Budget, Memory}
 use Rattle.table_run.specs.Ending.{Ending, done, wide_at, no_unit_left}
-use Rattle.node_program.specs.Search.{Question, Found, closed, found}
+use Rattle.master_program.specs.Search.{Question, Found, closed, found}
 use Rattle.search_laws.specs.Search.{IsFound}
 use Rattle.pricing_oracle.specs.declared.found.Found.{Found as Answer}
 use Rattle.pricing_oracle.specs.declared.found.Found.TheVariants.{Closed, Violated}

@@ -2,7 +2,7 @@
 use Rattle.std.specs.Prelude.{ℕ, ◌+◌, ◌<◌, List}
 use Rattle.exact_num.specs.Fraction.{Fraction}
 use Rattle.table_run.specs.Places.{at, fraction_zero}
-use Rattle.node_program.specs.Roles.{Role, Idle, Covering, Free, Above, Below}
+use Rattle.master_program.specs.Roles.{Role, Idle, Covering, Free, Above, Below}
 use Rattle.pricing_oracle.specs.declared.reading.NextRows.{NextRows}
 
 abbrev pub rows_after : Role → NextRows → NextRows

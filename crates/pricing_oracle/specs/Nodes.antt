@@ -9,10 +9,10 @@ use Rattle.clearing_model.specs.Tree.{Sign}
 use Rattle.sign_tree.specs.Legs.{FractionLeg}
 use Rattle.sign_tree.specs.Left.{batch_legs, leg_as, legs_left}
 use Rattle.sign_tree.specs.Read.{sign_of}
-use Rattle.node_program.specs.Roles.{Role as ModelRole, Idle as ModelIdle, Covering as ModelCovering, Free as ModelFree, Above as ModelAbove, Below as ModelBelow, NodeLeg as ModelLeg}
-pub use Rattle.node_program.specs.Roles.{is_free}
-use Rattle.node_program.specs.Node.{if_covering}
-use Rattle.node_program.specs.Steps.{counted_role, add_by_role}
+use Rattle.master_program.specs.Roles.{Role as ModelRole, Idle as ModelIdle, Covering as ModelCovering, Free as ModelFree, Above as ModelAbove, Below as ModelBelow, NodeLeg as ModelLeg}
+pub use Rattle.master_program.specs.Roles.{is_free}
+use Rattle.master_program.specs.Node.{if_covering}
+use Rattle.master_program.specs.NodeSteps.{counted_role, add_by_role}
 use Rattle.pricing_oracle.specs.declared.legs.Role.{Role}
 use Rattle.pricing_oracle.specs.declared.legs.Role.TheVariants.{Idle, Covering, Free, Above, Below}
 use Rattle.pricing_oracle.specs.declared.legs.NodeLeg.{NodeLeg}

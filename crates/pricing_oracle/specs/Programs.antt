@@ -8,9 +8,9 @@ use Rattle.table_run.specs.Places.{fraction_zero}
 use Rattle.table_run.specs.Program.{LinearProgram}
 use Rattle.simplex.specs.Spaces.{Contents, Workspace, IsProgramGiven, given, program_given}
 use Rattle.pricing_oracle.specs.Filled.{HasMade}
-use Rattle.node_program.specs.Node.{minus_units}
-use Rattle.node_program.specs.Roles.{Role, Idle, Covering, Free, Above, Below, values}
-use Rattle.node_program.specs.Steps.{cover_cost_steps, covering_legs, negated_of, state_cost_steps}
+use Rattle.master_program.specs.Node.{minus_units}
+use Rattle.master_program.specs.Roles.{Role, Idle, Covering, Free, Above, Below, values}
+use Rattle.master_program.specs.NodeSteps.{cover_cost_steps, covering_legs, negated_of, state_cost_steps}
 use Rattle.clearing_model.specs.Tree.{Sign}
 use Rattle.sign_tree.specs.Legs.{FractionLeg}
 

@@ -11,10 +11,10 @@ use Rattle.sign_tree.specs.declared.trees.SignTree.{SignTree}
 use Rattle.simplex.specs.declared.stop.RunStop.{RunStop}
 use Rattle.simplex.specs.declared.stop.RunStop.TheVariants.{Wide, Budget}
 use Rattle.table_run.specs.Ending.{Ending, done, wide_at, no_unit_left, on_answer, on_steps}
-use Rattle.node_program.specs.Roles.{NodeLeg}
-use Rattle.node_program.specs.Node.{covers_of, signed_of}
-use Rattle.node_program.specs.Steps.{counted_node}
-use Rattle.node_program.specs.Search.{Question, NodeFound, leaf, violated, splits, Found, closed, found, node_at, on_side, on_state, search_from, state_of, stuck}
+use Rattle.master_program.specs.Roles.{NodeLeg}
+use Rattle.master_program.specs.Node.{covers_of, signed_of}
+use Rattle.master_program.specs.NodeSteps.{counted_node}
+use Rattle.master_program.specs.Search.{Question, NodeFound, leaf, violated, splits, Found, closed, found, node_at, on_side, on_state, search_from, state_of, stuck}
 use Rattle.pricing_oracle.specs.declared.legs.Asked.{Asked}
 use Rattle.pricing_oracle.specs.Nodes.{legs_asked}
 use Rattle.pricing_oracle.specs.declared.node.Shown.{Shown}

@@ -4,7 +4,7 @@ ghost use Rattle.std.specs.List.{All};
 ghost use Rattle.exact_num.specs.Fraction.{IsNotBelowZero};
 ghost use Rattle.clearing_model.specs.Written.{SplitNode};
 ghost use Rattle.sign_tree.specs.Read.{sign_of};
-ghost use Rattle.node_program.specs.Search.{search_from};
+ghost use Rattle.master_program.specs.Search.{search_from};
 ghost use Rattle.pricing_oracle.specs.Nodes.{MayBeAsked, legs_asked};
 ghost use Rattle.pricing_oracle.specs.Programs.{HasSameSize};
 ghost use Rattle.pricing_oracle.specs.Rooms.{HasRoom, KeepsRoom};

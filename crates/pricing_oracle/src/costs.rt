@@ -4,8 +4,8 @@ ghost use Rattle.exact_num.specs.Fits.{meaning};
 ghost use Rattle.master_program.specs.Master.{map_steps};
 ghost use Rattle.sign_tree.specs.Left.{leg_as};
 ghost use Rattle.sign_tree.specs.Read.{sign_of};
-ghost use Rattle.node_program.specs.Roles.{values};
-ghost use Rattle.node_program.specs.Steps.{add_all_earned, add_earned, cover_cost_steps, covering_legs, leg_fill_steps, state_cost_steps};
+ghost use Rattle.master_program.specs.Roles.{values};
+ghost use Rattle.master_program.specs.NodeSteps.{add_all_earned, add_earned, cover_cost_steps, covering_legs, leg_fill_steps, state_cost_steps};
 ghost use Rattle.table_run.specs.Places.{fraction_zero};
 ghost use Rattle.pricing_oracle.specs.Filled.{HasFilled};
 ghost use Rattle.pricing_oracle.specs.Programs.{costs_steps};
@@ -17,7 +17,7 @@ use lists::push_within;
 use sign_tree::BatchLeg;
 
 // The fill of a leg: that of its order times the size of its count.
-#[tactic(auto, unfolding(node_program::specs::Steps::leg_fill_steps))]
+#[tactic(auto, unfolding(master_program::specs::NodeSteps::leg_fill_steps))]
 fn leg_fill<N: Exact>(leg: BatchLeg<N>) -> Result<N, Wide>
     ensures { meaning N.fraction result
         ≡ leg_fill_steps (unsigned_abs N.LIMIT) (leg_as N.fraction leg.entry) }
@@ -30,7 +30,7 @@ fn leg_fill<N: Exact>(leg: BatchLeg<N>) -> Result<N, Wide>
 }
 
 // The total and the leg's fill times the whole number x.
-#[tactic(auto, unfolding(node_program::specs::Steps::add_earned))]
+#[tactic(auto, unfolding(master_program::specs::NodeSteps::add_earned))]
 fn add_earned<N: Exact>(total: N, leg: BatchLeg<N>, x: i64) -> Result<N, Wide>
     ensures { meaning N.fraction result
         ≡ add_earned (unsigned_abs N.LIMIT) (N.fraction total) (leg_as N.fraction leg.entry) x }
@@ -41,7 +41,7 @@ fn add_earned<N: Exact>(total: N, leg: BatchLeg<N>, x: i64) -> Result<N, Wide>
 }
 
 // The total and what a leg earns at entry i.
-#[tactic(auto, unfolding(node_program::specs::Steps::add_by_role))]
+#[tactic(auto, unfolding(master_program::specs::NodeSteps::add_by_role))]
 fn add_leg<N: Exact>(total: N, leg: NodeLeg<N>, i: usize) -> Result<N, Wide>
     requires { i < 9 }
     ensures { meaning N.fraction result
@@ -76,7 +76,7 @@ fn earned_at<N: Exact>(asked: Asked<N>, signs: &[i8], i: usize) -> Result<N, Wid
 }
 
 // The cost of entry i of the state: what all legs earn there, and at entry 0 less the liability.
-#[tactic(auto, unfolding(node_program::specs::Steps::state_cost_steps))]
+#[tactic(auto, unfolding(master_program::specs::NodeSteps::state_cost_steps))]
 fn state_cost<N: Exact>(asked: Asked<N>, signs: &[i8], i: usize) -> Result<N, Wide>
     requires asked { MayBeAsked asked }
     requires entry { i < 9 }
@@ -112,7 +112,7 @@ fn add_state_costs<N: Exact>(row: &mut Vec<N>, asked: Asked<N>, signs: &[i8]) ->
 }
 
 // What the variable of a covering leg costs: the leg's fill.
-#[tactic(auto, unfolding(node_program::specs::Steps::cover_cost_steps))]
+#[tactic(auto, unfolding(master_program::specs::NodeSteps::cover_cost_steps))]
 fn cover_cost<N: Exact>(leg: BatchLeg<N>) -> Result<N, Wide>
     ensures { meaning N.fraction result
         ≡ cover_cost_steps (unsigned_abs N.LIMIT) (leg_as N.fraction leg.entry) }

@@ -7,7 +7,7 @@ ghost use Rattle.frac.specs.Range.{limit};
 ghost use Rattle.form.specs.Payoff.{IsOnCount};
 ghost use Rattle.form.specs.States.{vector_of};
 ghost use Rattle.form.specs.Vector.{scale_of};
-ghost use Rattle.node_program.specs.Search.{add_filled, add_owed, excess_of};
+ghost use Rattle.master_program.specs.Search.{add_filled, add_owed, excess_of};
 ghost use Rattle.table_run.specs.Places.{fraction_zero};
 ghost use Rattle.pricing_oracle.specs.Nodes.{MayBeAsked};
 
@@ -16,7 +16,7 @@ use exact_num::{Exact, Wide, less_product};
 use form::{Order, State, add_for_side, bundle_payoff};
 
 // The total and what a filled order owes.
-#[tactic(auto, unfolding(node_program::specs::Search::add_owed, master_program::specs::Master::order_payoff, form::specs::Payoff::bundle_of))]
+#[tactic(auto, unfolding(master_program::specs::Search::add_owed, master_program::specs::Master::order_payoff, form::specs::Payoff::bundle_of))]
 fn add_owed<N: Exact>(total: N, order: &Order, fill: N, state: &State) -> Result<N, Wide>
     requires { IsOnCount state.now.count order.now.bundle }
     ensures { meaning N.fraction result
@@ -67,7 +67,7 @@ fn scale<N: Exact>(state: &State) -> Result<N, Wide>
 }
 
 /// What the fills owe at a state above the liability times t: the orders in turn, and then the liability.
-#[tactic(auto, unfolding(node_program::specs::Search::excess_of))]
+#[tactic(auto, unfolding(master_program::specs::Search::excess_of))]
 pub fn excess<N: Exact>(asked: Asked<N>, state: &State) -> Result<N, Wide>
     requires asked { MayBeAsked asked }
     requires count { state.now.count ≡ asked.underlyings + 1 }

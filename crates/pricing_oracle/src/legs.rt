@@ -3,7 +3,7 @@ ghost use Rattle.std.specs.Prelude.{◌≡◌, ◌<◌, ◌∷◌, ◌&&◌, [],
 ghost use Rattle.exact_num.specs.Tests.{is_above_zero};
 ghost use Rattle.form.specs.Payoff.{option_of};
 ghost use Rattle.clearing_model.specs.Legs.{Long as ModelLong};
-ghost use Rattle.node_program.specs.Roles.{is_positive, role_of};
+ghost use Rattle.master_program.specs.Roles.{is_positive, role_of};
 ghost use Rattle.sign_tree.specs.Left.{IsAtLeg, exposure_as};
 ghost use Rattle.sign_tree.specs.Read.{sign_of};
 ghost use Rattle.pricing_oracle.specs.Nodes.{MayBeAsked, in_roles, legs_asked, role_as, role_leg_as, roles_left};

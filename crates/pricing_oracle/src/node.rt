@@ -7,7 +7,7 @@ ghost use Rattle.clearing_model.specs.Written.{Ends};
 ghost use Rattle.form.specs.Primitive.{IsDirection};
 ghost use Rattle.sign_tree.specs.Read.{sign_of};
 ghost use Rattle.simplex.specs.Spaces.{IsFound, x_of, y_of};
-ghost use Rattle.node_program.specs.Search.{leaf_of, node_end};
+ghost use Rattle.master_program.specs.Search.{leaf_of, node_end};
 ghost use Rattle.table_run.specs.Ending.{unbounded};
 ghost use Rattle.pricing_oracle.specs.Nodes.{MayBeAsked, legs_asked};
 ghost use Rattle.pricing_oracle.specs.Programs.{HasSameSize};

@@ -5,9 +5,9 @@ ghost use Rattle.exact_num.specs.Fraction.{whole};
 ghost use Rattle.form.specs.Payoff.{option_of};
 ghost use Rattle.master_program.specs.Master.{map_steps};
 ghost use Rattle.sign_tree.specs.Read.{sign_of};
-ghost use Rattle.node_program.specs.Node.{covers_of, size_row};
-ghost use Rattle.node_program.specs.Roles.{entries};
-ghost use Rattle.node_program.specs.Steps.{counted_node, negated_of};
+ghost use Rattle.master_program.specs.Node.{covers_of, size_row};
+ghost use Rattle.master_program.specs.Roles.{entries};
+ghost use Rattle.master_program.specs.NodeSteps.{counted_node, negated_of};
 ghost use Rattle.table_run.specs.Places.{fraction_zero};
 ghost use Rattle.pricing_oracle.specs.Filled.{HasFilled};
 ghost use Rattle.pricing_oracle.specs.Nodes.{MayBeAsked, legs_asked, role_as};
@@ -28,7 +28,7 @@ fn entry_of<N: Exact>(form: &Form, i: usize) -> Result<N, Wide>
 }
 
 // The same with a minus.
-#[tactic(auto, unfolding(node_program::specs::Steps::negated_of))]
+#[tactic(auto, unfolding(master_program::specs::NodeSteps::negated_of))]
 fn negated_of<N: Exact>(form: &Form, i: usize) -> Result<N, Wide>
     requires { i < 9 }
     ensures { meaning N.fraction result

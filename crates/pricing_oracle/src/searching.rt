@@ -5,7 +5,7 @@ ghost use Rattle.exact_num.specs.Fraction.{IsNotBelowZero};
 ghost use Rattle.form.specs.Limits.{HasItsForms};
 ghost use Rattle.form.specs.declared.limits.TheConstants.{MAX_ORDERS};
 ghost use Rattle.sign_tree.specs.Legs.{leg_count};
-ghost use Rattle.node_program.specs.Search.{search as search_of};
+ghost use Rattle.master_program.specs.Search.{search as search_of};
 ghost use Rattle.pricing_oracle.specs.Answers.{IsSearchAnswer, IsTrueOf, found_in, question};
 ghost use Rattle.pricing_oracle.specs.Rooms.{HasSameRoom};
 

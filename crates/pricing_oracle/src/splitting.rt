@@ -2,8 +2,8 @@
 ghost use Rattle.std.specs.Prelude.{◌≡◌, ◌≤◌, ◌<◌, get_or, int_lt, length, map, pos, IfSome};
 ghost use Rattle.form.specs.Payoff.{option_of};
 ghost use Rattle.sign_tree.specs.Read.{sign_of};
-ghost use Rattle.node_program.specs.Roles.{can_split, entries, has_above, has_below, split_place};
-ghost use Rattle.node_program.specs.Steps.{counted_node};
+ghost use Rattle.master_program.specs.Roles.{can_split, entries, has_above, has_below, split_place};
+ghost use Rattle.master_program.specs.NodeSteps.{counted_node};
 ghost use Rattle.pricing_oracle.specs.Nodes.{MayBeAsked, legs_asked, node_leg, role_leg_as};
 
 use crate::legs::{Asked, NodeLeg, entry, first_of, legs_of};

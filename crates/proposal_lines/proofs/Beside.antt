@@ -20,7 +20,7 @@ use Rattle.order_book.specs.Numbers.{numbers_of}
 use Rattle.order_book.specs.Refusals.{live_refusals}
 use Rattle.proposal_text.specs.declared.replies.Failed.TheVariants as failed
 use Rattle.proposals.specs.Best.{are_same_orders}
-use Rattle.refusals.specs.Refusals.{first_of}
+use Rattle.lists.specs.Refusals.{first_of}
 use Rattle.reply_print.specs.ReplyPieces.{reply_line}
 use Rattle.proposal_lines.specs.KeptByMarket.{KeptProposals}
 use Rattle.proposal_lines.specs.Output.{proposing_reply_line}

@@ -1,7 +1,7 @@
 -- What is written for a line ends with a line feed.
 use Rattle.std.proofs.Common.{◌≡◌, ◌++◌, ◌∷◌, [], ℕ, List, Option, Some, None}
 use Rattle.std.specs.Option.{option_map_or}
-use Rattle.all_lines.specs.Output.{asking_word, line_of}
+use Rattle.proposal_lines.specs.AllKinds.{asking_word, line_of}
 use Rattle.command_text.specs.declared.command.Body.{Body}
 use Rattle.command_text.specs.declared.command.Body.TheVariants as body
 use Rattle.command_text.specs.declared.command.Command.TheVariants.{Open, Deposit, Withdraw, Market, Trade, Bundle, Cancel, Clear, Settle, Balance}

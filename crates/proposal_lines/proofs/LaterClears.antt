@@ -1,7 +1,7 @@
 -- A proposal lowers the surplus of no clear, for as long as the orders of its market stay.
 use Rattle.std.proofs.Common.{◌≡◌, ℕ, List, [], ◌∷◌, Bool, true, false, nat_eq, if◌then◌else◌, Option, Some, None, Result, Ok, Err, option_and_then, refl, sym, ap, ◌∙◌, subst}
 use Rattle.std.specs.Option.{option_map_or}
-use Rattle.all_lines.specs.Output.{all_line}
+use Rattle.proposal_lines.specs.AllKinds.{all_line}
 use Rattle.cert_check.specs.Proposals.{proposal_bound}
 use Rattle.cert_check.specs.declared.outcome.Outcome.{Outcome}
 use Rattle.cert_check.specs.declared.outcome.Unproved.{Unproved as Reason}
@@ -27,7 +27,7 @@ use Rattle.proposal_text.specs.declared.replies.Failed.TheVariants as failed
 use Rattle.proposal_text.specs.declared.replies.BoundedOutcome.{BoundedOutcome}
 use Rattle.proposals.specs.Best.{after_offer, are_same_orders, best_for, surplus_of}
 use Rattle.proposals.specs.declared.best.Best.{Best}
-use Rattle.refusals.specs.Refusals.{first_of}
+use Rattle.lists.specs.Refusals.{first_of}
 use Rattle.proposal_lines.specs.Clears.{better_in, clear_reply, cleared_by, reference_in}
 use Rattle.proposal_lines.specs.KeptByMarket.{KeptProposals, best_in, if_above, kept_in, stop_of, with_kept, without_kept}
 use Rattle.proposal_lines.specs.LaterClears.{IsNoClearOf, IsUnharmed, LeaveOrders, ProposalsLowerNothing}

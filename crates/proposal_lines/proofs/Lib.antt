@@ -1,3 +1,6 @@
+pub mod AsRun
+pub mod FirstWords
+pub mod Outputs
 pub mod Numbered
 pub mod Moving
 pub mod Kept

@@ -3,8 +3,8 @@ use Rattle.std.proofs.Common.{◌≡◌, ℕ, List, [], ◌∷◌, Bool, true, f
 use Rattle.std.specs.Option.{option_map_or}
 use Rattle.std.specs.Str.{bytes_eq}
 use Rattle.std.proofs.lemmas.Slice.Eq.{bytes_eq-Decides}
-use Rattle.all_lines.specs.Output.{all_line, line_of, word_in}
-use Rattle.all_lines.proofs.AsRun.{all_answer_as_run}
+use Rattle.proposal_lines.specs.AllKinds.{all_line, line_of, word_in}
+use Rattle.proposal_lines.proofs.AsRun.{all_answer_as_run}
 use Rattle.command_text.specs.declared.asked.Fault.{Fault}
 use Rattle.command_text.specs.declared.asked.Fault.TheVariants as fault
 use Rattle.command_text.specs.declared.command.Body.{Body}

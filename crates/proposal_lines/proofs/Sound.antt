@@ -24,7 +24,7 @@ use Rattle.order_book.proofs.Accepting.{listing_live}
 use Rattle.proposal_text.specs.declared.replies.Failed.TheVariants as failed
 use Rattle.proposal_text.specs.declared.replies.ProposalReply.{ProposalReply}
 use Rattle.proposals.specs.Best.{are_same_orders}
-use Rattle.refusals.specs.Refusals.{first_of}
+use Rattle.lists.specs.Refusals.{first_of}
 use Rattle.proposal_lines.specs.KeptByMarket.{KeptProposals}
 use Rattle.proposal_lines.specs.Laws.{IsRefused, IsSound, RefusedChangeNothing}
 use Rattle.proposal_lines.specs.Proposed.{after_proposed, judged_effect, kept_by, offered, proposed_by, proposed_reply, stale_effect, unproved_effect}

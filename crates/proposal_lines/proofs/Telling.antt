@@ -2,7 +2,7 @@
 use Rattle.std.proofs.Common.{◌≡◌, ℕ, ◌+◌, List, [], ◌∷◌, ◌++◌, All, map, Option, Some, None, inl, inr, refl, sym, ap, ◌∙◌, subst}
 use Rattle.std.specs.Option.{option_map_or}
 use Rattle.std.proofs.lemmas.List.Elements.{All-nil, All-cons}
-use Rattle.all_lines.proofs.AsRun.{all_answer_as_run}
+use Rattle.proposal_lines.proofs.AsRun.{all_answer_as_run}
 use Rattle.cert_check.specs.Laws.{IsCovered}
 use Rattle.cert_check.specs.Proposals.{as_optimal}
 use Rattle.command_text.specs.declared.command.Body.{Body}
@@ -24,9 +24,9 @@ use Rattle.exchange_lines.specs.LineSteps.{InputLine, input_line, input_lines, l
 use Rattle.exchange_lines.specs.Replies.{answer_to}
 use Rattle.exchange_lines.proofs.Answered.{answer_keeps, promises_kept}
 use Rattle.form.specs.declared.orders.Batch.{Batch}
-use Rattle.house_gain.specs.Moves.{AreMoves, Move, clears, move, says}
-use Rattle.house_gain.specs.Runs.{HouseGains, IfClears, replies_by, state_by}
-use Rattle.house_gain.proofs.RunGains.{moves_gain}
+use Rattle.exchange_lines.specs.Moves.{AreMoves, Move, clears, move, says}
+use Rattle.exchange_lines.specs.GainRuns.{HouseGains, IfClears, replies_by, state_by}
+use Rattle.exchange_lines.proofs.RunGains.{moves_gain}
 use Rattle.live_lines.specs.Output.{places_output}
 use Rattle.proposal_text.specs.declared.replies.BoundedOutcome.{BoundedOutcome}
 use Rattle.reply_print.specs.ReplyPieces.{reply_line}

@@ -2,7 +2,7 @@
 use Rattle.std.proofs.Common.{◌≡◌, ℕ, List, [], ◌∷◌, ◌++◌, All, map, Option, Some, None, Result, option_and_then, refl, sym, ap, ◌∙◌}
 use Rattle.std.specs.Option.{option_map_or}
 use Rattle.std.proofs.lemmas.List.Elements.{All-head, All-tail}
-use Rattle.all_lines.specs.Output.{all_line}
+use Rattle.proposal_lines.specs.AllKinds.{all_line}
 use Rattle.cert_check.specs.declared.outcome.Outcome.{Outcome}
 use Rattle.command_text.specs.declared.asked.Fault.{Fault}
 use Rattle.command_text.specs.declared.command.Body.{Body}

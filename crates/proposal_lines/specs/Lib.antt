@@ -1,3 +1,5 @@
+pub mod AllKindsLaws
+pub mod AllKinds
 pub mod KeptByMarket
 pub mod ProposingState
 pub mod Reads

@@ -1,7 +1,7 @@
 -- What is written for a line where proposals are taken.
 use Rattle.std.specs.Prelude.{ℕ, List, [], ◌∷◌, ◌++◌}
 use Rattle.std.specs.Option.{option_map_or}
-use Rattle.all_lines.specs.Output.{all_line}
+use Rattle.proposal_lines.specs.AllKinds.{all_line}
 use Rattle.command_text.specs.declared.command.Body.{Body}
 use Rattle.command_text.specs.declared.command.Body.TheVariants.{Command, Syntax, Range}
 use Rattle.command_text.specs.declared.command.Command.{Command as CommandOf}

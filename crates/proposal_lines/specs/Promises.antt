@@ -2,7 +2,7 @@
 use Rattle.std.specs.Prelude.{ℕ, ◌≡◌, ◌+◌, ◌⊎◌, ⊤, List, [], ◌∷◌, ◌++◌, true, Some, None}
 use Rattle.std.specs.List.{All}
 use Rattle.std.specs.Option.{option_map_or}
-use Rattle.all_lines.specs.Output.{IsBesideText, all_line}
+use Rattle.proposal_lines.specs.AllKinds.{IsBesideText, all_line}
 use Rattle.cert_check.specs.declared.outcome.Mark.TheVariants.{Budget}
 use Rattle.cert_check.specs.declared.outcome.Outcome.{Outcome}
 use Rattle.clearing.specs.Outcome.{outcome_of}
@@ -17,7 +17,7 @@ use Rattle.exchange_core.specs.Refusals.{refusal_of}
 use Rattle.exchange_core.specs.Step.{batch_in, cleared_with}
 use Rattle.command_text.specs.Commands.{body_of_line}
 use Rattle.form.specs.declared.orders.Batch.{Batch}
-use Rattle.house_gain.specs.Runs.{HouseGains, IfClears}
+use Rattle.exchange_lines.specs.GainRuns.{HouseGains, IfClears}
 use Rattle.live_lines.specs.Output.{output_of}
 use Rattle.proposal_text.specs.Pieces.{proposal_line}
 use Rattle.proposal_text.specs.declared.replies.BoundedOutcome.{BoundedOutcome}

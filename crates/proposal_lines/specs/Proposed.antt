@@ -26,7 +26,7 @@ use Rattle.proposal_text.specs.declared.replies.ProposalReply.{ProposalReply}
 use Rattle.proposal_text.specs.declared.replies.ProposalReply.TheVariants as told
 use Rattle.proposals.specs.Best.{after_offer, are_same_orders}
 use Rattle.proposals.specs.declared.best.Best.{Best}
-use Rattle.refusals.specs.Refusals.{first_of}
+use Rattle.lists.specs.Refusals.{first_of}
 use Rattle.proposal_lines.specs.KeptByMarket.{KeptProposals, kept_in, with_kept}
 use Rattle.proposal_lines.specs.ProposingState.{ProposingState}
 use Rattle.proposal_lines.specs.Reads.{refused_by, refused_by_fault}

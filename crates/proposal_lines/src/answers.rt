@@ -2,7 +2,7 @@
 ghost use Rattle.std.specs.Prelude.{◌≡◌, ◌≢◌, ◌<◌, ◌==◌, false, length, IfOk, None, Some};
 ghost use Rattle.std.specs.List.{list_any};
 ghost use Rattle.std.specs.Option.{option_map};
-ghost use Rattle.all_lines.specs.Output.{all_line};
+ghost use Rattle.proposal_lines.specs.AllKinds.{all_line};
 ghost use Rattle.command_text.specs.Within.{IsBudget};
 ghost use Rattle.command_text.specs.declared.command.Body.TheVariants as Body;
 ghost use Rattle.exchange_core.specs.Kept.{IsKept};
@@ -225,7 +225,7 @@ impl ProposalLines {
         ensures { IfOk result (λ text.
             (text.items, self.new) ≡ other_line number self.old line.now) }
     {
-        match all_lines::answer(alloc, &mut self.exchange, number, line) {
+        match crate::all_kinds::answer(alloc, &mut self.exchange, number, line) {
             Ok(text) => Ok(text),
             Err(error) => {
                 self.kept.clear();

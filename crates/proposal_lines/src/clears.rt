@@ -11,7 +11,7 @@ ghost use Rattle.frac.specs.Value.{fraction_of};
 ghost use Rattle.guarded_lines.specs.Within.{GuardedBodyIsWithin};
 ghost use Rattle.order_book.specs.Book.{batch_of, is_trading, market_of};
 ghost use Rattle.order_book.specs.declared.limits.TheConstants.{MAX_BATCHES};
-ghost use Rattle.refusals.specs.Refusals.{TellsFirst};
+ghost use Rattle.lists.specs.Refusals.{TellsFirst};
 ghost use Rattle.proposal_lines.specs.Clears.{better_in, better_than, charge_effect, clear_said, cleared_by};
 ghost use Rattle.proposal_lines.specs.Proved.{AreProvedIn};
 ghost use Rattle.proposal_lines.specs.ProposingState.{state_of};

@@ -1,10 +1,14 @@
-//! The answers to all lines where proposals are taken: lines that read a market's live orders or an
-//! account's positions, lines that propose fills for a market, and clears. A clear is charged as the
-//! best proposals for the live orders have it where the reference run stops and they cover more than
-//! the match.
+//! The answers to all lines: those of a run, quotes and margins, and withdrawals that leave an
+//! account what its positions demand; and, where proposals are taken, lines that read a market's
+//! live orders or an account's positions, lines that propose fills for a market, and clears. A
+//! clear is charged as the best proposals for the live orders have it where the reference run stops
+//! and they cover more than the match.
 #![tactic(auto)]
 
+mod all_kinds;
+pub mod all_kinds_laws;
 mod answers;
+mod asking_words;
 mod clears;
 mod judging;
 mod kept_by_market;
@@ -13,6 +17,7 @@ mod proposed;
 mod reads;
 mod replies;
 
+pub use all_kinds::answer;
 pub use answers::ProposalLines;
 pub use proposed::Proposed;
 pub use reads::ReadRequest;

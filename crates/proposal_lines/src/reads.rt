@@ -2,7 +2,7 @@
 ghost use Rattle.std.specs.Prelude.{◌≡◌, ◌<◌, ◌==◌, false, length, map, IfOk};
 ghost use Rattle.std.specs.List.{list_any};
 ghost use Rattle.exchange_core.specs.Failures.{unless_memory};
-ghost use Rattle.refusals.specs.Refusals.{TellsFirst};
+ghost use Rattle.lists.specs.Refusals.{TellsFirst};
 ghost use Rattle.proposal_lines.specs.Reads.{book_of, positions_asked, read_of, read_of_line, read_reply, read_refusals, told_by};
 
 use crate::replies::{ProposingReply, refused, refused_by_fault};

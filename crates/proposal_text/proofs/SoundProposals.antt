@@ -25,7 +25,7 @@ use Rattle.proposal_text.specs.declared.replies.ProposalReply.TheVariants.{Book,
 use Rattle.proposal_text.specs.ReplyValues.{book_from, filled, fill_at, position_of, position_from, positions_from, proposed_from, bounded_of, stop_by_word, outcome_from, bounded_from, failed_by_word, reply_by}
 use Rattle.proposal_text.specs.Submissions.{proposal_of, proposal_from, order_number_from, few_numbers, order_numbers_at, submission_with, submission_from}
 use Rattle.proposal_text.specs.Within.{IsProposalWithin, IsSubmissionWithin, IsPositionWithin, IsBoundedWithin, IsProposalReplyWithin}
-use Rattle.reply_shape.specs.Look.{number_at, word_at}
+use Rattle.reply_print.specs.Look.{number_at, word_at}
 
 -- ---- proposals
 

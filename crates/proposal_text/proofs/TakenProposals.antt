@@ -17,8 +17,8 @@ use Rattle.reply_print.specs.BatchPieces.{natural, fraction, pieces_of, leg_piec
 use Rattle.reply_print.specs.PieceData.{piece_data, pieces_data}
 use Rattle.reply_print.specs.Within.{IsOrderNumber, IsOrderWithin}
 use Rattle.reply_print.proofs.WrittenReplies.{IsLegWithin, legs_within}
-use Rattle.reply_shape.specs.ClearedShape.{leg_shape, order_shape}
-use Rattle.reply_shape.specs.Look.{items_all, is_whole}
+use Rattle.reply_print.specs.ClearedShape.{leg_shape, order_shape}
+use Rattle.reply_print.specs.Look.{items_all, is_whole}
 use Rattle.reply_text.specs.BatchValues.{fraction_from, leg_from, order_from}
 use Rattle.reply_text.specs.ReplyValues.{few_orders}
 use Rattle.reply_text.specs.Taking.{items_map, list_at, take_at}

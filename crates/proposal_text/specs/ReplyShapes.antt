@@ -2,9 +2,9 @@
 use Rattle.std.specs.Prelude.{ℕ, List, Bool, true, false, ◌&&◌, ◌||◌, ◌==◌, codes, if◌then◌else◌}
 use Rattle.std.specs.Str.{bytes_eq}
 use Rattle.serde_json.specs.Data.{Data}
-use Rattle.reply_shape.specs.ClearedShape.{are_legs, is_side, order_shape}
-use Rattle.reply_shape.specs.Look.{has_members, has_at, is_whole, is_text, is_word, is_list, number_at}
-use Rattle.reply_shape.specs.NumberTexts.{is_fraction}
+use Rattle.reply_print.specs.ClearedShape.{are_legs, is_side, order_shape}
+use Rattle.reply_print.specs.Look.{has_members, has_at, is_whole, is_text, is_word, is_list, number_at}
+use Rattle.reply_print.specs.NumberTexts.{is_fraction}
 use Rattle.proposal_text.specs.Submissions.{proposal_shape, proposal_numbers}
 
 -- ---- shapes

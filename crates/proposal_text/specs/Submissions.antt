@@ -9,9 +9,9 @@ use Rattle.cert_check.specs.declared.outcome.Proposal.{Proposal}
 use Rattle.serde_json.specs.Data.{Data}
 use Rattle.serde_json.specs.Find.{as_number, as_u64}
 use Rattle.reply_print.specs.declared.limits.TheConstants.{MAX_ORDER}
-use Rattle.reply_shape.specs.ClearedShape.{certificate_shape}
-use Rattle.reply_shape.specs.Look.{has_members, has_at, is_whole, is_text, is_list}
-use Rattle.reply_shape.specs.NumberTexts.{certificate_numbers, is_fraction}
+use Rattle.reply_print.specs.ClearedShape.{certificate_shape}
+use Rattle.reply_print.specs.Look.{has_members, has_at, is_whole, is_text, is_list}
+use Rattle.reply_print.specs.NumberTexts.{certificate_numbers, is_fraction}
 use Rattle.reply_text.specs.BatchValues.{fraction_from}
 use Rattle.reply_text.specs.OutcomeValues.{certificate_from}
 use Rattle.reply_text.specs.Taking.{from_to, list_at, take_at}

@@ -1,14 +1,14 @@
 // The shapes of the replies, and whether their texts are numbers.
 ghost use Rattle.std.specs.Prelude.{◌≡◌, false};
 ghost use Rattle.serde_json.specs.View.{view};
-ghost use Rattle.reply_shape.specs.ClearedShape.{order_shape};
-ghost use Rattle.reply_shape.specs.Look.{is_list as list_passes};
+ghost use Rattle.reply_print.specs.ClearedShape.{order_shape};
+ghost use Rattle.reply_print.specs.Look.{is_list as list_passes};
 ghost use Rattle.proposal_text.specs.ReplyShapes.{are_orders as orders_are, book_shape as book_is, bounded_shape as bounded_is, counts_shape as counts_are, is_failed as failed_is, is_stop as stop_is, numbers_by as numbers_are, position_numbers as position_is_numbered, position_shape as position_is, positions_shape as positions_are, proposed_numbers as proposed_is_numbered, proposed_shape as proposed_is, refused_shape as refused_is, shape_by as shape_is, stale_shape as stale_is, unproved_shape as unproved_is};
 
 use crate::submission_text::{proposal_numbers, proposal_shape};
-use reply_shape::cleared_numbers::has_fraction;
-use reply_shape::cleared_shape::{are_legs, are_orders, is_side};
-use reply_shape::look::{
+use reply_print::cleared_numbers::has_fraction;
+use reply_print::cleared_shape::{are_legs, are_orders, is_side};
+use reply_print::look::{
     has_at, has_members, has_text, has_whole, has_word, is_list, is_word, number_at,
 };
 use serde_json::Value;

@@ -9,7 +9,7 @@ use crate::submission_text::proposal_from;
 use exact_num::Exact;
 use frac::Frac128;
 use reply_print::limits::MAX_BUDGET;
-use reply_shape::look::{number_at, word_at};
+use reply_print::look::{number_at, word_at};
 use reply_text::batch_values::{batch_from, bundle_from, side_at};
 use reply_text::certificate_values::fraction_at;
 use reply_text::taking::{account_at, batch_at, list_at, market_at, natural_at, order_at};

@@ -1,1 +1,5 @@
+mod Payoffs
+mod NothingOwed
+mod Bounded
+pub mod NothingProposed
 pub mod Offers

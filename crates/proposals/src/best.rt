@@ -3,10 +3,9 @@
 ghost use Rattle.std.specs.Prelude.{◌≡◌};
 ghost use Rattle.proposals.specs.Best.{after_best, best_of, better_fills, better_measure, joined};
 
-use cert_check::{Claim, Cover, Fills, Proposal};
+use cert_check::{Claim, Cover, Fills, Measure, Proposal};
 use frac::Frac128;
 use lists::List;
-use measure::Measure;
 
 /// The numbers of a market's live orders, by rising number.
 pub type OrderNumbers = List<u64>;

@@ -11,8 +11,8 @@ use Rattle.form.specs.Bundles.{legs_in, count_sizes}
 use Rattle.form.specs.Payoff.{option_of}
 use Rattle.settlement.specs.declared.limits.TheConstants.{MAX_GAIN}
 use Rattle.settlement.specs.declared.position.PaidOut.{PaidOut}
-use Rattle.measure.specs.declared.measures.Measure.{Measure}
-use Rattle.measure.specs.declared.measures.Weighted.{Weighted}
+use Rattle.cert_check.specs.declared.measures.Measure.{Measure}
+use Rattle.cert_check.specs.declared.measures.Weighted.{Weighted}
 use Rattle.sign_tree.specs.declared.trees.Node.{Node}
 use Rattle.sign_tree.specs.declared.trees.Node.TheVariants.{Split, Leaf}
 use Rattle.sign_tree.specs.declared.trees.Multiplier.{Multiplier}

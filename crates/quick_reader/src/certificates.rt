@@ -2,9 +2,8 @@
 use crate::cursor::Cursor;
 use crate::items::{Item, add_items, items_of, push};
 use crate::stop::Stop;
-use cert_check::{Cover, Mark};
+use cert_check::{Cover, Mark, Measure, Points, Weighted};
 use form::State;
-use measure::{Measure, Points, Weighted};
 use sign_tree::{Multiplier, Multipliers, Node, Nodes, SignTree};
 use std::alloc::Global;
 

@@ -8,12 +8,11 @@ ghost use Rattle.reply_print.specs.Within.{IsCoverWithin, IsPointWithin, IsWithi
 ghost use Rattle.quick_reader.specs.Options.{has_limits as limits_kept, is_zero};
 ghost use Rattle.quick_reader.specs.Ranges as tests;
 
-use cert_check::{Cover, Mark, Outcome};
+use cert_check::{Cover, Mark, Measure, Outcome, Weighted};
 use form::{
     Batch, Bundle, Leg, MAX_OPTIONS, MAX_ORDERS, MAX_PRICE, MAX_QUANTITY, MAX_STRIKE,
     MAX_UNDERLYINGS, MAX_WEIGHT, Order, Side,
 };
-use measure::{Measure, Weighted};
 use reply_print::Reply;
 use reply_print::limits::{
     MAX_ACCOUNT, MAX_BATCH, MAX_BUDGET, MAX_FIELD, MAX_LAPSED, MAX_LINE, MAX_MARKET, MAX_ORDER,

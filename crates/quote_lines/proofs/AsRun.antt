@@ -30,7 +30,7 @@ use Rattle.quote_lines.specs.declared.requests.PriceRequest.{PriceRequest}
 use Rattle.quote_lines.specs.Bodies.{body_of_fault, body_of_price, body_of_request, requested, said_by, word_text}
 use Rattle.quote_lines.specs.Requests.{price_request_of, request_of}
 use Rattle.quote_lines.proofs.Words.{asking_is_no_command}
-use Rattle.refusals.specs.Refusals.{first_of}
+use Rattle.lists.specs.Refusals.{first_of}
 use Rattle.quote_lines.specs.declared.replies.QuotesReply.TheVariants as told
 use Rattle.quote_lines.specs.Laws.{LinesAnswerAsRun, QuotesAnswerAsRun, QuotesTellAnswers}
 use Rattle.quote_lines.specs.Output.{IsPricedText, IsPriceText, IsQuoteText, IsTextBy, quotes_line, written_reply}

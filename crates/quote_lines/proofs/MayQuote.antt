@@ -23,8 +23,8 @@ use Rattle.exchange_core.specs.Reply.{refused_with}
 use Rattle.exchange_core.specs.Step.{batch_in}
 use Rattle.option_quotes.specs.Thresholds.{MayBeQuoted}
 use Rattle.quote_lines.specs.declared.requests.QuoteRequest.{QuoteRequest}
-use Rattle.refusals.specs.Refusals.{first_of}
-use Rattle.refusals.proofs.FirstRefusal.{first_behind, first_in_front}
+use Rattle.lists.specs.Refusals.{first_of}
+use Rattle.lists.proofs.FirstRefusal.{first_behind, first_in_front}
 use Rattle.quote_lines.specs.declared.replies.QuotesReply.{QuotesReply}
 use Rattle.quote_lines.specs.declared.replies.QuotesReply.TheVariants.{Plain}
 use Rattle.quote_lines.specs.Refusals.{info_refusals, quote_refusals}

@@ -29,7 +29,7 @@ use Rattle.quote_lines.specs.declared.requests.PriceRequest.{PriceRequest}
 use Rattle.quote_lines.specs.Within.{QuotesBodyIsWithin}
 use Rattle.quote_lines.proofs.RequestsWithin.{requests_are_within}
 use Rattle.order_book.specs.Book.{info_in}
-use Rattle.refusals.proofs.FirstRefusal.{none_in_both}
+use Rattle.lists.proofs.FirstRefusal.{none_in_both}
 use Rattle.quote_lines.specs.declared.replies.QuotesReply.{QuotesReply}
 use Rattle.quote_lines.specs.declared.replies.QuotesReply.TheVariants.{Plain, Priced}
 use Rattle.quote_lines.specs.Laws.{PricedLinesAreThresholds, QuotedLinesAreThresholds, TellsImplied, TellsOf, TellsPrice}

@@ -21,7 +21,7 @@ use Rattle.quote_lines.specs.declared.requests.QuoteRequest.{QuoteRequest}
 use Rattle.quote_lines.specs.declared.requests.PriceRequest.{PriceRequest}
 use Rattle.quote_lines.specs.Bodies.{body_by, quotes_body_of}
 use Rattle.quote_lines.specs.Quoted.{priced_line, quoted_line}
-use Rattle.refusals.specs.Refusals.{first_of}
+use Rattle.lists.specs.Refusals.{first_of}
 use Rattle.quote_lines.specs.Output.{IsQuoteText, IsTextBy, line_by, quotes_line}
 use Rattle.quote_lines.specs.Refusals.{quote_refusals}
 

@@ -23,7 +23,7 @@ use Rattle.quote_lines.specs.declared.prices.QuotedPrice.{QuotedPrice}
 use Rattle.quote_lines.specs.declared.prices.QuotedPrice.TheVariants as told
 use Rattle.quote_lines.specs.declared.requests.QuoteRequest.{QuoteRequest}
 use Rattle.quote_lines.specs.Quoted.{priced_line, quoted_line}
-use Rattle.refusals.specs.Refusals.{first_of}
+use Rattle.lists.specs.Refusals.{first_of}
 use Rattle.reply_print.specs.ReplyPieces.{reply_line}
 use Rattle.quote_lines.specs.declared.replies.QuotesReply.{QuotesReply}
 use Rattle.quote_lines.specs.declared.replies.QuotesReply.TheVariants.{Plain, Quoted as ToldQuote, Priced}

@@ -5,7 +5,7 @@ ghost use Rattle.form.specs.Limits.{IsWithinLimits};
 ghost use Rattle.form.specs.declared.limits.TheConstants.{MAX_UNDERLYINGS};
 ghost use Rattle.order_book.specs.Book.{info_in};
 ghost use Rattle.exchange_core.specs.Kept.{IsKept};
-ghost use Rattle.refusals.specs.Refusals.{first_of};
+ghost use Rattle.lists.specs.Refusals.{first_of};
 ghost use Rattle.quote_lines.specs.Within.{IsRequestWithin};
 ghost use Rattle.quote_lines.specs.Replies.{asked_reply, price_of, priced_for, prices_told, quoted_for, quoted_price, side_told, told_for};
 ghost use Rattle.quote_lines.specs.Refusals.{info_refusals};

@@ -9,3 +9,6 @@ pub mod WrittenReplies
 pub mod LineLaws
 pub mod Pushes
 pub mod Behind
+pub mod Items
+pub mod Capped
+pub mod Naturals

@@ -13,8 +13,8 @@ use Rattle.form.specs.declared.orders.Side.{Side}
 use Rattle.form.specs.declared.orders.Side.TheVariants.{Buy, Sell}
 use Rattle.form.specs.Bundles.{legs_in}
 use Rattle.form.specs.Payoff.{option_of}
-use Rattle.measure.specs.declared.measures.Weighted.{Weighted}
-use Rattle.measure.specs.declared.measures.Measure.{Measure}
+use Rattle.cert_check.specs.declared.measures.Weighted.{Weighted}
+use Rattle.cert_check.specs.declared.measures.Measure.{Measure}
 use Rattle.sign_tree.specs.declared.trees.Node.{Node}
 use Rattle.sign_tree.specs.declared.trees.Node.TheVariants.{Split, Leaf}
 use Rattle.sign_tree.specs.declared.trees.Multiplier.{Multiplier}

@@ -9,8 +9,8 @@ use Rattle.form.specs.declared.forms.Form.{Form}
 use Rattle.form.specs.Limits.{IsListed}
 use Rattle.form.specs.Payoff.{option_of}
 use Rattle.form.specs.Vector.{strike_entry, weights_of}
-use Rattle.measure.specs.declared.measures.Weighted.{Weighted}
-use Rattle.measure.specs.declared.measures.Measure.{Measure}
+use Rattle.cert_check.specs.declared.measures.Weighted.{Weighted}
+use Rattle.cert_check.specs.declared.measures.Measure.{Measure}
 use Rattle.sign_tree.specs.declared.trees.Node.{Node}
 use Rattle.sign_tree.specs.declared.trees.Node.TheVariants.{Split, Leaf}
 use Rattle.sign_tree.specs.declared.trees.Multiplier.{Multiplier}

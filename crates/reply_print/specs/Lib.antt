@@ -8,3 +8,8 @@ pub mod OutcomePieces
 pub mod ReplyPieces
 pub mod Within
 pub mod Laws
+pub mod Look
+pub mod NumberValues
+pub mod ReplyShape
+pub mod ClearedShape
+pub mod NumberTexts

@@ -3,8 +3,8 @@ use Rattle.std.specs.Prelude.{ℕ, ℤ, unsigned_abs, List, [], ◌∷◌, take,
 use Rattle.exact_num.specs.Fraction.{over}
 use Rattle.exact_num.specs.declared.misfit.Wide.{Wide}
 use Rattle.form.specs.declared.states.State.{State}
-use Rattle.measure.specs.declared.measures.Weighted.{Weighted}
-use Rattle.measure.specs.declared.measures.Measure.{Measure}
+use Rattle.cert_check.specs.declared.measures.Weighted.{Weighted}
+use Rattle.cert_check.specs.declared.measures.Measure.{Measure}
 use Rattle.sign_tree.specs.declared.trees.Node.{Node}
 use Rattle.sign_tree.specs.declared.trees.Node.TheVariants.{Split, Leaf}
 use Rattle.sign_tree.specs.declared.trees.Multiplier.{Multiplier}

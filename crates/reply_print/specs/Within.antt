@@ -7,7 +7,7 @@ use Rattle.form.specs.declared.orders.Side.TheVariants.{Buy, Sell}
 use Rattle.form.specs.declared.limits.TheConstants.{MAX_UNDERLYINGS, MAX_ORDERS}
 use Rattle.form.specs.Limits as limits
 use Rattle.settlement.specs.declared.limits.TheConstants.{MAX_GAIN}
-use Rattle.measure.specs.declared.measures.Weighted.{Weighted}
+use Rattle.cert_check.specs.declared.measures.Weighted.{Weighted}
 use Rattle.sign_tree.specs.declared.trees.Node.{Node}
 use Rattle.sign_tree.specs.declared.trees.Node.TheVariants.{Split, Leaf}
 use Rattle.sign_tree.specs.declared.trees.Multiplier.{Multiplier}

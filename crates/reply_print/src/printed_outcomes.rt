@@ -8,9 +8,8 @@ use crate::printing::{
     Printed, add_field, add_items, add_key, add_number, add_words, append, append_parts, comma,
 };
 use crate::words::operator;
-use cert_check::{Cover, Mark};
+use cert_check::{Cover, Mark, Measure, Weighted};
 use exact_num::Wide;
-use measure::{Measure, Weighted};
 use sign_tree::{Multiplier, Node};
 use std::alloc::AllocError;
 

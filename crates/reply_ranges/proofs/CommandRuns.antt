@@ -8,9 +8,9 @@ use Rattle.reply_print.specs.declared.replies.Reply.{Reply}
 use Rattle.reply_print.specs.Within.{IsReplyWithin}
 use Rattle.exchange_core.specs.ExchangeState.{ExchangeState, empty_exchange}
 use Rattle.exchange_core.specs.Step.{step}
-use Rattle.house_gain.specs.Runs.{replies_by}
-use Rattle.house_gain.proofs.RunStates.{IsRunning, empty_runs, step_runs}
-use Rattle.house_gain.proofs.Steps.{command_steps}
+use Rattle.exchange_lines.specs.GainRuns.{replies_by}
+use Rattle.exchange_lines.proofs.RunStates.{IsRunning, empty_runs, step_runs}
+use Rattle.exchange_lines.proofs.GainSteps.{command_steps}
 use Rattle.reply_ranges.specs.Laws.{RepliesAreWithin}
 use Rattle.reply_ranges.proofs.States.{IsRanged, empty_is_ranged, step_ranged}
 use Rattle.reply_ranges.proofs.StepReplies.{step_within}

@@ -17,7 +17,7 @@ use Rattle.frac.specs.Range.{limit as largest}
 use Rattle.line_cover.specs.Net.{add_payoff}
 use Rattle.master_program.specs.Master.{zero_prices}
 use Rattle.master_program.specs.Reading.{Reading}
-use Rattle.node_program.specs.Search.{Found, closed, found, search}
+use Rattle.master_program.specs.Search.{Found, closed, found, search}
 use Rattle.settlement.specs.declared.position.Position.{Position}
 use Rattle.table_run.specs.Ending.{Ending, done, unbounded, wide_at, no_unit_left, on_steps}
 use Rattle.portfolio_margin.specs.declared.needs.Needed.TheVariants as needed
@@ -28,7 +28,7 @@ use Rattle.guarded_lines.specs.declared.told.Need.{Need}
 use Rattle.guarded_lines.specs.declared.told.Need.TheVariants as need
 use Rattle.guarded_lines.specs.Margins.{are_many, held_by, run_in, told_of, underlyings_in}
 use Rattle.guarded_lines.specs.Needs.{demand_in, demands_in, liability_in, liability_of, margin_budget, need_as, need_in}
-use Rattle.asked_text.specs.Lines.{IsMarginWithin, IsNeedWithin}
+use Rattle.journal_audit.specs.AskedLines.{IsMarginWithin, IsNeedWithin}
 use Rattle.reply_print.specs.OutcomePieces.{state_entries}
 use Rattle.reply_print.specs.Within as reply
 use Rattle.form.specs.StateOf.{state_of}

@@ -12,7 +12,7 @@ use Rattle.command_text.specs.Numbers.{number_in}
 use Rattle.command_text.specs.Numbers as numbers
 use Rattle.command_text.proofs.Bounds.{natural_between, number_within}
 use Rattle.form.specs.Between.{Between}
-use Rattle.house_gain.proofs.RunStates.{same}
+use Rattle.exchange_lines.proofs.RunStates.{same}
 use Rattle.live_lines.specs.Open.{count_limit}
 use Rattle.session_gate.specs.declared.answer.Answer.{Answer}
 use Rattle.session_gate.specs.declared.answer.Answer.TheVariants.{First, Repeat, Old, Ahead, Changed, Sessions}

@@ -4,9 +4,9 @@ use Rattle.std.specs.Prelude.{IfSome}
 use Rattle.std.specs.List.{All}
 use Rattle.std.specs.Option.{option_map_or}
 use Rattle.std.proofs.lemmas.List.Elements.{All-append, All-from_recursion}
-use Rattle.all_lines.specs.Output.{all_line, asking_word, line_of}
-use Rattle.asked_text.specs.declared.replies.AskedReply.TheVariants as told
-use Rattle.asked_text.specs.Lines.{IsNeedWithin, IsPriceWithin, asked_line}
+use Rattle.proposal_lines.specs.AllKinds.{all_line, asking_word, line_of}
+use Rattle.journal_audit.specs.declared.asked_replies.AskedReply.TheVariants as told
+use Rattle.journal_audit.specs.AskedLines.{IsNeedWithin, IsPriceWithin, asked_line}
 use Rattle.command_text.specs.declared.command.Body.{Body}
 use Rattle.command_text.specs.declared.command.Body.TheVariants as body
 use Rattle.command_text.specs.declared.command.Command.{Command}
@@ -40,7 +40,7 @@ use Rattle.guarded_lines.specs.Told.{margin_line}
 use Rattle.guarded_lines.specs.Within.{GuardedBodyIsWithin, IsRequestWithin as IsMarginRequest}
 use Rattle.guarded_lines.specs.Withdrawals.{covers, is_refused, left_in, uncovered_by, uncovered_command}
 use Rattle.guarded_lines.proofs.RequestsWithin.{requests_are_within as margin_requests}
-use Rattle.house_gain.proofs.RunStates.{IsRunning}
+use Rattle.exchange_lines.proofs.RunStates.{IsRunning}
 use Rattle.option_quotes.specs.declared.prices.MarketPrices.{MarketPrices}
 use Rattle.option_quotes.specs.declared.prices.MarketPrices.TheVariants as market
 use Rattle.option_quotes.specs.declared.prices.SidePrice.{SidePrice}
@@ -67,8 +67,8 @@ use Rattle.quote_lines.specs.Replies.{asked_reply, price_of, prices_told, quoted
 use Rattle.quote_lines.specs.Within.{IsRequestWithin, QuotesBodyIsWithin}
 use Rattle.quote_lines.proofs.MayQuote.{live_may}
 use Rattle.quote_lines.proofs.RequestsWithin.{requests_are_within}
-use Rattle.refusals.specs.Refusals.{first_of}
-use Rattle.refusals.proofs.FirstRefusal.{none_in_both}
+use Rattle.lists.specs.Refusals.{first_of}
+use Rattle.lists.proofs.FirstRefusal.{none_in_both}
 use Rattle.reply_print.specs.ReplyPieces.{reply_line}
 use Rattle.reply_print.specs.Within.{IsLine}
 use Rattle.reply_ranges.specs.Laws.{HasField}

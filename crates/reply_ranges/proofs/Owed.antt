@@ -29,13 +29,13 @@ use Rattle.form.specs.Limits.{IsOrderWithin}
 use Rattle.frac.specs.declared.frac128.Frac128.{Frac128}
 use Rattle.frac.specs.Value.{fraction_of}
 use Rattle.order_book.specs.Refusals.{batch_refusals}
-use Rattle.refusals.specs.Refusals.{first_of}
+use Rattle.lists.specs.Refusals.{first_of}
 use Rattle.settlement.specs.declared.position.Position.{Position}
 use Rattle.settlement.specs.Positions.{is_of}
 use Rattle.settlement.specs.Premium.{rounded_up}
 use Rattle.settlement.proofs.Quotients.{ceil_least}
 use Rattle.portfolio_margin.specs.Run.{order_of}
-use Rattle.house_gain.proofs.RunStates.{IsRunning}
+use Rattle.exchange_lines.proofs.RunStates.{IsRunning}
 use Rattle.reply_ranges.proofs.States.{IsRanged, batch_ranged}
 
 abbrev pub IsOwedWithin : Position → Type 0

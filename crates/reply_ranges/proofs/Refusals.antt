@@ -12,7 +12,7 @@ use Rattle.order_book.specs.declared.new_order.NewOrder.{NewOrder}
 use Rattle.order_book.specs.declared.refusal.BookRefusal.{BookRefusal}
 use Rattle.order_book.specs.declared.refusal.BookRefusal.TheVariants as from_book
 use Rattle.order_book.specs.Refusals as book
-use Rattle.refusals.specs.Refusals.{first_of, by_name}
+use Rattle.lists.specs.Refusals.{first_of, by_name}
 use Rattle.exchange_core.specs.declared.refusal.Refusal.{Refusal}
 use Rattle.exchange_core.specs.ExchangeState.{ExchangeState}
 use Rattle.exchange_core.specs.Orders.{order_by, order_for}

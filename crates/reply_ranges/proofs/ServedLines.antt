@@ -22,9 +22,9 @@ use Rattle.exchange_core.proofs.FirstRefusal.{batch_none}
 use Rattle.exchange_lines.specs.LineSteps.{InputLine}
 use Rattle.form.specs.declared.orders.Batch.{Batch}
 use Rattle.frac.specs.Value.{fraction_of}
-use Rattle.house_gain.specs.Moves.{clears}
-use Rattle.house_gain.proofs.RunStates.{empty_runs, step_runs}
-use Rattle.house_gain.proofs.Steps.{body_steps, move_steps}
+use Rattle.exchange_lines.specs.Moves.{clears}
+use Rattle.exchange_lines.proofs.RunStates.{empty_runs, step_runs}
+use Rattle.exchange_lines.proofs.GainSteps.{body_steps, move_steps}
 use Rattle.journal_audit.specs.Laws.{OfServe}
 use Rattle.live_lines.specs.Open.{count_limit}
 use Rattle.proposal_text.specs.declared.replies.BoundedOutcome.{BoundedOutcome}

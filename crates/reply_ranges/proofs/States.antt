@@ -28,7 +28,7 @@ use Rattle.order_book.specs.Refusals.{batch_refusals, close_refusals}
 use Rattle.order_book.proofs.Accepting.{closable, finishable}
 use Rattle.order_book.proofs.BookKept.{batch_within, market_kept}
 use Rattle.order_book.proofs.MarketLists.{live_found, same_number}
-use Rattle.refusals.specs.Refusals.{first_of}
+use Rattle.lists.specs.Refusals.{first_of}
 use Rattle.settlement.specs.declared.limits.TheConstants.{MAX_SETTLEMENT_PRICE}
 use Rattle.settlement.specs.declared.position.PaidOut.{PaidOut}
 use Rattle.settlement.specs.declared.position.Position.{Position}
@@ -48,10 +48,10 @@ use Rattle.exchange_core.specs.Step.{batch_in, cleared_with, effect, refusal_eff
 use Rattle.exchange_core.proofs.FirstRefusal.{batch_none, close_none}
 use Rattle.exchange_core.proofs.LiveAccounts.{All-live_in}
 use Rattle.exchange_core.proofs.Settled.{are_paid_out}
-use Rattle.house_gain.proofs.Payouts.{all_made}
-use Rattle.house_gain.proofs.RunStates.{IsRunning}
-use Rattle.house_gain.proofs.Steps.{IsTrader}
-use Rattle.house_gain.proofs.ZeroPrices.{worth-with_zero_prices}
+use Rattle.exchange_lines.proofs.Payouts.{all_made}
+use Rattle.exchange_lines.proofs.RunStates.{IsRunning}
+use Rattle.exchange_lines.proofs.GainSteps.{IsTrader}
+use Rattle.exchange_lines.proofs.ZeroPrices.{worth-with_zero_prices}
 use Rattle.reply_ranges.proofs.Entries.{AreBounded-append, IsAmountSmall, batch_counts, payoffs_bounded, premiums_bounded, settled_counts}
 use Rattle.form.specs.Between.{Between}
 

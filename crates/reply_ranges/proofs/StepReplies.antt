@@ -17,7 +17,7 @@ use Rattle.order_book.specs.Refusals.{batch_refusals, close_refusals}
 use Rattle.order_book.proofs.Accepting.{accepts, closable, finishable}
 use Rattle.order_book.proofs.BookKept.{market_kept}
 use Rattle.order_book.proofs.MarketLists.{live_found}
-use Rattle.refusals.specs.Refusals.{first_of}
+use Rattle.lists.specs.Refusals.{first_of}
 use Rattle.settlement.specs.declared.limits.TheConstants.{MAX_SETTLEMENT_PRICE}
 use Rattle.settlement.specs.declared.position.PaidOut.{PaidOut}
 use Rattle.settlement.specs.declared.position.Position.{Position}
@@ -34,7 +34,7 @@ use Rattle.exchange_core.specs.Step.{batch_in, effect, refusal_effect, step}
 use Rattle.exchange_core.proofs.FirstRefusal.{batch_none, close_none, place_none}
 use Rattle.exchange_core.proofs.ReserveSums.{reserve_of-small}
 use Rattle.exchange_core.specs.LineReplies.{reply_to}
-use Rattle.house_gain.proofs.RunStates.{IsRunning}
+use Rattle.exchange_lines.proofs.RunStates.{IsRunning}
 use Rattle.reply_ranges.specs.Laws.{HasField}
 use Rattle.reply_ranges.proofs.Entries.{balance_small}
 use Rattle.reply_ranges.proofs.Outcomes.{outcomes_are_ranged}

@@ -16,9 +16,9 @@ use Rattle.proposal_text.specs.declared.replies.ProposalReply.{ProposalReply}
 use Rattle.proposal_text.specs.Pieces.{proposal_line, proposal_piece}
 use Rattle.proposal_text.specs.Within.{IsProposalLineWithin}
 use Rattle.proposal_text.proofs.WrittenProposals.{reply_written as proposal_written}
-use Rattle.asked_text.specs.declared.replies.AskedReply.{AskedReply}
-use Rattle.asked_text.specs.Lines.{IsAskedLineWithin, asked_line, asked_piece}
-use Rattle.asked_text.proofs.AskedExactly.{asked_written}
+use Rattle.journal_audit.specs.declared.asked_replies.AskedReply.{AskedReply}
+use Rattle.journal_audit.specs.AskedLines.{IsAskedLineWithin, asked_line, asked_piece}
+use Rattle.journal_audit.proofs.AskedExactly.{asked_written}
 use Rattle.journal_check.specs.Laws.{IfCleared, IsCertified}
 use Rattle.journal_audit.specs.Laws.{IfBounded, IsServedLineOf, OfAsked, OfProposals, OfRun, ServedReply}
 use Rattle.reply_ranges.proofs.Reports.{HasNoFeed}

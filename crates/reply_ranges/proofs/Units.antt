@@ -11,7 +11,7 @@ use Rattle.clearing.specs.Outcome.{fallback, has_values, optimal_outcome, outcom
 use Rattle.line_cover.specs.Breakpoints.{later_states}
 use Rattle.master_program.specs.Master.{master, zero_prices}
 use Rattle.master_program.specs.Solve.{master_run, master_solve, on_optimum, reading_at}
-use Rattle.node_program.specs.Rounds.{Cleared, rounds}
+use Rattle.master_program.specs.Rounds.{Cleared, rounds}
 use Rattle.rounds.specs.Answers.{limits_of}
 use Rattle.rounds.specs.Run.{Solution, line_run, on_line, on_tree, sums_hold as line_sums}
 use Rattle.rounds.proofs.JointRuns.{by_count, joint_run-is, the_line}

@@ -11,8 +11,8 @@ use Rattle.command_text.specs.Within.{BodyIsWithin, IsLineWithin}
 use Rattle.command_text.proofs.ReadWithin.{inputs_are_within}
 use Rattle.exchange_core.specs.ExchangeState.{ExchangeState, empty_exchange}
 use Rattle.exchange_lines.specs.Replies.{answer_to, answers_from}
-use Rattle.house_gain.proofs.Steps.{body_steps}
-use Rattle.house_gain.proofs.RunStates.{IsRunning, empty_runs, step_runs}
+use Rattle.exchange_lines.proofs.GainSteps.{body_steps}
+use Rattle.exchange_lines.proofs.RunStates.{IsRunning, empty_runs, step_runs}
 use Rattle.exchange_core.specs.LineReplies.{reply_to}
 use Rattle.reply_ranges.specs.Laws.{HasField}
 use Rattle.reply_ranges.proofs.Fields.{fields_are_within}

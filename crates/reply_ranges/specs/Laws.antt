@@ -11,7 +11,7 @@ use Rattle.exchange_core.specs.ExchangeState.{empty_exchange}
 use Rattle.exchange_core.specs.Step.{step}
 use Rattle.form.specs.declared.orders.Batch.{Batch}
 use Rattle.form.specs.Limits.{IsWithinLimits}
-use Rattle.house_gain.specs.Runs.{replies_by}
+use Rattle.exchange_lines.specs.GainRuns.{replies_by}
 use Rattle.reply_print.specs.Within.{IsOutcomeWithin, IsReplyWithin}
 use Rattle.form.specs.Between.{Between}
 

@@ -11,7 +11,7 @@ use Rattle.reply_print.specs.Written.{IsWritten}
 use Rattle.reply_print.proofs.Ascii.{utf8-piece}
 use Rattle.reply_print.proofs.PlainPieces.{HasPlainTexts}
 use Rattle.reply_print.proofs.ReadBack.{read-piece}
-use Rattle.reply_shape.specs.Look.{word_at}
+use Rattle.reply_print.specs.Look.{word_at}
 use Rattle.reply_text.specs.declared.faults.LineFault.{LineFault}
 use Rattle.reply_text.specs.declared.faults.LineFault.TheVariants.{NotJson, Shape, Number, Range, Spelling, Memory}
 use Rattle.reply_text.specs.Tests.{ReplyTests, Tests, in_range_by, json_by, json_of, read_by, spelled_by, tests_of, value_by}

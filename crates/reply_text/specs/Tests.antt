@@ -4,7 +4,7 @@ use Rattle.std.specs.Str.{bytes_eq, is_utf8}
 use Rattle.serde_json.specs.Data.{Data}
 use Rattle.serde_json.specs.Read.{read}
 use Rattle.reply_print.specs.declared.limits.TheConstants.{MAX_LINE}
-use Rattle.reply_shape.specs.Look.{word_at}
+use Rattle.reply_print.specs.Look.{word_at}
 use Rattle.reply_text.specs.declared.faults.LineFault.{LineFault}
 use Rattle.reply_text.specs.declared.faults.LineFault.TheVariants.{NotJson, Shape, Number, Range, Spelling}
 use Rattle.reply_text.specs.Taking.{natural_at}

@@ -12,7 +12,7 @@ use form::{
     are_legs,
 };
 use quick_reader::ranges::{has_few_options, has_limits};
-use reply_shape::look::{is_word, number_at};
+use reply_print::look::{is_word, number_at};
 use serde_json::Value;
 use std::alloc::{AllocError, Global};
 

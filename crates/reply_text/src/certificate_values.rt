@@ -2,22 +2,21 @@
 ghost use Rattle.std.specs.Prelude.{◌≡◌, IfOk, codes, option_map, Some};
 ghost use Rattle.frac.specs.Range.{limit};
 ghost use Rattle.serde_json.specs.View.{view, items_view};
-ghost use Rattle.reply_shape.specs.Numbers.{fraction_from as fraction_read};
+ghost use Rattle.reply_print.specs.NumberValues.{fraction_from as fraction_read};
 ghost use Rattle.frac.specs.ValueOf.{value_from};
 ghost use Rattle.reply_text.specs.BatchValues.{fraction_from as fraction_found, whole_from};
 ghost use Rattle.reply_text.specs.OutcomeValues.{state_at as state_found, point_from as point_found, multiplier_from as multiplier_found, leaf_from as leaf_found, node_from as node_found, nodes_from, signs_of, cover_from as cover_found, certificate_from as certificate_found, pair_from as pair_found, operator_of as operator_named, wide_from as wide_found};
 ghost use Rattle.reply_text.specs.Taking.{list_at as list_found, take_at};
 
 use crate::taking::{list_at, natural_at, whole_within};
-use cert_check::{Cover, Mark};
+use cert_check::{Cover, Mark, Measure, Points, Weighted};
 use exact_num::{Exact, Operator, Wide};
 use form::State;
 use frac::Frac128;
-use measure::{Measure, Points, Weighted};
+use reply_print::fraction_texts::{LIMIT, split_at_slash};
 use reply_print::limits::MAX_PLACE;
-use reply_shape::fraction_texts::{LIMIT, split_at_slash};
-use reply_shape::look::{is_word, word_at};
-use reply_shape::numbers::value_of_digits;
+use reply_print::look::{is_word, word_at};
+use reply_print::numbers::value_of_digits;
 use serde_json::Value;
 use sign_tree::{Multiplier, Multipliers, Node, Nodes, SignTree};
 use std::alloc::{AllocError, Global};

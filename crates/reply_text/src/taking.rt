@@ -2,7 +2,7 @@
 ghost use Rattle.std.specs.Prelude.{◌≡◌, ◌≤◌, IfOk, IfSome, Option, codes, option_map};
 ghost use Rattle.serde_json.specs.Data.{Data};
 ghost use Rattle.serde_json.specs.View.{view, items_view};
-ghost use Rattle.reply_shape.specs.Numbers.{whole_value, signed_value};
+ghost use Rattle.reply_print.specs.NumberValues.{whole_value, signed_value};
 ghost use Rattle.frac.specs.Range.{limit};
 ghost use Rattle.reply_print.specs.declared.limits.TheConstants.{MAX_BATCH, MAX_ORDER};
 ghost use Rattle.form.specs.Naturals.{natural_value};
@@ -12,7 +12,7 @@ ghost use Rattle.reply_text.specs.Taking.{natural_at as natural_found, take_at, 
 
 use form::MAX_UNDERLYINGS;
 use reply_print::limits::{MAX_ACCOUNT, MAX_BATCH, MAX_MARKET, MAX_ORDER};
-use reply_shape::numbers::value_of_digits;
+use reply_print::numbers::value_of_digits;
 use serde_json::Value;
 use std::alloc::{AllocError, Global};
 

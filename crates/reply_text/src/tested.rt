@@ -7,7 +7,7 @@ ghost use Rattle.reply_text.specs.declared.faults.LineFault.TheVariants.{Memory}
 use crate::LineFault;
 use crate::taking::natural_at;
 use reply_print::limits::MAX_LINE;
-use reply_shape::look::word_at;
+use reply_print::look::word_at;
 use serde_json::Value;
 use std::alloc::{AllocError, Global};
 

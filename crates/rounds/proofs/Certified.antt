@@ -16,7 +16,7 @@ use Rattle.simplex.specs.declared.stop.Stop.TheVariants.{Wide, Budget, Memory}
 use Rattle.master_program.specs.Reading.{Reading}
 use Rattle.master_program.specs.Solve.{master_solve}
 use Rattle.master_program.specs.Verdict.{sums_on, sums_with}
-use Rattle.node_program.specs.Rounds.{Limits, rounds}
+use Rattle.master_program.specs.Rounds.{Limits, rounds}
 use Rattle.rounds.specs.declared.joint.Joint.{Joint}
 use Rattle.rounds.specs.Answers.{IsCoverAs, IsJointAnswer, IsJudgedAnswer, OfSolution, reading_in}
 use Rattle.rounds.specs.Run.{Solution, WrittenCover, by_line, by_tree, on_line, on_tree, sums_of, unjudged_run, joint_run}

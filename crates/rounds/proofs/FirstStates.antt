@@ -7,7 +7,7 @@ use Rattle.std.proofs.Math.Seq.{take-set-lt}
 use Rattle.form.specs.declared.states.State.{State}
 use Rattle.form.specs.States.{vector_of}
 use Rattle.form.specs.Vector.{positive_part}
-use Rattle.node_program.specs.Rounds.{axes, axis_rays}
+use Rattle.master_program.specs.Rounds.{axes, axis_rays}
 use Rattle.search_laws.proofs.FewStates.{length-axes}
 
 map_zeros : (n : ℕ) → map positive_part (replicate n (pos 0)) ≡ replicate n 0

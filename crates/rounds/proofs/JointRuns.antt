@@ -15,7 +15,7 @@ use Rattle.master_program.specs.Reading.{Reading}
 use Rattle.clearing_model.specs.Written.{WrittenTree}
 use Rattle.line_cover.specs.Breakpoints.{later_states}
 use Rattle.master_program.specs.Solve.{master_solve}
-use Rattle.node_program.specs.Rounds.{Limits, Cleared, rounds}
+use Rattle.master_program.specs.Rounds.{Limits, Cleared, rounds}
 use Rattle.search_laws.specs.Run.{tree_run, sums_hold as tree_sums}
 use Rattle.search_laws.proofs.Run.{cleared_is_greatest as tree_is_greatest, each_run_ends as tree_run_ends, cleared_passes_the_verdict as tree_passes}
 use Rattle.simplex.specs.declared.stop.Stop.{Stop}

@@ -8,9 +8,9 @@ use Rattle.form.specs.States.{vector_of}
 use Rattle.clearing_model.specs.Written.{WrittenTree}
 use Rattle.master_program.specs.Reading.{Reading}
 use Rattle.master_program.specs.Solve.{master_solve}
-use Rattle.node_program.specs.Search.{Found, closed, found, search}
-use Rattle.node_program.specs.Rounds.{Limits, Cleared, question_of, on_search, rounds_from, rounds, axis_rays}
-use Rattle.node_program.proofs.Wider.{next_round}
+use Rattle.master_program.specs.Search.{Found, closed, found, search}
+use Rattle.master_program.specs.Rounds.{Limits, Cleared, question_of, on_search, rounds_from, rounds, axis_rays}
+use Rattle.master_program.proofs.NodeWider.{next_round}
 use Rattle.search_laws.proofs.Rounds.{all_rounds_end}
 pub use Rattle.search_laws.proofs.Rounds.{rounds_are_not_refused}
 use Rattle.simplex.specs.declared.stop.RunStop.{RunStop}

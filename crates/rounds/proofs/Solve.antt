@@ -18,8 +18,8 @@ use Rattle.form.proofs.BundleLegs.{bundle_of-legs}
 use Rattle.form.proofs.DotSteps.{length-vector_of}
 use Rattle.form.proofs.SameBundle.{length-bundle_legs}
 use Rattle.clearing_model.specs.Certificate.{IsFractionMeasure, Point}
-use Rattle.measure.specs.declared.measures.Weighted.{Weighted}
-use Rattle.measure.specs.Points.{point_of}
+use Rattle.cert_check.specs.declared.measures.Weighted.{Weighted}
+use Rattle.cert_check.specs.Points.{point_of}
 use Rattle.simplex.specs.Spaces.{Contents, given, program_given}
 use Rattle.line_cover.specs.Line.{legs_of_orders}
 use Rattle.master_program.specs.Master.{zero_prices, plain_master, master}

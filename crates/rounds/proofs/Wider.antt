@@ -5,8 +5,8 @@ use Rattle.table_run.proofs.Endings.{IsAlike, on_answer-alike}
 use Rattle.line_cover.specs.Breakpoints.{later_states}
 use Rattle.master_program.specs.Solve.{master_solve}
 use Rattle.master_program.proofs.SolvedWider.{solves_are_the_same}
-use Rattle.node_program.specs.Rounds.{limits_within, rounds}
-use Rattle.node_program.proofs.Wider.{rounds_are_the_same}
+use Rattle.master_program.specs.Rounds.{limits_within, rounds}
+use Rattle.master_program.proofs.NodeWider.{rounds_are_the_same}
 use Rattle.rounds.specs.Laws.{UnjudgedRunsAreTheSame, JointRunsAreTheSame}
 use Rattle.rounds.specs.Run.{Solution, on_line, on_tree, sums_of, unjudged_run, joint_run}
 

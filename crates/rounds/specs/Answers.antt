@@ -9,13 +9,13 @@ use Rattle.frac.specs.Range.{limit as largest}
 use Rattle.form.specs.declared.orders.Batch.{Batch}
 use Rattle.cert_check.specs.declared.outcome.Cover.{Cover}
 use Rattle.cert_check.specs.declared.outcome.Cover.TheVariants.{Line, Tree}
-use Rattle.node_program.specs.Rounds.{Limits}
+use Rattle.master_program.specs.Rounds.{Limits}
 pub use Rattle.pricing_oracle.specs.Answers.{IsTreeAs}
 use Rattle.rounds.specs.Run.{WrittenCover, by_line, by_tree, Solution, sums_of}
 use Rattle.cert_check.specs.Conditions.{IsCoverOn}
-use Rattle.measure.specs.Points.{point_of, IsOnStates}
+use Rattle.cert_check.specs.Points.{point_of, IsOnStates}
 use Rattle.frac.specs.Value.{fraction_of}
-use Rattle.measure.specs.declared.measures.Measure.{Measure}
+use Rattle.cert_check.specs.declared.measures.Measure.{Measure}
 use Rattle.cert_check.specs.declared.outcome.Claim.{Claim}
 use Rattle.master_program.specs.Reading.{Reading, reading_with}
 use Rattle.rounds.specs.declared.joint.Joint.{Joint}

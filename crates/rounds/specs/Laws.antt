@@ -7,7 +7,7 @@ use Rattle.form.specs.declared.orders.Batch.{Batch}
 use Rattle.form.specs.declared.limits.TheConstants.{MAX_UNDERLYINGS}
 use Rattle.clearing_model.specs.Clearing.{AreOn}
 use Rattle.line_cover.specs.Breakpoints.{later_states}
-use Rattle.measure.specs.declared.measures.Measure.{Measure}
+use Rattle.cert_check.specs.declared.measures.Measure.{Measure}
 use Rattle.cert_check.specs.declared.outcome.Cover.{Cover}
 use Rattle.cert_check.specs.declared.outcome.Judgement.TheVariants.{Yes}
 use Rattle.cert_check.specs.declared.outcome.Outcome.{Outcome}
@@ -15,7 +15,7 @@ use Rattle.cert_check.specs.Events.{verdict_of}
 use Rattle.master_program.specs.Reading.{Reading}
 use Rattle.master_program.specs.Certified.{IsGreatestByLine}
 use Rattle.master_program.specs.Verdict.{IsOutcomeOf}
-use Rattle.node_program.specs.Rounds.{Limits, limits_within}
+use Rattle.master_program.specs.Rounds.{Limits, limits_within}
 use Rattle.search_laws.specs.Rounds.{IsGreatestByTree}
 use Rattle.rounds.specs.Answers.{IsCoverAs}
 use Rattle.rounds.specs.Run.{Solution, by_line, by_tree, unjudged_run, joint_run}

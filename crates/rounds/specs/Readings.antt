@@ -1,8 +1,8 @@
 -- What the code reads off an optimum, with its lists apart, as fractions.
 use Rattle.std.specs.Prelude.{List, map}
 use Rattle.exact_num.specs.Fraction.{Fraction}
-use Rattle.measure.specs.Points.{point_of}
-use Rattle.measure.specs.declared.measures.Weighted.{Weighted}
+use Rattle.cert_check.specs.Points.{point_of}
+use Rattle.cert_check.specs.declared.measures.Weighted.{Weighted}
 use Rattle.master_program.specs.Reading.{Reading, reading_with}
 use Rattle.rounds.specs.declared.reading.Read.{Read}
 

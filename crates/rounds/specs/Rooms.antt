@@ -5,7 +5,7 @@ use Rattle.form.specs.declared.orders.Batch.{Batch}
 use Rattle.form.specs.declared.states.State.{State}
 use Rattle.form.specs.States.{vector_of}
 use Rattle.line_cover.specs.Breakpoints.{line_states}
-use Rattle.node_program.specs.Rounds.{axis_rays}
+use Rattle.master_program.specs.Rounds.{axis_rays}
 use Rattle.sign_tree.specs.Legs.{leg_count}
 use Rattle.pricing_oracle.specs.Rooms.{SearchSpace}
 use Rattle.exact_num.specs.Fraction.{Fraction}

@@ -7,8 +7,8 @@ use Rattle.sign_tree.specs.declared.trees.SignTree.{SignTree}
 use Rattle.simplex.specs.declared.stop.RunStop.{RunStop}
 use Rattle.table_run.specs.Ending.{Ending, done}
 use Rattle.master_program.specs.Reading.{Reading}
-use Rattle.node_program.specs.Search.{Found, closed, found}
-use Rattle.node_program.specs.Rounds.{Cleared}
+use Rattle.master_program.specs.Search.{Found, closed, found}
+use Rattle.master_program.specs.Rounds.{Cleared}
 use Rattle.pricing_oracle.specs.Answers.{IsTreeAs}
 use Rattle.rounds.specs.Readings.{reading_in_lists}
 use Rattle.rounds.specs.Stops.{IsStopOf}

@@ -11,7 +11,7 @@ use Rattle.master_program.specs.Reading.{Reading}
 use Rattle.master_program.specs.Solve.{master_solve}
 use Rattle.master_program.specs.Verdict.{sums_with}
 use Rattle.clearing_model.specs.Written.{WrittenTree}
-use Rattle.node_program.specs.Rounds.{Limits, Cleared, rounds}
+use Rattle.master_program.specs.Rounds.{Limits, Cleared, rounds}
 pub use Rattle.search_laws.specs.Run.{sums_hold as tree_sums_hold}
 unfoldable pub use Rattle.search_laws.specs.Run.{tree_run}
 

@@ -4,8 +4,8 @@ unfoldable pub use Rattle.line_cover.specs.Breakpoints.{insert, in_rising_price}
 unfoldable pub use Rattle.master_program.specs.Master.{master_steps}
 unfoldable pub use Rattle.master_program.specs.Reading.{reading_steps}
 unfoldable pub use Rattle.master_program.specs.Solve.{solve_steps}
-unfoldable pub use Rattle.node_program.specs.Steps.{node_program_steps}
-unfoldable pub use Rattle.node_program.specs.Search.{search_steps}
-unfoldable pub use Rattle.node_program.specs.Rounds.{rounds_steps}
+unfoldable pub use Rattle.master_program.specs.NodeSteps.{node_program_steps}
+unfoldable pub use Rattle.master_program.specs.Search.{search_steps}
+unfoldable pub use Rattle.master_program.specs.Rounds.{rounds_steps}
 unfoldable pub use Rattle.search_laws.specs.Run.{run_steps}
 unfoldable pub use Rattle.rounds.specs.Run.{joint_run, line_run}

@@ -3,7 +3,7 @@ ghost use Rattle.std.specs.Prelude.{◌≡◌, ◌+◌, ◌≤◌, ◌<◌, map,
 ghost use Rattle.std.specs.List.{All};
 ghost use Rattle.form.specs.States.{vector_of};
 ghost use Rattle.master_program.specs.Master.{zero_prices};
-ghost use Rattle.node_program.specs.Rounds.{axis_rays};
+ghost use Rattle.master_program.specs.Rounds.{axis_rays};
 
 use form::State;
 use lists::push_within;

@@ -1,7 +1,6 @@
 //! What a joint solve finds.
 
-use cert_check::Cover;
-use measure::Measure;
+use cert_check::{Cover, Measure};
 
 /// The fills of a batch that earn the greatest surplus, and their certificate.
 #[derive(Drop)]

@@ -2,19 +2,18 @@
 ghost use Rattle.std.specs.Prelude.{◌≡◌, ◌≤◌, map, length, vec_capacity, vec_len};
 ghost use Rattle.form.specs.Limits.{HasItsForms, IsWithinLimits};
 ghost use Rattle.frac.specs.Value.{fraction_of};
-ghost use Rattle.measure.specs.Points.{IsOnStates};
+ghost use Rattle.cert_check.specs.Points.{IsOnStates};
 ghost use Rattle.cert_check.specs.Conditions.{IsCoverOn};
 ghost use Rattle.cert_check.specs.Tests.{AreSigns, HasSigns};
 ghost use Rattle.master_program.specs.Verdict.{sums_on};
 ghost use Rattle.rounds.specs.Answers.{IsJointOf, IsJudgedAnswer, as_stopped, claimed_in, reading_in};
 
 use crate::joint::Joint;
-use cert_check::{Claim, Cover, bound_holds, cover_holds, measure_holds, surplus_holds};
+use cert_check::{Claim, Cover, Measure, bound_holds, cover_holds, measure_holds, surplus_holds};
 use exact_num::{Exact, Wide};
 use form::Batch;
 use frac::Frac128;
 use lists::{make_room, push_within, take_list};
-use measure::Measure;
 use simplex::RunStop;
 
 /// Writes the numbers in 128 bits.

@@ -5,7 +5,7 @@ ghost use Rattle.exact_num.specs.Fits.{meaning};
 ghost use Rattle.form.specs.States.{vector_of};
 ghost use Rattle.form.specs.declared.limits.TheConstants.{MAX_ORDERS};
 ghost use Rattle.simplex.specs.Spaces.{IsFound, x_of, y_of, reduced_of};
-ghost use Rattle.measure.specs.Points.{point_of};
+ghost use Rattle.cert_check.specs.Points.{point_of};
 ghost use Rattle.master_program.specs.Reading.{add_owed, liability_of, owed_of, points_with_weight};
 ghost use Rattle.master_program.specs.Solve.{reading_at};
 ghost use Rattle.pricing_oracle.specs.Filled.{HasMade};
@@ -14,12 +14,12 @@ ghost use Rattle.rounds.specs.Optima.{optimum_of};
 ghost use Rattle.rounds.specs.Readings.{reading_in_lists};
 
 use crate::master::{exact_at_zero, for_side};
+use cert_check::Weighted;
 use exact_num::sums::plus_product;
 use exact_num::{Exact, Wide};
 use form::{Order, State};
 use frac::Frac128;
 use lists::push_within;
-use measure::Weighted;
 use pricing_oracle::filling::write_values;
 use simplex::Space;
 

@@ -1,7 +1,7 @@
 //! The joint solve on several underlyings.
 ghost use Rattle.std.specs.Prelude.{◌≡◌, ◌<◌, ◌+◌, IfOk, unsigned_abs, vec_capacity};
 ghost use Rattle.form.specs.Limits.{IsWithinLimits};
-ghost use Rattle.node_program.specs.Rounds.{rounds};
+ghost use Rattle.master_program.specs.Rounds.{rounds};
 ghost use Rattle.rounds.specs.Answers.{IsJointAnswer, IsJointOf, as_stopped, limits_of};
 ghost use Rattle.rounds.specs.Rooms.{IsRoundsRoom};
 ghost use Rattle.rounds.specs.Round.{IsClearedAnswer};

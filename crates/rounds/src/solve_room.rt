@@ -8,10 +8,9 @@ ghost use Rattle.rounds.specs.Rooms.{IsSolveRoom};
 
 use crate::joint::Joint;
 use crate::reading::Read;
-use cert_check::Cover;
+use cert_check::{Cover, Measure, Points, Weighted};
 use exact_num::Exact;
 use lists::{make_room, take_list};
-use measure::{Measure, Points, Weighted};
 use simplex::Space;
 use std::alloc::{AllocError, Global};
 

@@ -23,10 +23,10 @@ use Rattle.clearing_model.specs.Tree.{Sign}
 use Rattle.sign_tree.specs.Legs.{FractionLeg, fraction_leg, fraction_legs, legs_filled, legs_of_order}
 use Rattle.sign_tree.specs.Walk.{less_liability}
 use Rattle.master_program.specs.Master.{map_steps, order_payoff}
-use Rattle.node_program.specs.Node.{after_zero, if_covering, covers_of, minus_units, signed_of, size_row}
-use Rattle.node_program.specs.Roles.{Role, Idle, Covering, Free, Above, Below, NodeLeg, can_split, entries, leg_multipliers, placed_from, split_from, values, with_multiplier}
-use Rattle.node_program.specs.Search.{NodeFound, leaf, violated, splits, add_filled, add_owed, excess_of, leaf_of, on_place}
-use Rattle.node_program.specs.Steps.{add_all_earned, add_by_role, add_earned, counted_node, counted_role, cover_cost_steps, cover_rows_steps, covering_legs, leg_fill_steps, negated_of, node_steps, signed_row_steps, signed_rows_steps, state_cost_steps, with_row}
+use Rattle.master_program.specs.Node.{after_zero, if_covering, covers_of, minus_units, signed_of, size_row}
+use Rattle.master_program.specs.Roles.{Role, Idle, Covering, Free, Above, Below, NodeLeg, can_split, entries, leg_multipliers, placed_from, split_from, values, with_multiplier}
+use Rattle.master_program.specs.Search.{NodeFound, leaf, violated, splits, add_filled, add_owed, excess_of, leaf_of, on_place}
+use Rattle.master_program.specs.NodeSteps.{add_all_earned, add_by_role, add_earned, counted_node, counted_role, cover_cost_steps, cover_rows_steps, covering_legs, leg_fill_steps, negated_of, node_steps, signed_row_steps, signed_rows_steps, state_cost_steps, with_row}
 use Rattle.rounds.proofs.Placed.{all_multipliers}
 use Rattle.table_run.specs.Places.{fraction_zero}
 use Rattle.run_values.specs.Values.{AreValues, Ends, IsPlacedOf, IsSmall, IsSmallState, IsValue}

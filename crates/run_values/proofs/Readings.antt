@@ -18,7 +18,7 @@ use Rattle.form.specs.Payoff.{bundle_of}
 use Rattle.form.specs.Vector.{scale_of}
 use Rattle.clearing_model.specs.Certificate.{Point}
 use Rattle.cert_check.specs.Tests.{add_premium, bound_holds, is_claimed, measure_holds, premium_of, surplus_holds}
-use Rattle.measure.specs.Sums.{add_gain, add_mass, add_price, are_weights, bound_of, gain_at, mass_of, plus_gain, price_of}
+use Rattle.cert_check.specs.MeasureSums.{add_gain, add_mass, add_price, are_weights, bound_of, gain_at, mass_of, plus_gain, price_of}
 use Rattle.master_program.specs.Master.{master, payoff_at_zero, signed_for, zero_prices}
 use Rattle.master_program.specs.Reading.{Reading, add_owed, has_weight, liability_of, owed_of, points_of, points_with_weight}
 use Rattle.master_program.specs.Solve.{master_run, master_solve, on_optimum, reading_at}

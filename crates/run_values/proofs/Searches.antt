@@ -13,10 +13,10 @@ use Rattle.clearing_model.specs.Tree.{Sign, Unsigned, Plus, Minus}
 use Rattle.clearing_model.specs.Written.{PlacedMultiplier, WrittenTree, Ends as EndsTree, Parts}
 use Rattle.master_program.specs.Reading.{Reading}
 use Rattle.master_program.specs.Solve.{master_solve}
-use Rattle.node_program.specs.Roles.{NodeLeg, split_place}
-use Rattle.node_program.specs.Rounds.{Cleared, axes, axis_rays, on_search, question_of, rounds, rounds_from}
-use Rattle.node_program.specs.Search.{Question, NodeFound, leaf, violated, splits, Found, closed, found, excess_at, leaf_of, legs_in, node_at, node_end, on_excess, on_node, on_optimum, on_place, on_program, on_side, on_state, program_at, search, search_from, state_of, stuck}
-use Rattle.node_program.proofs.Wider.{both_sides, joined, minus_side}
+use Rattle.master_program.specs.Roles.{NodeLeg, split_place}
+use Rattle.master_program.specs.Rounds.{Cleared, axes, axis_rays, on_search, question_of, rounds, rounds_from}
+use Rattle.master_program.specs.Search.{Question, NodeFound, leaf, violated, splits, Found, closed, found, excess_at, leaf_of, legs_in, node_at, node_end, on_excess, on_node, on_optimum, on_place, on_program, on_side, on_state, program_at, search, search_from, state_of, stuck}
+use Rattle.master_program.proofs.NodeWider.{both_sides, joined, minus_side}
 use Rattle.rounds.specs.Answers.{limits_of}
 use Rattle.table_run.specs.Ending.{Ending, done, no_unit_left, on_steps}
 use Rattle.table_run.specs.Run.{Optimum, optimum, run}

@@ -18,7 +18,7 @@ use Rattle.clearing_model.specs.Tree.{Sign, Unsigned, Plus, Minus}
 use Rattle.clearing_model.specs.Written.{PlacedMultiplier, WrittenNode, SplitNode, LeafNode, WrittenTree, Ends as EndsTree, Parts, multipliers_of, nodes_of}
 use Rattle.sign_tree.specs.Legs.{FractionLeg, fraction_legs, leg_fill}
 use Rattle.sign_tree.specs.Walk.{SignedLeg, add_leg, add_term, are_placed, closes_of, entries_close, entry_sum, first_at, is_within, is_within_at, keeps_within, leaf_closes, left_after, less_liability, may_split, plus_filled, signed_legs, walk}
-use Rattle.node_program.specs.Rounds.{Cleared, rounds}
+use Rattle.master_program.specs.Rounds.{Cleared, rounds}
 use Rattle.rounds.specs.Answers.{limits_of}
 use Rattle.rounds.specs.Run.{tree_sums_hold as sums_hold, tree_run}
 use Rattle.table_run.specs.Ending.{done, where_fits}

@@ -11,9 +11,9 @@ use Rattle.master_program.specs.Master.{zero_prices}
 use Rattle.master_program.specs.Reading.{Reading}
 use Rattle.master_program.proofs.Solves.{solves_are_certified}
 use Rattle.master_program.proofs.Lowest.{solves_are_lowest}
-use Rattle.node_program.specs.Search.{Found, closed, found, search}
-use Rattle.node_program.specs.Rounds.{axes, axis_rays, Limits, Cleared, question_of, on_search, rounds_from, rounds}
-use Rattle.node_program.proofs.Wider.{next_round, next_search, solve_at}
+use Rattle.master_program.specs.Search.{Found, closed, found, search}
+use Rattle.master_program.specs.Rounds.{axes, axis_rays, Limits, Cleared, question_of, on_search, rounds_from, rounds}
+use Rattle.master_program.proofs.NodeWider.{next_round, next_search, solve_at}
 use Rattle.search_laws.specs.Search.{IsAsked, IsCounted}
 use Rattle.search_laws.specs.Sizes.{IsPaid, size_of, one_round, RoundStart, with_found, next_start, round_start, AreFewStates, BeginsWith, RoundsHaveFewStates, IsTreePaid, RoundsArePaid, TreesAreSmall}
 use Rattle.search_laws.proofs.Searching.{search_finds}

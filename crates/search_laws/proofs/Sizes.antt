@@ -12,12 +12,12 @@ use Rattle.table_run.specs.Run.{Optimum, run, optimum}
 use Rattle.table_run.specs.Optimum.{IsProgram}
 use Rattle.clearing_model.specs.Tree.{Sign, Unsigned, Plus, Minus}
 use Rattle.clearing_model.specs.Written.{WrittenTree, nodes_of, multipliers_of}
-use Rattle.node_program.specs.Roles.{Role, Idle, Covering, Free, Above, Below, NodeLeg, with_multiplier, leg_multipliers, placed_from, split_place}
-use Rattle.node_program.specs.Node.{if_covering, covers_of}
-use Rattle.node_program.specs.Steps.{legs_over}
-use Rattle.node_program.specs.Search.{Question, legs_in, NodeFound, leaf, violated, splits, on_place, multipliers_of as dual_multipliers, leaf_of, excess_at, on_excess, on_state, state_of, on_optimum, on_program, program_at, node_at, node_end, Found, closed, found, stuck, on_node, on_side, search_from, search}
-use Rattle.node_program.proofs.Bounded.{node_is_program}
-use Rattle.node_program.proofs.Wider.{joined, minus_side, both_sides}
+use Rattle.master_program.specs.Roles.{Role, Idle, Covering, Free, Above, Below, NodeLeg, with_multiplier, leg_multipliers, placed_from, split_place}
+use Rattle.master_program.specs.Node.{if_covering, covers_of}
+use Rattle.master_program.specs.NodeSteps.{legs_over}
+use Rattle.master_program.specs.Search.{Question, legs_in, NodeFound, leaf, violated, splits, on_place, multipliers_of as dual_multipliers, leaf_of, excess_at, on_excess, on_state, state_of, on_optimum, on_program, program_at, node_at, node_end, Found, closed, found, stuck, on_node, on_side, search_from, search}
+use Rattle.master_program.proofs.NodeBounded.{node_is_program}
+use Rattle.master_program.proofs.NodeWider.{joined, minus_side, both_sides}
 use Rattle.search_laws.specs.Search.{IsAsked}
 use Rattle.search_laws.specs.Sizes.{one_if, count_above, IsTurned, IsNodePaid, NodesArePaid, size_of, IsPaid, BranchesArePaid, SearchIsPaid}
 use Rattle.search_laws.proofs.Nodes.{own, own_over, program_is}

@@ -13,8 +13,8 @@ use Rattle.clearing_model.specs.Tree.{Sign}
 use Rattle.clearing_model.specs.Written.{WrittenTree, nodes_of, multipliers_of}
 use Rattle.master_program.specs.Reading.{Reading}
 use Rattle.master_program.specs.Solve.{master_solve}
-use Rattle.node_program.specs.Search.{Question, NodeFound, leaf, violated, splits, node_end, Found, closed, found, search_from, search}
-use Rattle.node_program.specs.Rounds.{Limits, Cleared, question_of, axis_rays, rounds_from, rounds}
+use Rattle.master_program.specs.Search.{Question, NodeFound, leaf, violated, splits, node_end, Found, closed, found, search_from, search}
+use Rattle.master_program.specs.Rounds.{Limits, Cleared, question_of, axis_rays, rounds_from, rounds}
 use Rattle.search_laws.specs.Search.{IsAsked}
 
 -- ---- a run

@@ -4,9 +4,9 @@ use Rattle.std.specs.Prelude.{Some, None, Bool, true, false, nat_lt, if◌then�
 use Rattle.std.proofs.lemmas.Bool.Decides.{nat_tests}
 use Rattle.exact_num.specs.declared.misfit.Wide.{Wide}
 use Rattle.table_run.specs.Ending.{wide_at, no_unit_left, unbounded}
-use Rattle.compact_run.specs.Compact.{CompactTable, entering_place}
-use Rattle.compact_run.specs.Turn.{compact_turn, moved_on, without_limit, stopped_by}
-use Rattle.compact_run.specs.Run.{compact_read_off, compact_direction, compact_run_from}
+use Rattle.equal_runs.specs.Compact.{CompactTable, entering_place}
+use Rattle.equal_runs.specs.CompactTurning.{compact_turn, moved_on, without_limit, stopped_by}
+use Rattle.equal_runs.specs.CompactRunning.{compact_read_off, compact_direction, compact_run_from}
 
 pub run_ends : (limit n m left spent : ℕ) (c : CompactTable) → entering_place c ≡ None → compact_run_from limit n m left spent c ≡ compact_read_off n m c spent
 unfolding compact_run_from

@@ -16,16 +16,16 @@ use Rattle.table_run.specs.Optimum.{IsProgram}
 use Rattle.table_run.specs.Choose.{bases_of}
 use Rattle.table_run.specs.Units.{units_of}
 use Rattle.table_run.proofs.Suffice.{units_suffice}
-use Rattle.compact_run.specs.Compact.{CompactTable, compact_first}
-use Rattle.compact_run.specs.Laws.{IsProgramWithin}
-use Rattle.compact_run.specs.Run.{compact_read_off, compact_run, compact_run_from}
-use Rattle.compact_run.proofs.Runs.{same_runs}
+use Rattle.equal_runs.specs.Compact.{CompactTable, compact_first}
+use Rattle.equal_runs.specs.CompactLaws.{IsProgramWithin}
+use Rattle.equal_runs.specs.CompactRunning.{compact_read_off, compact_run, compact_run_from}
+use Rattle.equal_runs.proofs.CompactRuns.{same_runs}
 use Rattle.compact_table.specs.Programs.{coefficients_in, empty_program, program_of, with_row}
 use Rattle.compact_table.proofs.EntrySteps.{at-map}
 use Rattle.compact_table.proofs.Starts.{program_more}
-use Rattle.sparse_program.specs.declared.sparse.SparseProgram.{SparseProgram}
-use Rattle.sparse_program.specs.Rows.{lists_of, HasRoom, KeepsRoom}
-use Rattle.sparse_program.proofs.Parts.{length-rows}
+use Rattle.compact_table.specs.declared.sparse.SparseProgram.{SparseProgram}
+use Rattle.compact_table.specs.SparseRows.{lists_of, HasRoom, KeepsRoom}
+use Rattle.compact_table.proofs.Parts.{length-rows}
 use Rattle.simplex.specs.declared.run.End.{End}
 use Rattle.simplex.specs.declared.stop.RunStop.{RunStop}
 use Rattle.simplex.specs.declared.stop.RunStop.TheVariants.{Wide as RunWide, Budget as RunBudget}

@@ -6,17 +6,17 @@ use Rattle.table_run.specs.Program.{LinearProgram}
 use Rattle.table_run.specs.Optimum.{IsProgram}
 use Rattle.table_run.specs.Ending.{Ending, no_unit_left, unbounded, done}
 use Rattle.table_run.specs.Run.{Optimum, run}
-use Rattle.whole_rows.specs.Compact.{CompactTable, Column, compact_entering, compact_turn, compact_turn_fits, compact_read_off, compact_direction, compact_run_from, compact_run, first_compact_table}
-use Rattle.whole_rows.proofs.CompactFirst.{compact_runs_end_the_same}
+use Rattle.equal_runs.specs.Labelled.{LabelledTable, Column, labelled_entering, labelled_turn, labelled_turn_fits, labelled_read_off, labelled_direction, labelled_run_from, labelled_run, first_labelled_table}
+use Rattle.equal_runs.proofs.LabelledFirst.{labelled_runs_end_the_same}
 use Rattle.whole_solver.specs.declared.table.WholeTable.{WholeTable}
 use Rattle.whole_solver.specs.declared.columns.Entering.{Entering}
 use Rattle.whole_solver.specs.Choices.{as_column}
 use Rattle.whole_solver.specs.Within.{IsUsable}
-use Rattle.whole_rows.specs.Lines.{rows_fit, widest}
+use Rattle.equal_runs.specs.Lines.{rows_fit, widest}
 use Rattle.whole_solver.specs.Tables.{as_whole, taken_from, IsWithin, SameShape}
 use Rattle.whole_solver.proofs.Pivoting.{rows_fit_in}
 use Rattle.whole_solver.proofs.Taken.{first_taken}
-use Rattle.compact_run.specs.Compact.{compact_first}
+use Rattle.equal_runs.specs.Compact.{compact_first}
 use Rattle.compact_table.specs.declared.table.Table.{Table}
 use Rattle.table_run.proofs.Listed.{listed_count}
 use Rattle.exact_num.specs.Fraction.{Fraction}
@@ -29,42 +29,42 @@ use Rattle.simplex.specs.declared.whole_run.WholeEnd.TheVariants.{Optimal as Who
 use Rattle.simplex.specs.declared.stage.Stage.TheVariants.{WholeOptimal, WholeUnbounded}
 use Rattle.simplex.specs.declared.stop.RunStop.TheVariants.{Budget as RunBudget}
 
-pub whole_ends : (limit n m left spent : ℕ) (t : CompactTable) → compact_entering t ≡ None → compact_run_from limit n m left spent t ≡ Some (compact_read_off n m t spent)
-unfolding compact_run_from
+pub whole_ends : (limit n m left spent : ℕ) (t : LabelledTable) → labelled_entering t ≡ None → labelled_run_from limit n m left spent t ≡ Some (labelled_read_off n m t spent)
+unfolding labelled_run_from
 whole_ends limit n m zero spent t h = rw h refl
 whole_ends limit n m (suc left) spent t h = rw h refl
 
-pub whole_out : (limit n m left spent : ℕ) (t : CompactTable) (c : Column) → compact_entering t ≡ Some c → left ≡ 0 → compact_run_from limit n m left spent t ≡ Some (no_unit_left spent)
-unfolding compact_run_from
+pub whole_out : (limit n m left spent : ℕ) (t : LabelledTable) (c : Column) → labelled_entering t ≡ Some c → left ≡ 0 → labelled_run_from limit n m left spent t ≡ Some (no_unit_left spent)
+unfolding labelled_run_from
 whole_out limit n m zero spent t c h z = rw h refl
 whole_out limit n m (suc left) spent t c h z = absurd (omega (arith, z))
 
-pub whole_moves : (limit n m left spent : ℕ) (t next : CompactTable) (c : Column) → compact_entering t ≡ Some c → compact_turn c.place t ≡ Some next → compact_turn_fits limit c.place t ≡ true → rows_fit limit next.rows ≡ true → 0 < left
-    → compact_run_from limit n m left spent t ≡ compact_run_from limit n m (left - 1) (spent + 1) next
-unfolding compact_run_from
+pub whole_moves : (limit n m left spent : ℕ) (t next : LabelledTable) (c : Column) → labelled_entering t ≡ Some c → labelled_turn c.place t ≡ Some next → labelled_turn_fits limit c.place t ≡ true → rows_fit limit next.rows ≡ true → 0 < left
+    → labelled_run_from limit n m left spent t ≡ labelled_run_from limit n m (left - 1) (spent + 1) next
+unfolding labelled_run_from
 whole_moves limit n m zero spent t next c h k o f p = absurd (omega (arith, p))
 whole_moves limit n m (suc left) spent t next c h k o f p = let less : suc left - 1 ≡ left = omega arith in rw (h, k, o, f, less) refl
 
-pub whole_unlimited : (limit n m left spent : ℕ) (t : CompactTable) (c : Column) → compact_entering t ≡ Some c → compact_turn c.place t ≡ None → 0 < left
-    → compact_run_from limit n m left spent t ≡ Some (unbounded (compact_direction n c t) (spent + 1))
-unfolding compact_run_from
+pub whole_unlimited : (limit n m left spent : ℕ) (t : LabelledTable) (c : Column) → labelled_entering t ≡ Some c → labelled_turn c.place t ≡ None → 0 < left
+    → labelled_run_from limit n m left spent t ≡ Some (unbounded (labelled_direction n c t) (spent + 1))
+unfolding labelled_run_from
 whole_unlimited limit n m zero spent t c h k p = absurd (omega (arith, p))
 whole_unlimited limit n m (suc left) spent t c h k p = rw (h, k) refl
 
-pub whole_found_is : (n m spent : ℕ) (t : CompactTable) → length t.names ≡ n → compact_read_off n m t spent ≡ done (whole_optimum_in n m t) spent
-unfolding compact_read_off
+pub whole_found_is : (n m spent : ℕ) (t : LabelledTable) → length t.names ≡ n → labelled_read_off n m t spent ≡ done (whole_optimum_in n m t) spent
+unfolding labelled_read_off
 whole_found_is n m spent t e = refl
 
 -- ---- the run of the program
-started : (limit left spent : ℕ) (p : LinearProgram) (t : CompactTable) → t ≡ first_compact_table p → rows_fit limit t.rows ≡ true → compact_run limit p left spent ≡ compact_run_from limit p.variables p.rows left spent t
-unfolding compact_run
+started : (limit left spent : ℕ) (p : LinearProgram) (t : LabelledTable) → t ≡ first_labelled_table p → rows_fit limit t.rows ≡ true → labelled_run limit p left spent ≡ labelled_run_from limit p.variables p.rows left spent t
+unfolding labelled_run
 started limit left spent p t first fits =
-    let test : rows_fit limit (first_compact_table p).rows ≡ true = ap (λ (u : CompactTable). rows_fit limit u.rows) (sym first) ∙ fits in
-    rw test (ap (compact_run_from limit p.variables p.rows left spent) (sym first))
+    let test : rows_fit limit (first_labelled_table p).rows ≡ true = ap (λ (u : LabelledTable). rows_fit limit u.rows) (sym first) ∙ fits in
+    rw test (ap (labelled_run_from limit p.variables p.rows left spent) (sym first))
 
-pub whole_is_run : (limit left spent : ℕ) (p : LinearProgram) (t : CompactTable) (E : Ending Optimum) → IsProgram p → t ≡ first_compact_table p → rows_fit limit t.rows ≡ true
-    → compact_run_from limit p.variables p.rows left spent t ≡ Some E → run limit p left spent ≡ E
-whole_is_run limit left spent p t E g first fits h = compact_runs_end_the_same limit p left spent E g (started limit left spent p t first fits ∙ h)
+pub whole_is_run : (limit left spent : ℕ) (p : LinearProgram) (t : LabelledTable) (E : Ending Optimum) → IsProgram p → t ≡ first_labelled_table p → rows_fit limit t.rows ≡ true
+    → labelled_run_from limit p.variables p.rows left spent t ≡ Some E → run limit p left spent ≡ E
+whole_is_run limit left spent p t E g first fits h = labelled_runs_end_the_same limit p left spent E g (started limit left spent p t first fits ∙ h)
 
 pub within_wider : (b c limit : ℕ) (w : WholeTable) → b ≤ c → IsWithin b limit w → IsWithin c limit w
 within_wider b c limit w low g =
@@ -84,47 +84,47 @@ room_above (suc b) limit h = let more : suc b * 1 ≤ suc b * suc b = mul-le-mul
 pub record IsStarted (limit b : ℕ) (p : LinearProgram) (w : WholeTable) : Type 0 where
   pub given : IsBeingGiven limit p
   pub usable : IsUsable limit b
-  pub first : as_whole w ≡ first_compact_table p
+  pub first : as_whole w ≡ first_labelled_table p
   pub within : IsWithin b limit w
 
 pub started_at : (limit held b : ℕ) (p : LinearProgram) (w : WholeTable) → held ≡ limit → IsBeingGiven limit p → IsUsable limit b → as_whole w ≡ taken_from (compact_first p) → IsWithin b held w
     → IsStarted limit b p w
 started_at limit held b p w same g u taken within = record { given = g; usable = u; first = taken ∙ sym (first_taken p); within = subst (λ (l : ℕ). IsWithin b l w) same within }
 
-first_names : (q : LinearProgram) → length (first_compact_table q).names ≡ q.variables
-unfolding first_compact_table
+first_names : (q : LinearProgram) → length (first_labelled_table q).names ≡ q.variables
+unfolding first_labelled_table
 first_names q = listed_count (λ i. i) 0 q.variables
 
-first_columns : (q : LinearProgram) → (first_compact_table q).columns ≡ q.variables + q.rows
-unfolding first_compact_table
+first_columns : (q : LinearProgram) → (first_labelled_table q).columns ≡ q.variables + q.rows
+unfolding first_labelled_table
 first_columns q = refl
 
 -- the limit is that of the numbers, as the code holds it
 module _ {A : Type 0} (value : A → Fraction) (limit held b left spent after : ℕ) (p : LinearProgram) (t : Table A) (w1 w2 : WholeTable) (g : IsStarted limit b p w1) (same : held ≡ limit) (shape : SameShape w1 w2) where
-  is_run : (E : Ending Optimum) → compact_run_from held p.variables p.rows left spent (as_whole w1) ≡ Some E → run limit p left spent ≡ E
+  is_run : (E : Ending Optimum) → labelled_run_from held p.variables p.rows left spent (as_whole w1) ≡ Some E → run limit p left spent ≡ E
   is_run E h =
       let fits = rows_fit_in limit (length w1.names.items + 1) w1.basics.items w1.rows.rows (within_wider b limit limit w1 (room_above b limit g.usable.room) g.within).rows in
-      let of_limit = ap (λ (l : ℕ). compact_run_from l p.variables p.rows left spent (as_whole w1)) (sym same) in
+      let of_limit = ap (λ (l : ℕ). labelled_run_from l p.variables p.rows left spent (as_whole w1)) (sym same) in
       whole_is_run limit left spent p (as_whole w1) E g.given.program g.first fits (of_limit ∙ h)
 
   there : IsWithin b held w2 → IsReadable limit w2
   there h = record { read = g.usable.read; within = within_wider b widest limit w2 g.usable.below (subst (λ (l : ℕ). IsWithin b l w2) same h) }
 
   variables : length w2.names.items ≡ p.variables
-  variables = shape.columns ∙ ap (λ (x : CompactTable). length x.names) g.first ∙ first_names p
+  variables = shape.columns ∙ ap (λ (x : LabelledTable). length x.names) g.first ∙ first_names p
 
   rows : length w2.rows.rows ≡ p.rows
   rows =
-      let columns = ap (λ (x : CompactTable). x.columns) g.first ∙ first_columns p in
+      let columns = ap (λ (x : LabelledTable). x.columns) g.first ∙ first_columns p in
       let names = sym shape.columns ∙ variables in
       let many = shape.rows in
       omega (arith, columns, names, many)
 
-  pub whole_optimum : IsWholeEnd b held p.variables p.rows WholeOptimum after w2 (compact_run_from held p.variables p.rows left spent (as_whole w1))
+  pub whole_optimum : IsWholeEnd b held p.variables p.rows WholeOptimum after w2 (labelled_run_from held p.variables p.rows left spent (as_whole w1))
       → IsStageOf value limit p (run limit p left spent) WholeOptimal after t w2
   whole_optimum h =
-      let found : run limit p left spent ≡ compact_read_off (length w2.names.items) (length w2.rows.rows) (as_whole w2) after =
-      is_run _ h.0 ∙ (λ i. compact_read_off (sym variables i) (sym rows i) (as_whole w2) after) in
+      let found : run limit p left spent ≡ labelled_read_off (length w2.names.items) (length w2.rows.rows) (as_whole w2) after =
+      is_run _ h.0 ∙ (λ i. labelled_read_off (sym variables i) (sym rows i) (as_whole w2) after) in
       let e : done (whole_optimum_in (length w2.names.items) (length w2.rows.rows) (as_whole w2)) after ≡ run limit p left spent =
       sym (whole_found_is (length w2.names.items) (length w2.rows.rows) after (as_whole w2) refl) ∙ sym found in
       record {
@@ -134,11 +134,11 @@ module _ {A : Type 0} (value : A → Fraction) (limit held b left spent after : 
         there = there h.1;
       }
 
-  pub whole_ray : (c : Entering) → IsWholeEnd b held p.variables p.rows (WholeRay c) after w2 (compact_run_from held p.variables p.rows left spent (as_whole w1))
+  pub whole_ray : (c : Entering) → IsWholeEnd b held p.variables p.rows (WholeRay c) after w2 (labelled_run_from held p.variables p.rows left spent (as_whole w1))
       → IsStageOf value limit p (run limit p left spent) (WholeUnbounded c) after t w2
   whole_ray c h =
-      let e : unbounded (compact_direction (length w2.names.items) (as_column c) (as_whole w2)) after ≡ run limit p left spent =
-      ap (λ n. unbounded (compact_direction n (as_column c) (as_whole w2)) after) variables ∙ sym (is_run _ h.0) in
+      let e : unbounded (labelled_direction (length w2.names.items) (as_column c) (as_whole w2)) after ≡ run limit p left spent =
+      ap (λ n. unbounded (labelled_direction n (as_column c) (as_whole w2)) after) variables ∙ sym (is_run _ h.0) in
       record {
         answer = ap answer_of e;
         contents = ap contents_after e;
@@ -146,7 +146,7 @@ module _ {A : Type 0} (value : A → Fraction) (limit held b left spent after : 
         there = (there h.1, h.2);
       }
 
-  pub whole_no_unit : IsWholeEnd b held p.variables p.rows NoUnit after w2 (compact_run_from held p.variables p.rows left spent (as_whole w1))
+  pub whole_no_unit : IsWholeEnd b held p.variables p.rows NoUnit after w2 (labelled_run_from held p.variables p.rows left spent (as_whole w1))
       → EndsInStop (run limit p left spent) RunBudget after
   whole_no_unit h =
       let e : no_unit_left after ≡ run limit p left spent = sym (is_run _ h) in

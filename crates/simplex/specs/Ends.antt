@@ -2,8 +2,8 @@
 use Rattle.std.specs.Prelude.{ℕ, Result, Ok, Err}
 use Rattle.table_run.specs.Ending.{Ending, unbounded, wide_at, no_unit_left}
 use Rattle.table_run.specs.Run.{Optimum}
-use Rattle.compact_run.specs.Compact.{CompactTable}
-use Rattle.compact_run.specs.Run.{compact_read_off, compact_direction}
+use Rattle.equal_runs.specs.Compact.{CompactTable}
+use Rattle.equal_runs.specs.CompactRunning.{compact_read_off, compact_direction}
 use Rattle.simplex.specs.declared.run.End.{End}
 use Rattle.simplex.specs.declared.run.End.TheVariants.{Optimal, Unbounded}
 use Rattle.simplex.specs.declared.stop.RunStop.{RunStop}

@@ -7,20 +7,20 @@ use Rattle.table_run.specs.Table.{right_side}
 use Rattle.table_run.specs.Ending.{Ending, done, unbounded, wide_at, no_unit_left}
 use Rattle.table_run.specs.Run.{Optimum, optimum}
 use Rattle.table_run.specs.Optimum.{IsProgram}
-use Rattle.compact_run.specs.Compact.{CompactTable}
-use Rattle.compact_run.specs.Laws.{IsProgramWithin}
-use Rattle.compact_run.specs.Run.{compact_solution, compact_direction, price_of}
+use Rattle.equal_runs.specs.Compact.{CompactTable}
+use Rattle.equal_runs.specs.CompactLaws.{IsProgramWithin}
+use Rattle.equal_runs.specs.CompactRunning.{compact_solution, compact_direction, price_of}
 use Rattle.compact_table.specs.declared.table.Table.{Table}
 use Rattle.compact_table.specs.Programs.{empty_program}
 use Rattle.compact_table.specs.Tables.{as_compact, room_of}
-use Rattle.sparse_program.specs.declared.sparse.SparseProgram.{SparseProgram}
-use Rattle.sparse_program.specs.Rows.{program_in, HasRoom}
+use Rattle.compact_table.specs.declared.sparse.SparseProgram.{SparseProgram}
+use Rattle.compact_table.specs.SparseRows.{program_in, HasRoom}
 use Rattle.simplex.specs.declared.stop.RunStop.{RunStop}
 use Rattle.simplex.specs.declared.stop.RunStop.TheVariants.{Wide, Budget}
 use Rattle.simplex.specs.declared.stage.Stage.{Stage}
 use Rattle.simplex.specs.declared.stage.Stage.TheVariants.{Empty, Given, Optimal, Unbounded, WholeOptimal, WholeUnbounded, Stopped}
-use Rattle.whole_rows.specs.Lines.{entry_of, widest}
-use Rattle.whole_rows.specs.Compact.{CompactTable as CompactRows, price_of as price_in, compact_solution as solution_in, compact_direction as direction_in}
+use Rattle.equal_runs.specs.Lines.{entry_of, widest}
+use Rattle.equal_runs.specs.Labelled.{LabelledTable, labelled_price, labelled_solution, labelled_direction}
 use Rattle.whole_solver.specs.declared.table.WholeTable.{WholeTable}
 use Rattle.whole_solver.specs.Choices.{as_column}
 use Rattle.whole_solver.specs.Tables.{as_whole, IsWithin}
@@ -127,8 +127,8 @@ abbrev pub optimum_in : ℕ → ℕ → CompactTable → Optimum
 optimum_in n m c =
     optimum (compact_solution n c) (values_at (price_of c) n m) (values_at (price_of c) 0 n) (right_side (length c.kept) c.objective)
 
-abbrev pub whole_optimum_in : ℕ → ℕ → CompactRows → Optimum
-whole_optimum_in n m t = optimum (solution_in n t) (values_at (price_in t) n m) (values_at (price_in t) 0 n) (entry_of t.objective (length t.names))
+abbrev pub whole_optimum_in : ℕ → ℕ → LabelledTable → Optimum
+whole_optimum_in n m t = optimum (labelled_solution n t) (values_at (labelled_price t) n m) (values_at (labelled_price t) 0 n) (entry_of t.objective (length t.names))
 
 -- p is the program that is given
 abbrev pub contents_of : {A : Type 0} → (A → Fraction) → Stage → LinearProgram → Table A → WholeTable → Contents
@@ -137,7 +137,7 @@ contents_of value Given p t w = given p
 contents_of value Optimal p t w = found (optimum_in (length t.kept.items) (length t.rows.rows) (as_compact value t))
 contents_of value (Unbounded h) p t w = rising (compact_direction (length t.kept.items) h (as_compact value t))
 contents_of value WholeOptimal p t w = found (whole_optimum_in (length w.names.items) (length w.rows.rows) (as_whole w))
-contents_of value (WholeUnbounded c) p t w = rising (direction_in (length w.names.items) (as_column c) (as_whole w))
+contents_of value (WholeUnbounded c) p t w = rising (labelled_direction (length w.names.items) (as_column c) (as_whole w))
 contents_of value Stopped p t w = stopped
 
 abbrev pub workspace_of : {A : Type 0} → (A → Fraction) → ℕ → ℕ → Stage → SparseProgram A → Table A → WholeTable → Workspace

@@ -2,7 +2,7 @@
 ghost use Rattle.std.specs.Prelude.{◌≡◌, ◌+◌, ◌-◌, ◌<◌, ◌≤◌, None, length, unsigned_abs};
 ghost use Rattle.table_run.specs.Run.{run as run_of};
 ghost use Rattle.compact_table.specs.Tables.{program_in as program_in_table, room_of, IsGiven, SameRoom, SameShape};
-ghost use Rattle.sparse_program.specs.Rows.{program_in};
+ghost use Rattle.compact_table.specs.SparseRows.{program_in};
 ghost use Rattle.simplex.specs.Spaces.{IsBeingGiven};
 ghost use Rattle.simplex.specs.Attempts.{IsEndOf, IsTried};
 
@@ -11,9 +11,8 @@ use crate::run::{End, run};
 use crate::stage::Stage;
 use crate::stop::RunStop;
 use crate::whole_run::{WholeEnd, whole_run};
-use compact_table::Table;
+use compact_table::{SparseProgram, Table};
 use exact_num::Exact;
-use sparse_program::SparseProgram;
 use whole_solver::{WholeTable, bound_for};
 
 /// The run over rows of whole numbers, or None where it is given up: then the budget is what it

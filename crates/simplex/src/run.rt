@@ -1,6 +1,6 @@
 //! The run over a table.
 ghost use Rattle.std.specs.Prelude.{◌≡◌, ◌-◌, ◌<◌, Ok, Err, ℕ, length, unsigned_abs};
-ghost use Rattle.compact_run.specs.Run.{compact_run_from};
+ghost use Rattle.equal_runs.specs.CompactRunning.{compact_run_from};
 ghost use Rattle.compact_table.specs.Tables.{as_compact, SameShape};
 ghost use Rattle.simplex.specs.Ends.{ending_of};
 

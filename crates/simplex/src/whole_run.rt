@@ -1,8 +1,8 @@
 //! The run over rows of whole numbers.
 ghost use Rattle.std.specs.Prelude.{◌≡◌, ◌-◌, ◌*◌, ◌^◌, ◌≤◌, ℕ};
-ghost use Rattle.whole_rows.specs.Compact.{compact_run_from};
+ghost use Rattle.equal_runs.specs.Labelled.{labelled_run_from};
 ghost use Rattle.whole_solver.specs.Tables.{as_whole, IsWithin, SameShape};
-ghost use Rattle.whole_rows.specs.Lines.{widest};
+ghost use Rattle.equal_runs.specs.Lines.{widest};
 ghost use Rattle.simplex.specs.WholeEnds.{IsWholeEnd};
 
 use crate::budget::Budget;
@@ -29,7 +29,7 @@ pub fn whole_run(table: &mut WholeTable, bound: u64, limit: u128, budget: &mut B
     requires objective { limit ≤ 2 ^ 127 - 1 }
     requires within { IsWithin bound limit table.old }
     ensures run { (n m : ℕ) → IsWholeEnd bound limit n m result budget.new.spent table.new
-        (compact_run_from limit n m (budget.old.limit - budget.old.spent) budget.old.spent
+        (labelled_run_from limit n m (budget.old.limit - budget.old.spent) budget.old.spent
         (as_whole table.old)) }
     ensures shape { SameShape table.old table.new }
     ensures limit { budget.new.limit ≡ budget.old.limit }

@@ -7,9 +7,9 @@ use Rattle.std.proofs.Math.Seq.{drop-cons}
 use Rattle.exact_num.specs.Fraction.{over}
 use Rattle.table_run.specs.Choice.{Ratio, ratio_of, least}
 use Rattle.compact_table.specs.Candidates.{better_of, best_with}
-use Rattle.whole_rows.specs.Lines.{Line, WholeRow, no_line, whole_row, number_at}
-use Rattle.whole_rows.specs.Turning.{whole_ratios}
-use Rattle.whole_rows.specs.Compact.{Column, smaller, least_column}
+use Rattle.equal_runs.specs.Lines.{Line, WholeRow, no_line, whole_row, number_at}
+use Rattle.equal_runs.specs.WholeTurning.{whole_ratios}
+use Rattle.equal_runs.specs.Labelled.{Column, smaller, least_column}
 use Rattle.whole_solver.specs.declared.columns.Entering.{Entering}
 use Rattle.whole_solver.specs.Choices.{as_column}
 use Rattle.whole_solver.specs.Rows.{line_in, lines_in, row_at, beside_basics, with_column}

@@ -3,7 +3,7 @@ use Rattle.std.proofs.Common.{◌≡◌, ℕ, zero, suc, ◌+◌, ◌<◌, ◌�
 use Rattle.std.proofs.lemmas.List.{length-map, get_or_default}
 use Rattle.exact_num.specs.Fraction.{whole}
 use Rattle.compact_table.proofs.Nonzero.{place_inside}
-use Rattle.whole_rows.specs.Lines.{number_at}
+use Rattle.equal_runs.specs.Lines.{number_at}
 use Rattle.whole_solver.specs.Rows.{column_in, nonzero_in, row_at}
 use Rattle.whole_solver.proofs.Sparse.{rising, zero_first, zero_between}
 

@@ -5,13 +5,13 @@ use Rattle.std.proofs.Math.Nat.{mul-le-mul}
 use Rattle.arithmetic.proofs.Tests.{and_true}
 use Rattle.std.proofs.lemmas.List.{length-map}
 use Rattle.table_run.specs.Choice.{Ratio, least}
-use Rattle.compact_run.proofs.Columns.{same_test, other_test}
+use Rattle.equal_runs.proofs.Columns.{same_test, other_test}
 use Rattle.compact_table.specs.Candidates.{best_with}
-use Rattle.whole_rows.specs.Lines.{Line, WholeRow, IsLine, line_size, line_of, number_at, line_at, no_line, rows_fit}
-use Rattle.whole_rows.specs.Turning.{cut, whole_ratios, steps_within, row_steps_within, rows_steps_within, lines_steps_within, leaving_fits}
-use Rattle.whole_rows.specs.Compact.{CompactTable, basic_of, turned_in, compact_cleared, compact_rows_after, compact_pivoted, compact_leave, compact_turn, compact_turn_fits}
-use Rattle.whole_rows.proofs.LineSteps.{steps_within_room}
-use Rattle.whole_rows.proofs.TurnSteps.{AllOf, IsCandidate, candidates, Leaves, leaves}
+use Rattle.equal_runs.specs.Lines.{Line, WholeRow, IsLine, line_size, line_of, number_at, line_at, no_line, rows_fit}
+use Rattle.equal_runs.specs.WholeTurning.{cut, whole_ratios, steps_within, row_steps_within, rows_steps_within, lines_steps_within, leaving_fits}
+use Rattle.equal_runs.specs.Labelled.{LabelledTable, basic_of, turned_in, labelled_cleared, labelled_rows_after, labelled_pivoted, labelled_leave, labelled_turn, labelled_turn_fits}
+use Rattle.equal_runs.proofs.LineSteps.{steps_within_room}
+use Rattle.equal_runs.proofs.TurnSteps.{AllOf, IsCandidate, candidates, Leaves, leaves}
 use Rattle.whole_solver.specs.Rows.{line_in, lines_in, row_at, beside_basics, lines_after, AreLinesIn, IsTurned, IsPivot}
 use Rattle.whole_solver.specs.Tables.{table_of}
 use Rattle.whole_solver.proofs.Choosing.{line_place, length-beside}
@@ -33,8 +33,8 @@ basic_beside (b ∷ bs) (l ∷ lines) (suc r) e = basic_beside bs lines r (omega
 
 module _ (c e r a : ℕ) (P : List ℤ) where
   -- past the pivot row
-  past : (bs : List ℕ) (lines : List Line) (i : ℕ) → length bs ≡ length lines → r < i → compact_rows_after c e r a P i (beside_basics bs lines) ≡ beside_basics bs (lines_after c a r P i lines)
-  unfolding compact_rows_after lines_after
+  past : (bs : List ℕ) (lines : List Line) (i : ℕ) → length bs ≡ length lines → r < i → labelled_rows_after c e r a P i (beside_basics bs lines) ≡ beside_basics bs (lines_after c a r P i lines)
+  unfolding labelled_rows_after lines_after
   past [] [] i s p = refl
   past [] (l ∷ lines) i s p = absurd (omega (arith, s))
   past (b ∷ bs) [] i s p = absurd (omega (arith, s))
@@ -44,8 +44,8 @@ module _ (c e r a : ℕ) (P : List ℤ) where
       rw (t, later) refl
 
   pub rows_beside : (bs : List ℕ) (lines : List Line) (i j : ℕ) → length bs ≡ length lines → i + j ≡ r
-      → compact_rows_after c e r a P i (beside_basics bs lines) ≡ beside_basics (set bs j e) (lines_after c a r P i (set lines j (line_of a P)))
-  unfolding compact_rows_after lines_after
+      → labelled_rows_after c e r a P i (beside_basics bs lines) ≡ beside_basics (set bs j e) (lines_after c a r P i (set lines j (line_of a P)))
+  unfolding labelled_rows_after lines_after
   rows_beside [] [] i j s p = refl
   rows_beside [] (l ∷ lines) i j s p = absurd (omega (arith, s))
   rows_beside (b ∷ bs) [] i j s p = absurd (omega (arith, s))
@@ -59,12 +59,12 @@ module _ (c e r a : ℕ) (P : List ℤ) where
       rw (t, later) refl
 
 -- ---- the table after a pivot
-abbrev pub table_with : ℕ → List ℕ → List WholeRow → Line → CompactTable
+abbrev pub table_with : ℕ → List ℕ → List WholeRow → Line → LabelledTable
 table_with columns names rows objective = record { columns = columns; names = names; rows = rows; objective = objective }
 
 pub pivoted_table : (names basics : List ℕ) (rows new : List (List ℤ)) (objective last : List ℤ) (c r : ℕ) → length basics ≡ length rows → r < length rows → length new ≡ length rows → IsTurned (length names + 1) c r rows objective new last
-    → table_of (set names c (get_or basics r 0)) (set basics r (get_or names c 0)) new last ≡ compact_pivoted c r (table_of names basics rows objective)
-unfolding compact_pivoted
+    → table_of (set names c (get_or basics r 0)) (set basics r (get_or names c 0)) new last ≡ labelled_pivoted c r (table_of names basics rows objective)
+unfolding labelled_pivoted
 pivoted_table names basics rows new objective last c r same low many t =
     (λ i. table_with (columns i) (set names c v) (rows_are i) (last_is i)) ∙ sym (λ i. by (cut (line i)) (basic i))
   where
@@ -86,10 +86,10 @@ pivoted_table names basics rows new objective last c r same low many t =
     count : length basics ≡ length (lines_in (length names + 1) rows)
     count = same ∙ sym (length-map rows (line_in (length names + 1)))
 
-    by : Line → ℕ → CompactTable
+    by : Line → ℕ → LabelledTable
     by x u =
-        table_with (length names + length rows) (set names c u) (compact_rows_after c (get_or names c 0) r (unsigned_abs (number_at x.numbers c)) (turned_in c x) 0 (beside_basics basics (lines_in (length names + 1) rows)))
-        (compact_cleared c (unsigned_abs (number_at x.numbers c)) (turned_in c x) (line_in (length names + 1) objective))
+        table_with (length names + length rows) (set names c u) (labelled_rows_after c (get_or names c 0) r (unsigned_abs (number_at x.numbers c)) (turned_in c x) 0 (beside_basics basics (lines_in (length names + 1) rows)))
+        (labelled_cleared c (unsigned_abs (number_at x.numbers c)) (turned_in c x) (line_in (length names + 1) objective))
 
     wide : length (set names c (get_or basics r 0)) ≡ length names
     wide = length-set names c (get_or basics r 0)
@@ -104,35 +104,35 @@ pivoted_table names basics rows new objective last c r same low many t =
     columns = omega (arith, wide, many)
 
     rows_are : beside_basics (set basics r (get_or names c 0)) (lines_in (length (set names c (get_or basics r 0)) + 1) new)
-        ≡ compact_rows_after c (get_or names c 0) r (unsigned_abs (number_at (cut (line_in (length names + 1) (row_at rows r))).numbers c)) (turned_in c (cut (line_in (length names + 1) (row_at rows r)))) 0 (beside_basics basics (lines_in (length names + 1) rows))
+        ≡ labelled_rows_after c (get_or names c 0) r (unsigned_abs (number_at (cut (line_in (length names + 1) (row_at rows r))).numbers c)) (turned_in c (cut (line_in (length names + 1) (row_at rows r)))) 0 (beside_basics basics (lines_in (length names + 1) rows))
     rows_are =
         ap (λ k. beside_basics (set basics r (get_or names c 0)) (lines_in (k + 1) new)) wide
         ∙ ap (beside_basics (set basics r (get_or names c 0))) t.rows
         ∙ sym (rows_beside c (get_or names c 0) r (unsigned_abs (number_at (cut (line_in (length names + 1) (row_at rows r))).numbers c)) (turned_in c (cut (line_in (length names + 1) (row_at rows r)))) basics (lines_in (length names + 1) rows) 0 r count (omega arith))
 
     last_is : line_in (length (set names c (get_or basics r 0)) + 1) last
-        ≡ compact_cleared c (unsigned_abs (number_at (cut (line_in (length names + 1) (row_at rows r))).numbers c)) (turned_in c (cut (line_in (length names + 1) (row_at rows r)))) (line_in (length names + 1) objective)
+        ≡ labelled_cleared c (unsigned_abs (number_at (cut (line_in (length names + 1) (row_at rows r))).numbers c)) (turned_in c (cut (line_in (length names + 1) (row_at rows r)))) (line_in (length names + 1) objective)
     last_is = ap (λ k. line_in (k + 1) last) wide ∙ t.objective
 
 -- ---- a turn by its leaving row
-pub turn_none : (c : ℕ) (t : CompactTable) → best_with None (whole_ratios (length t.names) c 0 t.rows) ≡ None → compact_turn c t ≡ None
-unfolding compact_turn
+pub turn_none : (c : ℕ) (t : LabelledTable) → best_with None (whole_ratios (length t.names) c 0 t.rows) ≡ None → labelled_turn c t ≡ None
+unfolding labelled_turn
 turn_none c t h = step (whole_ratios (length t.names) c 0 t.rows) h
   where
-    step : (qs : List Ratio) → best_with None qs ≡ None → compact_leave c t qs ≡ None
+    step : (qs : List Ratio) → best_with None qs ≡ None → labelled_leave c t qs ≡ None
     step [] k = refl
     step (q ∷ qs) k = absurd cc
 
-pub turn_pivots : (c r : ℕ) (t : CompactTable) → best_with None (whole_ratios (length t.names) c 0 t.rows) ≡ Some r → compact_turn c t ≡ Some (compact_pivoted c r t)
-unfolding compact_turn
+pub turn_pivots : (c r : ℕ) (t : LabelledTable) → best_with None (whole_ratios (length t.names) c 0 t.rows) ≡ Some r → labelled_turn c t ≡ Some (labelled_pivoted c r t)
+unfolding labelled_turn
 turn_pivots c r t h = step (whole_ratios (length t.names) c 0 t.rows) h
   where
-    step : (qs : List Ratio) → best_with None qs ≡ Some r → compact_leave c t qs ≡ Some (compact_pivoted c r t)
+    step : (qs : List Ratio) → best_with None qs ≡ Some r → labelled_leave c t qs ≡ Some (labelled_pivoted c r t)
     step [] k = absurd cc
     step (q ∷ qs) k = let place : (least q qs).place ≡ r = cc in rw place refl
 
-pub turn_fits : (limit c r : ℕ) (t : CompactTable) → best_with None (whole_ratios (length t.names) c 0 t.rows) ≡ Some r → lines_steps_within limit c r t.objective t.rows ≡ true → compact_turn_fits limit c t ≡ true
-unfolding compact_turn_fits
+pub turn_fits : (limit c r : ℕ) (t : LabelledTable) → best_with None (whole_ratios (length t.names) c 0 t.rows) ≡ Some r → lines_steps_within limit c r t.objective t.rows ≡ true → labelled_turn_fits limit c t ≡ true
+unfolding labelled_turn_fits
 turn_fits limit c r t h fits = step (whole_ratios (length t.names) c 0 t.rows) h
   where
     step : (qs : List Ratio) → best_with None qs ≡ Some r → leaving_fits limit c t.objective t.rows qs ≡ true

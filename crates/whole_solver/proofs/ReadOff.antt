@@ -11,11 +11,11 @@ use Rattle.exact_num.specs.Fits.{div_of, meaning}
 use Rattle.exact_num.proofs.Values.{whole_is_lowest}
 use Rattle.table_run.specs.Places.{fraction_zero}
 use Rattle.compact_table.proofs.Reading.{past}
-use Rattle.whole_rows.specs.Lines.{Line, WholeRow, whole_row, number_at, entry_of}
-use Rattle.whole_rows.specs.Running.{whole_where_basic}
-use Rattle.whole_rows.specs.Compact.{CompactTable, Column, number_for, none_of, labels, price_of}
-use Rattle.whole_rows.proofs.LineSteps.{reduced_zero}
-use Rattle.whole_rows.proofs.StepsFit.{quotients_fit}
+use Rattle.equal_runs.specs.Lines.{Line, WholeRow, whole_row, number_at, entry_of}
+use Rattle.equal_runs.specs.WholeRunning.{whole_where_basic}
+use Rattle.equal_runs.specs.Labelled.{LabelledTable, Column, number_for, none_of, labels, labelled_price}
+use Rattle.equal_runs.proofs.LineSteps.{reduced_zero}
+use Rattle.equal_runs.proofs.StepsFit.{quotients_fit}
 use Rattle.whole_solver.specs.Rows.{beside_basics}
 use Rattle.whole_solver.specs.Tables.{direction_entry}
 
@@ -101,12 +101,12 @@ filled_nowhere j N (v ∷ vs) (z ∷ zs) low h = step (v == j) h (filled_nowhere
 pub filled_missing : (j N : ℕ) (vs : List ℕ) (zs : List ℤ) → j < N → None ≡ position (λ v. v == j) vs → number_for none_of (labels N vs) zs j ≡ pos 0
 filled_missing j N vs zs low e = filled_nowhere j N vs zs low (past (λ v. v == j) vs e)
 
-pub price_missing : (t : CompactTable) (j : ℕ) → 0 < t.objective.denominator → j < t.columns → None ≡ position (λ v. v == j) t.names → price_of t j ≡ fraction_zero
+pub price_missing : (t : LabelledTable) (j : ℕ) → 0 < t.objective.denominator → j < t.columns → None ≡ position (λ v. v == j) t.names → labelled_price t j ≡ fraction_zero
 price_missing t j p low e = ap (λ z. reduced z t.objective.denominator) (filled_missing j t.columns t.names t.objective.numbers low e) ∙ reduced_zero t.objective.denominator p
 
-pub price_found : (t : CompactTable) (j k : ℕ) → length t.names ≤ length t.objective.numbers → Some k ≡ position (λ v. v == j) t.names → price_of t j ≡ entry_of t.objective k
+pub price_found : (t : LabelledTable) (j k : ℕ) → length t.names ≤ length t.objective.numbers → Some k ≡ position (λ v. v == j) t.names → labelled_price t j ≡ entry_of t.objective k
 price_found t j k long e = ap (λ z. reduced z t.objective.denominator) (filled_found j t.columns t.names t.objective.numbers k long e)
 
 -- ---- one entry of a direction
-pub entry_other : (c : Column) (j : ℕ) (t : CompactTable) → (j ≡ c.name → ⊥) → direction_entry c t j ≡ whole_where_basic (λ row. reduced (neg_ℤ (number_at row.line.numbers c.place)) row.line.denominator) j t.rows
+pub entry_other : (c : Column) (j : ℕ) (t : LabelledTable) → (j ≡ c.name → ⊥) → direction_entry c t j ≡ whole_where_basic (λ row. reduced (neg_ℤ (number_at row.line.numbers c.place)) row.line.denominator) j t.rows
 entry_other c j t e = let other : nat_eq j c.name ≡ false = grind (arith, nat_tests) in rw other refl

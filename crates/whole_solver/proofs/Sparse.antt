@@ -7,11 +7,11 @@ use Rattle.std.proofs.lemmas.Int.{ints}
 use Rattle.std.proofs.lemmas.Bool.{eqb-true, eq-eqb, ne_eqb}
 use Rattle.std.proofs.lemmas.List.{drop_all, take-set, take_more_set}
 use Rattle.exact_num.specs.Fraction.{Fraction, whole}
-use Rattle.compact_run.specs.Steps.{is_zero}
+use Rattle.equal_runs.specs.CompactSteps.{is_zero}
 use Rattle.compact_table.specs.Nonzero.{nonzero_from}
-use Rattle.whole_rows.specs.Lines.{number_at}
-use Rattle.whole_rows.specs.Turning.{cross_difference}
-use Rattle.whole_rows.proofs.LineSteps.{zero_of_size}
+use Rattle.equal_runs.specs.Lines.{number_at}
+use Rattle.equal_runs.specs.WholeTurning.{cross_difference}
+use Rattle.equal_runs.proofs.LineSteps.{zero_of_size}
 use Rattle.whole_solver.proofs.Cleared.{zero_from_test}
 use Rattle.compact_table.proofs.Nonzero.{passes_zero, takes_nonzero}
 use Rattle.whole_solver.specs.Rows.{nonzero_in, with_place}

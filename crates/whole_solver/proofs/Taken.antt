@@ -5,14 +5,14 @@ use Rattle.std.proofs.lemmas.List.{drop_all, length-map, map-append, take_more, 
 use Rattle.exact_num.specs.Fraction.{Fraction, negated}
 use Rattle.table_run.specs.Places.{fraction_zero, numbers}
 use Rattle.table_run.specs.Program.{LinearProgram}
-use Rattle.compact_run.specs.Compact.{compact_first, compact_row, compact_rows_from}
+use Rattle.equal_runs.specs.Compact.{compact_first, compact_row, compact_rows_from}
 use Rattle.compact_table.specs.Candidates.{beside_basics as beside_lists}
 use Rattle.compact_table.specs.Programs.{program_of}
 use Rattle.compact_table.proofs.Starts.{AreLong, none_long, rows_given, table_with as fractions_with}
 use Rattle.table_run.proofs.Listed.{listed_count, map_listed}
-use Rattle.whole_rows.specs.Lines.{Line, WholeRow, IsLine, taken_in, row_taken_in, multiple, least_multiple}
+use Rattle.equal_runs.specs.Lines.{Line, WholeRow, IsLine, taken_in, row_taken_in, multiple, least_multiple}
 use Rattle.whole_solver.specs.Within.{HasMultiple}
-use Rattle.whole_rows.specs.Compact.{first_compact_table}
+use Rattle.equal_runs.specs.Labelled.{first_labelled_table}
 use Rattle.whole_solver.specs.Rows.{line_in, lines_in, row_at, beside_basics, AreLinesIn}
 use Rattle.whole_solver.specs.Tables.{table_of, taken_from}
 use Rattle.whole_solver.proofs.Pivoting.{table_with}
@@ -76,12 +76,12 @@ table_taken kept basics lists objective rows last same many rows_are last_is =
     λ i. table_with (columns i) kept (all i) (last_is i)
 
 -- ---- the first table of a program
-pub first_taken : (p : LinearProgram) → first_compact_table p ≡ taken_from (compact_first p)
-unfolding first_compact_table compact_first
+pub first_taken : (p : LinearProgram) → first_labelled_table p ≡ taken_from (compact_first p)
+unfolding first_labelled_table compact_first
 first_taken p =
     let columns : p.variables + p.rows ≡ length (numbers 0 p.variables) + length (compact_rows_from p 0 p.rows) = λ i. sym (listed_count (λ i. i) 0 p.variables) i + sym (listed_count (compact_row p) 0 p.rows) i in
     let rows = sym (map_listed row_taken_in (compact_row p) 0 p.rows) in
-    λ i. table_with (columns i) (numbers 0 p.variables) (rows i) (first_compact_table p).objective
+    λ i. table_with (columns i) (numbers 0 p.variables) (rows i) (first_labelled_table p).objective
 
 -- that of lists, each with its right side last
 pub lists_first : (n : ℕ) (lists : List (List Fraction)) (costs : List Fraction) → AreLong n lists

@@ -9,14 +9,14 @@ use Rattle.std.proofs.lemmas.List.{length-map, length-drop, length-take-le, map-
 use Rattle.std.proofs.Math.Nat.{mul-le-mul}
 use Rattle.std.proofs.lemmas.Slice.{take-put_mid}
 use borrow.Rule.Slice.PartMut.{put_mid}
-use Rattle.whole_rows.specs.Lines.{Line, IsLine, AreSizes, line_size, line_of, number_at, no_line, line_fits}
-use Rattle.whole_rows.specs.Compact.{compact_cleared, turned_in}
-use Rattle.whole_rows.specs.Turning.{cut, step_size}
-use Rattle.whole_rows.proofs.LineSteps.{cut_within, line_of_fit, fit_of_sizes, size_at_most, sizes_bound}
-use Rattle.whole_rows.proofs.TurnSteps.{size_above, cut_above}
-use Rattle.whole_rows.proofs.CompactRun.{cleared_shaped}
-use Rattle.whole_rows.proofs.CompactFirst.{cleared_lines_fit, set_sizes}
-use Rattle.compact_run.proofs.Columns.{same_test, other_test}
+use Rattle.equal_runs.specs.Lines.{Line, IsLine, AreSizes, line_size, line_of, number_at, no_line, line_fits}
+use Rattle.equal_runs.specs.Labelled.{labelled_cleared, turned_in}
+use Rattle.equal_runs.specs.WholeTurning.{cut, step_size}
+use Rattle.equal_runs.proofs.LineSteps.{cut_within, line_of_fit, fit_of_sizes, size_at_most, sizes_bound}
+use Rattle.equal_runs.proofs.TurnSteps.{size_above, cut_above}
+use Rattle.equal_runs.proofs.LabelledRun.{cleared_shaped}
+use Rattle.equal_runs.proofs.LabelledFirst.{cleared_lines_fit, set_sizes}
+use Rattle.equal_runs.proofs.Columns.{same_test, other_test}
 use Rattle.compact_table.proofs.ArenaSteps.{at_set_same, set_here}
 use Rattle.whole_solver.specs.Within.{kept}
 use Rattle.whole_solver.specs.Rows.{column_in, line_in, lines_in, nonzero_in, row_at, pivot_line, line_after, lines_after, AreLinesIn, AreSizesIn, IsPivot}
@@ -58,12 +58,12 @@ line_wider b c n l low g = record { positive = g.positive; below = (let p = g.be
 
 -- the line that a clearing writes
 pub cleared_line : (b n c a d : ℕ) (pivot ns : List ℤ) (old : Line) → IsLine b n old → 0 < a → length pivot ≡ n
-    → Some (line_of d ns) ≡ kept (line_fits b (compact_cleared c a pivot old)) (compact_cleared c a pivot old)
-    → (line_of d ns ≡ compact_cleared c a pivot old) × IsLine b n (line_of d ns)
+    → Some (line_of d ns) ≡ kept (line_fits b (labelled_cleared c a pivot old)) (labelled_cleared c a pivot old)
+    → (line_of d ns ≡ labelled_cleared c a pivot old) × IsLine b n (line_of d ns)
 cleared_line b n c a d pivot ns old g pa wide h =
-    let k = kept_some (line_fits b (compact_cleared c a pivot old)) (compact_cleared c a pivot old) (line_of d ns) h in
+    let k = kept_some (line_fits b (labelled_cleared c a pivot old)) (labelled_cleared c a pivot old) (line_of d ns) h in
     let shaped = cleared_shaped n c a pivot old (record { positive = g.positive; count = g.count }) pa wide in
-    (k.1, subst (IsLine b n) (sym k.1) (line_of_fit b n (compact_cleared c a pivot old) shaped k.0))
+    (k.1, subst (IsLine b n) (sym k.1) (line_of_fit b n (labelled_cleared c a pivot old) shaped k.0))
 
 pub pivot_within : (b n c : ℕ) (l : Line) → c < n → IsLine b n l → 0 < unsigned_abs (number_at l.numbers c) → IsLine b n (pivot_line c (unsigned_abs (number_at l.numbers c)) l)
 pivot_within b n c l h g p =
@@ -236,7 +236,7 @@ listed_still w c r a rows y l column p is_pivot above wide =
 pub after_pivot : (c a r i : ℕ) (P : List ℤ) (l : Line) → i ≡ r → line_after c a r P i l ≡ l
 after_pivot c a r i P l e = let t = same_test i r e in rw t refl
 
-pub after_other : (c a r i : ℕ) (P : List ℤ) (l : Line) → (i ≡ r → ⊥) → line_after c a r P i l ≡ compact_cleared c a P l
+pub after_other : (c a r i : ℕ) (P : List ℤ) (l : Line) → (i ≡ r → ⊥) → line_after c a r P i l ≡ labelled_cleared c a P l
 after_other c a r i P l ne = let t = other_test i r ne in rw t refl
 
 pub turned_rows : (w c r a : ℕ) (rows new from : List (List ℤ)) (y : List ℤ) (l : Line) → r < length rows → from ≡ set rows r y → line_in w y ≡ pivot_line c a l
@@ -277,7 +277,7 @@ pub record IsWritten (limit w d : ℕ) (row ns : List ℤ) : Type 0 where
   pub written : line_in w (set (put_mid 1 (w + 1 - 1) row ns) 0 (to_z w128 d)) ≡ line_of d ns
 
 pub objective_written : (most limit w c a d : ℕ) (row pivot ns : List ℤ) → limit ≤ 2 ^ 127 - 1 → w < length row → w < length pivot → IsLine limit w (line_in w row) → AreSizes most (line_in w pivot).numbers → 0 < a
-    → step_size (line_size (line_in w row)) (unsigned_abs (number_at (line_in w row).numbers c)) a most ≤ limit → line_of d ns ≡ compact_cleared c a (line_in w pivot).numbers (line_in w row) → IsWritten limit w d row ns
+    → step_size (line_size (line_in w row)) (unsigned_abs (number_at (line_in w row).numbers c)) a most ≤ limit → line_of d ns ≡ labelled_cleared c a (line_in w pivot).numbers (line_in w row) → IsWritten limit w d row ns
 objective_written most limit w c a d row pivot ns held wide_row wide g sizes above room told =
     let behind = length-drop 1 pivot in
     let count : length (take w (drop 1 pivot)) ≡ w = length-take-le w (drop 1 pivot) (omega (arith, behind, wide)) in

@@ -4,8 +4,8 @@ use Rattle.std.specs.Prelude.{slice_index_or}
 use Rattle.std.proofs.Math.Nat.{mul-le-mul}
 use Rattle.std.proofs.lemmas.List.{map-id}
 use Rattle.std.proofs.lemmas.Int.{ints, unsigned_abs-mul}
-use Rattle.whole_rows.specs.Lines.{AreSizes, number_at, widest}
-use Rattle.whole_rows.specs.Turning.{cross_difference}
+use Rattle.equal_runs.specs.Lines.{AreSizes, number_at, widest}
+use Rattle.equal_runs.specs.WholeTurning.{cross_difference}
 use Rattle.whole_solver.specs.Within.{AreMixedSizes, HasRoom}
 use Rattle.whole_solver.proofs.Numbers.{no_size}
 

@@ -1,7 +1,7 @@
 -- What the candidates of the code stand for.
 use Rattle.exact_num.specs.Fraction.{over}
 use Rattle.table_run.specs.Choice.{Ratio, ratio_of}
-use Rattle.whole_rows.specs.Compact.{Column}
+use Rattle.equal_runs.specs.Labelled.{Column}
 use Rattle.whole_solver.specs.declared.ratios.Candidate.{Candidate}
 use Rattle.whole_solver.specs.declared.columns.Entering.{Entering}
 

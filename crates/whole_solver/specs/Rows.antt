@@ -2,9 +2,9 @@
 use Rattle.std.specs.Prelude.{◌≡◌, ℕ, ◌+◌, ◌<◌, List, [], ◌∷◌, ◌++◌, take, drop, map, length, ℤ, pos, unsigned_abs, slice_index_or, slice_set, if◌then◌else◌, nat_eq, int_lt, Option, Some, true}
 use Rattle.exact_num.specs.Fraction.{whole}
 use Rattle.compact_table.specs.Nonzero.{nonzero_places}
-use Rattle.whole_rows.specs.Lines.{Line, WholeRow, AreSizes, IsLine, line_of, whole_row, number_at}
-use Rattle.whole_rows.specs.Turning.{cut}
-use Rattle.whole_rows.specs.Compact.{Column, smaller, compact_cleared, turned_in}
+use Rattle.equal_runs.specs.Lines.{Line, WholeRow, AreSizes, IsLine, line_of, whole_row, number_at}
+use Rattle.equal_runs.specs.WholeTurning.{cut}
+use Rattle.equal_runs.specs.Labelled.{Column, smaller, labelled_cleared, turned_in}
 
 -- the line of w numbers at the front of a row
 abbrev pub line_in : ℕ → List ℤ → Line
@@ -44,7 +44,7 @@ AreSizesIn sizes w rows = (i : ℕ) → i < length rows → AreSizes (slice_inde
 
 -- ---- the lines of a turn, the pivot row r being there already
 abbrev pub line_after : ℕ → ℕ → ℕ → List ℤ → ℕ → Line → Line
-line_after c a r pivot i l = let other = compact_cleared c a pivot l in if nat_eq i r then l else other
+line_after c a r pivot i l = let other = labelled_cleared c a pivot l in if nat_eq i r then l else other
 
 unfoldable pub lines_after : ℕ → ℕ → ℕ → List ℤ → ℕ → List Line → List Line
 lines_after c a r pivot i [] = []
@@ -66,7 +66,7 @@ pub record IsTurned (w c r : ℕ) (from : List (List ℤ)) (before : List ℤ) (
       lines_in w new ≡ lines_after c a r (turned_in c l) 0 (slice_set (lines_in w from) r (pivot_line c a l))
   pub objective :
       let l = cut (line_in w (row_at from r)) in
-      line_in w last ≡ compact_cleared c (unsigned_abs (number_at l.numbers c)) (turned_in c l) (line_in w before)
+      line_in w last ≡ labelled_cleared c (unsigned_abs (number_at l.numbers c)) (turned_in c l) (line_in w before)
 
 -- row r is there, and its number in column c is above 0
 pub record IsPivot (w c r : ℕ) (rows : List (List ℤ)) : Type 0 where

@@ -1,10 +1,10 @@
 -- What the table of the code stands for.
 use Rattle.std.specs.Prelude.{◌≡◌, ℕ, ◌+◌, ◌≤◌, List, [], ◌∷◌, ◌++◌, ℤ, pos, neg_ℤ, length, map, take, if◌then◌else◌, nat_eq, true, Some, None}
 use Rattle.exact_num.specs.Fraction.{Fraction, whole, reduced}
-use Rattle.compact_run.specs.Compact.{CompactTable as FractionTable}
-use Rattle.whole_rows.specs.Lines.{IsLine, number_at, taken_in, row_taken_in}
-use Rattle.whole_rows.specs.Running.{whole_where_basic}
-use Rattle.whole_rows.specs.Compact.{CompactTable, Column, compact_turn, compact_turn_fits}
+use Rattle.equal_runs.specs.Compact.{CompactTable}
+use Rattle.equal_runs.specs.Lines.{IsLine, number_at, taken_in, row_taken_in}
+use Rattle.equal_runs.specs.WholeRunning.{whole_where_basic}
+use Rattle.equal_runs.specs.Labelled.{LabelledTable, Column, labelled_turn, labelled_turn_fits}
 use Rattle.whole_solver.specs.declared.table.WholeTable.{WholeTable}
 use Rattle.whole_solver.specs.declared.turn.Turn.{Turn}
 use Rattle.whole_solver.specs.declared.turn.Turn.TheVariants.{Moved, Unlimited, GivenUp}
@@ -14,7 +14,7 @@ use Rattle.whole_solver.specs.Rows.{line_in, lines_in, beside_basics, column_in,
 abbrev pub width_of : WholeTable → ℕ
 width_of t = length t.names.items + 1
 
-abbrev pub table_of : List ℕ → List ℕ → List (List ℤ) → List ℤ → CompactTable
+abbrev pub table_of : List ℕ → List ℕ → List (List ℤ) → List ℤ → LabelledTable
 table_of names basics rows objective =
     record {
       columns = length names + length rows;
@@ -23,7 +23,7 @@ table_of names basics rows objective =
       objective = line_in (length names + 1) objective;
     }
 
-abbrev pub as_whole : WholeTable → CompactTable
+abbrev pub as_whole : WholeTable → LabelledTable
 as_whole t = table_of t.names.items t.basics.items t.rows.rows t.objective.items
 
 -- each row is within the bound, and its numbers within the size that is kept with it. The objective row is within the limit
@@ -55,12 +55,12 @@ pub record IsListed (c count : ℕ) (t : WholeTable) : Type 0 where
 -- ---- a turn: the table after it, where it is not given up
 abbrev pub IsTurn : ℕ → ℕ → ℕ → Turn → WholeTable → WholeTable → Type 0
 IsTurn bound limit c Moved old new =
-    (compact_turn c (as_whole old) ≡ Some (as_whole new)) × (compact_turn_fits limit c (as_whole old) ≡ true) × IsWithin bound limit new
-IsTurn bound limit c Unlimited old new = (compact_turn c (as_whole old) ≡ None) × (as_whole new ≡ as_whole old) × IsWithin bound limit new
+    (labelled_turn c (as_whole old) ≡ Some (as_whole new)) × (labelled_turn_fits limit c (as_whole old) ≡ true) × IsWithin bound limit new
+IsTurn bound limit c Unlimited old new = (labelled_turn c (as_whole old) ≡ None) × (as_whole new ≡ as_whole old) × IsWithin bound limit new
 IsTurn bound limit c GivenUp old new = Unit {0}
 
 -- ---- the first table: that of a table of fractions whose rows are over common denominators
-abbrev pub taken_from : FractionTable → CompactTable
+abbrev pub taken_from : CompactTable → LabelledTable
 taken_from c =
     record {
       columns = length c.kept + length c.rows;
@@ -78,7 +78,7 @@ pub record HasRow (bound : ℕ) (entries : List Fraction) (basic : ℕ) (old new
   pub within : IsLine bound (width_of old) (line_in (width_of old) row)
 
 -- what a step of 1 in the column changes in variable j
-abbrev pub direction_entry : Column → CompactTable → ℕ → Fraction
+abbrev pub direction_entry : Column → LabelledTable → ℕ → Fraction
 direction_entry c t j =
     if nat_eq j c.name then whole (pos 1)
     else whole_where_basic (λ row. reduced (neg_ℤ (number_at row.line.numbers c.place)) row.line.denominator) j t.rows

@@ -1,7 +1,7 @@
 //! The column that enters.
 ghost use Rattle.std.specs.Prelude.{◌≡◌, ◌<◌, ◌≤◌, IfSome, length};
 ghost use Rattle.std.specs.Option.{option_map};
-ghost use Rattle.whole_rows.specs.Compact.{least_column as least_column_of, smaller as smaller_of};
+ghost use Rattle.equal_runs.specs.Labelled.{least_column as least_column_of, smaller as smaller_of};
 ghost use Rattle.whole_solver.specs.Choices.{as_column};
 ghost use Rattle.whole_solver.specs.Rows.{with_column as with_column_of};
 

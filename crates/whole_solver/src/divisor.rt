@@ -1,8 +1,8 @@
 //! What numbers have in common, and quotients.
 ghost use Rattle.std.specs.Prelude.{◌≡◌, IfSome, ◌≤◌, ◌<◌, ◌^◌, ◌*◌, ◌/◌, pos, unsigned_abs, length, map, int_div, slice_set};
 ghost use Rattle.arithmetic.specs.Gcd.{gcd as gcd_of};
-ghost use Rattle.whole_rows.specs.Lines.{number_at, widest};
-ghost use Rattle.whole_rows.specs.Turning.{common_of};
+ghost use Rattle.equal_runs.specs.Lines.{number_at, widest};
+ghost use Rattle.equal_runs.specs.WholeTurning.{common_of};
 
 use exact_num::gcd;
 

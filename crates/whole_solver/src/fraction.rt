@@ -2,7 +2,7 @@
 ghost use Rattle.std.specs.Prelude.{◌≡◌, ◌<◌, ◌≤◌, IfSome, length, map, true, unsigned_abs};
 ghost use Rattle.exact_num.specs.CommonDenominator.{amount_over, signed_amounts_over};
 ghost use Rattle.exact_num.specs.Fraction.{reduced, whole as whole_of};
-ghost use Rattle.whole_rows.specs.Lines.{AreSizes, IsLine, least_multiple as least_multiple_of, multiple as multiple_of, taken_in, widest};
+ghost use Rattle.equal_runs.specs.Lines.{AreSizes, IsLine, least_multiple as least_multiple_of, multiple as multiple_of, taken_in, widest};
 ghost use Rattle.whole_solver.specs.Rows.{line_in};
 ghost use Rattle.whole_solver.specs.Within.{HasMultiple};
 

@@ -1,7 +1,7 @@
 //! One kernel for lines of any word: a line times a number, less a multiple of the pivot row.
 ghost use Rattle.std.specs.Prelude.{◌≡◌, ℕ, ◌<◌, ◌≤◌, ◌≤ℤ◌, ◌+◌, ◌*◌, ◌-ℤ◌, ◌*ℤ◌, pos, unsigned_abs, length, map, slice_set};
-ghost use Rattle.whole_rows.specs.Lines.{number_at};
-ghost use Rattle.whole_rows.specs.Turning.{cross_difference};
+ghost use Rattle.equal_runs.specs.Lines.{number_at};
+ghost use Rattle.equal_runs.specs.WholeTurning.{cross_difference};
 ghost use Rattle.whole_solver.specs.Rows.{nonzero_in};
 ghost use Rattle.whole_solver.specs.Within.{HasRoom};
 

@@ -3,7 +3,7 @@ ghost use Rattle.std.specs.Prelude.{◌≡◌, ◌+◌, ◌<◌, ◌*ℤ◌, len
 ghost use Rattle.std.specs.Option.{option_map};
 ghost use Rattle.table_run.specs.Choice.{lesser as lesser_of};
 ghost use Rattle.compact_table.specs.Candidates.{best_with, better_of};
-ghost use Rattle.whole_rows.specs.Turning.{whole_ratios};
+ghost use Rattle.equal_runs.specs.WholeTurning.{whole_ratios};
 ghost use Rattle.whole_solver.specs.Choices.{as_ratio};
 ghost use Rattle.whole_solver.specs.Rows.{beside_basics, column_in, lines_in, nonzero_in};
 

@@ -1,9 +1,9 @@
 //! The rows of a turn in an arena. A row is its denominator and then its numbers, the right side
 //! last.
 ghost use Rattle.std.specs.Prelude.{◌≡◌, ◌+◌, ◌-◌, ◌*◌, ◌^◌, ◌<◌, ◌≤◌, false, length, pos, true, unsigned_abs, slice_set, take};
-ghost use Rattle.whole_rows.specs.Lines.{AreSizes, IsLine, line_size, number_at, widest};
-ghost use Rattle.whole_rows.specs.Compact.{compact_cleared};
-ghost use Rattle.whole_rows.specs.Turning.{cut, step_size, steps_within};
+ghost use Rattle.equal_runs.specs.Lines.{AreSizes, IsLine, line_size, number_at, widest};
+ghost use Rattle.equal_runs.specs.Labelled.{labelled_cleared};
+ghost use Rattle.equal_runs.specs.WholeTurning.{cut, step_size, steps_within};
 ghost use Rattle.whole_solver.specs.Rows.{AreLinesIn, AreSizesIn, IsPivot, IsTurned, column_in, line_in, lines_after, lines_in, nonzero_in, pivot_line, row_at};
 
 use crate::divisor::{common_short, divide_numbers};
@@ -113,7 +113,7 @@ fn clear_sized(
     requires above { (0 < known.a) × (known.a ≤ known.step.bound) }
     requires line { IsLine known.step.bound (length room.old) (line_in (length room.old) row.old) }
     ensures cleared { result ≡ true → line_in (length room.old) row.new
-        ≡ compact_cleared known.entry.step.c known.entry.a
+        ≡ labelled_cleared known.entry.step.c known.entry.a
         (line_in (length room.old) pivot.now).numbers
         (line_in (length room.old) row.old) }
     ensures line { result ≡ true
@@ -157,7 +157,7 @@ fn clear_objective(
         (unsigned_abs (number_at (line_in width objective.old).numbers known.entry.step.c))
         known.entry.a known.entry.most ≤ known.entry.step.limit }
     ensures cleared { result ≡ true → line_in width objective.new
-        ≡ compact_cleared known.entry.step.c known.entry.a (line_in width pivot.now).numbers
+        ≡ labelled_cleared known.entry.step.c known.entry.a (line_in width pivot.now).numbers
         (line_in width objective.old) }
     ensures line { result ≡ true
         → IsLine known.entry.step.limit width (line_in width objective.new) }

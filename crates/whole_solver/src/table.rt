@@ -3,11 +3,11 @@ ghost use Rattle.std.specs.Prelude.{◌≡◌, ◌+◌, ◌-◌, ◌*◌, ◌^�
 ghost use Rattle.std.specs.Option.{option_map};
 ghost use Rattle.compact_table.specs.Candidates.{best_with};
 ghost use Rattle.table_run.specs.Places.{numbers};
-ghost use Rattle.compact_run.specs.Compact.{compact_first};
-ghost use Rattle.whole_rows.specs.Compact.{compact_entering, compact_pivoted, price_of};
-ghost use Rattle.whole_rows.specs.Lines.{IsLine, entry_of, taken_in, widest};
-ghost use Rattle.whole_rows.specs.Running.{whole_where_basic};
-ghost use Rattle.whole_rows.specs.Turning.{cut, steps_within, whole_ratios};
+ghost use Rattle.equal_runs.specs.Compact.{compact_first};
+ghost use Rattle.equal_runs.specs.Labelled.{labelled_entering, labelled_pivoted, labelled_price};
+ghost use Rattle.equal_runs.specs.Lines.{IsLine, entry_of, taken_in, widest};
+ghost use Rattle.equal_runs.specs.WholeRunning.{whole_where_basic};
+ghost use Rattle.equal_runs.specs.WholeTurning.{cut, steps_within, whole_ratios};
 ghost use Rattle.whole_solver.specs.Choices.{as_column};
 ghost use Rattle.whole_solver.specs.Rows.{AreLinesIn, IsPivot, IsTurned, line_in, row_at};
 
@@ -18,10 +18,10 @@ use crate::ratios::leaving;
 use crate::rows::{list_column, turn_rows};
 use crate::turn::Turn;
 use crate::wide::widen;
+use compact_table::SparseProgram;
 use compact_table::room::write_numbers;
 use exact_num::Exact;
 use lists::{RowArena, push_within};
-use sparse_program::SparseProgram;
 use std::alloc::{AllocError, Global};
 
 /// A table of rows of whole numbers. Each row is a denominator and the numbers of the columns that
@@ -58,7 +58,7 @@ pub struct WholeTable {
 }
 
 impl WholeTable {
-    ghost use Rattle.sparse_program.specs.Rows.{program_in};
+    ghost use Rattle.compact_table.specs.SparseRows.{program_in};
     ghost use Rattle.whole_solver.specs.Tables.{as_whole, direction_entry, width_of, room_of, taken_from, HasRow, IsListed, IsTurn, IsWithin, SameRoom, SameShape};
 
     /// A table with room for as many rows of as many columns. It is that of no program yet.
@@ -208,9 +208,9 @@ impl WholeTable {
 
     /// The column that enters: of those whose number in the objective row is below 0 that of the
     /// smallest variable.
-    #[tactic(auto, unfolding(whole_rows::specs::Compact::compact_entering))]
+    #[tactic(auto, unfolding(equal_runs::specs::Labelled::labelled_entering))]
     pub fn entering(&self) -> Option<Entering>
-        ensures column { option_map as_column result ≡ compact_entering (as_whole self.now) }
+        ensures column { option_map as_column result ≡ labelled_entering (as_whole self.now) }
         ensures inside { IfSome result (λ c. c.place < length self.now.names.items) }
     {
         let width = self.names.len() + 1;
@@ -317,7 +317,7 @@ impl WholeTable {
             (cut (line_in (width_of self.old) (row_at self.old.rows.rows r)))
             (line_in (width_of self.old) self.old.objective.items) ≡ true }
         ensures table { result ≡ true
-            → as_whole self.new ≡ compact_pivoted c r (as_whole self.old) }
+            → as_whole self.new ≡ labelled_pivoted c r (as_whole self.old) }
         ensures within { result ≡ true → IsWithin bound limit self.new }
         ensures shape { SameShape self.old self.new }
     {
@@ -415,7 +415,7 @@ impl WholeTable {
         requires limit { widest ≤ unsigned_abs N.LIMIT }
         requires within { IsWithin widest (unsigned_abs N.LIMIT) self.now }
         requires variable { j < (as_whole self.now).columns }
-        ensures { N.fraction result ≡ price_of (as_whole self.now) j }
+        ensures { N.fraction result ≡ labelled_price (as_whole self.now) j }
     {
         match self.column_of(j) {
             None => N::zero(),

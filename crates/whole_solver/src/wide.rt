@@ -2,9 +2,9 @@
 //! steps 64 bits do not hold.
 ghost use Rattle.std.specs.Prelude.{◌≡◌, IfSome, ◌<◌, ◌≤◌, ◌+◌, ◌-◌, ◌*◌, ◌/◌, ◌^◌, pos, unsigned_abs, length, map, int_div};
 ghost use Rattle.arithmetic.specs.Gcd.{gcd as gcd_of};
-ghost use Rattle.whole_rows.specs.Compact.{compact_cleared};
-ghost use Rattle.whole_rows.specs.Lines.{AreSizes, IsLine, line_of, line_size, number_at, numbers_fit, widest};
-ghost use Rattle.whole_rows.specs.Turning.{cut, cut_where_wide, step_size};
+ghost use Rattle.equal_runs.specs.Labelled.{labelled_cleared};
+ghost use Rattle.equal_runs.specs.Lines.{AreSizes, IsLine, line_of, line_size, number_at, numbers_fit, widest};
+ghost use Rattle.equal_runs.specs.WholeTurning.{cut, cut_where_wide, step_size};
 ghost use Rattle.whole_solver.specs.Rows.{nonzero_in};
 
 use crate::divisor::{common, common_with_wide, divisor_of, whole_quotient, wide_quotient};
@@ -203,7 +203,7 @@ pub fn clear_wide_line(
         (unsigned_abs (number_at numbers.old pivot.entry.known.step.c)) pivot.entry.known.a
         pivot.entry.known.most ≤ pivot.entry.known.step.limit) }
     ensures line { IfSome result (λ d. line_of d numbers.new
-        ≡ compact_cleared pivot.entry.known.step.c pivot.entry.known.a pivot.entry.numbers.now
+        ≡ labelled_cleared pivot.entry.known.step.c pivot.entry.known.a pivot.entry.numbers.now
         (line_of denominator numbers.old)) }
     ensures size { IfSome result (λ d. line_size (line_of d numbers.new) ≤ size.new) }
 {

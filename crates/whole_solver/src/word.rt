@@ -1,7 +1,7 @@
 //! The words that the numbers of a line stand in.
 ghost use Rattle.std.specs.Prelude.{◌≡◌, IfSome, ℕ, ℤ, ◌≤◌, ◌+◌, ◌*◌, ◌^◌, ◌-◌, ◌-ℤ◌, ◌*ℤ◌, pos, true, unsigned_abs};
 ghost use Rattle.exact_num.specs.Fits.{size_fits};
-ghost use Rattle.whole_rows.specs.Lines.{widest};
+ghost use Rattle.equal_runs.specs.Lines.{widest};
 ghost use Rattle.whole_solver.specs.Within.{kept};
 
 /// A signed number of 64 or of 128 bits.

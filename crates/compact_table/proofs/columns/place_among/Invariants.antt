@@ -1,5 +1,5 @@
 use Rattle.std.proofs.Common.{◌≡◌, ◌+◌, drop}
-use Rattle.compact_run.specs.Compact.{place_for}
+use Rattle.equal_runs.specs.Compact.{place_for}
 use Rattle.compact_table.proofs.columns.place_among.Given as goal
 
 -- none of those before i is above the variable

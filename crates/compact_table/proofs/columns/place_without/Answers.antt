@@ -1,6 +1,6 @@
 use Rattle.std.proofs.Common.{◌≡◌, ◌∙◌, sym, ap, arith, length, take, drop, suc, ◌+◌, ◌-◌}
 use Rattle.std.proofs.lemmas.List.{length-take-le, take_all, length-drop}
-use Rattle.compact_run.specs.Compact.{place_for}
+use Rattle.equal_runs.specs.Compact.{place_for}
 use Rattle.compact_table.proofs.Among.{place_before, place_behind}
 use Rattle.compact_table.proofs.columns.place_without.Goals as goal
 

@@ -4,7 +4,7 @@ use Rattle.std.proofs.lemmas.List.{map-set}
 use Rattle.exact_num.specs.Fraction.{Fraction}
 use Rattle.exact_num.specs.Fits.{meaning, after}
 use Rattle.table_run.specs.Places.{at}
-use Rattle.compact_run.specs.Steps.{short_less}
+use Rattle.equal_runs.specs.CompactSteps.{short_less}
 use Rattle.compact_table.proofs.EntrySteps.{at-map}
 use Rattle.compact_table.proofs.entries.clear_entry.Goals as goal
 

@@ -4,7 +4,7 @@ use Rattle.std.proofs.lemmas.List.{length-map}
 use Rattle.compact_table.specs.Nonzero.{nonzero_places}
 use Rattle.compact_table.proofs.EntrySteps.{step_ok, step_stops}
 use Rattle.compact_table.proofs.Nonzero.{places_more, places_stop, places_end, place_inside, place_nonzero, each_at-nonzero, each_at}
-use Rattle.compact_run.specs.Steps.{is_zero, short_less}
+use Rattle.equal_runs.specs.CompactSteps.{is_zero, short_less}
 use Rattle.table_run.specs.Places.{at}
 use Rattle.compact_table.proofs.entries.clear_row.Goals as goal
 

@@ -1,5 +1,5 @@
 use Rattle.std.proofs.Common.{unsigned_abs}
-use Rattle.compact_run.specs.Steps.{short_quotient}
+use Rattle.equal_runs.specs.CompactSteps.{short_quotient}
 use Rattle.compact_table.proofs.RowSteps.{Written}
 use Rattle.compact_table.proofs.entries.divide_row.Given as goal
 

@@ -1,5 +1,5 @@
 use Rattle.std.proofs.Common.{◌≡◌, ◌∙◌, sym, ap, arith, true, false, ℕ, ◌+◌, List, map, ◌++◌, drop, vec_len, vec_capacity, Vec, Global}
-use Rattle.compact_run.specs.Steps.{is_zero}
+use Rattle.equal_runs.specs.CompactSteps.{is_zero}
 use Rattle.compact_table.specs.Nonzero.{nonzero_from}
 use Rattle.compact_table.proofs.Nonzero.{passes_zero, takes_nonzero, all_taken}
 use Rattle.compact_table.proofs.entries.list_nonzero.Goals.{then-not-is_zero, else-not-is_zero}

@@ -5,7 +5,7 @@ use Rattle.std.proofs.lemmas.Result.{err_from_is_err_and}
 use Rattle.std.proofs.lemmas.List.{length-map}
 use Rattle.exact_num.specs.Fits.{meaning}
 use Rattle.table_run.specs.Choice.{least}
-use Rattle.compact_run.specs.Steps.{short_ratio_in}
+use Rattle.equal_runs.specs.CompactSteps.{short_ratio_in}
 use Rattle.compact_table.specs.declared.candidate.Candidate.{Candidate}
 use Rattle.compact_table.specs.Candidates.{as_ratio, best_with, beside_basics}
 use Rattle.compact_table.specs.Lists.{front, fronts}

@@ -3,10 +3,10 @@ use Rattle.exact_num.specs.Fraction.{Fraction, whole}
 use Rattle.std.specs.Prelude.{Ok, if◌then◌else◌, true, false}
 use Rattle.table_run.specs.Places.{at}
 use Rattle.table_run.specs.Pivot.{each_pair}
-use Rattle.compact_run.specs.Steps.{is_zero, short_less}
+use Rattle.equal_runs.specs.CompactSteps.{is_zero, short_less}
 use Rattle.compact_table.proofs.EntrySteps.{at-map}
-use Rattle.compact_run.specs.Compact.{remove_insert}
-use Rattle.compact_run.specs.Turn.{short_cleared}
+use Rattle.equal_runs.specs.Compact.{remove_insert}
+use Rattle.equal_runs.specs.CompactTurning.{short_cleared}
 use Rattle.compact_table.proofs.Rotations.{map-moved}
 use Rattle.compact_table.proofs.row.clear_column.Goals as goal
 

@@ -3,9 +3,9 @@ use Rattle.exact_num.specs.Fraction.{Fraction, whole}
 use Rattle.table_run.specs.Places.{at}
 use Rattle.table_run.specs.Pivot.{each}
 use Rattle.compact_table.proofs.EntrySteps.{at-map}
-use Rattle.compact_run.specs.Steps.{short_quotient}
-use Rattle.compact_run.specs.Compact.{remove_insert}
-use Rattle.compact_run.specs.Turn.{short_divided}
+use Rattle.equal_runs.specs.CompactSteps.{short_quotient}
+use Rattle.equal_runs.specs.Compact.{remove_insert}
+use Rattle.equal_runs.specs.CompactTurning.{short_divided}
 use Rattle.compact_table.proofs.Rotations.{map-moved}
 use Rattle.compact_table.proofs.row.take_pivot.Goals as goal
 

@@ -1,7 +1,7 @@
 use Rattle.std.proofs.Common.{◌≡◌, ◌<◌, [], length, slice_index_or, unsigned_abs, length-set, refl, sym, ◌∙◌, ap, arith, set}
 use Rattle.std.specs.Prelude.{Ok}
 use Rattle.std.proofs.lemmas.Result.{err_from_is_err_and}
-use Rattle.compact_run.specs.Turn.{short_cleared}
+use Rattle.equal_runs.specs.CompactTurning.{short_cleared}
 use Rattle.compact_table.specs.Lists.{front}
 use Rattle.lists.proofs.Lists.{refit_is}
 use Rattle.compact_table.proofs.ArenaSteps.{cleared_more, cleared_stop, cleared_end, at_pivot, at_other, set_here, any_default, at_set_other}

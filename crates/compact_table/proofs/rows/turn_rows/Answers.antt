@@ -3,7 +3,7 @@ use Rattle.std.specs.Prelude.{Ok}
 use Rattle.std.proofs.lemmas.Result.{err_from_is_err_and}
 use Rattle.std.proofs.lemmas.List.{map-set}
 use Rattle.exact_num.specs.Fits.{after}
-use Rattle.compact_run.specs.Turn.{short_divided, short_cleared}
+use Rattle.equal_runs.specs.CompactTurning.{short_divided, short_cleared}
 use Rattle.lists.proofs.Lists.{refit_is}
 use Rattle.compact_table.specs.Lists.{front, lists_after}
 use Rattle.compact_table.proofs.ArenaSteps.{at_set_same, at_fronts, turned_is, beside}

@@ -4,8 +4,8 @@ use Rattle.cash_ledger.specs.declared.ledger.LedgerRefusal.TheVariants as from_l
 use Rattle.cash_ledger.specs.Refusals as ledger_refusals
 use Rattle.order_book.specs.declared.refusal.BookRefusal.TheVariants as from_book
 use Rattle.order_book.specs.Refusals as book_refusals
-use Rattle.refusals.specs.Refusals.{first_of, refusal_in}
-use Rattle.refusals.proofs.FirstRefusal.{first_behind, none_named, told_named, told_in_front}
+use Rattle.lists.specs.Refusals.{first_of, refusal_in}
+use Rattle.lists.proofs.FirstRefusal.{first_behind, none_named, told_named, told_in_front}
 use Rattle.exchange_core.specs.ExchangeState.{without_positions}
 use Rattle.exchange_core.specs.Failures.{ledger_failure, book_failure, unless_memory}
 use Rattle.exchange_core.specs.Kept.{AreJoined}

@@ -3,7 +3,7 @@ use Rattle.std.specs.List.{All}
 use Rattle.order_book.specs.Book.{BookState}
 use Rattle.order_book.specs.Refusals.{unless_memory}
 use Rattle.order_book.proofs.Accepting.{closable}
-use Rattle.refusals.specs.Refusals.{refusal_in}
+use Rattle.lists.specs.Refusals.{refusal_in}
 use Rattle.settlement.specs.declared.position.PaidOut.{PaidOut}
 use Rattle.settlement.specs.declared.position.Position.{Position}
 use Rattle.settlement.specs.Positions.{payouts_of}

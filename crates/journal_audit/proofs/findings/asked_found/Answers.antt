@@ -1,7 +1,7 @@
 use Rattle.std.proofs.Common.{refl}
 use Rattle.serde_json.specs.View.{view}
 use Rattle.reply_text.specs.Tests.{value_by}
-use Rattle.asked_text.specs.Values.{asked_tests}
+use Rattle.journal_audit.specs.AskedValues.{asked_tests}
 use Rattle.journal_check.proofs.Found.{by_read}
 use Rattle.journal_audit.specs.Findings.{plain_found}
 use Rattle.journal_audit.proofs.findings.asked_found.Goals as goal

@@ -3,7 +3,7 @@ use Rattle.std.proofs.lemmas.Result.{err_from_is_err_and}
 use Rattle.std.proofs.lemmas.List.{length-map, length-set}
 use Rattle.sign_tree.specs.Read.{placed_of, sign_of}
 use Rattle.sign_tree.proofs.Sides.{minus_signs, signs_again}
-use Rattle.node_program.specs.Search.{node_end}
+use Rattle.master_program.specs.Search.{node_end}
 use Rattle.pricing_oracle.specs.Searches.{HasShown, asked_within, parts_of, unsigned_in}
 use Rattle.pricing_oracle.proofs.Answered.{is_asked}
 use Rattle.pricing_oracle.proofs.BothSides.{both_close, leaf_closes, minus_ends, node_stops, plus_ends, says_as, signed_less, split_on, splits_unsigned, state_found}

@@ -4,7 +4,7 @@ use Rattle.master_program.specs.Master.{map_steps}
 use Rattle.sign_tree.specs.Left.{leg_as}
 use Rattle.sign_tree.specs.Legs.{FractionLeg}
 use Rattle.sign_tree.specs.Read.{sign_of}
-use Rattle.node_program.specs.Steps.{cover_cost_steps}
+use Rattle.master_program.specs.NodeSteps.{cover_cost_steps}
 use Rattle.pricing_oracle.specs.Built.{list_then}
 use Rattle.pricing_oracle.specs.Nodes.{covering_of, legs_asked, role_leg_as, roles_left}
 use Rattle.pricing_oracle.proofs.Added.{adds, none_left, stops_first}

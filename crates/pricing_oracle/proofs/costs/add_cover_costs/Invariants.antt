@@ -3,7 +3,7 @@ use Rattle.std.proofs.Common.{◌≡◌, ◌+◌, ◌≤◌, length, map, unsign
 use Rattle.master_program.specs.Master.{map_steps}
 use Rattle.sign_tree.specs.Left.{IsAtLeg}
 use Rattle.sign_tree.specs.Read.{sign_of}
-use Rattle.node_program.specs.Steps.{cover_cost_steps}
+use Rattle.master_program.specs.NodeSteps.{cover_cost_steps}
 use Rattle.pricing_oracle.specs.Built.{list_then}
 use Rattle.pricing_oracle.specs.Nodes.{covering_of, in_roles, legs_asked, roles_left}
 use Rattle.pricing_oracle.proofs.costs.add_cover_costs.Given as goal

@@ -1,12 +1,12 @@
 use Rattle.std.proofs.Common.{ℕ, ◌≡◌, ◌<◌, ◌≤◌, ◌∙◌, suc, arith, sym, get_or, length, map, unsigned_abs}
 use Rattle.std.proofs.lemmas.Result.{err_from_is_err_and}
 use Rattle.sign_tree.specs.Read.{sign_of}
-use Rattle.node_program.specs.Roles.{values}
-use Rattle.node_program.specs.Steps.{state_cost_steps}
+use Rattle.master_program.specs.Roles.{values}
+use Rattle.master_program.specs.NodeSteps.{state_cost_steps}
 use Rattle.pricing_oracle.specs.Nodes.{legs_asked}
 use Rattle.pricing_oracle.proofs.Added.{goes_on, stops, ends}
 use Rattle.pricing_oracle.proofs.ByRole.{value_at}
-use Rattle.node_program.proofs.Shape.{length-values}
+use Rattle.master_program.proofs.NodeShape.{length-values}
 use Rattle.pricing_oracle.proofs.costs.add_state_costs.Goals as goal
 
 pub returns-in_err-state_cost-clause-added : goal.returns-in_err-state_cost-clause-added

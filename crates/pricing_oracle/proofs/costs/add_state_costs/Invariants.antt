@@ -2,8 +2,8 @@ use Rattle.std.specs.Prelude.{vec_capacity, vec_len}
 use Rattle.std.proofs.Common.{◌≡◌, ◌+◌, ◌≤◌, suc, drop, map, unsigned_abs}
 use Rattle.master_program.specs.Master.{map_steps}
 use Rattle.sign_tree.specs.Read.{sign_of}
-use Rattle.node_program.specs.Roles.{values}
-use Rattle.node_program.specs.Steps.{state_cost_steps}
+use Rattle.master_program.specs.Roles.{values}
+use Rattle.master_program.specs.NodeSteps.{state_cost_steps}
 use Rattle.pricing_oracle.specs.Built.{list_then}
 use Rattle.pricing_oracle.specs.Nodes.{legs_asked}
 use Rattle.pricing_oracle.proofs.costs.add_state_costs.Given as goal

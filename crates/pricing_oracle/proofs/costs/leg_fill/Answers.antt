@@ -1,7 +1,7 @@
 use Rattle.std.proofs.Common.{sym, unsigned_abs}
 use Rattle.exact_num.proofs.Units.{limit_at_least_one}
 use Rattle.sign_tree.specs.Left.{leg_as}
-use Rattle.node_program.proofs.OneLeg.{one_count_fills}
+use Rattle.master_program.proofs.OneLeg.{one_count_fills}
 use Rattle.pricing_oracle.proofs.costs.leg_fill.Goals as goal
 
 pub returns-then-leg-eq1 : goal.returns-then-leg-eq1

@@ -3,7 +3,7 @@ use Rattle.arithmetic.proofs.Lists.{pair_of, pairs_end}
 use Rattle.exact_num.proofs.Loops.{goes_on, stops, ends}
 use Rattle.frac.specs.Range.{limit}
 use Rattle.form.specs.States.{vector_of}
-use Rattle.node_program.specs.Search.{add_filled}
+use Rattle.master_program.specs.Search.{add_filled}
 use Rattle.pricing_oracle.proofs.excess.net.Goals as goal
 
 pub returns-in_err-total : goal.returns-in_err-total

@@ -2,7 +2,7 @@ use Rattle.std.proofs.Common.{◌≡◌, drop, map, zip, unsigned_abs}
 use Rattle.exact_num.specs.Steps.{fold_steps}
 use Rattle.frac.specs.Range.{limit}
 use Rattle.form.specs.States.{vector_of}
-use Rattle.node_program.specs.Search.{add_filled}
+use Rattle.master_program.specs.Search.{add_filled}
 use Rattle.table_run.specs.Places.{fraction_zero}
 use Rattle.pricing_oracle.proofs.excess.net.Given as goal
 

@@ -7,8 +7,8 @@ use Rattle.exact_num.specs.Fraction.{whole}
 use Rattle.compact_table.specs.Programs.{empty_program, with_row}
 use Rattle.sign_tree.specs.Read.{sign_of}
 use Rattle.simplex.specs.Spaces.{Contents, Workspace, IsProgramGiven, given, program_given}
-use Rattle.node_program.specs.Node.{covers_of, minus_units, signed_of, size_row}
-use Rattle.node_program.specs.Steps.{counted_node, cover_rows_steps}
+use Rattle.master_program.specs.Node.{covers_of, minus_units, signed_of, size_row}
+use Rattle.master_program.specs.NodeSteps.{counted_node, cover_rows_steps}
 use Rattle.table_run.specs.Places.{fraction_zero}
 use Rattle.pricing_oracle.specs.Nodes.{legs_asked}
 use Rattle.pricing_oracle.specs.Programs.{IsOpen, costs_steps}

@@ -5,7 +5,7 @@ use Rattle.compact_table.specs.Programs.{with_row}
 use Rattle.form.specs.Payoff.{option_of}
 use Rattle.sign_tree.specs.Read.{sign_of}
 use Rattle.simplex.specs.Spaces.{Workspace, given, program_given}
-use Rattle.node_program.specs.Node.{signed_of}
+use Rattle.master_program.specs.Node.{signed_of}
 use Rattle.table_run.specs.Places.{fraction_zero}
 use Rattle.pricing_oracle.specs.Nodes.{legs_asked, role_as, role_leg_as, roles_left}
 use Rattle.pricing_oracle.specs.Programs.{IsOpen, given_with}

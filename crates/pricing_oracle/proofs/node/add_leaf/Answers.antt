@@ -3,7 +3,7 @@ use Rattle.std.proofs.lemmas.List.{map-append}
 use Rattle.clearing_model.specs.Written.{LeafNode}
 use Rattle.sign_tree.specs.Read.{node_of, sign_of}
 use Rattle.simplex.specs.Spaces.{y_of}
-use Rattle.node_program.specs.Search.{leaf_of}
+use Rattle.master_program.specs.Search.{leaf_of}
 use Rattle.pricing_oracle.specs.Searches.{node_of_asked}
 use Rattle.pricing_oracle.proofs.NodeEnds.{added_count}
 use Rattle.pricing_oracle.proofs.node.add_leaf.Goals as goal

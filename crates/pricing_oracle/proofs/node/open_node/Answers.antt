@@ -6,7 +6,7 @@ use Rattle.std.proofs.lemmas.List.{length-map}
 use Rattle.exact_num.specs.Tests.{is_above_zero}
 use Rattle.sign_tree.specs.Read.{sign_of}
 use Rattle.simplex.specs.Spaces.{program_given, reduced_of, value_of, x_of, y_of}
-use Rattle.node_program.specs.Search.{legs_in, node_at, leaf_of, on_optimum, program_at}
+use Rattle.master_program.specs.Search.{legs_in, node_at, leaf_of, on_optimum, program_at}
 use Rattle.table_run.specs.Ending.{no_unit_left}
 use Rattle.table_run.specs.Optimum.{IsAsSaid, IsOptimum}
 use Rattle.table_run.specs.Run.{run}

@@ -3,9 +3,9 @@ use Rattle.std.specs.Prelude.{vec_capacity, vec_len}
 use Rattle.sign_tree.specs.Left.{IsAtLeg}
 use Rattle.sign_tree.specs.Read.{placed_of, sign_of}
 use Rattle.simplex.specs.Spaces.{y_of}
-use Rattle.node_program.specs.Roles.{placed_from}
-use Rattle.node_program.specs.Search.{leaf_of}
-use Rattle.node_program.specs.Steps.{counted_node}
+use Rattle.master_program.specs.Roles.{placed_from}
+use Rattle.master_program.specs.Search.{leaf_of}
+use Rattle.master_program.specs.NodeSteps.{counted_node}
 use Rattle.pricing_oracle.specs.Nodes.{legs_asked, roles_left}
 use Rattle.pricing_oracle.proofs.MultiplierRows.{AreRowsLeft, multipliers_from}
 use Rattle.pricing_oracle.proofs.reading.add_multipliers.Given as goal

@@ -2,10 +2,10 @@ use Rattle.std.proofs.Common.{ℕ, ℤ, ◌≡◌, ◌<◌, ◌≤◌, ◌∙◌
 use Rattle.std.proofs.lemmas.Result.{err_from_is_err_and}
 use Rattle.exact_num.specs.Fits.{whole_of}
 use Rattle.form.specs.Payoff.{option_of}
-use Rattle.node_program.specs.Roles.{entries}
+use Rattle.master_program.specs.Roles.{entries}
 use Rattle.pricing_oracle.proofs.Added.{goes_on, stops, ends}
 use Rattle.pricing_oracle.proofs.ByRole.{value_at}
-use Rattle.node_program.proofs.Shape.{length-values}
+use Rattle.master_program.proofs.NodeShape.{length-values}
 use Rattle.pricing_oracle.proofs.rows.add_entries.Goals as goal
 
 pub returns-in_err-entry_of-clause-added : goal.returns-in_err-entry_of-clause-added

@@ -1,11 +1,11 @@
 use Rattle.std.proofs.Common.{ℕ, ℤ, ◌≡◌, ◌<◌, ◌≤◌, ◌∙◌, suc, arith, sym, get_or, length, map, pos, unsigned_abs}
 use Rattle.std.proofs.lemmas.Result.{err_from_is_err_and}
-use Rattle.node_program.specs.Steps.{negated_of}
+use Rattle.master_program.specs.NodeSteps.{negated_of}
 use Rattle.form.specs.Payoff.{option_of}
-use Rattle.node_program.specs.Roles.{entries}
+use Rattle.master_program.specs.Roles.{entries}
 use Rattle.pricing_oracle.proofs.Added.{goes_on, stops, ends}
 use Rattle.pricing_oracle.proofs.ByRole.{value_at}
-use Rattle.node_program.proofs.Shape.{length-values}
+use Rattle.master_program.proofs.NodeShape.{length-values}
 use Rattle.pricing_oracle.proofs.rows.add_negated.Goals as goal
 
 pub returns-in_err-negated_of-clause-added : goal.returns-in_err-negated_of-clause-added

@@ -1,9 +1,9 @@
 use Rattle.std.specs.Prelude.{vec_capacity, vec_len}
 use Rattle.std.proofs.Common.{◌≡◌, ◌+◌, ◌≤◌, drop, map, unsigned_abs}
-use Rattle.node_program.specs.Steps.{negated_of}
+use Rattle.master_program.specs.NodeSteps.{negated_of}
 use Rattle.form.specs.Payoff.{option_of}
 use Rattle.master_program.specs.Master.{map_steps}
-use Rattle.node_program.specs.Roles.{entries}
+use Rattle.master_program.specs.Roles.{entries}
 use Rattle.pricing_oracle.specs.Built.{list_then}
 use Rattle.pricing_oracle.proofs.rows.add_negated.Given as goal
 

@@ -3,7 +3,7 @@ use Rattle.exact_num.specs.Fits.{whole_of}
 use Rattle.exact_num.specs.Fraction.{negated, whole}
 use Rattle.form.specs.Payoff.{option_of}
 use Rattle.master_program.specs.Master.{map_steps}
-use Rattle.node_program.specs.Roles.{entries}
+use Rattle.master_program.specs.Roles.{entries}
 use Rattle.pricing_oracle.specs.Built.{list_then}
 use Rattle.pricing_oracle.specs.Programs.{unit_at}
 use Rattle.pricing_oracle.proofs.Added.{row_written}

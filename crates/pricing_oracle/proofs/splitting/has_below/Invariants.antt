@@ -1,6 +1,6 @@
 use Rattle.std.proofs.Common.{◌≡◌, drop}
 use Rattle.form.specs.Payoff.{option_of}
-use Rattle.node_program.specs.Roles.{entries, has_below}
+use Rattle.master_program.specs.Roles.{entries, has_below}
 use Rattle.pricing_oracle.proofs.splitting.has_below.Given as goal
 
 -- none of the entries before

@@ -1,6 +1,6 @@
 use Rattle.std.proofs.Common.{◌∙◌, sym, ap, arith, map, length}
 use Rattle.sign_tree.specs.Read.{sign_of}
-use Rattle.node_program.specs.Roles.{split_place, split_from}
+use Rattle.master_program.specs.Roles.{split_place, split_from}
 use Rattle.pricing_oracle.specs.Nodes.{legs_asked, node_leg, role_leg_as, roles_left}
 use Rattle.pricing_oracle.proofs.ByRole.{few_roles, node_is}
 use Rattle.pricing_oracle.proofs.SplitPlaces.{splits_here}

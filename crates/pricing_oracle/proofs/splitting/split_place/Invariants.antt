@@ -1,7 +1,7 @@
 use Rattle.std.proofs.Common.{◌≡◌, ◌+◌, ◌≤◌, length, map}
 use Rattle.sign_tree.specs.Left.{IsAtLeg}
 use Rattle.sign_tree.specs.Read.{sign_of}
-use Rattle.node_program.specs.Roles.{split_from}
+use Rattle.master_program.specs.Roles.{split_from}
 use Rattle.pricing_oracle.specs.Nodes.{in_roles, legs_asked, node_leg, roles_left}
 use Rattle.pricing_oracle.proofs.splitting.split_place.Given as goal
 

@@ -1,5 +1,5 @@
 use Rattle.std.proofs.Common.{rules}
-use Rattle.reply_shape.specs.Look.{is_whole}
+use Rattle.reply_print.specs.Look.{is_whole}
 use Rattle.proposal_text.proofs.submission_text.are_wholes.Goals as goal
 
 pub returns : goal.returns

@@ -1,5 +1,5 @@
 use Rattle.std.proofs.Common.{rules}
-use Rattle.reply_shape.specs.ClearedShape.{certificate_shape}
+use Rattle.reply_print.specs.ClearedShape.{certificate_shape}
 use Rattle.proposal_text.proofs.submission_text.has_certificate.Goals as goal
 
 pub returns : goal.returns

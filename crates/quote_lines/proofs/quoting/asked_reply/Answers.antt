@@ -1,5 +1,5 @@
 use Rattle.std.proofs.Common.{sym, ap, ◌∙◌}
-use Rattle.refusals.specs.Refusals.{first_of}
+use Rattle.lists.specs.Refusals.{first_of}
 use Rattle.quote_lines.specs.declared.replies.QuotesReply.TheVariants.{Plain}
 use Rattle.quote_lines.specs.Refusals.{info_refusals}
 use Rattle.quote_lines.proofs.MayQuote.{reply_refused}

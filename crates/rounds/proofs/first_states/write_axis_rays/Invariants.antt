@@ -3,7 +3,7 @@ use Rattle.std.proofs.Common.{◌≡◌, ◌≤◌, ◌+◌, ◌++◌, map, drop
 use Rattle.std.specs.List.{All}
 use Rattle.form.specs.declared.states.State.{State}
 use Rattle.form.specs.States.{vector_of}
-use Rattle.node_program.specs.Rounds.{axis_rays}
+use Rattle.master_program.specs.Rounds.{axis_rays}
 use Rattle.rounds.proofs.first_states.write_axis_rays.Given as goal
 
 -- the rays that are left, behind those that were added, are all

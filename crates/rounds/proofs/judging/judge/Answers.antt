@@ -1,6 +1,6 @@
 use Rattle.std.proofs.Common.{map, sym, ◌∙◌}
 use Rattle.frac.specs.Value.{fraction_of}
-use Rattle.measure.specs.Points.{point_of}
+use Rattle.cert_check.specs.Points.{point_of}
 use Rattle.master_program.specs.Reading.{reading_with}
 use Rattle.master_program.specs.Verdict.{sums_on}
 use Rattle.rounds.proofs.Certified.{not_passed, passed}

@@ -2,7 +2,7 @@ use Rattle.std.proofs.Common.{◌≡◌, ◌+◌, ◌≤◌, ◌<◌, ◌++◌, 
 use Rattle.std.proofs.lemmas.List.{length-map, length-drop, append-nil}
 use Rattle.clearing_model.specs.Certificate.{Point}
 use Rattle.form.specs.States.{vector_of}
-use Rattle.measure.specs.Points.{point_of}
+use Rattle.cert_check.specs.Points.{point_of}
 use Rattle.simplex.specs.Spaces.{y_of}
 use Rattle.master_program.specs.Reading.{points_with_weight}
 use Rattle.arithmetic.proofs.Lists.{pair_first, pairs_end, item_of}

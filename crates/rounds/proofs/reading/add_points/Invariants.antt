@@ -1,7 +1,7 @@
 use Rattle.std.specs.Prelude.{vec_capacity, vec_len}
 use Rattle.std.proofs.Common.{◌≡◌, ◌+◌, ◌≤◌, ◌++◌, drop, map, zip}
 use Rattle.form.specs.States.{vector_of}
-use Rattle.measure.specs.Points.{point_of}
+use Rattle.cert_check.specs.Points.{point_of}
 use Rattle.simplex.specs.Spaces.{y_of}
 use Rattle.master_program.specs.Reading.{points_with_weight}
 use Rattle.rounds.proofs.reading.add_points.Given as goal

@@ -2,7 +2,7 @@ use Rattle.std.proofs.Common.{Ok, [], ◌∷◌, ◌++◌, List, drop, length, m
 use Rattle.std.proofs.lemmas.Result.{err_from_is_err_and}
 use Rattle.clearing_model.specs.Certificate.{Point}
 use Rattle.form.specs.States.{vector_of}
-use Rattle.measure.specs.Points.{point_of}
+use Rattle.cert_check.specs.Points.{point_of}
 use Rattle.simplex.specs.Spaces.{x_of, y_of, reduced_of, value_of}
 use Rattle.master_program.specs.Reading.{liability_of, points_with_weight, reading_with}
 use Rattle.rounds.proofs.ReadOff.{points_with_weight_more, read_is, read_stops}

@@ -2,7 +2,7 @@ use Rattle.std.proofs.Common.{◌∙◌, ap, length, sym, unsigned_abs, subst}
 use Rattle.std.proofs.lemmas.Result.{err_from_is_err_and}
 use Rattle.table_run.specs.Ending.{done}
 use Rattle.master_program.specs.Reading.{Reading}
-use Rattle.node_program.specs.Rounds.{rounds}
+use Rattle.master_program.specs.Rounds.{rounds}
 use Rattle.pricing_oracle.specs.Answers.{IsTreeAs}
 use Rattle.search_laws.proofs.Rounds.{rounds_are_greatest}
 use Rattle.cert_check.specs.Conditions.{IsCoverOn}

@@ -4,7 +4,7 @@ use Rattle.exact_num.proofs.Units.{limit_at_least_one}
 use Rattle.table_run.specs.Ending.{done, unbounded}
 use Rattle.table_run.specs.Run.{run}
 use Rattle.table_run.specs.Units.{units_of}
-use Rattle.compact_run.specs.Run.{compact_direction}
+use Rattle.equal_runs.specs.CompactRunning.{compact_direction}
 use Rattle.compact_table.specs.Tables.{as_compact, program_in}
 use Rattle.simplex.specs.Ends.{ending_of}
 use Rattle.simplex.specs.Spaces.{answer_of, contents_after, optimum_in}

@@ -2,7 +2,7 @@ use Rattle.std.proofs.Common.{◌-◌, sym, subst, unsigned_abs}
 use Rattle.std.specs.Prelude.{Option, Result}
 use Rattle.table_run.specs.Program.{LinearProgram}
 use Rattle.table_run.specs.Run.{run}
-use Rattle.sparse_program.specs.Rows.{program_in}
+use Rattle.compact_table.specs.SparseRows.{program_in}
 use Rattle.simplex.specs.declared.budget.Budget.{Budget}
 use Rattle.simplex.specs.declared.stage.Stage.{Stage}
 use Rattle.simplex.specs.declared.stop.RunStop.{RunStop}

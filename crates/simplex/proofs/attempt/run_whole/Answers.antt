@@ -1,5 +1,5 @@
 use Rattle.std.proofs.Common.{◌≡◌, ◌-◌, arith, rules, unsigned_abs}
-use Rattle.sparse_program.specs.Rows.{program_in}
+use Rattle.compact_table.specs.SparseRows.{program_in}
 use Rattle.whole_solver.specs.Within.{IsUsable}
 use Rattle.simplex.proofs.WholeSteps.{started_at, whole_optimum, whole_ray, whole_no_unit}
 use Rattle.simplex.proofs.attempt.run_whole.Goals as goal

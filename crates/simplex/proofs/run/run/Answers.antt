@@ -1,9 +1,9 @@
 use Rattle.std.proofs.Common.{◌≡◌, ◌-◌, ℕ, ◌∙◌, sym, ap, arith, unsigned_abs}
 use Rattle.std.specs.Prelude.{Ok, Bool}
-use Rattle.compact_run.specs.Compact.{CompactTable}
+use Rattle.equal_runs.specs.Compact.{CompactTable}
 use Rattle.table_run.specs.Ending.{no_unit_left, unbounded, wide_at}
-use Rattle.compact_run.specs.Run.{compact_run_from, compact_direction}
-use Rattle.compact_run.specs.Turn.{compact_turn, moved_on, without_limit}
+use Rattle.equal_runs.specs.CompactRunning.{compact_run_from, compact_direction}
+use Rattle.equal_runs.specs.CompactTurning.{compact_turn, moved_on, without_limit}
 use Rattle.compact_table.specs.Tables.{as_compact, turn_answer}
 use Rattle.simplex.proofs.RunSteps.{run_ends, run_is_out, run_moves, run_is_unbounded, run_misfits, spent_one, spent_none}
 use Rattle.simplex.proofs.run.run.Goals as goal

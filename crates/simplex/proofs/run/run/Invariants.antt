@@ -1,5 +1,5 @@
 use Rattle.std.proofs.Common.{◌≡◌, ◌-◌, ℕ, unsigned_abs}
-use Rattle.compact_run.specs.Run.{compact_run_from}
+use Rattle.equal_runs.specs.CompactRunning.{compact_run_from}
 use Rattle.compact_table.specs.Tables.{as_compact, SameShape}
 use Rattle.simplex.proofs.run.run.Given as goal
 

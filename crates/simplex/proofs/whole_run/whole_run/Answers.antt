@@ -2,7 +2,7 @@ use Rattle.std.proofs.Common.{◌≡◌, ◌+◌, ◌-◌, ◌<◌, ℕ, ◌∙�
 use Rattle.std.specs.Prelude.{Option, Some}
 use Rattle.std.specs.Option.{option_map}
 use Rattle.table_run.specs.Ending.{no_unit_left, unbounded}
-use Rattle.whole_rows.specs.Compact.{CompactTable, compact_direction, compact_run_from}
+use Rattle.equal_runs.specs.Labelled.{LabelledTable, labelled_direction, labelled_run_from}
 use Rattle.whole_solver.specs.declared.turn.Turn.{Turn}
 use Rattle.whole_solver.specs.declared.columns.Entering.{Entering}
 use Rattle.whole_solver.specs.Choices.{as_column}
@@ -29,12 +29,12 @@ returns-in-Unlimited-clause-run c n m =
     let enters = sym c.entering.ensures.column ∙ ap (λ (e : Option Entering). option_map as_column e) c.in-Some.is in
     let column = c.in-Some.column in
     let told = subst (λ (r : Turn). IsTurn c.args.bound c.args.limit column.place r c.loop-column.table c.turn.new.self) c.in-Unlimited.is c.turn.ensures.turn in
-    let run0 = compact_run_from c.args.limit n m (c.args.budget.now.limit - c.args.budget.now.spent) c.args.budget.now.spent (as_whole c.args.table.now) in
+    let run0 = labelled_run_from c.args.limit n m (c.args.budget.now.limit - c.args.budget.now.spent) c.args.budget.now.spent (as_whole c.args.table.now) in
     let ends = sym (c.loop-column.invariant.rest n m)
     ∙ whole_unlimited c.args.limit n m (c.loop-column.budget.limit - c.loop-column.budget.spent) _ _ _ enters told.0 (omega (arith, s.0))
-    ∙ ap (λ (k : ℕ). Some (unbounded (compact_direction n (as_column column) (as_whole c.loop-column.table)) k)) (sym s.1) in
+    ∙ ap (λ (k : ℕ). Some (unbounded (labelled_direction n (as_column column) (as_whole c.loop-column.table)) k)) (sym s.1) in
     let inside : column.place < length c.loop-column.table.names.items = search rules in (
-      subst (λ (t : CompactTable). run0 ≡ Some (unbounded (compact_direction n (as_column column) t) c.spend.new.self.spent)) (sym told.1) ends,
+      subst (λ (t : LabelledTable). run0 ≡ Some (unbounded (labelled_direction n (as_column column) t) c.spend.new.self.spent)) (sym told.1) ends,
       told.2,
       omega (arith, inside, c.turn.ensures.shape.columns),
     )
@@ -58,8 +58,8 @@ loop-column-preserved c =
       };
       within = told.2;
       rest = λ n m.
-          ap (λ (k : ℕ). compact_run_from c.args.limit n m k c.spend.new.self.spent (as_whole next)) left
-          ∙ ap (λ (k : ℕ). compact_run_from c.args.limit n m (c.loop-column.budget.limit - c.loop-column.budget.spent - 1) k (as_whole next)) s.1
+          ap (λ (k : ℕ). labelled_run_from c.args.limit n m k c.spend.new.self.spent (as_whole next)) left
+          ∙ ap (λ (k : ℕ). labelled_run_from c.args.limit n m (c.loop-column.budget.limit - c.loop-column.budget.spent - 1) k (as_whole next)) s.1
           ∙ sym (whole_moves c.args.limit n m (c.loop-column.budget.limit - c.loop-column.budget.spent) _ _ _ _ enters told.0 told.1 fits (omega (arith, s.0)))
           ∙ c.loop-column.invariant.rest n m;
     }

@@ -2,7 +2,7 @@ use Rattle.std.proofs.Common.{◌≡◌, ◌<◌, ◌+◌, ◌-◌, ◌∙◌, s
 use mir.Syntax.{w128}
 use Rattle.std.specs.Prelude.{Option}
 use Rattle.std.proofs.lemmas.Int.{to_z-of_z}
-use Rattle.whole_rows.specs.Compact.{Column, least_column}
+use Rattle.equal_runs.specs.Labelled.{Column, least_column}
 use Rattle.whole_solver.specs.Rows.{with_column}
 use Rattle.whole_solver.proofs.Choosing.{column, column_more, no_column, inside_of}
 use Rattle.whole_solver.proofs.columns.least_column.Goals as goal

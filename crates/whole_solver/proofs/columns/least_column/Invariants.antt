@@ -1,6 +1,6 @@
 use Rattle.std.proofs.Common.{◌≡◌, drop}
 use Rattle.std.specs.Option.{option_map}
-use Rattle.whole_rows.specs.Compact.{least_column}
+use Rattle.equal_runs.specs.Labelled.{least_column}
 use Rattle.whole_solver.specs.Choices.{as_column}
 use Rattle.whole_solver.proofs.columns.least_column.Given as goal
 

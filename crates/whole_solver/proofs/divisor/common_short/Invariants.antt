@@ -1,5 +1,5 @@
 use Rattle.std.proofs.Common.{◌≡◌, ◌<◌, ◌≤◌, drop}
-use Rattle.whole_rows.specs.Turning.{common_of}
+use Rattle.equal_runs.specs.WholeTurning.{common_of}
 use Rattle.whole_solver.proofs.divisor.common_short.Given as goal
 
 -- what the rest has in common with what was found is what all have

@@ -1,6 +1,6 @@
 use Rattle.std.proofs.Common.{◌+◌, ◌∙◌, ap, arith, length, map, pos, int_div, take, ◌≤◌, ◌<◌, ◌≡◌, ℤ, List}
 use Rattle.std.proofs.lemmas.List.{length-map, length-set, get_or-set_other}
-use Rattle.whole_rows.specs.Lines.{number_at}
+use Rattle.equal_runs.specs.Lines.{number_at}
 use Rattle.whole_solver.proofs.Numbers.{written_more, written_all, at_map}
 use Rattle.whole_solver.proofs.divisor.divide_numbers.Goals as goal
 

@@ -1,5 +1,5 @@
 use Rattle.std.proofs.Common.{◌≡◌, ◌<◌, ◌+◌, ◌-◌, subst, arith, length, drop, map, ℕ}
-use Rattle.whole_rows.specs.Lines.{least_multiple}
+use Rattle.equal_runs.specs.Lines.{least_multiple}
 use Rattle.whole_solver.specs.Within.{HasMultiple}
 use Rattle.whole_solver.proofs.Taken.{no_multiple, has_more}
 use Rattle.whole_solver.proofs.fraction.least_multiple.Goals as goal

@@ -2,8 +2,8 @@ use Rattle.std.proofs.Common.{◌*◌, ◌/◌, ◌∙◌, ap, subst, sym, ◌<�
 use Rattle.std.proofs.Math.Nat.{mul-pos}
 use Rattle.arithmetic.specs.Gcd.{gcd}
 use Rattle.arithmetic.proofs.GcdLaws.{gcd_pos_right, gcd_dvd_right, pos_of_quotient}
-use Rattle.whole_rows.specs.Lines.{multiple}
-use Rattle.whole_rows.proofs.CompactFirst.{multiple_one}
+use Rattle.equal_runs.specs.Lines.{multiple}
+use Rattle.equal_runs.proofs.LabelledFirst.{multiple_one}
 use Rattle.whole_solver.proofs.Cleared.{shared_above}
 use Rattle.whole_solver.proofs.fraction.multiple.Goals as goal
 

@@ -4,7 +4,7 @@ use Rattle.std.proofs.lemmas.List.{length-set, length-map}
 use borrow.Rule.Slice.PartMut.{put_mid}
 use Rattle.exact_num.specs.CommonDenominator.{amount_over, signed_amounts_over}
 use Rattle.compact_table.proofs.ArenaSteps.{at_set_same}
-use Rattle.whole_rows.specs.Lines.{IsLine, line_of}
+use Rattle.equal_runs.specs.Lines.{IsLine, line_of}
 use Rattle.whole_solver.proofs.Turned.{front_of_mid, taken_front}
 use Rattle.whole_solver.proofs.fraction.take_line.Goals as goal
 

@@ -1,6 +1,6 @@
 use Rattle.std.proofs.Common.{◌≡◌, ◌<◌, ◌≤◌, ℕ, length, map, take, unsigned_abs}
 use Rattle.exact_num.specs.CommonDenominator.{signed_amounts_over}
-use Rattle.whole_rows.specs.Lines.{number_at}
+use Rattle.equal_runs.specs.Lines.{number_at}
 use Rattle.whole_solver.proofs.fraction.write_amounts.Given as goal
 
 -- the numbers before j are written, and within the bound

@@ -2,8 +2,8 @@ use Rattle.std.proofs.Common.{rules, ◌≡◌, ◌≤◌, ◌≤ℤ◌, ◌*◌
 use Rattle.std.proofs.lemmas.Int.{to_z-of_z}
 use Rattle.std.proofs.lemmas.List.{map-id}
 use Rattle.std.proofs.Math.Nat.{mul-pos, mul-le-mul}
-use Rattle.whole_rows.specs.Lines.{Line, line_of, line_fits, widest}
-use Rattle.whole_rows.specs.Turning.{cross_difference, cut_where_wide}
+use Rattle.equal_runs.specs.Lines.{Line, line_of, line_fits, widest}
+use Rattle.equal_runs.specs.WholeTurning.{cross_difference, cut_where_wide}
 use Rattle.whole_solver.specs.Within.{kept, written_line}
 use Rattle.whole_solver.proofs.Words.{mixed_words, short_room}
 use Rattle.whole_solver.proofs.line.mix_in_room.Goals as goal

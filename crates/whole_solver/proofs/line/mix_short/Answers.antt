@@ -2,9 +2,9 @@ use Rattle.std.proofs.Common.{◌≡◌, ◌*◌, ◌∙◌, ap, true, refl, sym
 use Rattle.std.proofs.lemmas.Bool.{le-leb}
 use Rattle.std.proofs.lemmas.Int.{to_z-of_z}
 use Rattle.std.proofs.lemmas.List.{map-id}
-use Rattle.whole_rows.specs.Lines.{AreSizes, line_of, numbers_fit, widest}
-use Rattle.whole_rows.specs.Turning.{cross_difference}
-use Rattle.whole_rows.proofs.LineSteps.{fit_of_sizes}
+use Rattle.equal_runs.specs.Lines.{AreSizes, line_of, numbers_fit, widest}
+use Rattle.equal_runs.specs.WholeTurning.{cross_difference}
+use Rattle.equal_runs.proofs.LineSteps.{fit_of_sizes}
 use Rattle.whole_solver.proofs.Cut.{fits_kept}
 use Rattle.whole_solver.proofs.Words.{mixed_room, mixed_words, room_within}
 use Rattle.whole_solver.proofs.line.mix_short.Goals as goal

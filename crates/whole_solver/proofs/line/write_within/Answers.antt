@@ -4,7 +4,7 @@ use Rattle.std.proofs.lemmas.Int.{to_z-of_z}
 use Rattle.std.proofs.lemmas.List.{length-set, take_all}
 use Rattle.std.specs.Prelude.{Some, None}
 use Rattle.exact_num.specs.Fits.{size_fits}
-use Rattle.whole_rows.specs.Lines.{numbers_fit}
+use Rattle.equal_runs.specs.Lines.{numbers_fit}
 use Rattle.whole_solver.specs.Within.{kept}
 use Rattle.whole_solver.proofs.Numbers.{written_more, written_all, kept_some, kept_none, fits_more, fits_stop, kept_fits, fits_empty}
 use Rattle.whole_solver.proofs.line.write_within.Goals as goal

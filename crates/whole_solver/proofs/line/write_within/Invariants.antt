@@ -1,5 +1,5 @@
 use Rattle.std.proofs.Common.{◌≡◌, take, length, true}
-use Rattle.whole_rows.specs.Lines.{numbers_fit}
+use Rattle.equal_runs.specs.Lines.{numbers_fit}
 use Rattle.whole_solver.proofs.line.write_within.Given as goal
 
 -- the first i numbers are written, and fit

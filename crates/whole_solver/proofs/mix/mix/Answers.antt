@@ -1,6 +1,6 @@
 use Rattle.std.proofs.Common.{◌∙◌, ℤ, List, ap, arith, length, map, sym, subst, unsigned_abs}
 use Rattle.std.proofs.lemmas.List.{length-map}
-use Rattle.whole_rows.specs.Turning.{cross_difference}
+use Rattle.equal_runs.specs.WholeTurning.{cross_difference}
 use Rattle.whole_solver.specs.Within.{HasRoom}
 use Rattle.whole_solver.proofs.Numbers.{mixed_after}
 use Rattle.whole_solver.proofs.Words.{scaled_room}

@@ -1,5 +1,5 @@
 use Rattle.std.proofs.Common.{◌≡◌, ◌≤◌, ◌*ℤ◌, ℕ, take, length, map}
-use Rattle.whole_rows.specs.Lines.{number_at}
+use Rattle.equal_runs.specs.Lines.{number_at}
 use Rattle.whole_solver.proofs.mix.multiply.Given as goal
 
 -- the first i numbers are multiplied, and the rest are as they were

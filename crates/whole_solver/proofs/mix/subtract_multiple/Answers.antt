@@ -2,7 +2,7 @@ use Rattle.std.proofs.Common.{◌<◌, ◌≤◌, ◌+◌, ◌*◌, ◌∙◌, a
 use Rattle.std.proofs.lemmas.List.{length-map, get_or-set_other}
 use Rattle.exact_num.specs.Fraction.{whole}
 use Rattle.compact_table.proofs.Nonzero.{place_inside}
-use Rattle.whole_rows.specs.Lines.{number_at}
+use Rattle.equal_runs.specs.Lines.{number_at}
 use Rattle.whole_solver.specs.Rows.{nonzero_in}
 use Rattle.whole_solver.proofs.Sparse.{less_at, less_is, less_more, less_end, rising}
 use Rattle.whole_solver.proofs.mix.subtract_multiple.Goals as goal

@@ -1,5 +1,5 @@
 use Rattle.std.proofs.Common.{◌≡◌, ◌<◌, ◌≤◌, ℕ, drop, length, map, slice_index_or}
-use Rattle.whole_rows.specs.Lines.{number_at}
+use Rattle.equal_runs.specs.Lines.{number_at}
 use Rattle.whole_solver.proofs.Sparse.{less_at}
 use Rattle.whole_solver.proofs.mix.subtract_multiple.Given as goal
 

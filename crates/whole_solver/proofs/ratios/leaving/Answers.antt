@@ -6,7 +6,7 @@ use Rattle.std.proofs.lemmas.List.{length-map}
 use Rattle.table_run.specs.Choice.{Ratio, least, ratio_of}
 use Rattle.exact_num.specs.Fraction.{over}
 use Rattle.compact_table.specs.Candidates.{best_with, better_of}
-use Rattle.whole_rows.specs.Lines.{Line, no_line, number_at}
+use Rattle.equal_runs.specs.Lines.{Line, no_line, number_at}
 use Rattle.whole_solver.specs.declared.ratios.Candidate.{Candidate}
 use Rattle.whole_solver.specs.Choices.{as_ratio}
 use Rattle.whole_solver.specs.Rows.{beside_basics, line_in, lines_in}

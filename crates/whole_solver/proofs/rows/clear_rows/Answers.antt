@@ -1,8 +1,8 @@
 use Rattle.std.proofs.Common.{◌≡◌, ◌+◌, ◌<◌, [], ◌∙◌, refl, sym, ap, subst, arith, length, length-set, set, slice_index_or, ℕ, List, ℤ}
 use Rattle.lists.proofs.Lists.{refit_is}
 use Rattle.compact_table.proofs.ArenaSteps.{at_set_other}
-use Rattle.whole_rows.specs.Lines.{AreSizes, IsLine}
-use Rattle.whole_rows.specs.Compact.{compact_cleared}
+use Rattle.equal_runs.specs.Lines.{AreSizes, IsLine}
+use Rattle.equal_runs.specs.Labelled.{labelled_cleared}
 use Rattle.whole_solver.specs.Rows.{line_in, row_at, AreLinesIn, AreSizesIn, nonzero_in}
 use Rattle.whole_solver.proofs.Listed.{first_gap, later_gap, next_row, no_row, row_inside, row_is}
 use Rattle.whole_solver.proofs.Turned.{AreCleared, rows_more, rows_all, rows_passed, row_stays, lines_set, sizes_in_set, after_other, after_pivot}
@@ -86,10 +86,10 @@ loop-place-preserved c =
           let ys = w.clear_sized.new.row in
           let full : length ys ≡ c.loop-place.rows.width = omega (arith, w.pair-row.ensures.widths) in
           let is : new ≡ set rows i ys = ap (λ s. s.rows) w.rows-is ∙ ap (set rows i) (refit_is c.loop-place.rows.width x ys full) in
-          let cleared = subst (λ (k : ℕ). line_in k ys ≡ compact_cleared c.args.known.step.c c.args.known.a (line_in k w.pair-row.result.0.now).numbers (line_in k w.pair-row.result.1.now)) inv.places (w.clear_sized.ensures.cleared w.if-not-clear_sized.false) in
+          let cleared = subst (λ (k : ℕ). line_in k ys ≡ labelled_cleared c.args.known.step.c c.args.known.a (line_in k w.pair-row.result.0.now).numbers (line_in k w.pair-row.result.1.now)) inv.places (w.clear_sized.ensures.cleared w.if-not-clear_sized.false) in
           let pivot_is = parts.0 ∙ inv.pivot in
           let row_is = parts.1 ∙ here in
-          let is_line = cleared ∙ (λ k. compact_cleared c.args.known.step.c c.args.known.a (line_in n (pivot_is k)).numbers (line_in n (row_is k))) ∙ sym (after_other c.args.known.step.c c.args.known.a r i P (line_in n (row_at old i)) (λ e. apart (sym e))) in
+          let is_line = cleared ∙ (λ k. labelled_cleared c.args.known.step.c c.args.known.a (line_in n (pivot_is k)).numbers (line_in n (row_is k))) ∙ sym (after_other c.args.known.step.c c.args.known.a r i P (line_in n (row_at old i)) (λ e. apart (sym e))) in
           let within = subst (λ (k : ℕ). IsLine c.args.known.step.bound k (line_in k ys)) inv.places (w.clear_sized.ensures.line w.if-not-clear_sized.false) in
           let kept : AreLinesIn c.args.known.step.bound n new = subst (AreLinesIn c.args.known.step.bound n) (sym is) (lines_set c.args.known.step.bound n rows i ys lines within) in
           let most = w.clear_sized.new.most in

@@ -2,7 +2,7 @@ use Rattle.std.proofs.Common.{◌≡◌, ◌∙◌, ◌+◌, ◌-◌, sym, subst
 use Rattle.std.proofs.lemmas.Int.{to_z-of_z, to_z_pos}
 use Rattle.std.proofs.lemmas.List.{length-take-le, length-drop}
 use borrow.Rule.Slice.PartMut.{put_mid}
-use Rattle.whole_rows.specs.Lines.{Line, IsLine, AreSizes, line_of, number_at}
+use Rattle.equal_runs.specs.Lines.{Line, IsLine, AreSizes, line_of, number_at}
 use Rattle.whole_solver.specs.Rows.{line_in}
 use Rattle.whole_solver.proofs.Turned.{line_of_sizes, cleared_line, front_of_mid, written_front}
 use Rattle.whole_solver.proofs.rows.clear_sized.Goals as goal

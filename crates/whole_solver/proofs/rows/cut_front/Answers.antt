@@ -3,8 +3,8 @@ use Rattle.std.proofs.lemmas.Int.{to_z-of_z, to_z_pos}
 use Rattle.std.proofs.lemmas.List.{length-take-le, length-drop}
 use Rattle.std.proofs.Math.Nat.{div-le_self}
 use borrow.Rule.Slice.PartMut.{put_mid}
-use Rattle.whole_rows.specs.Lines.{line_of, number_at}
-use Rattle.whole_rows.specs.Turning.{common_of, cut, divided_by}
+use Rattle.equal_runs.specs.Lines.{line_of, number_at}
+use Rattle.equal_runs.specs.WholeTurning.{common_of, cut, divided_by}
 use Rattle.whole_solver.specs.Rows.{line_in}
 use Rattle.whole_solver.proofs.Cut.{cut_is, whole_is}
 use Rattle.whole_solver.proofs.Turned.{front_of_mid, taken_front, written_front}

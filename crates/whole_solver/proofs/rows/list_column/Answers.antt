@@ -4,7 +4,7 @@ use Rattle.std.proofs.lemmas.List.{get_or_default, length-map}
 use Rattle.exact_num.specs.Fraction.{whole}
 use Rattle.compact_table.specs.Nonzero.{nonzero_from}
 use Rattle.compact_table.proofs.Nonzero.{all_taken}
-use Rattle.whole_rows.specs.Lines.{number_at}
+use Rattle.equal_runs.specs.Lines.{number_at}
 use Rattle.whole_solver.specs.Rows.{column_in}
 use Rattle.whole_solver.proofs.Sparse.{place_more}
 use Rattle.whole_solver.proofs.Listed.{column_number}

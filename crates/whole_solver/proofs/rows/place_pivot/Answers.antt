@@ -2,8 +2,8 @@ use Rattle.std.proofs.Common.{◌≡◌, ◌∙◌, [], refl, sym, ap, arith, ru
 use Rattle.std.proofs.lemmas.Int.{to_z-of_z}
 use Rattle.lists.proofs.Lists.{refit_is}
 use Rattle.compact_table.proofs.ArenaSteps.{at_set_same}
-use Rattle.whole_rows.specs.Lines.{Line, number_at}
-use Rattle.whole_rows.specs.Turning.{cut}
+use Rattle.equal_runs.specs.Lines.{Line, number_at}
+use Rattle.equal_runs.specs.WholeTurning.{cut}
 use Rattle.whole_solver.specs.Rows.{line_in, row_at, pivot_line}
 use Rattle.whole_solver.proofs.rows.place_pivot.Goals as goal
 

@@ -1,6 +1,6 @@
 use Rattle.std.proofs.Common.{◌+◌, ◌<◌, ◌≤◌, ◌∙◌, ap, sym, subst, arith, length, unsigned_abs}
-use Rattle.whole_rows.specs.Lines.{Line, number_at, widest}
-use Rattle.whole_rows.proofs.LineSteps.{cut_within}
+use Rattle.equal_runs.specs.Lines.{Line, number_at, widest}
+use Rattle.equal_runs.proofs.LineSteps.{cut_within}
 use Rattle.whole_solver.specs.Rows.{line_in, pivot_line}
 use Rattle.whole_solver.proofs.Turned.{pivoted_front}
 use Rattle.whole_solver.proofs.rows.take_pivot.Goals as goal

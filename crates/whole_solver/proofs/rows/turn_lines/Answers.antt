@@ -1,9 +1,9 @@
 use Rattle.std.proofs.Common.{◌≡◌, ◌<◌, ◌≤◌, ◌∙◌, unsigned_abs, sym, ap, subst, arith, length, set, ℕ, List, ℤ}
-use Rattle.whole_rows.specs.Lines.{Line, AreSizes, line_size, number_at, widest}
+use Rattle.equal_runs.specs.Lines.{Line, AreSizes, line_size, number_at, widest}
 use Rattle.std.proofs.lemmas.Bool.{le-leb}
-use Rattle.whole_rows.proofs.LineSteps.{cut_within}
-use Rattle.whole_rows.specs.Compact.{compact_cleared, turned_in}
-use Rattle.whole_rows.specs.Turning.{cut, step_size}
+use Rattle.equal_runs.proofs.LineSteps.{cut_within}
+use Rattle.equal_runs.specs.Labelled.{labelled_cleared, turned_in}
+use Rattle.equal_runs.specs.WholeTurning.{cut, step_size}
 use Rattle.whole_solver.specs.Rows.{column_in, line_in, lines_in, lines_after, row_at, pivot_line, AreLinesIn, AreSizesIn, nonzero_in}
 use Rattle.whole_solver.proofs.Turned.{line_wider, lines_set, listed_still, placed, placed_size, sizes_in_set, steps_less, turned_rows}
 use Rattle.whole_solver.proofs.rows.turn_lines.Goals as goal
@@ -86,7 +86,7 @@ returns-clause-turned c done =
     let numbers = ap (λ (z : List ℤ). (line_in w z).numbers) c.row-pivot.ensures.row ∙ ap (λ (m : Line). m.numbers) is.pivot in
     record {
       rows = subst (λ (q : ℕ). lines_in w new ≡ lines_after k q r (turned_in k l) 0 (set (lines_in w old) r (pivot_line k q l))) is.denominator turned;
-      objective = c.clear_objective.ensures.cleared c.if-not-clear_objective.false ∙ (λ i. compact_cleared k (is.denominator i) (numbers i) (line_in w c.args.objective.now));
+      objective = c.clear_objective.ensures.cleared c.if-not-clear_objective.false ∙ (λ i. labelled_cleared k (is.denominator i) (numbers i) (line_in w c.args.objective.now));
     }
 
 pub returns-clause-fits : goal.returns-clause-fits

@@ -2,7 +2,7 @@ use Rattle.std.proofs.Common.{◌≡◌, ◌<◌, ◌≤◌, ◌∙◌, sym, ap,
 use mir.Syntax.{w128}
 use Rattle.std.proofs.lemmas.Int.{to_z-of_z}
 use Rattle.std.proofs.lemmas.Bool.{le-leb, lt-leb}
-use Rattle.whole_rows.specs.Lines.{widest}
+use Rattle.equal_runs.specs.Lines.{widest}
 use Rattle.whole_solver.proofs.Numbers.{fits_empty, fits_more, fits_stop}
 use Rattle.whole_solver.proofs.wide.are_short.Goals as goal
 

@@ -1,5 +1,5 @@
 use Rattle.std.proofs.Common.{◌≡◌, take, true}
-use Rattle.whole_rows.specs.Lines.{numbers_fit, widest}
+use Rattle.equal_runs.specs.Lines.{numbers_fit, widest}
 use Rattle.whole_solver.proofs.wide.are_short.Given as goal
 
 -- the numbers so far fit

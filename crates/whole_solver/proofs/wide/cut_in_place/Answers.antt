@@ -1,5 +1,5 @@
 use Rattle.std.proofs.Common.{arith}
-use Rattle.whole_rows.specs.Lines.{line_of}
+use Rattle.equal_runs.specs.Lines.{line_of}
 use Rattle.whole_solver.proofs.Cut.{size_stays}
 use Rattle.whole_solver.proofs.Numbers.{size_made}
 use Rattle.whole_solver.proofs.wide.cut_in_place.Goals as goal

@@ -1,5 +1,5 @@
 use Rattle.std.proofs.Common.{◌<◌, ◌≤◌, ◌∙◌, sym, arith}
-use Rattle.whole_rows.specs.Lines.{widest}
+use Rattle.equal_runs.specs.Lines.{widest}
 use Rattle.whole_solver.proofs.Cut.{short_stays, whole_is, wide_below, wide_numbers}
 use Rattle.whole_solver.proofs.wide.cut_where_not_short.Goals.{else-denominator-le-WIDEST-via-then-denominator-le-WIDEST+else-are_short, else-denominator-le-WIDEST-via-else-denominator-le-WIDEST}
 use Rattle.whole_solver.proofs.wide.cut_where_not_short.Goals as goal

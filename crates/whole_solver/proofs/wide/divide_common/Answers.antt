@@ -1,5 +1,5 @@
 use Rattle.std.proofs.Common.{◌/◌, ◌∙◌}
-use Rattle.whole_rows.specs.Lines.{line_of}
+use Rattle.equal_runs.specs.Lines.{line_of}
 use Rattle.whole_solver.proofs.Cut.{common_above, common_below, cut_is}
 use Rattle.whole_solver.proofs.wide.divide_common.Goals as goal
 

@@ -1,5 +1,5 @@
 use Rattle.std.proofs.Common.{ℕ, ◌<◌, ◌≤◌, unsigned_abs}
-use Rattle.whole_rows.specs.Lines.{number_at}
+use Rattle.equal_runs.specs.Lines.{number_at}
 use Rattle.whole_solver.proofs.wide.wide_size.Given as goal
 
 -- none of the first numbers is above it

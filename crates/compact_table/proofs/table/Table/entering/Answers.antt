@@ -1,7 +1,7 @@
 use Rattle.std.proofs.Common.{◌≡◌, ◌∙◌, sym, ap, arith, map, take, length, List, ℕ}
 use Rattle.std.proofs.lemmas.List.{take-map}
 use Rattle.table_run.specs.Choice.{first_below}
-use Rattle.compact_run.specs.Compact.{entering_place}
+use Rattle.equal_runs.specs.Compact.{entering_place}
 use Rattle.compact_table.proofs.table.Table.entering.Goals as goal
 
 pub returns-clause-place : goal.returns-clause-place

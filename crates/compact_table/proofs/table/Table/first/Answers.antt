@@ -1,7 +1,7 @@
 use Rattle.std.proofs.Common.{◌≡◌, ◌+◌, [], ◌∙◌, sym, ap, arith, length, take, map, List, ℕ}
 use Rattle.std.proofs.lemmas.List.{length-map}
 use Rattle.exact_num.specs.Fraction.{negated}
-use Rattle.compact_run.specs.Compact.{compact_first}
+use Rattle.equal_runs.specs.Compact.{compact_first}
 use Rattle.table_run.specs.Places.{numbers}
 use Rattle.compact_table.specs.Candidates.{beside_basics}
 use Rattle.compact_table.specs.Tables.{lists_of, objective_of}

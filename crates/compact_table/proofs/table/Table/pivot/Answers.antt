@@ -4,7 +4,7 @@ use Rattle.std.specs.List.{remove}
 use Rattle.std.proofs.lemmas.Result.{err_from_is_err_and}
 use Rattle.std.proofs.lemmas.List.{length-map}
 use Rattle.exact_num.specs.Fits.{after}
-use Rattle.compact_run.specs.Compact.{remove_insert, place_for}
+use Rattle.equal_runs.specs.Compact.{remove_insert, place_for}
 use Rattle.compact_table.specs.Candidates.{apart}
 use Rattle.compact_table.specs.Lists.{front}
 use Rattle.compact_table.specs.Tables.{lists_of, objective_of}

@@ -2,7 +2,7 @@ use Rattle.std.proofs.Common.{◌∙◌, sym, ap}
 use Rattle.std.specs.Prelude.{Ok}
 use Rattle.std.proofs.lemmas.Result.{err_from_is_err_and}
 use Rattle.exact_num.specs.Fits.{written_back}
-use Rattle.compact_run.specs.Turn.{on_or_stopped}
+use Rattle.equal_runs.specs.CompactTurning.{on_or_stopped}
 use Rattle.compact_table.specs.Tables.{as_compact}
 use Rattle.compact_table.proofs.Turning.{turn_none, turn_stops, turn_pivots}
 use Rattle.compact_table.proofs.table.Table.turn.Goals as goal

@@ -1,7 +1,7 @@
 use Rattle.std.proofs.Common.{sym, ap, ◌∙◌, subst}
 use Rattle.order_book.specs.Book.{BookState}
 use Rattle.order_book.specs.Refusals.{unless_memory}
-use Rattle.refusals.specs.Refusals.{refusal_in}
+use Rattle.lists.specs.Refusals.{refusal_in}
 use Rattle.exchange_core.specs.Kept.{AreJoined}
 use Rattle.exchange_core.proofs.Joined.{joined-market}
 use Rattle.exchange_core.proofs.PositionsKept.{positions-market, positions-at}

@@ -1,7 +1,7 @@
 use Rattle.std.proofs.Common.{rules, ◌≡◌, None, Some, IsSome, sym, ap, ◌∙◌, subst}
 use Rattle.order_book.specs.Book.{BookState, book_of, order_of, without_order}
 use Rattle.order_book.specs.Refusals.{cancel_refusals}
-use Rattle.refusals.specs.Refusals.{first_of}
+use Rattle.lists.specs.Refusals.{first_of}
 use Rattle.order_book.proofs.BookKept.{kept-without_order}
 use Rattle.order_book.proofs.Cancelling.{unknown_order, own_order, other_order, place, live_there, order_there, order_within, without_in_each-there}
 use Rattle.order_book.proofs.book.Book.cancel.Goals as goal

@@ -1,7 +1,7 @@
 use Rattle.std.proofs.Common.{◌≡◌, None, sym, ap, ◌∙◌, subst}
 use Rattle.order_book.specs.Book.{BookState, book_of}
 use Rattle.order_book.specs.Refusals.{market_refusals, unless_memory}
-use Rattle.refusals.specs.Refusals.{first_of, refusal_in}
+use Rattle.lists.specs.Refusals.{first_of, refusal_in}
 use Rattle.order_book.proofs.Accepting.{listable}
 use Rattle.order_book.proofs.BookKept.{kept-with_market}
 use Rattle.order_book.proofs.book.Book.market.Goals as goal

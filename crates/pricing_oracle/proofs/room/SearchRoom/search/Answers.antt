@@ -1,7 +1,7 @@
 use Rattle.std.proofs.Common.{◌≡◌, ◌∙◌, ap, length, subst, map, replicate, unsigned_abs}
 use Rattle.clearing_model.specs.Tree.{Unsigned}
 use Rattle.sign_tree.specs.Read.{node_of, placed_of, sign_of}
-use Rattle.node_program.specs.Search.{legs_in}
+use Rattle.master_program.specs.Search.{legs_in}
 use Rattle.pricing_oracle.specs.Searches.{asked_within, no_parts, parts_of}
 use Rattle.pricing_oracle.proofs.BothSides.{BranchSays, whole_search}
 use Rattle.pricing_oracle.proofs.room.SearchRoom.search.Goals as goal

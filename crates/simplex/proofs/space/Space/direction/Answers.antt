@@ -1,12 +1,12 @@
 use Rattle.std.proofs.Common.{◌<◌, ◌∙◌, sym, ap, subst, arith, length, unsigned_abs}
 use Rattle.table_run.specs.Places.{at}
 use Rattle.table_run.proofs.Listed.{listed_count, listed_at}
-use Rattle.compact_run.specs.Run.{compact_direction}
+use Rattle.equal_runs.specs.CompactRunning.{compact_direction}
 use Rattle.compact_table.specs.Tables.{as_compact, direction_entry}
-use Rattle.whole_rows.specs.Compact.{compact_direction as direction_in}
+use Rattle.equal_runs.specs.Labelled.{labelled_direction}
 use Rattle.whole_solver.specs.Choices.{as_column}
 use Rattle.whole_solver.specs.Tables.{as_whole, direction_entry as whole_entry}
-use Rattle.sparse_program.specs.Rows.{program_in}
+use Rattle.compact_table.specs.SparseRows.{program_in}
 use Rattle.simplex.specs.declared.stage.Stage.{Stage}
 use Rattle.simplex.specs.Spaces.{Workspace, Contents, contents_of, direction_of, IsAt}
 use Rattle.simplex.proofs.SpaceSteps.{direction_is_there}
@@ -29,7 +29,7 @@ returns-in-Unbounded g c =
     c.direction_at.ensures ∙ sym (ap (λ (d : Contents). at (direction_of d) j) there ∙ listed_at f n j (omega (arith, low, listed_count f 0 n)))
 
 pub returns-in-WholeUnbounded : goal.returns-in-WholeUnbounded
-unfolding direction_in
+unfolding labelled_direction
 returns-in-WholeUnbounded g c =
     let value = g.N.Exact.fraction in
     let w = c.self.inside.whole in

@@ -3,10 +3,10 @@ use Rattle.table_run.specs.Places.{at}
 use Rattle.table_run.proofs.Listed.{listed_count, listed_at}
 use Rattle.compact_table.specs.Tables.{as_compact}
 use Rattle.whole_solver.specs.Tables.{as_whole}
-use Rattle.sparse_program.specs.Rows.{program_in}
+use Rattle.compact_table.specs.SparseRows.{program_in}
 use Rattle.simplex.specs.declared.stage.Stage.{Stage}
-use Rattle.compact_run.specs.Run.{price_of}
-use Rattle.whole_rows.specs.Compact.{price_of as price_in}
+use Rattle.equal_runs.specs.CompactRunning.{price_of}
+use Rattle.equal_runs.specs.Labelled.{labelled_price}
 use Rattle.simplex.specs.Spaces.{Workspace, Contents, reduced_of, IsAt}
 use Rattle.simplex.proofs.SpaceSteps.{optimum_is_there, whole_is_there}
 use Rattle.simplex.proofs.space.Space.reduced.Goals as goal
@@ -17,7 +17,7 @@ price_at-requires g c =
     let r = subst (λ (st : Stage). IsAt (unsigned_abs g.N.Exact.LIMIT) st (program_in g.N.Exact.fraction s.program) s.table s.whole) c.in-WholeOptimal.is c.self.invariant.stage in
     let t = s.whole in
     let there = whole_is_there g.N.Exact.fraction s.stage (program_in g.N.Exact.fraction s.program) s.table t c.args.self.now.contents (ap (λ (w : Workspace). w.contents) c.self.view_is) c.in-WholeOptimal.is in
-    let f = price_in (as_whole t) in
+    let f = labelled_price (as_whole t) in
     let low = subst (λ (d : Contents). c.args.j < length (reduced_of d)) there c.requires.place in
     record { limit = r.read; within = r.within; variable = omega (arith, low, listed_count f 0 (length t.names.items)) }
 
@@ -29,7 +29,7 @@ returns-in-WholeOptimal g c =
     let n = length t.names.items in
     let j = c.args.j in
     let there = whole_is_there value s.stage (program_in value s.program) s.table t c.args.self.now.contents (ap (λ (w : Workspace). w.contents) c.self.view_is) c.in-WholeOptimal.is in
-    let f = price_in (as_whole t) in
+    let f = labelled_price (as_whole t) in
     let low = subst (λ (d : Contents). j < length (reduced_of d)) there c.requires.place in
     c.price_at.ensures ∙ sym (ap (λ (d : Contents). at (reduced_of d) j) there ∙ listed_at f n j (omega (arith, low, listed_count f 0 n)))
 

@@ -2,9 +2,9 @@ use Rattle.std.proofs.Common.{◌≡◌, ◌<◌, ◌∙◌, sym, ap, subst, ari
 use Rattle.exact_num.proofs.Units.{limit_at_least_one}
 use Rattle.table_run.specs.Program.{LinearProgram}
 use Rattle.table_run.specs.Optimum.{IsProgram}
-use Rattle.compact_run.specs.Laws.{IsProgramWithin}
+use Rattle.equal_runs.specs.CompactLaws.{IsProgramWithin}
 use Rattle.compact_table.specs.Programs.{with_row}
-use Rattle.sparse_program.specs.Rows.{program_in}
+use Rattle.compact_table.specs.SparseRows.{program_in}
 use Rattle.simplex.specs.Spaces.{Workspace, workspace, given, contents_of, IsAt, IsBeingGiven}
 use Rattle.simplex.specs.declared.stage.Stage.{Stage}
 use Rattle.simplex.proofs.SpaceSteps.{program_is_given, row_is_program, row_is_within, room_kept, room_for_row, rows_listed}

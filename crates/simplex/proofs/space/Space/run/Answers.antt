@@ -4,7 +4,7 @@ use Rattle.table_run.specs.Program.{LinearProgram}
 use Rattle.table_run.specs.Run.{run}
 use Rattle.table_run.specs.Units.{units_of}
 use Rattle.table_run.proofs.Optima.{ends_are_as_said}
-use Rattle.sparse_program.specs.Rows.{program_in}
+use Rattle.compact_table.specs.SparseRows.{program_in}
 use Rattle.simplex.specs.declared.stage.Stage.{Stage}
 use Rattle.simplex.specs.declared.stop.RunStop.{RunStop}
 use Rattle.simplex.specs.declared.stop.RunStop.TheVariants.{Budget}

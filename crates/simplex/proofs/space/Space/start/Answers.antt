@@ -3,7 +3,7 @@ use Rattle.std.proofs.lemmas.List.{length-map}
 use Rattle.exact_num.proofs.Units.{limit_at_least_one}
 use Rattle.table_run.specs.Program.{LinearProgram}
 use Rattle.table_run.specs.Optimum.{IsProgram}
-use Rattle.compact_run.specs.Laws.{IsProgramWithin}
+use Rattle.equal_runs.specs.CompactLaws.{IsProgramWithin}
 use Rattle.simplex.specs.Spaces.{Workspace, workspace, given}
 use Rattle.simplex.proofs.SpaceSteps.{empty_is_program, empty_is_within, room_kept, rows_listed}
 use Rattle.simplex.proofs.space.Space.start.Goals as goal

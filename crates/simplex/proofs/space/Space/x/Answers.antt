@@ -3,11 +3,11 @@ use Rattle.table_run.specs.Places.{at}
 use Rattle.table_run.proofs.Listed.{listed_count, listed_at}
 use Rattle.compact_table.specs.Tables.{as_compact}
 use Rattle.whole_solver.specs.Tables.{as_whole}
-use Rattle.sparse_program.specs.Rows.{program_in}
+use Rattle.compact_table.specs.SparseRows.{program_in}
 use Rattle.simplex.specs.declared.stage.Stage.{Stage}
 use Rattle.table_run.specs.Table.{right_side, where_basic}
-use Rattle.whole_rows.specs.Lines.{entry_of}
-use Rattle.whole_rows.specs.Running.{whole_where_basic}
+use Rattle.equal_runs.specs.Lines.{entry_of}
+use Rattle.equal_runs.specs.WholeRunning.{whole_where_basic}
 use Rattle.simplex.specs.Spaces.{Workspace, Contents, x_of, IsAt}
 use Rattle.simplex.proofs.SpaceSteps.{optimum_is_there, whole_is_there}
 use Rattle.simplex.proofs.space.Space.x.Goals as goal

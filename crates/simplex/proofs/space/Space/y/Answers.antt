@@ -3,10 +3,10 @@ use Rattle.table_run.specs.Places.{at}
 use Rattle.table_run.proofs.Listed.{listed_count, listed_from}
 use Rattle.compact_table.specs.Tables.{as_compact}
 use Rattle.whole_solver.specs.Tables.{as_whole}
-use Rattle.sparse_program.specs.Rows.{program_in}
+use Rattle.compact_table.specs.SparseRows.{program_in}
 use Rattle.simplex.specs.declared.stage.Stage.{Stage}
-use Rattle.compact_run.specs.Run.{price_of}
-use Rattle.whole_rows.specs.Compact.{price_of as price_in}
+use Rattle.equal_runs.specs.CompactRunning.{price_of}
+use Rattle.equal_runs.specs.Labelled.{labelled_price}
 use Rattle.simplex.specs.Spaces.{Workspace, Contents, y_of, IsAt}
 use Rattle.simplex.proofs.SpaceSteps.{optimum_is_there, whole_is_there}
 use Rattle.simplex.proofs.space.Space.y.Goals as goal
@@ -20,7 +20,7 @@ price_at-requires g c =
     let m = length t.rows.rows in
     let i = c.args.i in
     let there = whole_is_there g.N.Exact.fraction s.stage (program_in g.N.Exact.fraction s.program) s.table t c.args.self.now.contents (ap (λ (w : Workspace). w.contents) c.self.view_is) c.in-WholeOptimal.is in
-    let f = price_in (as_whole t) in
+    let f = labelled_price (as_whole t) in
     let low = subst (λ (d : Contents). i < length (y_of d)) there c.requires.place in
     record { limit = r.read; within = r.within; variable = omega (arith, low, listed_count f n m, c.variables.ensures) }
 
@@ -32,7 +32,7 @@ overflow_add-variables g c =
     let m = length t.rows.rows in
     let i = c.args.i in
     let there = whole_is_there g.N.Exact.fraction s.stage (program_in g.N.Exact.fraction s.program) s.table t c.args.self.now.contents (ap (λ (w : Workspace). w.contents) c.self.view_is) c.in-WholeOptimal.is in
-    let f = price_in (as_whole t) in
+    let f = labelled_price (as_whole t) in
     let low = subst (λ (d : Contents). i < length (y_of d)) there c.requires.place in
     omega (arith, low, listed_count f n m, c.variables.ensures, t.count, t.basics.ok, t.basics.small, t.names.ok, t.names.small)
 
@@ -44,7 +44,7 @@ returns-in-WholeOptimal g c =
     let m = length t.rows.rows in
     let i = c.args.i in
     let there = whole_is_there g.N.Exact.fraction s.stage (program_in g.N.Exact.fraction s.program) s.table t c.args.self.now.contents (ap (λ (w : Workspace). w.contents) c.self.view_is) c.in-WholeOptimal.is in
-    let f = price_in (as_whole t) in
+    let f = labelled_price (as_whole t) in
     let low = subst (λ (d : Contents). i < length (y_of d)) there c.requires.place in
     c.price_at.ensures ∙ ap (λ (k : ℕ). f (k + i)) c.variables.ensures
     ∙ sym (ap (λ (d : Contents). at (y_of d) i) there ∙ listed_from f n m i (omega (arith, low, listed_count f n m)))

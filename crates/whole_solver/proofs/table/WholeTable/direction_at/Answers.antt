@@ -1,11 +1,11 @@
 use Rattle.std.proofs.Common.{◌≡◌, ◌<◌, ◌∙◌, sym, ap, arith, length, neg_ℤ}
 use Rattle.std.proofs.lemmas.List.{length-map}
 use Rattle.exact_num.specs.Fraction.{negated, reduced}
-use Rattle.whole_rows.specs.Lines.{Line, number_at, no_line}
+use Rattle.equal_runs.specs.Lines.{Line, number_at, no_line}
 use Rattle.whole_solver.specs.Rows.{line_in, lines_in, row_at}
 use Rattle.whole_solver.specs.Choices.{as_column}
 use Rattle.whole_solver.specs.Tables.{as_whole, width_of}
-use Rattle.whole_rows.proofs.Multiples.{reduced_negated}
+use Rattle.equal_runs.proofs.Multiples.{reduced_negated}
 use Rattle.compact_table.proofs.Reading.{place_inside}
 use Rattle.whole_solver.proofs.Choosing.{line_place}
 use Rattle.whole_solver.proofs.ReadOff.{basic_found, basic_missing, entry_other}

@@ -4,9 +4,9 @@ use Rattle.exact_num.specs.Fraction.{negated}
 use Rattle.table_run.specs.Places.{fraction_zero, numbers, values_at}
 use Rattle.table_run.proofs.Listed.{listed_count}
 use Rattle.compact_table.proofs.Filling.{numbers_last}
-use Rattle.sparse_program.specs.Rows.{lists_of}
-use Rattle.sparse_program.proofs.Parts.{length-rows, rows_long}
-use Rattle.whole_rows.specs.Lines.{IsLine, taken_in}
+use Rattle.compact_table.specs.SparseRows.{lists_of}
+use Rattle.compact_table.proofs.Parts.{length-rows, rows_long}
+use Rattle.equal_runs.specs.Lines.{IsLine, taken_in}
 use Rattle.whole_solver.specs.Rows.{line_in, lines_in, AreLinesIn}
 use Rattle.whole_solver.specs.Tables.{table_of, taken_from, width_of}
 use Rattle.whole_solver.proofs.Taken.{lines_more, taken_more, table_taken, lists_first}

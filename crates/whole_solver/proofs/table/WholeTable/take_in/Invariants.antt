@@ -1,8 +1,8 @@
 use Rattle.std.proofs.Common.{◌≡◌, ◌+◌, ◌≤◌, [], ◌∷◌, ◌++◌, length, map, take}
 use Rattle.exact_num.specs.Fraction.{negated}
 use Rattle.table_run.specs.Places.{fraction_zero, numbers}
-use Rattle.whole_rows.specs.Lines.{IsLine, taken_in}
-use Rattle.sparse_program.specs.Rows.{lists_of}
+use Rattle.equal_runs.specs.Lines.{IsLine, taken_in}
+use Rattle.compact_table.specs.SparseRows.{lists_of}
 use Rattle.whole_solver.specs.Rows.{line_in, lines_in, AreLinesIn}
 use Rattle.whole_solver.specs.Tables.{width_of, room_of}
 use Rattle.whole_solver.proofs.table.WholeTable.take_in.Given as goal

@@ -1,10 +1,10 @@
 use Rattle.std.proofs.Common.{◌≡◌, ◌∙◌, ◌+◌, length, ap, sym, subst, arith, true}
 use Rattle.std.specs.Prelude.{Some, ◌&&◌}
 use Rattle.arithmetic.proofs.Tests.{and_true}
-use Rattle.whole_rows.specs.Lines.{Line}
-use Rattle.whole_rows.specs.Compact.{CompactTable, compact_turn_fits, compact_turn}
-use Rattle.whole_rows.specs.Turning.{cut, steps_within, rows_steps_within}
-use Rattle.whole_rows.proofs.LineSteps.{cut_within}
+use Rattle.equal_runs.specs.Lines.{Line}
+use Rattle.equal_runs.specs.Labelled.{LabelledTable, labelled_turn_fits, labelled_turn}
+use Rattle.equal_runs.specs.WholeTurning.{cut, steps_within, rows_steps_within}
+use Rattle.equal_runs.proofs.LineSteps.{cut_within}
 use Rattle.whole_solver.specs.Rows.{line_in, row_at}
 use Rattle.whole_solver.specs.Tables.{as_whole}
 use Rattle.whole_solver.proofs.Pivoting.{line_there, pivot_there, rows_in_room, turn_fits, turn_none, turn_pivots}
@@ -21,7 +21,7 @@ pivot-requires-clause-within c = c.list_column-count.ensures.within c.args.bound
 pub returns-in-None-clause-turn : goal.returns-in-None-clause-turn
 returns-in-None-clause-turn c =
     let same = c.list_column-count.ensures.table in (
-      ap (compact_turn c.args.c) (sym same) ∙ turn_none c.args.c (as_whole c.list_column-count.new.self) (sym c.leaving.ensures ∙ c.in-None.is),
+      ap (labelled_turn c.args.c) (sym same) ∙ turn_none c.args.c (as_whole c.list_column-count.new.self) (sym c.leaving.ensures ∙ c.in-None.is),
       same,
       c.list_column-count.ensures.within c.args.bound c.args.limit c.requires.within,
     )
@@ -41,7 +41,7 @@ returns-then-pivot-clause-turn c =
     let rows = rows_in_room c.args.bound c.args.limit w c.args.c c.in-Some.r 0 leaving t.basics.items t.rows.rows c.requires.room pivot within.rows in
     let both = and_true (steps_within c.args.limit c.args.c leaving (as_whole t).objective) (rows_steps_within c.args.limit c.args.c c.in-Some.r leaving 0 (as_whole t).rows) objective rows in
     let fits = subst (λ (l : Line). (steps_within c.args.limit c.args.c (cut l) (as_whole t).objective && rows_steps_within c.args.limit c.args.c c.in-Some.r (cut l) 0 (as_whole t).rows) ≡ true) (sym line) both in (
-      ap (compact_turn c.args.c) (sym same) ∙ turn_pivots c.args.c c.in-Some.r (as_whole t) place ∙ ap Some (sym (c.pivot.ensures.table c.if-pivot.true)),
-      ap (λ (u : CompactTable). compact_turn_fits c.args.limit c.args.c u) (sym same) ∙ turn_fits c.args.limit c.args.c c.in-Some.r (as_whole t) place fits,
+      ap (labelled_turn c.args.c) (sym same) ∙ turn_pivots c.args.c c.in-Some.r (as_whole t) place ∙ ap Some (sym (c.pivot.ensures.table c.if-pivot.true)),
+      ap (λ (u : LabelledTable). labelled_turn_fits c.args.limit c.args.c u) (sym same) ∙ turn_fits c.args.limit c.args.c c.in-Some.r (as_whole t) place fits,
       c.pivot.ensures.within c.if-pivot.true,
     )

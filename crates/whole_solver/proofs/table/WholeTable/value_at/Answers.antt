@@ -1,6 +1,6 @@
 use Rattle.std.proofs.Common.{◌≡◌, ◌<◌, ◌∙◌, sym, ap, arith, length}
 use Rattle.std.proofs.lemmas.List.{length-map}
-use Rattle.whole_rows.specs.Lines.{Line, entry_of, no_line}
+use Rattle.equal_runs.specs.Lines.{Line, entry_of, no_line}
 use Rattle.whole_solver.specs.Rows.{line_in, lines_in, row_at}
 use Rattle.whole_solver.specs.Tables.{width_of}
 use Rattle.compact_table.proofs.Reading.{place_inside}

@@ -1,3 +1,0 @@
-pub mod AsRun
-pub mod FirstWords
-pub mod Outputs

@@ -1,5 +1,0 @@
-use Rattle.all_lines.proofs.AsRun.{all_answer_as_run}
-use Rattle.all_lines.proofs.laws.all_answer_as_run.Goals as goal
-
-pub returns : goal.returns
-returns c = all_answer_as_run

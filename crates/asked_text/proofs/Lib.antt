@@ -1,2 +1,0 @@
-mod AskedTaken
-pub mod AskedExactly

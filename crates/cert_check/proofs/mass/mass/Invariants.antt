@@ -1,0 +1,10 @@
+use Rattle.std.proofs.Common.{◌≡◌, drop, map}
+use Rattle.exact_num.specs.Steps.{fold_steps}
+use Rattle.frac.specs.Range.{limit}
+use Rattle.frac.specs.Value.{fraction_of}
+use Rattle.cert_check.specs.Points.{point_of}
+use Rattle.cert_check.specs.MeasureSums.{add_mass, mass_of}
+use Rattle.cert_check.proofs.mass.mass.Given as goal
+
+abbrev pub invariant-loop-point : goal.invariant-loop-point
+invariant-loop-point l = mass_of limit (map point_of l.points) ≡ fold_steps (add_mass limit) (fraction_of l.total) (drop l.point-index (map point_of l.points))

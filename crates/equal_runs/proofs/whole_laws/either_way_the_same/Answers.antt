@@ -1,0 +1,5 @@
+use Rattle.equal_runs.proofs.LabelledFirst.{either_way_the_same}
+use Rattle.equal_runs.proofs.whole_laws.either_way_the_same.Goals as goal
+
+pub returns : goal.returns
+returns c = either_way_the_same

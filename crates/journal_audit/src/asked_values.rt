@@ -1,0 +1,176 @@
+// What is taken out of a line, where it is within its ranges.
+ghost use Rattle.std.specs.Prelude.{◌≡◌, ◌≤◌, IfOk, IfSome, codes, option_map};
+ghost use Rattle.frac.specs.Range.{limit};
+ghost use Rattle.serde_json.specs.View.{view};
+ghost use Rattle.guarded_lines.specs.declared.told.ToldMargin.TheVariants as told;
+ghost use Rattle.reply_text.specs.OutcomeValues.{state_at as state_found};
+ghost use Rattle.journal_audit.specs.AskedValues.{asked_by as asked_found, least_from as least_found, margin_from as margin_found, need_by as need_found, price_at as price_found, price_by as price_named, priced_from as priced_found, quoted_from as quoted_found, size_at as size_found, told_by as told_found, uncovered_from as uncovered_found};
+
+use crate::asked_replies::AskedReply;
+use form::{MAX_PRICE, MAX_QUANTITY};
+use guarded_lines::{Need, ToldMargin};
+use quote_lines::QuotedPrice;
+use reply_print::fraction_texts::LIMIT;
+use reply_print::look::word_at;
+use reply_text::certificate_values::{fraction_at, state_at};
+use reply_text::taking::{account_at, market_at, natural_at, whole_at};
+use serde_json::Value;
+use std::alloc::{AllocError, Global};
+
+// The size of the whole number at a key, where it is not below 0 and at most a bound.
+fn size_at(value: &Value, key: &str, bound: u128) -> Option<u128>
+    requires { bound ≤ limit }
+    ensures size { result ≡ size_found bound key.now (view value.now) }
+    ensures within { IfSome result (λ size. size ≤ bound) }
+{
+    let number = whole_at(value, key, bound)?;
+    if number < 0 {
+        return None;
+    }
+    Some(number.unsigned_abs())
+}
+
+fn price_by(value: &Value, key: &str, word: &str) -> Option<QuotedPrice>
+    ensures { result ≡ price_named word.now key.now (view value.now) }
+{
+    if word == "never" {
+        Some(QuotedPrice::Never)
+    } else if word == "unmarked" {
+        Some(QuotedPrice::Unmarked)
+    } else {
+        let price = size_at(value, key, u128::from(MAX_PRICE))?;
+        Some(QuotedPrice::At {
+            price: price as u64,
+        })
+    }
+}
+
+fn price_at(value: &Value, key: &str) -> Option<QuotedPrice>
+    ensures { result ≡ price_found key.now (view value.now) }
+{
+    price_by(value, key, word_at(value, key))
+}
+
+fn quoted_from(value: &Value) -> Option<AskedReply>
+    ensures { result ≡ quoted_found (view value.now) }
+{
+    let market = market_at(value)?;
+    let bid = price_at(value, "bid")?;
+    let ask = price_at(value, "ask")?;
+    Some(AskedReply::Quoted { market, bid, ask })
+}
+
+fn priced_from(value: &Value) -> Option<AskedReply>
+    ensures { result ≡ priced_found (view value.now) }
+{
+    let market = market_at(value)?;
+    let quantity = natural_at(value, 1, u64::from(MAX_QUANTITY), "quantity")? as u32;
+    let ask = price_at(value, "ask")?;
+    let bid = price_at(value, "bid")?;
+    Some(AskedReply::Priced {
+        market,
+        quantity,
+        ask,
+        bid,
+    })
+}
+
+fn least_from(alloc: Global, value: &Value) -> Result<Option<ToldMargin>, AllocError>
+    ensures { IfOk result (λ o. o ≡ least_found (view value.now)) }
+{
+    let Some(liability) = fraction_at(value, "margin") else {
+        return Ok(None);
+    };
+    let Some(at) = state_at(alloc, value, "at")? else {
+        return Ok(None);
+    };
+    Ok(Some(ToldMargin::Least { liability, at }))
+}
+
+fn unbounded_from(alloc: Global, value: &Value) -> Result<Option<ToldMargin>, AllocError>
+    ensures { IfOk result (λ o. o
+        ≡ option_map told.Unbounded (state_found (codes "at") (view value.now))) }
+{
+    let Some(ray) = state_at(alloc, value, "at")? else {
+        return Ok(None);
+    };
+    Ok(Some(ToldMargin::Unbounded { ray }))
+}
+
+fn told_by(alloc: Global, value: &Value, word: &str) -> Result<Option<ToldMargin>, AllocError>
+    ensures { IfOk result (λ o. o ≡ told_found word.now (view value.now)) }
+{
+    if word == "wide" {
+        Ok(Some(ToldMargin::Wide))
+    } else if word == "budget" {
+        Ok(Some(ToldMargin::Budget))
+    } else if word == "unbounded" {
+        unbounded_from(alloc, value)
+    } else {
+        least_from(alloc, value)
+    }
+}
+
+fn margin_from(alloc: Global, value: &Value) -> Result<Option<AskedReply>, AllocError>
+    ensures { IfOk result (λ o. o ≡ margin_found (view value.now)) }
+{
+    let Some(account) = account_at(value) else {
+        return Ok(None);
+    };
+    let Some(market) = market_at(value) else {
+        return Ok(None);
+    };
+    let Some(margin) = told_by(alloc, value, word_at(value, "margin"))? else {
+        return Ok(None);
+    };
+    Ok(Some(AskedReply::Margin {
+        account,
+        market,
+        margin,
+    }))
+}
+
+fn need_by(value: &Value, word: &str) -> Option<Need>
+    ensures { result ≡ need_found word.now (view value.now) }
+{
+    if word == "positions" {
+        Some(Need::Positions)
+    } else if word == "unbounded" {
+        Some(Need::Unbounded)
+    } else if word == "wide" {
+        Some(Need::Wide)
+    } else if word == "budget" {
+        Some(Need::Budget)
+    } else if word == "sum" {
+        Some(Need::Sum)
+    } else {
+        let amount = size_at(value, "need", LIMIT)?;
+        Some(Need::Amount { amount })
+    }
+}
+
+fn uncovered_from(value: &Value) -> Option<AskedReply>
+    ensures { result ≡ uncovered_found (view value.now) }
+{
+    let need = need_by(value, word_at(value, "need"))?;
+    Some(AskedReply::Uncovered { need })
+}
+
+// What this word names.
+pub(crate) fn asked_from(
+    alloc: Global,
+    value: &Value,
+    word: &str,
+) -> Result<Option<AskedReply>, AllocError>
+    ensures { IfOk result (λ o. o ≡ asked_found word.now (view value.now)) }
+{
+    if word == "quoted" {
+        Ok(quoted_from(value))
+    } else if word == "priced" {
+        Ok(priced_from(value))
+    } else if word == "margin" {
+        margin_from(alloc, value)
+    } else {
+        Ok(uncovered_from(value))
+    }
+}

@@ -1,4 +1,0 @@
-mod Payoffs
-mod NothingOwed
-mod Bounded
-pub mod NothingProposed

@@ -1,5 +1,0 @@
-use Rattle.judged_proposals.proofs.NothingProposed.{nothing_is_a_bound}
-use Rattle.judged_proposals.proofs.laws.nothing_is_a_bound.Goals as goal
-
-pub returns : goal.returns
-returns c = nothing_is_a_bound

@@ -1,6 +1,0 @@
-//! Proposals for the books that come, each between two reads.
-#![tactic(auto)]
-
-mod live;
-
-pub use live::propose_live;

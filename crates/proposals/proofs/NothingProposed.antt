@@ -1,0 +1,137 @@
+-- A proposal of nothing is judged a bound.
+use Rattle.std.proofs.Common.{◌≡◌, ℕ, zero, suc, ◌<◌, Bool, true, false, List, [], ◌∷◌, length, map, zip, get_or, replicate, pos, Ok, refl, ap, ap₂, sym, subst, ◌∙◌, arith}
+use Rattle.std.specs.List.{All, sum}
+use Rattle.std.proofs.lemmas.Int.{ints}
+use Rattle.std.proofs.lemmas.List.{length-map, length-replicate}
+use Rattle.std.proofs.lemmas.List.Elements.{All-cons, All-nil}
+use Rattle.std.proofs.lemmas.List.Sums.{sum_by-cons}
+use Rattle.exact_num.specs.Fraction.{Fraction, whole}
+use Rattle.exact_num.proofs.Units.{sub-zero}
+use Rattle.frac.specs.declared.frac128.Frac128.{Frac128}
+use Rattle.frac.specs.Range.{limit}
+use Rattle.frac.specs.Value.{fraction_of}
+use Rattle.form.specs.declared.orders.Batch.{Batch}
+use Rattle.form.specs.declared.orders.Order.{Order}
+use Rattle.form.specs.Limits.{IsOrderWithin, IsWithinLimits}
+use Rattle.form.specs.Payoff.{IsState}
+use Rattle.form.specs.States.{vector_of}
+use Rattle.form.proofs.BundleLegs.{is_bundle_of}
+use Rattle.clearing_model.specs.Certificate.{AreFractionFills, IsFill, Point}
+use Rattle.cert_check.specs.declared.measures.Measure.{Measure}
+use Rattle.cert_check.specs.declared.measures.Weighted.{Weighted}
+use Rattle.cert_check.specs.Points.{point_of}
+use Rattle.cert_check.specs.MeasureSums.{bound_of, has_unit_mass}
+use Rattle.sign_tree.specs.Read.{node_of, placed_of}
+use Rattle.sign_tree.specs.Legs.{fraction_legs}
+use Rattle.sign_tree.specs.Walk.{closes_of}
+use Rattle.cert_check.specs.declared.outcome.Cover.{Cover}
+use Rattle.cert_check.specs.declared.outcome.Cover.TheVariants.{Line, Tree}
+use Rattle.cert_check.specs.declared.outcome.No.TheVariants as no
+use Rattle.cert_check.specs.declared.outcome.Proposal.{Proposal}
+use Rattle.cert_check.specs.Conditions.{IsCoverOn, IsOfBatch}
+use Rattle.cert_check.specs.Proposals.{as_optimal, fitting, measured_bound, proposal_bound, proposal_covered, require}
+use Rattle.cert_check.specs.Shape.{are_fills, has_shape}
+use Rattle.cert_check.specs.Tests.{batch_covered, claim_holds, cover_holds, premium_of, surplus_holds}
+use Rattle.cert_check.proofs.Shapes.{fills_unmet, shape_unmet}
+use Rattle.proposals.specs.Judged.{IsBareCover, NothingIsABound, ProposesNothing, zero_prices}
+use Rattle.proposals.proofs.Bounded.{bound_fits, unit_mass}
+use Rattle.proposals.proofs.NothingOwed.{adds_nothing, leaf_is_nothing, line_is_nothing, nothing, unfilled}
+
+not_false : (b : Bool) → (b ≡ false → ⊥) → b ≡ true
+not_false true f = refl
+not_false false f = absurd (f refl)
+
+-- ---- shape and fills
+cover_on : (n : ℕ) (cover : Cover) → IsBareCover n cover → IsCoverOn n cover
+cover_on n Line is = is
+cover_on n (Tree tree) is = omega (arith, is.0)
+
+sum_above : (n : ℕ) → 0 < sum (1 ∷ replicate n 0)
+sum_above n = omega (arith, sum_by-cons (λ (n : ℕ). n) 1 (replicate n 0))
+
+states_on : (n : ℕ) → All (λ (point : Point). IsState n point.0) (zero_prices n)
+states_on n =
+    let P : Point → Type 0 = λ point. IsState n point.0 in
+    All-cons P (1 ∷ replicate n 0, whole (pos 1)) [] (omega (arith, length-replicate {A = ℕ} n 0), sum_above n) (All-nil P)
+
+fills_count : (batch : Batch) (proposal : Proposal) → ProposesNothing batch proposal → length proposal.fills ≡ length batch.orders
+fills_count batch proposal is =
+    sym (length-map proposal.fills fraction_of) ∙ ap length is.fills ∙ length-replicate (length batch.orders) nothing
+
+shape_passes : (batch : Batch) (proposal : Proposal) → IsWithinLimits batch → ProposesNothing batch proposal → has_shape batch (as_optimal proposal) ≡ true
+shape_passes batch proposal within is =
+    let n = batch.underlyings in
+    let P : List Point → Type 0 = λ points. All (λ (point : Point). IsState n point.0) points in
+    let met : IsOfBatch batch (as_optimal proposal) = record {
+      orders = λ k d lt. is_bundle_of n (get_or batch.orders k d) (within.has_forms.forms k d lt);
+      fills = fills_count batch proposal is;
+      mark = (cover_on n proposal.cover is.cover, subst P (sym is.measure) (states_on n));
+    } in
+    not_false _ (λ failed. shape_unmet batch (as_optimal proposal) failed met)
+
+each_unfilled : (orders : List Order) → All IsFill (unfilled orders)
+each_unfilled [] = All-nil IsFill
+each_unfilled (o ∷ orders) = All-cons IsFill (o, nothing) (unfilled orders) (omega arith, omega (arith, ints), omega (arith, ints)) (each_unfilled orders)
+
+fills_pass : (batch : Batch) (proposal : Proposal) → ProposesNothing batch proposal → are_fills batch.orders proposal.fills ≡ true
+fills_pass batch proposal is =
+    let none = replicate (length batch.orders) nothing in
+    let met : AreFractionFills batch.orders none = (length-replicate (length batch.orders) nothing, each_unfilled batch.orders) in
+    not_false _ (λ failed. fills_unmet batch.orders proposal.fills failed (subst (AreFractionFills batch.orders) (sym is.fills) met))
+
+-- ---- surplus and cover
+premium_is_nothing : (orders : List Order) → premium_of limit (unfilled orders) ≡ Ok nothing
+premium_is_nothing [] = refl
+premium_is_nothing (o ∷ orders) = rw (adds_nothing o.side (pos o.price)) (premium_is_nothing orders)
+
+surplus_is_nothing : (orders : List Order) → surplus_holds limit (unfilled orders) nothing nothing ≡ Ok true
+surplus_is_nothing orders = rw (premium_is_nothing orders, sub-zero limit nothing (omega arith) (omega arith)) refl
+
+claimed : (batch : Batch) (proposal : Proposal) → ProposesNothing batch proposal → claim_holds limit batch.orders proposal.fills proposal.claim ≡ Ok true
+claimed batch proposal is =
+    (λ i. surplus_holds limit (zip batch.orders (is.fills i)) (is.liability i) (is.surplus i)) ∙ surplus_is_nothing batch.orders
+
+cover_closes : (n : ℕ) (orders : List Order) (cover : Cover) → IsBareCover n cover → All IsOrderWithin orders
+    → cover_holds limit n orders (replicate (length orders) nothing) nothing cover ≡ Ok true
+cover_closes n orders Line is within = line_is_nothing orders within
+cover_closes n orders (Tree tree) is within =
+    (λ i. closes_of limit n (fraction_legs orders (replicate (length orders) nothing)) nothing (map node_of (is.1 i)) (map placed_of (is.2 i)))
+    ∙ leaf_is_nothing n orders
+
+covered : (batch : Batch) (proposal : Proposal) → IsWithinLimits batch → ProposesNothing batch proposal → proposal_covered limit batch proposal ≡ Ok true
+covered batch proposal within is =
+    let cover : batch_covered limit batch proposal.fills proposal.claim.liability proposal.cover ≡ Ok true =
+    (λ i. cover_holds limit batch.underlyings batch.orders (is.fills i) (is.liability i) proposal.cover)
+    ∙ cover_closes batch.underlyings batch.orders proposal.cover is.cover within.orders_within in
+    rw (claimed batch proposal is) cover
+
+-- ---- what the code makes
+pub fills_of_one : (n : ℕ) (x : Frac128) → fraction_of x ≡ nothing → map fraction_of (replicate n x) ≡ replicate n nothing
+fills_of_one zero x is = refl
+fills_of_one (suc n) x is = ap₂ (λ (f : Fraction) (fs : List Fraction). f ∷ fs) is (fills_of_one n x is)
+
+pub point_at_zero : (n : ℕ) (points : List Weighted) (point : Weighted) (prices : List ℕ) → points ≡ point ∷ [] → vector_of point.state ≡ 1 ∷ prices → prices ≡ replicate n 0
+    → fraction_of point.weight ≡ whole (pos 1) → map point_of points ≡ zero_prices n
+point_at_zero n points point prices one vector none weight =
+    ap (map point_of) one ∙ ap₂ (λ (z : List ℕ) (w : Fraction). (z, w) ∷ []) (vector ∙ ap (λ (s : List ℕ). 1 ∷ s) none) weight
+
+-- ---- the measure
+record HasSomeBound (batch : Batch) (measure : Measure) : Type 0 where
+  bound : Fraction
+  is : measured_bound limit batch.orders measure ≡ Ok bound
+
+measured : (batch : Batch) (proposal : Proposal) → IsWithinLimits batch → ProposesNothing batch proposal → HasSomeBound batch proposal.measure
+measured batch proposal within is =
+    let n = batch.underlyings in
+    let sum = bound_fits n batch.orders within.orders_within within.orders_fit in
+    record {
+      bound = sum.bound;
+      is = (λ i. require no.Measure (has_unit_mass limit (is.measure i)) (fitting (bound_of limit batch.orders (is.measure i)))) ∙ rw (unit_mass n, sum.is) refl;
+    }
+
+pub nothing_is_a_bound : NothingIsABound
+nothing_is_a_bound batch proposal within is =
+    let last = measured batch proposal within is in
+    let bound : proposal_bound limit batch proposal ≡ Ok last.bound =
+    rw (shape_passes batch proposal within is, fills_pass batch proposal is, covered batch proposal within is) last.is in
+    rw bound refl

@@ -1,5 +1,0 @@
-use Rattle.refusals.proofs.FirstRefusal.{first_of-append}
-use Rattle.refusals.proofs.laws.refusals_in_front_come_first.Goals as goal
-
-pub returns : goal.returns
-returns g c = first_of-append

@@ -1,0 +1,6 @@
+use Rattle.std.proofs.Common.{rules}
+use Rattle.reply_print.specs.Look.{is_text}
+use Rattle.reply_print.proofs.cleared_shape.is_state.Goals as goal
+
+pub returns : goal.returns
+returns c = c.is_list_of.ensures is_text (search rules)

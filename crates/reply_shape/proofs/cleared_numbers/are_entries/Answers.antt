@@ -1,6 +1,0 @@
-use Rattle.std.proofs.Common.{rules}
-use Rattle.reply_shape.specs.NumberTexts.{is_whole_number}
-use Rattle.reply_shape.proofs.cleared_numbers.are_entries.Goals as goal
-
-pub returns : goal.returns
-returns c = c.is_list.ensures is_whole_number (search rules)

@@ -1,6 +1,0 @@
-use Rattle.std.proofs.Common.{rules}
-use Rattle.reply_shape.specs.ClearedShape.{point_shape}
-use Rattle.reply_shape.proofs.cleared_shape.are_points.Goals as goal
-
-pub returns : goal.returns
-returns c = c.is_list.ensures point_shape (search rules)

@@ -1,6 +1,0 @@
-use Rattle.std.proofs.Common.{rules}
-use Rattle.reply_shape.specs.Look.{is_whole}
-use Rattle.reply_shape.proofs.cleared_shape.is_form.Goals as goal
-
-pub returns : goal.returns
-returns c = c.is_list_of.ensures is_whole (search rules)

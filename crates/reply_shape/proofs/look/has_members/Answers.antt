@@ -1,9 +1,0 @@
-use Rattle.std.proofs.Common.{nat_eq, ap, sym, ◌∙◌, option_map, unwrap_or, false}
-use Rattle.serde_json.proofs.Views.{members_len-members_view}
-use Rattle.serde_json.specs.Events.{members_len}
-use Rattle.reply_shape.proofs.look.has_members.Goals as goal
-
-pub returns-in-Some : goal.returns-in-Some
-returns-in-Some c =
-    ap (λ n. nat_eq n c.args.count) (c.len.ensures.len ∙ sym (members_len-members_view c.in-Some.map.now.entries))
-    ∙ ap (λ o. unwrap_or (option_map (λ ms. nat_eq (members_len ms) c.args.count) o) false) c.in-Some.ensures

@@ -1,7 +1,0 @@
-use Rattle.std.proofs.Common.{◌≡◌, min, take}
-use Rattle.form.specs.Naturals.{natural_value}
-use Rattle.reply_shape.specs.Numbers.{largest_size}
-use Rattle.reply_shape.proofs.numbers.value_of_digits.Given as goal
-
-abbrev pub invariant-loop-digit : goal.invariant-loop-digit
-invariant-loop-digit l = l.value ≡ min (natural_value (take l.digit-index l.digits)) largest_size

@@ -1,6 +1,0 @@
-use Rattle.std.proofs.Common.{rules}
-use Rattle.reply_shape.specs.Shape.{paid_shape}
-use Rattle.reply_shape.proofs.shape.are_payouts.Goals as goal
-
-pub returns : goal.returns
-returns c = c.is_list.ensures paid_shape (search rules)

@@ -1,5 +1,0 @@
-pub mod Look
-pub mod Numbers
-pub mod Shape
-pub mod ClearedShape
-pub mod NumberTexts
