@@ -41,36 +41,37 @@ fn solved(mut table: Table, slack: usize) -> Result<Option<SolvedNode>, AllocErr
 }
 
 // What the sums of entries lose by the sign of a long leg that had none, behind a place for the common slack's objective.
-fn freed(form: &[f64; 9], fill: f64, sign: f64) -> [f64; 10] {
+fn freed(form: &[f64; 9], fill: f64, factor: f64) -> [f64; 10] {
     let mut less = [0.0; 10];
     for (place, number) in form.iter().enumerate() {
         set_entry(
             &mut less,
             place.saturating_add(1),
-            fill * from_zero(-(sign * *number)),
+            fill * from_zero(-(factor * *number)),
         );
     }
     less
 }
 
 // The entries of a signed leg's column, behind that place.
-fn signed(form: &[f64; 9], sign: f64) -> [f64; 10] {
+fn signed(form: &[f64; 9], factor: f64) -> [f64; 10] {
     let mut entries = [0.0; 10];
     for (place, number) in form.iter().enumerate() {
-        set_entry(&mut entries, place.saturating_add(1), sign * *number);
+        set_entry(&mut entries, place.saturating_add(1), factor * *number);
     }
     entries
 }
 
 impl SolvedNode {
     /// The liability wanted with one more sign, 1 or -1, at a long leg that has none and this fill. The error is want of memory.
-    pub fn value_with(&self, leg: &NearLeg, fill: f64, sign: f64) -> Result<f64, AllocError> {
+    pub fn value_with(&self, leg: &NearLeg, fill: f64, sign: i8) -> Result<f64, AllocError> {
+        let factor = if sign == 1 { 1.0 } else { -1.0 };
         let mut table = self.table.clone()?;
         let side = table.width();
         table.clear_column(self.spare);
-        table.add_column(side, &freed(&leg.form, fill, sign));
+        table.add_column(side, &freed(&leg.form, fill, factor));
         table.dual(LEAST_ENTRY, NODE_TURNS)?;
-        table.add_column(self.spare, &signed(&leg.form, sign));
+        table.add_column(self.spare, &signed(&leg.form, factor));
         table.primal(LEAST_ENTRY, usize::MAX, NODE_TURNS)?;
         Ok(-table.at(LEAST_ENTRY, side))
     }

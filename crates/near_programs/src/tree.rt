@@ -164,7 +164,7 @@ impl Leaf {
         if self.is_split || self.is_still_closed(aim) {
             return Ok(None);
         }
-        let found = solve_node(aim.alloc, aim.book, question_of(aim, &self.signs))?;
+        let found = solve_signs(aim, &self.signs)?;
         self.keep(aim, &found)?;
         Ok(open_by(aim, place, &found))
     }
@@ -178,6 +178,11 @@ fn question_of<'a>(aim: Aim<'a>, signs: &'a [i8]) -> Question<'a> {
         holds: true,
         below: 0.0,
     }
+}
+
+// Solves the program of a leaf with these signs.
+fn solve_signs(aim: Aim, signs: &[i8]) -> Result<Found, AllocError> {
+    solve_node(aim.alloc, aim.book, question_of(aim, signs))
 }
 
 // By how much more than the liability a leaf wants; 0 where that is forgiven.
@@ -277,42 +282,68 @@ fn place_of_most(numbers: &[f64]) -> Option<usize> {
     place
 }
 
-// What a split of an open leaf at a leg gains: how much of the excess each side has no more, one times the other.
-fn gain_of_split(aim: Aim, node: &SolvedNode, leg: usize, excess: f64) -> Result<f64, AllocError> {
-    let Some(leg) = aim.book.legs.get(leg) else {
-        return Ok(0.0);
-    };
-    let plus = excess_with(aim, node, leg, 1.0)?;
-    let minus = excess_with(aim, node, leg, -1.0)?;
+// A leaf that is to be split: its signs, its excess, and its program as it was solved, which a ray has not.
+#[derive(Clone, Copy)]
+struct Splitting<'a> {
+    signs: &'a [i8],
+    excess: f64,
+    node: &'a Option<SolvedNode>,
+}
+
+// What a split at a leg gains: how much of the excess each side has no more, one times the other.
+fn gain_of_split(aim: Aim, splitting: Splitting, leg: usize) -> Result<f64, AllocError> {
+    let plus = excess_with(aim, splitting, leg, 1)?;
+    let minus = excess_with(aim, splitting, leg, -1)?;
+    let excess = splitting.excess;
     let least = excess * LEAST_GAIN;
     Ok((excess - plus).max(least) * (excess - minus).max(least))
 }
 
 // What is exceeded with one more sign.
-fn excess_with(aim: Aim, node: &SolvedNode, leg: &NearLeg, sign: f64) -> Result<f64, AllocError> {
+fn excess_with(aim: Aim, splitting: Splitting, leg: usize, sign: i8) -> Result<f64, AllocError> {
+    match splitting.node {
+        Some(node) => excess_from(aim, node, leg, sign),
+        None => excess_anew(aim, splitting.signs, leg, sign),
+    }
+}
+
+// What is exceeded with one more sign, from the leaf's own program.
+fn excess_from(aim: Aim, node: &SolvedNode, leg: usize, sign: i8) -> Result<f64, AllocError> {
+    let Some(leg) = aim.book.legs.get(leg) else {
+        return Ok(0.0);
+    };
     let fill = fill_of(leg, &aim.master.fills);
     let excess = node.value_with(leg, fill, sign)? - aim.master.liability;
     Ok(if excess <= aim.forgiven { 0.0 } else { excess })
 }
 
-// The leg at which an open leaf is split with care: along a ray the one that is overstated most.
+// What is exceeded with one more sign, by a program of its own.
+fn excess_anew(aim: Aim, signs: &[i8], leg: usize, sign: i8) -> Result<f64, AllocError> {
+    let signs = with_sign(aim.alloc, signs, leg, sign)?;
+    let found = solve_signs(aim, &signs)?;
+    Ok(excess_of(aim, &found))
+}
+
+// The leg at which an open leaf is split with care.
 fn careful_split(
     aim: Aim,
     signs: &[i8],
     excess: f64,
     overs: &mut [f64],
 ) -> Result<Option<usize>, AllocError> {
-    match solve_for_sides(aim.alloc, aim.book, question_of(aim, signs))? {
-        Some(node) => best_split(aim, &node, excess, overs),
-        None => Ok(place_of_most(overs)),
-    }
+    let node = solve_for_sides(aim.alloc, aim.book, question_of(aim, signs))?;
+    let splitting = Splitting {
+        signs,
+        excess,
+        node: &node,
+    };
+    best_split(aim, splitting, overs)
 }
 
 // Of the legs that are overstated most, the one at which a split gains most.
 fn best_split(
     aim: Aim,
-    node: &SolvedNode,
-    excess: f64,
+    splitting: Splitting,
     overs: &mut [f64],
 ) -> Result<Option<usize>, AllocError> {
     let mut most = 0.0;
@@ -322,7 +353,7 @@ fn best_split(
             break;
         };
         set_entry(overs, leg, 0.0);
-        let gain = gain_of_split(aim, node, leg, excess)?;
+        let gain = gain_of_split(aim, splitting, leg)?;
         if gain > most {
             most = gain;
             best = Some(leg);
