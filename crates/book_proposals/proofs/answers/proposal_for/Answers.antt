@@ -15,6 +15,6 @@ returns-in_ok-nothing-in-None c =
       judged = c.in_ok-nothing-in-None.ensures.judged;
       within = submission_within batch proposal c.requires.ranges (nothing_within batch proposal nothing);
       is = is;
-      short = nothing_short batch proposal c.requires.ranges nothing c.args.market text (omega arith) is;
+      short = nothing_short batch proposal c.requires.ranges nothing c.args.market text.items (omega arith) is;
     })
     c.proposing_line.ensures
