@@ -1,5 +1,5 @@
 -- A proposal of nothing, and what is handed in, are within the ranges of their texts.
-use Rattle.std.proofs.Common.{◌≡◌, ℕ, ◌≤◌, ◌≤ℤ◌, ◌<◌, ℤ, List, [], ◌∷◌, length, map, take, drop, get_or, replicate, unsigned_abs, pos, negsuc, arith, ap, sym, ◌∙◌, subst}
+use Rattle.std.proofs.Common.{◌≡◌, ℕ, ◌≤◌, ◌≤ℤ◌, ◌<◌, ℤ, List, [], ◌∷◌, length, map, take, drop, get_or, replicate, pos, negsuc, arith, ap, sym, ◌∙◌, subst}
 use Rattle.std.specs.List.{All, AllByRecursion}
 use Rattle.std.proofs.lemmas.Int.{ints}
 use Rattle.std.proofs.lemmas.List.{get_or-map, get_or-take, get_or_default, length-map, length-take}

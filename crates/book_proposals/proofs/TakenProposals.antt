@@ -36,7 +36,6 @@ use Rattle.order_book.specs.Numbers.{numbers_of}
 use Rattle.proposal_lines.specs.KeptByMarket.{KeptProposals}
 use Rattle.proposal_lines.specs.Laws.{IsRefused}
 use Rattle.proposal_lines.specs.Proposed.{judged_effect, kept_by, proposed_by, stale_effect, unproved_effect}
-use Rattle.proposal_lines.specs.ProposingState.{ProposingState}
 use Rattle.proposal_lines.specs.Reads.{refused_by}
 use Rattle.proposal_lines.specs.declared.proposed.Proposed.{Proposed}
 use Rattle.proposal_lines.specs.declared.replies.ProposingReply.TheVariants.{Told}
