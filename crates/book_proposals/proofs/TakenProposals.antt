@@ -11,14 +11,13 @@ use Rattle.cert_check.specs.declared.outcome.No.TheVariants as no
 use Rattle.cert_check.specs.declared.outcome.Proposal.{Proposal}
 use Rattle.cert_check.specs.declared.outcome.Unproved.{Unproved as Reason}
 use Rattle.exact_num.specs.declared.misfit.Wide.{Wide}
-use Rattle.exact_num.specs.Fits.{add_of, mul_of, sum_fits, sum_value}
+use Rattle.exact_num.specs.Fits.{add_of, mul_of}
 use Rattle.exact_num.specs.Fraction.{Fraction, IsLowest, whole}
 use Rattle.exact_num.specs.Laws.{IsWithin}
 use Rattle.exact_num.specs.Steps.{fold_steps}
 use Rattle.exact_num.specs.Tests.{is_above_zero}
 use Rattle.exact_num.proofs.After.{after_value}
-use Rattle.exact_num.proofs.Answered.{answer_is}
-use Rattle.exact_num.proofs.Exactness.{sum_within}
+use Rattle.exact_num.proofs.WithinLimits.{add_within}
 use Rattle.exchange_core.specs.Step.{batch_in}
 use Rattle.form.specs.declared.orders.Batch.{Batch}
 use Rattle.form.specs.declared.orders.Order.{Order}
@@ -46,15 +45,10 @@ use Rattle.book_proposals.specs.Answers.{submission_for}
 use Rattle.book_proposals.specs.Laws.{ProposalsAreTaken}
 
 -- ---- a bound is within the limit
-added_within : (n : ℕ) (x y s : Fraction) → add_of n x y ≡ Ok s → IsWithin n s
-unfolding add_of
-added_within n x y s h =
-    let a = answer_is (sum_fits n x y) (sum_value x y) s _ h in subst (IsWithin n) a.value (sum_within n x y a.passed)
-
 gained_within : (n quantity : ℕ) (total gain s : Fraction) (b : Bool) → is_above_zero gain ≡ b → IsWithin n total → plus_gain n total quantity gain ≡ Ok s → IsWithin n s
 gained_within n quantity total gain s true is within h =
     let product = after_value (mul_of n (whole (pos quantity)) gain) (add_of n total) s (rw is at h) in
-    added_within n total product.value s product.rest
+    add_within n total product.value s product.rest
 gained_within n quantity total gain s false is within h =
     let none : Ok total ≡ Ok s = rw is at h in
     let same : total ≡ s = cc (none) in

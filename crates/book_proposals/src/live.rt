@@ -27,7 +27,8 @@ impl LineAnswers for ProposedLines {
 }
 
 /// Reads all that is left and answers its lines, each before the next read. The mark at the start
-/// of the input is skipped.
+/// of the input is skipped. What is written at the end is said here; that it is written before the
+/// next read is said of `turn` of `live_lines`, which follows each read.
 ///
 /// At most 65,536 bytes are taken in a read. The answers to the lines that they complete are written
 /// together, or each time that they are as many bytes.

@@ -127,8 +127,8 @@ pub fn exchange<S: Source, K: Sink>(
           writes = K.written sink.new;
         }))) }
 
-    // Each proposal is judged a bound for the book that a line tells, and between two reads all
-    // complete lines are answered.
+    // Each proposal is judged a bound for the book that a line tells. What is written at the end is
+    // said here; that it is written before the next read is said of `turn`, which follows each read.
     ensures proposed { Asked (map string_bytes words.now) (λ request.
         WherePropose request (ProposedAt result (record {
           left = S.left source.old;
