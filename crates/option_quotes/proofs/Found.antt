@@ -3,6 +3,7 @@ use Rattle.std.proofs.Common.{◌≡◌, ℕ, suc, zero, ◌≤◌, ◌==◌, tr
 use Rattle.std.proofs.lemmas.Bool.{cases_Bool}
 use Rattle.std.proofs.lemmas.Bool.Decides.{nat_tests}
 use Rattle.form.specs.Limits.{IsWithinLimits}
+use Rattle.form.specs.declared.forms.Form.{Form}
 use Rattle.form.specs.declared.orders.Side.{Side}
 use Rattle.form.specs.declared.orders.Side.TheVariants.{Buy, Sell}
 use Rattle.form.specs.declared.orders.Order.{Order}
@@ -14,16 +15,17 @@ use Rattle.cert_check.specs.declared.outcome.Outcome.{Outcome}
 use Rattle.clearing.specs.Outcome.{outcome_of}
 use Rattle.option_quotes.specs.declared.ends.Ends.{Ends}
 use Rattle.option_quotes.specs.declared.ends.Probed.{Probed}
+use Rattle.option_quotes.specs.declared.prices.MarketPrices.{MarketPrices}
 use Rattle.option_quotes.specs.declared.prices.SidePrice.{SidePrice}
 use Rattle.option_quotes.specs.declared.prices.SidePrice.TheVariants.{At, Never, Unmarked, Spent}
 use Rattle.option_quotes.specs.declared.quotes.Quoted.TheVariants as quoted
 use Rattle.option_quotes.specs.Ends.{AreEnds, IsBetter, IsProbed}
-use Rattle.option_quotes.specs.Implied.{above_of, asked, landed_at, next_along, next_better, prices_of, side_price, walked_all, walked_from, most_walked}
+use Rattle.option_quotes.specs.Implied.{above_of, asked, landed_at, next_along, next_better, prices_for, prices_of, side_price, walked_all, walked_from, most_walked}
 use Rattle.option_quotes.specs.Probes.{best_price, gap, is_optimal, is_raised, probe_outcome, with_order, worst_price}
 use Rattle.option_quotes.specs.Quotes.{IsQuote, IsShown}
 use Rattle.option_quotes.specs.Laws.{ImpliedPricesAreThresholds}
-use Rattle.option_quotes.specs.Shown.{IsImplied}
-use Rattle.option_quotes.specs.Thresholds.{TellPrices, TellsSide}
+use Rattle.option_quotes.specs.Shown.{IfMarked, IsImplied}
+use Rattle.option_quotes.specs.Thresholds.{MayBeQuoted, TellPrices, TellsSide}
 use Rattle.option_quotes.proofs.Answered.{best_fits}
 use Rattle.option_quotes.proofs.Beside.{raised_beside}
 use Rattle.option_quotes.proofs.Raising.{asked_within, proved, quantity_within, quote_between, quote_never, quote_worst, shown}
@@ -158,13 +160,33 @@ pub side_is_implied : (batch : Batch) (order : Order) (limit : ℕ) → IsWithin
 unfolding side_price
 side_is_implied batch order limit within first = from_best batch order limit (outcome_of batch limit) within first (best_price order.side) refl
 
-pub found_is_implied : (batch : Batch) (order asked : Order) (limit : ℕ) (base : Outcome) (found : SidePrice) → IsWithinLimits batch → IsWithinLimits (with_order batch order) → base ≡ outcome_of batch limit → is_optimal base ≡ true
-    → order ≡ asked → found ≡ side_price batch order limit → IsImplied batch asked limit base found
-found_is_implied batch order asked limit base found batch_within within is optimal same found_is =
-    let first = shown batch limit (outcome_of batch limit) batch_within refl (ap is_optimal (sym is) ∙ optimal) in
-    subst (λ (o : Order). IsImplied batch o limit base found) same
-    (subst (IsImplied batch order limit base) (sym found_is)
-    (subst (λ (b : Outcome). IsImplied batch order limit b (side_price batch order limit)) (sym is) (side_is_implied batch order limit within first)))
+-- the prices of so many bundles, where they are those of the two orders for them
+pub asked_prices : (batch : Batch) (form : Form) (quantity limit : ℕ) (buy sell : Order) (prices : MarketPrices) → buy ≡ asked form Buy quantity → sell ≡ asked form Sell quantity
+    → prices ≡ prices_for batch buy sell limit → prices ≡ prices_of batch form quantity limit
+unfolding prices_of
+asked_prices batch form quantity limit buy sell prices buys sells is = is ∙ (λ i. prices_for batch (buys i) (sells i) limit)
+
+module _ (batch : Batch) (form : Form) (quantity limit : ℕ) (may : MayBeQuoted batch form) (some : 1 ≤ quantity) (few : quantity ≤ 1000000) where
+  asked_is_implied : (side : Side) → is_optimal (outcome_of batch limit) ≡ true
+      → IsImplied batch (asked form side quantity) limit (outcome_of batch limit) (side_price batch (asked form side quantity) limit)
+  asked_is_implied side optimal =
+      let order = asked form side quantity in
+      side_is_implied batch order limit
+      (quantity_within batch form side quantity order refl some few (asked_within batch form side may.within may.room may.ids may.listed may.on))
+      (shown batch limit (outcome_of batch limit) may.within refl optimal)
+
+  -- the prices of both sides are implied
+  pub prices_are_implied : (prices : MarketPrices) → prices ≡ prices_of batch form quantity limit
+      → IfMarked prices (λ base ask bid. IsImplied batch (asked form Buy quantity) limit base ask) × IfMarked prices (λ base ask bid. IsImplied batch (asked form Sell quantity) limit base bid)
+  unfolding prices_of
+  prices_are_implied prices is =
+      let base = outcome_of batch limit in
+      let AreImplied : MarketPrices → Type 0 =
+      λ prices. IfMarked prices (λ base ask bid. IsImplied batch (asked form Buy quantity) limit base ask) × IfMarked prices (λ base ask bid. IsImplied batch (asked form Sell quantity) limit base bid) in
+      subst AreImplied (sym is) (elim (cases_Bool (is_optimal base)) [
+        | inl optimal ↦ subst AreImplied (sym (then_of (is_optimal base) _ _ optimal)) (asked_is_implied Buy optimal, asked_is_implied Sell optimal)
+        | inr not ↦ subst AreImplied (sym (else_of (is_optimal base) _ _ not)) (tt, tt)
+      ])
 
 -- ---- what is told
 tells : (batch : Batch) (order : Order) (limit : ℕ) (base : Outcome) (found : SidePrice) → IsGreatest batch.underlyings batch.orders (fraction_of base.claim.surplus)
@@ -181,9 +203,8 @@ implied_prices_are_thresholds batch form quantity limit may some few =
     let side_tells : (side : Side) → is_optimal base ≡ true → TellsSide batch (asked form side quantity) limit (side_price batch (asked form side quantity) limit) =
     λ side optimal.
     let order = asked form side quantity in
-    let within = quantity_within batch form side quantity order refl some few (asked_within batch form side may.within may.room may.ids may.listed may.on) in
     tells batch order limit base (side_price batch order limit) (proved batch limit base may.within refl optimal).greatest
-    (side_is_implied batch order limit within (shown batch limit base may.within refl optimal)) refl in
+    (asked_is_implied batch form quantity limit may some few side optimal) refl in
     elim (cases_Bool (is_optimal base)) [
       | inl optimal ↦ subst (TellPrices batch form quantity limit) (sym (then_of (is_optimal base) _ _ optimal)) (side_tells Buy optimal, side_tells Sell optimal)
       | inr not ↦ subst (TellPrices batch form quantity limit) (sym (else_of (is_optimal base) _ _ not)) (refl, not)

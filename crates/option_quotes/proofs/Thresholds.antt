@@ -1,6 +1,8 @@
 -- The quote that the probes give tells from which price on a further order raises the greatest surplus.
 use Rattle.std.proofs.Common.{◌≡◌, ℕ, suc, zero, ◌^◌, ◌≤◌, Bool, true, List, [], ◌∷◌, map, arith, Option, Some, None, if◌then◌else◌, refl, ap, sym, subst, ◌∙◌, inl, inr}
 use Rattle.std.proofs.lemmas.Bool.{cases_Bool, cases_lt}
+use Rattle.form.specs.declared.forms.Form.{Form}
+use Rattle.form.specs.declared.orders.Side.{Side}
 use Rattle.form.specs.declared.orders.Order.{Order}
 use Rattle.form.specs.declared.orders.Batch.{Batch}
 use Rattle.form.specs.declared.limits.TheConstants.{MAX_PRICE}
@@ -12,11 +14,12 @@ use Rattle.option_quotes.specs.declared.quotes.Quoted.{Quoted}
 use Rattle.option_quotes.specs.declared.quotes.Quoted.TheVariants.{At, Never, Unmarked}
 use Rattle.option_quotes.specs.declared.ends.Ends.{Ends}
 use Rattle.option_quotes.specs.declared.ends.Probed.{Probed}
+use Rattle.option_quotes.specs.ByProbes.{quoted_of}
 use Rattle.option_quotes.specs.Ends.{IsProbed, AreEnds}
 use Rattle.option_quotes.specs.Laws.{QuotesAreThresholds}
 use Rattle.option_quotes.specs.Probes.{Probe, best_price, worst_price, further, gap, is_optimal, is_raised, middle, middles, most_halvings, probe_at, probe_outcome, probes, probes_between, probes_from_best, probes_from_worst, first_unmarked, with_order}
 use Rattle.option_quotes.specs.Quotes.{IsQuote, IsShown, unmarked_of}
-use Rattle.option_quotes.specs.Thresholds.{Tells}
+use Rattle.option_quotes.specs.Thresholds.{MayBeQuoted, Tells}
 use Rattle.option_quotes.proofs.Answered.{best_fits, first_ends, gap_of_all, unmarked_is_quote, worst_fits}
 use Rattle.option_quotes.proofs.Defined.{none_unmarked, quote_is}
 use Rattle.option_quotes.proofs.Middles.{halved, middles_up, middles_down, Narrows, narrows_first, narrows_up, narrows_down}
@@ -116,9 +119,18 @@ by_first : (batch : Batch) (o : Order) (limit : ℕ) (stopped : Option Probe) �
 by_first batch o limit None within with_within is = quote_where_marked batch o limit within with_within is
 by_first batch o limit (Some probe) within with_within is = (Unmarked probe.0 probe.1, unmarked_is_quote batch o limit probe.0 probe.1, refl)
 
-pub quotes_are_thresholds : QuotesAreThresholds
-quotes_are_thresholds batch form side limit may =
+-- a quote is all that it says, of the order that is this one
+pub defined_is_quote : (batch : Batch) (form : Form) (side : Side) (order : Order) (limit : ℕ) (quoted : Quoted) → MayBeQuoted batch form → order ≡ further form side → quoted ≡ quoted_of batch order limit
+    → IsQuote batch (further form side) limit quoted × (unmarked_of quoted ≡ first_unmarked (probes batch (further form side) limit))
+defined_is_quote batch form side order limit quoted may same is =
     let o = further form side in
     let within = asked_within batch form side may.within may.room may.ids may.listed may.on in
     let quote = by_first batch o limit (first_unmarked (probes batch o limit)) may.within within refl in
-    subst (Tells batch o limit) (quote_is batch o limit quote.0 within quote.1 quote.2) (tells batch o limit quote.0 may.within quote.1 quote.2)
+    let here : quote.0 ≡ quoted = quote_is batch o limit quote.0 within quote.1 quote.2 ∙ sym (is ∙ ap (λ (it : Order). quoted_of batch it limit) same) in
+    subst (λ (q : Quoted). IsQuote batch o limit q × (unmarked_of q ≡ first_unmarked (probes batch o limit))) here (quote.1, quote.2)
+
+pub quotes_are_thresholds : QuotesAreThresholds
+quotes_are_thresholds batch form side limit may =
+    let o = further form side in
+    let quote = defined_is_quote batch form side o limit (quoted_of batch o limit) may refl refl in
+    tells batch o limit (quoted_of batch o limit) may.within quote.0 quote.1

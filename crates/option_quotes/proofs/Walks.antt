@@ -4,7 +4,6 @@ use Rattle.std.proofs.lemmas.Bool.{cases_lt}
 use Rattle.std.proofs.lemmas.Bool.Decides.{nat_tests}
 use Rattle.exact_num.specs.Fraction.{IsNotBelowZero}
 use Rattle.frac.specs.Value.{fraction_of}
-use Rattle.form.specs.declared.forms.Form.{Form}
 use Rattle.form.specs.declared.orders.Side.{Side}
 use Rattle.form.specs.declared.orders.Side.TheVariants.{Buy, Sell}
 use Rattle.form.specs.declared.orders.Order.{Order}
@@ -19,7 +18,7 @@ use Rattle.option_quotes.specs.declared.prices.MarketPrices.TheVariants as marke
 use Rattle.option_quotes.specs.declared.prices.SidePrice.{SidePrice}
 use Rattle.option_quotes.specs.declared.prices.SidePrice.TheVariants.{At, Never, Unmarked, Spent}
 use Rattle.option_quotes.specs.Ends.{IsProbed, IsBetter, AreEnds}
-use Rattle.option_quotes.specs.Implied.{above_of, asked, landed_at, next_along, next_better, price_along, prices_of, side_price, walked_all, walked_from, most_walked}
+use Rattle.option_quotes.specs.Implied.{above_of, landed_at, next_along, next_better, price_along, prices_for, side_price, walked_all, walked_from, most_walked}
 use Rattle.option_quotes.specs.Probes.{best_price, gap, is_optimal, is_raised, probe_outcome, worst_price}
 use Rattle.option_quotes.specs.Quotes.{IsShown}
 use Rattle.option_quotes.proofs.Answered.{best_fits}
@@ -204,13 +203,11 @@ module _ (batch : Batch) (order : Order) (limit : ℕ) (base : Outcome) (best : 
   pub best_probed : is_optimal best.outcome ≡ true → IsProbed batch order limit best
   best_probed optimal = record { within = subst (λ (p : ℕ). p ≤ MAX_PRICE) (sym at) (best_fits order.side); is = is; optimal = optimal }
 
-pub base_unmarked : (batch : Batch) (form : Form) (quantity limit : ℕ) (base : Outcome) → base ≡ outcome_of batch limit → is_optimal base ≡ false → market.Unmarked base ≡ prices_of batch form quantity limit
-unfolding prices_of
-base_unmarked batch form quantity limit base is not_optimal =
+pub base_unmarked : (batch : Batch) (buy sell : Order) (limit : ℕ) (base : Outcome) → base ≡ outcome_of batch limit → is_optimal base ≡ false → market.Unmarked base ≡ prices_for batch buy sell limit
+base_unmarked batch buy sell limit base is not_optimal =
     ap (λ (o : Outcome). market.Unmarked o) is ∙ sym (else_of (is_optimal (outcome_of batch limit)) _ _ (ap is_optimal (sym is) ∙ not_optimal))
 
-pub base_marked : (batch : Batch) (form : Form) (quantity limit : ℕ) (base : Outcome) (ask bid : SidePrice) → base ≡ outcome_of batch limit → is_optimal base ≡ true
-    → ask ≡ side_price batch (asked form Buy quantity) limit → bid ≡ side_price batch (asked form Sell quantity) limit → market.Marked base ask bid ≡ prices_of batch form quantity limit
-unfolding prices_of
-base_marked batch form quantity limit base ask bid is optimal asks bids =
+pub base_marked : (batch : Batch) (buy sell : Order) (limit : ℕ) (base : Outcome) (ask bid : SidePrice) → base ≡ outcome_of batch limit → is_optimal base ≡ true
+    → ask ≡ side_price batch buy limit → bid ≡ side_price batch sell limit → market.Marked base ask bid ≡ prices_for batch buy sell limit
+base_marked batch buy sell limit base ask bid is optimal asks bids =
     (λ i. market.Marked (is i) (asks i) (bids i)) ∙ sym (then_of (is_optimal (outcome_of batch limit)) _ _ (ap is_optimal (sym is) ∙ optimal))

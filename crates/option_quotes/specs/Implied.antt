@@ -92,10 +92,12 @@ price_from_best f base side =
 unfoldable pub side_price : Batch → Order → ℕ → SidePrice
 side_price batch order limit = price_from_best (probe_outcome batch order limit) (outcome_of batch limit) order.side
 
+-- the prices of two further orders
+abbrev pub prices_for : Batch → Order → Order → ℕ → MarketPrices
+prices_for batch buy sell limit =
+    let base = outcome_of batch limit in
+    if is_optimal base then market.Marked base (side_price batch buy limit) (side_price batch sell limit) else market.Unmarked base
+
 -- the prices of both sides: that of a further buy is what the market asks, that of a further sell what it bids
 unfoldable pub prices_of : Batch → Form → ℕ → ℕ → MarketPrices
-prices_of batch form quantity limit =
-    let base = outcome_of batch limit in
-    if is_optimal base
-    then market.Marked base (side_price batch (asked form Buy quantity) limit) (side_price batch (asked form Sell quantity) limit)
-    else market.Unmarked base
+prices_of batch form quantity limit = prices_for batch (asked form Buy quantity) (asked form Sell quantity) limit

@@ -5,7 +5,7 @@ ghost use Rattle.form.specs.Limits.{IsListed, IsWithinLimits};
 ghost use Rattle.form.specs.Options.{option_of};
 ghost use Rattle.form.specs.declared.orders.Side.TheVariants as Side;
 ghost use Rattle.option_quotes.specs.Ends.{AreEnds, IsProbed};
-ghost use Rattle.option_quotes.specs.Implied.{asked, landed_at, prices_of, side_price, walked_all};
+ghost use Rattle.option_quotes.specs.Implied.{asked, landed_at, prices_for, prices_of, side_price, walked_all};
 ghost use Rattle.option_quotes.specs.Probes.{is_raised, probe_outcome, with_order};
 ghost use Rattle.option_quotes.specs.Quotes.{IsShown};
 ghost use Rattle.option_quotes.specs.Shown.{IfMarked, IsImplied};
@@ -148,30 +148,21 @@ fn asked(form: &Form, side: Side, quantity: u32) -> Order
     }
 }
 
-/// The prices of both sides, cleared in that room.
+/// The prices of two further orders, cleared in that room.
 fn prices_in(
     alloc: Global,
     batch: &Batch,
-    form: &Form,
-    quantity: u32,
+    buy: Order,
+    sell: Order,
     limit: u32,
     room: &mut ClearRoom,
 ) -> Result<MarketPrices, AllocError>
-    requires within { IsWithinLimits batch.now }
-    requires room { length batch.now.orders ≤ 255 }
-    requires ids { All (λ order. order.id ≤ 1000000) batch.now.orders }
-    requires listed { IsListed (option_of form.now) }
-    requires on { form.now.count ≡ batch.now.underlyings + 1 }
-    requires quantity { (1 ≤ quantity) × (quantity ≤ 1000000) }
+    requires batch { IsWithinLimits batch.now }
+    requires buy { IsWithinLimits (with_order batch.now buy) }
+    requires sell { IsWithinLimits (with_order batch.now sell) }
     requires limit { (1 ≤ limit) × (limit ≤ 20000) }
-    ensures defined { IfOk result (λ prices. prices ≡ prices_of batch.now form.now quantity limit) }
-    ensures ask { IfOk result (λ prices. IfMarked prices (λ base ask bid.
-        IsImplied batch.now (asked form.now Side.Buy quantity) limit base ask)) }
-    ensures bid { IfOk result (λ prices. IfMarked prices (λ base ask bid.
-        IsImplied batch.now (asked form.now Side.Sell quantity) limit base bid)) }
+    ensures { IfOk result (λ prices. prices ≡ prices_for batch.now buy sell limit) }
 {
-    let buy = asked(form, Side::Buy, quantity);
-    let sell = asked(form, Side::Sell, quantity);
     let base = outcome_in(alloc, batch, limit, room)?;
     if !is_optimal(&base) {
         return Ok(MarketPrices::Unmarked { base });
@@ -214,6 +205,7 @@ pub fn implied_prices(
         IsImplied batch.now (asked form.now Side.Sell quantity) limit base bid)) }
 {
     let buy = asked(form, Side::Buy, quantity);
+    let sell = asked(form, Side::Sell, quantity);
     let mut room = room_with(alloc, batch, buy, limit)?;
-    prices_in(alloc, batch, form, quantity, limit, &mut room)
+    prices_in(alloc, batch, buy, sell, limit, &mut room)
 }

@@ -97,33 +97,19 @@ fn from_best(
     from_worst(alloc, batch, order, limit, base, best, room)
 }
 
-/// The quote, cleared in that room.
+/// The quote of that order, cleared in that room.
 fn quote_in(
     alloc: Global,
     batch: &Batch,
-    form: &Form,
-    side: Side,
+    order: Order,
     limit: u32,
     room: &mut ClearRoom,
 ) -> Result<Quoted, AllocError>
-    requires within { IsWithinLimits batch.now }
-    requires room { length batch.now.orders ≤ 255 }
-    requires ids { All (λ order. order.id ≤ 1000000) batch.now.orders }
-    requires listed { IsListed (option_of form.now) }
-    requires on { form.now.count ≡ batch.now.underlyings + 1 }
+    requires batch { IsWithinLimits batch.now }
+    requires within { IsWithinLimits (with_order batch.now order) }
     requires limit { (1 ≤ limit) × (limit ≤ 20000) }
-    ensures defined { IfOk result (λ quoted.
-        quoted ≡ quoted_of batch.now (further form.now side) limit) }
-    ensures raises { IfOk result (λ quoted. IfAt quoted (λ price raising beside base.
-        RaisesFrom batch.now (further form.now side) base price)) }
-    ensures shown { IfOk result (λ quoted.
-        IfAt quoted (AreShown batch.now (further form.now side) limit)) }
-    ensures never { IfOk result (λ quoted.
-        IfNever quoted (IsNever batch.now (further form.now side) limit)) }
-    ensures unmarked { IfOk result (λ quoted.
-        unmarked_of quoted ≡ first_unmarked (probes batch.now (further form.now side) limit)) }
+    ensures { IfOk result (λ quoted. quoted ≡ quoted_of batch.now order limit) }
 {
-    let order = further(form, side);
     let base = outcome_in(alloc, batch, limit, room)?;
     if !is_optimal(&base) {
         return Ok(Quoted::Unmarked {
@@ -176,5 +162,5 @@ pub fn quote(
 {
     let order = further(form, side);
     let mut room = room_with(alloc, batch, order, limit)?;
-    quote_in(alloc, batch, form, side, limit, &mut room)
+    quote_in(alloc, batch, order, limit, &mut room)
 }
