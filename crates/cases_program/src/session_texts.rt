@@ -469,26 +469,22 @@ open,1
 = {"account":1,"line":1,"reply":"opened"}
 open,2
 = {"account":2,"line":2,"reply":"opened"}
-open,3
-= {"account":3,"line":3,"reply":"opened"}
 deposit,1,100
-= {"account":1,"balance":"100","line":4,"reply":"deposited"}
+= {"account":1,"balance":"100","line":3,"reply":"deposited"}
 market,1,1
-= {"line":5,"market":1,"reply":"listed","underlyings":1}
-buy,1,1,call,10,6,1,1
-= {"line":6,"order":1,"reply":"placed"}
-sell,2,1,call,5,8,1,1
-= {"line":7,"order":2,"reply":"placed"}
-sell,3,1,call,12,4,1,1
-= {"line":8,"order":3,"reply":"placed"}
-clear,1,20000
-= {"batch":1,"certificate":{"cover":"line","measure":[{"state":["1","0"],"weight":"3/7"},{"state":["1","12"],"weight":"4/7"},{"state":["0","1"],"weight":"4"}]},"fills":["1","2/7","5/7"],"liability":"0","line":9,"mark":"optimal","market":1,"orders":[{"account":1,"form":[-10,1],"order":1,"price":6,"quantity":1,"side":"buy"},{"account":2,"form":[-5,1],"order":2,"price":8,"quantity":1,"side":"sell"},{"account":3,"form":[-12,1],"order":3,"price":4,"quantity":1,"side":"sell"}],"reply":"cleared","surplus":"6/7","underlyings":1,"units":3,"version":1}
+= {"line":4,"market":1,"reply":"listed","underlyings":1}
+buy,1,1,call,10,7,1,1
+= {"line":5,"order":1,"reply":"placed"}
+sell,2,1,call,10,5,1,1
+= {"line":6,"order":2,"reply":"placed"}
+clear,1,100
+= {"batch":1,"certificate":{"cover":"line","measure":[{"state":["1","0"],"weight":"1"},{"state":["0","1"],"weight":"5"}]},"fills":["1","1"],"liability":"0","line":7,"mark":"optimal","market":1,"orders":[{"account":1,"form":[-10,1],"order":1,"price":7,"quantity":1,"side":"buy"},{"account":2,"form":[-10,1],"order":2,"price":5,"quantity":1,"side":"sell"}],"reply":"cleared","surplus":"2","underlyings":1,"units":2,"version":1}
 margin,2,1,100
-= {"account":2,"at":["0","1"],"line":10,"margin":"unbounded","market":1,"reply":"margin"}
+= {"account":2,"at":["0","1"],"line":8,"margin":"unbounded","market":1,"reply":"margin"}
 withdraw,2,1
-= {"line":11,"need":"unbounded","number":14,"reason":"Margin","reply":"refused"}
+= {"line":9,"need":"unbounded","number":14,"reason":"Margin","reply":"refused"}
 balance,2
-= {"account":2,"balance":"2","line":12,"reply":"balance","reserved":"0"}
+= {"account":2,"balance":"5","line":10,"reply":"balance","reserved":"0"}
 == sessions: a message once more, and one ahead
 7,1,open,1
 = {"number":1,"of":{"account":1,"line":1,"reply":"opened"},"session":7}

@@ -2,9 +2,11 @@
 use crate::clears::CLEARS;
 use crate::endings::ENDINGS;
 use crate::journals::JOURNALS;
-use crate::running::{answered, assert_lines, status_with};
+use crate::running::{answered, assert_lines, run, status_with};
 use crate::session_texts::SESSIONS;
 use exchange_program::Status;
+use std::alloc::{AllocError, Global};
+use std::process::Abort;
 use std::test::Fail;
 
 // Inputs whose last line has no line feed, one with carriage returns, a byte order mark and an empty line.
@@ -46,11 +48,39 @@ fn sessions_give_their_replies(rt: HostRuntime) -> Result<(), Fail> {
 
 #[test]
 fn sessions_end_with_their_replies(rt: HostRuntime) -> Result<(), Fail> {
-    for texts in [ENDINGS, CLEARS] {
-        for text in texts.split("== ").skip(1) {
-            let (status, sink, wanted) = answered(rt.alloc(), text)?;
-            assert_eq!(rt; status, Status::Done, "at {text}");
-            assert!(rt; sink.written().ends_with(wanted.as_bytes()), "at {text}");
+    for text in ENDINGS.split("== ").skip(1) {
+        let (status, sink, wanted) = answered(rt.alloc(), text)?;
+        assert_eq!(rt; status, Status::Done, "at {text}");
+        assert!(rt; sink.written().ends_with(wanted.as_bytes()), "at {text}");
+    }
+    Ok(())
+}
+
+// The lines before those of a batch that is cleared.
+static FUNDED: &str = "open,1\nopen,2\ndeposit,1,1000000000000000\n";
+
+// Clears the batch of these lines, by the first line of a text, of which the rest is the reply.
+fn assert_cleared(
+    rt: &impl Abort,
+    alloc: Global,
+    lines: &str,
+    text: &str,
+) -> Result<(), AllocError> {
+    let (clear, wanted) = text.split_once("\n= ").unwrap_or((text, ""));
+    let input = format!(in alloc; "{}{}clear,{}\n", FUNDED, lines, clear)?;
+    let (status, sink) = run(alloc, "run", input.as_bytes(), 0, 0)?;
+    assert_eq!(rt; status, Status::Done, "at {lines}");
+    assert!(rt; sink.written().ends_with(wanted.as_bytes()), "at {lines}");
+    Ok(())
+}
+
+#[test]
+fn batches_are_cleared_with_their_replies(rt: HostRuntime) -> Result<(), Fail> {
+    for text in CLEARS.split("== ").skip(1) {
+        let (_, text) = text.split_once('\n').unwrap_or(("", text));
+        let (lines, clears) = text.split_once("clear,").unwrap_or((text, ""));
+        for clear in clears.split("clear,") {
+            assert_cleared(&rt, rt.alloc(), lines, clear)?;
         }
     }
     Ok(())
