@@ -1,5 +1,5 @@
 -- The check of a line, each step with a limit.
-use Rattle.std.specs.Prelude.{ℕ, ◌/◌, List, [], ◌∷◌, nat_abs, nat_eq, int_lt, Bool, true, not, ◌&&◌, ◌||◌, if◌then◌else◌, ℤ, pos, Option, Some, None, Result, Ok}
+use Rattle.std.specs.Prelude.{ℕ, ◌/◌, List, [], ◌∷◌, nat_abs, nat_eq, int_lt, Bool, true, not, ◌&&◌, ◌||◌, if◌then◌else◌, ℤ, pos, Option, Some, None, Result, Ok, map, zip}
 use Rattle.std.specs.List.{filter_map, flat_map}
 use Rattle.arithmetic.specs.Gcd.{gcd}
 use Rattle.exact_num.specs.declared.misfit.Wide.{Wide}
@@ -7,6 +7,9 @@ use Rattle.exact_num.specs.Fraction.{Fraction}
 use Rattle.exact_num.specs.Fits.{after}
 use Rattle.exact_num.specs.Steps.{and_then, all_of}
 use Rattle.exact_num.specs.Tests.{is_above_zero}
+use Rattle.frac.specs.Range.{limit as largest}
+use Rattle.frac.specs.Value.{fraction_of}
+use Rattle.frac.specs.declared.frac128.Frac128.{Frac128}
 use Rattle.form.specs.declared.orders.Order.{Order}
 use Rattle.form.specs.Vector.{strike_entry}
 use Rattle.clearing_model.specs.Line.{weight_entry}
@@ -50,6 +53,10 @@ breakpoints_of orders = filter_map breakpoint_of_leg (legs_of_orders orders)
 -- whether the net is at most the liability times t at a state
 abbrev pub holds_at : ℕ → List (Order × Fraction) → Fraction → List ℕ → Result Bool Wide
 holds_at limit fills L z = after (excess limit fills L z) (λ e. Ok (not (is_above_zero e)))
+
+-- that test for orders with these fills
+abbrev pub holds_for : List Order → List Frac128 → Frac128 → List ℕ → Result Bool Wide
+holds_for orders fills liability = holds_at largest (zip orders (map fraction_of fills)) (fraction_of liability)
 
 -- whether it is where an option bends, if it does
 abbrev pub holds_at_break : ℕ → List (Order × Fraction) → Fraction → Option (List ℕ) → Result Bool Wide

@@ -12,7 +12,7 @@ ghost use Rattle.form.specs.States.{vector_of};
 ghost use Rattle.line_cover.specs.Laws.{IsEnoughOnLine};
 ghost use Rattle.line_cover.specs.Line.{bends_alike, breakpoint_of, breakpoint_of_leg};
 ghost use Rattle.line_cover.specs.Line.{breakpoints_of};
-ghost use Rattle.line_cover.specs.Line.{holds_at, holds_at_break, line_holds};
+ghost use Rattle.line_cover.specs.Line.{holds_at_break, holds_for, line_holds};
 ghost use Rattle.line_cover.specs.Verdict.{line_verdict};
 ghost use Rattle.line_cover.specs.declared.verdict.LineVerdict.TheVariants.{Fails, Holds};
 
@@ -83,9 +83,8 @@ fn line_holds(orders: &[Order], fills: &[Frac128], liability: &Frac128) -> Resul
 fn holds_at_breaks(orders: &[Order], fills: &[Frac128], liability: &Frac128) -> Result<bool, Wide>
     requires fills { length fills.now ≡ length orders.now }
     requires forms { All (λ o. IsOnCount 2 o.bundle) orders.now }
-    ensures { let filled = zip orders.now (map fraction_of fills.now) in
-        result
-        ≡ all_of (holds_at limit filled (fraction_of liability.now)) (breakpoints_of orders.now) }
+    ensures { result
+        ≡ all_of (holds_for orders.now fills.now liability.now) (breakpoints_of orders.now) }
 {
     for i in 0..orders.len() {
         let (earlier, order) = (&orders[..i], &orders[i]);
@@ -106,13 +105,10 @@ fn holds_at_legs(
 ) -> Result<bool, Wide>
     requires fills { length fills.now ≡ length orders.now }
     requires forms { All (λ o. IsOnCount 2 o.bundle) orders.now }
-    requires earlier { let filled = zip orders.now (map fraction_of fills.now) in
-        all_of (holds_at limit filled (fraction_of liability.now)) (breakpoints_of earlier.now)
-        ≡ Ok true }
+    requires earlier { all_of (holds_for orders.now fills.now liability.now)
+        (breakpoints_of earlier.now) ≡ Ok true }
     requires bundle { IsOnCount 2 bundle.now }
-    ensures { let filled = zip orders.now (map fraction_of fills.now) in
-        result
-        ≡ all_of (holds_at limit filled (fraction_of liability.now))
+    ensures { result ≡ all_of (holds_for orders.now fills.now liability.now)
         (filter_map breakpoint_of_leg (bundle_legs bundle.now)) }
 {
     for leg in bundle.as_slice() {
@@ -133,9 +129,8 @@ fn holds_at_break(
 ) -> Result<bool, Wide>
     requires fills { length fills.now ≡ length orders.now }
     requires forms { All (λ o. IsOnCount 2 o.bundle) orders.now }
-    requires earlier { let filled = zip orders.now (map fraction_of fills.now) in
-        all_of (holds_at limit filled (fraction_of liability.now)) (breakpoints_of earlier.now)
-        ≡ Ok true }
+    requires earlier { all_of (holds_for orders.now fills.now liability.now)
+        (breakpoints_of earlier.now) ≡ Ok true }
     requires form { form.now.count ≡ 2 }
     ensures { let filled = zip orders.now (map fraction_of fills.now) in
         result
@@ -168,8 +163,7 @@ fn holds_at(
 ) -> Result<bool, Wide>
     requires fills { length fills.now ≡ length orders.now }
     requires forms { All (λ o. IsOnCount state.now.count o.bundle) orders.now }
-    ensures { let filled = zip orders.now (map fraction_of fills.now) in
-        result ≡ holds_at limit filled (fraction_of liability.now) (vector_of state.now) }
+    ensures { result ≡ holds_for orders.now fills.now liability.now (vector_of state.now) }
 {
     let excess = excess(orders, fills, liability, state)?;
     Ok(excess.sign() <= 0)

@@ -1,26 +1,24 @@
-use Rattle.std.proofs.Common.{map, zip, ◌∙◌}
-use Rattle.frac.specs.Range.{limit}
-use Rattle.frac.specs.Value.{fraction_of}
-use Rattle.line_cover.specs.Line.{holds_at}
+use Rattle.std.proofs.Common.{◌∙◌}
+use Rattle.line_cover.specs.Line.{holds_for}
 use Rattle.line_cover.proofs.BreakSteps.{tests_at, turn_holds, turn_fails, turn_stops}
 use Rattle.line_cover.proofs.Earlier.{one_more}
 use Rattle.line_cover.proofs.verdict.holds_at_breaks.Goals as goal
 
 pub returns-in_err-holds_at_legs : goal.returns-in_err-holds_at_legs
 returns-in_err-holds_at_legs c =
-    let holds = holds_at limit (zip c.args.orders.now (map fraction_of c.args.fills.now)) (fraction_of c.args.liability.now) in
+    let holds = holds_for c.args.orders.now c.args.fills.now c.args.liability.now in
     let left = c.loop-i.invariant.0 ∙ tests_at holds c.args.orders.now c.loop-i.i c.index-orders-i.result c.loop-i-test.true c.index-orders-i.is in
     turn_stops _ _ _ c.holds_at_legs.result c.from_residual.result _ left c.holds_at_legs.ensures c.in_err-holds_at_legs.was c.from_residual.ensures.1
 
 pub returns-then-not-branch : goal.returns-then-not-branch
 returns-then-not-branch c =
-    let holds = holds_at limit (zip c.args.orders.now (map fraction_of c.args.fills.now)) (fraction_of c.args.liability.now) in
+    let holds = holds_for c.args.orders.now c.args.fills.now c.args.liability.now in
     let left = c.loop-i.invariant.0 ∙ tests_at holds c.args.orders.now c.loop-i.i c.index-orders-i.result c.loop-i-test.true c.index-orders-i.is in
     turn_fails _ _ _ c.holds_at_legs.result _ left c.holds_at_legs.ensures c.in_ok-holds_at_legs.was c.if-not-branch.true
 
 pub loop-i-preserved : goal.loop-i-preserved
 loop-i-preserved c =
-    let holds = holds_at limit (zip c.args.orders.now (map fraction_of c.args.fills.now)) (fraction_of c.args.liability.now) in
+    let holds = holds_for c.args.orders.now c.args.fills.now c.args.liability.now in
     let left = c.loop-i.invariant.0 ∙ tests_at holds c.args.orders.now c.loop-i.i c.index-orders-i.result c.loop-i-test.true c.index-orders-i.is in (
       turn_holds _ _ _ c.holds_at_legs.result _ left c.holds_at_legs.ensures c.in_ok-holds_at_legs.was c.if-not-branch.false,
       one_more holds c.args.orders.now c.loop-i.i c.index-orders-i.result c.holds_at_legs.result _ c.loop-i-test.true c.index-orders-i.is
