@@ -3,15 +3,12 @@
 ghost use Rattle.command_text.specs.Within.{BodyIsWithin};
 
 use anyhow::{Context, Result, bail};
-use command_text::{Body, Command, commands};
+use command_text::{Body, Command, MAX_INPUT, commands};
 use exchange_core::{Exchange, Reply};
 use frac::Frac64;
 use narrow_clearing::{Pass, clear_first};
 use port_io::{StdSource, read_all};
 use std::alloc::Global;
-
-/// At most so many bytes are read.
-const MAX_INPUT: usize = 16_777_216;
 
 // Takes the exchange one line further, or tells the pass in which the line's batch is cleared.
 fn pass_of(alloc: Global, exchange: &mut Exchange, said: &Body) -> Result<Option<Pass>>

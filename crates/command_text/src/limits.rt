@@ -1,4 +1,7 @@
-// The limits of what a command may say, beside those of forms, orders and accounts.
+// The limits of commands, beside those of forms, orders and accounts.
+
+/// The most bytes of an input that is read whole: by `run`, by the other modes and by `sessions`.
+pub const MAX_INPUT: usize = 16_777_216;
 
 /// The greatest number of a market.
 pub const MAX_MARKET: u32 = 999_999_999;

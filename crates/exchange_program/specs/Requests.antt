@@ -17,7 +17,7 @@ use Rattle.program_words.specs.Requests.{request_of}
 use Rattle.exchange_program.specs.Journals.{report_in, report_line}
 use Rattle.exchange_program.specs.Live.{AnswerFirst, ServedTell, served_output, skips_mark}
 use Rattle.exchange_program.specs.Modes.{IsBesideIn, mode_output, step_in}
-use Rattle.exchange_program.specs.declared.lines.TheConstants.{MAX_INPUT}
+use Rattle.command_text.specs.declared.limits.TheConstants.{MAX_INPUT}
 use Rattle.exchange_program.specs.declared.check.TheConstants.{MAX_JOURNAL}
 use Rattle.exchange_program.specs.declared.status.Status.{Status}
 use Rattle.exchange_program.specs.declared.status.Status.TheVariants.{Done, CheckNo}

@@ -13,6 +13,6 @@ mod serving;
 mod status;
 
 pub use check::MAX_JOURNAL;
-pub use lines::MAX_INPUT;
+pub use command_text::MAX_INPUT;
 pub use program::exchange;
 pub use status::Status;

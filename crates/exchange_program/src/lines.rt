@@ -3,6 +3,7 @@ ghost use Rattle.std.specs.Prelude.{◌≤◌, map, length, OnOk, OnErr, IsErrOf
 ghost use Rattle.std.specs.List.{All};
 ghost use Rattle.std.specs.Io.KnownBytes.{Appends};
 ghost use Rattle.command_text.specs.Lines.{IsPlaceIn};
+ghost use Rattle.command_text.specs.declared.limits.TheConstants.{MAX_INPUT};
 ghost use Rattle.port_io.specs.Faults.{Rose};
 ghost use Rattle.port_io.specs.Writes.{AppendsFront};
 ghost use Rattle.exchange_core.specs.ExchangeState.{empty_exchange};
@@ -16,9 +17,6 @@ use exchange_core::Exchange;
 use port_io::{Sink, write_all};
 use program_words::Mode;
 use std::alloc::Global;
-
-/// At most so many bytes are read by `run`, by the other modes and by `sessions`.
-pub const MAX_INPUT: usize = 16_777_216;
 
 // Answers the lines at these places in order.
 fn answer_all<A: LineAnswers, K: Sink>(

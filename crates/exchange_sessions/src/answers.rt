@@ -4,6 +4,7 @@ ghost use Rattle.std.specs.Io.KnownBytes.{Appends};
 ghost use Rattle.port_io.specs.Faults.{Rose};
 ghost use Rattle.port_io.specs.Writes.{AppendsFront};
 ghost use Rattle.exchange_sessions.specs.Answers.{sessions_output};
+ghost use Rattle.command_text.specs.declared.limits.TheConstants.{MAX_INPUT};
 
 use crate::run_lines::RunLines;
 use crate::stop::AnswerStop;
@@ -32,7 +33,7 @@ fn stop_of(stop: LiveStop) -> AnswerStop
 ///
 /// `WriteFault` at the first fault of the sink, and `Memory` where there was none. A front of the output was then written.
 pub fn answer_messages<K: Sink>(alloc: Global, input: &[u8], sink: &mut K) -> Result<(), AnswerStop>
-    requires { length input.now ≤ 16777216 }
+    requires { length input.now ≤ MAX_INPUT }
     ensures ok { OnOk result
         (Appends (K.written sink.old) (K.written sink.new) (sessions_output input.now)) }
     ensures calm { OnOk result (K.faults sink.new ≡ K.faults sink.old) }

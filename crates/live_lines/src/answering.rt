@@ -7,7 +7,8 @@ ghost use Rattle.live_lines.specs.Open.{IsOneLine, count_limit};
 ghost use Rattle.live_lines.specs.Turns.{AddsAnswer, Turned};
 
 use crate::answers::LineAnswers;
-use crate::open_line::{MAX_LINES, OpenLine};
+use crate::limits::MAX_LINES;
+use crate::open_line::OpenLine;
 use memchr::memchr;
 use port_io::{Sink, WriteStop, write_all};
 use std::alloc::{AllocError, Global};

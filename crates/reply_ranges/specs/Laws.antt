@@ -7,6 +7,7 @@ use Rattle.command_text.specs.declared.command.Body.TheVariants.{Command, Syntax
 use Rattle.command_text.specs.declared.command.Command.{Command as CommandOf}
 use Rattle.command_text.specs.Commands.{body_of_line}
 use Rattle.command_text.specs.Within.{IsWithin}
+use Rattle.command_text.specs.declared.limits.TheConstants.{MAX_INPUT}
 use Rattle.exchange_core.specs.ExchangeState.{empty_exchange}
 use Rattle.exchange_core.specs.Step.{step}
 use Rattle.form.specs.declared.orders.Batch.{Batch}
@@ -31,4 +32,4 @@ OutcomesAreRanged = (batch : Batch) (units : ℕ) → IsWithinLimits batch → u
 -- whatever commands come to an empty exchange, as many as a run may have lines, each reply is within the ranges of its line
 abbrev pub RepliesAreWithin : Type 0
 RepliesAreWithin =
-    (commands : List CommandOf) → All IsWithin commands → length commands ≤ 16777216 → All IsReplyWithin (replies_by step empty_exchange commands)
+    (commands : List CommandOf) → All IsWithin commands → length commands ≤ MAX_INPUT → All IsReplyWithin (replies_by step empty_exchange commands)
