@@ -4,12 +4,14 @@ ghost use Rattle.std.specs.List.{All};
 ghost use Rattle.exact_num.specs.Fraction.{IsNotBelowZero};
 ghost use Rattle.frac.specs.Narrow.{narrow_fraction};
 ghost use Rattle.frac.specs.Value.{fraction_of};
+ghost use Rattle.compact_table.specs.declared.limits.TheConstants.{MAX_SIDE};
 
 use crate::printing::{print_number, print_wide};
 use crate::program_table::CASES;
 use crate::reading::numbers;
 use crate::signs::is_none_below_zero;
 use anyhow::{Context, Result, ensure};
+use compact_table::MAX_SIDE;
 use exact_num::{Exact, Operator, Wide};
 use frac::{Frac64, Frac128};
 use simplex::{Budget, Program, RunStop, Solved, Space, Stop, choices, solve};
@@ -72,8 +74,8 @@ fn program(
     ensures coefficients { IfOk result (λ program. vec_len program.a ≡ program.m * program.n) }
     ensures right_sides { IfOk result (λ program. vec_len program.b ≡ program.m) }
     ensures costs { IfOk result (λ program. vec_len program.c ≡ program.n) }
-    ensures variables { IfOk result (λ program. program.n ≤ 100000) }
-    ensures rows { IfOk result (λ program. program.m ≤ 100000) }
+    ensures variables { IfOk result (λ program. program.n ≤ MAX_SIDE) }
+    ensures rows { IfOk result (λ program. program.m ≤ MAX_SIDE) }
     ensures not_below_zero { IfOk result
         (λ program. All (λ b. IsNotBelowZero (fraction_of b)) program.b.items) }
 {
@@ -95,8 +97,8 @@ fn solution_text(
     requires coefficients { vec_len program.now.a ≡ program.now.m * program.now.n }
     requires right_sides { vec_len program.now.b ≡ program.now.m }
     requires costs { vec_len program.now.c ≡ program.now.n }
-    requires variables { program.now.n ≤ 100000 }
-    requires rows { program.now.m ≤ 100000 }
+    requires variables { program.now.n ≤ MAX_SIDE }
+    requires rows { program.now.m ≤ MAX_SIDE }
     requires not_below_zero { All (λ b. IsNotBelowZero (fraction_of b)) program.now.b.items }
 {
     let mut budget = Budget::new(units);
@@ -137,7 +139,7 @@ fn each_case_ends_as_it_says(rt: HostRuntime) -> Result<()> {
 
 // The ways to choose the basic variables, of so many variables and rows as a program may have.
 fn counted(variables: u32, rows: u32) -> Option<u64> {
-    if variables > 100000 || rows > 100000 {
+    if variables > MAX_SIDE || rows > MAX_SIDE {
         return None;
     }
     choices(variables, rows)
@@ -152,7 +154,7 @@ fn the_ways_to_choose_are_counted(rt: HostRuntime) {
         (7, 0, Some(1)),
         (33, 33, Some(7219428434016265740)),
         (34, 33, None),
-        (100000, 100000, None),
+        (MAX_SIDE, MAX_SIDE, None),
     ];
     for (variables, rows, number) in cases {
         assert_eq!(rt; counted(variables, rows), number, "{variables} and {rows}");

@@ -5,6 +5,7 @@
 mod candidate;
 mod columns;
 mod entries;
+pub mod limits;
 mod ratios;
 pub mod room;
 mod row;
@@ -14,6 +15,7 @@ pub mod sparse_entry;
 pub mod table;
 
 pub use entries::is_zero;
+pub use limits::MAX_SIDE;
 pub use sparse::SparseProgram;
 pub use sparse_entry::Entry;
 pub use table::Table;

@@ -4,6 +4,7 @@ ghost use Rattle.std.specs.List.{All};
 ghost use Rattle.exact_num.specs.Fraction.{negated};
 ghost use Rattle.table_run.specs.Places.{fraction_zero};
 ghost use Rattle.compact_table.specs.Programs.{empty_program, with_row};
+ghost use Rattle.compact_table.specs.declared.limits.TheConstants.{MAX_SIDE};
 ghost use Rattle.compact_table.specs.SparseEnds.{AreEnds};
 
 use crate::room::turn_signs;
@@ -35,7 +36,7 @@ impl<N: Exact> SparseProgram<N> {
         rows: usize,
         columns: usize,
     ) -> Result<SparseProgram<N>, AllocError>
-        requires columns { columns ≤ 100000 }
+        requires columns { columns ≤ MAX_SIDE }
         requires numbers { rows * (columns + 1) < 2 ^ 64 }
         ensures { IfOk result (HasRoom rows columns) }
     {

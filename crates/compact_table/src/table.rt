@@ -8,6 +8,7 @@ ghost use Rattle.equal_runs.specs.CompactTurning.{compact_turn, short_pivoted};
 ghost use Rattle.compact_table.specs.Candidates.{short_leaving_of, IsPivot};
 ghost use Rattle.compact_table.specs.Lists.{lists_after_turn};
 ghost use Rattle.compact_table.specs.Programs.{empty_program, with_row};
+ghost use Rattle.compact_table.specs.declared.limits.TheConstants.{MAX_SIDE};
 
 use crate::columns::{move_column, place_without};
 use crate::entries::first_below_zero;
@@ -46,7 +47,7 @@ impl<N: Exact> Table<N> {
 
     /// A table with room for as many rows of as many columns. It is that of no program yet.
     pub fn with_room(alloc: Global, rows: usize, columns: usize) -> Result<Table<N>, AllocError>
-        requires { columns ≤ 100000 }
+        requires { columns ≤ MAX_SIDE }
         ensures rows { IfOk result (λ table. rows ≤ room_of table) }
         ensures width { IfOk result (λ table. table.rows.width ≡ columns + 1) }
     {

@@ -1,7 +1,8 @@
 //! The master program of a batch, given to a space row by row.
-ghost use Rattle.std.specs.Prelude.{◌≤◌, ◌+◌, ◌^◌, ◌-◌, Ok, length, map, unsigned_abs, vec_capacity};
+ghost use Rattle.std.specs.Prelude.{◌≤◌, ◌+◌, Ok, length, map, unsigned_abs, vec_capacity};
 ghost use Rattle.std.specs.List.{All};
 ghost use Rattle.exact_num.specs.Fits.{after};
+ghost use Rattle.frac.specs.Range.{limit};
 ghost use Rattle.form.specs.Payoff.{IsOnCount};
 ghost use Rattle.form.specs.States.{vector_of};
 ghost use Rattle.form.specs.declared.limits.TheConstants.{MAX_ORDERS};
@@ -52,7 +53,7 @@ fn give_states<N: Exact>(
         All (λ o. IsOnCount state.count o.bundle) orders.now) states.now }
     requires program { IsOpen space.old (length orders.now + 1) (length states.now) }
     requires row { length orders.now + 1 ≤ vec_capacity row.old }
-    ensures given { HasGiven space.old (length states.now) (rows_steps (2 ^ 127 - 1)
+    ensures given { HasGiven space.old (length states.now) (rows_steps limit
         (unsigned_abs N.LIMIT) orders.now (map vector_of states.now)) result space.new }
     ensures size { HasSameSize space.old space.new }
     ensures capacity { vec_capacity row.old ≤ vec_capacity row.new }
@@ -78,7 +79,7 @@ pub(crate) fn give_master<N: Exact>(
     requires rows { length orders.now + length states.now ≤ space.old.rows }
     requires columns { length orders.now + 1 ≤ space.old.columns }
     requires row { length orders.now + 1 ≤ vec_capacity row.old }
-    ensures given { HasMade (λ _. space.new.contents) (after (master (2 ^ 127 - 1)
+    ensures given { HasMade (λ _. space.new.contents) (after (master limit
         (unsigned_abs N.LIMIT) orders.now (map vector_of states.now)) (λ p. Ok (given p)))
         result }
     ensures size { HasSameSize space.old space.new }

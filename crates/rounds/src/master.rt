@@ -3,6 +3,7 @@ ghost use Rattle.std.specs.Prelude.{◌≡◌, ◌≤◌, ◌<◌, ◌+◌, ◌^
 ghost use Rattle.std.specs.List.{All};
 ghost use Rattle.exact_num.specs.Fits.{meaning, whole_of};
 ghost use Rattle.exact_num.specs.Fraction.{IsNotBelowZero, whole};
+ghost use Rattle.frac.specs.Range.{limit};
 ghost use Rattle.form.specs.Payoff.{IsOnCount, option_of};
 ghost use Rattle.form.specs.States.{vector_of};
 ghost use Rattle.form.specs.Vector.{scale_of};
@@ -104,7 +105,7 @@ fn less<N: Exact>(v: i128, number: N) -> Result<N, Wide>
 /// What the bundle of an order pays at a state.
 fn order_payoff(order: &Order, state: &State) -> Result<i128, Wide>
     requires { IsOnCount state.now.count order.now.bundle }
-    ensures { meaning whole result ≡ order_payoff (2 ^ 127 - 1) order.now (vector_of state.now) }
+    ensures { meaning whole result ≡ order_payoff limit order.now (vector_of state.now) }
 {
     bundle_payoff(&order.bundle, state)
 }
@@ -155,7 +156,7 @@ fn entry_over<N: Exact>(order: &Order, state: &State, owed: i128) -> Result<N, W
 #[tactic(auto, unfolding(master_program::specs::Master::entry_steps))]
 fn entry<N: Exact>(order: &Order, state: &State) -> Result<N, Wide>
     requires { IsOnCount state.now.count order.now.bundle }
-    ensures { meaning N.fraction result ≡ entry_steps (2 ^ 127 - 1) (unsigned_abs N.LIMIT)
+    ensures { meaning N.fraction result ≡ entry_steps limit (unsigned_abs N.LIMIT)
         (vector_of state.now) order.now }
 {
     let owed = order_payoff(order, state)?;
@@ -227,7 +228,7 @@ fn add_entries<N: Exact>(row: &mut Vec<N>, orders: &[Order], state: &State) -> R
     requires forms { All (λ o. IsOnCount state.now.count o.bundle) orders.now }
     requires room { vec_len row.old + length orders.now ≤ vec_capacity row.old }
     ensures added { HasFilled (map N.fraction row.old.items)
-        (map_steps (entry_steps (2 ^ 127 - 1) (unsigned_abs N.LIMIT) (vector_of state.now))
+        (map_steps (entry_steps limit (unsigned_abs N.LIMIT) (vector_of state.now))
         orders.now) result (map N.fraction row.new.items) }
     ensures len { OnOk result (vec_len row.new ≡ vec_len row.old + length orders.now) }
     ensures capacity { vec_capacity row.old ≤ vec_capacity row.new }
@@ -246,7 +247,7 @@ pub(crate) fn write_state_row<N: Exact>(
 ) -> Result<(), Wide>
     requires forms { All (λ o. IsOnCount state.now.count o.bundle) orders.now }
     requires room { length orders.now + 1 ≤ vec_capacity row.old }
-    ensures written { HasMade (λ _. map N.fraction row.new.items) (row_steps (2 ^ 127 - 1)
+    ensures written { HasMade (λ _. map N.fraction row.new.items) (row_steps limit
         (unsigned_abs N.LIMIT) orders.now (vector_of state.now)) result }
     ensures capacity { vec_capacity row.old ≤ vec_capacity row.new }
 {

@@ -1,12 +1,13 @@
 //! How many units a run can need.
 ghost use Rattle.std.specs.Prelude.{◌≡◌, ◌+◌, ◌*◌, ◌/◌, ◌^◌, ◌<◌, ◌≤◌, ◌↔◌, IfSome, IsSome, Some, None, if◌then◌else◌, nat_lt};
 ghost use Rattle.table_run.specs.Choose.{choose};
+ghost use Rattle.compact_table.specs.declared.limits.TheConstants.{MAX_SIDE};
 
 /// The number of ways to choose `rows` of `variables + rows`, or None where that is above
 /// `2^63 - 1`: with so many units left, a run of a program of that size does not end for want of
 /// one. It takes no memory.
 pub fn choices(variables: u32, rows: u32) -> Option<u64>
-    requires { (variables ≤ 100000) × (rows ≤ 100000) }
+    requires { (variables ≤ MAX_SIDE) × (rows ≤ MAX_SIDE) }
     ensures value { IfSome result (λ number. number ≡ choose (variables + rows) rows) }
     ensures fits { IsSome result ↔ (choose (variables + rows) rows < 2 ^ 63) }
 {
@@ -19,7 +20,7 @@ pub fn choices(variables: u32, rows: u32) -> Option<u64>
 
 /// The number of ways to choose `chosen` of `others + chosen`, or None where it is too great.
 fn ways(others: u32, chosen: u32) -> Option<u64>
-    requires { (others ≤ 100000) × (chosen ≤ 100000) }
+    requires { (others ≤ MAX_SIDE) × (chosen ≤ MAX_SIDE) }
     ensures value { IfSome result (λ number. number ≡ choose (others + chosen) chosen) }
     ensures fits { IsSome result ↔ (choose (others + chosen) chosen < 2 ^ 63) }
 {

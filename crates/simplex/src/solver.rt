@@ -4,6 +4,7 @@ ghost use Rattle.std.specs.List.{All};
 ghost use Rattle.table_run.specs.Choose.{bases_of};
 ghost use Rattle.exact_num.specs.Fraction.{IsNotBelowZero};
 ghost use Rattle.table_run.specs.Run.{run as run_of};
+ghost use Rattle.compact_table.specs.declared.limits.TheConstants.{MAX_SIDE};
 ghost use Rattle.simplex.specs.Answers.{HoldsOf, IsAnswer, solved_contents};
 ghost use Rattle.simplex.specs.Programs.{as_program};
 ghost use Rattle.simplex.specs.Spaces.{given, IsFound, IsRising, x_of, y_of, reduced_of, direction_of};
@@ -22,7 +23,7 @@ fn space_for<N: Exact>(alloc: Global, program: &Program<N>) -> Result<Space<N>, 
     requires coefficients { vec_len program.now.a ≡ program.now.m * program.now.n }
     requires right_sides { vec_len program.now.b ≡ program.now.m }
     requires costs { vec_len program.now.c ≡ program.now.n }
-    requires variables { program.now.n ≤ 100000 }
+    requires variables { program.now.n ≤ MAX_SIDE }
     requires not_below_zero { All (λ b. IsNotBelowZero (N.fraction b)) program.now.b.items }
     ensures { IfOk result (λ space. space.contents ≡ given (as_program N.fraction program.now)) }
 {
@@ -130,8 +131,8 @@ pub fn solve<N: Exact>(
     requires coefficients { vec_len program.now.a ≡ program.now.m * program.now.n }
     requires right_sides { vec_len program.now.b ≡ program.now.m }
     requires costs { vec_len program.now.c ≡ program.now.n }
-    requires variables { program.now.n ≤ 100000 }
-    requires rows { program.now.m ≤ 100000 }
+    requires variables { program.now.n ≤ MAX_SIDE }
+    requires rows { program.now.m ≤ MAX_SIDE }
     requires not_below_zero { All (λ b. IsNotBelowZero (N.fraction b)) program.now.b.items }
     ensures run { IsAnswer N.fraction
         (run_of (unsigned_abs N.LIMIT) (as_program N.fraction program.now)

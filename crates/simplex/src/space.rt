@@ -7,6 +7,7 @@ ghost use Rattle.table_run.specs.Places.{at};
 ghost use Rattle.table_run.specs.Run.{run as run_of};
 ghost use Rattle.table_run.specs.Units.{units_of};
 ghost use Rattle.compact_table.specs.Programs.{empty_program, with_row};
+ghost use Rattle.compact_table.specs.declared.limits.TheConstants.{MAX_SIDE};
 
 use crate::attempt::run_given;
 use crate::budget::Budget;
@@ -55,8 +56,8 @@ impl<N: Exact> Space<N> {
     /// Room for programs of at most so many rows and columns, with no program. The error is want of
     /// memory.
     pub fn new(alloc: Global, rows: usize, columns: usize) -> Result<Space<N>, AllocError>
-        requires rows { (1 ≤ rows) × (rows ≤ 100000) }
-        requires columns { (1 ≤ columns) × (columns ≤ 100000) }
+        requires rows { (1 ≤ rows) × (rows ≤ MAX_SIDE) }
+        requires columns { (1 ≤ columns) × (columns ≤ MAX_SIDE) }
         ensures sizes { IfOk result (λ space. (space.rows ≡ rows) × (space.columns ≡ columns)) }
         ensures contents { IfOk result (λ space. space.contents ≡ nothing) }
     {
@@ -69,7 +70,7 @@ impl<N: Exact> Space<N> {
         rows: usize,
         columns: usize,
     ) -> Result<Space<N>, AllocError>
-        requires columns { columns ≤ 100000 }
+        requires columns { columns ≤ MAX_SIDE }
         requires numbers { rows * (columns + 1) < 2 ^ 64 }
         ensures sizes { IfOk result (λ space. (space.rows ≡ rows) × (space.columns ≡ columns)) }
         ensures contents { IfOk result (λ space. space.contents ≡ nothing) }
@@ -92,8 +93,8 @@ impl<N: Exact> Space<N> {
     /// Makes it room for programs of at least so many rows and columns: it is kept where it is
     /// large enough, and a new one is taken else. The error is want of memory.
     pub fn reserve(&mut self, alloc: Global, rows: usize, columns: usize) -> Result<(), AllocError>
-        requires rows { (1 ≤ rows) × (rows ≤ 100000) }
-        requires columns { (1 ≤ columns) × (columns ≤ 100000) }
+        requires rows { (1 ≤ rows) × (rows ≤ MAX_SIDE) }
+        requires columns { (1 ≤ columns) × (columns ≤ MAX_SIDE) }
         ensures sizes { OnOk result ((rows ≤ self.new.rows) × (columns ≤ self.new.columns)) }
     {
         if self.rows < rows || self.columns < columns {

@@ -3,6 +3,7 @@ ghost use Rattle.std.specs.Prelude.{◌≡◌, ◌+◌, ◌-◌, ◌*◌, ◌^�
 ghost use Rattle.std.specs.Option.{option_map};
 ghost use Rattle.compact_table.specs.Candidates.{best_with};
 ghost use Rattle.table_run.specs.Places.{numbers};
+ghost use Rattle.compact_table.specs.declared.limits.TheConstants.{MAX_SIDE};
 ghost use Rattle.equal_runs.specs.Compact.{compact_first};
 ghost use Rattle.equal_runs.specs.Labelled.{labelled_entering, labelled_pivoted, labelled_price};
 ghost use Rattle.equal_runs.specs.Lines.{IsLine, entry_of, taken_in, widest};
@@ -63,7 +64,7 @@ impl WholeTable {
 
     /// A table with room for as many rows of as many columns. It is that of no program yet.
     pub fn with_room(alloc: Global, rows: usize, columns: usize) -> Result<WholeTable, AllocError>
-        requires { columns ≤ 100000 }
+        requires { columns ≤ MAX_SIDE }
         ensures rows { IfOk result (λ table. rows ≤ room_of table) }
         ensures width { IfOk result (λ table. table.rows.width ≡ columns + 2) }
         ensures empty { IfOk result (λ table. (table.names.items ≡ []) × (table.rows.rows ≡ [])) }
