@@ -1,5 +1,6 @@
 //! In which numbers a batch is cleared, from its command lines.
 ghost use Rattle.std.specs.Prelude.{◌≤◌};
+ghost use Rattle.form.specs.declared.limits.TheConstants.{MAX_BUDGET};
 ghost use Rattle.form.specs.Limits.{IsWithinLimits};
 ghost use Rattle.command_text.specs.Within.{BodyIsWithin};
 
@@ -22,7 +23,7 @@ fn word_of(pass: &Pass) -> &'static str {
 // Clears a batch in room of its own, and answers the pass, the surplus and the units.
 fn pass_text(alloc: Global, batch: &Batch, limit: u32) -> Result<String, AllocError>
     requires within { IsWithinLimits batch.now }
-    requires limit { (1 ≤ limit) × (limit ≤ 20000) }
+    requires limit { (1 ≤ limit) × (limit ≤ MAX_BUDGET) }
 {
     let room = Room::new(alloc, batch, limit)?;
     let (outcome, pass) = clear_in(batch, limit, room);

@@ -3,6 +3,7 @@ ghost use Rattle.std.specs.Prelude.{◌≡◌, ◌≤◌, IfOk, length, map};
 ghost use Rattle.frac.specs.Range.{limit as largest};
 ghost use Rattle.frac.specs.Value.{fraction_of};
 ghost use Rattle.clearing_model.specs.Certificate.{AreFractionFills};
+ghost use Rattle.form.specs.declared.limits.TheConstants.{MAX_BUDGET};
 ghost use Rattle.form.specs.Limits.{IsWithinLimits};
 ghost use Rattle.cert_check.specs.declared.outcome.Judgement.TheVariants.{Yes};
 ghost use Rattle.cert_check.specs.Conditions.{IfOptimal};
@@ -83,7 +84,7 @@ impl ClearRoom {
     /// laws. It takes no memory, and has no other answer.
     pub fn clear(&mut self, batch: &Batch, limit: u32) -> Outcome
         requires within { IsWithinLimits batch.now }
-        requires limit { limit ≤ 20000 }
+        requires limit { limit ≤ MAX_BUDGET }
         requires room { IsClearRoom batch.now limit self.old }
         ensures { result ≡ outcome_of batch.now limit }
     {
@@ -118,7 +119,7 @@ impl ClearRoom {
 /// want of memory.
 pub fn clear(alloc: Global, batch: &Batch, limit: u32) -> Result<Outcome, AllocError>
     requires within { IsWithinLimits batch.now }
-    requires limit { (1 ≤ limit) × (limit ≤ 20000) }
+    requires limit { (1 ≤ limit) × (limit ≤ MAX_BUDGET) }
 
     // What the definition computes, with the mark and the units of the end of the run.
     ensures outcome { IfOk result (λ outcome. outcome ≡ outcome_of batch.now limit) }

@@ -1,5 +1,6 @@
 //! What a batch is cleared in. All memory of a clear is taken here, before the first step of its run.
 ghost use Rattle.std.specs.Prelude.{◌≤◌, IfOk, OnOk};
+ghost use Rattle.form.specs.declared.limits.TheConstants.{MAX_BUDGET};
 ghost use Rattle.form.specs.Limits.{IsWithinLimits};
 ghost use Rattle.clearing.specs.Rooms.{IsClearRoom};
 
@@ -25,7 +26,7 @@ impl ClearRoom {
     /// Room for the clearing of the batch with at most `limit` units. The error is want of memory.
     pub fn new(alloc: Global, batch: &Batch, limit: u32) -> Result<ClearRoom, AllocError>
         requires within { IsWithinLimits batch.now }
-        requires limit { limit ≤ 20000 }
+        requires limit { limit ≤ MAX_BUDGET }
         ensures { IfOk result (IsClearRoom batch.now limit) }
     {
         Ok(ClearRoom {
@@ -40,7 +41,7 @@ impl ClearRoom {
     /// The error is want of memory.
     pub fn renew(&mut self, alloc: Global, batch: &Batch, limit: u32) -> Result<(), AllocError>
         requires within { IsWithinLimits batch.now }
-        requires limit { limit ≤ 20000 }
+        requires limit { limit ≤ MAX_BUDGET }
         ensures { OnOk result (IsClearRoom batch.now limit self.new) }
     {
         self.run.renew(alloc, batch, limit)?;

@@ -6,12 +6,6 @@ pub const MAX_INPUT: usize = 16_777_216;
 /// The greatest number of a market.
 pub const MAX_MARKET: u32 = 999_999_999;
 
-/// The greatest number of an order.
-pub const MAX_ORDER: u64 = 1_000_000;
-
-/// The greatest work budget of a clear, in units.
-pub const MAX_BUDGET: u32 = 20_000;
-
 /// The highest settlement price of an underlying, in ticks.
 pub const MAX_SETTLEMENT: u32 = 1_000_000_000;
 

@@ -19,7 +19,7 @@ mod terms;
 mod trade;
 
 pub use cash_ledger::{MAX_ACCOUNT, MAX_AMOUNT};
-pub use command_text::{Command, Kind, MAX_BUDGET, MAX_MARKET};
+pub use command_text::{Command, Kind, MAX_MARKET};
 pub use exchange::Exchange;
 pub use failure::Failure;
 pub use line_replies::reply_to;

@@ -21,8 +21,8 @@ pub use forms::Form;
 pub use from_legs::{are_legs, is_same_bundle};
 pub use legs::Leg;
 pub use limits::{
-    MAX_COUNT, MAX_LEGS, MAX_OPTIONS, MAX_ORDERS, MAX_PRICE, MAX_QUANTITY, MAX_STRIKE,
-    MAX_UNDERLYINGS, MAX_WEIGHT,
+    MAX_BUDGET, MAX_COUNT, MAX_LEGS, MAX_OPTIONS, MAX_ORDER, MAX_ORDERS, MAX_PRICE, MAX_QUANTITY,
+    MAX_STRIKE, MAX_UNDERLYINGS, MAX_WEIGHT,
 };
 pub use options::{call, put};
 pub use orders::{Batch, Order, Orders, Side};

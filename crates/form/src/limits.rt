@@ -1,4 +1,4 @@
-//! The limits of the exchange that an order or a batch has to keep.
+//! The limits of the exchange that an order, a batch or a clear has to keep.
 
 /// The most underlyings of a market.
 pub const MAX_UNDERLYINGS: u8 = 8;
@@ -26,3 +26,9 @@ pub const MAX_OPTIONS: u32 = 1_000_000;
 
 /// The most orders of a batch.
 pub const MAX_ORDERS: usize = 256;
+
+/// The greatest number of an order. The least is 1.
+pub const MAX_ORDER: u64 = 1_000_000;
+
+/// The greatest work budget of a clear, in units of work.
+pub const MAX_BUDGET: u32 = 20_000;

@@ -3,8 +3,9 @@ ghost use Rattle.std.specs.Prelude.{◌≡◌, map};
 ghost use Rattle.guarded_lines.specs.Requests.{request_of};
 
 use cash_ledger::MAX_ACCOUNT;
+use command_text::MAX_MARKET;
 use command_text::asked::{Asked, Fault, first_fault, natural};
-use command_text::{MAX_BUDGET, MAX_MARKET};
+use form::MAX_BUDGET;
 
 /// What is asked where a line asks for a margin: that of an account's positions in a market, in searches of at most `budget`
 /// units together. Its numbers are within the limits.

@@ -3,6 +3,7 @@ ghost use Rattle.std.specs.Prelude.{◌≡◌, ◌≤◌, IfOk, length, map, uns
 ghost use Rattle.frac.specs.Range.{limit as largest, narrow_limit};
 ghost use Rattle.frac.specs.Value.{fraction_of};
 ghost use Rattle.clearing_model.specs.Certificate.{AreFractionFills};
+ghost use Rattle.form.specs.declared.limits.TheConstants.{MAX_BUDGET};
 ghost use Rattle.form.specs.Limits.{IsWithinLimits};
 ghost use Rattle.cert_check.specs.declared.outcome.Judgement.TheVariants.{Yes};
 ghost use Rattle.cert_check.specs.Conditions.{IfOptimal};
@@ -35,7 +36,7 @@ fn outcome_by<N: Exact>(
     broad: &mut ClearRoom,
 ) -> (Outcome, Pass)
     requires within { IsWithinLimits batch.now }
-    requires limit { limit ≤ 20000 }
+    requires limit { limit ≤ MAX_BUDGET }
     requires narrow { unsigned_abs N.LIMIT ≤ largest }
     requires first { IsJointRoom batch.now limit first.old }
     requires fills { length batch.now.orders ≤ vec_capacity fills }
@@ -61,7 +62,7 @@ fn outcome_by<N: Exact>(
 /// The same in given room.
 fn outcome_first<N: Exact>(batch: &Batch, limit: u32, room: FirstRoom<N>) -> (Outcome, Pass)
     requires within { IsWithinLimits batch.now }
-    requires limit { limit ≤ 20000 }
+    requires limit { limit ≤ MAX_BUDGET }
     requires narrow { unsigned_abs N.LIMIT ≤ largest }
     requires room { IsFirstRoom batch.now limit room }
     ensures outcome { result.0 ≡ outcome_of batch.now limit }
@@ -79,7 +80,7 @@ fn outcome_first<N: Exact>(batch: &Batch, limit: u32, room: FirstRoom<N>) -> (Ou
 /// in 64 bits first. It takes no memory, and has no other answer.
 pub fn clear_in(batch: &Batch, limit: u32, room: Room) -> (Outcome, Pass)
     requires within { IsWithinLimits batch.now }
-    requires limit { (1 ≤ limit) × (limit ≤ 20000) }
+    requires limit { (1 ≤ limit) × (limit ≤ MAX_BUDGET) }
     requires room { IsFirstRoom batch.now limit room }
 
     // The clauses of `clear`.
@@ -110,7 +111,7 @@ pub fn clear_first<N: Exact>(
     limit: u32,
 ) -> Result<(Outcome, Pass), AllocError>
     requires within { IsWithinLimits batch.now }
-    requires limit { (1 ≤ limit) × (limit ≤ 20000) }
+    requires limit { (1 ≤ limit) × (limit ≤ MAX_BUDGET) }
     requires narrow { unsigned_abs N.LIMIT ≤ largest }
 
     // The clauses of `clear`.

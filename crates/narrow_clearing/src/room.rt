@@ -1,5 +1,6 @@
 //! What a batch is cleared in by a run in narrow numbers first.
 ghost use Rattle.std.specs.Prelude.{◌≤◌, IfOk};
+ghost use Rattle.form.specs.declared.limits.TheConstants.{MAX_BUDGET};
 ghost use Rattle.form.specs.Limits.{IsWithinLimits};
 ghost use Rattle.narrow_clearing.specs.Rooms.{IsFirstRoom};
 
@@ -24,7 +25,7 @@ impl<N: Exact> FirstRoom<N> {
     /// Room for the clearing of the batch with at most `limit` units. The error is want of memory.
     pub fn new(alloc: Global, batch: &Batch, limit: u32) -> Result<FirstRoom<N>, AllocError>
         requires within { IsWithinLimits batch.now }
-        requires limit { limit ≤ 20000 }
+        requires limit { limit ≤ MAX_BUDGET }
         ensures { IfOk result (IsFirstRoom batch.now limit) }
     {
         Ok(FirstRoom {

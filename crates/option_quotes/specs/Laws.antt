@@ -1,5 +1,6 @@
 -- What holds of the probes of each quote, and of the quote.
 use Rattle.std.specs.Prelude.{ℕ, ◌≤◌, length}
+use Rattle.form.specs.declared.limits.TheConstants.{MAX_QUANTITY}
 use Rattle.form.specs.declared.forms.Form.{Form}
 use Rattle.form.specs.declared.orders.Side.{Side}
 use Rattle.form.specs.declared.orders.Order.{Order}
@@ -24,5 +25,5 @@ QuotesAreThresholds =
 -- than a side may have
 abbrev pub ImpliedPricesAreThresholds : Type 0
 ImpliedPricesAreThresholds =
-    (batch : Batch) (form : Form) (quantity limit : ℕ) → MayBeQuoted batch form → 1 ≤ quantity → quantity ≤ 1000000
+    (batch : Batch) (form : Form) (quantity limit : ℕ) → MayBeQuoted batch form → 1 ≤ quantity → quantity ≤ MAX_QUANTITY
     → TellPrices batch form quantity limit (prices_of batch form quantity limit)

@@ -6,7 +6,7 @@ use Rattle.form.specs.declared.forms.Form.{Form}
 use Rattle.form.specs.declared.orders.Side.TheVariants.{Buy, Sell}
 use Rattle.form.specs.declared.orders.Order.{Order}
 use Rattle.form.specs.declared.orders.Batch.{Batch}
-use Rattle.form.specs.declared.limits.TheConstants.{MAX_PRICE}
+use Rattle.form.specs.declared.limits.TheConstants.{MAX_ORDER, MAX_PRICE}
 use Rattle.form.specs.Limits.{IsListed, IsWithinLimits}
 use Rattle.form.specs.Payoff.{option_of}
 use Rattle.clearing_model.specs.Clearing.{IsGreatest}
@@ -28,7 +28,7 @@ use Rattle.option_quotes.specs.Shown.{IsStopped}
 pub record MayBeQuoted (batch : Batch) (form : Form) : Type 0 where
   pub within : IsWithinLimits batch
   pub room : length batch.orders ≤ 255
-  pub ids : All (λ (order : Order). order.id ≤ 1000000) batch.orders
+  pub ids : All (λ (order : Order). order.id ≤ MAX_ORDER) batch.orders
   pub listed : IsListed (option_of form)
   pub on : form.count ≡ batch.underlyings + 1
 

@@ -1,5 +1,6 @@
 //! The quote between a price at which an order raises the surplus and a worse one at which it does not.
 ghost use Rattle.std.specs.Prelude.{◌≡◌, ◌≤◌, ◌^◌, ℕ, IfOk};
+ghost use Rattle.form.specs.declared.limits.TheConstants.{MAX_BUDGET};
 ghost use Rattle.form.specs.Limits.{IsWithinLimits};
 ghost use Rattle.option_quotes.specs.Ends.{AreEnds};
 ghost use Rattle.option_quotes.specs.Probes.{first_unmarked, gap, probe_outcome, probes_between, with_order};
@@ -37,7 +38,7 @@ pub(crate) fn between(
     room: &mut ClearRoom,
 ) -> Result<Quoted, AllocError>
     requires within { IsWithinLimits (with_order batch.now order) }
-    requires limit { (1 ≤ limit) × (limit ≤ 20000) }
+    requires limit { (1 ≤ limit) × (limit ≤ MAX_BUDGET) }
     requires base { IsShown batch.now limit base }
     requires ends { AreEnds batch.now order limit base ends }
     ensures quote { IfOk result (IsQuote batch.now order limit) }

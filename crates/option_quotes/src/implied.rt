@@ -1,6 +1,7 @@
 //! The price from which on a further order raises the surplus, found along lines in a few clears.
 ghost use Rattle.std.specs.Prelude.{◌≡◌, ◌≤◌, ◌+◌, IfOk, length, true};
 ghost use Rattle.std.specs.List.{All};
+ghost use Rattle.form.specs.declared.limits.TheConstants.{MAX_BUDGET, MAX_ORDER, MAX_QUANTITY};
 ghost use Rattle.form.specs.Limits.{IsListed, IsWithinLimits};
 ghost use Rattle.form.specs.Options.{option_of};
 ghost use Rattle.form.specs.declared.orders.Side.TheVariants as Side;
@@ -36,7 +37,7 @@ fn landed(
     room: &mut ClearRoom,
 ) -> Result<SidePrice, AllocError>
     requires within { IsWithinLimits (with_order batch.now order) }
-    requires limit { (1 ≤ limit) × (limit ≤ 20000) }
+    requires limit { (1 ≤ limit) × (limit ≤ MAX_BUDGET) }
     requires base { IsShown batch.now limit base.now }
     requires ends { AreEnds batch.now order limit base.now ends }
     ensures { IfOk result (λ found. found
@@ -77,7 +78,7 @@ fn walked(
     room: &mut ClearRoom,
 ) -> Result<SidePrice, AllocError>
     requires within { IsWithinLimits (with_order batch.now order) }
-    requires limit { (1 ≤ limit) × (limit ≤ 20000) }
+    requires limit { (1 ≤ limit) × (limit ≤ MAX_BUDGET) }
     requires base { IsShown batch.now limit base.now }
     requires raising { IsProbed batch.now order limit raising }
     requires raised { is_raised base.now raising.outcome ≡ true }
@@ -122,7 +123,7 @@ fn side_price(
     room: &mut ClearRoom,
 ) -> Result<SidePrice, AllocError>
     requires within { IsWithinLimits (with_order batch.now order) }
-    requires limit { (1 ≤ limit) × (limit ≤ 20000) }
+    requires limit { (1 ≤ limit) × (limit ≤ MAX_BUDGET) }
     requires base { IsShown batch.now limit base.now }
     ensures { IfOk result (λ found. found ≡ side_price batch.now order limit) }
 {
@@ -160,7 +161,7 @@ fn prices_in(
     requires batch { IsWithinLimits batch.now }
     requires buy { IsWithinLimits (with_order batch.now buy) }
     requires sell { IsWithinLimits (with_order batch.now sell) }
-    requires limit { (1 ≤ limit) × (limit ≤ 20000) }
+    requires limit { (1 ≤ limit) × (limit ≤ MAX_BUDGET) }
     ensures { IfOk result (λ prices. prices ≡ prices_for batch.now buy sell limit) }
 {
     let base = outcome_in(alloc, batch, limit, room)?;
@@ -186,11 +187,11 @@ pub fn implied_prices(
 ) -> Result<MarketPrices, AllocError>
     requires within { IsWithinLimits batch.now }
     requires room { length batch.now.orders ≤ 255 }
-    requires ids { All (λ order. order.id ≤ 1000000) batch.now.orders }
+    requires ids { All (λ order. order.id ≤ MAX_ORDER) batch.now.orders }
     requires listed { IsListed (option_of form.now) }
     requires on { form.now.count ≡ batch.now.underlyings + 1 }
-    requires quantity { (1 ≤ quantity) × (quantity ≤ 1000000) }
-    requires limit { (1 ≤ limit) × (limit ≤ 20000) }
+    requires quantity { (1 ≤ quantity) × (quantity ≤ MAX_QUANTITY) }
+    requires limit { (1 ≤ limit) × (limit ≤ MAX_BUDGET) }
 
     // The prices are those that the definition gives by the probes.
     ensures defined { IfOk result (λ prices. prices ≡ prices_of batch.now form.now quantity limit) }

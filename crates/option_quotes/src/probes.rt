@@ -1,7 +1,7 @@
 //! One probe: what clears where the batch has one order more. All probes of a quote are cleared in one room.
 ghost use Rattle.std.specs.Prelude.{◌≡◌, ◌≤◌, IfOk, length};
 ghost use Rattle.form.specs.Limits.{IsWithinLimits};
-ghost use Rattle.form.specs.declared.limits.TheConstants.{MAX_ORDERS};
+ghost use Rattle.form.specs.declared.limits.TheConstants.{MAX_BUDGET, MAX_ORDERS};
 ghost use Rattle.clearing.specs.Outcome.{outcome_of};
 ghost use Rattle.clearing.specs.Rooms.{IsClearRoom};
 ghost use Rattle.option_quotes.specs.Probes.{best_price, further, is_optimal, is_raised, probe_outcome, with_order, worst_price};
@@ -53,7 +53,7 @@ pub(crate) fn room_with(
     limit: u32,
 ) -> Result<ClearRoom, AllocError>
     requires within { IsWithinLimits (with_order batch.now order) }
-    requires limit { limit ≤ 20000 }
+    requires limit { limit ≤ MAX_BUDGET }
     ensures { IfOk result (IsClearRoom (with_order batch.now order) limit) }
 {
     let extended = with_order(alloc, batch, order)?;
@@ -69,7 +69,7 @@ pub(crate) fn outcome_in(
     room: &mut ClearRoom,
 ) -> Result<Outcome, AllocError>
     requires within { IsWithinLimits batch.now }
-    requires limit { (1 ≤ limit) × (limit ≤ 20000) }
+    requires limit { (1 ≤ limit) × (limit ≤ MAX_BUDGET) }
     ensures { IfOk result (λ outcome. outcome ≡ outcome_of batch.now limit) }
 {
     room.renew(alloc, batch, limit)?;
@@ -87,7 +87,7 @@ pub(crate) fn probe(
 ) -> Result<Outcome, AllocError>
     requires within { IsWithinLimits (with_order batch.now order) }
     requires price { price ≤ MAX_PRICE }
-    requires limit { (1 ≤ limit) × (limit ≤ 20000) }
+    requires limit { (1 ≤ limit) × (limit ≤ MAX_BUDGET) }
     ensures { IfOk result (λ outcome. outcome ≡ probe_outcome batch.now order limit price) }
 {
     let extended = with_order(alloc, batch, Order { price, ..order })?;

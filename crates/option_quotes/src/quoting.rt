@@ -1,6 +1,7 @@
 //! The quote, probe by probe.
 ghost use Rattle.std.specs.Prelude.{◌≡◌, ◌≤◌, ◌+◌, IfOk, length, true};
 ghost use Rattle.std.specs.List.{All};
+ghost use Rattle.form.specs.declared.limits.TheConstants.{MAX_BUDGET, MAX_ORDER};
 ghost use Rattle.form.specs.Limits.{IsListed, IsWithinLimits};
 ghost use Rattle.form.specs.Options.{option_of};
 ghost use Rattle.option_quotes.specs.ByProbes.{quoted_of};
@@ -29,7 +30,7 @@ fn from_worst(
     room: &mut ClearRoom,
 ) -> Result<Quoted, AllocError>
     requires within { IsWithinLimits (with_order batch.now order) }
-    requires limit { (1 ≤ limit) × (limit ≤ 20000) }
+    requires limit { (1 ≤ limit) × (limit ≤ MAX_BUDGET) }
     requires base { IsShown batch.now limit base }
     requires best { IsProbed batch.now order limit best }
     requires price { best.price ≡ best_price order.side }
@@ -72,7 +73,7 @@ fn from_best(
     room: &mut ClearRoom,
 ) -> Result<Quoted, AllocError>
     requires within { IsWithinLimits (with_order batch.now order) }
-    requires limit { (1 ≤ limit) × (limit ≤ 20000) }
+    requires limit { (1 ≤ limit) × (limit ≤ MAX_BUDGET) }
     requires base { IsShown batch.now limit base }
     ensures quote { IfOk result (IsQuote batch.now order limit) }
     ensures unmarked { IfOk result (λ quoted.
@@ -107,7 +108,7 @@ fn quote_in(
 ) -> Result<Quoted, AllocError>
     requires batch { IsWithinLimits batch.now }
     requires within { IsWithinLimits (with_order batch.now order) }
-    requires limit { (1 ≤ limit) × (limit ≤ 20000) }
+    requires limit { (1 ≤ limit) × (limit ≤ MAX_BUDGET) }
     ensures { IfOk result (λ quoted. quoted ≡ quoted_of batch.now order limit) }
 {
     let base = outcome_in(alloc, batch, limit, room)?;
@@ -134,10 +135,10 @@ pub fn quote(
 ) -> Result<Quoted, AllocError>
     requires within { IsWithinLimits batch.now }
     requires room { length batch.now.orders ≤ 255 }
-    requires ids { All (λ order. order.id ≤ 1000000) batch.now.orders }
+    requires ids { All (λ order. order.id ≤ MAX_ORDER) batch.now.orders }
     requires listed { IsListed (option_of form.now) }
     requires on { form.now.count ≡ batch.now.underlyings + 1 }
-    requires limit { (1 ≤ limit) × (limit ≤ 20000) }
+    requires limit { (1 ≤ limit) × (limit ≤ MAX_BUDGET) }
 
     // The quote is the one that the definition gives by the probes.
     ensures defined { IfOk result (λ quoted.

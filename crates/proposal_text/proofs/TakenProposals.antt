@@ -3,7 +3,7 @@ use Rattle.std.proofs.Common.{◌≡◌, ℕ, ◌≤◌, ◌≤ℤ◌, ℤ, pos,
 use Rattle.std.specs.List.{AllByRecursion}
 use Rattle.std.proofs.lemmas.Bool.{and_from, le-leb}
 use Rattle.std.proofs.lemmas.Int.{ints}
-use Rattle.form.specs.declared.limits.TheConstants.{MAX_ORDERS}
+use Rattle.form.specs.declared.limits.TheConstants.{MAX_BUDGET, MAX_ORDER, MAX_ORDERS}
 use Rattle.form.specs.declared.orders.Batch.{Batch}
 use Rattle.form.specs.declared.orders.Order.{Order}
 use Rattle.form.specs.Bundles.{legs_in}
@@ -12,7 +12,7 @@ use Rattle.settlement.specs.declared.position.Position.{Position}
 use Rattle.cert_check.specs.declared.outcome.Mark.TheVariants as mark
 use Rattle.cert_check.specs.declared.outcome.Proposal.{Proposal}
 use Rattle.serde_json.specs.Data.{Data, string}
-use Rattle.reply_print.specs.declared.limits.TheConstants.{MAX_ACCOUNT, MAX_MARKET, MAX_ORDER, MAX_BATCH, MAX_BUDGET}
+use Rattle.reply_print.specs.declared.limits.TheConstants.{MAX_ACCOUNT, MAX_MARKET, MAX_BATCH}
 use Rattle.reply_print.specs.BatchPieces.{natural, fraction, pieces_of, leg_piece, order_piece}
 use Rattle.reply_print.specs.PieceData.{piece_data, pieces_data}
 use Rattle.reply_print.specs.Within.{IsOrderNumber, IsOrderWithin}

@@ -7,7 +7,8 @@ use Rattle.frac.specs.declared.frac128.Frac128.{Frac128}
 use Rattle.settlement.specs.declared.position.Position.{Position}
 use Rattle.serde_json.specs.Data.{Data}
 use Rattle.cert_check.specs.declared.outcome.Proposal.{Proposal}
-use Rattle.reply_print.specs.declared.limits.TheConstants.{MAX_BATCH, MAX_ORDER, MAX_BUDGET}
+use Rattle.form.specs.declared.limits.TheConstants.{MAX_BUDGET, MAX_ORDER}
+use Rattle.reply_print.specs.declared.limits.TheConstants.{MAX_BATCH}
 use Rattle.reply_print.specs.Look.{word_at, number_at}
 use Rattle.reply_text.specs.BatchValues.{fraction_from, bundle_from, side_at}
 use Rattle.reply_text.specs.ReplyValues.{account_at, market_at, batch_from}

@@ -2,13 +2,12 @@
 use Rattle.std.specs.Prelude.{ℕ, ◌≡◌, List, length, Bool, ◌&&◌, nat_le, Option, Some, None, option_map, option_and_then, codes, if◌then◌else◌}
 use Rattle.std.specs.Result.{result_ok}
 use Rattle.frac.specs.declared.frac128.Frac128.{Frac128}
-use Rattle.form.specs.declared.limits.TheConstants.{MAX_ORDERS}
+use Rattle.form.specs.declared.limits.TheConstants.{MAX_ORDER, MAX_ORDERS}
 use Rattle.cert_check.specs.declared.outcome.Mark.{Mark}
 use Rattle.cert_check.specs.declared.outcome.Mark.TheVariants.{Optimal, Wide, Budget}
 use Rattle.cert_check.specs.declared.outcome.Proposal.{Proposal}
 use Rattle.serde_json.specs.Data.{Data}
 use Rattle.serde_json.specs.Find.{as_number, as_u64}
-use Rattle.reply_print.specs.declared.limits.TheConstants.{MAX_ORDER}
 use Rattle.reply_print.specs.ClearedShape.{certificate_shape}
 use Rattle.reply_print.specs.Look.{has_members, has_at, is_whole, is_text, is_list}
 use Rattle.reply_print.specs.NumberTexts.{certificate_numbers, is_fraction}

@@ -2,13 +2,12 @@
 use Rattle.std.specs.Prelude.{ℕ, ◌≡◌, ◌≤◌, pos, ◌≤ℤ◌, ⊤, length}
 use Rattle.std.specs.List.{All, AllByRecursion}
 use Rattle.form.specs.declared.legs.Leg.{Leg}
-use Rattle.form.specs.declared.limits.TheConstants.{MAX_ORDERS}
+use Rattle.form.specs.declared.limits.TheConstants.{MAX_BUDGET, MAX_ORDERS}
 use Rattle.form.specs.Bundles.{legs_in}
 use Rattle.form.specs.Limits.{IsListed}
 use Rattle.form.specs.Payoff.{option_of}
 use Rattle.cert_check.specs.declared.outcome.Proposal.{Proposal}
 use Rattle.settlement.specs.declared.position.Position.{Position}
-use Rattle.reply_print.specs.declared.limits.TheConstants.{MAX_BUDGET}
 use Rattle.reply_print.specs.Within.{IsLine, IsAccount, IsMarket, IsOrderNumber, IsBatchNumber, IsBatchWithin, IsCoverWithin, IsPointWithin}
 use Rattle.proposal_text.specs.declared.submissions.Submission.{Submission}
 use Rattle.proposal_text.specs.declared.replies.BoundedOutcome.{BoundedOutcome}

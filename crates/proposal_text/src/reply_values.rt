@@ -7,8 +7,8 @@ ghost use Rattle.proposal_text.specs.ReplyValues.{book_from as book_is, bounded_
 use crate::replies::{BoundedOutcome, Failed, Positions, ProposalReply, RunStop};
 use crate::submission_text::proposal_from;
 use exact_num::Exact;
+use form::MAX_BUDGET;
 use frac::Frac128;
-use reply_print::limits::MAX_BUDGET;
 use reply_print::look::{number_at, word_at};
 use reply_text::batch_values::{batch_from, bundle_from, side_at};
 use reply_text::certificate_values::fraction_at;
@@ -146,7 +146,7 @@ fn outcome_from(alloc: Global, value: &Value) -> Result<Option<BoundedOutcome>, 
     let Some(bound) = fraction_at(value, "bound") else {
         return Ok(None);
     };
-    let Some(units) = natural_at(value, 0, MAX_BUDGET, "units") else {
+    let Some(units) = natural_at(value, 0, u64::from(MAX_BUDGET), "units") else {
         return Ok(None);
     };
     Ok(Some(BoundedOutcome {

@@ -14,12 +14,11 @@ ghost use Rattle.proposal_text.specs.Submissions.{IsTextOf, order_number_from as
 
 use crate::submissions::Submission;
 use cert_check::{Claim, Fills, Mark, Proposal};
-use form::MAX_ORDERS;
+use form::{MAX_ORDER, MAX_ORDERS};
 use frac::Frac128;
 use proposals::OrderNumbers;
 use reply_print::cleared_numbers::{are_fills, certificate_numbers, has_fraction};
 use reply_print::cleared_shape::{are_texts, certificate_shape};
-use reply_print::limits::MAX_ORDER;
 use reply_print::look::{has_at, has_members, has_text, is_list, is_whole};
 use reply_print::printed_outcomes::add_certificate;
 use reply_print::printing::{add_field, add_items, add_key, append};

@@ -1,7 +1,7 @@
 -- The tests by which a reply is within its ranges. That of the mark wide is left out: no such reply passes.
 use Rattle.std.specs.Prelude.{ℕ, ◌*◌, ◌^◌, ℤ, pos, int_le, unsigned_abs, List, length, Bool, true, false, ◌&&◌, ◌==◌, nat_le, nat_lt}
 use Rattle.std.specs.List.{list_all}
-use Rattle.form.specs.declared.limits.TheConstants.{MAX_UNDERLYINGS, MAX_ORDERS, MAX_PRICE, MAX_QUANTITY, MAX_OPTIONS}
+use Rattle.form.specs.declared.limits.TheConstants.{MAX_BUDGET, MAX_OPTIONS, MAX_ORDER, MAX_ORDERS, MAX_PRICE, MAX_QUANTITY, MAX_UNDERLYINGS}
 use Rattle.form.specs.declared.legs.Leg.{Leg}
 use Rattle.form.specs.declared.orders.Side.{Side}
 use Rattle.form.specs.declared.orders.Side.TheVariants.{Buy, Sell}
@@ -21,7 +21,7 @@ use Rattle.cert_check.specs.declared.outcome.Cover.TheVariants.{Line, Tree}
 use Rattle.cert_check.specs.declared.outcome.Mark.{Mark}
 use Rattle.cert_check.specs.declared.outcome.Mark.TheVariants as mark
 use Rattle.cert_check.specs.declared.outcome.Outcome.{Outcome}
-use Rattle.reply_print.specs.declared.limits.TheConstants.{MAX_ACCOUNT, MAX_MARKET, MAX_ORDER, MAX_BATCH, MAX_PLACE, MAX_BUDGET, MAX_LAPSED, MAX_REFUSAL, MIN_FIELD, MAX_FIELD}
+use Rattle.reply_print.specs.declared.limits.TheConstants.{MAX_ACCOUNT, MAX_MARKET, MAX_BATCH, MAX_PLACE, MAX_LAPSED, MAX_REFUSAL, MIN_FIELD, MAX_FIELD}
 use Rattle.reply_print.specs.declared.replies.Reply.{Reply}
 use Rattle.reply_print.specs.declared.replies.Reply.TheVariants.{Opened, Deposited, Withdrawn, Listed, Placed, Cancelled, Cleared, Settled, Balance, Refused}
 use Rattle.reply_print.specs.OutcomePieces.{state_entries}

@@ -10,13 +10,13 @@ ghost use Rattle.quick_reader.specs.Ranges as tests;
 
 use cert_check::{Cover, Mark, Measure, Outcome, Weighted};
 use form::{
-    Batch, Bundle, Leg, MAX_OPTIONS, MAX_ORDERS, MAX_PRICE, MAX_QUANTITY, MAX_STRIKE,
-    MAX_UNDERLYINGS, MAX_WEIGHT, Order, Side,
+    Batch, Bundle, Leg, MAX_BUDGET, MAX_OPTIONS, MAX_ORDER, MAX_ORDERS, MAX_PRICE, MAX_QUANTITY,
+    MAX_STRIKE, MAX_UNDERLYINGS, MAX_WEIGHT, Order, Side,
 };
 use reply_print::Reply;
 use reply_print::limits::{
-    MAX_ACCOUNT, MAX_BATCH, MAX_BUDGET, MAX_FIELD, MAX_LAPSED, MAX_LINE, MAX_MARKET, MAX_ORDER,
-    MAX_PLACE, MAX_REFUSAL, MIN_FIELD,
+    MAX_ACCOUNT, MAX_BATCH, MAX_FIELD, MAX_LAPSED, MAX_LINE, MAX_MARKET, MAX_PLACE, MAX_REFUSAL,
+    MIN_FIELD,
 };
 use settlement::{MAX_GAIN, PaidOut};
 use sign_tree::{Multiplier, Node};
@@ -236,7 +236,7 @@ fn is_mark(mark: &Mark) -> bool
 fn is_outcome(outcome: &Outcome) -> bool
     ensures { result ≡ tests.is_outcome outcome.now }
 {
-    u64::from(outcome.units) <= MAX_BUDGET && is_mark(&outcome.mark)
+    outcome.units <= MAX_BUDGET && is_mark(&outcome.mark)
 }
 
 fn has_its_side(side: Side, amount: u64) -> bool

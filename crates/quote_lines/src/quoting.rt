@@ -2,7 +2,7 @@
 ghost use Rattle.std.specs.Prelude.{◌≡◌, ◌≤◌, ◌+◌, IfOk, IfSome, None, length};
 ghost use Rattle.std.specs.List.{All};
 ghost use Rattle.form.specs.Limits.{IsWithinLimits};
-ghost use Rattle.form.specs.declared.limits.TheConstants.{MAX_UNDERLYINGS};
+ghost use Rattle.form.specs.declared.limits.TheConstants.{MAX_ORDER, MAX_QUANTITY, MAX_UNDERLYINGS};
 ghost use Rattle.order_book.specs.Book.{info_in};
 ghost use Rattle.exchange_core.specs.Kept.{IsKept};
 ghost use Rattle.lists.specs.Refusals.{first_of};
@@ -40,7 +40,7 @@ fn quoted_price(
     requires request { IsRequestWithin request.now }
     requires batch { IsWithinLimits batch.now }
     requires room { length batch.now.orders ≤ 255 }
-    requires ids { All (λ order. order.id ≤ 1000000) batch.now.orders }
+    requires ids { All (λ order. order.id ≤ MAX_ORDER) batch.now.orders }
     requires on { request.now.form.count ≡ batch.now.underlyings + 1 }
     ensures { IfOk result (λ price. price ≡ quoted_price batch.now request.now side) }
 {
@@ -57,7 +57,7 @@ fn quoted_for(
     requires request { IsRequestWithin request.now }
     requires batch { IsWithinLimits batch.now }
     requires room { length batch.now.orders ≤ 255 }
-    requires ids { All (λ order. order.id ≤ 1000000) batch.now.orders }
+    requires ids { All (λ order. order.id ≤ MAX_ORDER) batch.now.orders }
     requires on { request.now.form.count ≡ batch.now.underlyings + 1 }
     ensures { IfOk result (λ reply. reply ≡ quoted_for batch.now request.now) }
 {
@@ -103,10 +103,10 @@ fn priced_for(
     quantity: u32,
 ) -> Result<QuotesReply, AllocError>
     requires request { IsRequestWithin request.now }
-    requires quantity { (1 ≤ quantity) × (quantity ≤ 1000000) }
+    requires quantity { (1 ≤ quantity) × (quantity ≤ MAX_QUANTITY) }
     requires batch { IsWithinLimits batch.now }
     requires room { length batch.now.orders ≤ 255 }
-    requires ids { All (λ order. order.id ≤ 1000000) batch.now.orders }
+    requires ids { All (λ order. order.id ≤ MAX_ORDER) batch.now.orders }
     requires on { request.now.form.count ≡ batch.now.underlyings + 1 }
     ensures { IfOk result (λ reply. reply ≡ priced_for batch.now request.now quantity) }
 {
@@ -122,10 +122,10 @@ fn told_for(
     quantity: Option<u32>,
 ) -> Result<QuotesReply, AllocError>
     requires request { IsRequestWithin request.now }
-    requires quantity { IfSome quantity (λ q. (1 ≤ q) × (q ≤ 1000000)) }
+    requires quantity { IfSome quantity (λ q. (1 ≤ q) × (q ≤ MAX_QUANTITY)) }
     requires batch { IsWithinLimits batch.now }
     requires room { length batch.now.orders ≤ 255 }
-    requires ids { All (λ order. order.id ≤ 1000000) batch.now.orders }
+    requires ids { All (λ order. order.id ≤ MAX_ORDER) batch.now.orders }
     requires on { request.now.form.count ≡ batch.now.underlyings + 1 }
     ensures { IfOk result (λ reply. reply ≡ told_for batch.now request.now quantity) }
 {
@@ -162,7 +162,7 @@ fn asked_live(
     quantity: Option<u32>,
 ) -> Result<QuotesReply, AllocError>
     requires request { IsRequestWithin request.now }
-    requires quantity { IfSome quantity (λ q. (1 ≤ q) × (q ≤ 1000000)) }
+    requires quantity { IfSome quantity (λ q. (1 ≤ q) × (q ≤ MAX_QUANTITY)) }
     requires kept { IsKept exchange.now }
     requires told { first_of
         (info_refusals (info_in exchange.now.book request.now.market) request.now) ≡ None }
@@ -184,7 +184,7 @@ pub(crate) fn asked_reply(
     quantity: Option<u32>,
 ) -> Result<QuotesReply, AllocError>
     requires request { IsRequestWithin request.now }
-    requires quantity { IfSome quantity (λ q. (1 ≤ q) × (q ≤ 1000000)) }
+    requires quantity { IfSome quantity (λ q. (1 ≤ q) × (q ≤ MAX_QUANTITY)) }
     ensures { IfOk result (λ reply. reply ≡ asked_reply exchange.now request.now quantity) }
 {
     match refused_by(exchange.info(request.market), request) {

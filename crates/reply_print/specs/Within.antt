@@ -4,7 +4,7 @@ use Rattle.std.specs.List.{AllByRecursion}
 use Rattle.exact_num.specs.Fraction.{IsLowest, over}
 use Rattle.form.specs.declared.orders.Side.{Side}
 use Rattle.form.specs.declared.orders.Side.TheVariants.{Buy, Sell}
-use Rattle.form.specs.declared.limits.TheConstants.{MAX_UNDERLYINGS, MAX_ORDERS}
+use Rattle.form.specs.declared.limits.TheConstants.{MAX_BUDGET, MAX_ORDER, MAX_ORDERS, MAX_UNDERLYINGS}
 use Rattle.form.specs.Limits as limits
 use Rattle.settlement.specs.declared.limits.TheConstants.{MAX_GAIN}
 use Rattle.cert_check.specs.declared.measures.Weighted.{Weighted}
@@ -16,7 +16,7 @@ use Rattle.cert_check.specs.declared.outcome.Cover.TheVariants.{Line, Tree}
 use Rattle.cert_check.specs.declared.outcome.Mark.{Mark}
 use Rattle.cert_check.specs.declared.outcome.Mark.TheVariants as mark
 use Rattle.cert_check.specs.declared.outcome.Outcome.{Outcome}
-use Rattle.reply_print.specs.declared.limits.TheConstants.{MAX_LINE, MAX_ACCOUNT, MAX_MARKET, MAX_ORDER, MAX_BATCH, MAX_PLACE, MAX_BUDGET, MAX_LAPSED, MAX_REFUSAL, MIN_FIELD, MAX_FIELD}
+use Rattle.reply_print.specs.declared.limits.TheConstants.{MAX_LINE, MAX_ACCOUNT, MAX_MARKET, MAX_BATCH, MAX_PLACE, MAX_LAPSED, MAX_REFUSAL, MIN_FIELD, MAX_FIELD}
 use Rattle.reply_print.specs.Words.{is_range_refusal}
 use Rattle.reply_print.specs.OutcomePieces.{state_entries, count_of}
 use Rattle.form.specs.declared.orders.Batch.{Batch}

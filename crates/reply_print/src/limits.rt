@@ -9,17 +9,11 @@ pub const MAX_ACCOUNT: u64 = 999_999_999;
 /// The highest number of a market.
 pub const MAX_MARKET: u64 = 999_999_999;
 
-/// The highest number of an order.
-pub const MAX_ORDER: u64 = 1_000_000;
-
 /// The highest number of a batch.
 pub const MAX_BATCH: u64 = 2_000_000;
 
 /// The highest place of a leg in a batch: 256 orders of four legs each.
 pub const MAX_PLACE: u64 = 1_024;
-
-/// The most units of work that a clear counts.
-pub const MAX_BUDGET: u64 = 20_000;
 
 /// The most orders that lapse at a settlement.
 pub const MAX_LAPSED: u64 = 256;

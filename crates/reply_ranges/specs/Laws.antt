@@ -10,6 +10,7 @@ use Rattle.command_text.specs.Within.{IsWithin}
 use Rattle.command_text.specs.declared.limits.TheConstants.{MAX_INPUT}
 use Rattle.exchange_core.specs.ExchangeState.{empty_exchange}
 use Rattle.exchange_core.specs.Step.{step}
+use Rattle.form.specs.declared.limits.TheConstants.{MAX_BUDGET}
 use Rattle.form.specs.declared.orders.Batch.{Batch}
 use Rattle.form.specs.Limits.{IsWithinLimits}
 use Rattle.exchange_lines.specs.GainRuns.{replies_by}
@@ -27,7 +28,7 @@ FieldsAreWithin = (line : List ℕ) → HasField (body_of_line line)
 
 -- an outcome of a batch within the limits, with a budget that a command may give
 abbrev pub OutcomesAreRanged : Type 0
-OutcomesAreRanged = (batch : Batch) (units : ℕ) → IsWithinLimits batch → units ≤ 20000 → IsOutcomeWithin (outcome_of batch units)
+OutcomesAreRanged = (batch : Batch) (units : ℕ) → IsWithinLimits batch → units ≤ MAX_BUDGET → IsOutcomeWithin (outcome_of batch units)
 
 -- whatever commands come to an empty exchange, as many as a run may have lines, each reply is within the ranges of its line
 abbrev pub RepliesAreWithin : Type 0

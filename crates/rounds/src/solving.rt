@@ -1,5 +1,6 @@
 //! The joint solve.
 ghost use Rattle.std.specs.Prelude.{◌≡◌, ◌≤◌, Err, IfOk, length, unsigned_abs, vec_capacity};
+ghost use Rattle.form.specs.declared.limits.TheConstants.{MAX_BUDGET};
 ghost use Rattle.form.specs.Limits.{IsWithinLimits};
 ghost use Rattle.cert_check.specs.Tests.{AreSigns};
 ghost use Rattle.rounds.specs.Answers.{IsJointAnswer, IsJointOf, OfSolution, as_stopped, limits_of, reading_in};
@@ -82,7 +83,7 @@ pub fn solve_joint<N: Exact>(
     budget: &mut Budget,
 ) -> Result<Joint<N>, Stop>
     requires limits { IsWithinLimits batch.now }
-    requires units { budget.old.limit ≤ 20000 }
+    requires units { budget.old.limit ≤ MAX_BUDGET }
     ensures run { IsJointAnswer N.fraction (joint_run
         (limits_of (unsigned_abs N.LIMIT) budget.old.limit) batch.now.underlyings
         batch.now.orders budget.old.spent) result budget.new.spent }
