@@ -29,7 +29,7 @@ use Rattle.quote_lines.proofs.AsRun.{quotes_tell_answers}
 use Rattle.exchange_program.specs.Journals.{IsSoundIn, NamesFault, SaysIn, report_in, report_line}
 use Rattle.exchange_program.specs.Live.{ServedTell, served_output}
 use Rattle.exchange_program.specs.Modes.{IsBesideIn, mode_output, step_in}
-use Rattle.exchange_program.specs.Requests.{IsReadFirst, OfInput, OfSomeInput, Promised, PromisedFront, WhereCheck, OfOutput, status_by, status_for}
+use Rattle.exchange_program.specs.Requests.{IsReadFirst, OfInput, OfSomeInput, Promised, PromisedFront, WhereCheck, OfOutput, input_of, status_by, status_for}
 use Rattle.exchange_program.specs.Wrote.{Wrote, WroteFront}
 use Rattle.exchange_program.specs.declared.status.Status.{Status}
 use Rattle.exchange_program.specs.declared.status.Status.TheVariants.{Done, Usage, CheckNo}
@@ -82,12 +82,7 @@ if_told None = ([], tt)
 if_told (Some input) = (input, refl)
 
 some_input : (request : Request) (left : Option (List ℕ)) → (input : List ℕ) × IsInput request left input
-some_input (Lines mode) left = if_told left
-some_input (Check journal) left = if_told left
-some_input Sessions left = if_told left
-some_input (Serve kind) left = if_told left
-some_input Propose left = if_told left
-some_input (Demo seed count) left = ([], refl)
+some_input request left = if_told (input_of request left)
 
 -- nothing at all is a front of it
 some_promised : (request : Request) (input : List ℕ) → (bytes : List ℕ) × PromisedFront request input bytes

@@ -1,5 +1,6 @@
 -- What the program does for each request.
-use Rattle.std.specs.Prelude.{ℕ, List, [], true, ◌+◌, ◌≡◌, ◌≤◌, ◌<◌, ◌⊎◌, length, Option, Some, IfSome, IsSomeAnd}
+use Rattle.std.specs.Prelude.{ℕ, List, [], Bool, true, ◌+◌, ◌≡◌, ◌≤◌, ◌<◌, ◌⊎◌, length, Option, Some, None, IfSome, IsSomeAnd, MatchOption}
+use Rattle.std.specs.Option.{option_map_or}
 use Rattle.demo_run.specs.Demo.{demo_output}
 use Rattle.exchange_lines.specs.Promises.{TellAnswers}
 use Rattle.exchange_sessions.specs.Answers.{sessions_output}
@@ -23,32 +24,41 @@ use Rattle.exchange_program.specs.declared.status.Status.{Status}
 use Rattle.exchange_program.specs.declared.status.Status.TheVariants.{Done, CheckNo}
 
 -- ---- the input
--- whether all of it is read before anything is written: not where it is answered between two reads
+-- how many bytes are read at most, all of them before anything is written: none for a demo. There is no such limit where lines are answered
+-- between two reads
+abbrev pub limit_of : Request → Option ℕ
+limit_of (Lines mode) = Some MAX_INPUT
+limit_of (Check journal) = Some MAX_JOURNAL
+limit_of Sessions = Some MAX_INPUT
+limit_of (Serve served) = None
+limit_of Propose = None
+limit_of (Demo seed count) = Some 0
+
+-- whether the mark in front of an input without such a limit is skipped
+abbrev pub skips_of : Request → Bool
+skips_of (Serve served) = skips_mark served
+skips_of other = true
+
+-- what is read, as far as it is told: the bytes that were left, and none for a demo
+abbrev pub input_of : Request → Option (List ℕ) → Option (List ℕ)
+input_of (Lines mode) left = left
+input_of (Check journal) left = left
+input_of Sessions left = left
+input_of (Serve served) left = left
+input_of Propose left = left
+input_of (Demo seed count) left = Some []
+
+-- whether all is read before anything is written
 abbrev pub IsReadFirst : Request → Type 0
-IsReadFirst (Lines mode) = Unit {0}
-IsReadFirst (Check journal) = Unit {0}
-IsReadFirst Sessions = Unit {0}
-IsReadFirst (Serve served) = ⊥
-IsReadFirst Propose = ⊥
-IsReadFirst (Demo seed count) = Unit {0}
+IsReadFirst request = IsSomeAnd (limit_of request) (λ limit. Unit {0})
 
--- a fact of the limit of its bytes, which are none for a demo, where it is read first
+-- a fact of the limit, where there is one
 abbrev pub WithLimit : Request → (ℕ → Type 0) → Type 0
-WithLimit (Lines mode) P = P MAX_INPUT
-WithLimit (Check journal) P = P MAX_JOURNAL
-WithLimit Sessions P = P MAX_INPUT
-WithLimit (Serve served) P = Unit {0}
-WithLimit Propose P = Unit {0}
-WithLimit (Demo seed count) P = P 0
+WithLimit request P = IfSome (limit_of request) P
 
--- a fact of the bytes that are read: those that were left, or none
+-- a fact of the bytes that are read
 abbrev pub OfInput : Request → Option (List ℕ) → (List ℕ → Type 0) → Type 0
-OfInput (Lines mode) left P = IfSome left P
-OfInput (Check journal) left P = IfSome left P
-OfInput Sessions left P = IfSome left P
-OfInput (Serve served) left P = IfSome left P
-OfInput Propose left P = IfSome left P
-OfInput (Demo seed count) left P = P []
+OfInput request left P = IfSome (input_of request left) P
 
 -- a fact of some bytes, which are those that are read, as far as they are told
 abbrev pub OfSomeInput : Request → Option (List ℕ) → (List ℕ → Type 0) → Type 0
@@ -63,32 +73,18 @@ IsReadWhole (Serve served) old new = IfSome old (λ input. new ≡ Some [])
 IsReadWhole Propose old new = IfSome old (λ input. new ≡ Some [])
 IsReadWhole (Demo seed count) old new = Unit {0}
 
--- what is left is told, and is within the limit, or has lines within theirs
+-- what is read is told, and is within the limit, or has lines within theirs
 abbrev pub IsInputWithin : Request → Option (List ℕ) → Type 0
-IsInputWithin (Lines mode) left = IsSomeAnd left (λ input. length input ≤ MAX_INPUT)
-IsInputWithin (Check journal) left = IsSomeAnd left (λ input. length input ≤ MAX_JOURNAL)
-IsInputWithin Sessions left = IsSomeAnd left (λ input. length input ≤ MAX_INPUT)
-IsInputWithin (Serve served) left = IsSomeAnd left (live_input.IsInputWithin (skips_mark served))
-IsInputWithin Propose left = IsSomeAnd left (live_input.IsInputWithin true)
-IsInputWithin (Demo seed count) left = Unit {0}
+IsInputWithin request left =
+    IsSomeAnd (input_of request left) (λ input. MatchOption (limit_of request) (live_input.IsInputWithin (skips_of request) input) (λ limit. length input ≤ limit))
 
 -- an input is past the limit, or a line of it is
 abbrev pub IsPastLimit : Request → List ℕ → Type 0
-IsPastLimit (Lines mode) input = MAX_INPUT < length input
-IsPastLimit (Check journal) input = MAX_JOURNAL < length input
-IsPastLimit Sessions input = MAX_INPUT < length input
-IsPastLimit (Serve served) input = ¬ live_input.IsInputWithin (skips_mark served) input
-IsPastLimit Propose input = ¬ live_input.IsInputWithin true input
-IsPastLimit (Demo seed count) input = 0 < length input
+IsPastLimit request input = MatchOption (limit_of request) (¬ live_input.IsInputWithin (skips_of request) input) (λ limit. limit < length input)
 
 -- so many bytes at least are taken before that is known
 abbrev pub past_size : Request → ℕ
-past_size (Lines mode) = MAX_INPUT + 1
-past_size (Check journal) = MAX_JOURNAL + 1
-past_size Sessions = MAX_INPUT + 1
-past_size (Serve served) = line_limit + 1
-past_size Propose = line_limit + 1
-past_size (Demo seed count) = 1
+past_size request = option_map_or (λ limit. limit + 1) (limit_of request) (line_limit + 1)
 
 -- ---- the output
 -- a fact of what is written, the input being these bytes, where they define it: which proposals are written no definition says
