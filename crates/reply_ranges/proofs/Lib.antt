@@ -21,3 +21,5 @@ pub mod Proposals
 pub mod ServedLines
 pub mod Messages
 pub mod Audited
+pub mod InputLines
+pub mod Books

@@ -31,18 +31,18 @@ use Rattle.exchange_core.specs.Held.{is_held_by, positions_of}
 use Rattle.exchange_core.specs.Kept.{IsPositionKept}
 use Rattle.exchange_core.specs.Refusals.{by_book, by_ledger, refusal_of}
 use Rattle.exchange_core.specs.Step.{batch_in, clear_effect, refusal_effect}
-use Rattle.exchange_core.proofs.FirstRefusal.{batch_none, live_none}
+use Rattle.exchange_core.proofs.FirstRefusal.{batch_none}
 use Rattle.form.specs.Between.{Between}
 use Rattle.form.specs.declared.orders.Batch.{Batch}
 use Rattle.frac.specs.Range.{limit}
 use Rattle.frac.specs.Value.{fraction_of}
 use Rattle.frac.specs.ValueOf.{value_from}
 use Rattle.frac.specs.declared.frac128.Frac128.{Frac128}
-use Rattle.order_book.specs.Book.{batch_of, market_of}
+use Rattle.order_book.specs.Book.{market_of}
 use Rattle.order_book.specs.Markets.{MarketState}
 use Rattle.order_book.specs.Numbers.{numbers_of}
 use Rattle.order_book.specs.Refusals.{live_refusals}
-use Rattle.order_book.proofs.Accepting.{finishable, listing_live}
+use Rattle.order_book.proofs.Accepting.{finishable}
 use Rattle.order_book.proofs.MarketLists.{same_number}
 use Rattle.lists.specs.Refusals.{first_of}
 use Rattle.settlement.specs.declared.position.Position.{Position}
@@ -75,7 +75,7 @@ use Rattle.proposal_lines.proofs.Clearing.{batch_is, chosen, clears_are_proved}
 use Rattle.proposal_lines.proofs.Kept.{best_proved, without_has}
 use Rattle.reply_ranges.proofs.Outcomes.{outcomes_are_ranged}
 use Rattle.reply_ranges.proofs.Refusals.{IsOne, IsTold, of_book, of_ledger, refusal_is_told}
-use Rattle.reply_ranges.proofs.States.{IsNumbered, batch_is_within, batch_ranged, market_batch}
+use Rattle.reply_ranges.proofs.States.{IsNumbered, batch_is_within, batch_ranged, live_ranged}
 use Rattle.reply_ranges.proofs.ServedFields.{IsPlaced, IsPlacedIn, number_at, positions_fields}
 use Rattle.reply_ranges.proofs.Kept.{AreKeptWithin, IsBestWithin, best_within, offer_within}
 use Rattle.reply_ranges.proofs.Others.{IsStanding, first_served, refusal_served, run_served}
@@ -215,9 +215,7 @@ module _ (lines number : ℕ) (few : lines + 1 ≤ 16777216) (is_line : IsLine n
   -- the live orders of a market that is there
   live_within : (market : ℕ) → first_of (by_book (live_refusals exchange.book market)) ≡ None → reply.IsBatchWithin (batch_in exchange market)
   live_within market none =
-      let (m, found, unsettled) = listing_live exchange.book market (live_none exchange.book market none) in
-      subst reply.IsBatchWithin (sym (batch_is state market m found))
-      (batch_is_within exchange.book.accepted (batch_of m) (market_batch lines exchange stands.running stands.ranged market m found))
+      batch_is_within exchange.book.accepted (batch_in exchange market) (live_ranged lines exchange stands.running stands.ranged market none)
 
   held_all : (account market : ℕ) → All (IsPositionWithin account market) (positions_of account market exchange.positions)
   held_all account market =

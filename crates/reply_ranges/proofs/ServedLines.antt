@@ -1,5 +1,5 @@
 -- Each line that is served is sound, and what is left stands before the next one.
-use Rattle.std.proofs.Common.{◌≡◌, ℕ, ◌+◌, ◌≤◌, List, map, zip, Option, Some, None, Result, inl, refl, sym, subst, arith}
+use Rattle.std.proofs.Common.{◌≡◌, ℕ, ◌+◌, ◌-◌, ◌≤◌, List, map, zip, Option, Some, None, Result, inl, refl, sym, subst, arith}
 use Rattle.std.specs.Option.{option_map_or}
 use Rattle.std.specs.Prelude.{IfSome}
 use Rattle.std.specs.List.{All}
@@ -65,19 +65,22 @@ empty_stands = record {
   kept = All-nil (Has IsBestWithin);
 }
 
-one_line_more : (lines : ℕ) (exchange : ExchangeState) → IsStanding lines exchange → IsStanding (lines + 1) exchange
-one_line_more lines exchange stands =
-    record { running = stands.running; ranged = more_lines lines (lines + 1) exchange (omega arith) stands.ranged; owed = stands.owed }
+later_exchange : (lines more : ℕ) (exchange : ExchangeState) → lines ≤ more → IsStanding lines exchange → IsStanding more exchange
+later_exchange lines more exchange le stands = record { running = stands.running; ranged = more_lines lines more exchange le stands.ranged; owed = stands.owed }
+
+-- and before a later one, where nothing comes between
+pub still : (number later : ℕ) (state : ProposingState) → number ≤ later → Stands number state → Stands later state
+still number later state le h = record {
+  lines = later - 1;
+  counted = omega (arith, h.counted, le);
+  sound = h.sound;
+  exchange = later_exchange h.lines (later - 1) state.exchange (omega (arith, h.counted, le)) h.exchange;
+  kept = h.kept;
+}
 
 -- behind an empty line
 pub passes : (number : ℕ) (state : ProposingState) → Stands number state → Stands (number + 1) state
-passes number state h = record {
-  lines = h.lines + 1;
-  counted = omega (arith, h.counted);
-  sound = h.sound;
-  exchange = one_line_more h.lines state.exchange h.exchange;
-  kept = h.kept;
-}
+passes number state = still number (number + 1) state (omega arith)
 
 -- ---- the exchange behind a line
 module _ (lines : ℕ) (state : ProposingState) (line : InputLine) (sound : IsSound state) (stands : IsStanding lines state.exchange) where
@@ -116,7 +119,7 @@ module _ (lines : ℕ) (state : ProposingState) (line : InputLine) (sound : IsSo
       let covered : IsCovered (batch_in exchange answer.market) (as_optimal answer.better.proposal)
       = subst (λ (b : Batch). IsCovered b (as_optimal answer.better.proposal)) told.batch promise.proves.covered in
       subst (IsStanding (lines + 1)) (sym told.exchange) (charged_stands answer.market answer.budget answer.better told.accepted covered)
-  told_stands (beside number text) after told promise = subst (IsStanding (lines + 1)) (sym told.exchange) (one_line_more lines exchange stands)
+  told_stands (beside number text) after told promise = subst (IsStanding (lines + 1)) (sym told.exchange) (later_exchange lines (lines + 1) exchange (omega arith) stands)
 
 -- ---- what is written for a line
 module _ (number : ℕ) (state : ProposingState) (few : number ≤ count_limit) (stands : Stands number state) where

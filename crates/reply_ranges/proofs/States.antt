@@ -24,8 +24,8 @@ use Rattle.frac.specs.Value.{fraction_of}
 use Rattle.order_book.specs.Book.{BookState, batch_of, market_of}
 use Rattle.order_book.specs.Kept.{IsLive}
 use Rattle.order_book.specs.Markets.{MarketState}
-use Rattle.order_book.specs.Refusals.{batch_refusals, close_refusals}
-use Rattle.order_book.proofs.Accepting.{closable, finishable}
+use Rattle.order_book.specs.Refusals.{batch_refusals, close_refusals, live_refusals}
+use Rattle.order_book.proofs.Accepting.{closable, finishable, listing_live}
 use Rattle.order_book.proofs.BookKept.{batch_within, market_kept}
 use Rattle.order_book.proofs.MarketLists.{live_found, same_number}
 use Rattle.lists.specs.Refusals.{first_of}
@@ -43,9 +43,9 @@ use Rattle.exchange_core.specs.Kept.{IsKept, IsOfOpen, IsPaidOut}
 use Rattle.exchange_core.specs.Payoffs.{payoff_entries}
 use Rattle.exchange_core.specs.Positions.{positions_in}
 use Rattle.exchange_core.specs.Premiums.{premium_entries}
-use Rattle.exchange_core.specs.Refusals.{refusal_of}
+use Rattle.exchange_core.specs.Refusals.{by_book, refusal_of}
 use Rattle.exchange_core.specs.Step.{batch_in, cleared_with, effect, refusal_effect, step, with_entry}
-use Rattle.exchange_core.proofs.FirstRefusal.{batch_none, close_none}
+use Rattle.exchange_core.proofs.FirstRefusal.{batch_none, close_none, live_none}
 use Rattle.exchange_core.proofs.LiveAccounts.{All-live_in}
 use Rattle.exchange_core.proofs.Settled.{are_paid_out}
 use Rattle.exchange_lines.proofs.Payouts.{all_made}
@@ -107,7 +107,7 @@ module _ (lines : ℕ) (state : ExchangeState) (running : IsRunning state) (rang
       let most = running.kept.orders.book.accepted in
       ((live.some, omega (arith, live.number, most)), (trader, open_small state.accounts order.account ranged.accounts opened), live.within)
 
-  pub market_batch : (market : ℕ) (m : MarketState) → market_of state.book market ≡ Some m → IsBatchOf state.book.accepted (batch_of m)
+  market_batch : (market : ℕ) (m : MarketState) → market_of state.book market ≡ Some m → IsBatchOf state.book.accepted (batch_of m)
   market_batch market m found =
       let accepted : ℕ = state.book.accepted in
       let Live : Order → Type 0 = IsLive m.underlyings accepted in
@@ -122,11 +122,17 @@ module _ (lines : ℕ) (state : ExchangeState) (running : IsRunning state) (rang
         orders = λ k d inside. order_ranged m.underlyings _ (live k d inside) (traders k d inside) (opened k d inside);
       }
 
-  pub batch_ranged : (market : ℕ) → first_of (batch_refusals state.book market) ≡ None → IsBatchOf state.book.accepted (batch_in state market)
-  batch_ranged market none =
-      let (m, found, more, unsettled) = finishable state.book market none in
+  found_batch : (market : ℕ) (m : MarketState) → market_of state.book market ≡ Some m → IsBatchOf state.book.accepted (batch_in state market)
+  found_batch market m found =
       let is = ap (λ r. option_map_or batch_of r (record { underlyings = 0; orders = [] })) found in
       subst (IsBatchOf state.book.accepted) (sym is) (market_batch market m found)
+
+  pub batch_ranged : (market : ℕ) → first_of (batch_refusals state.book market) ≡ None → IsBatchOf state.book.accepted (batch_in state market)
+  batch_ranged market none = let (m, found, more, unsettled) = finishable state.book market none in found_batch market m found
+
+  -- and those that are told
+  pub live_ranged : (market : ℕ) → first_of (by_book (live_refusals state.book market)) ≡ None → IsBatchOf state.book.accepted (batch_in state market)
+  live_ranged market none = let (m, found, unsettled) = listing_live state.book market (live_none state.book market none) in found_batch market m found
 
 -- ---- the payouts of a settlement
 abbrev paid_by : Position → ℤ → PaidOut

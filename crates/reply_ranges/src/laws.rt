@@ -1,6 +1,7 @@
 //! Laws of what is written, and of the journals that it is: each is the contract of a function that does nothing.
 ghost use Rattle.reply_ranges.specs.Accepted.{AnswersAreWithin, RunsAreAccepted};
 ghost use Rattle.reply_ranges.specs.Audits.{ServedLinesAreAccepted, ServedMessagesAreAccepted};
+ghost use Rattle.reply_ranges.specs.Books.{BooksAreProposedFor, BooksAreTold};
 ghost use Rattle.reply_ranges.specs.Laws.{FieldsAreWithin, OutcomesAreRanged, RepliesAreWithin};
 
 /// Whatever its bytes are, a line that is refused for a number tells of a field from 2 to 51.
@@ -40,4 +41,17 @@ pub fn served_lines_are_accepted()
 /// So does an audit of what is written for messages of sessions: replies to accepted messages, and lines of the gate.
 pub fn served_messages_are_accepted()
     ensures { ServedMessagesAreAccepted }
+{}
+
+/// Whatever the lines of an input are, within the limits that a run keeps to which finishes, one
+/// that asks for the live orders of a market is answered, where they are told, by a line that
+/// `propose` takes as a book of just these.
+pub fn books_are_told()
+    ensures { BooksAreTold }
+{}
+
+/// What `propose` writes for a book is one line, as short as an exchange takes it. Wherever the
+/// orders of the book are the live ones of its market, it is taken: it is answered `proposed`.
+pub fn books_are_proposed_for()
+    ensures { BooksAreProposedFor }
 {}

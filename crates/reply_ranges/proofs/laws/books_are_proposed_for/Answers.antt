@@ -1,0 +1,5 @@
+use Rattle.reply_ranges.proofs.Books.{books_are_proposed_for}
+use Rattle.reply_ranges.proofs.laws.books_are_proposed_for.Goals as goal
+
+pub returns : goal.returns
+returns c = books_are_proposed_for

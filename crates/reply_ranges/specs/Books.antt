@@ -1,0 +1,42 @@
+-- What is told of a market's live orders where lines are served, and what becomes of what is proposed for them.
+use Rattle.std.specs.Prelude.{ℕ, ◌≡◌, List, [], ◌∷◌, ◌++◌, true, Some, None, Ok}
+use Rattle.exchange_core.specs.Step.{batch_in}
+use Rattle.exchange_lines.specs.LineSteps.{InputLine, input_lines}
+use Rattle.form.specs.declared.orders.Batch.{Batch}
+use Rattle.lists.specs.Refusals.{first_of}
+use Rattle.live_lines.specs.Serving.{IsInputWithin}
+use Rattle.proposal_lines.specs.Laws.{IsRefused}
+use Rattle.proposal_lines.specs.Output.{proposing_line, proposing_reply_line}
+use Rattle.proposal_lines.specs.Promises.{state_by_lines}
+use Rattle.proposal_lines.specs.ProposingState.{ProposingState, empty_state}
+use Rattle.proposal_lines.specs.Reads.{read_of_line, read_refusals}
+use Rattle.proposal_lines.specs.declared.reads.ReadRequest.TheVariants.{Book}
+use Rattle.proposal_lines.specs.declared.replies.ProposingReply.{ProposingReply}
+use Rattle.book_proposals.specs.Answers.{IsAnswerTo, IsBookOf}
+use Rattle.book_proposals.specs.Laws.{IsShortLine}
+
+-- nothing refuses that the live orders of the market are told: it is there, and not settled
+abbrev pub TellsLive : ProposingState → ℕ → Type 0
+TellsLive state market = first_of (read_refusals state.exchange (Book market)) ≡ None
+
+-- Whatever the lines of an input are, within the limits that a run keeps to which finishes: one that asks for the live orders of a market is
+-- answered, where they are told, by a line that is a book of just these, as `propose` takes it
+abbrev pub BooksAreTold : Type 0
+BooksAreTold =
+    (input : List ℕ) (before later : List InputLine) (line : InputLine) (market : ℕ) → IsInputWithin true input
+    → input_lines input ≡ before ++ line ∷ later → read_of_line line.bytes ≡ Some (Ok (Book market))
+    → (let state = state_by_lines empty_state before in
+    TellsLive state market
+    → (told : List ℕ) × ((proposing_line line.number state line.bytes).0 ≡ told ++ 10 ∷ []) × IsBookOf told market (batch_in state.exchange market))
+
+-- wherever just these are the live orders of the market, and are told, the line is answered by no refusal: what it proposes is taken
+abbrev pub IsTakenFor : ℕ → Batch → List ℕ → Type 0
+IsTakenFor market batch line =
+    (number : ℕ) (state : ProposingState) → TellsLive state market → batch_in state.exchange market ≡ batch
+    → (reply : ProposingReply) × ((proposing_line number state line).0 ≡ proposing_reply_line number reply ++ 10 ∷ []) × ¬ (IsRefused reply)
+
+-- what is written for a book is one such line, as short as an exchange takes it
+abbrev pub BooksAreProposedFor : Type 0
+BooksAreProposedFor =
+    (told text : List ℕ) (market : ℕ) (batch : Batch) → IsBookOf told market batch → IsAnswerTo told text
+    → (line : List ℕ) × (text ≡ line ++ 10 ∷ []) × IsShortLine line × IsTakenFor market batch line
