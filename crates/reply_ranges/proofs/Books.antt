@@ -1,9 +1,11 @@
 -- Live orders are told as a book that `propose` takes, and what it writes is taken.
-use Rattle.std.proofs.Common.{◌≡◌, ℕ, ◌+◌, ◌≤◌, List, [], ◌∷◌, ◌++◌, take, drop, codes, Bool, true, false, Option, Some, None, Result, Ok, if◌then◌else◌, refl, sym, ap, ◌∙◌, subst, inl, inr, arith, take-append-drop}
+use Rattle.std.proofs.Common.{◌≡◌, ℕ, ◌+◌, ◌≤◌, ◌==◌, List, [], ◌∷◌, ◌++◌, take, drop, codes, Bool, true, false, Option, Some, None, Result, Ok, if◌then◌else◌, refl, sym, ap, ◌∙◌, subst, inl, inr, arith, take-append-drop}
 use Rattle.std.specs.Prelude.{IfSome, option_map}
 use Rattle.std.specs.List.{slice_split}
 use Rattle.std.specs.Option.{option_map_or}
 use Rattle.std.specs.Str.{bytes_eq}
+use Rattle.std.proofs.lemmas.List.{same_from_push}
+use Rattle.std.proofs.lemmas.List.Folds.{list_any_none}
 use Rattle.std.proofs.lemmas.Option.{none-some, same_Some}
 use Rattle.std.proofs.lemmas.Slice.Eq.{bytes_eq-Decides}
 use Rattle.command_text.specs.declared.asked.Fault.{Fault}
@@ -13,9 +15,11 @@ use Rattle.exchange_lines.specs.LineSteps.{InputLine}
 use Rattle.form.specs.declared.orders.Batch.{Batch}
 use Rattle.live_lines.specs.Open.{count_limit}
 use Rattle.reply_print.specs.Within.{IsMarket}
-use Rattle.proposal_text.specs.Pieces.{proposal_line}
+use Rattle.reply_print.proofs.Ascii.{piece_has_no_feed}
+use Rattle.proposal_text.specs.Pieces.{proposal_line, proposal_piece}
 use Rattle.proposal_text.specs.declared.replies.ProposalReply.TheVariants as told
 use Rattle.proposal_text.proofs.ReadExactly.{replies_read_exactly}
+use Rattle.proposal_text.proofs.WrittenProposals.{reply_written}
 use Rattle.cert_check.specs.declared.outcome.Proposal.{Proposal}
 use Rattle.proposals.specs.Judged.{IsJudgedBound}
 use Rattle.proposal_lines.specs.Laws.{IsRefused}
@@ -30,12 +34,13 @@ use Rattle.proposal_lines.specs.declared.reads.ReadRequest.TheVariants.{Book}
 use Rattle.proposal_lines.specs.declared.replies.ProposingReply.{ProposingReply}
 use Rattle.proposal_lines.specs.declared.replies.ProposingReply.TheVariants.{Told}
 use Rattle.proposal_lines.proofs.Others.{proposes, proposes_not, reads}
-use Rattle.book_proposals.specs.Answers.{IsAnswerTo, IsBookOf, IsProposed, submission_for}
+use Rattle.book_proposals.specs.Answers.{IsAnswerTo, IsBookOf, IsProposed, proposing_text, submission_for}
 use Rattle.book_proposals.specs.Laws.{IsReadAs}
 use Rattle.book_proposals.proofs.ReadAsHandedIn.{proposals_are_submissions}
 use Rattle.book_proposals.proofs.TakenProposals.{proposals_are_taken}
-use Rattle.reply_ranges.specs.Books.{BooksAreProposedFor, BooksAreTold, IsTakenFor, TellsLive}
+use Rattle.reply_ranges.specs.Books.{BooksAreProposedFor, BooksAreTold, IsReadAsBook, IsTakenFor, IsWholeText, TellsLive}
 use Rattle.reply_ranges.proofs.InputLines.{AreCounted, inputs_counted}
+use Rattle.reply_ranges.proofs.ReadAsWritten.{book_is_whole, proposing_is_whole}
 use Rattle.reply_ranges.proofs.Proposals.{IsReadIn, reads_within}
 use Rattle.reply_ranges.proofs.ServedLines.{Stands, answers, empty_stands, still}
 use Rattle.reply_ranges.proofs.States.{batch_is_within, live_ranged}
@@ -86,6 +91,12 @@ module _ (number : ℕ) (state : ProposingState) (few : number ≤ count_limit) 
         within = batch.within;
       }
 
+  as_book : IsMarket market → IsReadAsBook (proposal_line number (told.Book market live)) market live
+  as_book listed =
+      let book = book_of_live listed in
+      let reply = told.Book market live in
+      (list_any_none (λ b. b == 10) (proposal_line number reply) (piece_has_no_feed 6 (proposal_piece number reply) (reply_written number reply book.told.0)), book_is_whole number market live, book)
+
   tells_book : (line : List ℕ) → read_of_line line ≡ Some (Ok (Book market)) → (proposing_line number state line).0 ≡ proposal_line number (told.Book market live) ++ 10 ∷ []
   tells_book line asks =
       ap (λ (now : List ℕ × ProposingState). now.0) (proposes_not number state line (reads_alone line (Ok (Book market)) asks) ∙ reads number state line (Ok (Book market)) asks)
@@ -100,7 +111,7 @@ books_are_told input before later line market within is asks tells =
     let now = reached 0 empty_state before later line empty_stands (subst (AreCounted 0) is (inputs_counted input within)) in (
       proposal_line line.number (told.Book market (batch_in state.exchange market)),
       tells_book line.number state now.1 now.0 market tells line.bytes asks,
-      book_of_live line.number state now.1 now.0 market tells (listed_in line.bytes market asks),
+      as_book line.number state now.1 now.0 market tells (listed_in line.bytes market asks),
     )
 
 -- ---- what is proposed for it
@@ -143,5 +154,8 @@ taken line market batch proposal is judged number state tells same = by (after_w
 
 pub books_are_proposed_for : BooksAreProposedFor
 books_are_proposed_for line text market batch book answer =
-    let h = proposals_are_submissions line text market batch book (is_proposed line text market batch book answer) in
-    (h.0, h.2, h.3, taken h.0 market batch h.1 h.4 h.5)
+    let proposed = is_proposed line text market batch book answer in
+    let h = proposals_are_submissions line text market batch book proposed in
+    let handed = submission_for batch proposed.proposal in
+    let same = (same_from_push (proposing_text market handed) h.0 10 10 (sym proposed.is ∙ h.2)).0 in
+    (h.0, h.2, h.3, subst IsWholeText same (proposing_is_whole market handed), taken h.0 market batch h.1 h.4 h.5)

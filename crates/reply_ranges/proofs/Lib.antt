@@ -22,4 +22,5 @@ pub mod ServedLines
 pub mod Messages
 pub mod Audited
 pub mod InputLines
+pub mod ReadAsWritten
 pub mod Books

@@ -1,9 +1,10 @@
 -- What is told of a market's live orders where lines are served, and what becomes of what is proposed for them.
-use Rattle.std.specs.Prelude.{ℕ, ◌≡◌, List, [], ◌∷◌, ◌++◌, true, Some, None, Ok}
+use Rattle.std.specs.Prelude.{ℕ, ◌≡◌, Bool, List, [], ◌∷◌, ◌++◌, true, Some, None, Ok}
 use Rattle.exchange_core.specs.Step.{batch_in}
 use Rattle.exchange_lines.specs.LineSteps.{InputLine, input_lines}
 use Rattle.form.specs.declared.orders.Batch.{Batch}
 use Rattle.lists.specs.Refusals.{first_of}
+use Rattle.live_lines.specs.Open.{IsOneLine, line_text}
 use Rattle.live_lines.specs.Serving.{IsInputWithin}
 use Rattle.proposal_lines.specs.Laws.{IsRefused}
 use Rattle.proposal_lines.specs.Output.{proposing_line, proposing_reply_line}
@@ -19,15 +20,23 @@ use Rattle.book_proposals.specs.Laws.{IsShortLine}
 abbrev pub TellsLive : ProposingState → ℕ → Type 0
 TellsLive state market = first_of (read_refusals state.exchange (Book market)) ≡ None
 
+-- nothing of the line is passed over where it is read: neither a mark at its start nor a carriage return at its end
+abbrev pub IsWholeText : List ℕ → Type 0
+IsWholeText line = (skips : Bool) (number : ℕ) → line_text skips number line ≡ line
+
+-- a line that `propose` takes, as it is written, as a book of these orders
+abbrev pub IsReadAsBook : List ℕ → ℕ → Batch → Type 0
+IsReadAsBook line market batch = IsOneLine line × IsWholeText line × IsBookOf line market batch
+
 -- Whatever the lines of an input are, within the limits that a run keeps to which finishes: one that asks for the live orders of a market is
--- answered, where they are told, by a line that is a book of just these, as `propose` takes it
+-- answered, where they are told, by a line that is read as a book of just these
 abbrev pub BooksAreTold : Type 0
 BooksAreTold =
     (input : List ℕ) (before later : List InputLine) (line : InputLine) (market : ℕ) → IsInputWithin true input
     → input_lines input ≡ before ++ line ∷ later → read_of_line line.bytes ≡ Some (Ok (Book market))
     → (let state = state_by_lines empty_state before in
     TellsLive state market
-    → (told : List ℕ) × ((proposing_line line.number state line.bytes).0 ≡ told ++ 10 ∷ []) × IsBookOf told market (batch_in state.exchange market))
+    → (told : List ℕ) × ((proposing_line line.number state line.bytes).0 ≡ told ++ 10 ∷ []) × IsReadAsBook told market (batch_in state.exchange market))
 
 -- wherever just these are the live orders of the market, and are told, the line is answered by no refusal: what it proposes is taken
 abbrev pub IsTakenFor : ℕ → Batch → List ℕ → Type 0
@@ -39,4 +48,4 @@ IsTakenFor market batch line =
 abbrev pub BooksAreProposedFor : Type 0
 BooksAreProposedFor =
     (told text : List ℕ) (market : ℕ) (batch : Batch) → IsBookOf told market batch → IsAnswerTo told text
-    → (line : List ℕ) × (text ≡ line ++ 10 ∷ []) × IsShortLine line × IsTakenFor market batch line
+    → (line : List ℕ) × (text ≡ line ++ 10 ∷ []) × IsShortLine line × IsWholeText line × IsTakenFor market batch line
