@@ -16,7 +16,7 @@ abbrev reply_read : Result (ℕ × ProposalReply) LineFault → Option ProposalR
 reply_read r = option_map (λ (read : ℕ × ProposalReply). read.1) (result_ok r)
 
 -- what a line is read as is what it is the print of
-reads : (line : List ℕ) (market : ℕ) (batch : Batch) → IsBookOf line market batch → reply_in line ≡ Some (told.Book market batch)
+pub reads : (line : List ℕ) (market : ℕ) (batch : Batch) → IsBookOf line market batch → reply_in line ≡ Some (told.Book market batch)
 reads line market batch book = ap reply_read ((replies_read_exactly line book.number (told.Book market batch)).1 book.told)
 
 by_reading : (line : List ℕ) (reply : ProposalReply) (r : Result (ℕ × ProposalReply) LineFault) → reply_reading line ≡ r → reply_read r ≡ Some reply

@@ -18,7 +18,7 @@ use Rattle.reply_print.specs.Within.{IsMarket}
 use Rattle.reply_print.proofs.Ascii.{piece_has_no_feed}
 use Rattle.proposal_text.specs.Pieces.{proposal_line, proposal_piece}
 use Rattle.proposal_text.specs.declared.replies.ProposalReply.TheVariants as told
-use Rattle.proposal_text.proofs.ReadExactly.{replies_read_exactly}
+use Rattle.proposal_text.specs.Within.{IsProposalLineWithin}
 use Rattle.proposal_text.proofs.WrittenProposals.{reply_written}
 use Rattle.cert_check.specs.declared.outcome.Proposal.{Proposal}
 use Rattle.proposals.specs.Judged.{IsJudgedBound}
@@ -36,6 +36,7 @@ use Rattle.proposal_lines.specs.declared.replies.ProposingReply.TheVariants.{Tol
 use Rattle.proposal_lines.proofs.Others.{proposes, proposes_not, reads}
 use Rattle.book_proposals.specs.Answers.{IsAnswerTo, IsBookOf, IsProposed, proposing_text, submission_for}
 use Rattle.book_proposals.specs.Laws.{IsReadAs}
+use Rattle.book_proposals.proofs.FoundBooks.{reads as book_reads}
 use Rattle.book_proposals.proofs.ReadAsHandedIn.{proposals_are_submissions}
 use Rattle.book_proposals.proofs.TakenProposals.{proposals_are_taken}
 use Rattle.reply_ranges.specs.Books.{BooksAreProposedFor, BooksAreTold, IsReadAsBook, IsTakenFor, IsWholeText, TellsLive}
@@ -81,21 +82,17 @@ module _ (number : ℕ) (state : ProposingState) (few : number ≤ count_limit) 
   abbrev live : Batch
   live = batch_in state.exchange market
 
-  book_of_live : IsMarket market → IsBookOf (proposal_line number (told.Book market live)) market live
-  book_of_live listed =
-      let batch = live_ranged stands.lines state.exchange stands.exchange.running stands.exchange.ranged market tells in
-      let some = stands.counted in
-      record {
-        number = number;
-        told = (((omega (arith, some), few), (listed, batch_is_within state.exchange.book.accepted live batch)), refl);
-        within = batch.within;
-      }
-
   as_book : IsMarket market → IsReadAsBook (proposal_line number (told.Book market live)) market live
   as_book listed =
-      let book = book_of_live listed in
+      let batch = live_ranged stands.lines state.exchange stands.exchange.running stands.exchange.ranged market tells in
       let reply = told.Book market live in
-      (list_any_none (λ b. b == 10) (proposal_line number reply) (piece_has_no_feed 6 (proposal_piece number reply) (reply_written number reply book.told.0)), book_is_whole number market live, book)
+      let some = stands.counted in
+      let within : IsProposalLineWithin number reply = ((omega (arith, some), few), (listed, batch_is_within state.exchange.book.accepted live batch)) in
+      (
+        list_any_none (λ b. b == 10) (proposal_line number reply) (piece_has_no_feed 6 (proposal_piece number reply) (reply_written number reply within)),
+        book_is_whole number market live,
+        record { number = number; told = (within, refl); within = batch.within },
+      )
 
   tells_book : (line : List ℕ) → read_of_line line ≡ Some (Ok (Book market)) → (proposing_line number state line).0 ≡ proposal_line number (told.Book market live) ++ 10 ∷ []
   tells_book line asks =
@@ -117,9 +114,7 @@ books_are_told input before later line market within is asks tells =
 -- ---- what is proposed for it
 same_reply : (line : List ℕ) (market other : ℕ) (batch another : Batch) → IsBookOf line market batch → IsBookOf line other another → told.Book market batch ≡ told.Book other another
 same_reply line market other batch another book also =
-    let one = (replies_read_exactly line book.number (told.Book market batch)).1 book.told in
-    let two = (replies_read_exactly line also.number (told.Book other another)).1 also.told in
-    cc (one, two)
+    same_Some (told.Book market batch) (told.Book other another) (sym (book_reads line market batch book) ∙ book_reads line other another also)
 
 is_proposed : (line text : List ℕ) (market : ℕ) (batch : Batch) → IsBookOf line market batch → IsAnswerTo line text → IsProposed market batch text
 is_proposed line text market batch book (inl h) =
