@@ -44,11 +44,13 @@ use Rattle.order_book.specs.Numbers.{numbers_of}
 use Rattle.order_book.specs.Refusals.{live_refusals}
 use Rattle.order_book.proofs.Accepting.{finishable}
 use Rattle.order_book.proofs.MarketLists.{same_number}
+use Rattle.order_book.specs.declared.limits.TheConstants.{MAX_ACCEPTED, MAX_BATCHES}
 use Rattle.lists.specs.Refusals.{first_of}
 use Rattle.settlement.specs.declared.position.Position.{Position}
 use Rattle.reply_print.specs.ReplyPieces.{reply_line}
 use Rattle.reply_print.specs.Within.{IsLine}
 use Rattle.reply_print.specs.Within as reply
+use Rattle.reply_print.specs.declared.limits.TheConstants.{MAX_ACCOUNT, MAX_LINE, MAX_MARKET}
 use Rattle.proposal_text.specs.declared.replies.BoundedOutcome.{BoundedOutcome}
 use Rattle.proposal_text.specs.declared.replies.Failed.TheVariants as failed
 use Rattle.proposal_text.specs.declared.replies.ProposalReply.TheVariants as told
@@ -84,7 +86,7 @@ use Rattle.reply_ranges.proofs.Texts.{IsServedText, proposal_text}
 -- ---- what is asked is within its ranges
 abbrev pub IsReadWithin : ReadRequest → Type 0
 IsReadWithin (Book market) = IsMarket market
-IsReadWithin (Positions account market) = Between 1 999999999 account × IsMarket market
+IsReadWithin (Positions account market) = Between 1 MAX_ACCOUNT account × IsMarket market
 
 abbrev pub IsReadIn : Result ReadRequest Fault → Type 0
 IsReadIn asked = IfOk asked IsReadWithin
@@ -92,14 +94,14 @@ IsReadIn asked = IfOk asked IsReadWithin
 book_within : (fields : List (List ℕ)) → IsReadIn (book_of fields)
 book_within fields =
     either IsReadWithin (length fields == 2) _ _ (λ is. ok_unless IsReadWithin (fault_in 0 (MARKET ∷ []) fields) _ (λ e.
-    natural_between 1 999999999 (value_in fields MARKET) (one_asked MARKET fields [] e).0)) tt
+    natural_between 1 MAX_MARKET (value_in fields MARKET) (one_asked MARKET fields [] e).0)) tt
 
 positions_within : (fields : List (List ℕ)) → IsReadIn (positions_asked fields)
 positions_within fields =
     either IsReadWithin (length fields == 3) _ _ (λ is. ok_unless IsReadWithin (fault_in 0 positions_fields fields) _ (λ e.
-    let account = one_asked (number_at 2 999999999) fields (number_at 3 999999999 ∷ []) e in
-    let market = one_asked (number_at 3 999999999) fields [] account.1 in
-    (natural_between 1 999999999 (value_in fields (number_at 2 999999999)) account.0, natural_between 1 999999999 (value_in fields (number_at 3 999999999)) market.0))) tt
+    let account = one_asked (number_at 2 MAX_ACCOUNT) fields (number_at 3 MAX_MARKET ∷ []) e in
+    let market = one_asked (number_at 3 MAX_MARKET) fields [] account.1 in
+    (natural_between 1 MAX_ACCOUNT (value_in fields (number_at 2 MAX_ACCOUNT)) account.0, natural_between 1 MAX_MARKET (value_in fields (number_at 3 MAX_MARKET)) market.0))) tt
 
 read_by_word : (fields : List (List ℕ)) (book positions : Bool)
     → IfSome (if book then Some (book_of fields) else if positions then Some (positions_asked fields) else None) IsReadIn
@@ -125,7 +127,7 @@ submitted_within : (text : List ℕ) (fields : List (List ℕ)) (value : Option 
     → IfOk (with_some value (λ submission. unless (fault_in 0 (MARKET ∷ []) fields) (record { market = natural_in fields MARKET; submission = submission }))) IsProposedWithin
 submitted_within text fields None h = tt
 submitted_within text fields (Some submission) h =
-    ok_unless IsProposedWithin (fault_in 0 (MARKET ∷ []) fields) _ (λ e. (natural_between 1 999999999 (value_in fields MARKET) (one_asked MARKET fields [] e).0, h.0.0))
+    ok_unless IsProposedWithin (fault_in 0 (MARKET ∷ []) fields) _ (λ e. (natural_between 1 MAX_MARKET (value_in fields MARKET) (one_asked MARKET fields [] e).0, h.0.0))
 
 pub proposed_within : (text : List ℕ) → IsProposedIn (proposed_of text)
 proposed_within text =
@@ -133,7 +135,7 @@ proposed_within text =
     submitted_within (drop (place + 1) text) ([] ∷ take place text ∷ []) (submission_of (drop (place + 1) text)) (some_text (drop (place + 1) text)))
 
 -- ---- positions
-module _ (state : ExchangeState) (finished : state.book.finished ≤ 2000000) (accepted : state.book.accepted ≤ 1000000) (account market : ℕ) where
+module _ (state : ExchangeState) (finished : state.book.finished ≤ MAX_BATCHES) (accepted : state.book.accepted ≤ MAX_ACCEPTED) (account market : ℕ) where
   position_within : (p : Position) → IsNumbered state.book p → IsPositionKept state.accounts state.book.markets p → p.account ≡ account → p.market ≡ market → IsPositionWithin account market p
   position_within p numbered kept own there = record {
     account_is = own;
@@ -198,7 +200,7 @@ module _ (state : ProposingState) (sound : IsSound state) (are : AreKeptWithin s
       subst (IsKeptBetter batch outcome) (sym c.is) kept
 
 -- ---- the lines
-module _ (lines number : ℕ) (few : lines + 1 ≤ 16777216) (is_line : IsLine number) (state : ProposingState) (stands : IsStanding lines state.exchange) (sound : IsSound state)
+module _ (lines number : ℕ) (few : lines + 1 ≤ MAX_LINE) (is_line : IsLine number) (state : ProposingState) (stands : IsStanding lines state.exchange) (sound : IsSound state)
     (are : AreKeptWithin state.kept) where
   abbrev exchange : ExchangeState
   exchange = state.exchange

@@ -34,6 +34,8 @@ use Rattle.proposal_lines.specs.declared.reads.ReadRequest.{ReadRequest}
 use Rattle.proposal_lines.specs.Proposed.{proposed_at, proposed_of}
 use Rattle.proposal_lines.specs.Reads.{book_of, positions_asked, read_of, read_of_line}
 use Rattle.proposal_text.specs.Submissions.{submission_of}
+use Rattle.reply_print.specs.declared.limits.TheConstants.{MAX_ACCOUNT, MAX_MARKET}
+use Rattle.form.specs.declared.limits.TheConstants.{MAX_BUDGET}
 use Rattle.reply_ranges.specs.Laws.{HasField}
 use Rattle.reply_ranges.proofs.Fields.{IsPlace, all_between, fields_are_within, is_between}
 
@@ -109,10 +111,10 @@ abbrev pub number_at : ℕ → ℕ → Asked
 number_at place high = record { place = place; low = pos 1; high = pos high; zero = true }
 
 abbrev margin_fields : List Asked
-margin_fields = number_at 2 999999999 ∷ number_at 3 999999999 ∷ number_at 4 20000 ∷ []
+margin_fields = number_at 2 MAX_ACCOUNT ∷ number_at 3 MAX_MARKET ∷ number_at 4 MAX_BUDGET ∷ []
 
 abbrev pub positions_fields : List Asked
-positions_fields = number_at 2 999999999 ∷ number_at 3 999999999 ∷ []
+positions_fields = number_at 2 MAX_ACCOUNT ∷ number_at 3 MAX_MARKET ∷ []
 
 margin_placed : (fields : List (List ℕ)) → IsPlacedIn (margin_request_of fields)
 margin_placed fields = if_placed (length fields == 4) _ (unless_placed (fault_in 0 margin_fields fields) _ (tested_placed margin_fields fields refl))

@@ -29,6 +29,7 @@ use Rattle.journal_audit.specs.Laws.{OfServe}
 use Rattle.live_lines.specs.Open.{count_limit}
 use Rattle.proposal_text.specs.declared.replies.BoundedOutcome.{BoundedOutcome}
 use Rattle.reply_print.specs.Within.{IsLine}
+use Rattle.reply_print.specs.declared.limits.TheConstants.{MAX_LINE}
 use Rattle.proposal_lines.specs.Laws.{IsSound}
 use Rattle.proposal_lines.specs.Output.{body_line, other_line, proposing_line, unproposed_line, written_reply}
 use Rattle.proposal_lines.specs.Promises.{IsToldFor, KeepsProposalPromises, ProposalAnswer, beside, bounded, charged, replied}
@@ -123,7 +124,7 @@ module _ (lines : ℕ) (state : ProposingState) (line : InputLine) (sound : IsSo
 
 -- ---- what is written for a line
 module _ (number : ℕ) (state : ProposingState) (few : number ≤ count_limit) (stands : Stands number state) where
-  some_room : stands.lines + 1 ≤ 16777216
+  some_room : stands.lines + 1 ≤ MAX_LINE
   some_room = omega (arith, few, stands.counted)
 
   is_line : IsLine number

@@ -11,6 +11,7 @@ use Rattle.command_text.specs.declared.command.Command.{Command}
 use Rattle.command_text.specs.declared.command.Command.TheVariants.{Open, Deposit, Withdraw, Market, Trade, Bundle, Cancel, Clear, Settle, Balance}
 use Rattle.command_text.specs.Within.{BodyIsWithin, IsWithin}
 use Rattle.form.specs.declared.orders.Batch.{Batch}
+use Rattle.form.specs.declared.limits.TheConstants.{MAX_BUDGET}
 use Rattle.order_book.specs.declared.new_order.NewOrder.{NewOrder}
 use Rattle.order_book.specs.Book.{live_of}
 use Rattle.order_book.specs.Refusals.{batch_refusals, close_refusals}
@@ -24,6 +25,7 @@ use Rattle.settlement.specs.declared.position.Position.{Position}
 use Rattle.settlement.specs.Positions.{gain_at, held_in, is_of, paid_out, paid_side, payouts_of}
 use Rattle.reply_print.specs.Within as reply
 use Rattle.reply_print.specs.Within.{IsReplyWithin}
+use Rattle.reply_print.specs.declared.limits.TheConstants.{MAX_LINE}
 use Rattle.exchange_core.specs.declared.refusal.Refusal.{Refusal}
 use Rattle.exchange_core.specs.ExchangeState.{ExchangeState}
 use Rattle.exchange_core.specs.Kept.{IsPaidOut}
@@ -56,7 +58,7 @@ record IsPaidFrom (paid : PaidOut) : Type 0 where
   trader : 1 ≤ paid.account
   sided : reply.HasItsSide paid.side paid.amount
 
-module _ (lines : ℕ) (few : lines + 1 ≤ 16777216) (state : ExchangeState) (running : IsRunning state) (ranged : IsRanged lines state) where
+module _ (lines : ℕ) (few : lines + 1 ≤ MAX_LINE) (state : ExchangeState) (running : IsRunning state) (ranged : IsRanged lines state) where
   -- balances after one line more
   balance_ranged : (next : ExchangeState) (account : ℕ) → next.book ≡ state.book → IsRanged (lines + 1) next → reply.IsSmall (balance_of account next.entries)
   balance_ranged next account same after =
@@ -73,7 +75,7 @@ module _ (lines : ℕ) (few : lines + 1 ≤ 16777216) (state : ExchangeState) (r
       let room = (accepts state.book order (place_none state order none).0).more in
       (omega arith, omega (arith, room))
 
-  cleared_within : (market budget : ℕ) → reply.IsMarket market → budget ≤ 20000 → first_of (batch_refusals state.book market) ≡ None → IsReplyWithin (effect state (Clear market budget)).0
+  cleared_within : (market budget : ℕ) → reply.IsMarket market → budget ≤ MAX_BUDGET → first_of (batch_refusals state.book market) ≡ None → IsReplyWithin (effect state (Clear market budget)).0
   cleared_within market budget within low none =
       let (m, found, more, unsettled) = finishable state.book market none in
       let batch : Batch = batch_in state market in
