@@ -1,5 +1,6 @@
 // The texts of demos.
-use demo_run::{MAX_BYTES, MAX_ORDERS, demo_text};
+use demo_run::{MAX_BYTES, demo_text};
+use program_words::MAX_DEMO_ORDERS;
 use std::test::Fail;
 
 #[test]
@@ -34,7 +35,7 @@ fn texts_end_as_they_must(rt: HostRuntime) -> Result<(), Fail> {
 
 #[test]
 fn the_longest_is_short_enough(rt: HostRuntime) -> Result<(), Fail> {
-    let text = demo_text(rt.alloc(), 7, MAX_ORDERS)?;
+    let text = demo_text(rt.alloc(), 7, MAX_DEMO_ORDERS)?;
     assert!(rt; text.len() <= MAX_BYTES);
     Ok(())
 }

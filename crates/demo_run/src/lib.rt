@@ -11,4 +11,4 @@ mod text;
 
 pub use summary::demo;
 pub use tally::Tally;
-pub use text::{MAX_BYTES, MAX_ORDERS, demo_text};
+pub use text::{MAX_BYTES, demo_text};

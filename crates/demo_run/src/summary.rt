@@ -1,7 +1,7 @@
 // What a demo writes.
 ghost use Rattle.std.specs.Prelude.{◌≡◌, ◌≤◌, IfOk, string_bytes};
 ghost use Rattle.cash_ledger.specs.Entries.{balance_of};
-ghost use Rattle.demo_run.specs.declared.text.TheConstants.{MAX_ORDERS};
+ghost use Rattle.program_words.specs.declared.requests.TheConstants.{MAX_DEMO_ORDERS};
 ghost use Rattle.demo_run.specs.Demo.{house_text, lines_text, summary_line, demo_output};
 
 use crate::run::tally_replies;
@@ -55,7 +55,7 @@ fn house_balance(exchange: &Exchange) -> i128
 /// Of the replies only the counts are kept.
 pub fn demo(alloc: Global, seed: u32, count: u32) -> Result<String, AllocError>
     requires some { 1 ≤ count }
-    requires few { count ≤ MAX_ORDERS }
+    requires few { count ≤ MAX_DEMO_ORDERS }
     ensures { IfOk result (λ text. string_bytes text ≡ demo_output seed count) }
 {
     let text = demo_text(alloc, seed, count)?;

@@ -1,14 +1,12 @@
 // The made text.
 ghost use Rattle.std.specs.Prelude.{◌≡◌, ◌≤◌, ◌<◌, ◌+◌, ◌*◌, ◌++◌, length, IfOk, OnOk, string_bytes};
+ghost use Rattle.program_words.specs.declared.requests.TheConstants.{MAX_DEMO_ORDERS};
 ghost use Rattle.demo_run.specs.Draws.{after};
 ghost use Rattle.demo_run.specs.Text.{each, open_line, deposit_line, of_accounts, clear_line, order_lines, settle_line, opening_text, made_text};
 
 use crate::draws::Draws;
 use crate::order::DrawnOrder;
 use std::alloc::{AllocError, Global};
-
-/// A made text has at most so many orders.
-pub const MAX_ORDERS: u32 = 10_000;
 
 /// A made text has at most so many bytes.
 pub const MAX_BYTES: usize = 500_000;
@@ -104,7 +102,7 @@ fn settle_line(alloc: Global, draws: &mut Draws) -> Result<String, AllocError>
 /// the market is settled.
 pub fn demo_text(alloc: Global, seed: u32, count: u32) -> Result<String, AllocError>
     requires some { 1 ≤ count }
-    requires few { count ≤ MAX_ORDERS }
+    requires few { count ≤ MAX_DEMO_ORDERS }
     ensures text { IfOk result (λ text. string_bytes text ≡ made_text seed count) }
     ensures size { IfOk result (λ text. length (string_bytes text) ≤ MAX_BYTES) }
 {

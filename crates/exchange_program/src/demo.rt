@@ -4,7 +4,7 @@ ghost use Rattle.std.specs.Io.KnownBytes.{Appends};
 ghost use Rattle.demo_run.specs.Demo.{demo_output};
 ghost use Rattle.port_io.specs.Faults.{Rose};
 ghost use Rattle.port_io.specs.Writes.{AppendsFront};
-ghost use Rattle.program_words.specs.declared.requests.TheConstants.{MAX_COUNT};
+ghost use Rattle.program_words.specs.declared.requests.TheConstants.{MAX_DEMO_ORDERS};
 
 use crate::failure::AnswerFailure;
 use demo_run::demo;
@@ -18,7 +18,7 @@ pub(crate) fn write_demo<K: Sink>(
     count: u32,
     sink: &mut K,
 ) -> Result<(), AnswerFailure>
-    requires { (1 ≤ count) × (count ≤ MAX_COUNT) }
+    requires { (1 ≤ count) × (count ≤ MAX_DEMO_ORDERS) }
     ensures ok { OnOk result
         (Appends (K.written sink.old) (K.written sink.new) (demo_output seed count)) }
     ensures front { OnErr result

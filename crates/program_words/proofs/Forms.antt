@@ -8,7 +8,7 @@ use Rattle.std.proofs.lemmas.Bool.Decides.{nat_tests}
 use Rattle.program_words.specs.declared.requests.Request.{Request}
 use Rattle.program_words.specs.declared.requests.WordsFault.{WordsFault}
 use Rattle.program_words.specs.declared.requests.WordsFault.TheVariants.{Usage}
-use Rattle.program_words.specs.declared.requests.TheConstants.{MAX_SEED, MAX_COUNT}
+use Rattle.program_words.specs.declared.requests.TheConstants.{MAX_SEED, MAX_DEMO_ORDERS}
 use Rattle.program_words.specs.Positional.{is_plain, are_positional, request_in}
 use Rattle.program_words.specs.Requests.{natural_in, demo_of, served_of, request_of, one_word, two_words, three_words}
 
@@ -56,10 +56,10 @@ of_none true request e = e
 of_none false request e = refl
 
 option_seed : (a b c : List ℕ) → is_plain b ≡ false → three_words a b c ≡ None
-option_seed a b c e = of_none (bytes_eq a (codes "demo")) _ (no_seed (natural_in 0 MAX_SEED b) (natural_in 1 MAX_COUNT c) (option_number 0 MAX_SEED b e))
+option_seed a b c e = of_none (bytes_eq a (codes "demo")) _ (no_seed (natural_in 0 MAX_SEED b) (natural_in 1 MAX_DEMO_ORDERS c) (option_number 0 MAX_SEED b e))
 
 option_count : (a b c : List ℕ) → is_plain c ≡ false → three_words a b c ≡ None
-option_count a b c e = of_none (bytes_eq a (codes "demo")) _ (no_count (natural_in 0 MAX_SEED b) (natural_in 1 MAX_COUNT c) (option_number 1 MAX_COUNT c e))
+option_count a b c e = of_none (bytes_eq a (codes "demo")) _ (no_count (natural_in 0 MAX_SEED b) (natural_in 1 MAX_DEMO_ORDERS c) (option_number 1 MAX_DEMO_ORDERS c e))
 
 option_two : (a b : List ℕ) → (is_plain a && is_plain b) ≡ false → two_words a b ≡ None
 option_two a b e = elim (cases_Bool (is_plain a)) [

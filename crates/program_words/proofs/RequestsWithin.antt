@@ -8,7 +8,7 @@ use Rattle.program_words.specs.declared.requests.Request.TheVariants.{Lines, Che
 use Rattle.program_words.specs.declared.requests.Mode.TheVariants.{Run, Quotes, Guarded}
 use Rattle.program_words.specs.declared.requests.Journal.TheVariants as wrote
 use Rattle.program_words.specs.declared.requests.Served.TheVariants as served
-use Rattle.program_words.specs.declared.requests.TheConstants.{MAX_SEED, MAX_COUNT}
+use Rattle.program_words.specs.declared.requests.TheConstants.{MAX_SEED, MAX_DEMO_ORDERS}
 use Rattle.program_words.specs.Requests.{natural_in, demo_of, request_of, IsRequestWithin}
 
 tested : (low high n : ℕ) (a b c : Bool) → (b ≡ true → low ≤ n) → (c ≡ true → n ≤ high) → IfSome (if a && (b && c) then Some n else None) (λ n. (low ≤ n) × (n ≤ high))
@@ -39,7 +39,7 @@ of_two true true = tt
 of_two true false = tt
 of_two false b = tt
 
-of_three : (test : Bool) (seed count : Option ℕ) → IfSome count (λ n. (1 ≤ n) × (n ≤ MAX_COUNT)) → IfSome (if test then demo_of seed count else None) IsRequestWithin
+of_three : (test : Bool) (seed count : Option ℕ) → IfSome count (λ n. (1 ≤ n) × (n ≤ MAX_DEMO_ORDERS)) → IfSome (if test then demo_of seed count else None) IsRequestWithin
 of_three false seed count within = tt
 of_three true None count within = tt
 of_three true (Some seed) None within = tt
@@ -49,5 +49,5 @@ pub requests_are_within : (words : List (List ℕ)) → IfSome (request_of words
 requests_are_within [] = tt
 requests_are_within (a ∷ []) = of_one (bytes_eq a (codes "run")) (bytes_eq a (codes "quotes")) (bytes_eq a (codes "guarded")) (bytes_eq a (codes "check")) (bytes_eq a (codes "audit")) (bytes_eq a (codes "sessions")) (bytes_eq a (codes "serve")) (bytes_eq a (codes "propose"))
 requests_are_within (a ∷ b ∷ []) = of_two (bytes_eq a (codes "serve")) (bytes_eq b (codes "sessions"))
-requests_are_within (a ∷ b ∷ c ∷ []) = of_three (bytes_eq a (codes "demo")) (natural_in 0 MAX_SEED b) (natural_in 1 MAX_COUNT c) (natural_within 1 MAX_COUNT c)
+requests_are_within (a ∷ b ∷ c ∷ []) = of_three (bytes_eq a (codes "demo")) (natural_in 0 MAX_SEED b) (natural_in 1 MAX_DEMO_ORDERS c) (natural_within 1 MAX_DEMO_ORDERS c)
 requests_are_within (a ∷ b ∷ c ∷ d ∷ more) = tt

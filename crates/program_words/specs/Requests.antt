@@ -7,7 +7,7 @@ use Rattle.program_words.specs.declared.requests.Request.TheVariants.{Lines, Che
 use Rattle.program_words.specs.declared.requests.Mode.TheVariants.{Run, Quotes, Guarded}
 use Rattle.program_words.specs.declared.requests.Journal.TheVariants as wrote
 use Rattle.program_words.specs.declared.requests.Served.TheVariants as served
-use Rattle.program_words.specs.declared.requests.TheConstants.{MAX_SEED, MAX_COUNT}
+use Rattle.program_words.specs.declared.requests.TheConstants.{MAX_SEED, MAX_DEMO_ORDERS}
 
 -- the value of `0`, or of digits that do not begin with 0, where it is from low to high
 abbrev pub natural_in : ℕ → ℕ → List ℕ → Option ℕ
@@ -39,7 +39,7 @@ two_words word what = if bytes_eq word (codes "serve") then served_of what else 
 
 abbrev pub three_words : List ℕ → List ℕ → List ℕ → Option Request
 three_words word seed count =
-    if bytes_eq word (codes "demo") then demo_of (natural_in 0 MAX_SEED seed) (natural_in 1 MAX_COUNT count) else None
+    if bytes_eq word (codes "demo") then demo_of (natural_in 0 MAX_SEED seed) (natural_in 1 MAX_DEMO_ORDERS count) else None
 
 -- `run`, `quotes`, `guarded`, `check`, `audit`, `sessions`, `serve`, `serve sessions`, `propose`, or `demo` with a seed and a number of orders
 abbrev pub request_of : List (List ℕ) → Option Request
@@ -56,4 +56,4 @@ IsRequestWithin (Check journal) = ⊤
 IsRequestWithin Sessions = ⊤
 IsRequestWithin (Serve served) = ⊤
 IsRequestWithin Propose = ⊤
-IsRequestWithin (Demo seed count) = (1 ≤ count) × (count ≤ MAX_COUNT)
+IsRequestWithin (Demo seed count) = (1 ≤ count) × (count ≤ MAX_DEMO_ORDERS)

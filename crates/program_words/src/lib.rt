@@ -6,5 +6,5 @@ mod places;
 mod requests;
 mod words;
 
-pub use requests::{Journal, MAX_COUNT, MAX_SEED, Mode, Request, Served, WordsFault};
+pub use requests::{Journal, MAX_DEMO_ORDERS, MAX_SEED, Mode, Request, Served, WordsFault};
 pub use words::request;

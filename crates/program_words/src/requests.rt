@@ -8,8 +8,8 @@ use thiserror::Error;
 /// The greatest seed of a demo.
 pub const MAX_SEED: u32 = 4_294_967_295;
 
-/// A demo has at most so many orders.
-pub const MAX_COUNT: u32 = 10_000;
+/// The greatest number of orders of a demo.
+pub const MAX_DEMO_ORDERS: u32 = 10_000;
 
 /// How command lines are answered.
 #[derive(Clone, Copy, Debug, PartialEq, Eq)]

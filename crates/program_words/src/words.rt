@@ -4,7 +4,7 @@ ghost use Rattle.program_words.specs.Positional.{is_plain, are_positional, reque
 ghost use Rattle.program_words.specs.Requests.{natural_in, one_word, two_words, three_words, request_of, IsRequestWithin};
 
 use crate::places::{Texts, by_place};
-use crate::requests::{Journal, MAX_COUNT, MAX_SEED, Mode, Request, Served, WordsFault};
+use crate::requests::{Journal, MAX_DEMO_ORDERS, MAX_SEED, Mode, Request, Served, WordsFault};
 use command_text::{NumberRead, number};
 use std::alloc::Global;
 
@@ -64,7 +64,7 @@ fn three_words(word: &str, seed: &str, count: &str) -> Option<Request>
         return None;
     }
     let seed = natural(seed, 0, MAX_SEED)?;
-    let count = natural(count, 1, MAX_COUNT)?;
+    let count = natural(count, 1, MAX_DEMO_ORDERS)?;
     Some(Request::Demo { seed, count })
 }
 
