@@ -1,4 +1,5 @@
-//! The times of the operations of fractions of 64 and of 128 bits: nanoseconds per call, at operands of several sizes.
+//! The times of the operations of fractions of 64 and of 128 bits: nanoseconds per call, at
+//! operands of several sizes.
 use crate::operands;
 use crate::timing::{OPERATIONS, nanos_per_call};
 use exact_num::Exact;

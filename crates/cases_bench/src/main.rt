@@ -1,5 +1,5 @@
-//! Measures parts of the program: by the word `fractions` the times of the operations of fractions, by the word `passes` which
-//! numbers the clears of a session on standard input fit.
+//! Measures parts of the program: by the word `fractions` the times of the operations of fractions,
+//! by the word `passes` which numbers the clears of a session on standard input fit.
 #![tactic(auto)]
 
 mod fractions;

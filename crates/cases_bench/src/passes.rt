@@ -1,5 +1,5 @@
-//! Tells of each clear of a session which numbers its run fits: a word a clear, from command lines on standard input. The
-//! session itself clears nothing, so its orders stay for the next clear.
+//! Tells of each clear of a session which numbers its run fits: a word a clear, from command lines
+//! on standard input. The session itself clears nothing, so its orders stay for the next clear.
 ghost use Rattle.command_text.specs.Within.{BodyIsWithin};
 
 use anyhow::{Context, Result, bail};

@@ -7,6 +7,7 @@ use std::time::{Clock, Instant};
 
 const ROUNDS: u64 = 200;
 
+/// What is timed.
 #[derive(Clone, Copy, Debug)]
 pub enum Operation {
     Add,
@@ -18,6 +19,7 @@ pub enum Operation {
     Eliminate,
 }
 
+/// All of them, in the order in which they are printed.
 pub const OPERATIONS: [Operation; 6] = [
     Operation::Add,
     Operation::Mul,

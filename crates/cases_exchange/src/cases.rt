@@ -1,5 +1,6 @@
-//! Batches that are cleared with numbers of 64 bits first. `== ` stands before the name of each, command lines follow, of which the
-//! last clears it, and behind `= ` stand the pass, the surplus and the units. The orders are bundles of one option.
+//! Batches that are cleared with numbers of 64 bits first. `== ` stands before the name of each,
+//! command lines follow, of which the last clears it, and behind `= ` stand the pass, the surplus
+//! and the units. The orders are bundles of one option.
 
 /// The cases.
 pub static PASSES: &str = "\

@@ -100,7 +100,8 @@ fn advance_all(alloc: Global, exchange: &mut Exchange) -> Result<()> {
     Ok(())
 }
 
-// With one growth refused by the system (`tools/hostile growth`) each step that finds no memory changes nothing.
+// With one growth refused by the system (`tools/hostile growth`) each step that finds no memory
+// changes nothing.
 #[test]
 fn a_refused_growth_changes_nothing(rt: HostRuntime) -> Result<()> {
     let mut exchange = Exchange::new(rt.alloc());

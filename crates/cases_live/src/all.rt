@@ -19,7 +19,8 @@ sell,3,1,call,12,4,1,1
 "#,
 ];
 
-// Lines of a run, one that asks for a margin, withdrawals that it leaves room for or not, and what the last are answered.
+// Lines of a run, one that asks for a margin, withdrawals that it leaves room for or not, and what
+// the last are answered.
 static GUARDED: [&str; 2] = [
     "open,1
 deposit,1,100

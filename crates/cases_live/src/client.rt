@@ -7,14 +7,17 @@ ghost use Rattle.port_io.specs.Faults.{as_count, last_count};
 use port_io::{ReadAnswer, Sink, Source, WriteAnswer};
 use std::cell::Cell;
 
-// What the client sends, and how many bytes of replies it awaits then, those before among them.
+/// What the client sends, and what it awaits then.
 #[derive(Clone, Copy, Debug)]
 pub struct Sent {
+    /// What one read tells.
     pub piece: &'static [u8],
+    /// How many bytes of replies are due behind it, those before among them.
     pub awaits: usize,
 }
 
-// Sends its pieces, one in each read, and sees at each whether the replies that it awaits were written.
+/// Sends its pieces, one in each read, and sees at each whether the replies that it awaits were
+/// written.
 #[derive(Drop)]
 pub struct Client<'a> {
     sends: &'a [Sent],
@@ -26,6 +29,7 @@ pub struct Client<'a> {
 }
 
 impl<'a> Client<'a> {
+    /// A client that has sent nothing, beside the count of the bytes of its replies.
     pub fn new(sends: &'a [Sent], replied: &'a Cell<usize>) -> Self {
         Client {
             sends,
@@ -37,7 +41,8 @@ impl<'a> Client<'a> {
         }
     }
 
-    // Whether a piece was asked for before the replies to those before it were written, or after more than these.
+    /// Whether a piece was asked for before the replies to those before it were written, or after
+    /// more than these.
     pub fn was_early(&self) -> bool {
         self.was_early
     }
@@ -73,9 +78,10 @@ impl Source for Client<'_> {
     }
 }
 
-// Counts the bytes of the replies.
+/// Counts the bytes of the replies.
 #[derive(Drop)]
 pub struct Replies<'a> {
+    /// How many were written.
     pub replied: &'a Cell<usize>,
 }
 

@@ -5,17 +5,20 @@ ghost use Rattle.std.specs.Int.{w32, to_be_bytes};
 use session_gate::Server;
 use std::alloc::{AllocError, Global};
 
-// Keeps the bodies that it took, and replies to each with its number among them. At one of these numbers, or at none
-// where it is 0, it wants memory that it does not get.
+/// Keeps the bodies that it took, and replies to each with its number among them. At one of these
+/// numbers, or at none where it is 0, it wants memory that it does not get.
 #[derive(Drop)]
 pub struct ListServer {
     alloc: Global,
+    /// The bodies that it took, in their order.
     pub took: Vec<Vec<u8>>,
+    /// Whether it wanted memory that it did not get.
     pub spent: bool,
     wants_at: u32,
 }
 
 impl ListServer {
+    /// A server that took nothing.
     pub fn new(alloc: Global, wants_at: u32) -> Self
         ensures bodies { ⟦<ListServer as Server>⟧.bodies result ≡ [] }
         ensures fresh { ⟦<ListServer as Server>⟧.spent result ≡ false }

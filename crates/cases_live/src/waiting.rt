@@ -5,7 +5,8 @@ use std::alloc::Global;
 use std::cell::Cell;
 use std::test::Fail;
 
-// Whether lines that are sent so are answered, no piece before the replies to those before it, by so many bytes at the end.
+// Whether lines that are sent so are answered, no piece before the replies to those before it, by
+// so many bytes at the end.
 fn is_answered_in_turn(alloc: Global, sends: &[Sent], bytes: usize) -> bool {
     let replied = Cell::new(0usize);
     let mut client = Client::new(sends, &replied);

@@ -1,5 +1,6 @@
-// Batches and their clears: `== ` and what is cleared stand before each, the lines of the market and its orders follow, and then the
-// clears of them, each for itself, with its reply behind `= `. The two accounts are there, and the first has funds.
+// Batches and their clears: `== ` and what is cleared stand before each, the lines of the market
+// and its orders follow, and then the clears of them, each for itself, with its reply behind `= `.
+// The two accounts are there, and the first has funds.
 pub(crate) static CLEARS: &str = r#"== empty batch
 market,1,1
 clear,1,20000

@@ -1,6 +1,6 @@
-// Sessions whose ends are told: `== `, the words of the program and a name stand before each, command lines follow, and behind
-// `= ` the last lines that are answered. A line `* 9 LINES` stands for its lines, apart by semicolons, 9 times, with the number
-// of the time for each `#`.
+// Sessions whose ends are told: `== `, the words of the program and a name stand before each,
+// command lines follow, and behind `= ` the last lines that are answered. A line `* 9 LINES` stands
+// for its lines, apart by semicolons, 9 times, with the number of the time for each `#`.
 pub(crate) static ENDINGS: &str = r#"== run: an account too many
 * 10001 open,#
 = {"account":10000,"line":10000,"reply":"opened"}

@@ -1,5 +1,6 @@
-// Journals for the word `check`, and behind `= ` the report on each: `== check: ` and its name stand before it. The cleared lines
-// are sound, or have one change each, by the condition that they fail.
+// Journals for the word `check`, and behind `= ` the report on each: `== check: ` and its name
+// stand before it. The cleared lines are sound, or have one change each, by the condition that they
+// fail.
 pub(crate) static JOURNALS: &str = r#"== check: a first clearing
 {"account":1,"line":1,"reply":"opened"}
 {"account":2,"line":2,"reply":"opened"}

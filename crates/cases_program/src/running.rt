@@ -18,8 +18,8 @@ pub(crate) static MATCHED_REPLIES: &str = r#"{"account":1,"line":1,"reply":"open
 {"account":0,"balance":"2","line":8,"reply":"balance","reserved":"0"}
 "#;
 
-// Runs the program on its words, apart by blanks, and an input. Of the reads and of the writes, the one of this number
-// fails; of number 0, none.
+// Runs the program on its words, apart by blanks, and an input. Of the reads and of the writes, the
+// one of this number fails; of number 0, none.
 pub(crate) fn run(
     alloc: Global,
     words: &str,
@@ -37,7 +37,8 @@ pub(crate) fn run(
     Ok((status, sink))
 }
 
-// Appends the lines behind a number, apart by semicolons, that often, with the number of the time for each `#`.
+// Appends the lines behind a number, apart by semicolons, that often, with the number of the time
+// for each `#`.
 fn push_repeated(alloc: Global, input: &mut String, text: &str) -> Result<(), AllocError> {
     let (times, lines) = text.split_once(' ').unwrap_or(("0", ""));
     let lines = lines.replace(alloc, ";", "\n")?;
@@ -48,7 +49,8 @@ fn push_repeated(alloc: Global, input: &mut String, text: &str) -> Result<(), Al
     Ok(())
 }
 
-// The input of a session, and what is wanted of its output. Behind `> ` stands a line without its line feed.
+// The input of a session, and what is wanted of its output. Behind `> ` stands a line without its
+// line feed.
 fn session(alloc: Global, text: &str) -> Result<(String, String), AllocError> {
     let mut input = String::new(alloc);
     let mut output = String::new(alloc);
@@ -66,7 +68,8 @@ fn session(alloc: Global, text: &str) -> Result<(String, String), AllocError> {
     Ok((input, output))
 }
 
-// How the session of a text ends and what is written in it, under the words in its first line, and what is wanted.
+// How the session of a text ends and what is written in it, under the words in its first line, and
+// what is wanted.
 pub(crate) fn answered(alloc: Global, text: &str) -> Result<(Status, MemSink, String), AllocError> {
     let (head, lines) = text.split_once('\n').unwrap_or((text, ""));
     let (words, _) = head.split_once(':').unwrap_or((head, ""));
@@ -84,7 +87,8 @@ pub(crate) fn status_with(wanted: &str) -> Status {
     }
 }
 
-// Compares what was written with what is wanted: at the first line that differs the test tells the two.
+// Compares what was written with what is wanted: at the first line that differs the test tells the
+// two.
 pub(crate) fn assert_lines(rt: &impl Abort, written: &[u8], wanted: &str) {
     let written = str::from_utf8(written).unwrap_or("no text");
     for (had, line) in written.split('\n').zip(wanted.split('\n')) {

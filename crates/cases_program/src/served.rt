@@ -24,7 +24,8 @@ static REFUSED: &str = r#"{"line":2,"number":4,"reason":"NoMarket","reply":"refu
 {"line":4,"number":4,"reason":"NoMarket","reply":"refused"}
 "#;
 
-// Messages of sessions, an empty line among them, of whose bodies one asks for a quote, and one for the book.
+// Messages of sessions, an empty line among them, of whose bodies one asks for a quote, and one for
+// the book.
 static MESSAGES: &str = r#"7,1,open,1
 8,1,open,2
 7,1,open,1

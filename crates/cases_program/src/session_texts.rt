@@ -1,5 +1,5 @@
-// Sessions: `== `, the words of the program and a name stand before each, command lines follow, and behind `= ` each line that is
-// answered.
+// Sessions: `== `, the words of the program and a name stand before each, command lines follow, and
+// behind `= ` each line that is answered.
 pub(crate) static SESSIONS: &str = r#"== run: nothing at all
 == run: lines that are no command, empty ones, numbers at and past their limits
 fly,1

@@ -9,7 +9,8 @@ use std::alloc::{AllocError, Global};
 use std::process::Abort;
 use std::test::Fail;
 
-// Inputs whose last line has no line feed, one with carriage returns, a byte order mark and an empty line.
+// Inputs whose last line has no line feed, one with carriage returns, a byte order mark and an
+// empty line.
 static LAST_LINES: &str = "\
 == run: carriage returns
 open,8\r
