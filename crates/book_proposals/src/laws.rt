@@ -1,5 +1,5 @@
-//! What the lines that are written are read as, and what becomes of them: the contracts of functions
-//! that do nothing.
+//! What the lines that are written are read as, and what becomes of them: the contracts of
+//! functions that do nothing.
 ghost use Rattle.book_proposals.specs.Laws.{ProposalsAreSubmissions, ProposalsAreTaken};
 
 /// What is written for a book is one line, as short as an exchange takes it, and read as a proposal

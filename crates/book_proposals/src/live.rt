@@ -30,8 +30,8 @@ impl LineAnswers for ProposedLines {
 /// of the input is skipped. What is written at the end is said here; that it is written before the
 /// next read is said of `turn` of `live_lines`, which follows each read.
 ///
-/// At most 65,536 bytes are taken in a read. The answers to the lines that they complete are written
-/// together, or each time that they are as many bytes.
+/// At most 65,536 bytes are taken in a read. The answers to the lines that they complete are
+/// written together, or each time that they are as many bytes.
 pub fn propose_live<S: Source, K: Sink>(alloc: Global, source: &mut S, sink: &mut K) -> Ended
     // What is written are the answers to all lines that were left.
     ensures done { result ≡ Ended.Done → WroteAll (record {

@@ -18,7 +18,8 @@ pub fn replies_are_counted()
     ensures { RepliesAreCounted }
 {}
 
-/// The batches are those with the mark optimal, with the mark wide and with the mark budget, together.
+/// The batches are those with the mark optimal, with the mark wide and with the mark budget,
+/// together.
 pub fn marks_are_counted()
     ensures { MarksAreCounted }
 {}

@@ -1,4 +1,5 @@
-//! The demo: a large command text is made from a seed and a number of orders and run, and its replies are counted.
+//! The demo: a large command text is made from a seed and a number of orders and run, and its
+//! replies are counted.
 #![tactic(auto)]
 
 mod draws;

@@ -49,8 +49,9 @@ fn house_balance(exchange: &Exchange) -> i128
     exchange.balance(HOUSE).unwrap()
 }
 
-/// Makes the text of a seed and a number of orders, runs it on an empty exchange, and answers the summary: how many replies
-/// were given and of which kinds, and the house's balance after them, in ticks.
+/// Makes the text of a seed and a number of orders, runs it on an empty exchange, and answers the
+/// summary: how many replies were given and of which kinds, and the house's balance after them, in
+/// ticks.
 ///
 /// Of the replies only the counts are kept.
 pub fn demo(alloc: Global, seed: u32, count: u32) -> Result<String, AllocError>

@@ -98,8 +98,8 @@ fn settle_line(alloc: Global, draws: &mut Draws) -> Result<String, AllocError>
     format!(in alloc; "settle,1,{first},{second}\n")
 }
 
-/// The text of commands that a seed makes: forty accounts trade so many options on two underlyings, at most 20 a batch, and
-/// the market is settled.
+/// The text of commands that a seed makes: forty accounts trade so many options on two underlyings,
+/// at most 20 a batch, and the market is settled.
 pub fn demo_text(alloc: Global, seed: u32, count: u32) -> Result<String, AllocError>
     requires some { 1 ≤ count }
     requires few { count ≤ MAX_DEMO_ORDERS }

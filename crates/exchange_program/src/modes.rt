@@ -14,7 +14,8 @@ pub(crate) trait LineAnswers {
     // What is written for a line with its number in a state, and the state after it.
     ghost step: { LineStep };
 
-    // Takes the exchange one line further, and answers what is written for a line of exactly these bytes with this number.
+    // Takes the exchange one line further, and answers what is written for a line of exactly these
+    // bytes with this number.
     fn answer(
         alloc: Global,
         exchange: &mut Exchange,
@@ -59,7 +60,8 @@ impl LineAnswers for Quotes {
     }
 }
 
-// As a run, with margins where they are asked for, and withdrawals only down to what an account needs.
+// As a run, with margins where they are asked for, and withdrawals only down to what an account
+// needs.
 pub(crate) struct Guarded;
 
 impl LineAnswers for Guarded {

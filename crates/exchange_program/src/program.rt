@@ -63,7 +63,8 @@ pub fn exchange<S: Source, K: Sink>(
         OfInput request (S.left source.old) (λ input.
         OfOutput request input (AppendsFront (K.written sink.old) (K.written sink.new)))) }
 
-    // It keeps what the request promises of it: each line is told its answer, and the answers keep what is promised.
+    // It keeps what the request promises of it: each line is told its answer, and the answers keep
+    // what is promised.
     ensures told { result ≡ Status.Done →
         Asked (map string_bytes words.now) (λ request.
         OfSomeInput request (S.left source.old) (λ input.
@@ -118,7 +119,8 @@ pub fn exchange<S: Source, K: Sink>(
         OfInput request (S.left source.old) (λ input.
         WithLimit request (λ limit. length input ≤ limit))) }
 
-    // Between two reads the output of the complete lines was written, so it is at each status what it was then.
+    // Between two reads the output of the complete lines was written, so it is at each status what
+    // it was then.
     ensures served { Asked (map string_bytes words.now) (λ request.
         WhereServe request (λ served. ServedAt served result (record {
           left = S.left source.old;
@@ -128,7 +130,8 @@ pub fn exchange<S: Source, K: Sink>(
         }))) }
 
     // Each proposal is judged a bound for the book that a line tells. What is written at the end is
-    // said here; that it is written before the next read is said of `turn`, which follows each read.
+    // said here; that it is written before the next read is said of `turn`, which follows each
+    // read.
     ensures proposed { Asked (map string_bytes words.now) (λ request.
         WherePropose request (ProposedAt result (record {
           left = S.left source.old;

@@ -110,7 +110,8 @@ pub(crate) fn serve<S: Source, K: Sink>(
         OfInput request (S.left source.old) (λ input.
         OfOutput request input (AppendsFront (K.written sink.old) (K.written sink.new))) }
 
-    // It keeps what the request promises of it: each line is told its answer, and the answers keep what is promised.
+    // It keeps what the request promises of it: each line is told its answer, and the answers keep
+    // what is promised.
     ensures told { result ≡ Status.Done →
         OfSomeInput request (S.left source.old) (λ input.
         Wrote (K.written sink.old) (K.written sink.new) (Promised request input)) }

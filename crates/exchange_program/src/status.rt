@@ -25,8 +25,8 @@ pub enum Status {
 }
 
 impl Status {
-    /// How a run ends whose words were not read: a word that is no text is a faulty command line, and any other cause is want of
-    /// memory.
+    /// How a run ends whose words were not read: a word that is no text is a faulty command line,
+    /// and any other cause is want of memory.
     pub fn of_unread_words(kind: ErrorKind) -> Status
         ensures no_text { kind ≡ ErrorKind.InvalidData → result ≡ Status.Usage }
         ensures no_memory { kind ≢ ErrorKind.InvalidData → result ≡ Status.Memory }

@@ -18,7 +18,8 @@ pub enum Mode {
     Run,
     /// As in a run, and questions for quotes besides.
     Quotes,
-    /// As in a run, and questions for margins besides; a withdrawal leaves the balance that the account needs.
+    /// As in a run, and questions for margins besides; a withdrawal leaves the balance that the
+    /// account needs.
     Guarded,
 }
 

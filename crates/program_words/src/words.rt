@@ -99,8 +99,8 @@ fn are_positional(words: &[String]) -> bool
 }
 
 /// What the words after the program's name ask for: `run`, `quotes`, `guarded`, `check`, `audit`,
-/// `sessions`, `serve`, `serve sessions`, `propose`, or `demo` with a seed and a number of orders, each
-/// of which is `0` or digits that do not begin with 0.
+/// `sessions`, `serve`, `serve sessions`, `propose`, or `demo` with a seed and a number of orders,
+/// each of which is `0` or digits that do not begin with 0.
 ///
 /// Usage where they have none of these forms, and Memory for want of memory alone.
 pub fn request(alloc: Global, words: &[String]) -> Result<Request, WordsFault>

@@ -1,4 +1,5 @@
-//! Laws of what is written, and of the journals that it is: each is the contract of a function that does nothing.
+//! Laws of what is written, and of the journals that it is: each is the contract of a function that
+//! does nothing.
 ghost use Rattle.reply_ranges.specs.Accepted.{AnswersAreWithin, RunsAreAccepted};
 ghost use Rattle.reply_ranges.specs.Audits.{ServedLinesAreAccepted, ServedMessagesAreAccepted};
 ghost use Rattle.reply_ranges.specs.Books.{BooksAreProposedFor, BooksAreTold};
@@ -9,20 +10,23 @@ pub fn fields_are_within()
     ensures { FieldsAreWithin }
 {}
 
-/// Each outcome, within a budget that a command may give, is within the ranges of a cleared line: its units; the places of its
-/// tree; the entries of its measure's states; and the operands of a step that did not fit, which are in lowest terms.
+/// Each outcome, within a budget that a command may give, is within the ranges of a cleared line:
+/// its units; the places of its tree; the entries of its measure's states; and the operands of a
+/// step that did not fit, which are in lowest terms.
 pub fn outcomes_are_ranged()
     ensures { OutcomesAreRanged }
 {}
 
-/// Whatever commands come to an empty exchange, as many as a run may have lines, each reply is within the ranges of its line:
-/// the numbers of accounts, markets, orders and batches; balances, reserves and payouts; the batch and its outcome.
+/// Whatever commands come to an empty exchange, as many as a run may have lines, each reply is
+/// within the ranges of its line: the numbers of accounts, markets, orders and batches; balances,
+/// reserves and payouts; the batch and its outcome.
 pub fn replies_are_within()
     ensures { RepliesAreWithin }
 {}
 
-/// Each line that a run writes, whatever its input, is within the ranges that the reader of lines tests: the numbers of lines,
-/// accounts, markets, orders and batches, balances and amounts, units, places of trees, entries of states, and operands.
+/// Each line that a run writes, whatever its input, is within the ranges that the reader of lines
+/// tests: the numbers of lines, accounts, markets, orders and batches, balances and amounts, units,
+/// places of trees, entries of states, and operands.
 pub fn answers_are_within()
     ensures { AnswersAreWithin }
 {}
@@ -32,13 +36,15 @@ pub fn runs_are_accepted()
     ensures { RunsAreAccepted }
 {}
 
-/// Whatever the lines of an input are, within the limits that a run keeps to which finishes, an audit of what is written for them
-/// says yes: quotes, prices, margins, proposals, batches that were cleared as proposals had it, and all replies of a run.
+/// Whatever the lines of an input are, within the limits that a run keeps to which finishes, an
+/// audit of what is written for them says yes: quotes, prices, margins, proposals, batches that
+/// were cleared as proposals had it, and all replies of a run.
 pub fn served_lines_are_accepted()
     ensures { ServedLinesAreAccepted }
 {}
 
-/// So does an audit of what is written for messages of sessions: replies to accepted messages, and lines of the gate.
+/// So does an audit of what is written for messages of sessions: replies to accepted messages, and
+/// lines of the gate.
 pub fn served_messages_are_accepted()
     ensures { ServedMessagesAreAccepted }
 {}
