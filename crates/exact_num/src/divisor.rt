@@ -34,7 +34,8 @@ fn gcd_with_short(low: u64, high: u128) -> u128
     gcd_of_short(low, rest as u64) as u128
 }
 
-fn gcd_of_short(a: u64, b: u64) -> u64
+/// The same of numbers of 64 bits.
+pub fn gcd_of_short(a: u64, b: u64) -> u64
     ensures { result ≡ gcd_of a b }
 {
     let low = a.min(b);

@@ -11,7 +11,7 @@ pub mod misfit;
 pub mod number;
 pub mod sums;
 
-pub use divisor::gcd;
+pub use divisor::{gcd, gcd_of_short};
 pub use misfit::{Operator, Wide};
 pub use number::Exact;
 pub use sums::{less_product, plus_product};

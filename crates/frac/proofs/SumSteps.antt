@@ -160,6 +160,18 @@ value_over_one : (a b : ℤ) (d : ℕ) → 0 < d
 unfolding sum_value
 value_over_one a b d positive = rw (total_over_one a b d positive, common_is a b d positive, below_is a b d positive) refl
 
+-- the sum, by what the total shares with the denominator
+pub over_one_value : (x y : Fraction) (n : ℤ) (shared e : ℕ) → 0 < x.denominator → y.denominator ≡ x.denominator
+    → shared ≡ gcd (unsigned_abs (x.numerator +ℤ y.numerator)) x.denominator → n ≡ int_div (x.numerator +ℤ y.numerator) (pos shared) → e ≡ x.denominator / shared → over n e ≡ sum_value x y
+over_one_value x y n shared e positive same es en ee =
+    let a = x.numerator in
+    let b = y.numerator in
+    let d = x.denominator in
+    ap (λ (z : ℤ). over z e) (en ∙ ap (λ (m : ℕ). int_div (a +ℤ b) (pos m)) es)
+    ∙ ap (λ (m : ℕ). over (int_div (a +ℤ b) (pos (gcd (unsigned_abs (a +ℤ b)) d))) m) (ee ∙ ap (λ (m : ℕ). d / m) es)
+    ∙ sym (value_over_one a b d positive)
+    ∙ ap (λ (i : ℕ). sum_value x (over b i)) (sym same)
+
 pub over_one_stops : (limit : ℕ) (x y : Fraction) (r : Option ℤ) → 0 < x.denominator → y.denominator ≡ x.denominator → IsWithin limit x → IsWithin limit y
     → r ≡ within limit (x.numerator +ℤ y.numerator) → r ≡ None → None ≡ sum_within limit x y
 over_one_stops limit x y r positive same p q h n =
@@ -178,16 +190,9 @@ over_one_ends limit x y r s n shared e positive same p q h is_s es en ee =
     let on : size_fits limit (a +ℤ b) ≡ true = one.0 in
     let is_shared : shared ≡ gcd (unsigned_abs (a +ℤ b)) d = es ∙ ap (λ (z : ℤ). gcd (unsigned_abs z) d) one.1 in
     let size : unsigned_abs s ≤ limit = rw one.1 (leb-true _ _ on) in
-    let above : n ≡ int_div (a +ℤ b) (pos (gcd (unsigned_abs (a +ℤ b)) d)) =
-    en ∙ ap (λ (z : ℤ). int_div z (pos shared)) one.1 ∙ ap (λ (m : ℕ). int_div (a +ℤ b) (pos m)) is_shared in
-    let below : e ≡ d / gcd (unsigned_abs (a +ℤ b)) d = ee ∙ ap (λ (m : ℕ). d / m) is_shared in
     record {
       fits = ap (λ (i : ℕ). sum_fits limit x (over b i)) same ∙ fits_over_one limit a b d positive p.below p.above q.above ∙ on;
-      value =
-          ap (λ (z : ℤ). over z e) above
-          ∙ ap (λ (m : ℕ). over (int_div (a +ℤ b) (pos (gcd (unsigned_abs (a +ℤ b)) d))) m) below
-          ∙ sym (value_over_one a b d positive)
-          ∙ ap (λ (i : ℕ). sum_value x (over b i)) (sym same);
+      value = over_one_value x y n shared e positive same is_shared (en ∙ ap (λ (z : ℤ). int_div z (pos shared)) one.1) ee;
       above = rw (en, unsigned_abs-int_div s shared) (le_trans (div-le_self (unsigned_abs s) shared) size);
       below = rw ee (le_trans (div-le_self d shared) p.below);
     }

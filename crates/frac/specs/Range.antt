@@ -1,5 +1,5 @@
 -- Numbers within a limit, as options, and the operations with fractions within it.
-use Rattle.std.specs.Prelude.{ℕ, ◌-◌, ◌^◌, ◌&&◌, ℤ, Option, Some, None, nat_le, if◌then◌else◌}
+use Rattle.std.specs.Prelude.{ℕ, ◌-◌, ◌<◌, ◌^◌, ◌&&◌, ℤ, Option, Some, None, nat_le, unsigned_abs, if◌then◌else◌}
 use Rattle.exact_num.specs.Fraction.{Fraction}
 pub use Rattle.exact_num.specs.Limit.{limit}
 use Rattle.exact_num.specs.Fits.{size_fits, sum_left, sum_right, sum_total, sum_fits, sum_value, product_fits, product_value}
@@ -24,3 +24,7 @@ sum_within limit x y = if sum_fits limit x y then Some (sum_value x y) else None
 
 abbrev pub product_within : ℕ → Fraction → Fraction → Option Fraction
 product_within limit x y = if product_fits limit x y then Some (product_value x y) else None
+
+-- both parts are of 31 bits
+abbrev pub IsSmall : Fraction → Type 0
+IsSmall x = (unsigned_abs x.numerator < 2 ^ 31) × (x.denominator < 2 ^ 31)

@@ -12,6 +12,7 @@ mod order;
 
 use crate::products::{product, reciprocal};
 use crate::sizes::is_in_range;
+use crate::small::{is_small, small_product, small_sum};
 use crate::sums::sum;
 use exact_num::{Exact, Operator, Wide};
 use order::order;
@@ -81,10 +82,23 @@ impl Frac128 {
     ghost use Rattle.exact_num.specs.Fits.{misfit as misfit_of};
     ghost use Rattle.frac.specs.Value.{fraction_of};
 
-    // The sum in lowest terms, where each of its quantities is in range. It is a call with a short
-    // answer: the long one, with room for a misfit, is put together where the caller is compiled.
-    #[inline(never)]
+    // The sum in lowest terms, where each of its quantities is in range. That of small fractions is
+    // put together where the caller is compiled.
+    #[inline(always)]
     fn sum(self, other: Frac128) -> Option<Frac128>
+        ensures { option_map fraction_of result
+            ≡ sum_within limit (fraction_of self) (fraction_of other) }
+    {
+        if is_small(self) && is_small(other) {
+            Some(small_sum(self, other))
+        } else {
+            self.long_sum(other)
+        }
+    }
+
+    // The same of any fractions. It is a call with a short answer, without room for a misfit.
+    #[inline(never)]
+    fn long_sum(self, other: Frac128) -> Option<Frac128>
         ensures { option_map fraction_of result
             ≡ sum_within limit (fraction_of self) (fraction_of other) }
     {
@@ -92,8 +106,21 @@ impl Frac128 {
     }
 
     // The product in lowest terms, where each of its quantities is in range.
-    #[inline(never)]
+    #[inline(always)]
     fn product(self, other: Frac128) -> Option<Frac128>
+        ensures { option_map fraction_of result
+            ≡ product_within limit (fraction_of self) (fraction_of other) }
+    {
+        if is_small(self) && is_small(other) {
+            Some(small_product(self, other))
+        } else {
+            self.long_product(other)
+        }
+    }
+
+    // The same of any fractions.
+    #[inline(never)]
+    fn long_product(self, other: Frac128) -> Option<Frac128>
         ensures { option_map fraction_of result
             ≡ product_within limit (fraction_of self) (fraction_of other) }
     {

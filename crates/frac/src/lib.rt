@@ -9,6 +9,7 @@ mod products;
 pub mod quotients;
 pub mod shares;
 mod sizes;
+mod small;
 mod sums;
 pub mod wholes;
 pub mod widths;

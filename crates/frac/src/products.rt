@@ -47,10 +47,10 @@ fn short_factors(x: Frac128, y: Frac128) -> Factors
     let h = short_divisor(c, b);
     Factors {
         numerators: (
-            with_sign_of(x.numerator, short_quotient(a, g)),
-            with_sign_of(y.numerator, short_quotient(c, h)),
+            with_sign_of(x.numerator, short_quotient(a, g) as u128),
+            with_sign_of(y.numerator, short_quotient(c, h) as u128),
         ),
-        denominators: (short_quotient(b, h), short_quotient(d, g)),
+        denominators: (short_quotient(b, h) as u128, short_quotient(d, g) as u128),
     }
 }
 

@@ -2,13 +2,13 @@
 //!
 //! Where all numbers fit in 64 bits, nothing is divided in 128. All is compiled anew where it is
 //! called, since the limit and the width of the operands are known there.
-ghost use Rattle.std.specs.Prelude.{◌≡◌, ◌<◌, ◌*◌, ◌/◌, ◌^◌, pos, ◌+ℤ◌, ◌*ℤ◌, unsigned_abs, int_div};
+ghost use Rattle.std.specs.Prelude.{◌≡◌, ◌<◌, ◌≤◌, ◌*◌, ◌/◌, ◌^◌, pos, ◌+ℤ◌, ◌*ℤ◌, unsigned_abs, int_div};
 ghost use Rattle.arithmetic.specs.Gcd.{gcd as gcd_of};
 ghost use Rattle.exact_num.specs.Fits.{size_fits, signed_by};
 ghost use Rattle.frac.specs.Range.{within, within_natural};
 
 use crate::quotients::SHORT;
-use exact_num::gcd;
+use exact_num::{gcd, gcd_of_short};
 
 /// Whether the size of `v` is at most the limit.
 #[inline(always)]
@@ -44,11 +44,12 @@ pub fn short_divisor(a: u64, b: u64) -> u64
     requires { 0 < b }
     ensures value { result ≡ gcd_of a b }
     ensures above_zero { 0 < result }
+    ensures small { result ≤ b }
 {
     if a == 1 || b == 1 {
         1
     } else {
-        gcd(a as u128, b as u128) as u64
+        gcd_of_short(a, b)
     }
 }
 
@@ -73,7 +74,7 @@ pub fn natural_quotient(a: u128, b: u128) -> u128
     if b == 1 {
         a
     } else if a <= SHORT && b <= SHORT {
-        short_quotient(a as u64, b as u64)
+        short_quotient(a as u64, b as u64) as u128
     } else {
         a / b
     }
@@ -81,11 +82,11 @@ pub fn natural_quotient(a: u128, b: u128) -> u128
 
 /// The quotient of numbers of 64 bits, rounded down.
 #[inline(always)]
-pub fn short_quotient(a: u64, b: u64) -> u128
+pub fn short_quotient(a: u64, b: u64) -> u64
     requires { 0 < b }
     ensures { result ≡ a / b }
 {
-    if b == 1 { a as u128 } else { (a / b) as u128 }
+    if b == 1 { a } else { a / b }
 }
 
 /// The quotient, rounded toward zero.

@@ -1,4 +1,4 @@
-use Rattle.std.proofs.Common.{◌≡◌, ◌≤◌, ◌∙◌, sym, ap, arith, inl, inr}
+use Rattle.std.proofs.Common.{◌≡◌, ◌∙◌, sym, ap, inl, inr}
 use Rattle.arithmetic.specs.Gcd.{gcd}
 use Rattle.arithmetic.proofs.GcdLaws.{gcd-one, gcd_comm, gcd_pos_right}
 use Rattle.arithmetic.proofs.BinaryGcd.{gcd-le_left}
@@ -11,11 +11,10 @@ returns-then-b-eq1-clause-value c =
       | inr w ↦ sym (ap (gcd c.args.a) w.1 ∙ gcd-one c.args.a)
     ]
 
-pub overflow_cast-result : goal.overflow_cast-result
-overflow_cast-result c =
-    let e : c.gcd.result ≡ gcd c.args.b c.args.a = c.gcd.ensures ∙ gcd_comm c.args.a c.args.b in
-    let small : c.gcd.result ≤ c.args.b = rw e (gcd-le_left c.args.b c.args.a c.requires) in
-    record { fits = omega (arith, small, c.ranges.b.fits) }
-
 pub returns-else-b-eq1-clause-above_zero : goal.returns-else-b-eq1-clause-above_zero
-returns-else-b-eq1-clause-above_zero c = rw c.gcd.ensures (gcd_pos_right _ _ c.requires)
+returns-else-b-eq1-clause-above_zero c = rw c.gcd_of_short.ensures (gcd_pos_right _ _ c.requires)
+
+pub returns-else-b-eq1-clause-small : goal.returns-else-b-eq1-clause-small
+returns-else-b-eq1-clause-small c =
+    let e : c.gcd_of_short.result ≡ gcd c.args.b c.args.a = c.gcd_of_short.ensures ∙ gcd_comm c.args.a c.args.b in
+    rw e (gcd-le_left c.args.b c.args.a c.requires)
