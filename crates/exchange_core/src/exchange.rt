@@ -44,7 +44,8 @@ use std::alloc::{AllocError, Global};
 use std::collections::BTreeSet;
 use std::marker::Model;
 
-/// The accounts with their balances and reserves, the markets with their live orders, and the positions.
+/// The accounts with their balances and reserves, the markets with their live orders, and the
+/// positions.
 #[derive(Drop)]
 pub struct Exchange {
     alloc: Global,
@@ -90,8 +91,8 @@ impl Exchange {
         self.ledger.balance(account)
     }
 
-    /// What is reserved of the balance of an open account for its live buys, in ticks. `None` where the account is not open.
-    /// Takes no memory.
+    /// What is reserved of the balance of an open account for its live buys, in ticks. `None` where
+    /// the account is not open. Takes no memory.
     pub fn reserved(&self, account: u32) -> Option<i128>
         ensures { result
             ≡ if_open self.now.accounts account (pos (reserve_in self.now account)) }
@@ -202,9 +203,9 @@ impl Exchange {
         Ok(held)
     }
 
-    /// The positions that an open account has in a market that is not settled, in the order in which
-    /// they were added. The first of these: `NoMarket` where no market has the number; `Settled`
-    /// where it is settled; `NoAccount` where the account is not open.
+    /// The positions that an open account has in a market that is not settled, in the order in
+    /// which they were added. The first of these: `NoMarket` where no market has the number;
+    /// `Settled` where it is settled; `NoAccount` where the account is not open.
     pub fn positions(&self, account: u32, market: u32) -> Result<Vec<Position>, Failure>
         ensures refused { TellsFirst unless_memory result
             (by_book (live_refusals self.now.book market)
@@ -290,8 +291,9 @@ impl Exchange {
         Ok(Reply::Placed { order })
     }
 
-    // An order is large, and a function clears the places of its values when it is entered: so the order of a trade, and that
-    // for a bundle, are made in functions of their own, and no other command pays for them.
+    // An order is large, and a function clears the places of its values when it is entered: so the
+    // order of a trade, and that for a bundle, are made in functions of their own, and no other
+    // command pays for them.
     fn trade(
         &mut self,
         terms: &Terms,

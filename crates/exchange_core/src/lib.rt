@@ -1,4 +1,5 @@
-//! The exchange: one step for each command, over the accounts of its ledger, the markets of its book and the positions.
+//! The exchange: one step for each command, over the accounts of its ledger, the markets of its
+//! book and the positions.
 //!
 //! A call takes memory only where it may answer want of it.
 #![tactic(auto)]

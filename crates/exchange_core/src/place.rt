@@ -1,4 +1,5 @@
-// How an order is placed and taken out again: the book holds it, and the ledger reserves what it costs.
+// How an order is placed and taken out again: the book holds it, and the ledger reserves what it
+// costs.
 ghost use Rattle.std.specs.Prelude.{◌≡◌, ◌+◌, IfOk, OnOk, OnErr};
 ghost use Rattle.order_book.specs.Book.{with_order, without_order};
 ghost use Rattle.order_book.specs.Within.{IsNewOrderWithin};

@@ -25,7 +25,8 @@ fn cost(quantity: u32, price: u64) -> u64
     u64::from(quantity) * price
 }
 
-// Looks whether the account of an order is open, and reserves what a buy costs. Answers what it reserved, in ticks.
+// Looks whether the account of an order is open, and reserves what a buy costs. Answers what it
+// reserved, in ticks.
 pub(crate) fn reserve_cost(ledger: &mut Ledger, order: &NewOrder) -> Result<u64, LedgerRefusal>
     requires quantity { order.now.quantity ≤ MAX_QUANTITY }
     requires price { order.now.price ≤ MAX_PRICE }

@@ -68,8 +68,8 @@ fn release_live(ledger: &mut Ledger, book: &Book, market: u32)
     }
 }
 
-// Settles a market for good at these prices: its positions are paid out and taken out, its live orders lapse, and what
-// they reserve is free again.
+// Settles a market for good at these prices: its positions are paid out and taken out, its live
+// orders lapse, and what they reserve is free again.
 pub(crate) fn settle(
     ledger: &mut Ledger,
     book: &mut Book,

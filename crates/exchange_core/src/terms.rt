@@ -2,7 +2,8 @@
 
 use form::Side;
 
-// Whose order it is, where and on which side it stands, at which limit price in ticks, and for how many.
+// Whose order it is, where and on which side it stands, at which limit price in ticks, and for how
+// many.
 #[derive(Clone, Copy, Debug, PartialEq, Eq)]
 pub(crate) struct Terms {
     pub account: u32,

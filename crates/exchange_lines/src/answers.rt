@@ -9,7 +9,8 @@ use exchange_core::{Exchange, reply_to};
 use reply_print::{Reply, print};
 use std::alloc::{AllocError, Global};
 
-// The line of a reply and a line feed. By reference, so that the reply is dropped at one place alone.
+// The line of a reply and a line feed. By reference, so that the reply is dropped at one place
+// alone.
 fn print_line(alloc: Global, number: u32, reply: &Reply) -> Result<Vec<u8>, AllocError>
     ensures { IfOk result (λ text. text.items ≡ reply_line number reply.now ++ 10 ∷ []) }
 {
@@ -18,8 +19,8 @@ fn print_line(alloc: Global, number: u32, reply: &Reply) -> Result<Vec<u8>, Allo
     Ok(text)
 }
 
-/// Takes the exchange one line further, and answers what is written for a line of exactly these bytes with this number: its
-/// reply line and a line feed.
+/// Takes the exchange one line further, and answers what is written for a line of exactly these
+/// bytes with this number: its reply line and a line feed.
 pub fn answer(
     alloc: Global,
     exchange: &mut Exchange,

@@ -3,8 +3,9 @@
 ghost use Rattle.exchange_lines.specs.GainLaws.{MovesGain, RunsGain};
 ghost use Rattle.exchange_lines.specs.WorkedGains.{ButterflyGains};
 
-/// Whatever commands come to an empty exchange: where a market of a cleared batch is settled later, the house has gained of the
-/// batch, in whole ticks, at least the surplus that the batch's reply tells, and the house's entries for the batch sum to it.
+/// Whatever commands come to an empty exchange: where a market of a cleared batch is settled later,
+/// the house has gained of the batch, in whole ticks, at least the surplus that the batch's reply
+/// tells, and the house's entries for the batch sum to it.
 pub fn runs_gain()
     ensures { RunsGain }
 {}
@@ -16,7 +17,8 @@ pub fn moves_gain()
     ensures { MovesGain }
 {}
 
-/// A batch whose orders are filled in parts leaves 2 to the house as it is cleared and 1 as it is settled, and told 6/7: worked.
+/// A batch whose orders are filled in parts leaves 2 to the house as it is cleared and 1 as it is
+/// settled, and told 6/7: worked.
 pub fn butterfly_gains()
     ensures { ButterflyGains }
 {}

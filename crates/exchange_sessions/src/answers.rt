@@ -27,11 +27,13 @@ fn stop_of(stop: LiveStop) -> AnswerStop
 
 /// Answers the messages of an input to one new exchange.
 ///
-/// A line is a message `SESSION,NUMBER,BODY` or none, and has one line as its answer. Lines are told apart by line feeds and
-/// counted from 1; one carriage return at the end of a line is taken away, and a line that is then empty has no answer. No bytes
-/// are skipped at the start of the input.
+/// A line is a message `SESSION,NUMBER,BODY` or none, and has one line as its answer. Lines are
+/// told apart by line feeds and counted from 1; one carriage return at the end of a line is taken
+/// away, and a line that is then empty has no answer. No bytes are skipped at the start of the
+/// input.
 ///
-/// `WriteFault` at the first fault of the sink, and `Memory` where there was none. A front of the output was then written.
+/// `WriteFault` at the first fault of the sink, and `Memory` where there was none. A front of the
+/// output was then written.
 pub fn answer_messages<K: Sink>(alloc: Global, input: &[u8], sink: &mut K) -> Result<(), AnswerStop>
     requires { length input.now ≤ MAX_INPUT }
     ensures ok { OnOk result

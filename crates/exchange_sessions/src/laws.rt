@@ -3,18 +3,21 @@
 ghost use Rattle.exchange_sessions.specs.AllLines.{SessionsTellOnce};
 ghost use Rattle.exchange_sessions.specs.Laws.{OutputTellsOnce};
 
-/// What is written for an input tells each message once. It is the text of the answers to its lines; the exchange takes the bodies
-/// of the messages that are answered First, in order, and these have, session by session, the numbers 1, 2, 3 and so on, each
-/// once; the replies told to them are the output of their bodies as one input of lines, and keep what is promised of the output
-/// of a run; and a message that is answered Repeat was answered First before, with the same reply.
+/// What is written for an input tells each message once. It is the text of the answers to its
+/// lines; the exchange takes the bodies of the messages that are answered First, in order, and
+/// these have, session by session, the numbers 1, 2, 3 and so on, each once; the replies told to
+/// them are the output of their bodies as one input of lines, and keep what is promised of the
+/// output of a run; and a message that is answered Repeat was answered First before, with the same
+/// reply.
 pub fn output_tells_once()
     ensures { OutputTellsOnce }
 {}
 
-/// Where the bodies are lines of any kind, answered between two reads, what is written tells each message once: those that are
-/// answered First have, session by session, the numbers 1, 2, 3 and so on, their replies are the output of their bodies as one
-/// input of all lines, which keeps what is promised of it, and a message that is answered Repeat was answered First before, with
-/// the same reply.
+/// Where the bodies are lines of any kind, answered between two reads, what is written tells each
+/// message once: those that are answered First have, session by session, the numbers 1, 2, 3 and so
+/// on, their replies are the output of their bodies as one input of all lines, which keeps what is
+/// promised of it, and a message that is answered Repeat was answered First before, with the same
+/// reply.
 pub fn sessions_tell_once()
     ensures { SessionsTellOnce }
 {}

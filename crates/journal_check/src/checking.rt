@@ -11,9 +11,9 @@ use crate::journal_lines::cut_line;
 use crate::judges::LineJudge;
 use std::alloc::{AllocError, Global};
 
-/// The report on a journal by what judges its lines: the first line that is found faulty and why, or else how many lines
-/// there are. Each line ends with a line feed, which the last may lack; what stands behind the last line feed is a line
-/// unless it is empty. An error is want of memory.
+/// The report on a journal by what judges its lines: the first line that is found faulty and why,
+/// or else how many lines there are. Each line ends with a line feed, which the last may lack; what
+/// stands behind the last line feed is a line unless it is empty. An error is want of memory.
 pub fn report_by<J: LineJudge>(alloc: Global, bytes: &[u8]) -> Result<Report, AllocError>
     ensures { IfOk result (λ r. r ≡ report_by J.finding bytes.now) }
 {
@@ -63,8 +63,8 @@ impl LineJudge for RunLines {
 
 /// The report on a journal: the first line that is no sound reply and why, or else how many lines
 /// there are. Each line ends with a line feed, which the last may lack; what stands behind the last
-/// line feed is a line unless it is empty. A line is sound where it reads as a reply and, if that is
-/// a cleared batch, the verdict on it is yes. An error is want of memory.
+/// line feed is a line unless it is empty. A line is sound where it reads as a reply and, if that
+/// is a cleared batch, the verdict on it is yes. An error is want of memory.
 pub fn check_journal(alloc: Global, bytes: &[u8]) -> Result<Report, AllocError>
     ensures report { IfOk result (λ r. r ≡ report_of bytes.now) }
     ensures says { IfOk result (Says (lines_of bytes.now)) }

@@ -75,7 +75,8 @@ fn faulty_text(alloc: Global, line: u64, reason: Reason) -> Result<String, Alloc
     format!(in alloc; "{{\"line\":{line},\"reason\":\"{reason}\",\"verdict\":\"no\"}}")
 }
 
-/// The line of a report on the lines of a run, without its line feed: it does not tell how many are marked bounded.
+/// The line of a report on the lines of a run, without its line feed: it does not tell how many are
+/// marked bounded.
 pub fn text(alloc: Global, report: &Report) -> Result<String, AllocError>
     ensures { IfOk result (λ s. string_bytes s ≡ report_text report.now) }
 {

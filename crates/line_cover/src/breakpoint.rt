@@ -43,7 +43,8 @@ fn is_falling(first: i64, second: i64) -> bool
     first > 0 && second < 0
 }
 
-/// Whether an option with this strike's entry and this weight bends, and the two have the sizes of the others.
+/// Whether an option with this strike's entry and this weight bends, and the two have the sizes of
+/// the others.
 fn has_bend_of(strike: i64, weight: i64, other_strike: i64, other_weight: i64) -> bool
     ensures { result
         ≡ (bends strike weight
@@ -55,8 +56,8 @@ fn has_bend_of(strike: i64, weight: i64, other_strike: i64, other_weight: i64) -
         && weight.unsigned_abs() == other_weight.unsigned_abs()
 }
 
-/// Whether the order's first leg bends, and its entries have the sizes of the option's: then it bends where the option
-/// does, if that bends. Takes no memory.
+/// Whether the order's first leg bends, and its entries have the sizes of the option's: then it
+/// bends where the option does, if that bends. Takes no memory.
 pub fn bends_alike(order: &Order, form: &Form) -> bool
     ensures { result ≡ bends_alike (first_option order.now.bundle) (option_of form.now) }
 {
@@ -65,7 +66,8 @@ pub fn bends_alike(order: &Order, form: &Form) -> bool
     has_bend_of(strike, weight, form.entries[0], form.entries[1])
 }
 
-/// The price above 0 where the payoff of an option on one underlying bends, in lowest terms. Takes no memory.
+/// The price above 0 where the payoff of an option on one underlying bends, in lowest terms. Takes
+/// no memory.
 pub fn breakpoint(form: &Form) -> Option<Price>
     requires { form.now.count ≡ 2 }
     ensures { option_map price_vector result ≡ breakpoint_of (option_of form.now) }

@@ -1,4 +1,5 @@
-//! What the check of a line shows, and what its states are: the contracts of functions that do nothing.
+//! What the check of a line shows, and what its states are: the contracts of functions that do
+//! nothing.
 
 ghost use Rattle.line_cover.specs.Laws.{LineCoversHoldAtStates, LinesCloseAtStates};
 ghost use Rattle.line_cover.specs.Laws.{LineStatesAreBreakpoints, LineStatesAreFew};
@@ -46,8 +47,8 @@ pub fn line_states_rise()
     ensures { LineStatesRise }
 {}
 
-/// The states of batches that are worked by hand, and a spread of two calls that two options cover: with its second leg
-/// bought in place of sold the market owes 2 in the slope.
+/// The states of batches that are worked by hand, and a spread of two calls that two options cover:
+/// with its second leg bought in place of sold the market owes 2 in the slope.
 pub fn lines_by_hand()
     ensures { LinesByHand }
 {}

@@ -14,9 +14,10 @@ use crate::price::{Price, price_state};
 use form::{Batch, Bundle, Order, State};
 use std::alloc::{AllocError, Global};
 
-/// The states at which a liability has to be enough, so that it is enough at every settlement: the price 0, each
-/// price above 0 where the payoff of a leg bends, once and in rising price, and the slope beyond the last. Prices are
-/// in lowest terms. There are at most two more than legs. The batch is on one underlying.
+/// The states at which a liability has to be enough, so that it is enough at every settlement: the
+/// price 0, each price above 0 where the payoff of a leg bends, once and in rising price, and the
+/// slope beyond the last. Prices are in lowest terms. There are at most two more than legs. The
+/// batch is on one underlying.
 pub fn breakpoints(alloc: Global, batch: &Batch) -> Result<Vec<State>, AllocError>
     requires forms { HasItsForms batch.now }
     requires one { batch.now.underlyings ≡ 1 }

@@ -34,13 +34,14 @@ pub enum LineVerdict {
     Wide(Wide),
 }
 
-/// Whether the net payoff of the fills is at most the liability at every price. It is enough to look at the price 0, at
-/// each price above 0 where a payoff bends, and at the slope beyond the last, since the net is linear between them.
-/// `Holds` exactly where the net less `liability * t` is at most 0 at these states, `Fails` exactly where not, unless
-/// a step does not fit before; then `Wide` has the first such step. So the two decide whether the fills and the
-/// liability have a line cover. Where no fill is below 0, `Holds` shows that the liability is enough at every settlement,
-/// and that nothing is owed where the price grows without end. The batch is on one underlying, and there are as many
-/// fills as orders. Takes no memory. (Wang et al., EC 2021.)
+/// Whether the net payoff of the fills is at most the liability at every price. It is enough to
+/// look at the price 0, at each price above 0 where a payoff bends, and at the slope beyond the
+/// last, since the net is linear between them. `Holds` exactly where the net less `liability * t`
+/// is at most 0 at these states, `Fails` exactly where not, unless a step does not fit before; then
+/// `Wide` has the first such step. So the two decide whether the fills and the liability have a
+/// line cover. Where no fill is below 0, `Holds` shows that the liability is enough at every
+/// settlement, and that nothing is owed where the price grows without end. The batch is on one
+/// underlying, and there are as many fills as orders. Takes no memory. (Wang et al., EC 2021.)
 pub fn holds_on_line(batch: &Batch, fills: &[Frac128], liability: &Frac128) -> LineVerdict
     requires forms { HasItsForms batch.now }
     requires one { batch.now.underlyings ≡ 1 }
@@ -95,7 +96,8 @@ fn holds_at_breaks(orders: &[Order], fills: &[Frac128], liability: &Frac128) -> 
     Ok(true)
 }
 
-// Whether it holds at the breakpoint of each leg of the bundle, as it does at those of earlier orders.
+// Whether it holds at the breakpoint of each leg of the bundle, as it does at those of earlier
+// orders.
 fn holds_at_legs(
     orders: &[Order],
     fills: &[Frac128],
@@ -119,7 +121,8 @@ fn holds_at_legs(
     Ok(true)
 }
 
-// Whether it holds where the option bends, if it does. Where an earlier order bends there too, it is known to hold.
+// Whether it holds where the option bends, if it does. Where an earlier order bends there too, it
+// is known to hold.
 fn holds_at_break(
     orders: &[Order],
     fills: &[Frac128],

@@ -4,17 +4,20 @@ ghost use Rattle.master_program.specs.Rounds.{RoundsAreTheSame};
 ghost use Rattle.master_program.specs.Search.{SearchesAreTheSame};
 ghost use Rattle.master_program.specs.WorkedRounds.{CoveredBundle, CoveredSum, LegsOfBundles, OtherBatches, TwoRounds};
 
-/// Where each step fits, the steps give the program in whole numbers over any common denominator of fills and liability.
+/// Where each step fits, the steps give the program in whole numbers over any common denominator of
+/// fills and liability.
 pub fn steps_give_node()
     ensures { StepsGiveNode }
 {}
 
-/// The program of a node is a program with right sides not below 0, so that its run starts feasible.
+/// The program of a node is a program with right sides not below 0, so that its run starts
+/// feasible.
 pub fn node_is_program()
     ensures { NodeIsProgram }
 {}
 
-/// In no direction does its objective rise without an end: the states are bounded, and the other variables cost.
+/// In no direction does its objective rise without an end: the states are bounded, and the other
+/// variables cost.
 pub fn node_is_bounded()
     ensures { NodeIsBounded }
 {}
@@ -24,7 +27,8 @@ pub fn one_count_fills()
     ensures { OneCountFills }
 {}
 
-/// A search without a misfit ends alike with each greater limit: with the same tree or state, and as many units spent.
+/// A search without a misfit ends alike with each greater limit: with the same tree or state, and
+/// as many units spent.
 pub fn searches_are_the_same()
     ensures { SearchesAreTheSame }
 {}
@@ -34,8 +38,8 @@ pub fn rounds_are_the_same()
     ensures { RoundsAreTheSame }
 {}
 
-/// The definitions compute the rounds of the worked batches: with one round, with too few units, with more
-/// rounds, with a liability below 0, and at a number that does not fit.
+/// The definitions compute the rounds of the worked batches: with one round, with too few units,
+/// with more rounds, with a liability below 0, and at a number that does not fit.
 pub fn worked_rounds_end()
     ensures covered_sum { CoveredSum }
     ensures two_rounds { TwoRounds }

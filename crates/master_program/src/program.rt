@@ -14,7 +14,8 @@ pub fn quantity_rows_are_unit_rows()
     ensures { QuantityRowsAreUnitRows }
 {}
 
-/// The master program over any states is a program with right sides not below 0, so that its run starts feasible.
+/// The master program over any states is a program with right sides not below 0, so that its run
+/// starts feasible.
 pub fn master_is_program()
     ensures { MasterIsProgram }
 {}
@@ -29,8 +30,8 @@ pub fn same_with_greater_limit()
     ensures { SameWithGreaterLimit }
 {}
 
-/// So a solve without a misfit ends alike with each greater limit: the same reading, or the same want of a unit, and as
-/// many units spent.
+/// So a solve without a misfit ends alike with each greater limit: the same reading, or the same
+/// want of a unit, and as many units spent.
 pub fn solves_are_the_same()
     ensures { SolvesAreTheSame }
 {}
@@ -40,8 +41,8 @@ pub fn solves_are_lowest()
     ensures { SolvesAreLowest }
 {}
 
-/// The definitions compute the master programs of the worked batches, what is read off their optima, and how whole solves
-/// end: solved, for want of a unit, and at a number that does not fit.
+/// The definitions compute the master programs of the worked batches, what is read off their
+/// optima, and how whole solves end: solved, for want of a unit, and at a number that does not fit.
 pub fn worked_batches_are_read()
     ensures empty_batch { EmptyBatch }
     ensures one_option_matched { OneOptionMatched }

@@ -90,8 +90,8 @@ fn claim_of(liability: i128, surplus: i128) -> Option<Claim> {
     })
 }
 
-/// A solution in whole numbers: fills, liability and surplus in units of 2^-40, and the measure of states whose settlements
-/// have the first entry 2^time.
+/// A solution in whole numbers: fills, liability and surplus in units of 2^-40, and the measure of
+/// states whose settlements have the first entry 2^time.
 #[derive(Clone, Copy)]
 pub struct Solved<'a> {
     pub underlyings: usize,
@@ -128,8 +128,8 @@ fn fractions_of(alloc: Global, solved: &Solved) -> Result<Option<Fractions>, All
     }))
 }
 
-/// The proposal of what was solved, with this cover. None where a number does not fit its fraction or its state; the error is
-/// want of memory.
+/// The proposal of what was solved, with this cover. None where a number does not fit its fraction
+/// or its state; the error is want of memory.
 pub fn answer_of(
     alloc: Global,
     solved: &Solved,

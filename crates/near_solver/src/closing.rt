@@ -25,8 +25,8 @@ const WHOLE_BYTES: f64 = 20.0;
 // The bytes of a multiplier that is none, about.
 const FRACTION_BYTES: f64 = 40.0;
 
-/// What leaves are closed for: whole fills, the same in scaled floats, the scaled liability that short texts may use up, and
-/// the liability that is enough.
+/// What leaves are closed for: whole fills, the same in scaled floats, the scaled liability that
+/// short texts may use up, and the liability that is enough.
 #[derive(Clone, Copy)]
 pub struct Closing<'a> {
     pub alloc: Global,
@@ -91,7 +91,8 @@ fn add_long(closing: Closing, sums: &mut [i128; 9], leg: &NearLeg, sign: i8) -> 
     }
 }
 
-/// What a multiplier of each leg costs for each 1 of it, by these fills in units and scaled. The error is want of memory.
+/// What a multiplier of each leg costs for each 1 of it, by these fills in units and scaled. The
+/// error is want of memory.
 pub fn costs_of(
     alloc: Global,
     book: &Book,
@@ -183,8 +184,8 @@ fn first_above(sums: &[i128; 9]) -> Option<usize> {
     None
 }
 
-// The units by which a leg's multiplier has to move so that a slope comes to 0 or below, below 0 where it has to fall: a
-// multiple of the grid.
+// The units by which a leg's multiplier has to move so that a slope comes to 0 or below, below 0
+// where it has to fall: a multiple of the grid.
 fn move_for(leg: &NearLeg, sign: i8, slope: usize, above: i128, grid: i128) -> Option<i128> {
     let entry = i128::from(*leg.entries.get(slope)?).saturating_mul(factor(leg, sign));
     if entry == 0 {
@@ -229,7 +230,8 @@ fn is_multiplier(closing: Closing, leg: &NearLeg, units: i128) -> bool {
     units >= 0 && (leg.is_long || units <= leg_fill(leg, closing.units))
 }
 
-// Moves the multiplier of a leg by so many units, where it may be that and raises no slope above 0. Answers whether it did.
+// Moves the multiplier of a leg by so many units, where it may be that and raises no slope above 0.
+// Answers whether it did.
 fn move_leg(
     closing: Closing,
     closed: &mut Closed,
@@ -451,8 +453,8 @@ fn write_all(closing: Closing, tree: &Tree, written: &mut Written) -> Result<boo
     Ok(true)
 }
 
-/// The liability that closes each leaf, and the tree with its multipliers. None where a leaf does not close, or the tree is
-/// longer than it may be as it is written; the error is want of memory.
+/// The liability that closes each leaf, and the tree with its multipliers. None where a leaf does
+/// not close, or the tree is longer than it may be as it is written; the error is want of memory.
 pub fn close_tree(closing: Closing, tree: &Tree) -> Result<Option<(i128, Cover)>, AllocError> {
     let mut written = Written::new(closing.alloc);
     if write_all(closing, tree, &mut written)? {

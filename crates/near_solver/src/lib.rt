@@ -1,6 +1,7 @@
-//! A solver of batches by floats: what it answers is judged a bound for the batch, whatever its floats found. How near surplus and
-//! bound come is measured, and no clause says it. What was found is brought into whole multiples of powers of two: its measure
-//! with the bound, its fills, and the liability that covers them on a line or by a tree that is closed exactly.
+//! A solver of batches by floats: what it answers is judged a bound for the batch, whatever its
+//! floats found. How near surplus and bound come is measured, and no clause says it. What was found
+//! is brought into whole multiples of powers of two: its measure with the bound, its fills, and the
+//! liability that covers them on a line or by a tree that is closed exactly.
 #![tactic(auto)]
 
 mod answer;

@@ -58,7 +58,8 @@ fn exact_bend(leg: &NearLeg) -> Option<NearState> {
     Some(line_state(weight.saturating_abs(), strike.saturating_abs()))
 }
 
-/// The least liability of these fills, in their units; None where no liability covers them, or a sum does not fit.
+/// The least liability of these fills, in their units; None where no liability covers them, or a
+/// sum does not fit.
 pub fn line_liability(book: &Book, fills: &[i128]) -> Option<i128> {
     if owed(book, fills, &line_state(0, 1))? > 0 {
         return None;

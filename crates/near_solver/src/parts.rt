@@ -1,4 +1,5 @@
-//! Parts of a book whose tree does not fit: the orders without a long leg, and of the others those of greatest gain.
+//! Parts of a book whose tree does not fit: the orders without a long leg, and of the others those
+//! of greatest gain.
 
 use near_programs::numbers::whole_at;
 use near_programs::{Book, NearLeg, NearOrder};
@@ -44,7 +45,8 @@ fn count_long(book: &Book) -> usize {
     book.orders.iter().filter(|order| order.has_long).count()
 }
 
-// The places of the orders with a long leg, those of greatest gain first. The error is want of memory.
+// The places of the orders with a long leg, those of greatest gain first. The error is want of
+// memory.
 fn ranked(alloc: Global, book: &Book, gains: &[i128]) -> Result<Vec<usize>, AllocError> {
     let mut places = vec![in alloc; 0usize; count_long(book)]?;
     for (i, order) in book.orders.iter().enumerate() {
@@ -83,8 +85,8 @@ fn keep(keeps: &mut [bool], place: usize) {
     }
 }
 
-/// The book in which only the orders that are kept may be filled. The others keep their places, with nothing to fill. The error
-/// is want of memory.
+/// The book in which only the orders that are kept may be filled. The others keep their places,
+/// with nothing to fill. The error is want of memory.
 pub(crate) fn part_of(alloc: Global, book: &Book, keeps: &[bool]) -> Result<Book, AllocError> {
     let mut orders = Vec::new(alloc);
     for (i, order) in book.orders.iter().enumerate() {
@@ -98,8 +100,9 @@ pub(crate) fn part_of(alloc: Global, book: &Book, keeps: &[bool]) -> Result<Book
     })
 }
 
-/// How a part grows: the orders without a long leg, and the others in groups, those of greatest gain first. A group is half of
-/// all before it until one does not fit, and half of the last from then on; an order that alone does not fit is left out.
+/// How a part grows: the orders without a long leg, and the others in groups, those of greatest
+/// gain first. A group is half of all before it until one does not fit, and half of the last from
+/// then on; an order that alone does not fit is left out.
 #[derive(Drop)]
 pub(crate) struct Growth {
     ranked: Vec<usize>,

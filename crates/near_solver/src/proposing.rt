@@ -10,8 +10,9 @@ use form::Batch;
 use proposals::judged_or_nothing;
 use std::alloc::{AllocError, Global};
 
-/// What the solver found for the batch, where that is judged a bound, and else a proposal of nothing. How near surplus and bound
-/// come is measured, and no clause says it. The batch is within the limits of the exchange. The error is want of memory.
+/// What the solver found for the batch, where that is judged a bound, and else a proposal of
+/// nothing. How near surplus and bound come is measured, and no clause says it. The batch is within
+/// the limits of the exchange. The error is want of memory.
 pub fn propose(alloc: Global, batch: &Batch) -> Result<Proposal, AllocError>
     requires within { IsWithinLimits batch.now }
     ensures judged { IfOk result (IsJudgedBound batch.now) }

@@ -77,7 +77,8 @@ impl WholeMeasure {
         heaviest
     }
 
-    // Makes the sum of weight times first entry 1: the heaviest settlement takes what the others leave.
+    // Makes the sum of weight times first entry 1: the heaviest settlement takes what the others
+    // leave.
     fn fill_mass(&mut self) {
         let heaviest = self.heaviest();
         let _ = self.set_weight(heaviest, 0);
@@ -91,7 +92,8 @@ impl WholeMeasure {
     }
 }
 
-// Lowers the weights of settlements to what those before leave of a mass. Answers what they all leave.
+// Lowers the weights of settlements to what those before leave of a mass. Answers what they all
+// leave.
 fn cap_masses(points: &mut [WholePoint], mass: i128) -> i128 {
     let mut left = mass;
     for point in points.iter_mut() {
@@ -190,8 +192,8 @@ pub fn rounded_fills(alloc: Global, book: &Book, fills: &[f64]) -> Result<Vec<i1
     Ok(units)
 }
 
-/// The fills with less of the orders that have a long leg: attempt 0 leaves them, 1 takes a part in 2^24 of these away, 2 in
-/// 2^16, and so on. The error is want of memory.
+/// The fills with less of the orders that have a long leg: attempt 0 leaves them, 1 takes a part in
+/// 2^24 of these away, 2 in 2^16, and so on. The error is want of memory.
 pub fn less_fills(
     alloc: Global,
     book: &Book,

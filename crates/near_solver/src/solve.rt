@@ -83,7 +83,8 @@ fn climb(
     Ok(violated.add_greatest(book, master, CLIMBED)? > 0)
 }
 
-// One round: the master program, climbs, and where these find nothing the tree. Answers whether it is the last.
+// One round: the master program, climbs, and where these find nothing the tree. Answers whether it
+// is the last.
 fn round(
     alloc: Global,
     book: &Book,
@@ -182,7 +183,8 @@ fn close(
     close_tree(closing, tree)
 }
 
-// Rounds, covers, and takes some away until the surplus is not below 0. None where the tree is full, or nothing of it goes.
+// Rounds, covers, and takes some away until the surplus is not below 0. None where the tree is
+// full, or nothing of it goes.
 fn finish(
     alloc: Global,
     book: &Book,
@@ -350,8 +352,8 @@ fn solve_in(
     }
 }
 
-/// A proposal for the batch that is near the greatest surplus, to be judged. None where a number does not fit; the error is
-/// want of memory.
+/// A proposal for the batch that is near the greatest surplus, to be judged. None where a number
+/// does not fit; the error is want of memory.
 pub(crate) fn solve_near(alloc: Global, batch: &Batch) -> Result<Option<Proposal>, AllocError> {
     let book = Book::new(alloc, batch)?;
     let mut tree = Tree::new(alloc, &book, false)?;

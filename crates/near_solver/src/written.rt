@@ -10,8 +10,8 @@ use std::alloc::{AllocError, Global};
 
 // The most bytes of a tree, so that its line has at most 1,000,000.
 const MOST_BYTES: usize = 940_000;
-// The bytes of {"leaf":[]}, beside its multipliers, and of {"split":N}, and {"at":N,"by":"A"}, beside the digits of N and A,
-// with the comma behind each.
+// The bytes of {"leaf":[]}, beside its multipliers, and of {"split":N}, and {"at":N,"by":"A"},
+// beside the digits of N and A, with the comma behind each.
 const LEAF_BYTES: usize = 12;
 
 const SPLIT_BYTES: usize = 12;
@@ -73,7 +73,8 @@ impl Written {
         self.bytes > MOST_BYTES
     }
 
-    /// Writes a split at the leg at a place. The error is want of memory, as of each call that writes.
+    /// Writes a split at the leg at a place. The error is want of memory, as of each call that
+    /// writes.
     pub fn add_split(&mut self, leg: usize) -> Result<(), AllocError> {
         let place = number_of(leg);
         self.add_bytes(SPLIT_BYTES, digits(i128::from(place)));
@@ -81,7 +82,8 @@ impl Written {
         Ok(())
     }
 
-    /// Writes a leaf that needs so much liability, by the multipliers of all legs, in units. Answers whether all fit.
+    /// Writes a leaf that needs so much liability, by the multipliers of all legs, in units.
+    /// Answers whether all fit.
     pub fn add_leaf(&mut self, multipliers: &[i128], need: i128) -> Result<bool, AllocError> {
         let mut count = 0u32;
         for (i, units) in multipliers.iter().enumerate() {

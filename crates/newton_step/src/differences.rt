@@ -50,7 +50,8 @@ pub(crate) fn divided_product(n: u128, d: u128, h: u128) -> Division
     Division { quotient, rest }
 }
 
-/// What is carried from the difference of two fractions below 1, `a / b - c / d`, to make it one that is not below 0.
+/// What is carried from the difference of two fractions below 1, `a / b - c / d`, to make it one
+/// that is not below 0.
 fn carried(a: u128, b: u128, c: u128, d: u128) -> u128
     requires left { a < b }
     requires right { c < d }

@@ -1,5 +1,5 @@
-//! One step of Newton's method along a line, in whole steps and exact whatever the sizes of its numbers: where the line through
-//! a value, by its slope, is at a level.
+//! One step of Newton's method along a line, in whole steps and exact whatever the sizes of its
+//! numbers: where the line through a value, by its slope, is at a level.
 #![tactic(auto)]
 
 mod differences;

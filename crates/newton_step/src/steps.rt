@@ -27,9 +27,9 @@ fn quotient_within(number: Division, factor: u128, divisor: u128, most: u64) -> 
     quotient.min(most as u128) as u64
 }
 
-/// By how many whole steps a line with this slope is followed down from the value until it is at the level: `(value - level) /
-/// slope` rounded down, whatever the sizes of these numbers, and at most `most`. It is 0 where the value is below the level or
-/// the slope is not above 0.
+/// By how many whole steps a line with this slope is followed down from the value until it is at
+/// the level: `(value - level) / slope` rounded down, whatever the sizes of these numbers, and at
+/// most `most`. It is 0 where the value is below the level or the slope is not above 0.
 pub fn whole_steps(value: Frac128, level: Frac128, slope: Frac128, most: u64) -> u64
     requires { IsNotBelowZero (fraction_of level) }
     ensures { result

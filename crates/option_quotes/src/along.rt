@@ -10,8 +10,8 @@ use cert_check::Outcome;
 use form::{MAX_PRICE, Side};
 use newton_step::whole_steps;
 
-/// By how many ticks the price may get worse until the line through the outcome's surplus, whose slope is the fill of the last
-/// order, is at the base's.
+/// By how many ticks the price may get worse until the line through the outcome's surplus, whose
+/// slope is the fill of the last order, is at the base's.
 fn ticks_along(base: &Outcome, outcome: &Outcome) -> u64
     requires { IsNotBelowZero (fraction_of base.now.claim.surplus) }
     ensures { result ≡ min (ticks_along base.now outcome.now) MAX_PRICE }

@@ -1,4 +1,5 @@
-//! The quote between a price at which an order raises the surplus and a worse one at which it does not.
+//! The quote between a price at which an order raises the surplus and a worse one at which it does
+//! not.
 ghost use Rattle.std.specs.Prelude.{◌≡◌, ◌≤◌, ◌^◌, ℕ, IfOk};
 ghost use Rattle.form.specs.declared.limits.TheConstants.{MAX_BUDGET};
 ghost use Rattle.form.specs.Limits.{IsWithinLimits};

@@ -67,7 +67,8 @@ fn landed(
     })
 }
 
-/// The price from one that raises on: along the line through its outcome to the next, until one does not raise.
+/// The price from one that raises on: along the line through its outcome to the next, until one
+/// does not raise.
 fn walked(
     alloc: Global,
     batch: &Batch,
@@ -173,11 +174,12 @@ fn prices_in(
     Ok(MarketPrices::Marked { base, ask, bid })
 }
 
-/// The whole prices at which a further order for `quantity` bundles of the option raises the greatest surplus of the batch: the
-/// least for a buy, which the market asks, and the greatest for a sell, which it bids. The greatest surplus is convex in the
-/// price of the order, with its fill as the slope, so each clear that raises it tells the next price: where the line through it
-/// is at the surplus of the batch. The batch itself is cleared once, and with the order at most 60 times a side, each with at
-/// most `limit` units of work, in one room. The only error is want of memory.
+/// The whole prices at which a further order for `quantity` bundles of the option raises the
+/// greatest surplus of the batch: the least for a buy, which the market asks, and the greatest for
+/// a sell, which it bids. The greatest surplus is convex in the price of the order, with its fill
+/// as the slope, so each clear that raises it tells the next price: where the line through it is at
+/// the surplus of the batch. The batch itself is cleared once, and with the order at most 60 times
+/// a side, each with at most `limit` units of work, in one room. The only error is want of memory.
 pub fn implied_prices(
     alloc: Global,
     batch: &Batch,
@@ -196,8 +198,9 @@ pub fn implied_prices(
     // The prices are those that the definition gives by the probes.
     ensures defined { IfOk result (λ prices. prices ≡ prices_of batch.now form.now quantity limit) }
 
-    // A buy at a whole price raises the surplus exactly where its price is at least `ask`, as the outcomes at it and at the next
-    // worse price show, each judged yes and marked optimal; or at no price; or an outcome is not marked.
+    // A buy at a whole price raises the surplus exactly where its price is at least `ask`, as the
+    // outcomes at it and at the next worse price show, each judged yes and marked optimal; or at no
+    // price; or an outcome is not marked.
     ensures ask { IfOk result (λ prices. IfMarked prices (λ base ask bid.
         IsImplied batch.now (asked form.now Side.Buy quantity) limit base ask)) }
 

@@ -1,5 +1,6 @@
-//! Quotes of an option: the price at which one further order would raise the greatest surplus of a batch. A quote is no price
-//! at which one trades: it says what a clear would find, and changes nothing.
+//! Quotes of an option: the price at which one further order would raise the greatest surplus of a
+//! batch. A quote is no price at which one trades: it says what a clear would find, and changes
+//! nothing.
 #![tactic(auto)]
 
 mod along;

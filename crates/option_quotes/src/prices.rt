@@ -2,11 +2,12 @@
 
 use cert_check::Outcome;
 
-/// The price at which a further order of one side raises the greatest surplus of a batch, with the outcomes that show it.
+/// The price at which a further order of one side raises the greatest surplus of a batch, with the
+/// outcomes that show it.
 #[derive(Debug, Drop)]
 pub enum SidePrice {
-    /// The order raises the surplus from this price on: `raising` is the outcome at it, and `beside` at the next worse price,
-    /// where there is one.
+    /// The order raises the surplus from this price on: `raising` is the outcome at it, and
+    /// `beside` at the next worse price, where there is one.
     At {
         price: u64,
         raising: Outcome,
@@ -28,8 +29,8 @@ pub enum SidePrice {
 /// The prices of both sides, by one outcome of the batch itself.
 #[derive(Debug, Drop)]
 pub enum MarketPrices {
-    /// The outcome of the batch itself, which is marked optimal; the least price at which a further buy raises its surplus, and the
-    /// greatest at which a further sell does.
+    /// The outcome of the batch itself, which is marked optimal; the least price at which a further
+    /// buy raises its surplus, and the greatest at which a further sell does.
     Marked {
         base: Outcome,
         ask: SidePrice,

@@ -1,4 +1,5 @@
-//! One probe: what clears where the batch has one order more. All probes of a quote are cleared in one room.
+//! One probe: what clears where the batch has one order more. All probes of a quote are cleared in
+//! one room.
 ghost use Rattle.std.specs.Prelude.{◌≡◌, ◌≤◌, IfOk, length};
 ghost use Rattle.form.specs.Limits.{IsWithinLimits};
 ghost use Rattle.form.specs.declared.limits.TheConstants.{MAX_BUDGET, MAX_ORDERS};
@@ -60,8 +61,8 @@ pub(crate) fn room_with(
     ClearRoom::new(alloc, &extended, limit)
 }
 
-/// The outcome of the batch, cleared in the room: its tables stay, and only the lists of this clear are taken before its first
-/// step.
+/// The outcome of the batch, cleared in the room: its tables stay, and only the lists of this clear
+/// are taken before its first step.
 pub(crate) fn outcome_in(
     alloc: Global,
     batch: &Batch,

@@ -121,11 +121,12 @@ fn quote_in(
     from_best(alloc, batch, order, limit, base, room)
 }
 
-/// The whole price at which a further buy or sell of one bundle of the option raises the greatest surplus of the batch: the
-/// least for a buy, the greatest for a sell. At most 43 batches are cleared, each with at most `limit` units of work: the batch
-/// itself, and the batch with one order more at the best price for a match, at the worst, and then at the middle of the gap
-/// between a price that raises the surplus and one that does not. They are cleared in one room, which is taken once; each
-/// takes its own lists before its first step. The only error is want of memory.
+/// The whole price at which a further buy or sell of one bundle of the option raises the greatest
+/// surplus of the batch: the least for a buy, the greatest for a sell. At most 43 batches are
+/// cleared, each with at most `limit` units of work: the batch itself, and the batch with one order
+/// more at the best price for a match, at the worst, and then at the middle of the gap between a
+/// price that raises the surplus and one that does not. They are cleared in one room, which is
+/// taken once; each takes its own lists before its first step. The only error is want of memory.
 pub fn quote(
     alloc: Global,
     batch: &Batch,
@@ -144,12 +145,13 @@ pub fn quote(
     ensures defined { IfOk result (λ quoted.
         quoted ≡ quoted_of batch.now (further form.now side) limit) }
 
-    // A buy at a whole price raises the surplus exactly where its price is at least this one, a sell where it is at most this.
+    // A buy at a whole price raises the surplus exactly where its price is at least this one, a
+    // sell where it is at most this.
     ensures raises { IfOk result (λ quoted. IfAt quoted (λ price raising beside base.
         RaisesFrom batch.now (further form.now side) base price)) }
 
-    // The outcomes at this price and at the next worse one are those of the batch with the order, each judged yes and marked
-    // optimal. None comes exactly where the price is the worst.
+    // The outcomes at this price and at the next worse one are those of the batch with the order,
+    // each judged yes and marked optimal. None comes exactly where the price is the worst.
     ensures shown { IfOk result (λ quoted.
         IfAt quoted (AreShown batch.now (further form.now side) limit)) }
 

@@ -19,7 +19,8 @@ fn opposite(side: Side) -> Side
     }
 }
 
-// The order that is filled as the position is: at price 0, with the fill rounded up as its quantity.
+// The order that is filled as the position is: at price 0, with the fill rounded up as its
+// quantity.
 fn order_of(position: &Position) -> Order
     requires { IsHeldPosition position.now }
     ensures { result ≡ order_of position.now }

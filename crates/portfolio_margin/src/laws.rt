@@ -3,7 +3,8 @@ ghost use Rattle.portfolio_margin.specs.Laws.{EachRunEnds, EndlessAreUnbounded, 
 ghost use Rattle.portfolio_margin.specs.Need.{LiabilitiesAreRoundedUp};
 ghost use Rattle.portfolio_margin.specs.Worked.{MarginsByHand, NeedsByHand};
 
-/// A run that ends with a liability ends with the least one that covers the positions, and a tree that closes for it.
+/// A run that ends with a liability ends with the least one that covers the positions, and a tree
+/// that closes for it.
 pub fn margins_are_least()
     ensures { MarginsAreLeast }
 {}
@@ -28,8 +29,9 @@ pub fn liabilities_are_rounded_up()
     ensures { LiabilitiesAreRoundedUp }
 {}
 
-/// The definitions compute the margins of options that are sold, of a spread and of a bundle that is owed, and what margins
-/// need: a sum, the largest one, one that does not fit, and a margin without a bound.
+/// The definitions compute the margins of options that are sold, of a spread and of a bundle that
+/// is owed, and what margins need: a sum, the largest one, one that does not fit, and a margin
+/// without a bound.
 pub fn margins_by_hand()
     ensures margins { MarginsByHand }
     ensures need { NeedsByHand }

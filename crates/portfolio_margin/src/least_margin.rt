@@ -8,8 +8,8 @@ use sign_tree::SignTree;
 /// The margin of positions of one market.
 #[derive(Debug, Drop)]
 pub enum LeastMargin {
-    /// The least liability that covers what they owe at every state, a settlement at which they owe just that, and a tree
-    /// that closes for it.
+    /// The least liability that covers what they owe at every state, a settlement at which they owe
+    /// just that, and a tree that closes for it.
     Least {
         liability: Frac128,
         at: State,

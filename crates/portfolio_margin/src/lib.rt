@@ -1,5 +1,5 @@
-//! The margin of an account: the least liability that covers what its positions of a market owe, and the amount that all its
-//! markets together may cost it.
+//! The margin of an account: the least liability that covers what its positions of a market owe,
+//! and the amount that all its markets together may cost it.
 #![tactic(auto)]
 
 mod batch;

@@ -87,10 +87,10 @@ fn least(
     }
 }
 
-/// The least liability that covers what the positions owe at every state: what the sells pay less what the buys get. They are
-/// at most 256, of one market on this number of underlyings. It begins with what they owe where all prices are 0, and searches
-/// for a state at which they owe more, until there is none; at most `limit` units of work are spent. The only error is want of
-/// memory.
+/// The least liability that covers what the positions owe at every state: what the sells pay less
+/// what the buys get. They are at most 256, of one market on this number of underlyings. It begins
+/// with what they owe where all prices are 0, and searches for a state at which they owe more,
+/// until there is none; at most `limit` units of work are spent. The only error is want of memory.
 pub fn margin(
     alloc: Global,
     positions: &[Position],

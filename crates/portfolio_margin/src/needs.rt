@@ -29,7 +29,8 @@ pub enum Needed {
     Sum,
 }
 
-// The liability rounded up and the number of positions, or 0 where that is below 0: the gain of each position is rounded down.
+// The liability rounded up and the number of positions, or 0 where that is below 0: the gain of
+// each position is rounded down.
 fn amount_of(liability: &Frac128, positions: u32) -> u128
     ensures value { result ≡ positive_part (ceil_of (fraction_of liability.now).numerator
         (fraction_of liability.now).denominator +ℤ pos positions) }
@@ -95,9 +96,10 @@ fn sum_of(margins: &[(LeastMargin, u32)]) -> Needed
     Needed::Amount(total)
 }
 
-/// What the margins of one account demand of its balance, each given with its number of positions: the sum of the liabilities,
-/// each rounded up and with a tick for each position, and none of these below 0. An amount covers what the positions lose
-/// where each market is settled at any prices. Takes no memory.
+/// What the margins of one account demand of its balance, each given with its number of positions:
+/// the sum of the liabilities, each rounded up and with a tick for each position, and none of these
+/// below 0. An amount covers what the positions lose where each market is settled at any prices.
+/// Takes no memory.
 pub fn need(margins: &[(LeastMargin, u32)]) -> Needed
     ensures need { result ≡ need_of margins.now }
     ensures covers { (amount : ℕ) (markets : List Settled) → result ≡ Amount amount

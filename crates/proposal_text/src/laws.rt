@@ -6,7 +6,8 @@ pub fn submissions_read_exactly()
     ensures { SubmissionsReadExactly }
 {}
 
-/// A text reads as a line and its reply about proposals exactly where it is their print and these are within their ranges.
+/// A text reads as a line and its reply about proposals exactly where it is their print and these
+/// are within their ranges.
 pub fn replies_read_exactly()
     ensures { RepliesReadExactly }
 {}

@@ -1,4 +1,5 @@
-//! The texts of proposals: what a line proposes, and the replies that `serve` has beside those of a run, both ways.
+//! The texts of proposals: what a line proposes, and the replies that `serve` has beside those of a
+//! run, both ways.
 #![tactic(auto)]
 
 mod bounded_lines;

@@ -35,8 +35,8 @@ impl TestedReply for ProposalReply {
     }
 }
 
-/// The tests on the value of a text, of which the reply's word is one of these lines'. Ok and the errors as
-/// `read_proposal_reply` has them.
+/// The tests on the value of a text, of which the reply's word is one of these lines'. Ok and the
+/// errors as `read_proposal_reply` has them.
 pub fn read_proposal_value(
     alloc: Global,
     text: &[u8],
@@ -50,9 +50,9 @@ pub fn read_proposal_value(
     read_value::<ProposalReply>(alloc, text, value)
 }
 
-/// Reads a line: its number and its reply about proposals. Ok exactly where the text is the print of the pair that is
-/// answered, and that pair is within its ranges; else the first test that the text fails, in the order of the faults.
-/// `Memory` where memory is wanting.
+/// Reads a line: its number and its reply about proposals. Ok exactly where the text is the print
+/// of the pair that is answered, and that pair is within its ranges; else the first test that the
+/// text fails, in the order of the faults. `Memory` where memory is wanting.
 pub fn read_proposal_reply(alloc: Global, text: &[u8]) -> Result<(u32, ProposalReply), LineFault>
     ensures line { IfOk result (λ p. IsProposalLineOf text.now p.0 p.1) }
     ensures ok { IfOk result (λ p. reply_reading text.now ≡ Ok (p.0, p.1)) }

@@ -10,7 +10,8 @@ use frac::Frac128;
 use lists::List;
 use settlement::Position;
 
-/// The positions of an account in a market, in the order in which they were added, which contracts see as their list.
+/// The positions of an account in a market, in the order in which they were added, which contracts
+/// see as their list.
 pub type Positions = List<Position>;
 
 /// Why the reference run of a batch stopped.
@@ -22,8 +23,9 @@ pub enum RunStop {
     Budget,
 }
 
-/// The outcome of a batch that was cleared as proposals had it: the fills, claim and cover of one of them, the measure of one
-/// and its bound, and why the reference run stopped and after how many units.
+/// The outcome of a batch that was cleared as proposals had it: the fills, claim and cover of one
+/// of them, the measure of one and its bound, and why the reference run stopped and after how many
+/// units.
 #[derive(Debug, Drop)]
 pub struct BoundedOutcome {
     pub proposal: Proposal,
@@ -35,11 +37,13 @@ pub struct BoundedOutcome {
 /// The first condition that a proposal fails, or that a step of its judgement does not fit.
 #[derive(Clone, Copy, Debug, PartialEq, Eq)]
 pub enum Failed {
-    /// There is not one fill for each order, or the cover or a state is not one on the batch's underlyings.
+    /// There is not one fill for each order, or the cover or a state is not one on the batch's
+    /// underlyings.
     BatchShape,
     /// A fill is below 0 or above its order's quantity.
     Fill,
-    /// The premium less the liability is not the surplus, the surplus is below 0, or the liability is not enough.
+    /// The premium less the liability is not the surplus, the surplus is below 0, or the liability
+    /// is not enough.
     Cover,
     /// A weight is below 0, or the weights times their states' first entries do not sum to 1.
     Measure,
@@ -61,8 +65,8 @@ pub enum ProposalReply {
         market: u32,
         positions: Positions,
     },
-    /// The proposal is judged a bound: its surplus and bound, and the greatest surplus and least bound of what is kept
-    /// after it.
+    /// The proposal is judged a bound: its surplus and bound, and the greatest surplus and least
+    /// bound of what is kept after it.
     Proposed {
         market: u32,
         surplus: Frac128,

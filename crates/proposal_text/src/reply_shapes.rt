@@ -176,7 +176,8 @@ fn proposed_numbers(value: &Value) -> bool
         && has_fraction(value, "surplus")
 }
 
-// Whether the texts of the reply that this word names are numbers where they should be. The value has its shape.
+// Whether the texts of the reply that this word names are numbers where they should be. The value
+// has its shape.
 pub(crate) fn has_numbers(value: &Value, word: &str) -> bool
     ensures { result ≡ numbers_are word.now (view value.now) }
 {

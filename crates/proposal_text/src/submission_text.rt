@@ -242,8 +242,8 @@ fn submission_read(alloc: Global, text: &[u8]) -> Result<Option<Submission>, All
     }
 }
 
-/// What a text proposes: `Some` exactly where the text is the print of it and all is within its ranges. The only error is
-/// want of memory.
+/// What a text proposes: `Some` exactly where the text is the print of it and all is within its
+/// ranges. The only error is want of memory.
 pub fn read_submission(alloc: Global, text: &[u8]) -> Result<Option<Submission>, AllocError>
     ensures read { IfOk result (λ read. read ≡ submission_of text.now) }
     ensures each_text { (s : Submission) → IsTextOf text.now s → IfOk result (λ read. read ≡ Some s) }

@@ -25,8 +25,8 @@ pub struct BoundedMeasure {
     pub bound: Frac128,
 }
 
-/// The fills with the greatest surplus and the measure with the least bound that were proposed for these orders. They may
-/// come from two proposals.
+/// The fills with the greatest surplus and the measure with the least bound that were proposed for
+/// these orders. They may come from two proposals.
 #[derive(Debug, Drop)]
 pub struct Best {
     pub orders: OrderNumbers,
@@ -56,7 +56,8 @@ impl Best {
         }
     }
 
-    // What is kept after another: the better halves for the same orders, and for others the new ones.
+    // What is kept after another: the better halves for the same orders, and for others the new
+    // ones.
     pub(crate) fn after(self, new: Best) -> Self
         ensures { result ≡ after_best self new }
     {

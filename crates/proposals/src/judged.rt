@@ -12,8 +12,9 @@ use form::Batch;
 use sign_tree::leg_count;
 use std::alloc::{AllocError, Global};
 
-/// The proposal that was found, where it is judged a bound for the batch, and else that of nothing: so what is handed out is
-/// judged a bound, whatever was found. The batch is within the limits of the exchange. The error is want of memory.
+/// The proposal that was found, where it is judged a bound for the batch, and else that of nothing:
+/// so what is handed out is judged a bound, whatever was found. The batch is within the limits of
+/// the exchange. The error is want of memory.
 pub fn judged_or_nothing(
     alloc: Global,
     batch: &Batch,

@@ -7,7 +7,8 @@ pub fn offers_lose_nothing()
     ensures { OffersLoseNothing }
 {}
 
-/// Where the halves that are kept prove their bound for the batch, and the proposal its own, so do those kept after it.
+/// Where the halves that are kept prove their bound for the batch, and the proposal its own, so do
+/// those kept after it.
 pub fn offers_stay_proved()
     ensures { OffersStayProved }
 {}

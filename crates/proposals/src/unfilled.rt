@@ -15,9 +15,10 @@ use settlement::payouts::settlement_at;
 use sign_tree::{Multipliers, Node, Nodes, SignTree};
 use std::alloc::{AllocError, Global};
 
-/// The proposal that fills no order of the batch: nothing is owed and nothing earned, the cover is the line or one leaf
-/// without multipliers, and the measure has all its weight where all prices are 0. It is judged a bound. The batch is within
-/// the limits of the exchange. The error is want of memory.
+/// The proposal that fills no order of the batch: nothing is owed and nothing earned, the cover is
+/// the line or one leaf without multipliers, and the measure has all its weight where all prices
+/// are 0. It is judged a bound. The batch is within the limits of the exchange. The error is want
+/// of memory.
 pub fn nothing(alloc: Global, batch: &Batch) -> Result<Proposal, AllocError>
     requires within { IsWithinLimits batch.now }
     ensures nothing { IfOk result (ProposesNothing batch.now) }

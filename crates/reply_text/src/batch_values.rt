@@ -96,7 +96,8 @@ fn one_option(form: Form) -> Bundle
     Bundle::one(form)
 }
 
-/// The bundle of a value: of its form where `single`, and else of its legs. The only error is want of memory.
+/// The bundle of a value: of its form where `single`, and else of its legs. The only error is want
+/// of memory.
 pub fn bundle_from(alloc: Global, value: &Value, single: bool) -> Result<Option<Bundle>, AllocError>
     ensures { IfOk result (λ o. o ≡ bundle_found single (view value.now)) }
 {

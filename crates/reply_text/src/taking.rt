@@ -137,8 +137,8 @@ where
     Ok(Some(taken))
 }
 
-/// What is taken out of each item of the list at a key; `None` where the key is not there, its value is no list, or
-/// nothing is taken out of an item. The only error is want of memory.
+/// What is taken out of each item of the list at a key; `None` where the key is not there, its
+/// value is no list, or nothing is taken out of an item. The only error is want of memory.
 pub fn list_at<T, F>(
     alloc: Global,
     value: &Value,

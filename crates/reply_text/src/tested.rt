@@ -71,9 +71,9 @@ pub(crate) fn is_spelled<R: TestedReply>(
     Ok(is_same(spelled.as_slice(), text))
 }
 
-/// The tests on the value of a text: the number of the line and its reply. Ok exactly where the text is the print of the
-/// pair that is answered, and that pair is within its ranges; else the first test that the text fails, in the order of the
-/// faults. `Memory` where memory is wanting.
+/// The tests on the value of a text: the number of the line and its reply. Ok exactly where the
+/// text is the print of the pair that is answered, and that pair is within its ranges; else the
+/// first test that the text fails, in the order of the faults. `Memory` where memory is wanting.
 pub fn read_value<R: TestedReply>(
     alloc: Global,
     text: &[u8],

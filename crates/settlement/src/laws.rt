@@ -4,8 +4,8 @@ ghost use Rattle.settlement.specs.Payout.{GainsAreRoundedDown};
 ghost use Rattle.settlement.specs.Premium.{PremiumsAreRounded, WholePremiumsAreProducts};
 ghost use Rattle.settlement.specs.Worked.{PayoutsByHand, PremiumsByHand};
 
-/// A buyer's premium is the least whole number of ticks that is not below fill times price, and a seller's the greatest
-/// that is not above it.
+/// A buyer's premium is the least whole number of ticks that is not below fill times price, and a
+/// seller's the greatest that is not above it.
 pub fn premiums_are_rounded()
     ensures { PremiumsAreRounded }
 {}
@@ -20,8 +20,8 @@ pub fn premiums_by_hand()
     ensures { PremiumsByHand }
 {}
 
-/// The gain of a position is the greatest whole number of ticks that is not above fill times payoff, or for a sell its
-/// negative.
+/// The gain of a position is the greatest whole number of ticks that is not above fill times
+/// payoff, or for a sell its negative.
 pub fn gains_are_rounded_down()
     ensures { GainsAreRoundedDown }
 {}

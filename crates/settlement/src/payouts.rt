@@ -13,10 +13,11 @@ use crate::rounding::{rounded_down, rounded_up};
 use form::{Bundle, Side, State, bundle_payoff};
 use frac::Frac128;
 
-/// The gain of a position at the prices at which its market is settled, in ticks: for a buy the fill times what the
-/// bundle pays, and for a sell its negative, rounded down. So the rounding favours the house, which pays a gain and is
-/// paid a loss. The options are within the limits, there is a price from 0 to 10^9 for each of their underlyings, and
-/// the fill counts at most 1,000,000 options. Takes no memory.
+/// The gain of a position at the prices at which its market is settled, in ticks: for a buy the
+/// fill times what the bundle pays, and for a sell its negative, rounded down. So the rounding
+/// favours the house, which pays a gain and is paid a loss. The options are within the limits,
+/// there is a price from 0 to 10^9 for each of their underlyings, and the fill counts at most
+/// 1,000,000 options. Takes no memory.
 pub fn payout(side: &Side, fill: &Frac128, bundle: &Bundle, prices: &[u32]) -> i64
     requires held { IsHolding bundle.now (fraction_of fill.now) }
     requires settled { IsSettledAt prices.now bundle.now }

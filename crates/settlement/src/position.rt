@@ -4,7 +4,8 @@ use form::{Bundle, Side};
 use frac::Frac128;
 use lists::List;
 
-/// What an order holds of its bundle after a batch in which it was filled, until its market is settled.
+/// What an order holds of its bundle after a batch in which it was filled, until its market is
+/// settled.
 #[derive(Clone, Copy, Debug, PartialEq, Eq)]
 pub struct Position {
     pub market: u32,
@@ -16,8 +17,8 @@ pub struct Position {
     pub fill: Frac128,
 }
 
-/// What is paid for a position when its market is settled, in ticks: by the house to the account, which is a `Buy`, or
-/// by the account to the house, a `Sell`. An amount of 0 is a `Buy`.
+/// What is paid for a position when its market is settled, in ticks: by the house to the account,
+/// which is a `Buy`, or by the account to the house, a `Sell`. An amount of 0 is a `Buy`.
 #[derive(Clone, Copy, Debug, PartialEq, Eq)]
 pub struct PaidOut {
     pub batch: u32,

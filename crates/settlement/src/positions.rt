@@ -57,7 +57,8 @@ impl Positions {
         self.items.reserve(positions)
     }
 
-    /// Adds a position, for which there is room; its fill counts at most 1,000,000 options. It goes last. Takes no memory.
+    /// Adds a position, for which there is room; its fill counts at most 1,000,000 options. It goes
+    /// last. Takes no memory.
     pub fn add(&mut self, position: Position)
         requires room { 1 ≤ self.old.spare }
         requires held { IsHeldPosition position }
@@ -67,7 +68,8 @@ impl Positions {
         self.items.push_reserved(position);
     }
 
-    /// What is paid for the positions of a market at these prices, one payout for each in their order.
+    /// What is paid for the positions of a market at these prices, one payout for each in their
+    /// order.
     pub fn payouts(&self, market: u32, prices: &[u32]) -> Result<Vec<PaidOut>, AllocError>
         requires { AreSettledAt market prices.now self.now.list }
         ensures { IfOk result (λ paid. paid.items ≡ payouts_of market prices.now self.now.list) }

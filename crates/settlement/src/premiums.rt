@@ -9,9 +9,9 @@ use crate::rounding::{rounded_down, rounded_up};
 use form::Side;
 use frac::Frac128;
 
-/// The premium of a fill at the order's limit price, in ticks: fill times price, rounded up for a buyer, who pays it,
-/// and down for a seller, who gets it. So each rounding favours the house. The fill is 0 to 1,000,000 options and the
-/// price at most 10^12 ticks. Takes no memory.
+/// The premium of a fill at the order's limit price, in ticks: fill times price, rounded up for a
+/// buyer, who pays it, and down for a seller, who gets it. So each rounding favours the house. The
+/// fill is 0 to 1,000,000 options and the price at most 10^12 ticks. Takes no memory.
 pub fn premium(side: &Side, fill: &Frac128, price: u64) -> u64
     requires fill { IsOrderFill (fraction_of fill.now) }
     requires price { price ≤ MAX_PRICE }

@@ -40,11 +40,12 @@ enum Stop {
     Wide(Wide),
 }
 
-/// Whether the tree closes over the fills with the liability: every leaf of it shows that no state owes more. Where no
-/// fill is below 0, `Closed` shows that it is well formed and each leaf closes, so that the liability is enough, and
-/// `Open` that it is not so; `Wide` has the first step that does not fit, where nothing failed before. There are as many
-/// fills as orders, and as many signs as the orders have legs, which are at most 1,024; what the signs held does not
-/// matter. The walk goes one call deeper for each split on its way, of which there are at most as many as long legs.
+/// Whether the tree closes over the fills with the liability: every leaf of it shows that no state
+/// owes more. Where no fill is below 0, `Closed` shows that it is well formed and each leaf closes,
+/// so that the liability is enough, and `Open` that it is not so; `Wide` has the first step that
+/// does not fit, where nothing failed before. There are as many fills as orders, and as many signs
+/// as the orders have legs, which are at most 1,024; what the signs held does not matter. The walk
+/// goes one call deeper for each split on its way, of which there are at most as many as long legs.
 /// Takes no memory. (Farkas' lemma in its easy direction: Chvatal, Linear Programming, chapter 16.)
 pub fn closes(
     batch: &Batch,
@@ -118,7 +119,8 @@ fn unsign(signs: &mut [i8])
     }
 }
 
-/// Walks one subtree under these signs, which stand again as before where it closes, and answers what is left.
+/// Walks one subtree under these signs, which stand again as before where it closes, and answers
+/// what is left.
 #[cycle(walk)]
 fn subtree<'a>(
     orders: &[Order],

@@ -3,12 +3,14 @@
 ghost use Rattle.sign_tree.specs.Laws.{OpenWalksCloseNoTree, WalksCloseTrees};
 ghost use Rattle.sign_tree.specs.Worked.{BundlesAsWorked, TreesAsWorked};
 
-/// Where the walk closes, the nodes and multipliers are those of a tree that is well formed and closes over the fills.
+/// Where the walk closes, the nodes and multipliers are those of a tree that is well formed and
+/// closes over the fills.
 pub fn walks_close_trees()
     ensures { WalksCloseTrees }
 {}
 
-/// Where the walk is open, no tree is written by the nodes and multipliers that is well formed and closes over the fills.
+/// Where the walk is open, no tree is written by the nodes and multipliers that is well formed and
+/// closes over the fills.
 pub fn open_walks_close_no_tree()
     ensures { OpenWalksCloseNoTree }
 {}
@@ -18,7 +20,8 @@ pub fn trees_as_worked()
     ensures { TreesAsWorked }
 {}
 
-/// So does one over a bundle with a short leg, whose legs have places of their own and fills that count.
+/// So does one over a bundle with a short leg, whose legs have places of their own and fills that
+/// count.
 pub fn bundles_as_worked()
     ensures { BundlesAsWorked }
 {}

@@ -210,8 +210,8 @@ fn plus_filled(total: Frac128, leg: BatchLeg<Frac128>, x: i64) -> Result<Frac128
     plus_times(total, fill, x)
 }
 
-/// The total and what the leg adds to it, `x` being its entry: its fill times that, or times the positive part without a
-/// sign, and its multiplier times it with the leg's sign.
+/// The total and what the leg adds to it, `x` being its entry: its fill times that, or times the
+/// positive part without a sign, and its multiplier times it with the leg's sign.
 fn add_term(
     total: Frac128,
     leg: BatchLeg<Frac128>,
@@ -328,8 +328,8 @@ fn entries_close(
     Ok(true)
 }
 
-/// Whether a leaf with these multipliers closes: they are placed, those of short legs are within the legs' fills, and
-/// none of the first `count` entries is above 0.
+/// Whether a leaf with these multipliers closes: they are placed, those of short legs are within
+/// the legs' fills, and none of the first `count` entries is above 0.
 pub fn leaf_closes(
     orders: &[Order],
     fills: &[Frac128],

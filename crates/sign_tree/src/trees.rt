@@ -4,7 +4,8 @@ use exact_num::Wide;
 use frac::Frac128;
 use lists::List;
 
-/// A node of a tree. The nodes of a tree stand in preorder: each before its plus side, and that before its minus side.
+/// A node of a tree. The nodes of a tree stand in preorder: each before its plus side, and that
+/// before its minus side.
 #[derive(Clone, Copy, Debug, PartialEq, Eq)]
 pub enum Node {
     /// Both signs of the buy at a place of the batch, counted from 1.
