@@ -160,7 +160,7 @@ program_is_given value limit Stopped p t w c e h at_stage = absurd (subst IsProg
 
 -- an optimum of rows of whole numbers
 pub whole_is_there : {A : Type 0} (value : A → Fraction) (stage : Stage) (p : LinearProgram) (t : Table A) (w : WholeTable) (c : Contents) → contents_of value stage p t w ≡ c → stage ≡ WholeOptimal
-    → c ≡ found (whole_optimum_in (length w.names.items) (length w.rows.rows) (as_whole w))
+    → c ≡ found (whole_optimum_in (length w.names.items) (length w.basics.items) (as_whole w))
 whole_is_there value stage p t w c e is = sym e ∙ ap (λ (st : Stage). contents_of value st p t w) is
 
 -- or else one of fractions

@@ -1,7 +1,6 @@
 -- One step of the run over rows of whole numbers, and from that run to the run over fractions.
-use Rattle.std.proofs.Common.{◌≡◌, ℕ, zero, suc, ◌+◌, ◌-◌, ◌*◌, ◌<◌, ◌≤◌, length, refl, sym, ◌∙◌, ap, subst, arith, true}
+use Rattle.std.proofs.Common.{◌≡◌, ℕ, zero, suc, ◌+◌, ◌-◌, ◌<◌, length, refl, sym, ◌∙◌, ap, subst, arith, true}
 use Rattle.std.specs.Prelude.{Some, None}
-use Rattle.std.proofs.Math.Nat.{mul-le-mul_left}
 use Rattle.table_run.specs.Program.{LinearProgram}
 use Rattle.table_run.specs.Optimum.{IsProgram}
 use Rattle.table_run.specs.Ending.{Ending, no_unit_left, unbounded, done}
@@ -11,8 +10,8 @@ use Rattle.equal_runs.proofs.LabelledFirst.{labelled_runs_end_the_same}
 use Rattle.whole_solver.specs.declared.table.WholeTable.{WholeTable}
 use Rattle.whole_solver.specs.declared.columns.Entering.{Entering}
 use Rattle.whole_solver.specs.Choices.{as_column}
-use Rattle.whole_solver.specs.Within.{IsUsable}
-use Rattle.equal_runs.specs.Lines.{rows_fit, widest}
+use Rattle.equal_runs.specs.Lines.{rows_fit}
+use Rattle.whole_solver.specs.Stored.{rows_in}
 use Rattle.whole_solver.specs.Tables.{as_whole, taken_from, IsWithin, SameShape}
 use Rattle.whole_solver.proofs.Pivoting.{rows_fit_in}
 use Rattle.whole_solver.proofs.Taken.{first_taken}
@@ -21,8 +20,7 @@ use Rattle.compact_table.specs.declared.table.Table.{Table}
 use Rattle.table_run.proofs.Listed.{listed_count}
 use Rattle.exact_num.specs.Fraction.{Fraction}
 use Rattle.table_run.specs.Units.{units_of}
-use Rattle.whole_solver.proofs.Turned.{line_wider}
-use Rattle.simplex.specs.Spaces.{IsBeingGiven, IsReadable, answer_of, contents_after, whole_optimum_in}
+use Rattle.simplex.specs.Spaces.{IsBeingGiven, answer_of, contents_after, whole_optimum_in}
 use Rattle.simplex.specs.Attempts.{IsStageOf, EndsInStop}
 use Rattle.simplex.specs.WholeEnds.{IsWholeEnd}
 use Rattle.simplex.specs.declared.whole_run.WholeEnd.TheVariants.{Optimal as WholeOptimum, Unbounded as WholeRay, NoUnit}
@@ -66,30 +64,14 @@ pub whole_is_run : (limit left spent : ℕ) (p : LinearProgram) (t : LabelledTab
     → labelled_run_from limit p.variables p.rows left spent t ≡ Some E → run limit p left spent ≡ E
 whole_is_run limit left spent p t E g first fits h = labelled_runs_end_the_same limit p left spent E g (started limit left spent p t first fits ∙ h)
 
-pub within_wider : (b c limit : ℕ) (w : WholeTable) → b ≤ c → IsWithin b limit w → IsWithin c limit w
-within_wider b c limit w low g =
-    record {
-      rows = λ i p. line_wider b c _ _ low (g.rows i p);
-      sizes = g.sizes;
-      objective = g.objective;
-      objective_size = g.objective_size;
-    }
-
--- a bound that leaves room is within the limit
-pub room_above : (b limit : ℕ) → 2 * (b * b) ≤ limit → b ≤ limit
-room_above zero limit h = omega arith
-room_above (suc b) limit h = let more : suc b * 1 ≤ suc b * suc b = mul-le-mul_left (suc b) (omega arith) in omega (arith, more, h)
-
 -- ---- a run of the program that was taken in
-pub record IsStarted (limit b : ℕ) (p : LinearProgram) (w : WholeTable) : Type 0 where
+pub record IsStarted (limit : ℕ) (p : LinearProgram) (w : WholeTable) : Type 0 where
   pub given : IsBeingGiven limit p
-  pub usable : IsUsable limit b
   pub first : as_whole w ≡ first_labelled_table p
-  pub within : IsWithin b limit w
+  pub within : IsWithin limit w
 
-pub started_at : (limit held b : ℕ) (p : LinearProgram) (w : WholeTable) → held ≡ limit → IsBeingGiven limit p → IsUsable limit b → as_whole w ≡ taken_from (compact_first p) → IsWithin b held w
-    → IsStarted limit b p w
-started_at limit held b p w same g u taken within = record { given = g; usable = u; first = taken ∙ sym (first_taken p); within = subst (λ (l : ℕ). IsWithin b l w) same within }
+pub started_at : (limit : ℕ) (p : LinearProgram) (w : WholeTable) → IsBeingGiven limit p → as_whole w ≡ taken_from (compact_first p) → IsWithin limit w → IsStarted limit p w
+started_at limit p w g taken within = record { given = g; first = taken ∙ sym (first_taken p); within = within }
 
 first_names : (q : LinearProgram) → length (first_labelled_table q).names ≡ q.variables
 unfolding first_labelled_table
@@ -100,33 +82,33 @@ unfolding first_labelled_table
 first_columns q = refl
 
 -- the limit is that of the numbers, as the code holds it
-module _ {A : Type 0} (value : A → Fraction) (limit held b left spent after : ℕ) (p : LinearProgram) (t : Table A) (w1 w2 : WholeTable) (g : IsStarted limit b p w1) (same : held ≡ limit) (shape : SameShape w1 w2) where
+module _ {A : Type 0} (value : A → Fraction) (limit held left spent after : ℕ) (p : LinearProgram) (t : Table A) (w1 w2 : WholeTable) (g : IsStarted limit p w1) (same : held ≡ limit) (shape : SameShape w1 w2) where
   is_run : (E : Ending Optimum) → labelled_run_from held p.variables p.rows left spent (as_whole w1) ≡ Some E → run limit p left spent ≡ E
   is_run E h =
-      let fits = rows_fit_in limit (length w1.names.items + 1) w1.basics.items w1.rows.rows (within_wider b limit limit w1 (room_above b limit g.usable.room) g.within).rows in
+      let fits = rows_fit_in limit (length w1.names.items + 1) w1.basics.items (rows_in w1.rows) g.within.rows.lines in
       let of_limit = ap (λ (l : ℕ). labelled_run_from l p.variables p.rows left spent (as_whole w1)) (sym same) in
       whole_is_run limit left spent p (as_whole w1) E g.given.program g.first fits (of_limit ∙ h)
 
-  there : IsWithin b held w2 → IsReadable limit w2
-  there h = record { read = g.usable.read; within = within_wider b widest limit w2 g.usable.below (subst (λ (l : ℕ). IsWithin b l w2) same h) }
+  there : IsWithin held w2 → IsWithin limit w2
+  there h = subst (λ (l : ℕ). IsWithin l w2) same h
 
   variables : length w2.names.items ≡ p.variables
   variables = shape.columns ∙ ap (λ (x : LabelledTable). length x.names) g.first ∙ first_names p
 
-  rows : length w2.rows.rows ≡ p.rows
+  rows : length w2.basics.items ≡ p.rows
   rows =
       let columns = ap (λ (x : LabelledTable). x.columns) g.first ∙ first_columns p in
       let names = sym shape.columns ∙ variables in
       let many = shape.rows in
       omega (arith, columns, names, many)
 
-  pub whole_optimum : IsWholeEnd b held p.variables p.rows WholeOptimum after w2 (labelled_run_from held p.variables p.rows left spent (as_whole w1))
+  pub whole_optimum : IsWholeEnd held p.variables p.rows WholeOptimum after w2 (labelled_run_from held p.variables p.rows left spent (as_whole w1))
       → IsStageOf value limit p (run limit p left spent) WholeOptimal after t w2
   whole_optimum h =
-      let found : run limit p left spent ≡ labelled_read_off (length w2.names.items) (length w2.rows.rows) (as_whole w2) after =
+      let found : run limit p left spent ≡ labelled_read_off (length w2.names.items) (length w2.basics.items) (as_whole w2) after =
       is_run _ h.0 ∙ (λ i. labelled_read_off (sym variables i) (sym rows i) (as_whole w2) after) in
-      let e : done (whole_optimum_in (length w2.names.items) (length w2.rows.rows) (as_whole w2)) after ≡ run limit p left spent =
-      sym (whole_found_is (length w2.names.items) (length w2.rows.rows) after (as_whole w2) refl) ∙ sym found in
+      let e : done (whole_optimum_in (length w2.names.items) (length w2.basics.items) (as_whole w2)) after ≡ run limit p left spent =
+      sym (whole_found_is (length w2.names.items) (length w2.basics.items) after (as_whole w2) refl) ∙ sym found in
       record {
         answer = ap answer_of e;
         contents = ap contents_after e;
@@ -134,7 +116,7 @@ module _ {A : Type 0} (value : A → Fraction) (limit held b left spent after : 
         there = there h.1;
       }
 
-  pub whole_ray : (c : Entering) → IsWholeEnd b held p.variables p.rows (WholeRay c) after w2 (labelled_run_from held p.variables p.rows left spent (as_whole w1))
+  pub whole_ray : (c : Entering) → IsWholeEnd held p.variables p.rows (WholeRay c) after w2 (labelled_run_from held p.variables p.rows left spent (as_whole w1))
       → IsStageOf value limit p (run limit p left spent) (WholeUnbounded c) after t w2
   whole_ray c h =
       let e : unbounded (labelled_direction (length w2.names.items) (as_column c) (as_whole w2)) after ≡ run limit p left spent =
@@ -146,7 +128,7 @@ module _ {A : Type 0} (value : A → Fraction) (limit held b left spent after : 
         there = (there h.1, h.2);
       }
 
-  pub whole_no_unit : IsWholeEnd b held p.variables p.rows NoUnit after w2 (labelled_run_from held p.variables p.rows left spent (as_whole w1))
+  pub whole_no_unit : IsWholeEnd held p.variables p.rows NoUnit after w2 (labelled_run_from held p.variables p.rows left spent (as_whole w1))
       → EndsInStop (run limit p left spent) RunBudget after
   whole_no_unit h =
       let e : no_unit_left after ≡ run limit p left spent = sym (is_run _ h) in

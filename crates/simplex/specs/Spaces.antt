@@ -19,7 +19,7 @@ use Rattle.simplex.specs.declared.stop.RunStop.{RunStop}
 use Rattle.simplex.specs.declared.stop.RunStop.TheVariants.{Wide, Budget}
 use Rattle.simplex.specs.declared.stage.Stage.{Stage}
 use Rattle.simplex.specs.declared.stage.Stage.TheVariants.{Empty, Given, Optimal, Unbounded, WholeOptimal, WholeUnbounded, Stopped}
-use Rattle.equal_runs.specs.Lines.{entry_of, widest}
+use Rattle.equal_runs.specs.Lines.{entry_of}
 use Rattle.equal_runs.specs.Labelled.{LabelledTable, labelled_price, labelled_solution, labelled_direction}
 use Rattle.whole_solver.specs.declared.table.WholeTable.{WholeTable}
 use Rattle.whole_solver.specs.Choices.{as_column}
@@ -136,7 +136,7 @@ contents_of value Empty p t w = nothing
 contents_of value Given p t w = given p
 contents_of value Optimal p t w = found (optimum_in (length t.kept.items) (length t.rows.rows) (as_compact value t))
 contents_of value (Unbounded h) p t w = rising (compact_direction (length t.kept.items) h (as_compact value t))
-contents_of value WholeOptimal p t w = found (whole_optimum_in (length w.names.items) (length w.rows.rows) (as_whole w))
+contents_of value WholeOptimal p t w = found (whole_optimum_in (length w.names.items) (length w.basics.items) (as_whole w))
 contents_of value (WholeUnbounded c) p t w = rising (labelled_direction (length w.names.items) (as_column c) (as_whole w))
 contents_of value Stopped p t w = stopped
 
@@ -148,18 +148,13 @@ pub record IsBeingGiven (limit : ℕ) (p : LinearProgram) : Type 0 where
   pub program : IsProgram p
   pub within : IsProgramWithin limit p
 
--- a table of whole numbers that is read off as numbers within the limit
-pub record IsReadable (limit : ℕ) (w : WholeTable) : Type 0 where
-  pub read : widest ≤ limit
-  pub within : IsWithin widest limit w
-
 abbrev pub IsAt : {A : Type 0} → ℕ → Stage → LinearProgram → Table A → WholeTable → Type 0
 IsAt limit Empty p t w = Unit {0}
 IsAt limit Given p t w = IsBeingGiven limit p
 IsAt limit Optimal p t w = Unit {0}
 IsAt limit (Unbounded h) p t w = h < length t.kept.items
-IsAt limit WholeOptimal p t w = IsReadable limit w
-IsAt limit (WholeUnbounded c) p t w = IsReadable limit w × (c.place < length w.names.items)
+IsAt limit WholeOptimal p t w = IsWithin limit w
+IsAt limit (WholeUnbounded c) p t w = IsWithin limit w × (c.place < length w.names.items)
 IsAt limit Stopped p t w = Unit {0}
 
 -- the program has room, and so has the table for a run over fractions; `buffer` is room for one row

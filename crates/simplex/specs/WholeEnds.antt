@@ -10,9 +10,9 @@ use Rattle.simplex.specs.declared.whole_run.WholeEnd.{WholeEnd}
 use Rattle.simplex.specs.declared.whole_run.WholeEnd.TheVariants.{Optimal, Unbounded, NoUnit, GivenUp}
 
 -- the run of n variables and m rows, by how it ended, the units spent and the table at the end; nothing where it is given up
-abbrev pub IsWholeEnd : ℕ → ℕ → ℕ → ℕ → WholeEnd → ℕ → WholeTable → Option (Ending Optimum) → Type 0
-IsWholeEnd bound limit n m Optimal spent t run = (run ≡ Some (labelled_read_off n m (as_whole t) spent)) × IsWithin bound limit t
-IsWholeEnd bound limit n m (Unbounded c) spent t run =
-    (run ≡ Some (unbounded (labelled_direction n (as_column c) (as_whole t)) spent)) × IsWithin bound limit t × (c.place < length t.names.items)
-IsWholeEnd bound limit n m NoUnit spent t run = run ≡ Some (no_unit_left spent)
-IsWholeEnd bound limit n m GivenUp spent t run = Unit {0}
+abbrev pub IsWholeEnd : ℕ → ℕ → ℕ → WholeEnd → ℕ → WholeTable → Option (Ending Optimum) → Type 0
+IsWholeEnd limit n m Optimal spent t run = (run ≡ Some (labelled_read_off n m (as_whole t) spent)) × IsWithin limit t
+IsWholeEnd limit n m (Unbounded c) spent t run =
+    (run ≡ Some (unbounded (labelled_direction n (as_column c) (as_whole t)) spent)) × IsWithin limit t × (c.place < length t.names.items)
+IsWholeEnd limit n m NoUnit spent t run = run ≡ Some (no_unit_left spent)
+IsWholeEnd limit n m GivenUp spent t run = Unit {0}

@@ -13,7 +13,7 @@ use crate::stop::RunStop;
 use crate::whole_run::{WholeEnd, whole_run};
 use compact_table::{SparseProgram, Table};
 use exact_num::Exact;
-use whole_solver::{WholeTable, bound_for};
+use whole_solver::WholeTable;
 
 /// The run over rows of whole numbers, or None where it is given up: then the budget is what it
 /// was.
@@ -32,15 +32,12 @@ fn run_whole<N: Exact>(
     ensures given_up { result ≡ None → budget.new ≡ budget.old }
     ensures limit { budget.new.limit ≡ budget.old.limit }
 {
-    let Some(bound) = bound_for(N::LIMIT) else {
-        return None;
-    };
     let limit = N::LIMIT.unsigned_abs();
-    if !whole.take_in(program, line, bound, limit) {
+    if limit < i64::MAX as u128 || !whole.take_in(program, line) {
         return None;
     }
     let mut tried = *budget;
-    match whole_run(whole, bound, limit, &mut tried) {
+    match whole_run(whole, limit, &mut tried) {
         WholeEnd::Optimal => {
             *budget = tried;
             Some(Ok(Stage::WholeOptimal))

@@ -1,5 +1,5 @@
 //! The run over rows of whole numbers.
-ghost use Rattle.std.specs.Prelude.{◌≡◌, ◌-◌, ◌*◌, ◌^◌, ◌≤◌, ℕ};
+ghost use Rattle.std.specs.Prelude.{◌≡◌, ◌-◌, ◌^◌, ◌≤◌, ℕ};
 ghost use Rattle.equal_runs.specs.Labelled.{labelled_run_from};
 ghost use Rattle.whole_solver.specs.Tables.{as_whole, IsWithin, SameShape};
 ghost use Rattle.equal_runs.specs.Lines.{widest};
@@ -17,18 +17,16 @@ pub enum WholeEnd {
     Unbounded { column: Entering },
     /// No unit is left.
     NoUnit,
-    /// A row left the bound, or the objective row would leave the limit: nothing is said of the run.
+    /// A step may leave the limit: nothing is said of the run.
     GivenUp,
 }
 
-/// Turns until no column enters, nothing limits the column, no unit is left, a row leaves the bound
-/// or the objective row would leave the limit.
-pub fn whole_run(table: &mut WholeTable, bound: u64, limit: u128, budget: &mut Budget) -> WholeEnd
-    requires bound { bound ≤ widest }
-    requires room { 2 * (bound * bound) ≤ limit }
-    requires objective { limit ≤ 2 ^ 127 - 1 }
-    requires within { IsWithin bound limit table.old }
-    ensures run { (n m : ℕ) → IsWholeEnd bound limit n m result budget.new.spent table.new
+/// Turns until no column enters, nothing limits the column, no unit is left or a step may leave the
+/// limit.
+pub fn whole_run(table: &mut WholeTable, limit: u128, budget: &mut Budget) -> WholeEnd
+    requires limit { (widest ≤ limit) × (limit ≤ 2 ^ 127 - 1) }
+    requires within { IsWithin limit table.old }
+    ensures run { (n m : ℕ) → IsWholeEnd limit n m result budget.new.spent table.new
         (labelled_run_from limit n m (budget.old.limit - budget.old.spent) budget.old.spent
         (as_whole table.old)) }
     ensures shape { SameShape table.old table.new }
@@ -38,7 +36,7 @@ pub fn whole_run(table: &mut WholeTable, bound: u64, limit: u128, budget: &mut B
         if !budget.spend() {
             return WholeEnd::NoUnit;
         }
-        match table.turn(column.place, bound, limit) {
+        match table.turn(column.place, limit) {
             Turn::Moved => {}
             Turn::Unlimited => return WholeEnd::Unbounded { column },
             Turn::GivenUp => return WholeEnd::GivenUp,

@@ -1,21 +1,19 @@
 -- A turn of the table whose lists are kept apart.
-use Rattle.std.proofs.Common.{◌≡◌, ℕ, zero, suc, ◌+◌, ◌*◌, ◌<◌, ◌≤◌, List, [], ◌∷◌, length, set, get_or, refl, sym, ◌∙◌, ap, subst, arith, Bool, true, false, nat_eq, ℤ, pos, unsigned_abs, length-set}
+use Rattle.std.proofs.Common.{◌≡◌, ℕ, zero, suc, ◌+◌, ◌<◌, List, [], ◌∷◌, length, set, get_or, refl, sym, ◌∙◌, ap, subst, arith, Bool, true, false, nat_eq, ℤ, pos, unsigned_abs, length-set}
 use Rattle.std.specs.Prelude.{Some, None, int_lt, if◌then◌else◌}
-use Rattle.std.proofs.Math.Nat.{mul-le-mul}
 use Rattle.arithmetic.proofs.Tests.{and_true}
 use Rattle.std.proofs.lemmas.List.{length-map}
 use Rattle.table_run.specs.Choice.{Ratio, least}
 use Rattle.equal_runs.proofs.Columns.{same_test, other_test}
 use Rattle.compact_table.specs.Candidates.{best_with}
-use Rattle.equal_runs.specs.Lines.{Line, WholeRow, IsLine, line_size, line_of, number_at, line_at, no_line, rows_fit}
+use Rattle.equal_runs.specs.Lines.{Line, WholeRow, line_of, number_at, line_at, no_line, rows_fit}
 use Rattle.equal_runs.specs.WholeTurning.{cut, whole_ratios, steps_within, row_steps_within, rows_steps_within, lines_steps_within, leaving_fits}
 use Rattle.equal_runs.specs.Labelled.{LabelledTable, basic_of, turned_in, labelled_cleared, labelled_rows_after, labelled_pivoted, labelled_leave, labelled_turn, labelled_turn_fits}
-use Rattle.equal_runs.proofs.LineSteps.{steps_within_room}
 use Rattle.equal_runs.proofs.TurnSteps.{AllOf, IsCandidate, candidates, Leaves, leaves}
 use Rattle.whole_solver.specs.Rows.{line_in, lines_in, row_at, beside_basics, lines_after, AreLinesIn, IsTurned, IsPivot}
 use Rattle.whole_solver.specs.Tables.{table_of}
 use Rattle.whole_solver.proofs.Choosing.{line_place, length-beside}
-use Rattle.whole_solver.proofs.Turned.{line_of_sizes, size_below}
+use Rattle.whole_solver.proofs.Turned.{line_of_sizes}
 
 -- ---- the rows beside their basic variables
 pub line_beside : (bs : List ℕ) (lines : List Line) (r : ℕ) → length bs ≡ length lines → line_at (beside_basics bs lines) r ≡ get_or lines r no_line
@@ -62,10 +60,10 @@ module _ (c e r a : ℕ) (P : List ℤ) where
 abbrev pub table_with : ℕ → List ℕ → List WholeRow → Line → LabelledTable
 table_with columns names rows objective = record { columns = columns; names = names; rows = rows; objective = objective }
 
-pub pivoted_table : (names basics : List ℕ) (rows new : List (List ℤ)) (objective last : List ℤ) (c r : ℕ) → length basics ≡ length rows → r < length rows → length new ≡ length rows → IsTurned (length names + 1) c r rows objective new last
+pub pivoted_table : (names basics : List ℕ) (rows new : List (List ℤ)) (objective last : List ℤ) (c r : ℕ) → length basics ≡ length rows → r < length rows → IsTurned (length names + 1) c r rows objective new last
     → table_of (set names c (get_or basics r 0)) (set basics r (get_or names c 0)) new last ≡ labelled_pivoted c r (table_of names basics rows objective)
 unfolding labelled_pivoted
-pivoted_table names basics rows new objective last c r same low many t =
+pivoted_table names basics rows new objective last c r same low t =
     (λ i. table_with (columns i) (set names c v) (rows_are i) (last_is i)) ∙ sym (λ i. by (cut (line i)) (basic i))
   where
     w : ℕ
@@ -88,7 +86,7 @@ pivoted_table names basics rows new objective last c r same low many t =
 
     by : Line → ℕ → LabelledTable
     by x u =
-        table_with (length names + length rows) (set names c u) (labelled_rows_after c (get_or names c 0) r (unsigned_abs (number_at x.numbers c)) (turned_in c x) 0 (beside_basics basics (lines_in (length names + 1) rows)))
+        table_with (length names + length basics) (set names c u) (labelled_rows_after c (get_or names c 0) r (unsigned_abs (number_at x.numbers c)) (turned_in c x) 0 (beside_basics basics (lines_in (length names + 1) rows)))
         (labelled_cleared c (unsigned_abs (number_at x.numbers c)) (turned_in c x) (line_in (length names + 1) objective))
 
     wide : length (set names c (get_or basics r 0)) ≡ length names
@@ -100,8 +98,8 @@ pivoted_table names basics rows new objective last c r same low many t =
     basic : basic_of (beside_basics basics (lines_in (length names + 1) rows)) r ≡ get_or basics r 0
     basic = basic_beside basics (lines_in (length names + 1) rows) r count
 
-    columns : length (set names c (get_or basics r 0)) + length new ≡ length names + length rows
-    columns = omega (arith, wide, many)
+    columns : length (set names c (get_or basics r 0)) + length (set basics r (get_or names c 0)) ≡ length names + length basics
+    columns = omega (arith, wide, length-set basics r (get_or names c 0))
 
     rows_are : beside_basics (set basics r (get_or names c 0)) (lines_in (length (set names c (get_or basics r 0)) + 1) new)
         ≡ labelled_rows_after c (get_or names c 0) r (unsigned_abs (number_at (cut (line_in (length names + 1) (row_at rows r))).numbers c)) (turned_in c (cut (line_in (length names + 1) (row_at rows r)))) 0 (beside_basics basics (lines_in (length names + 1) rows))
@@ -166,24 +164,19 @@ pivot_there c r names basics rows objective same h = step (whole_ratios (length 
         let line = line_beside basics (lines_in (length names + 1) rows) r count ∙ line_place (length names + 1) rows r no_line low in
         record { row = low; above = subst (λ (l : Line). int_lt (pos 0) (number_at l.numbers c) ≡ true) line there.above }
 
--- ---- within the bound
--- rows within a bound that leaves room are cleared within the limit
-steps_in_room : (b limit w e : ℕ) (pivot l : Line) → 2 * (b * b) ≤ limit → IsLine b w pivot → IsLine b w l → steps_within limit e pivot l ≡ true
-steps_in_room b limit w e pivot l room p g =
-    let less : line_size l * line_size pivot ≤ b * b = mul-le-mul (size_below b w l g) (size_below b w pivot p) in
-    steps_within_room limit e pivot l (omega (arith, less, room))
-
-pub rows_in_room : (b limit w e r i : ℕ) (pivot : Line) (bs : List ℕ) (rows : List (List ℤ)) → 2 * (b * b) ≤ limit → IsLine b w pivot → AreLinesIn b w rows → rows_steps_within limit e r pivot i (beside_basics bs (lines_in w rows)) ≡ true
+-- ---- within the limit
+-- each step of the other rows, and so all
+pub rows_steps_in : (limit w e r i : ℕ) (pivot : Line) (bs : List ℕ) (rows : List (List ℤ)) → ((j : ℕ) → j < length rows → (i + j ≡ r → ⊥) → steps_within limit e pivot (line_in w (row_at rows j)) ≡ true) → rows_steps_within limit e r pivot i (beside_basics bs (lines_in w rows)) ≡ true
 unfolding rows_steps_within
-rows_in_room b limit w e r i pivot [] rows room p g = refl
-rows_in_room b limit w e r i pivot (v ∷ bs) [] room p g = refl
-rows_in_room b limit w e r i pivot (v ∷ bs) (x ∷ rows) room p g =
+rows_steps_in limit w e r i pivot [] rows g = refl
+rows_steps_in limit w e r i pivot (v ∷ bs) [] g = refl
+rows_steps_in limit w e r i pivot (v ∷ bs) (x ∷ rows) g =
     and_true (row_steps_within limit e r pivot i (line_in w x)) (rows_steps_within limit e r pivot (i + 1) (beside_basics bs (lines_in w rows)))
-    (step (nat_eq i r)) (rows_in_room b limit w e r (i + 1) pivot bs rows room p (λ j q. g (suc j) (omega (arith, q))))
+    (step (nat_eq i r) refl) (rows_steps_in limit w e r (i + 1) pivot bs rows (λ j q apart. g (suc j) (omega (arith, q)) (λ same. apart (omega (arith, same)))))
   where
-    step : (same : Bool) → (if same then true else steps_within limit e pivot (line_in w x)) ≡ true
-    step true = refl
-    step false = steps_in_room b limit w e pivot (line_in w x) room p (g 0 (omega arith))
+    step : (same : Bool) → nat_eq i r ≡ same → (if same then true else steps_within limit e pivot (line_in w x)) ≡ true
+    step true t = refl
+    step false t = g 0 (omega arith) (λ same. let test = same_test i r (omega (arith, same)) in cc)
 
 pub rows_fit_in : (b w : ℕ) (bs : List ℕ) (rows : List (List ℤ)) → AreLinesIn b w rows → rows_fit b (beside_basics bs (lines_in w rows)) ≡ true
 unfolding rows_fit

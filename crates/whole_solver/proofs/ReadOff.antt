@@ -11,13 +11,16 @@ use Rattle.exact_num.specs.Fits.{div_of, meaning}
 use Rattle.exact_num.proofs.Values.{whole_is_lowest}
 use Rattle.table_run.specs.Places.{fraction_zero}
 use Rattle.compact_table.proofs.Reading.{past}
-use Rattle.equal_runs.specs.Lines.{Line, WholeRow, whole_row, number_at, entry_of}
+use Rattle.equal_runs.specs.Lines.{Line, IsLine, WholeRow, whole_row, number_at, entry_of}
 use Rattle.equal_runs.specs.WholeRunning.{whole_where_basic}
 use Rattle.equal_runs.specs.Labelled.{LabelledTable, Column, number_for, none_of, labels, labelled_price}
 use Rattle.equal_runs.proofs.LineSteps.{reduced_zero}
 use Rattle.equal_runs.proofs.StepsFit.{quotients_fit}
-use Rattle.whole_solver.specs.Rows.{beside_basics}
-use Rattle.whole_solver.specs.Tables.{direction_entry}
+use Rattle.whole_solver.specs.declared.table.WholeTable.{WholeTable}
+use Rattle.whole_solver.specs.Rows.{beside_basics, line_in, row_at}
+use Rattle.whole_solver.specs.Stored.{rows_in}
+use Rattle.whole_solver.specs.Tables.{IsWithin, direction_entry, width_of}
+use Rattle.whole_solver.proofs.Stored.{rows_count}
 
 -- ---- a number as a fraction
 pub quotient_is : (limit c : ℕ) (a : ℤ) → 0 < c → unsigned_abs a ≤ limit → c ≤ limit → div_of limit (whole a) (whole (pos c)) ≡ Ok (reduced a c)
@@ -110,3 +113,7 @@ price_found t j k long e = ap (λ z. reduced z t.objective.denominator) (filled_
 -- ---- one entry of a direction
 pub entry_other : (c : Column) (j : ℕ) (t : LabelledTable) → (j ≡ c.name → ⊥) → direction_entry c t j ≡ whole_where_basic (λ row. reduced (neg_ℤ (number_at row.line.numbers c.place)) row.line.denominator) j t.rows
 entry_other c j t e = let other : nat_eq j c.name ≡ false = grind (arith, nat_tests) in rw other refl
+
+-- a row of a table within the limit
+pub line_within : (limit : ℕ) (t : WholeTable) (i : ℕ) → IsWithin limit t → i < length t.rows.short.rows → IsLine limit (width_of t) (line_in (width_of t) (row_at (rows_in t.rows) i))
+line_within limit t i g low = g.rows.lines i (let count = rows_count t.rows.is_wide.items t.rows.short.rows t.rows.wide.rows in omega (arith, low, count))

@@ -10,10 +10,10 @@ use Rattle.compact_table.specs.Candidates.{beside_basics as beside_lists}
 use Rattle.compact_table.specs.Programs.{program_of}
 use Rattle.compact_table.proofs.Starts.{AreLong, none_long, rows_given, table_with as fractions_with}
 use Rattle.table_run.proofs.Listed.{listed_count, map_listed}
-use Rattle.equal_runs.specs.Lines.{Line, WholeRow, IsLine, taken_in, row_taken_in, multiple, least_multiple}
+use Rattle.equal_runs.specs.Lines.{Line, WholeRow, taken_in, row_taken_in, multiple, least_multiple, widest}
 use Rattle.whole_solver.specs.Within.{HasMultiple}
 use Rattle.equal_runs.specs.Labelled.{first_labelled_table}
-use Rattle.whole_solver.specs.Rows.{line_in, lines_in, row_at, beside_basics, AreLinesIn}
+use Rattle.whole_solver.specs.Rows.{line_in, lines_in, beside_basics}
 use Rattle.whole_solver.specs.Tables.{table_of, taken_from}
 use Rattle.whole_solver.proofs.Pivoting.{table_with}
 
@@ -26,27 +26,18 @@ multiple_more f (y ∷ xs) (suc k) x h e =
     let same : suc (k + 1) ≡ suc k + 1 = omega arith in
     multiple_more f xs k x (omega (arith, h)) e ∙ ap (λ n. multiple (f x).denominator (least_multiple (map f (drop n (y ∷ xs))))) same
 
-pub no_multiple : {A : Type 0} (b : ℕ) (f : A → Fraction) (xs : List A) (k : ℕ) → 1 ≤ b → length xs ≤ k → HasMultiple b (least_multiple (map f (drop k xs))) 1
+pub no_multiple : {A : Type 0} (f : A → Fraction) (xs : List A) (k : ℕ) → length xs ≤ k → HasMultiple (least_multiple (map f (drop k xs))) 1
 unfolding least_multiple
-no_multiple b f xs k one h =
+no_multiple f xs k h =
     let none : drop k xs ≡ [] = drop_all k xs h in
-    rw none (record { is = refl; positive = omega arith; below = one })
+    rw none (record { is = refl; positive = omega arith; below = omega arith })
 
-pub has_more : {A : Type 0} (b : ℕ) (f : A → Fraction) (xs : List A) (k found next : ℕ) (x : A) → k < length xs → x ≡ slice_index_or xs k x → HasMultiple b (least_multiple (map f (drop (k + 1) xs))) found
-    → next ≡ multiple (f x).denominator found → 0 < next → next ≤ b → HasMultiple b (least_multiple (map f (drop k xs))) next
-has_more b f xs k found next x low at_x h is p q =
+pub has_more : {A : Type 0} (f : A → Fraction) (xs : List A) (k found next : ℕ) (x : A) → k < length xs → x ≡ slice_index_or xs k x → HasMultiple (least_multiple (map f (drop (k + 1) xs))) found
+    → next ≡ multiple (f x).denominator found → 0 < next → next ≤ widest → HasMultiple (least_multiple (map f (drop k xs))) next
+has_more f xs k found next x low at_x h is p q =
     record { is = is ∙ ap (multiple (f x).denominator) h.is ∙ sym (multiple_more f xs k x low at_x); positive = p; below = q }
 
 -- ---- one row more
-more_at : (b w : ℕ) (rows : List (List ℤ)) (new : List ℤ) (i : ℕ) → AreLinesIn b w rows → IsLine b w (line_in w new) → i < length (rows ++ new ∷ []) → IsLine b w (line_in w (row_at (rows ++ new ∷ []) i))
-more_at b w [] new zero g l p = l
-more_at b w [] new (suc i) g l p = absurd (omega (arith, p))
-more_at b w (x ∷ rows) new zero g l p = g 0 (omega arith)
-more_at b w (x ∷ rows) new (suc i) g l p = more_at b w rows new i (λ j q. g (suc j) (omega (arith, q))) l (omega (arith, p))
-
-pub lines_more : (b w : ℕ) (rows : List (List ℤ)) (new : List ℤ) → AreLinesIn b w rows → IsLine b w (line_in w new) → AreLinesIn b w (rows ++ new ∷ [])
-lines_more b w rows new g l = λ i p. more_at b w rows new i g l p
-
 pub taken_more : (w : ℕ) (lists : List (List Fraction)) (rows : List (List ℤ)) (new : List ℤ) (i : ℕ) → i < length lists → lines_in w rows ≡ take i (map taken_in lists) → line_in w new ≡ taken_in (get_or lists i [])
     → lines_in w (rows ++ new ∷ []) ≡ take (i + 1) (map taken_in lists)
 taken_more w lists rows new i low h is_new =
@@ -67,11 +58,11 @@ length-lists [] (x ∷ lists) e = e
 length-lists (b ∷ bs) [] e = refl
 length-lists (b ∷ bs) (x ∷ lists) e = ap suc (length-lists bs lists (omega (arith, e)))
 
-pub table_taken : (kept basics : List ℕ) (lists : List (List Fraction)) (objective : List Fraction) (rows : List (List ℤ)) (last : List ℤ) → length basics ≡ length lists → length rows ≡ length lists
+pub table_taken : (kept basics : List ℕ) (lists : List (List Fraction)) (objective : List Fraction) (rows : List (List ℤ)) (last : List ℤ) → length basics ≡ length lists
     → lines_in (length kept + 1) rows ≡ map taken_in lists → line_in (length kept + 1) last ≡ taken_in objective
     → table_of kept basics rows last ≡ taken_from (record { kept = kept; rows = beside_lists basics lists; objective = objective })
-table_taken kept basics lists objective rows last same many rows_are last_is =
-    let columns : length kept + length rows ≡ length kept + length (beside_lists basics lists) = ap (λ k. length kept + k) (many ∙ sym (length-lists basics lists same)) in
+table_taken kept basics lists objective rows last same rows_are last_is =
+    let columns : length kept + length basics ≡ length kept + length (beside_lists basics lists) = ap (λ k. length kept + k) (same ∙ sym (length-lists basics lists same)) in
     let all = ap (beside_basics basics) rows_are ∙ sym (rows_taken basics lists) in
     λ i. table_with (columns i) kept (all i) (last_is i)
 
@@ -91,3 +82,10 @@ lists_first n lists costs long =
     let none : n ≡ n + 0 = omega arith in
     let rows = ap (λ k. beside_lists (numbers k (length lists)) lists) none ∙ sym (rows_given n costs [] lists (none_long n) long) in
     ap (λ r. fractions_with (numbers 0 n) r (map negated costs ++ fraction_zero ∷ [])) rows
+
+-- what is written over a whole vector
+pub written_whole : {A : Type 0} (n : ℕ) (xs rest : List A) → length xs ≡ n → take n (xs ++ rest) ≡ xs
+written_whole zero [] rest e = refl
+written_whole (suc n) [] rest e = absurd (omega (arith, e))
+written_whole zero (x ∷ xs) rest e = absurd (omega (arith, e))
+written_whole {A} (suc n) (x ∷ xs) rest e = ap (λ (zs : List A). x ∷ zs) (written_whole n xs rest (omega (arith, e)))

@@ -3,24 +3,23 @@ use Rattle.std.proofs.Common.{◌≡◌, ℕ, zero, suc, ◌+◌, ◌-◌, ◌*�
 use mir.Syntax.{w128}
 use Rattle.std.proofs.lemmas.Int.{to_z_pos}
 use Rattle.arithmetic.specs.Gcd.{gcd}
-use Rattle.std.specs.Prelude.{Some, nat_eq, if◌then◌else◌}
-use Rattle.std.proofs.lemmas.Bool.{le-leb, eq-eqb, ne_eqb}
+use Rattle.std.specs.Prelude.{nat_eq, nat_le, if◌then◌else◌}
+use Rattle.std.proofs.lemmas.Bool.{and_parts, le-leb, leb-true, eq-eqb, ne_eqb}
 use Rattle.std.proofs.lemmas.List.{length-map, length-drop, length-take-le, map-set, get_or-set_same}
 use Rattle.std.proofs.Math.Nat.{mul-le-mul}
 use Rattle.std.proofs.lemmas.Slice.{take-put_mid}
 use borrow.Rule.Slice.PartMut.{put_mid}
-use Rattle.equal_runs.specs.Lines.{Line, IsLine, AreSizes, line_size, line_of, number_at, no_line, line_fits}
+use Rattle.equal_runs.specs.Lines.{Line, IsLine, AreSizes, line_size, line_of, number_at, no_line, line_fits, numbers_fit, widest}
 use Rattle.equal_runs.specs.Labelled.{labelled_cleared, turned_in}
 use Rattle.equal_runs.specs.WholeTurning.{cut, step_size}
-use Rattle.equal_runs.proofs.LineSteps.{cut_within, line_of_fit, fit_of_sizes, size_at_most, sizes_bound}
+use Rattle.equal_runs.proofs.LineSteps.{cut_within, fit_of_sizes, size_at_most, sizes_bound, sizes_least}
 use Rattle.equal_runs.proofs.TurnSteps.{size_above, cut_above}
-use Rattle.equal_runs.proofs.LabelledRun.{cleared_shaped}
 use Rattle.equal_runs.proofs.LabelledFirst.{cleared_lines_fit, set_sizes}
 use Rattle.equal_runs.proofs.Columns.{same_test, other_test}
 use Rattle.compact_table.proofs.ArenaSteps.{at_set_same, set_here}
-use Rattle.whole_solver.specs.Within.{kept}
-use Rattle.whole_solver.specs.Rows.{column_in, line_in, lines_in, nonzero_in, row_at, pivot_line, line_after, lines_after, AreLinesIn, AreSizesIn, IsPivot}
-use Rattle.whole_solver.proofs.Numbers.{kept_some, written_more, written_all}
+use Rattle.whole_solver.specs.Clearing.{IsShort}
+use Rattle.whole_solver.specs.Rows.{column_in, line_in, lines_in, nonzero_in, row_at, pivot_line, line_after, lines_after, AreLinesIn, IsPivot}
+use Rattle.whole_solver.proofs.Numbers.{written_more, written_all}
 use Rattle.whole_solver.proofs.Choosing.{line_place}
 use Rattle.whole_solver.proofs.Listed.{IsGap, column_number}
 use Rattle.whole_solver.proofs.Sparse.{nonzero_set}
@@ -55,15 +54,6 @@ line_of_sizes b n l g =
 
 pub line_wider : (b c n : ℕ) (l : Line) → b ≤ c → IsLine b n l → IsLine c n l
 line_wider b c n l low g = record { positive = g.positive; below = (let p = g.below in omega (arith, low, p)); sizes = λ j. (let p = g.sizes j in omega (arith, low, p)); count = g.count }
-
--- the line that a clearing writes
-pub cleared_line : (b n c a d : ℕ) (pivot ns : List ℤ) (old : Line) → IsLine b n old → 0 < a → length pivot ≡ n
-    → Some (line_of d ns) ≡ kept (line_fits b (labelled_cleared c a pivot old)) (labelled_cleared c a pivot old)
-    → (line_of d ns ≡ labelled_cleared c a pivot old) × IsLine b n (line_of d ns)
-cleared_line b n c a d pivot ns old g pa wide h =
-    let k = kept_some (line_fits b (labelled_cleared c a pivot old)) (labelled_cleared c a pivot old) (line_of d ns) h in
-    let shaped = cleared_shaped n c a pivot old (record { positive = g.positive; count = g.count }) pa wide in
-    (k.1, subst (IsLine b n) (sym k.1) (line_of_fit b n (labelled_cleared c a pivot old) shaped k.0))
 
 pub pivot_within : (b n c : ℕ) (l : Line) → c < n → IsLine b n l → 0 < unsigned_abs (number_at l.numbers c) → IsLine b n (pivot_line c (unsigned_abs (number_at l.numbers c)) l)
 pivot_within b n c l h g p =
@@ -168,18 +158,6 @@ lines_set b w rows i ys g l = λ j p. at_place rows i j ys g l p
     at_place (x ∷ rows) (suc i) zero ys g l p = g 0 (omega arith)
     at_place (x ∷ rows) (suc i) (suc j) ys g l p = at_place rows i j ys (λ k q. g (suc k) (omega (arith, q))) l (omega (arith, p))
 
-pub sizes_in_set : (w : ℕ) (rows : List (List ℤ)) (sizes : List ℕ) (i : ℕ) (ys : List ℤ) (size : ℕ) → AreSizesIn sizes w rows → i < length sizes → AreSizes size (line_in w ys).numbers → AreSizesIn (set sizes i size) w (set rows i ys)
-sizes_in_set w rows sizes i ys size g low h = λ j p. at_place rows sizes i j g low p
-  where
-    at_place : (rows : List (List ℤ)) (sizes : List ℕ) (i j : ℕ) → AreSizesIn sizes w rows → i < length sizes → j < length (set rows i ys)
-        → AreSizes (get_or (set sizes i size) j 0) (line_in w (row_at (set rows i ys) j)).numbers
-    at_place [] sizes i j g low p = absurd (omega (arith, p))
-    at_place (x ∷ rows) [] i j g low p = absurd (omega (arith, low))
-    at_place (x ∷ rows) (s ∷ sizes) zero zero g low p = h
-    at_place (x ∷ rows) (s ∷ sizes) zero (suc j) g low p = g (suc j) p
-    at_place (x ∷ rows) (s ∷ sizes) (suc i) zero g low p = g 0 (omega arith)
-    at_place (x ∷ rows) (s ∷ sizes) (suc i) (suc j) g low p = at_place rows sizes i j (λ k q. g (suc k) (omega (arith, q))) (omega (arith, low)) (omega (arith, p))
-
 front_number : (w c : ℕ) (row : List ℤ) → c < w → number_at (take w (drop 1 row)) c ≡ number_at row (c + 1)
 front_number w c [] h = taken_number w [] c h
 front_number w c (d ∷ xs) h = let next = add-one c in rw next (taken_number w xs c h)
@@ -270,6 +248,16 @@ line_below limit size n l g low = line_wider (line_size l) size n l low (sizes_b
 -- a smaller pivot row makes no greater steps
 pub steps_less : (size x a low most : ℕ) → low ≤ most → step_size size x a low ≤ step_size size x a most
 steps_less size x a low most h = let less : x / gcd x a * low ≤ x / gcd x a * most = mul-le-mul (omega arith) h in omega (arith, less)
+
+-- the line of 64 bits that is written
+abbrev pub IsFront : ℕ → ℕ → List ℤ → Line → ℕ → Type 0
+IsFront w d ns l size = (line_of d ns ≡ l) × IsShort size l
+
+pub short_denominator : (w d : ℕ) (ns : List ℤ) (l : Line) (size : ℕ) → IsFront w d ns l size → d ≤ widest
+short_denominator w d ns l size g =
+    let low : line_size (line_of d ns) ≤ widest = subst (λ (m : Line). line_size m ≤ widest) (sym g.0) g.1.short in
+    let fits : line_fits widest (line_of d ns) ≡ true = sizes_least widest (line_of d ns) ∙ le-leb (line_size (line_of d ns)) widest low in
+    leb-true _ _ (and_parts (nat_le d widest) (numbers_fit widest ns) fits).0
 
 -- the row that is written
 pub record IsWritten (limit w d : ℕ) (row ns : List ℤ) : Type 0 where

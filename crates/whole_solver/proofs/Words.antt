@@ -1,11 +1,12 @@
 -- Numbers as words mean them, and the steps of a mix.
-use Rattle.std.proofs.Common.{◌≡◌, ℕ, zero, suc, ◌*◌, ◌+◌, ◌-◌, ◌^◌, ◌<◌, ◌≤◌, List, [], ◌∷◌, length, map, arith, sym, ◌∙◌, ap, ℤ, pos, ◌-ℤ◌, ◌*ℤ◌, unsigned_abs}
+use Rattle.std.proofs.Common.{◌≡◌, ℕ, zero, suc, ◌*◌, ◌+◌, ◌<◌, ◌≤◌, List, [], ◌∷◌, length, map, take, drop, arith, refl, sym, ◌∙◌, ap, subst, ℤ, pos, ◌-ℤ◌, ◌*ℤ◌, unsigned_abs}
 use Rattle.std.specs.Prelude.{slice_index_or}
 use Rattle.std.proofs.Math.Nat.{mul-le-mul}
 use Rattle.std.proofs.lemmas.List.{map-id}
 use Rattle.std.proofs.lemmas.Int.{ints, unsigned_abs-mul}
-use Rattle.equal_runs.specs.Lines.{AreSizes, number_at, widest}
+use Rattle.equal_runs.specs.Lines.{AreSizes, number_at}
 use Rattle.equal_runs.specs.WholeTurning.{cross_difference}
+use Rattle.whole_solver.specs.Rows.{nonzero_in}
 use Rattle.whole_solver.specs.Within.{AreMixedSizes, HasRoom}
 use Rattle.whole_solver.proofs.Numbers.{no_size}
 
@@ -36,10 +37,6 @@ mixed_room held size p f n zs qs hz hq low j =
     let less : f * unsigned_abs (number_at qs j) ≤ f * n = mul-le-mul (omega arith) (hq j) in
     omega (arith, all, less, low)
 
--- numbers of 64 bits leave room in 128
-pub short_room : (p f : ℕ) (zs qs : List ℤ) → AreSizes widest zs → AreSizes widest qs → p ≤ widest → f ≤ widest → HasRoom (2 ^ 127 - 1) p f zs qs
-short_room p f zs qs hz hq hp hf = mixed_room (2 ^ 127 - 1) (2 ^ 127 - 1) p f widest zs qs (mixed_of_sizes (2 ^ 127 - 1) widest widest p f zs hz (omega (arith, hp, hf))) hq (omega arith)
-
 -- and what has room is of that size afterwards
 number_within : (p b : ℕ) (f z q : ℤ) → unsigned_abs z * p + unsigned_abs f * unsigned_abs q ≤ b → unsigned_abs ((z *ℤ pos p) -ℤ (f *ℤ q)) ≤ b
 number_within p b f z q room = difference (z *ℤ pos p) (f *ℤ q) (unsigned_abs z * p) (unsigned_abs f * unsigned_abs q) (unsigned_abs-mul z (pos p)) (unsigned_abs-mul f q) room
@@ -57,3 +54,30 @@ room_within b p f (z ∷ zs) (q ∷ qs) room (suc j) = room_within b p f zs qs (
 -- numbers that words are themselves
 pub mixed_words : (p : ℕ) (f : ℤ) (zs qs ns : List ℤ) → map (λ (z : ℤ). z) ns ≡ cross_difference p f (map (λ (z : ℤ). z) zs) qs → ns ≡ cross_difference p f zs qs
 mixed_words p f zs qs ns h = sym (map-id ns) ∙ h ∙ ap (λ (ws : List ℤ). cross_difference p f ws qs) (map-id zs)
+
+-- and those of the pivot row too
+pub mixed_all : (p : ℕ) (f : ℤ) (zs qs ns : List ℤ) → map (λ (z : ℤ). z) ns ≡ cross_difference p f (map (λ (z : ℤ). z) zs) (map (λ (z : ℤ). z) qs) → ns ≡ cross_difference p f zs qs
+mixed_all p f zs qs ns h = mixed_words p f zs (map (λ (z : ℤ). z) qs) ns h ∙ ap (λ (ws : List ℤ). cross_difference p f zs ws) (map-id qs)
+
+pub room_in_words : (held p f : ℕ) (zs qs : List ℤ) → HasRoom held p f zs qs → HasRoom held p f (map (λ (z : ℤ). z) zs) qs
+room_in_words held p f zs qs room = subst (λ (ws : List ℤ). HasRoom held p f ws qs) (sym (map-id zs)) room
+
+pub room_of_words : (held p f : ℕ) (zs qs : List ℤ) → HasRoom held p f zs qs → HasRoom held p f (map (λ (z : ℤ). z) zs) (map (λ (z : ℤ). z) qs)
+room_of_words held p f zs qs room = subst (λ (ws : List ℤ). HasRoom held p f (map (λ (z : ℤ). z) zs) ws) (sym (map-id qs)) (room_in_words held p f zs qs room)
+
+pub places_of_words : (places : List ℕ) (qs : List ℤ) → places ≡ nonzero_in qs → places ≡ nonzero_in (map (λ (z : ℤ). z) qs)
+places_of_words places qs h = h ∙ ap nonzero_in (sym (map-id qs))
+
+-- the numbers at the front of a row of words
+pub front_words : {A : Type 0} (value : A → ℤ) (w : ℕ) (xs : List A) → map value (take w (drop 1 xs)) ≡ take w (drop 1 (map value xs))
+front_words {A = A} value w [] = taken w
+  where
+    taken : (w : ℕ) → map value (take w []) ≡ take w []
+    taken zero = refl
+    taken (suc w) = refl
+front_words {A = A} value w (x ∷ xs) = taken w xs
+  where
+    taken : (w : ℕ) (xs : List A) → map value (take w xs) ≡ take w (map value xs)
+    taken zero xs = refl
+    taken (suc w) [] = refl
+    taken (suc w) (x ∷ xs) = ap (λ (zs : List ℤ). value x ∷ zs) (taken w xs)

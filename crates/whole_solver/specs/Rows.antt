@@ -1,9 +1,9 @@
 -- The rows of an arena as lines: the denominator first, then the numbers, the right side last.
-use Rattle.std.specs.Prelude.{◌≡◌, ℕ, ◌+◌, ◌<◌, List, [], ◌∷◌, ◌++◌, take, drop, map, length, ℤ, pos, unsigned_abs, slice_index_or, slice_set, if◌then◌else◌, nat_eq, int_lt, Option, Some, true}
+use Rattle.std.specs.Prelude.{◌≡◌, ℕ, ◌+◌, ◌<◌, ◌≤◌, List, [], ◌∷◌, ◌++◌, take, drop, map, length, ℤ, pos, unsigned_abs, slice_index_or, slice_set, if◌then◌else◌, nat_eq, int_lt, Option, Some, true}
 use Rattle.exact_num.specs.Fraction.{whole}
 use Rattle.compact_table.specs.Nonzero.{nonzero_places}
-use Rattle.equal_runs.specs.Lines.{Line, WholeRow, AreSizes, IsLine, line_of, whole_row, number_at}
-use Rattle.equal_runs.specs.WholeTurning.{cut}
+use Rattle.equal_runs.specs.Lines.{Line, WholeRow, IsLine, line_of, line_size, whole_row, number_at}
+use Rattle.equal_runs.specs.WholeTurning.{cut, step_size, steps_within}
 use Rattle.equal_runs.specs.Labelled.{Column, smaller, labelled_cleared, turned_in}
 
 -- the line of w numbers at the front of a row
@@ -38,9 +38,9 @@ with_place j z places = let more = places ++ j ∷ [] in if nat_eq (unsigned_abs
 abbrev pub column_in : ℕ → List (List ℤ) → List ℤ
 column_in c rows = map (λ row. number_at row (c + 1)) rows
 
--- each size is one of the numbers in its row
-abbrev pub AreSizesIn : List ℕ → ℕ → List (List ℤ) → Type 0
-AreSizesIn sizes w rows = (i : ℕ) → i < length rows → AreSizes (slice_index_or sizes i 0) (line_in w (row_at rows i)).numbers
+-- each step of the rows but row r, cleared in column c by a pivot line, is within the limit
+abbrev pub AreStepsWithin : ℕ → ℕ → ℕ → Line → ℕ → List (List ℤ) → Type 0
+AreStepsWithin limit c r pivot w rows = (i : ℕ) → i < length rows → (i ≡ r → ⊥) → steps_within limit c pivot (line_in w (row_at rows i)) ≡ true
 
 -- ---- the lines of a turn, the pivot row r being there already
 abbrev pub line_after : ℕ → ℕ → ℕ → List ℤ → ℕ → Line → Line
@@ -67,6 +67,10 @@ pub record IsTurned (w c r : ℕ) (from : List (List ℤ)) (before : List ℤ) (
   pub objective :
       let l = cut (line_in w (row_at from r)) in
       line_in w last ≡ labelled_cleared c (unsigned_abs (number_at l.numbers c)) (turned_in c l) (line_in w before)
+
+-- each step of the rows but row r, by pivot numbers up to `most` whose own is a, is within the limit
+abbrev pub AreStepsBelow : ℕ → ℕ → ℕ → ℕ → ℕ → ℕ → List (List ℤ) → Type 0
+AreStepsBelow limit c a most r w rows = (i : ℕ) → i < length rows → (i ≡ r → ⊥) → step_size (line_size (line_in w (row_at rows i))) (unsigned_abs (number_at (line_in w (row_at rows i)).numbers c)) a most ≤ limit
 
 -- row r is there, and its number in column c is above 0
 pub record IsPivot (w c r : ℕ) (rows : List (List ℤ)) : Type 0 where

@@ -2,13 +2,14 @@
 use Rattle.std.specs.Prelude.{◌≡◌, ℕ, ◌+◌, ◌≤◌, List, [], ◌∷◌, ◌++◌, ℤ, pos, neg_ℤ, length, map, take, if◌then◌else◌, nat_eq, true, Some, None}
 use Rattle.exact_num.specs.Fraction.{Fraction, whole, reduced}
 use Rattle.equal_runs.specs.Compact.{CompactTable}
-use Rattle.equal_runs.specs.Lines.{IsLine, number_at, taken_in, row_taken_in}
+use Rattle.equal_runs.specs.Lines.{IsLine, line_size, number_at, taken_in, row_taken_in, widest}
 use Rattle.equal_runs.specs.WholeRunning.{whole_where_basic}
 use Rattle.equal_runs.specs.Labelled.{LabelledTable, Column, labelled_turn, labelled_turn_fits}
 use Rattle.whole_solver.specs.declared.table.WholeTable.{WholeTable}
 use Rattle.whole_solver.specs.declared.turn.Turn.{Turn}
 use Rattle.whole_solver.specs.declared.turn.Turn.TheVariants.{Moved, Unlimited, GivenUp}
-use Rattle.whole_solver.specs.Rows.{line_in, lines_in, beside_basics, column_in, nonzero_in, AreLinesIn, AreSizesIn}
+use Rattle.whole_solver.specs.Rows.{line_in, lines_in, beside_basics, column_in, nonzero_in}
+use Rattle.whole_solver.specs.Stored.{AreStored, rows_in}
 
 -- as many numbers a line as there are columns, and the right side
 abbrev pub width_of : WholeTable → ℕ
@@ -17,47 +18,45 @@ width_of t = length t.names.items + 1
 abbrev pub table_of : List ℕ → List ℕ → List (List ℤ) → List ℤ → LabelledTable
 table_of names basics rows objective =
     record {
-      columns = length names + length rows;
+      columns = length names + length basics;
       names = names;
       rows = beside_basics basics (lines_in (length names + 1) rows);
       objective = line_in (length names + 1) objective;
     }
 
 abbrev pub as_whole : WholeTable → LabelledTable
-as_whole t = table_of t.names.items t.basics.items t.rows.rows t.objective.items
+as_whole t = table_of t.names.items t.basics.items (rows_in t.rows) t.objective.numbers.items
 
--- each row is within the bound, and its numbers within the size that is kept with it. The objective row is within the limit
--- and within its own size
-pub record IsWithin (bound limit : ℕ) (t : WholeTable) : Type 0 where
-  pub rows : AreLinesIn bound (width_of t) t.rows.rows
-  pub sizes : AreSizesIn t.sizes.items (width_of t) t.rows.rows
-  pub objective : IsLine limit (width_of t) (line_in (width_of t) t.objective.items)
-  pub objective_size : IsLine t.objective_size (width_of t) (line_in (width_of t) t.objective.items)
+-- each row and the objective row are within the limit, and each is at most the size that is kept with it
+pub record IsWithin (limit : ℕ) (t : WholeTable) : Type 0 where
+  pub rows : AreStored limit (width_of t) t.rows
+  pub objective : IsLine limit (width_of t) (line_in (width_of t) t.objective.numbers.items)
+  pub size : line_size (line_in (width_of t) t.objective.numbers.items) ≤ t.objective.size
 
 -- ---- room
 abbrev pub room_of : WholeTable → ℕ
-room_of t = length t.rows.rows + t.rows.spare
+room_of t = length t.rows.short.rows + t.rows.short.spare
 
 pub record SameRoom (old new : WholeTable) : Type 0 where
   pub rows : room_of new ≡ room_of old
-  pub width : new.rows.width ≡ old.rows.width
+  pub width : new.rows.short.width ≡ old.rows.short.width
 
 pub record SameShape (old new : WholeTable) : Type 0 where
   pub columns : length new.names.items ≡ length old.names.items
-  pub rows : length new.rows.rows ≡ length old.rows.rows
+  pub rows : length new.basics.items ≡ length old.basics.items
   pub room : SameRoom old new
 
 -- ---- count rows are listed: those that are not 0 in column c
 pub record IsListed (c count : ℕ) (t : WholeTable) : Type 0 where
-  pub places : take count t.column_places.items ≡ nonzero_in (column_in c t.rows.rows)
+  pub places : take count t.column_places.items ≡ nonzero_in (column_in c (rows_in t.rows))
   pub inside : count ≤ length t.column_places.items
 
 -- ---- a turn: the table after it, where it is not given up
-abbrev pub IsTurn : ℕ → ℕ → ℕ → Turn → WholeTable → WholeTable → Type 0
-IsTurn bound limit c Moved old new =
-    (labelled_turn c (as_whole old) ≡ Some (as_whole new)) × (labelled_turn_fits limit c (as_whole old) ≡ true) × IsWithin bound limit new
-IsTurn bound limit c Unlimited old new = (labelled_turn c (as_whole old) ≡ None) × (as_whole new ≡ as_whole old) × IsWithin bound limit new
-IsTurn bound limit c GivenUp old new = Unit {0}
+abbrev pub IsTurn : ℕ → ℕ → Turn → WholeTable → WholeTable → Type 0
+IsTurn limit c Moved old new =
+    (labelled_turn c (as_whole old) ≡ Some (as_whole new)) × (labelled_turn_fits limit c (as_whole old) ≡ true) × IsWithin limit new
+IsTurn limit c Unlimited old new = (labelled_turn c (as_whole old) ≡ None) × (as_whole new ≡ as_whole old) × IsWithin limit new
+IsTurn limit c GivenUp old new = Unit {0}
 
 -- ---- the first table: that of a table of fractions whose rows are over common denominators
 abbrev pub taken_from : CompactTable → LabelledTable
@@ -70,12 +69,12 @@ taken_from c =
     }
 
 -- the table with one row more
-pub record HasRow (bound : ℕ) (entries : List Fraction) (basic : ℕ) (old new : WholeTable) : Type 0 where
+pub record HasRow (entries : List Fraction) (basic : ℕ) (old new : WholeTable) : Type 0 where
   pub basics : new.basics.items ≡ old.basics.items ++ basic ∷ []
   pub row : List ℤ
-  pub rows : new.rows.rows ≡ old.rows.rows ++ row ∷ []
+  pub rows : rows_in new.rows ≡ rows_in old.rows ++ row ∷ []
   pub line : line_in (width_of old) row ≡ taken_in entries
-  pub within : IsLine bound (width_of old) (line_in (width_of old) row)
+  pub within : IsLine widest (width_of old) (line_in (width_of old) row)
 
 -- what a step of 1 in the column changes in variable j
 abbrev pub direction_entry : Column → LabelledTable → ℕ → Fraction

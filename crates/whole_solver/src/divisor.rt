@@ -111,7 +111,7 @@ pub fn common_with_wide(size: u128, found: u64) -> u64
 }
 
 /// The same, where `found` may be of 128 bits too, and 0.
-fn common_of_wide(size: u128, found: u128) -> u128
+pub fn common_of_wide(size: u128, found: u128) -> u128
     ensures { result ≡ gcd_of size found }
 {
     if size == 0 {

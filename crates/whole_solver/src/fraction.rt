@@ -6,7 +6,7 @@ ghost use Rattle.equal_runs.specs.Lines.{AreSizes, IsLine, least_multiple as lea
 ghost use Rattle.whole_solver.specs.Rows.{line_in};
 ghost use Rattle.whole_solver.specs.Within.{HasMultiple};
 
-use crate::word::within;
+use crate::word::{WIDEST, within};
 use exact_num::{Exact, gcd};
 
 /// The whole number.
@@ -15,13 +15,6 @@ fn whole<N: Exact>(v: i128) -> N
     ensures { N.fraction result ≡ whole_of v }
 {
     N::from_whole(v).unwrap()
-}
-
-/// The number in 128 bits.
-pub fn wide(number: i64) -> i128
-    ensures { result ≡ number }
-{
-    number as i128
 }
 
 /// The number over the denominator, in lowest terms.
@@ -37,45 +30,44 @@ pub fn fraction<N: Exact>(number: i128, denominator: u128) -> N
     above.div(below).unwrap()
 }
 
-/// The least common multiple of both, where it is within the bound.
-fn multiple(one: u128, other: u64, bound: u64) -> Option<u64>
+/// The least common multiple of both, where 64 bits hold it.
+fn multiple(one: u128, other: u64) -> Option<u64>
     requires one { 0 < one }
-    requires other { (0 < other) × (other ≤ bound) }
-    ensures { IfSome result (λ m. (m ≡ multiple_of one other) × (0 < m) × (m ≤ bound)) }
+    requires other { (0 < other) × (other ≤ widest) }
+    ensures { IfSome result (λ m. (m ≡ multiple_of one other) × (0 < m) × (m ≤ widest)) }
 {
     if one == 1 {
         return Some(other);
     }
-    if one > bound as u128 {
+    if one > WIDEST {
         return None;
     }
     let shared = gcd(one, other as u128);
     let product = one * (other as u128 / shared);
-    if product <= bound as u128 {
+    if product <= WIDEST {
         Some(product as u64)
     } else {
         None
     }
 }
 
-/// The least common multiple of the denominator and `found`, where it is within the bound.
-fn with_denominator<N: Exact>(entry: N, found: u64, bound: u64) -> Option<u64>
-    requires { (0 < found) × (found ≤ bound) }
+/// The least common multiple of the denominator and `found`, where 64 bits hold it.
+fn with_denominator<N: Exact>(entry: N, found: u64) -> Option<u64>
+    requires { (0 < found) × (found ≤ widest) }
     ensures { IfSome result (λ m. (m ≡ multiple_of (N.fraction entry).denominator found)
-        × (0 < m) × (m ≤ bound)) }
+        × (0 < m) × (m ≤ widest)) }
 {
     let (_, below) = entry.parts();
-    multiple(below as u128, found, bound)
+    multiple(below as u128, found)
 }
 
-/// The least common multiple of the denominators, where it is within the bound.
-fn least_multiple<N: Exact>(entries: &[N], bound: u64) -> Option<u64>
-    requires { 1 ≤ bound }
-    ensures { IfSome result (HasMultiple bound (least_multiple_of (map N.fraction entries.now))) }
+/// The least common multiple of the denominators, where 64 bits hold it.
+fn least_multiple<N: Exact>(entries: &[N]) -> Option<u64>
+    ensures { IfSome result (HasMultiple (least_multiple_of (map N.fraction entries.now))) }
 {
     let mut found = 1;
     for j in (0..entries.len()).rev() {
-        let Some(next) = with_denominator(entries[j], found, bound) else {
+        let Some(next) = with_denominator(entries[j], found) else {
             return None;
         };
         found = next;
@@ -83,33 +75,31 @@ fn least_multiple<N: Exact>(entries: &[N], bound: u64) -> Option<u64>
     Some(found)
 }
 
-/// What the fraction is over the denominator, which its own divides, where it is within the bound.
-fn amount<N: Exact>(entry: N, denominator: u64, bound: u64) -> Option<i64>
-    requires { bound ≤ widest }
+/// What the fraction is over the denominator, which its own divides, where 64 bits hold it.
+fn amount<N: Exact>(entry: N, denominator: u64) -> Option<i64>
     ensures { IfSome result (λ z. (z ≡ amount_over denominator (N.fraction entry))
-        × (unsigned_abs z ≤ bound)) }
+        × (unsigned_abs z ≤ widest)) }
 {
     let (above, below) = entry.parts();
     if below as u128 == denominator as u128 {
-        return within(above, bound);
+        return within(above);
     }
     let share = denominator as u128 / below as u128;
     let Some(number) = above.checked_mul(share as i128) else {
         return None;
     };
-    within(number, bound)
+    within(number)
 }
 
-/// Writes what each fraction is over the denominator, and says whether all are within the bound.
-fn write_amounts<N: Exact>(numbers: &mut [i64], entries: &[N], denominator: u64, bound: u64) -> bool
+/// Writes what each fraction is over the denominator, and says whether 64 bits hold all.
+fn write_amounts<N: Exact>(numbers: &mut [i64], entries: &[N], denominator: u64) -> bool
     requires width { length numbers.old ≡ length entries.now }
-    requires bound { bound ≤ widest }
     ensures amounts { result ≡ true
         → numbers.new ≡ signed_amounts_over denominator (map N.fraction entries.now) }
-    ensures sizes { result ≡ true → AreSizes bound numbers.new }
+    ensures sizes { result ≡ true → AreSizes widest numbers.new }
 {
     for j in 0..numbers.len() {
-        let Some(number) = amount(entries[j], denominator, bound) else {
+        let Some(number) = amount(entries[j], denominator) else {
             return false;
         };
         numbers[j] = number;
@@ -117,18 +107,17 @@ fn write_amounts<N: Exact>(numbers: &mut [i64], entries: &[N], denominator: u64,
     true
 }
 
-/// Writes the line of the fractions to the front of a row, and says whether it is within the bound.
-pub fn take_line<N: Exact>(row: &mut [i64], entries: &[N], bound: u64) -> bool
+/// Writes the line of the fractions to the front of a row, and says whether 64 bits hold it.
+pub fn take_line<N: Exact>(row: &mut [i64], entries: &[N]) -> bool
     requires width { length entries.now < length row.old }
-    requires bound { (1 ≤ bound) × (bound ≤ widest) }
     ensures line { result ≡ true
         → line_in (length entries.now) row.new ≡ taken_in (map N.fraction entries.now) }
     ensures within { result ≡ true
-        → IsLine bound (length entries.now) (line_in (length entries.now) row.new) }
+        → IsLine widest (length entries.now) (line_in (length entries.now) row.new) }
 {
-    let Some(denominator) = least_multiple(entries, bound) else {
+    let Some(denominator) = least_multiple(entries) else {
         return false;
     };
     row[0] = denominator as i64;
-    write_amounts(&mut row[1..entries.len() + 1], entries, denominator, bound)
+    write_amounts(&mut row[1..entries.len() + 1], entries, denominator)
 }

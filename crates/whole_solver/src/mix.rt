@@ -1,20 +1,20 @@
-//! One kernel for lines of any word: a line times a number, less a multiple of the pivot row.
+//! One kernel for lines and pivot rows of any word: a line times a number, less a multiple of the
+//! pivot row.
 ghost use Rattle.std.specs.Prelude.{◌≡◌, ℕ, ◌<◌, ◌≤◌, ◌≤ℤ◌, ◌+◌, ◌*◌, ◌-ℤ◌, ◌*ℤ◌, pos, unsigned_abs, length, map, slice_set};
 ghost use Rattle.equal_runs.specs.Lines.{number_at};
 ghost use Rattle.equal_runs.specs.WholeTurning.{cross_difference};
 ghost use Rattle.whole_solver.specs.Rows.{nonzero_in};
 ghost use Rattle.whole_solver.specs.Within.{HasRoom};
 
-use crate::word::Word;
+use crate::word::{Widen, Word};
 
 /// A turn to be made: the row r that leaves, the column `c` that enters with the places where it is
-/// not 0, the bound of the rows and the limit of the objective row.
+/// not 0, and the limit of each step.
 #[derive(Clone, Copy)]
 pub struct Step<'a> {
     pub r: usize,
     pub c: usize,
     pub column_places: &'a [usize],
-    pub bound: u64,
     pub limit: u128,
 }
 
@@ -23,15 +23,15 @@ pub struct Step<'a> {
 #[derive(Clone, Copy)]
 pub struct Known<'a> {
     pub step: Step<'a>,
-    pub a: u64,
-    pub most: u64,
+    pub a: u128,
+    pub most: u128,
     pub places: &'a [usize],
 }
 
 /// A pivot row: its numbers, and what is known of them.
 #[derive(Clone, Copy)]
-pub struct Pivot<'a> {
-    pub numbers: &'a [i64],
+pub struct Pivot<'a, P> {
+    pub numbers: &'a [P],
     pub known: Known<'a>,
 }
 
@@ -58,26 +58,27 @@ fn multiply<W: Word>(numbers: &mut [W], p: W)
 }
 
 /// Takes `f` times the number of the pivot row from that of the line, both at place j.
-fn subtract_at<W: Word>(numbers: &mut [W], pivot: &[i64], f: W, j: usize)
+fn subtract_at<W: Word, P: Widen<W>>(numbers: &mut [W], pivot: &[P], f: W, j: usize)
     requires inside { (j < length numbers.old) × (j < length pivot.now) }
     requires room { unsigned_abs (number_at (map W.value numbers.old) j)
-        + unsigned_abs (W.value f) * unsigned_abs (number_at pivot.now j) ≤ W.held }
+        + unsigned_abs (W.value f) * unsigned_abs (number_at (map P.value pivot.now) j) ≤ W.held }
     ensures { map W.value numbers.new ≡ slice_set (map W.value numbers.old) j
-        (number_at (map W.value numbers.old) j -ℤ (W.value f *ℤ number_at pivot.now j)) }
+        (number_at (map W.value numbers.old) j
+        -ℤ (W.value f *ℤ number_at (map P.value pivot.now) j)) }
 {
-    let number = numbers[j].less_product(f, W::from_short(pivot[j]));
+    let number = numbers[j].less_product(f, pivot[j].widen());
     numbers[j] = number;
 }
 
 /// Takes `f` times the numbers of the pivot row from these, where words hold each step. `places`
 /// are those where the pivot row is not 0: the numbers elsewhere stay.
-fn subtract_multiple<W: Word>(numbers: &mut [W], pivot: &[i64], places: &[usize], f: W)
+fn subtract_multiple<W: Word, P: Widen<W>>(numbers: &mut [W], pivot: &[P], places: &[usize], f: W)
     requires width { length numbers.old ≡ length pivot.now }
-    requires places { places.now ≡ nonzero_in pivot.now }
+    requires places { places.now ≡ nonzero_in (map P.value pivot.now) }
     requires room { HasRoom W.held 1 (unsigned_abs (W.value f))
-        (map W.value numbers.old) pivot.now }
+        (map W.value numbers.old) (map P.value pivot.now) }
     ensures { map W.value numbers.new
-        ≡ cross_difference 1 (W.value f) (map W.value numbers.old) pivot.now }
+        ≡ cross_difference 1 (W.value f) (map W.value numbers.old) (map P.value pivot.now) }
 {
     for place in places {
         subtract_at(numbers, pivot, f, *place);
@@ -85,15 +86,16 @@ fn subtract_multiple<W: Word>(numbers: &mut [W], pivot: &[i64], places: &[usize]
 }
 
 /// The numbers times `p`, less `f` times those of the pivot row, where words hold each step.
-pub fn mix<W: Word>(numbers: &mut [W], pivot: Pivot, factors: Factors<W>)
+pub fn mix<W: Word, P: Widen<W>>(numbers: &mut [W], pivot: Pivot<P>, factors: Factors<W>)
     requires width { length numbers.old ≡ length pivot.numbers.now }
-    requires places { pivot.known.places.now ≡ nonzero_in pivot.numbers.now }
+    requires places { pivot.known.places.now ≡ nonzero_in (map P.value pivot.numbers.now) }
     requires positive { pos 0 ≤ℤ W.value factors.p }
     requires room { HasRoom W.held (unsigned_abs (W.value factors.p))
-        (unsigned_abs (W.value factors.f)) (map W.value numbers.old) pivot.numbers.now }
+        (unsigned_abs (W.value factors.f)) (map W.value numbers.old)
+        (map P.value pivot.numbers.now) }
     ensures { map W.value numbers.new
         ≡ cross_difference (unsigned_abs (W.value factors.p)) (W.value factors.f)
-        (map W.value numbers.old) pivot.entry.numbers.now }
+        (map W.value numbers.old) (map P.value pivot.entry.numbers.now) }
 {
     let Factors { p, f } = factors;
     multiply(numbers, p);

@@ -1,350 +1,646 @@
-//! The rows of a turn in an arena. A row is its denominator and then its numbers, the right side
-//! last.
-ghost use Rattle.std.specs.Prelude.{◌≡◌, ◌+◌, ◌-◌, ◌*◌, ◌^◌, ◌<◌, ◌≤◌, false, length, pos, true, unsigned_abs, slice_set, take};
-ghost use Rattle.equal_runs.specs.Lines.{AreSizes, IsLine, line_size, number_at, widest};
+//! The rows of a table, each in 64 bits where these hold it and else in 128.
+ghost use Rattle.std.specs.Prelude.{◌≡◌, ◌≢◌, ◌+◌, ◌-◌, ◌^◌, ◌<◌, ◌≤◌, ℕ, IfOk, [], ◌∷◌, ◌++◌, false, length, pos, take, true, unsigned_abs, slice_set, vec_len};
+ghost use Rattle.compact_table.specs.Candidates.{best_with};
+ghost use Rattle.equal_runs.specs.Lines.{IsLine, line_of, line_size, number_at, widest};
 ghost use Rattle.equal_runs.specs.Labelled.{labelled_cleared};
-ghost use Rattle.equal_runs.specs.WholeTurning.{cut, step_size, steps_within};
-ghost use Rattle.whole_solver.specs.Rows.{AreLinesIn, AreSizesIn, IsPivot, IsTurned, column_in, line_in, lines_after, lines_in, nonzero_in, pivot_line, row_at};
+ghost use Rattle.equal_runs.specs.WholeTurning.{cut, step_size, steps_within, whole_ratios};
+ghost use Rattle.whole_solver.specs.Rows.{AreStepsBelow, AreStepsWithin, IsPivot, IsTurned, beside_basics, column_in, line_in, lines_after, lines_in, nonzero_in, pivot_line, row_at};
 
-use crate::divisor::{common_short, divide_numbers};
-use crate::line::{clear_line, list_nonzero, list_place, size_of};
-use crate::mix::{Known, Pivot, Step};
-use crate::wide::clear_wide_line;
+use crate::front::{
+    clear_front, clear_wide_front, cut_front, cut_wide_front, exchange_denominator, front_nonzero,
+    narrow_front, widen_front, write_front, write_front_signs,
+};
+use crate::line::{list_place, size_of};
+use crate::mix::{Known, Step};
+use crate::objective::Objective;
+use crate::outcome::Cleared;
+use crate::ratios::{Candidate, better};
+use crate::wide::wide_size;
+use crate::word::WIDEST;
 use lists::RowArena;
+use std::alloc::{AllocError, Global};
 
-/// Brings the line of so many numbers at the front of the row to lowest terms.
-fn cut_front(row: &mut [i64], width: usize)
-    requires width { width < length row.old }
-    requires line { IsLine widest width (line_in width row.old) }
-    ensures { line_in width row.new ≡ cut (line_in width row.old) }
+/// The rows of a table. A row is its denominator and then its numbers, the right side last: of 64
+/// bits, or of 128 where it is wide. All memory is taken when the rows are made.
+#[derive(Drop)]
+pub struct Rows {
+    // the short rows: of a wide row its signs, which the choices of a turn read first
+    short: RowArena<i64>,
+    // room for each row to be wide
+    wide: RowArena<i128>,
+    is_wide: Vec<bool>,
+    // of each row a size that neither its denominator nor one of its numbers is above
+    sizes: Vec<u128>,
+    ghost wide_count: { length wide.rows ≡ length short.rows + short.spare },
+    ghost wide_width: { wide.width ≡ short.width },
+    ghost is_wide_count: { vec_len is_wide ≡ length short.rows + short.spare },
+    ghost sizes_count: { vec_len sizes ≡ length short.rows + short.spare },
+}
+
+/// An arena of so many rows, all 0.
+fn zero_rows(alloc: Global, rows: usize, width: usize) -> Result<RowArena<i128>, AllocError>
+    requires { (1 ≤ width) × (width ≤ 1048576) }
+    ensures { IfOk result (λ arena. (length arena.rows ≡ rows) × (arena.width ≡ width)) }
 {
-    let denominator = row[0].unsigned_abs();
-    let numbers = &mut row[1..width + 1];
-    let divisor = common_short(denominator, numbers);
-    if divisor == 1 {
-        return;
+    let mut arena = RowArena::new(alloc, width);
+    arena.reserve(rows)?;
+    let row = vec![in alloc; 0_i128; width]?;
+    for _ in 0..rows {
+        arena.append(row.as_slice());
     }
-    divide_numbers(numbers, divisor);
-    row[0] = (denominator / divisor) as i64;
+    Ok(arena)
 }
 
-/// Exchanges the denominator and the number in column `c`.
-fn exchange_denominator(row: &mut [i64], c: usize)
-    requires column { c + 1 < length row.old }
-    requires below { unsigned_abs (number_at row.old 0) ≤ widest }
-    ensures { row.new ≡ slice_set (slice_set row.old 0 (number_at row.old (c + 1))) (c + 1)
-        (pos (unsigned_abs (number_at row.old 0))) }
-{
-    let below = row[0].unsigned_abs() as i64;
-    row[0] = row[c + 1];
-    row[c + 1] = below;
-}
+impl Rows {
+    ghost use Rattle.whole_solver.specs.Stored.{AreStored, IsKnown, IsStored, IsWrittenAt, SameCounts, is_wide_at, rows_in, size_at};
 
-/// The row that leaves becomes the pivot row: in lowest terms its numbers stand over the one in
-/// column `c`, in whose place the old denominator comes. Its line has `width` numbers.
-fn take_pivot(row: &mut [i64], width: usize, c: usize)
-    requires column { c < width }
-    requires width { width < length row.old }
-    requires line { IsLine widest width (line_in width row.old) }
-    ensures { line_in width row.new ≡ pivot_line c
-        (unsigned_abs (number_at (cut (line_in width row.old)).numbers c))
-        (cut (line_in width row.old)) }
-{
-    cut_front(row, width);
-    exchange_denominator(row, c);
-}
-
-/// Row r becomes the pivot row, and its denominator is answered.
-fn place_pivot(rows: &mut RowArena<i64>, width: usize, r: usize, c: usize) -> u64
-    requires column { c < width }
-    requires width { width < rows.old.width }
-    requires row { r < length rows.old.rows }
-    requires line { IsLine widest width (line_in width (row_at rows.old.rows r)) }
-    ensures pivot { line_in width (row_at rows.new.rows r)
-        ≡ pivot_line c result (cut (line_in width (row_at rows.old.rows r))) }
-    ensures denominator { result
-        ≡ unsigned_abs (number_at (cut (line_in width (row_at rows.old.rows r))).numbers c) }
-    ensures rows { rows.new.rows ≡ slice_set rows.old.rows r (row_at rows.new.rows r) }
-    ensures width { rows.new.width ≡ rows.old.width }
-    ensures spare { rows.new.spare ≡ rows.old.spare }
-    ensures count { length rows.new.rows ≡ length rows.old.rows }
-{
-    take_pivot(rows.row_mut(r), width, c);
-    rows.row(r)[0].unsigned_abs()
-}
-
-/// A size that neither the denominator nor one of the numbers at the front of the row is above.
-fn front_size(row: &[i64], width: usize) -> u64
-    requires { width < length row.now }
-    ensures numbers { AreSizes result (line_in width row.now).numbers }
-    ensures denominator { (line_in width row.now).denominator ≤ result }
-{
-    size_of(&row[..width + 1])
-}
-
-/// Lists the places where the numbers at the front of the row are not 0, and answers how many they
-/// are.
-fn front_nonzero(row: &[i64], width: usize, places: &mut [usize]) -> usize
-    requires width { width < length row.now }
-    requires room { width ≤ length places.old }
-    ensures places { take result places.new ≡ nonzero_in (line_in width row.now).numbers }
-    ensures count { result ≤ length places.new }
-{
-    list_nonzero(&row[1..width + 1], places)
-}
-
-/// Clears the pivot's column of the line at the front of the row, and says whether it is within the
-/// bound. Its numbers are at most `most`, which is kept so. `room` has as many places as the line
-/// has numbers.
-fn clear_sized(
-    row: &mut [i64],
-    most: &mut u64,
-    pivot: &[i64],
-    known: Known,
-    room: &mut [i128],
-) -> bool
-    requires column { known.step.c < length room.old }
-    requires widths { (length room.old < length row.old) × (length room.old < length pivot.now) }
-    requires bound { known.step.bound ≤ widest }
-    requires sizes { AreSizes most.old (line_in (length room.old) row.old).numbers }
-    requires pivot { AreSizes known.step.bound (line_in (length room.old) pivot.now).numbers }
-    requires pivot_sizes { AreSizes known.most (line_in (length room.old) pivot.now).numbers }
-    requires places { known.places.now ≡ nonzero_in (line_in (length room.old) pivot.now).numbers }
-    requires above { (0 < known.a) × (known.a ≤ known.step.bound) }
-    requires line { IsLine known.step.bound (length room.old) (line_in (length room.old) row.old) }
-    ensures cleared { result ≡ true → line_in (length room.old) row.new
-        ≡ labelled_cleared known.entry.step.c known.entry.a
-        (line_in (length room.old) pivot.now).numbers
-        (line_in (length room.old) row.old) }
-    ensures line { result ≡ true
-        → IsLine known.entry.step.bound (length room.old) (line_in (length room.old) row.new) }
-    ensures sizes { result ≡ true
-        → AreSizes most.new (line_in (length room.old) row.new).numbers }
-{
-    let width = room.len();
-    let denominator = row[0].unsigned_abs();
-    let numbers = &mut row[1..width + 1];
-    let pivot = Pivot {
-        numbers: &pivot[1..width + 1],
-        known,
-    };
-    let Some(below) = clear_line(denominator, numbers, most, pivot, room) else {
-        return false;
-    };
-    row[0] = below as i64;
-    true
-}
-
-/// Clears the pivot's column of the objective row, where the sizes of both rows say that each step
-/// is within the limit, and says whether they do. The row is at most `kept`, which is kept so.
-fn clear_objective(
-    objective: &mut [i128],
-    kept: &mut u128,
-    pivot: &[i64],
-    known: Known,
-    width: usize,
-) -> bool
-    requires column { known.step.c < width }
-    requires widths { (width < length objective.old) × (width < length pivot.now) }
-    requires pivot { AreSizes known.most (line_in width pivot.now).numbers }
-    requires places { known.places.now ≡ nonzero_in (line_in width pivot.now).numbers }
-    requires above { 0 < known.a }
-    requires below { known.a ≤ widest }
-    requires limit { known.step.limit ≤ 2 ^ 127 - 1 }
-    requires line { IsLine known.step.limit width (line_in width objective.old) }
-    requires kept { IsLine kept.old width (line_in width objective.old) }
-    ensures fits { result ≡ true → step_size (line_size (line_in width objective.old))
-        (unsigned_abs (number_at (line_in width objective.old).numbers known.entry.step.c))
-        known.entry.a known.entry.most ≤ known.entry.step.limit }
-    ensures cleared { result ≡ true → line_in width objective.new
-        ≡ labelled_cleared known.entry.step.c known.entry.a (line_in width pivot.now).numbers
-        (line_in width objective.old) }
-    ensures line { result ≡ true
-        → IsLine known.entry.step.limit width (line_in width objective.new) }
-    ensures kept { result ≡ true → IsLine kept.new width (line_in width objective.new) }
-{
-    let denominator = objective[0].unsigned_abs();
-    let numbers = &mut objective[1..width + 1];
-    let pivot = Pivot {
-        numbers: &pivot[1..width + 1],
-        known,
-    };
-    let Some(below) = clear_wide_line(denominator, numbers, kept, pivot) else {
-        return false;
-    };
-    objective[0] = below as i128;
-    true
-}
-
-/// Lists the rows that are not 0 in column `c`, and answers how many they are.
-pub fn list_column(rows: &RowArena<i64>, c: usize, places: &mut [usize]) -> usize
-    requires column { c + 1 < rows.now.width }
-    requires room { length rows.now.rows ≤ length places.old }
-    ensures places { take result places.new ≡ nonzero_in (column_in c rows.now.rows) }
-    ensures count { result ≤ length places.new }
-{
-    let mut count = 0;
-    for i in 0..rows.len() {
-        count = list_place(places, count, i, rows.row(i)[c + 1]);
+    /// No rows, and room for as many of as many numbers each, the denominator among them.
+    pub fn with_room(alloc: Global, rows: usize, width: usize) -> Result<Rows, AllocError>
+        requires { (1 ≤ width) × (width ≤ 1048576) }
+        ensures rows { IfOk result (λ made. (made.short.rows ≡ []) × (rows ≤ made.short.spare)) }
+        ensures width { IfOk result (λ made. made.short.width ≡ width) }
+    {
+        let mut short = RowArena::new(alloc, width);
+        short.reserve(rows)?;
+        let wide = zero_rows(alloc, short.spare(), width)?;
+        let is_wide = vec![in alloc; false; short.spare()]?;
+        let sizes = vec![in alloc; 0_u128; short.spare()]?;
+        Ok(Rows {
+            short,
+            wide,
+            is_wide,
+            sizes,
+        })
     }
-    count
-}
 
-/// Clears each row but the pivot row r, up to the first that is not within the bound, and says
-/// whether all are. The size that is kept with a row goes with it. `column_places` are the rows
-/// that are not 0 in the column: the others stay.
-fn clear_rows(rows: &mut RowArena<i64>, sizes: &mut [u64], known: Known, room: &mut [i128]) -> bool
-    requires row { known.step.r < length rows.old.rows }
-    requires column { known.step.c < length room.old }
-    requires width { length room.old < rows.old.width }
-    requires bound { known.step.bound ≤ widest }
-    requires above { (0 < known.a) × (known.a ≤ known.step.bound) }
-    requires lines { AreLinesIn known.step.bound (length room.old) rows.old.rows }
-    requires sizes { AreSizesIn sizes.old (length room.old) rows.old.rows }
-    requires count { length rows.old.rows ≤ length sizes.old }
-    requires column_places { known.step.column_places.now
-        ≡ nonzero_in (column_in known.step.c rows.old.rows) }
-    requires pivot { AreSizes known.most
-        (line_in (length room.old) (row_at rows.old.rows known.step.r)).numbers }
-    requires places { known.places.now
-        ≡ nonzero_in (line_in (length room.old) (row_at rows.old.rows known.step.r)).numbers }
-    ensures cleared { result ≡ true → lines_in (length room.old) rows.new.rows
-        ≡ lines_after known.entry.step.c known.entry.a known.entry.step.r
-        (line_in (length room.old) (row_at rows.old.rows known.entry.step.r)).numbers 0
-        (lines_in (length room.old) rows.old.rows) }
-    ensures lines { result ≡ true
-        → AreLinesIn known.entry.step.bound (length room.old) rows.new.rows }
-    ensures sizes { result ≡ true → AreSizesIn sizes.new (length room.old) rows.new.rows }
-    ensures width { rows.new.width ≡ rows.old.width }
-    ensures spare { rows.new.spare ≡ rows.old.spare }
-    ensures count { length rows.new.rows ≡ length rows.old.rows }
-{
-    let Step {
-        r,
-        column_places,
-        ..
-    } = known.step;
-    for place in column_places {
-        let i = *place;
-        if i != r {
-            let (pivot, row) = rows.pair(r, i);
-            let mut most = sizes[i];
-            if !clear_sized(row, &mut most, pivot, known, room) {
-                return false;
-            }
-            sizes[i] = most;
+    /// The number of rows.
+    pub fn len(&self) -> usize
+        ensures { result ≡ length self.now.short.rows }
+    {
+        self.short.len()
+    }
+
+    /// How many more rows have room.
+    pub fn spare(&self) -> usize
+        ensures { result ≡ self.now.short.spare }
+    {
+        self.short.spare()
+    }
+
+    /// How many numbers a row has room for, the denominator among them.
+    pub fn width(&self) -> usize
+        ensures { result ≡ self.now.short.width }
+    {
+        self.short.width()
+    }
+
+    /// Releases all rows.
+    pub fn clear(&mut self)
+        ensures rows { self.new.short.rows ≡ [] }
+        ensures room { self.new.short.spare ≡ length self.old.short.rows + self.old.short.spare }
+        ensures width { self.new.short.width ≡ self.old.short.width }
+    {
+        self.short.release_from(0);
+    }
+
+    /// Adds a row, which 64 bits hold in either sign.
+    pub fn append(&mut self, row: &[i64])
+        requires spare { 0 < self.old.short.spare }
+        requires width { length row.now ≡ self.old.short.width }
+        ensures rows { rows_in self.new ≡ rows_in self.old ++ row.now ∷ [] }
+        ensures stored { (limit w : ℕ) → AreStored limit w self.old → widest ≤ limit
+            → IsLine widest w (line_in w row.now) → AreStored limit w self.new }
+        ensures count { length self.new.short.rows ≡ length self.old.short.rows + 1 }
+        ensures spare { self.new.short.spare + 1 ≡ self.old.short.spare }
+        ensures same_width { self.new.short.width ≡ self.old.short.width }
+    {
+        let i = self.short.len();
+        self.short.append(row);
+        self.is_wide[i] = false;
+        self.sizes[i] = WIDEST;
+    }
+
+    /// The number at place k of a row, its denominator at place 0.
+    pub fn number(&self, i: usize, k: usize) -> i128
+        requires row { i < length self.now.short.rows }
+        requires place { k < self.now.short.width }
+        ensures { result ≡ number_at (row_at (rows_in self.now) i) k }
+    {
+        if self.is_wide[i] {
+            self.wide.row(i)[k]
+        } else {
+            self.short.row(i)[k] as i128
         }
     }
-    true
-}
 
-/// The rows of a turn and the objective row, and the sizes that are kept with them. Says whether
-/// the rows are within the bound and the objective row within the limit. `room` has as many places
-/// as a line has numbers, and `places` no fewer.
-fn turn_lines(
-    rows: &mut RowArena<i64>,
-    sizes: &mut [u64],
-    objective: &mut [i128],
-    objective_size: &mut u128,
-    places: &mut [usize],
-    room: &mut [i128],
-    step: Step,
-) -> bool
-    requires column { step.c < length room.old }
-    requires widths { (length room.old < rows.old.width)
-        × (length room.old < length objective.old) }
-    requires bound { step.bound ≤ widest }
-    requires limit { step.limit ≤ 2 ^ 127 - 1 }
-    requires pivot { IsPivot (length room.old) step.c step.r rows.old.rows }
-    requires column_places { step.column_places.now ≡ nonzero_in (column_in step.c rows.old.rows) }
-    requires lines { AreLinesIn step.bound (length room.old) rows.old.rows }
-    requires sizes { AreSizesIn sizes.old (length room.old) rows.old.rows }
-    requires count { length rows.old.rows ≤ length sizes.old }
-    requires places { length room.old ≤ length places.old }
-    requires objective { IsLine step.limit (length room.old)
-        (line_in (length room.old) objective.old) }
-    requires objective_size { IsLine objective_size.old (length room.old)
-        (line_in (length room.old) objective.old) }
-    ensures fits { result ≡ true → steps_within step.entry.limit step.entry.c
-        (cut (line_in (length room.old) (row_at rows.old.rows step.entry.r)))
-        (line_in (length room.old) objective.old) ≡ true }
-    ensures turned { result ≡ true → IsTurned (length room.old) step.entry.c step.entry.r
-        rows.old.rows objective.old rows.new.rows objective.new }
-    ensures lines { result ≡ true → AreLinesIn step.entry.bound (length room.old) rows.new.rows }
-    ensures sizes { result ≡ true → AreSizesIn sizes.new (length room.old) rows.new.rows }
-    ensures objective { result ≡ true
-        → IsLine step.entry.limit (length room.old) (line_in (length room.old) objective.new) }
-    ensures objective_size { result ≡ true → IsLine objective_size.new (length room.old)
-        (line_in (length room.old) objective.new) }
-    ensures width { rows.new.width ≡ rows.old.width }
-    ensures spare { rows.new.spare ≡ rows.old.spare }
-    ensures count { length rows.new.rows ≡ length rows.old.rows }
-{
-    let Step { r, c, .. } = step;
-    let a = place_pivot(rows, room.len(), r, c);
-    let pivot = rows.row(r);
-    let pivot_most = front_size(pivot, room.len());
-    sizes[r] = pivot_most;
-    let count = front_nonzero(pivot, room.len(), places);
-    let places = &places[..count];
-    let known = Known {
-        step,
-        a,
-        most: pivot_most,
-        places,
-    };
-    if !clear_objective(objective, objective_size, pivot, known, room.len()) {
-        return false;
+    /// Lists the rows that are not 0 in column `c`, and answers how many they are.
+    pub fn list_column(&self, c: usize, places: &mut [usize]) -> usize
+        requires column { c + 1 < self.now.short.width }
+        requires room { length self.now.short.rows ≤ length places.old }
+        requires stored { (limit : ℕ) × (w : ℕ) × (c < w) × AreStored limit w self.now }
+        ensures places { take result places.new ≡ nonzero_in (column_in c (rows_in self.now)) }
+        ensures count { result ≤ length places.new }
+    {
+        let mut count = 0;
+        for i in 0..self.len() {
+            count = list_place(places, count, i, self.short.row(i)[c + 1]);
+        }
+        count
     }
-    clear_rows(rows, sizes, known, room)
-}
 
-/// The same, where a line has `width` numbers and there is room for more.
-pub fn turn_rows(
-    rows: &mut RowArena<i64>,
-    sizes: &mut [u64],
-    objective: &mut [i128],
-    objective_size: &mut u128,
-    places: &mut [usize],
-    room: &mut [i128],
-    width: usize,
-    step: Step,
-) -> bool
-    requires column { step.c < width }
-    requires room { width ≤ length room.old }
-    requires widths { (width < rows.old.width) × (width < length objective.old) }
-    requires bound { step.bound ≤ widest }
-    requires limit { step.limit ≤ 2 ^ 127 - 1 }
-    requires pivot { IsPivot width step.c step.r rows.old.rows }
-    requires column_places { step.column_places.now ≡ nonzero_in (column_in step.c rows.old.rows) }
-    requires lines { AreLinesIn step.bound width rows.old.rows }
-    requires sizes { AreSizesIn sizes.old width rows.old.rows }
-    requires count { length rows.old.rows ≤ length sizes.old }
-    requires places { width ≤ length places.old }
-    requires objective { IsLine step.limit width (line_in width objective.old) }
-    requires objective_size { IsLine objective_size.old width (line_in width objective.old) }
-    ensures fits { result ≡ true → steps_within step.entry.limit step.entry.c
-        (cut (line_in width (row_at rows.old.rows step.entry.r)))
-        (line_in width objective.old) ≡ true }
-    ensures turned { result ≡ true → IsTurned width step.entry.c step.entry.r
-        rows.old.rows objective.old rows.new.rows objective.new }
-    ensures lines { result ≡ true → AreLinesIn step.entry.bound width rows.new.rows }
-    ensures sizes { result ≡ true → AreSizesIn sizes.new width rows.new.rows }
-    ensures objective { result ≡ true
-        → IsLine step.entry.limit width (line_in width objective.new) }
-    ensures objective_size { result ≡ true
-        → IsLine objective_size.new width (line_in width objective.new) }
-    ensures width { rows.new.width ≡ rows.old.width }
-    ensures spare { rows.new.spare ≡ rows.old.spare }
-    ensures count { length rows.new.rows ≡ length rows.old.rows }
-{
-    turn_lines(
-        rows,
-        sizes,
-        objective,
-        objective_size,
-        places,
-        &mut room[..width],
-        step,
-    )
+    /// Row i of `width` numbers, which limits the variable of column `c`: `basic` is basic in it.
+    fn candidate(&self, i: usize, basic: usize, width: usize, c: usize) -> Candidate
+        requires row { i < length self.now.short.rows }
+        requires widths { (c < width) × (width < self.now.short.width) }
+        ensures place { result.place ≡ i }
+        ensures basic { result.basic ≡ basic }
+        ensures right_side { result.right_side ≡ number_at (row_at (rows_in self.now) i) width }
+        ensures entry { result.entry
+            ≡ unsigned_abs (number_at (row_at (rows_in self.now) i) (c + 1)) }
+    {
+        Candidate {
+            place: i,
+            basic,
+            right_side: self.number(i, width),
+            entry: self.number(i, c + 1).unsigned_abs(),
+        }
+    }
+
+    /// The place of the row that leaves where column `c` enters: of the rows of least ratio that
+    /// with the smallest basic variable. None where no row limits the variable. `places` are the
+    /// rows that are not 0 in the column.
+    pub fn leaving(
+        &self,
+        basics: &[usize],
+        places: &[usize],
+        columns: usize,
+        c: usize,
+    ) -> Option<usize>
+        requires count { length basics.now ≡ length self.now.short.rows }
+        requires columns { (c < columns) × (columns + 1 < self.now.short.width) }
+        requires stored { (limit : ℕ) × AreStored limit (columns + 1) self.now }
+        requires places { places.now ≡ nonzero_in (column_in c (rows_in self.now)) }
+        ensures { result ≡ best_with None (whole_ratios columns c 0
+            (beside_basics basics.now (lines_in (columns + 1) (rows_in self.now)))) }
+    {
+        let mut best: Option<Candidate> = None;
+        for place in places {
+            let i = *place;
+            let sign = self.short.row(i)[c + 1];
+            if sign > 0 {
+                let next = self.candidate(i, basics[i], columns + 1, c);
+                best = Some(better(best, next));
+            }
+        }
+        match best {
+            None => None,
+            Some(least) => Some(least.place),
+        }
+    }
+
+    /// A wide row of `width` numbers, which 64 bits hold, becomes short.
+    fn narrow_row(&mut self, i: usize, width: usize)
+        requires row { i < length self.old.short.rows }
+        requires width { width < self.old.short.width }
+        requires wide { is_wide_at self.old i ≡ true }
+        requires line { IsLine widest width (line_in width (row_at self.old.wide.rows i)) }
+        requires size { line_size (line_in width (row_at self.old.wide.rows i))
+            ≤ size_at self.old i }
+        requires size_short { size_at self.old i < 2 ^ 64 }
+        ensures line { line_in width (row_at (rows_in self.new) i)
+            ≡ line_in width (row_at (rows_in self.old) i) }
+        ensures written { IsWrittenAt width i self.old self.new }
+    {
+        narrow_front(self.short.row_mut(i), self.wide.row(i), width);
+        self.is_wide[i] = false;
+    }
+
+    /// A row of `width` numbers becomes wide, where it is not.
+    fn widen_row(&mut self, i: usize, width: usize)
+        requires row { i < length self.old.short.rows }
+        requires width { width < self.old.short.width }
+        requires stored { IsStored width self.old i }
+        ensures line { line_in width (row_at (rows_in self.new) i)
+            ≡ line_in width (row_at (rows_in self.old) i) }
+        ensures wide { is_wide_at self.new i ≡ true }
+        ensures written { IsWrittenAt width i self.old self.new }
+    {
+        if self.is_wide[i] {
+            return;
+        }
+        widen_front(self.wide.row_mut(i), self.short.row(i), width);
+        self.is_wide[i] = true;
+    }
+
+    /// The short row of a wide one becomes its signs.
+    fn keep_signs(&mut self, i: usize, width: usize)
+        requires row { i < length self.old.short.rows }
+        requires width { width < self.old.short.width }
+        requires wide { is_wide_at self.old i ≡ true }
+        requires size { line_size (line_in width (row_at self.old.wide.rows i))
+            ≤ size_at self.old i }
+        ensures rows { rows_in self.new ≡ rows_in self.old }
+        ensures wide { is_wide_at self.new i ≡ is_wide_at self.old i }
+        ensures written { IsWrittenAt width i self.old self.new }
+    {
+        write_front_signs(self.short.row_mut(i), self.wide.row(i), width);
+    }
+
+    /// A wide row that was made anew becomes short where 64 bits hold it, and has its signs where
+    /// they do not.
+    fn settle(&mut self, i: usize, width: usize)
+        requires row { i < length self.old.short.rows }
+        requires width { width < self.old.short.width }
+        requires wide { is_wide_at self.old i ≡ true }
+        requires line { (limit : ℕ) × IsLine limit width
+            (line_in width (row_at self.old.wide.rows i)) }
+        requires size { line_size (line_in width (row_at self.old.wide.rows i))
+            ≤ size_at self.old i }
+        ensures line { line_in width (row_at (rows_in self.new) i)
+            ≡ line_in width (row_at (rows_in self.old) i) }
+        ensures written { IsWrittenAt width i self.old self.new }
+    {
+        if self.sizes[i] <= WIDEST {
+            self.narrow_row(i, width);
+        } else {
+            self.keep_signs(i, width);
+        }
+    }
+
+    /// Brings row r to lowest terms.
+    fn cut_row(&mut self, r: usize, width: usize)
+        requires row { r < length self.old.short.rows }
+        requires width { width < self.old.short.width }
+        requires line { IsLine (2 ^ 127 - 1) width (line_in width (row_at (rows_in self.old) r)) }
+        requires stored { IsStored width self.old r }
+        ensures line { line_in width (row_at (rows_in self.new) r)
+            ≡ cut (line_in width (row_at (rows_in self.old) r)) }
+        ensures written { IsWrittenAt width r self.old self.new }
+    {
+        if !self.is_wide[r] {
+            cut_front(self.short.row_mut(r), width);
+            return;
+        }
+        cut_wide_front(self.wide.row_mut(r), width);
+        self.sizes[r] = wide_size(&self.wide.row(r)[..width + 1]);
+        self.settle(r, width);
+    }
+
+    /// Row r, which is in lowest terms, becomes the pivot row: its numbers stand over the one in
+    /// column `c`, which is above 0 and in whose place the old denominator comes. Answers that
+    /// number.
+    fn exchange_row(&mut self, r: usize, c: usize, width: usize) -> u128
+        requires row { r < length self.old.short.rows }
+        requires widths { (c < width) × (width < self.old.short.width) }
+        requires line { IsLine (2 ^ 127 - 1) width (line_in width (row_at (rows_in self.old) r)) }
+        requires above { 0 < unsigned_abs
+            (number_at (line_in width (row_at (rows_in self.old) r)).numbers c) }
+        requires stored { IsStored width self.old r }
+        ensures pivot { line_in width (row_at (rows_in self.new) r)
+            ≡ pivot_line c result (line_in width (row_at (rows_in self.old) r)) }
+        ensures denominator { result ≡ unsigned_abs
+            (number_at (line_in width (row_at (rows_in self.old) r)).numbers c) }
+        ensures written { IsWrittenAt width r self.old self.new }
+    {
+        if self.is_wide[r] {
+            exchange_denominator(self.wide.row_mut(r), c);
+            self.keep_signs(r, width);
+        } else {
+            exchange_denominator(self.short.row_mut(r), c);
+        }
+        self.number(r, 0).unsigned_abs()
+    }
+
+    /// A size that neither the denominator of row i nor one of its numbers is above, which becomes
+    /// the one that is kept with it.
+    fn size_anew(&mut self, i: usize, width: usize) -> u128
+        requires row { i < length self.old.short.rows }
+        requires width { width < self.old.short.width }
+        requires stored { IsStored width self.old i }
+        ensures size { line_size (line_in width (row_at (rows_in self.old) i)) ≤ result }
+        ensures short { is_wide_at self.old i ≡ false → result < 2 ^ 64 }
+        ensures rows { rows_in self.new ≡ rows_in self.old }
+        ensures wide { is_wide_at self.new i ≡ is_wide_at self.old i }
+        ensures written { IsWrittenAt width i self.old self.new }
+    {
+        let size = if self.is_wide[i] {
+            wide_size(&self.wide.row(i)[..width + 1])
+        } else {
+            size_of(&self.short.row(i)[..width + 1]) as u128
+        };
+        self.sizes[i] = size;
+        size
+    }
+
+    /// A short row becomes the wide one of these numbers over the denominator, which 64 bits do not
+    /// hold.
+    fn grow(&mut self, i: usize, denominator: u128, numbers: &[i128])
+        requires row { i < length self.old.short.rows }
+        requires width { length numbers.now < self.old.short.width }
+        requires denominator { denominator ≤ 2 ^ 127 - 1 }
+        ensures line { line_in (length numbers.now) (row_at (rows_in self.new) i)
+            ≡ line_of denominator numbers.now }
+        ensures written { IsWrittenAt (length numbers.now) i self.old self.new }
+    {
+        write_front(self.wide.row_mut(i), denominator, numbers);
+        self.is_wide[i] = true;
+        self.sizes[i] = wide_size(numbers) | denominator;
+        self.keep_signs(i, numbers.len());
+    }
+
+    /// Clears the pivot's column of a short row by a short pivot row. Says whether each step is
+    /// within the limit.
+    fn clear_short_row(&mut self, i: usize, known: Known, room: &mut [i128]) -> bool
+        requires rows { (i < length self.old.short.rows) × (known.step.r ≢ i) }
+        requires widths { (known.step.c < length room.old)
+            × (length room.old < self.old.short.width) }
+        requires limit { (widest ≤ known.step.limit) × (known.step.limit ≤ 2 ^ 127 - 1) }
+        requires line { IsLine known.step.limit (length room.old)
+            (line_in (length room.old) (row_at (rows_in self.old) i)) }
+        requires stored { IsStored (length room.old) self.old i }
+        requires pivot { IsKnown known.a known.most known.places.now known.step.r
+            (length room.old) self.old }
+        requires short { (is_wide_at self.old i ≡ false)
+            × (is_wide_at self.old known.step.r ≡ false) }
+        ensures fits { result ≡ true → step_size
+            (line_size (line_in (length room.old) (row_at (rows_in self.old) i)))
+            (unsigned_abs (number_at (line_in (length room.old)
+            (row_at (rows_in self.old) i)).numbers known.entry.step.c))
+            known.entry.a known.entry.most ≤ known.entry.step.limit }
+        ensures cleared { result ≡ true
+            → line_in (length room.old) (row_at (rows_in self.new) i)
+            ≡ labelled_cleared known.entry.step.c known.entry.a
+            (line_in (length room.old) (row_at (rows_in self.old) known.entry.step.r)).numbers
+            (line_in (length room.old) (row_at (rows_in self.old) i)) }
+        ensures written { result ≡ true → IsWrittenAt (length room.old) i self.old self.new }
+        ensures count { SameCounts self.old self.new }
+    {
+        let mut size = self.sizes[i] as u64;
+        let (pivot, row) = self.short.pair(known.step.r, i);
+        match clear_front(row, &mut size, pivot, known, room) {
+            Cleared::Short { .. } => self.sizes[i] = size as u128,
+            Cleared::Wide { denominator } => self.grow(i, denominator, room),
+            Cleared::Misfit => return false,
+        }
+        true
+    }
+
+    /// Clears the pivot's column of a wide row by a pivot row of either width, up to its signs.
+    /// Says whether each step is within the limit.
+    fn mix_wide_row(&mut self, i: usize, known: Known, width: usize) -> bool
+        requires rows { (i < length self.old.short.rows) × (known.step.r ≢ i) }
+        requires widths { (known.step.c < width) × (width < self.old.short.width) }
+        requires limit { known.step.limit ≤ 2 ^ 127 - 1 }
+        requires line { IsLine known.step.limit width
+            (line_in width (row_at self.old.wide.rows i)) }
+        requires size { line_size (line_in width (row_at self.old.wide.rows i))
+            ≤ size_at self.old i }
+        requires pivot { IsKnown known.a known.most known.places.now known.step.r width self.old }
+        requires below { known.a ≤ 2 ^ 127 - 1 }
+        requires wide { is_wide_at self.old i ≡ true }
+        ensures fits { result ≡ true
+            → step_size (line_size (line_in width (row_at self.old.wide.rows i)))
+            (unsigned_abs (number_at (line_in width (row_at self.old.wide.rows i)).numbers
+            known.entry.step.c)) known.entry.a known.entry.most ≤ known.entry.step.limit }
+        ensures cleared { result ≡ true → line_in width (row_at self.new.wide.rows i)
+            ≡ labelled_cleared known.entry.step.c known.entry.a
+            (line_in width (row_at (rows_in self.old) known.entry.step.r)).numbers
+            (line_in width (row_at self.old.wide.rows i)) }
+        ensures line { result ≡ true → IsLine known.entry.step.limit width
+            (line_in width (row_at self.new.wide.rows i)) }
+        ensures size { result ≡ true → line_size (line_in width (row_at self.new.wide.rows i))
+            ≤ size_at self.new i }
+        ensures rows { rows_in self.new
+            ≡ slice_set (rows_in self.old) i (row_at self.new.wide.rows i) }
+        ensures wide { self.new.wide.rows
+            ≡ slice_set self.old.wide.rows i (row_at self.new.wide.rows i) }
+        ensures short { self.new.short ≡ self.old.short }
+        ensures flags { self.new.is_wide.items ≡ self.old.is_wide.items }
+        ensures sizes { self.new.sizes.items
+            ≡ slice_set self.old.sizes.items i (size_at self.new i) }
+    {
+        let mut size = self.sizes[i];
+        let is_cleared = if self.is_wide[known.step.r] {
+            let (pivot, row) = self.wide.pair(known.step.r, i);
+            clear_wide_front(row, &mut size, pivot, known, width)
+        } else {
+            let pivot = self.short.row(known.step.r);
+            clear_wide_front(self.wide.row_mut(i), &mut size, pivot, known, width)
+        };
+        self.sizes[i] = size;
+        is_cleared
+    }
+
+    /// Clears the pivot's column of a row in 128 bits. Says whether each step is within the limit.
+    fn clear_wide_row(&mut self, i: usize, known: Known, width: usize) -> bool
+        requires rows { (i < length self.old.short.rows) × (known.step.r ≢ i) }
+        requires widths { (known.step.c < width) × (width < self.old.short.width) }
+        requires limit { known.step.limit ≤ 2 ^ 127 - 1 }
+        requires line { IsLine known.step.limit width
+            (line_in width (row_at (rows_in self.old) i)) }
+        requires stored { IsStored width self.old i }
+        requires pivot { IsKnown known.a known.most known.places.now known.step.r width self.old }
+        requires below { known.a ≤ 2 ^ 127 - 1 }
+        ensures fits { result ≡ true
+            → step_size (line_size (line_in width (row_at (rows_in self.old) i)))
+            (unsigned_abs (number_at (line_in width (row_at (rows_in self.old) i)).numbers
+            known.entry.step.c)) known.entry.a known.entry.most ≤ known.entry.step.limit }
+        ensures cleared { result ≡ true → line_in width (row_at (rows_in self.new) i)
+            ≡ labelled_cleared known.entry.step.c known.entry.a
+            (line_in width (row_at (rows_in self.old) known.entry.step.r)).numbers
+            (line_in width (row_at (rows_in self.old) i)) }
+        ensures written { result ≡ true → IsWrittenAt width i self.old self.new }
+        ensures count { SameCounts self.old self.new }
+    {
+        self.widen_row(i, width);
+        if !self.mix_wide_row(i, known, width) {
+            return false;
+        }
+        self.settle(i, width);
+        true
+    }
+
+    /// Clears the pivot's column of a row: in 64 bits where neither row is wide. Says whether each
+    /// step is within the limit. `room` has as many places as a line has numbers.
+    fn clear_row(&mut self, i: usize, known: Known, room: &mut [i128]) -> bool
+        requires rows { (i < length self.old.short.rows) × (known.step.r ≢ i) }
+        requires widths { (known.step.c < length room.old)
+            × (length room.old < self.old.short.width) }
+        requires limit { (widest ≤ known.step.limit) × (known.step.limit ≤ 2 ^ 127 - 1) }
+        requires line { IsLine known.step.limit (length room.old)
+            (line_in (length room.old) (row_at (rows_in self.old) i)) }
+        requires stored { IsStored (length room.old) self.old i }
+        requires pivot { IsKnown known.a known.most known.places.now known.step.r
+            (length room.old) self.old }
+        requires below { known.a ≤ 2 ^ 127 - 1 }
+        ensures fits { result ≡ true → step_size
+            (line_size (line_in (length room.old) (row_at (rows_in self.old) i)))
+            (unsigned_abs (number_at (line_in (length room.old)
+            (row_at (rows_in self.old) i)).numbers known.entry.step.c))
+            known.entry.a known.entry.most ≤ known.entry.step.limit }
+        ensures cleared { result ≡ true
+            → line_in (length room.old) (row_at (rows_in self.new) i)
+            ≡ labelled_cleared known.entry.step.c known.entry.a
+            (line_in (length room.old) (row_at (rows_in self.old) known.entry.step.r)).numbers
+            (line_in (length room.old) (row_at (rows_in self.old) i)) }
+        ensures written { result ≡ true → IsWrittenAt (length room.old) i self.old self.new }
+        ensures count { SameCounts self.old self.new }
+    {
+        if self.is_wide[i] || self.is_wide[known.step.r] {
+            self.clear_wide_row(i, known, room.len())
+        } else {
+            self.clear_short_row(i, known, room)
+        }
+    }
+
+    /// Clears each row but the pivot row r, up to the first with a step that may leave the limit,
+    /// and says whether there is none. `column_places` are the rows that are not 0 in the column:
+    /// the others stay.
+    #[inline(never)]
+    fn clear_rows(&mut self, known: Known, room: &mut [i128]) -> bool
+        requires widths { (known.step.c < length room.old)
+            × (length room.old < self.old.short.width) }
+        requires limit { (widest ≤ known.step.limit) × (known.step.limit ≤ 2 ^ 127 - 1) }
+        requires stored { AreStored known.step.limit (length room.old) self.old }
+        requires pivot { IsKnown known.a known.most known.places.now known.step.r
+            (length room.old) self.old }
+        requires below { known.a ≤ 2 ^ 127 - 1 }
+        requires column_places { known.step.column_places.now
+            ≡ nonzero_in (column_in known.step.c (rows_in self.old)) }
+        ensures fits { result ≡ true → AreStepsBelow known.entry.step.limit known.entry.step.c
+            known.entry.a known.entry.most known.entry.step.r (length room.old)
+            (rows_in self.old) }
+        ensures cleared { result ≡ true → lines_in (length room.old) (rows_in self.new)
+            ≡ lines_after known.entry.step.c known.entry.a known.entry.step.r
+            (line_in (length room.old) (row_at (rows_in self.old) known.entry.step.r)).numbers 0
+            (lines_in (length room.old) (rows_in self.old)) }
+        ensures stored { result ≡ true
+            → AreStored known.entry.step.limit (length room.old) self.new }
+        ensures count { SameCounts self.old self.new }
+    {
+        let Step {
+            r,
+            column_places,
+            ..
+        } = known.step;
+        for place in column_places {
+            let i = *place;
+            if i != r {
+                if !self.clear_row(i, known, room) {
+                    return false;
+                }
+            }
+        }
+        true
+    }
+
+    /// Clears the pivot's column of the objective row, and says whether each step is within the
+    /// limit.
+    fn clear_objective(&self, objective: &mut Objective, known: Known, width: usize) -> bool
+        requires widths { (known.step.c < width) × (width < self.now.short.width)
+            × (width < length objective.old.numbers.items) }
+        requires line { IsLine known.step.limit width
+            (line_in width objective.old.numbers.items) }
+        requires size { line_size (line_in width objective.old.numbers.items)
+            ≤ objective.old.size }
+        requires pivot { IsKnown known.a known.most known.places.now known.step.r width self.now }
+        requires limit { (known.a ≤ 2 ^ 127 - 1) × (known.step.limit ≤ 2 ^ 127 - 1) }
+        ensures fits { result ≡ true
+            → step_size (line_size (line_in width objective.old.numbers.items))
+            (unsigned_abs (number_at (line_in width objective.old.numbers.items).numbers
+            known.entry.step.c)) known.entry.a known.entry.most ≤ known.entry.step.limit }
+        ensures cleared { result ≡ true → line_in width objective.new.numbers.items
+            ≡ labelled_cleared known.entry.step.c known.entry.a
+            (line_in width (row_at (rows_in self.now) known.entry.step.r)).numbers
+            (line_in width objective.old.numbers.items) }
+        ensures line { result ≡ true → IsLine known.entry.step.limit width
+            (line_in width objective.new.numbers.items) }
+        ensures size { result ≡ true
+            → line_size (line_in width objective.new.numbers.items) ≤ objective.new.size }
+        ensures places { length objective.new.numbers.items
+            ≡ length objective.old.numbers.items }
+    {
+        let r = known.step.r;
+        if self.is_wide[r] {
+            objective.clear(self.wide.row(r), known, width)
+        } else {
+            objective.clear(self.short.row(r), known, width)
+        }
+    }
+
+    /// Row r becomes the pivot row. Answers the number that its numbers stand over then, and a size
+    /// that none of them is above.
+    fn place_pivot(&mut self, r: usize, c: usize, width: usize) -> (u128, u128)
+        requires widths { (c < width) × (width < self.old.short.width) }
+        requires pivot { IsPivot width c r (rows_in self.old) }
+        requires line { IsLine (2 ^ 127 - 1) width (line_in width (row_at (rows_in self.old) r)) }
+        requires stored { IsStored width self.old r }
+        ensures pivot { line_in width (row_at (rows_in self.new) r)
+            ≡ pivot_line c result.0 (cut (line_in width (row_at (rows_in self.old) r))) }
+        ensures denominator { result.0 ≡ unsigned_abs
+            (number_at (cut (line_in width (row_at (rows_in self.old) r))).numbers c) }
+        ensures size { line_size (line_in width (row_at (rows_in self.new) r)) ≤ result.1 }
+        ensures short { is_wide_at self.new r ≡ false → result.1 < 2 ^ 64 }
+        ensures written { IsWrittenAt width r self.old self.new }
+    {
+        self.cut_row(r, width);
+        let a = self.exchange_row(r, c, width);
+        (a, self.size_anew(r, width))
+    }
+
+    /// The rows of a turn and the objective row, of `width` numbers each. Says whether each step is
+    /// within the limit. `places` is room for the places where the pivot row is not 0, and `room`
+    /// for the numbers of a line in 128 bits before it is cut.
+    pub fn turn(
+        &mut self,
+        objective: &mut Objective,
+        places: &mut [usize],
+        room: &mut [i128],
+        width: usize,
+        step: Step,
+    ) -> bool
+        requires widths { (step.c < width) × (width < self.old.short.width)
+            × (width < length objective.old.numbers.items) }
+        requires room { (width ≤ length room.old) × (width ≤ length places.old) }
+        requires limit { (widest ≤ step.limit) × (step.limit ≤ 2 ^ 127 - 1) }
+        requires pivot { IsPivot width step.c step.r (rows_in self.old) }
+        requires column_places { step.column_places.now
+            ≡ nonzero_in (column_in step.c (rows_in self.old)) }
+        requires stored { AreStored step.limit width self.old }
+        requires objective { IsLine step.limit width (line_in width objective.old.numbers.items) }
+        requires size { line_size (line_in width objective.old.numbers.items)
+            ≤ objective.old.size }
+        ensures objective_fits { result ≡ true → steps_within step.entry.limit step.entry.c
+            (cut (line_in width (row_at (rows_in self.old) step.entry.r)))
+            (line_in width objective.old.numbers.items) ≡ true }
+        ensures rows_fit { result ≡ true
+            → AreStepsWithin step.entry.limit step.entry.c step.entry.r
+            (cut (line_in width (row_at (rows_in self.old) step.entry.r))) width
+            (rows_in self.old) }
+        ensures turned { result ≡ true → IsTurned width step.entry.c step.entry.r
+            (rows_in self.old) objective.old.numbers.items
+            (rows_in self.new) objective.new.numbers.items }
+        ensures stored { result ≡ true → AreStored step.entry.limit width self.new }
+        ensures objective { result ≡ true → IsLine step.entry.limit width
+            (line_in width objective.new.numbers.items) }
+        ensures size { result ≡ true
+            → line_size (line_in width objective.new.numbers.items) ≤ objective.new.size }
+        ensures count { SameCounts self.old self.new }
+        ensures places { length objective.new.numbers.items
+            ≡ length objective.old.numbers.items }
+    {
+        let Step { r, c, .. } = step;
+        let (a, most) = self.place_pivot(r, c, width);
+        let count = front_nonzero(self.short.row(r), width, places);
+        let known = Known {
+            step,
+            a,
+            most,
+            places: &places[..count],
+        };
+        if !self.clear_objective(objective, known, width) {
+            return false;
+        }
+        self.clear_rows(known, &mut room[..width])
+    }
 }

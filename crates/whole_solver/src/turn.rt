@@ -7,6 +7,6 @@ pub enum Turn {
     Moved,
     /// No row limits the column.
     Unlimited,
-    /// A number left the bound.
+    /// A step may leave the limit.
     GivenUp,
 }

@@ -1,17 +1,16 @@
-//! Lines of 128 bits: the objective row, which the bound of the rows is none for, and a row whose
-//! steps 64 bits do not hold.
-ghost use Rattle.std.specs.Prelude.{◌≡◌, IfSome, ◌<◌, ◌≤◌, ◌+◌, ◌-◌, ◌*◌, ◌/◌, ◌^◌, pos, unsigned_abs, length, map, int_div};
+//! Lines of 128 bits: the objective row, and each row that 64 bits do not hold or whose steps they
+//! do not.
+ghost use Rattle.std.specs.Prelude.{◌≡◌, true, IfSome, ◌<◌, ◌≤◌, ◌+◌, ◌-◌, ◌*◌, ◌/◌, ◌^◌, pos, unsigned_abs, length, map, int_div};
+ghost use Rattle.std.specs.Int.{int_signum};
 ghost use Rattle.arithmetic.specs.Gcd.{gcd as gcd_of};
 ghost use Rattle.equal_runs.specs.Labelled.{labelled_cleared};
-ghost use Rattle.equal_runs.specs.Lines.{AreSizes, IsLine, line_of, line_size, number_at, numbers_fit, widest};
+ghost use Rattle.equal_runs.specs.Lines.{AreSizes, IsLine, line_fits, line_of, line_size, number_at, numbers_fit, widest};
 ghost use Rattle.equal_runs.specs.WholeTurning.{cut, cut_where_wide, step_size};
 ghost use Rattle.whole_solver.specs.Rows.{nonzero_in};
 
-use crate::divisor::{common, common_with_wide, divisor_of, whole_quotient, wide_quotient};
+use crate::divisor::{common, common_of_wide, divisor_of, whole_quotient, wide_quotient};
 use crate::mix::{Factors, Known, Pivot, mix};
-
-// What a signed number of 64 bits holds in either sign.
-const WIDEST: u128 = i64::MAX as u128;
+use crate::word::{WIDEST, Widen};
 
 /// Writes the numbers.
 pub fn widen(out: &mut [i128], numbers: &[i64])
@@ -20,6 +19,27 @@ pub fn widen(out: &mut [i128], numbers: &[i64])
 {
     for i in 0..out.len() {
         out[i] = numbers[i] as i128;
+    }
+}
+
+/// Writes the numbers, which 64 bits hold.
+pub fn narrow(out: &mut [i64], numbers: &[i128])
+    requires width { length out.old ≡ length numbers.now }
+    requires short { numbers_fit widest numbers.now ≡ true }
+    ensures { out.new ≡ numbers.now }
+{
+    for i in 0..out.len() {
+        out[i] = numbers[i] as i64;
+    }
+}
+
+/// Writes the signs of the numbers.
+pub fn write_signs(out: &mut [i64], numbers: &[i128])
+    requires { length out.old ≡ length numbers.now }
+    ensures { out.new ≡ map int_signum numbers.now }
+{
+    for i in 0..out.len() {
+        out[i] = numbers[i].signum() as i64;
     }
 }
 
@@ -35,7 +55,7 @@ pub fn widened(factors: Factors<i64>) -> Factors<i128>
 }
 
 /// A size that none of the numbers is above.
-fn wide_size(numbers: &[i128]) -> u128
+pub fn wide_size(numbers: &[i128]) -> u128
     ensures { AreSizes result numbers.now }
 {
     let mut size = 0;
@@ -51,7 +71,7 @@ fn wide_mixed_size(
     most: u128,
     times: u128,
     less: u128,
-    pivot_most: u64,
+    pivot_most: u128,
     limit: u128,
 ) -> Option<u128>
     ensures { IfSome result (λ size.
@@ -60,7 +80,7 @@ fn wide_mixed_size(
     let Some(own) = most.checked_mul(times) else {
         return None;
     };
-    let Some(other) = less.checked_mul(pivot_most as u128) else {
+    let Some(other) = less.checked_mul(pivot_most) else {
         return None;
     };
     let Some(size) = own.checked_add(other) else {
@@ -94,7 +114,7 @@ fn wide_size_to_mix(
     }
 }
 
-/// Whether 64 bits hold each number.
+/// Whether 64 bits hold each number in either sign.
 fn are_short(numbers: &[i128]) -> bool
     ensures { result ≡ numbers_fit widest numbers.now }
 {
@@ -104,6 +124,13 @@ fn are_short(numbers: &[i128]) -> bool
         }
     }
     true
+}
+
+/// Whether 64 bits hold the line in either sign.
+pub fn is_short(denominator: u128, numbers: &[i128]) -> bool
+    ensures { result ≡ line_fits widest (line_of denominator numbers.now) }
+{
+    denominator <= WIDEST && are_short(numbers)
 }
 
 /// Divides the numbers.
@@ -120,7 +147,7 @@ fn divide_wide(numbers: &mut [i128], divisor: u128)
 }
 
 /// Divides the line by what it has in common, and answers its denominator.
-fn divide_common(denominator: u128, numbers: &mut [i128]) -> u128
+pub fn divide_common(denominator: u128, numbers: &mut [i128]) -> u128
     requires above { 0 < denominator }
     requires below { denominator < 2 ^ 127 }
     ensures { line_of result numbers.new ≡ cut (line_of denominator numbers.old) }
@@ -136,7 +163,7 @@ pub fn cut_where_not_short(denominator: u128, numbers: &mut [i128]) -> u128
     requires below { denominator < 2 ^ 127 }
     ensures { line_of result numbers.new ≡ cut_where_wide (line_of denominator numbers.old) }
 {
-    if denominator <= WIDEST && are_short(numbers) {
+    if is_short(denominator, numbers) {
         denominator
     } else {
         divide_common(denominator, numbers)
@@ -161,9 +188,9 @@ fn cut_in_place(denominator: u128, numbers: &mut [i128], size: &mut u128) -> u12
 }
 
 /// `a` and `x` without what they have in common.
-fn without_common_wide(a: u64, x: i128) -> Factors<i128>
+fn without_common_wide(a: u128, x: i128) -> Factors<i128>
     requires above { 0 < a }
-    requires below { a ≤ widest }
+    requires below { a ≤ 2 ^ 127 - 1 }
     requires x { unsigned_abs x ≤ 2 ^ 127 - 1 }
     ensures a { result.p ≡ pos (a / gcd_of (unsigned_abs x) a) }
     ensures x { result.f ≡ int_div x (pos (gcd_of (unsigned_abs x) a)) }
@@ -171,40 +198,40 @@ fn without_common_wide(a: u64, x: i128) -> Factors<i128>
     if a == 1 {
         return Factors { p: 1, f: x };
     }
-    let shared = common_with_wide(x.unsigned_abs(), a);
+    let shared = common_of_wide(x.unsigned_abs(), a);
     if shared == 1 {
         return Factors { p: a as i128, f: x };
     }
     Factors {
         p: (a / shared) as i128,
-        f: wide_quotient(x, shared as u128),
+        f: wide_quotient(x, shared),
     }
 }
 
 /// Clears the pivot's column of the line, where the sizes of both rows say that each step is within
 /// the limit, and answers the line's new denominator. The line is at most `size`, which is kept so.
-pub fn clear_wide_line(
+pub fn clear_wide_line<P: Widen<i128>>(
     denominator: u128,
     numbers: &mut [i128],
     size: &mut u128,
-    pivot: Pivot,
+    pivot: Pivot<P>,
 ) -> Option<u128>
     requires column { pivot.known.step.c < length numbers.old }
     requires width { length numbers.old ≡ length pivot.numbers.now }
     requires line { IsLine pivot.known.step.limit (length numbers.old)
         (line_of denominator numbers.old) }
     requires size { line_size (line_of denominator numbers.old) ≤ size.old }
-    requires pivot { AreSizes pivot.known.most pivot.numbers.now }
-    requires places { pivot.known.places.now ≡ nonzero_in pivot.numbers.now }
+    requires pivot { AreSizes pivot.known.most (map P.value pivot.numbers.now) }
+    requires places { pivot.known.places.now ≡ nonzero_in (map P.value pivot.numbers.now) }
     requires above { 0 < pivot.known.a }
-    requires below { pivot.known.a ≤ widest }
+    requires below { pivot.known.a ≤ 2 ^ 127 - 1 }
     requires limit { pivot.known.step.limit ≤ 2 ^ 127 - 1 }
     ensures fits { IfSome result (λ d. step_size (line_size (line_of denominator numbers.old))
         (unsigned_abs (number_at numbers.old pivot.entry.known.step.c)) pivot.entry.known.a
         pivot.entry.known.most ≤ pivot.entry.known.step.limit) }
     ensures line { IfSome result (λ d. line_of d numbers.new
-        ≡ labelled_cleared pivot.entry.known.step.c pivot.entry.known.a pivot.entry.numbers.now
-        (line_of denominator numbers.old)) }
+        ≡ labelled_cleared pivot.entry.known.step.c pivot.entry.known.a
+        (map P.value pivot.entry.numbers.now) (line_of denominator numbers.old)) }
     ensures size { IfSome result (λ d. line_size (line_of d numbers.new) ≤ size.new) }
 {
     let Known { step, a, .. } = pivot.known;

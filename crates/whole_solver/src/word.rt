@@ -4,6 +4,9 @@ ghost use Rattle.exact_num.specs.Fits.{size_fits};
 ghost use Rattle.equal_runs.specs.Lines.{widest};
 ghost use Rattle.whole_solver.specs.Within.{kept};
 
+/// What a signed number of 64 bits holds in either sign.
+pub const WIDEST: u128 = i64::MAX as u128;
+
 /// A signed number of 64 or of 128 bits.
 pub trait Word: Copy {
     // the number that a word means
@@ -12,12 +15,13 @@ pub trait Word: Copy {
     // the size up to which words hold numbers of either sign
     ghost held: { ℕ };
 
-    /// The number of 64 bits.
-    fn from_short(number: i64) -> Self
-        ensures { value result ≡ number };
-
     fn is_one(self) -> bool
         ensures { result ≡ true → value self ≡ pos 1 };
+
+    /// The size as a word, which holds it.
+    fn size(self) -> Self
+        requires { unsigned_abs (value self) ≤ held }
+        ensures { value result ≡ pos (unsigned_abs (value self)) };
 
     /// The product, which a word holds.
     fn product(self, other: Self) -> Self
@@ -36,12 +40,12 @@ impl Word for i64 {
 
     ghost held = { widest };
 
-    fn from_short(number: i64) -> i64 {
-        number
-    }
-
     fn is_one(self) -> bool {
         self == 1
+    }
+
+    fn size(self) -> i64 {
+        self.unsigned_abs() as i64
     }
 
     fn product(self, other: i64) -> i64 {
@@ -59,12 +63,12 @@ impl Word for i128 {
 
     ghost held = { 2 ^ 127 - 1 };
 
-    fn from_short(number: i64) -> i128 {
-        number as i128
-    }
-
     fn is_one(self) -> bool {
         self == 1
+    }
+
+    fn size(self) -> i128 {
+        self.unsigned_abs() as i128
     }
 
     fn product(self, other: i128) -> i128 {
@@ -77,13 +81,37 @@ impl Word for i128 {
     }
 }
 
-/// The number in 64 bits, where it is within the bound.
-pub fn within(number: i128, bound: u64) -> Option<i64>
-    requires { bound ≤ widest }
-    ensures value { result ≡ kept (size_fits bound number) number }
-    ensures within { IfSome result (λ z. (z ≡ number) × (unsigned_abs z ≤ bound)) }
+/// A number that a word `W` holds as well.
+pub trait Widen<W: Word>: Word {
+    /// The same number.
+    fn widen(self) -> W
+        ensures { W.value result ≡ Self.value self };
+}
+
+impl Widen<i64> for i64 {
+    fn widen(self) -> i64 {
+        self
+    }
+}
+
+impl Widen<i128> for i64 {
+    fn widen(self) -> i128 {
+        self as i128
+    }
+}
+
+impl Widen<i128> for i128 {
+    fn widen(self) -> i128 {
+        self
+    }
+}
+
+/// The number in 64 bits, where they hold it in either sign.
+pub fn within(number: i128) -> Option<i64>
+    ensures value { result ≡ kept (size_fits widest number) number }
+    ensures within { IfSome result (λ z. (z ≡ number) × (unsigned_abs z ≤ widest)) }
 {
-    if number.unsigned_abs() <= bound as u128 {
+    if number.unsigned_abs() <= WIDEST {
         Some(number as i64)
     } else {
         None

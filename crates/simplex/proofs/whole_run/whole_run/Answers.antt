@@ -6,10 +6,11 @@ use Rattle.equal_runs.specs.Labelled.{LabelledTable, labelled_direction, labelle
 use Rattle.whole_solver.specs.declared.turn.Turn.{Turn}
 use Rattle.whole_solver.specs.declared.columns.Entering.{Entering}
 use Rattle.whole_solver.specs.Choices.{as_column}
+use Rattle.whole_solver.specs.Stored.{rows_in}
 use Rattle.whole_solver.specs.Tables.{as_whole, IsTurn}
 use Rattle.whole_solver.proofs.Pivoting.{rows_fit_in}
 use Rattle.simplex.proofs.RunSteps.{spent_one, spent_none}
-use Rattle.simplex.proofs.WholeSteps.{room_above, within_wider, whole_ends, whole_out, whole_moves, whole_unlimited}
+use Rattle.simplex.proofs.WholeSteps.{whole_ends, whole_out, whole_moves, whole_unlimited}
 use Rattle.simplex.proofs.whole_run.whole_run.Goals as goal
 
 pub returns-clause-run : goal.returns-clause-run
@@ -28,7 +29,7 @@ returns-in-Unlimited-clause-run c n m =
     let s = spent_one c.spend.result c.loop-column.budget.spent c.loop-column.budget.limit c.spend.new.self.spent c.spend.ensures.answer c.spend.ensures.spent c.if-not-spend.false in
     let enters = sym c.entering.ensures.column ∙ ap (λ (e : Option Entering). option_map as_column e) c.in-Some.is in
     let column = c.in-Some.column in
-    let told = subst (λ (r : Turn). IsTurn c.args.bound c.args.limit column.place r c.loop-column.table c.turn.new.self) c.in-Unlimited.is c.turn.ensures.turn in
+    let told = subst (λ (r : Turn). IsTurn c.args.limit column.place r c.loop-column.table c.turn.new.self) c.in-Unlimited.is c.turn.ensures.turn in
     let run0 = labelled_run_from c.args.limit n m (c.args.budget.now.limit - c.args.budget.now.spent) c.args.budget.now.spent (as_whole c.args.table.now) in
     let ends = sym (c.loop-column.invariant.rest n m)
     ∙ whole_unlimited c.args.limit n m (c.loop-column.budget.limit - c.loop-column.budget.spent) _ _ _ enters told.0 (omega (arith, s.0))
@@ -43,9 +44,9 @@ pub loop-column-preserved : goal.loop-column-preserved
 loop-column-preserved c =
     let s = spent_one c.spend.result c.loop-column.budget.spent c.loop-column.budget.limit c.spend.new.self.spent c.spend.ensures.answer c.spend.ensures.spent c.if-not-spend.false in
     let enters = sym c.entering.ensures.column ∙ ap (λ (e : Option Entering). option_map as_column e) c.in-Some.is in
-    let told = subst (λ (r : Turn). IsTurn c.args.bound c.args.limit c.in-Some.column.place r c.loop-column.table c.turn.new.self) c.in-Moved.is c.turn.ensures.turn in
+    let told = subst (λ (r : Turn). IsTurn c.args.limit c.in-Some.column.place r c.loop-column.table c.turn.new.self) c.in-Moved.is c.turn.ensures.turn in
     let next = c.turn.new.self in
-    let fits = rows_fit_in c.args.limit (length next.names.items + 1) next.basics.items next.rows.rows (within_wider c.args.bound c.args.limit c.args.limit next (room_above c.args.bound c.args.limit c.requires.room) told.2).rows in
+    let fits = rows_fit_in c.args.limit (length next.names.items + 1) next.basics.items (rows_in next.rows) told.2.rows.lines in
     let left : c.spend.new.self.limit - c.spend.new.self.spent ≡ c.loop-column.budget.limit - c.loop-column.budget.spent - 1 = omega (arith, s.1, c.spend.ensures.limit) in
     let turned = c.turn.ensures.shape in
     let before = c.loop-column.invariant.shape in

@@ -8,7 +8,7 @@ abbrev pub invariant-loop-column : goal.invariant-loop-column
 invariant-loop-column l = record {
   limit : l.budget.limit ≡ l.fn.budget.limit;
   shape : SameShape l.fn.table l.table;
-  within : IsWithin l.bound l.limit l.table;
+  within : IsWithin l.limit l.table;
   rest :
       (n m : ℕ) → labelled_run_from l.limit n m (l.budget.limit - l.budget.spent) l.budget.spent (as_whole l.table)
       ≡ labelled_run_from l.limit n m (l.fn.budget.limit - l.fn.budget.spent) l.fn.budget.spent (as_whole l.fn.table);

@@ -5,4 +5,4 @@ use Rattle.whole_solver.proofs.fraction.least_multiple.Given as goal
 
 -- that of the entries from this one on
 abbrev pub invariant-loop-j : goal.invariant-loop-j
-invariant-loop-j g l = HasMultiple l.bound (least_multiple (map g.N.Exact.fraction (drop l.j l.entries))) l.found
+invariant-loop-j g l = HasMultiple (least_multiple (map g.N.Exact.fraction (drop l.j l.entries))) l.found

@@ -15,12 +15,12 @@ returns-then-one-eq1 c =
 pub nonzero_div-product : goal.nonzero_div-product
 nonzero_div-product c = shared_above c.args.one c.args.other c.gcd-shared.result c.requires.other.0 c.gcd-shared.ensures
 
-pub returns-then-product-bound : goal.returns-then-product-bound
-returns-then-product-bound c =
+pub returns-then-product-le-WIDEST : goal.returns-then-product-le-WIDEST
+returns-then-product-le-WIDEST c =
     let one = c.args.one in
     let other = c.args.other in
     let quotient = pos_of_quotient other (gcd one other) c.requires.other.0 (gcd_pos_right one other c.requires.other.0) (gcd_dvd_right one other) in (
       ap (λ g. one * (other / g)) c.gcd-shared.ensures,
       subst (λ g. 0 < one * (other / g)) (sym c.gcd-shared.ensures) (mul-pos c.requires.one quotient),
-      c.if-product-bound.true,
+      c.if-product-le-WIDEST.true,
     )

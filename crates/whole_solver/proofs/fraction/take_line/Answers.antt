@@ -4,7 +4,7 @@ use Rattle.std.proofs.lemmas.List.{length-set, length-map}
 use borrow.Rule.Slice.PartMut.{put_mid}
 use Rattle.exact_num.specs.CommonDenominator.{amount_over, signed_amounts_over}
 use Rattle.compact_table.proofs.ArenaSteps.{at_set_same}
-use Rattle.equal_runs.specs.Lines.{IsLine, line_of}
+use Rattle.equal_runs.specs.Lines.{widest, IsLine, line_of}
 use Rattle.whole_solver.proofs.Turned.{front_of_mid, taken_front}
 use Rattle.whole_solver.proofs.fraction.take_line.Goals as goal
 
@@ -17,8 +17,7 @@ returns-clause-line g c done =
     let k = c.in-Some.ensures in
     let ns = c.write_amounts.new.numbers in
     let small = k.below in
-    let room = c.requires.bound.1 in
-    let signed : to_z w64 d ≡ pos d = to_z_pos w64 d (omega (arith, small, room)) in
+    let signed : to_z w64 d ≡ pos d = to_z_pos w64 d (omega (arith, small)) in
     let amounts : ns ≡ signed_amounts_over d fs = c.write_amounts.ensures.amounts done in
     let count : length ns ≡ w = ap length amounts ∙ length-map fs (amount_over d) ∙ length-map c.args.entries.now f in
     let wide = c.requires.width in
@@ -37,8 +36,7 @@ returns-clause-within g c done =
     let k = c.in-Some.ensures in
     let ns = c.write_amounts.new.numbers in
     let small = k.below in
-    let room = c.requires.bound.1 in
-    let signed : to_z w64 d ≡ pos d = to_z_pos w64 d (omega (arith, small, room)) in
+    let signed : to_z w64 d ≡ pos d = to_z_pos w64 d (omega (arith, small)) in
     let amounts : ns ≡ signed_amounts_over d fs = c.write_amounts.ensures.amounts done in
     let count : length ns ≡ w = ap length amounts ∙ length-map fs (amount_over d) ∙ length-map c.args.entries.now f in
     let wide = c.requires.width in
@@ -46,4 +44,4 @@ returns-clause-within g c done =
     let front = front_of_mid w (w + 1 - 1) (set c.args.row.now 0 (to_z w64 d)) ns (omega (arith, wide, filled)) count in
     let first = at_set_same c.args.row.now 0 (to_z w64 d) (pos 0) (omega (arith, wide)) ∙ signed in
     let line = taken_front w (put_mid 1 (w + 1 - 1) (set c.args.row.now 0 (to_z w64 d)) ns) ns (pos d) (front ∙ ap (λ (z : ℤ). z ∷ ns) first) in
-    subst (IsLine c.args.bound w) (sym line) (record { positive = k.positive; below = k.below; sizes = c.write_amounts.ensures.sizes done; count = count })
+    subst (IsLine widest w) (sym line) (record { positive = k.positive; below = k.below; sizes = c.write_amounts.ensures.sizes done; count = count })

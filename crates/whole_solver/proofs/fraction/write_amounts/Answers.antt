@@ -6,6 +6,7 @@ use Rattle.table_run.specs.Places.{fraction_zero}
 use Rattle.compact_table.proofs.EntrySteps.{at-map}
 use Rattle.whole_solver.proofs.Numbers.{written_more}
 use Rattle.whole_solver.proofs.Turned.{sizes_more}
+use Rattle.equal_runs.specs.Lines.{widest}
 use Rattle.whole_solver.proofs.fraction.write_amounts.Goals as goal
 
 pub loop-j-preserved : goal.loop-j-preserved
@@ -16,8 +17,7 @@ loop-j-preserved g c =
     let n = c.in-Some.number in
     let told = c.in-Some.ensures in
     let small = told.1 in
-    let room = c.requires.bound in
-    let fn : FitsSigned w64 n = fits_signed_from_abs w64 n (omega (arith, small, room)) in
+    let fn : FitsSigned w64 n = fits_signed_from_abs w64 n (omega (arith, small)) in
     let same = c.loop-j.invariant.width in
     let in_numbers : j < length c.loop-j.numbers = omega (arith, c.loop-j-test.true, c.loop-j.auto.numbers) in
     let in_entries : j < length c.args.entries.now = omega (arith, in_numbers, same) in
@@ -29,5 +29,5 @@ loop-j-preserved g c =
     rw (to_z-of_z w64 n fn) (record {
       width = length-set c.loop-j.numbers j n ∙ same;
       written = written_more amounts c.loop-j.numbers j n (pos 0) in_numbers in_amounts c.loop-j.invariant.written value;
-      sizes = sizes_more c.args.bound j c.loop-j.numbers n in_numbers c.loop-j.invariant.sizes small;
+      sizes = sizes_more widest j c.loop-j.numbers n in_numbers c.loop-j.invariant.sizes small;
     })

@@ -18,7 +18,7 @@ pub subtract_multiple-requires-clause-room : goal.subtract_multiple-requires-cla
 subtract_multiple-requires-clause-room g c =
     let value = g.W.Word.value in
     let f = unsigned_abs (value c.args.factors.f) in
-    let pivot = c.args.pivot.numbers.now in
+    let pivot = map g.P.Word.value c.args.pivot.numbers.now in
     subst (λ (zs : List ℤ). HasRoom g.W.Word.held 1 f zs pivot) (sym c.multiply.ensures) (scaled_room g.W.Word.held f (value c.args.factors.p) (map value c.args.numbers.now) pivot c.requires.room)
 
 pub returns : goal.returns
@@ -26,5 +26,5 @@ returns g c =
     let value = g.W.Word.value in
     let p = value c.args.factors.p in
     let f = value c.args.factors.f in
-    let pivot = c.args.pivot.numbers.now in
+    let pivot = map g.P.Word.value c.args.pivot.numbers.now in
     c.subtract_multiple.ensures ∙ ap (λ (zs : List ℤ). cross_difference 1 f zs pivot) c.multiply.ensures ∙ mixed_after p f (map value c.args.numbers.now) pivot c.requires.positive

@@ -9,11 +9,14 @@ use Rattle.whole_solver.proofs.mix.subtract_multiple.Goals as goal
 
 pub subtract_at-requires-clause-inside : goal.subtract_at-requires-clause-inside
 subtract_at-requires-clause-inside g c =
-    let ps = map whole c.args.pivot.now in
+    let qs = map g.P.Word.value c.args.pivot.now in
     let t = c.loop-place.place-index in
     let places = c.requires.places in
-    let low : t < length (nonzero_in c.args.pivot.now) = (rw places at c.loop-place-test.true) in
-    let inside : slice_index_or c.args.places.now t 0 < length c.args.pivot.now = rw places (rw length-map at (place_inside ps t low)) in
+    let low : t < length (nonzero_in qs) = (rw places at c.loop-place-test.true) in
+    let here : slice_index_or (nonzero_in qs) t 0 < length (map whole qs) = place_inside (map whole qs) t low in
+    let count = length-map qs whole in
+    let many = length-map c.args.pivot.now g.P.Word.value in
+    let inside : slice_index_or c.args.places.now t 0 < length c.args.pivot.now = rw places (omega (arith, here, count, many)) in
     let same = c.loop-place.invariant.width in
     (omega (arith, inside, c.requires.width, same), inside)
 
@@ -23,12 +26,13 @@ subtract_at-requires-clause-room g c =
     let t = c.loop-place.place-index in
     let j = slice_index_or c.args.places.now t 0 in
     let room = c.requires.room j in
-    subst (λ (y : ℤ). unsigned_abs y + unsigned_abs (value c.args.f) * unsigned_abs (number_at c.args.pivot.now j) ≤ g.W.Word.held)
+    subst (λ (y : ℤ). unsigned_abs y + unsigned_abs (value c.args.f) * unsigned_abs (number_at (map g.P.Word.value c.args.pivot.now) j) ≤ g.W.Word.held)
     (sym (c.loop-place.invariant.left t (omega arith) c.loop-place-test.true)) (omega (arith, room))
 
 pub loop-place-preserved : goal.loop-place-preserved
 loop-place-preserved g c =
     let value = g.W.Word.value in
+    let qs = map g.P.Word.value c.args.pivot.now in
     let t = c.loop-place.place-index in
     let places = c.args.places.now in
     let j = slice_index_or places t 0 in
@@ -38,9 +42,9 @@ loop-place-preserved g c =
     let told = c.subtract_at.ensures in
     record {
       width = sym (length-map c.subtract_at.new.numbers value) ∙ ap length told ∙ length-set zs j _ ∙ length-map c.loop-place.numbers value ∙ inv.width;
-      rest = less_more _ c.args.pivot.now zs new _ places t c.loop-place-test.true told inv.rest;
+      rest = less_more _ qs zs new _ places t c.loop-place-test.true told inv.rest;
       left = λ k p low.
-          (let rises : j < slice_index_or places k 0 = rw c.requires.places (rising c.args.pivot.now t k (omega (arith, p)) (rw c.requires.places at low)) in
+          (let rises : j < slice_index_or places k 0 = rw c.requires.places (rising qs t k (omega (arith, p)) (rw c.requires.places at low)) in
           ap (λ (ws : List ℤ). number_at ws (slice_index_or places k 0)) told ∙ get_or-set_other zs j (slice_index_or places k 0) _ (pos 0) (λ e. omega (arith, rises, e)) ∙ inv.left k (omega (arith, p)) low);
     }
 
@@ -48,7 +52,7 @@ pub returns : goal.returns
 returns g c =
     let value = g.W.Word.value in
     let f = value c.args.f in
-    let qs = c.args.pivot.now in
+    let qs = map g.P.Word.value c.args.pivot.now in
     let old = map value c.args.numbers.now in
     less_end f qs (map value c.loop-place.numbers) _ c.args.places.now c.loop-place.place-index (omega (arith, c.loop-place-test.false)) c.loop-place.invariant.rest
-    ∙ ap (λ (js : List ℕ). less_at f qs js old) c.requires.places ∙ less_is f old qs (length-map c.args.numbers.now value ∙ c.requires.width)
+    ∙ ap (λ (js : List ℕ). less_at f qs js old) c.requires.places ∙ less_is f old qs (length-map c.args.numbers.now value ∙ c.requires.width ∙ sym (length-map c.args.pivot.now g.P.Word.value))

@@ -9,8 +9,8 @@ invariant-loop-place g l =
     record {
       width : length l.numbers ≡ length l.fn.numbers;
       rest :
-          less_at (g.W.Word.value l.f) l.pivot (drop l.place-index l.places) (map g.W.Word.value l.numbers)
-          ≡ less_at (g.W.Word.value l.f) l.pivot l.places (map g.W.Word.value l.fn.numbers);
+          less_at (g.W.Word.value l.f) (map g.P.Word.value l.pivot) (drop l.place-index l.places) (map g.W.Word.value l.numbers)
+          ≡ less_at (g.W.Word.value l.f) (map g.P.Word.value l.pivot) l.places (map g.W.Word.value l.fn.numbers);
       left :
           (k : ℕ) → l.place-index ≤ k → k < length l.places
           → number_at (map g.W.Word.value l.numbers) (slice_index_or l.places k 0) ≡ number_at (map g.W.Word.value l.fn.numbers) (slice_index_or l.places k 0);

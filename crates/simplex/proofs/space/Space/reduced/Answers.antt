@@ -19,7 +19,7 @@ price_at-requires g c =
     let there = whole_is_there g.N.Exact.fraction s.stage (program_in g.N.Exact.fraction s.program) s.table t c.args.self.now.contents (ap (λ (w : Workspace). w.contents) c.self.view_is) c.in-WholeOptimal.is in
     let f = labelled_price (as_whole t) in
     let low = subst (λ (d : Contents). c.args.j < length (reduced_of d)) there c.requires.place in
-    record { limit = r.read; within = r.within; variable = omega (arith, low, listed_count f 0 (length t.names.items)) }
+    record { within = r; variable = omega (arith, low, listed_count f 0 (length t.names.items)) }
 
 pub returns-in-WholeOptimal : goal.returns-in-WholeOptimal
 returns-in-WholeOptimal g c =

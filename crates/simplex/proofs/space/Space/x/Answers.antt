@@ -16,7 +16,7 @@ pub value_at-requires : goal.value_at-requires
 value_at-requires g c =
     let s = c.self.inside in
     let r = subst (λ (st : Stage). IsAt (unsigned_abs g.N.Exact.LIMIT) st (program_in g.N.Exact.fraction s.program) s.table s.whole) c.in-WholeOptimal.is c.self.invariant.stage in
-    record { limit = r.read; within = r.within }
+    r
 
 pub returns-in-WholeOptimal : goal.returns-in-WholeOptimal
 returns-in-WholeOptimal g c =

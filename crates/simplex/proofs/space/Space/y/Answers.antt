@@ -17,19 +17,19 @@ price_at-requires g c =
     let r = subst (λ (st : Stage). IsAt (unsigned_abs g.N.Exact.LIMIT) st (program_in g.N.Exact.fraction s.program) s.table s.whole) c.in-WholeOptimal.is c.self.invariant.stage in
     let t = s.whole in
     let n = length t.names.items in
-    let m = length t.rows.rows in
+    let m = length t.basics.items in
     let i = c.args.i in
     let there = whole_is_there g.N.Exact.fraction s.stage (program_in g.N.Exact.fraction s.program) s.table t c.args.self.now.contents (ap (λ (w : Workspace). w.contents) c.self.view_is) c.in-WholeOptimal.is in
     let f = labelled_price (as_whole t) in
     let low = subst (λ (d : Contents). i < length (y_of d)) there c.requires.place in
-    record { limit = r.read; within = r.within; variable = omega (arith, low, listed_count f n m, c.variables.ensures) }
+    record { within = r; variable = omega (arith, low, listed_count f n m, c.variables.ensures) }
 
 pub overflow_add-variables : goal.overflow_add-variables
 overflow_add-variables g c =
     let s = c.self.inside in
     let t = s.whole in
     let n = length t.names.items in
-    let m = length t.rows.rows in
+    let m = length t.basics.items in
     let i = c.args.i in
     let there = whole_is_there g.N.Exact.fraction s.stage (program_in g.N.Exact.fraction s.program) s.table t c.args.self.now.contents (ap (λ (w : Workspace). w.contents) c.self.view_is) c.in-WholeOptimal.is in
     let f = labelled_price (as_whole t) in
@@ -41,7 +41,7 @@ returns-in-WholeOptimal g c =
     let s = c.self.inside in
     let t = s.whole in
     let n = length t.names.items in
-    let m = length t.rows.rows in
+    let m = length t.basics.items in
     let i = c.args.i in
     let there = whole_is_there g.N.Exact.fraction s.stage (program_in g.N.Exact.fraction s.program) s.table t c.args.self.now.contents (ap (λ (w : Workspace). w.contents) c.self.view_is) c.in-WholeOptimal.is in
     let f = labelled_price (as_whole t) in

@@ -1,4 +1,4 @@
-use Rattle.std.proofs.Common.{◌≡◌, ◌<◌, ◌≤◌, ◌+◌, [], ◌∷◌, ◌++◌, ◌∙◌, sym, ap, subst, arith, rules, length, map, ℕ, ℤ, List}
+use Rattle.std.proofs.Common.{◌≡◌, ◌<◌, ◌≤◌, ◌+◌, [], ◌∷◌, ◌++◌, ◌∙◌, sym, ap, subst, arith, rules, length, map, ℕ, List}
 use Rattle.std.proofs.lemmas.List.{length-map, length-append, take_all}
 use Rattle.exact_num.specs.Fraction.{negated}
 use Rattle.table_run.specs.Places.{fraction_zero, numbers, values_at}
@@ -6,10 +6,14 @@ use Rattle.table_run.proofs.Listed.{listed_count}
 use Rattle.compact_table.proofs.Filling.{numbers_last}
 use Rattle.compact_table.specs.SparseRows.{lists_of}
 use Rattle.compact_table.proofs.Parts.{length-rows, rows_long}
-use Rattle.equal_runs.specs.Lines.{IsLine, taken_in}
-use Rattle.whole_solver.specs.Rows.{line_in, lines_in, AreLinesIn}
+use Rattle.equal_runs.specs.Lines.{IsLine, line_size, taken_in, widest}
+use Rattle.whole_solver.specs.declared.objective.Objective.{Objective}
+use Rattle.whole_solver.specs.Rows.{line_in, lines_in}
+use Rattle.whole_solver.specs.Stored.{AreStored, rows_in}
 use Rattle.whole_solver.specs.Tables.{table_of, taken_from, width_of}
-use Rattle.whole_solver.proofs.Taken.{lines_more, taken_more, table_taken, lists_first}
+use Rattle.whole_solver.proofs.Taken.{taken_more, table_taken, lists_first}
+use Rattle.whole_solver.proofs.Stored.{rows_count}
+use Rattle.whole_solver.proofs.Turned.{line_wider}
 use Rattle.whole_solver.proofs.table.WholeTable.take_in.Goals as goal
 
 pub loop-i-init : goal.loop-i-init
@@ -24,7 +28,6 @@ loop-i-preserved g c =
     let new = c.take_row.new.self in
     let inv = c.loop-i.invariant in
     let i = c.loop-i.i in
-    let b = c.args.bound in
     let n = c.variables-columns.result in
     let w = width_of old in
     let told = c.take_row.ensures in
@@ -34,7 +37,8 @@ loop-i-preserved g c =
     let many : length lists ≡ length p.ends.items = length-rows f (length p.costs.items + 1) p.entries.items 0 p.ends.items in
     let low : i < length lists = omega (arith, many, c.loop-i-test.true, c.rows-i-end.ensures) in
     let line = h.line ∙ ap taken_in c.write_row.ensures in
-    let count = ap length h.rows ∙ length-append old.rows.rows (h.row ∷ []) in
+    let count = sym (rows_count new.rows.is_wide.items new.rows.short.rows new.rows.wide.rows) ∙ ap length h.rows ∙ length-append (rows_in old.rows) (h.row ∷ []) in
+    let were = rows_count old.rows.is_wide.items old.rows.short.rows old.rows.wide.rows in
     let before = inv.count in
     let fits = inv.room in
     let room = told.room.rows in
@@ -42,11 +46,12 @@ loop-i-preserved g c =
       names = told.names ∙ inv.names;
       columns = ap length told.names ∙ inv.columns;
       basics = h.basics ∙ ap (λ (bs : List ℕ). bs ++ (n + i) ∷ []) inv.basics ∙ sym (numbers_last n i);
-      rows = ap (λ (k : ℕ). lines_in k new.rows.rows) wide ∙ ap (lines_in w) h.rows ∙ taken_more w lists old.rows.rows h.row i low inv.rows line;
-      objective = ap (λ (k : ℕ). line_in k new.objective.items) wide ∙ ap (line_in w) told.objective ∙ inv.objective;
-      lines = subst (λ (k : ℕ). AreLinesIn b k new.rows.rows) (sym wide) (subst (AreLinesIn b w) (sym h.rows) (lines_more b w old.rows.rows h.row inv.lines h.within));
-      last = subst (λ (k : ℕ). IsLine b k (line_in k new.objective.items)) (sym wide) (subst (λ (o : List ℤ). IsLine b w (line_in w o)) (sym told.objective) inv.last);
-      count = omega (arith, count, before);
+      rows = ap (λ (k : ℕ). lines_in k (rows_in new.rows)) wide ∙ ap (lines_in w) h.rows ∙ taken_more w lists (rows_in old.rows) h.row i low inv.rows line;
+      objective = ap (λ (k : ℕ). line_in k new.objective.numbers.items) wide ∙ ap (λ (o : Objective). line_in w o.numbers.items) told.objective ∙ inv.objective;
+      stored = λ limit high. subst (λ (k : ℕ). AreStored limit k new.rows) (sym wide) (told.stored limit c.if-not-take_row.false high (inv.stored limit high));
+      last = subst (λ (k : ℕ). IsLine widest k (line_in k new.objective.numbers.items)) (sym wide) (subst (λ (o : Objective). IsLine widest w (line_in w o.numbers.items)) (sym told.objective) inv.last);
+      size = subst (λ (k : ℕ). line_size (line_in k new.objective.numbers.items) ≤ new.objective.size) (sym wide) (subst (λ (o : Objective). line_size (line_in w o.numbers.items) ≤ o.size) (sym told.objective) inv.size);
+      count = omega (arith, count, were, before);
       room = omega (arith, fits, room);
       line = omega (arith, inv.line, c.write_row.auto.row);
     }
@@ -69,14 +74,18 @@ returns-clause-table g c done =
     let names = inv.names ∙ ap (numbers 0) cols in
     let basics = inv.basics ∙ (λ k. numbers (cols k) (all k)) in
     let rows = inv.rows ∙ take_all i (map taken_in lists) (omega (arith, high, many, length-map lists taken_in)) in
-    let count = inv.count in
     let slacks = numbers (length p.costs.items) (length lists) in
     let same : length slacks ≡ length lists = listed_count (λ k. k) (length p.costs.items) (length lists) in
     let objective = map negated costs ++ fraction_zero ∷ [] in
     let long = rows_long f (length p.costs.items) p.entries.items 0 p.ends.items in
-    c.keep_sizes.ensures.table
-    ∙ (λ k. table_of (names k) (basics k) self.rows.rows self.objective.items)
-    ∙ table_taken (numbers 0 (length p.costs.items)) slacks lists objective self.rows.rows self.objective.items same (omega (arith, count, all))
-    (ap (λ (ns : List ℕ). lines_in (length ns + 1) self.rows.rows) (sym names) ∙ rows)
-    (ap (λ (ns : List ℕ). line_in (length ns + 1) self.objective.items) (sym names) ∙ inv.objective)
+    (λ k. table_of (names k) (basics k) (rows_in self.rows) self.objective.numbers.items)
+    ∙ table_taken (numbers 0 (length p.costs.items)) slacks lists objective (rows_in self.rows) self.objective.numbers.items same
+    (ap (λ (ns : List ℕ). lines_in (length ns + 1) (rows_in self.rows)) (sym names) ∙ rows)
+    (ap (λ (ns : List ℕ). line_in (length ns + 1) self.objective.numbers.items) (sym names) ∙ inv.objective)
     ∙ ap taken_from (lists_first (length p.costs.items) lists costs long)
+
+pub returns-clause-within : goal.returns-clause-within
+returns-clause-within g c limit done high =
+    let inv = c.loop-i.invariant in
+    let w = width_of c.loop-i.self in
+    record { rows = inv.stored limit high; objective = line_wider widest limit w _ high inv.last; size = inv.size }

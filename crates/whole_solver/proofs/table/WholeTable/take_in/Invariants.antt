@@ -1,9 +1,10 @@
-use Rattle.std.proofs.Common.{◌≡◌, ◌+◌, ◌≤◌, [], ◌∷◌, ◌++◌, length, map, take}
+use Rattle.std.proofs.Common.{◌≡◌, ◌+◌, ◌≤◌, [], ◌∷◌, ◌++◌, length, map, take, ℕ}
 use Rattle.exact_num.specs.Fraction.{negated}
 use Rattle.table_run.specs.Places.{fraction_zero, numbers}
-use Rattle.equal_runs.specs.Lines.{IsLine, taken_in}
+use Rattle.equal_runs.specs.Lines.{IsLine, line_size, taken_in, widest}
 use Rattle.compact_table.specs.SparseRows.{lists_of}
-use Rattle.whole_solver.specs.Rows.{line_in, lines_in, AreLinesIn}
+use Rattle.whole_solver.specs.Rows.{line_in, lines_in}
+use Rattle.whole_solver.specs.Stored.{AreStored, rows_in}
 use Rattle.whole_solver.specs.Tables.{width_of, room_of}
 use Rattle.whole_solver.proofs.table.WholeTable.take_in.Given as goal
 
@@ -15,11 +16,12 @@ invariant-loop-i g l =
       names : l.self.names.items ≡ numbers 0 l.columns;
       columns : length l.self.names.items ≡ l.columns;
       basics : l.self.basics.items ≡ numbers l.columns l.i;
-      rows : lines_in (width_of l.self) l.self.rows.rows ≡ take l.i (map taken_in (lists_of f l.program));
-      objective : line_in (width_of l.self) l.self.objective.items ≡ taken_in (map negated (map f l.program.costs.items) ++ fraction_zero ∷ []);
-      lines : AreLinesIn l.bound (width_of l.self) l.self.rows.rows;
-      last : IsLine l.bound (width_of l.self) (line_in (width_of l.self) l.self.objective.items);
-      count : length l.self.rows.rows ≡ l.i;
+      rows : lines_in (width_of l.self) (rows_in l.self.rows) ≡ take l.i (map taken_in (lists_of f l.program));
+      objective : line_in (width_of l.self) l.self.objective.numbers.items ≡ taken_in (map negated (map f l.program.costs.items) ++ fraction_zero ∷ []);
+      stored : (limit : ℕ) → widest ≤ limit → AreStored limit (width_of l.self) l.self.rows;
+      last : IsLine widest (width_of l.self) (line_in (width_of l.self) l.self.objective.numbers.items);
+      size : line_size (line_in (width_of l.self) l.self.objective.numbers.items) ≤ l.self.objective.size;
+      count : length l.self.rows.short.rows ≡ l.i;
       room : length l.program.ends.items ≤ room_of l.self;
       line : length l.line ≡ l.columns + 1;
     }

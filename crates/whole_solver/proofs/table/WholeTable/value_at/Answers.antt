@@ -2,6 +2,8 @@ use Rattle.std.proofs.Common.{◌≡◌, ◌<◌, ◌∙◌, sym, ap, arith, len
 use Rattle.std.proofs.lemmas.List.{length-map}
 use Rattle.equal_runs.specs.Lines.{Line, entry_of, no_line}
 use Rattle.whole_solver.specs.Rows.{line_in, lines_in, row_at}
+use Rattle.whole_solver.specs.Stored.{rows_in}
+use Rattle.whole_solver.proofs.Stored.{rows_count}
 use Rattle.whole_solver.specs.Tables.{width_of}
 use Rattle.compact_table.proofs.Reading.{place_inside}
 use Rattle.whole_solver.proofs.Choosing.{line_place}
@@ -11,21 +13,21 @@ use Rattle.whole_solver.proofs.table.WholeTable.value_at.Goals as goal
 pub returns-in-None : goal.returns-in-None
 returns-in-None g c =
     let t = c.args.self.now in
-    c.zero.ensures ∙ sym (basic_missing _ c.args.j t.basics.items (lines_in (width_of t) t.rows.rows) c.in-None.ensures)
+    c.zero.ensures ∙ sym (basic_missing _ c.args.j t.basics.items (lines_in (width_of t) (rows_in t.rows)) c.in-None.ensures)
 
 pub returns-in-Some : goal.returns-in-Some
 returns-in-Some g c =
     let t = c.args.self.now in
     let n = length t.names.items in
     let i = c.in-Some.i in
-    let lines = lines_in (width_of t) t.rows.rows in
+    let lines = lines_in (width_of t) (rows_in t.rows) in
     let count : c.len.result ≡ n = omega (arith, c.len.ensures, t.names.ok) in
-    let same : length t.basics.items ≡ length lines = omega (arith, length-map t.rows.rows (line_in (width_of t)), t.count, t.basics.ok) in
+    let same : length t.basics.items ≡ length lines = omega (arith, length-map (rows_in t.rows) (line_in (width_of t)), t.count, t.basics.ok, rows_count t.rows.is_wide.items t.rows.short.rows t.rows.wide.rows) in
     let inside = place_inside c.args.j t.basics.items i c.in-Some.ensures in
-    let low : i < length t.rows.rows = omega (arith, inside, t.count, t.basics.ok) in
+    let low : i < length (rows_in t.rows) = omega (arith, inside, t.count, t.basics.ok, rows_count t.rows.is_wide.items t.rows.short.rows t.rows.wide.rows) in
     c.entry.ensures
-    ∙ ap (entry_of (line_in (width_of t) (row_at t.rows.rows i))) count
+    ∙ ap (entry_of (line_in (width_of t) (row_at (rows_in t.rows) i))) count
     ∙ sym (
     basic_found (λ r. entry_of r.line n) c.args.j t.basics.items lines i no_line same c.in-Some.ensures
-    ∙ ap (λ (l : Line). entry_of l n) (line_place (width_of t) t.rows.rows i no_line low)
+    ∙ ap (λ (l : Line). entry_of l n) (line_place (width_of t) (rows_in t.rows) i no_line low)
     )

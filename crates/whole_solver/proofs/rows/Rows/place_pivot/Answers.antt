@@ -1,0 +1,38 @@
+use Rattle.std.proofs.Common.{◌-◌, ◌^◌, ◌<◌, sym, subst, arith, unsigned_abs}
+use Rattle.equal_runs.specs.Lines.{Line, IsLine, number_at}
+use Rattle.equal_runs.specs.WholeTurning.{cut}
+use Rattle.equal_runs.proofs.LineSteps.{cut_within}
+use Rattle.equal_runs.proofs.TurnSteps.{size_above, cut_above}
+use Rattle.whole_solver.specs.Rows.{line_in, row_at}
+use Rattle.whole_solver.specs.Stored.{rows_in}
+use Rattle.whole_solver.proofs.Standing.{rows_many}
+use Rattle.whole_solver.proofs.Written.{written_then}
+use Rattle.whole_solver.proofs.rows.Rows.place_pivot.Goals as goal
+
+pub cut_row-requires-clause-row : goal.cut_row-requires-clause-row
+cut_row-requires-clause-row c = omega (arith, c.requires.pivot.row, rows_many c.args.self.now)
+
+pub exchange_row-a-requires-clause-row : goal.exchange_row-a-requires-clause-row
+exchange_row-a-requires-clause-row c = omega (arith, c.requires.pivot.row, rows_many c.args.self.now, c.cut_row.ensures.written.count.count)
+
+pub exchange_row-a-requires-clause-line : goal.exchange_row-a-requires-clause-line
+exchange_row-a-requires-clause-line c =
+    subst (IsLine (2 ^ 127 - 1) c.args.width) (sym c.cut_row.ensures.line) (cut_within (2 ^ 127 - 1) c.args.width (line_in c.args.width (row_at (rows_in c.args.self.now) c.args.r)) c.requires.line)
+
+pub exchange_row-a-requires-clause-above : goal.exchange_row-a-requires-clause-above
+exchange_row-a-requires-clause-above c =
+    let x = line_in c.args.width (row_at (rows_in c.args.self.now) c.args.r) in
+    subst (λ (l : Line). 0 < unsigned_abs (number_at l.numbers c.args.c)) (sym c.cut_row.ensures.line)
+    (size_above (number_at (cut x).numbers c.args.c) (cut_above x c.args.c c.requires.line.positive c.requires.pivot.above)).1
+
+pub size_anew-requires-clause-row : goal.size_anew-requires-clause-row
+size_anew-requires-clause-row c =
+    omega (arith, c.requires.pivot.row, rows_many c.args.self.now, c.cut_row.ensures.written.count.count, c.exchange_row-a.ensures.written.count.count)
+
+pub returns-clause-written : goal.returns-clause-written
+returns-clause-written c =
+    let first = c.args.self.now in
+    let cut_rows = c.cut_row.new.self in
+    let exchanged = c.exchange_row-a.new.self in
+    let before = written_then c.args.width c.args.r first cut_rows exchanged c.cut_row.ensures.written c.exchange_row-a.ensures.written in
+    written_then c.args.width c.args.r first exchanged c.size_anew.new.self before c.size_anew.ensures.written

@@ -1,0 +1,62 @@
+-- Rows of both widths as they are stored, and the rows that they are.
+use Rattle.std.specs.Prelude.{◌≡◌, ℕ, ◌<◌, ◌≤◌, ◌^◌, List, [], ◌∷◌, ℤ, length, slice_index_or, slice_set, if◌then◌else◌, Bool, true, false}
+use Rattle.std.specs.Int.{int_signum}
+use Rattle.equal_runs.specs.Lines.{AreSizes, line_size, number_at, widest}
+use Rattle.whole_solver.specs.Rows.{AreLinesIn, line_in, nonzero_in, row_at}
+use Rattle.whole_solver.specs.declared.rows.Rows.{Rows}
+
+-- of each row the wide one where it is wide, and else the short one
+unfoldable pub rows_of : List Bool → List (List ℤ) → List (List ℤ) → List (List ℤ)
+rows_of wide [] there = []
+rows_of [] (s ∷ short) there = s ∷ rows_of [] short there
+rows_of (b ∷ wide) (s ∷ short) [] = s ∷ rows_of wide short []
+rows_of (b ∷ wide) (s ∷ short) (x ∷ there) = (if b then x else s) ∷ rows_of wide short there
+
+abbrev pub rows_in : Rows → List (List ℤ)
+rows_in r = rows_of r.is_wide.items r.short.rows r.wide.rows
+
+abbrev pub is_wide_at : Rows → ℕ → Bool
+is_wide_at r i = slice_index_or r.is_wide.items i false
+
+abbrev pub size_at : Rows → ℕ → ℕ
+size_at r i = slice_index_or r.sizes.items i 0
+
+-- the denominator and w numbers of a row have the signs of those of another
+abbrev pub HasSigns : ℕ → List ℤ → List ℤ → Type 0
+HasSigns w signs row = (j : ℕ) → j ≤ w → int_signum (number_at signs j) ≡ int_signum (number_at row j)
+
+-- row i is of w numbers: it is at most its size. Where it is short 64 bits hold both, and where it is wide its short row has
+-- its signs
+pub record IsStored (w : ℕ) (r : Rows) (i : ℕ) : Type 0 where
+  pub size : line_size (line_in w (row_at (rows_in r) i)) ≤ size_at r i
+  pub short : is_wide_at r i ≡ false → (line_size (line_in w (row_at (rows_in r) i)) ≤ widest) × (size_at r i < 2 ^ 64)
+  pub signs : is_wide_at r i ≡ true → HasSigns w (row_at r.short.rows i) (row_at r.wide.rows i)
+
+-- each row is so, and within the limit
+pub record AreStored (limit w : ℕ) (r : Rows) : Type 0 where
+  pub lines : AreLinesIn limit w (rows_in r)
+  pub rows : (i : ℕ) → i < length r.short.rows → IsStored w r i
+
+-- row r is the pivot row: a stands in the column, its numbers are at most `most`, and these are the places where they are
+-- not 0
+pub record IsKnown (a most : ℕ) (listed : List ℕ) (r w : ℕ) (rows : Rows) : Type 0 where
+  pub row : r < length rows.short.rows
+  pub above : 0 < a
+  pub below : a ≤ most
+  pub sizes : AreSizes most (line_in w (row_at (rows_in rows) r)).numbers
+  pub places : listed ≡ nonzero_in (line_in w (row_at (rows_in rows) r)).numbers
+  pub short : is_wide_at rows r ≡ false → (a ≤ widest) × (most < 2 ^ 64)
+
+-- as many rows, and room for as many more
+pub record SameCounts (old new : Rows) : Type 0 where
+  pub count : length new.short.rows ≡ length old.short.rows
+  pub spare : new.short.spare ≡ old.short.spare
+  pub width : new.short.width ≡ old.short.width
+
+-- row i alone is written
+pub record IsWrittenAt (w i : ℕ) (old new : Rows) : Type 0 where
+  pub row : rows_in new ≡ slice_set (rows_in old) i (row_at (rows_in new) i)
+  pub stored : IsStored w new i
+  pub others : (j : ℕ) → (j ≡ i → ⊥) → IsStored w old j → IsStored w new j
+  pub flags : (j : ℕ) → (j ≡ i → ⊥) → is_wide_at new j ≡ is_wide_at old j
+  pub count : SameCounts old new
