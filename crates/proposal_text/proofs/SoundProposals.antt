@@ -1,10 +1,10 @@
 -- What is taken out of a text or a line is within its ranges.
-use Rattle.std.proofs.Common.{◌≡◌, ℕ, ◌≤◌, ◌≤ℤ◌, ℤ, pos, negsuc, int_le, List, length, true, false, Bool, ◌==◌, nat_le, Option, option_and_then, codes, refl, arith, if◌then◌else◌}
+use Rattle.std.proofs.Common.{ℕ, ◌≤◌, ◌≤ℤ◌, ℤ, pos, int_le, List, length, true, false, Bool, ◌==◌, nat_le, Option, option_and_then, codes, refl, if◌then◌else◌}
 use Rattle.std.specs.Prelude.{⊤}
 use Rattle.std.specs.List.{AllByRecursion}
 use Rattle.std.specs.Str.{bytes_eq}
 use Rattle.std.proofs.lemmas.Bool.{leb-true}
-use Rattle.std.proofs.lemmas.Int.{ints}
+use Rattle.arithmetic.proofs.Tests.{int_le-yes}
 use Rattle.form.specs.declared.limits.TheConstants.{MAX_BUDGET, MAX_ORDER, MAX_ORDERS}
 use Rattle.frac.specs.declared.frac128.Frac128.{Frac128}
 use Rattle.cert_check.specs.declared.outcome.Mark.{Mark}
@@ -73,14 +73,10 @@ book_sound d =
 abbrev IsFilled : Frac128 → Type 0
 IsFilled x = pos 1 ≤ℤ x.numerator
 
-above_from : (z : ℤ) → int_le (pos 1) z ≡ true → pos 1 ≤ℤ z
-above_from (pos n) e = let low = leb-true 1 n e in omega (arith, ints)
-above_from (negsuc n) e = cc
-
 fill_sound : (d : Data) → Sound IsFilled (fill_at d)
 fill_sound d =
     after (λ x. ⊤) IsFilled filled (take_at (codes "fill") fraction_from d) (any _)
-    (λ x t. where_true IsFilled (int_le (pos 1) x.numerator) x (λ e. above_from x.numerator e))
+    (λ x t. where_true IsFilled (int_le (pos 1) x.numerator) x (int_le-yes (pos 1) x.numerator))
 
 position_sound : (account market : ℕ) (d : Data) → Sound (IsPositionWithin account market) (position_from account market d)
 position_sound account market d =

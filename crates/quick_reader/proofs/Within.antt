@@ -1,9 +1,8 @@
 -- A reply that passes the tests is within its ranges.
-use Rattle.std.proofs.Common.{◌≡◌, ℕ, zero, suc, ◌≤◌, ◌*◌, ◌^◌, ℤ, pos, negsuc, int_le, unsigned_abs, List, [], ◌∷◌, length, Bool, true, false, ◌&&◌, nat_le, sym, arith, true≢false}
-use Rattle.std.specs.Prelude.{◌≤ℤ◌}
+use Rattle.std.proofs.Common.{◌≡◌, ℕ, zero, suc, ◌*◌, ◌^◌, ℤ, pos, unsigned_abs, List, [], ◌∷◌, length, Bool, true, false, ◌&&◌, nat_le, sym, arith, true≢false}
 use Rattle.std.specs.List.{All, AllByRecursion, list_all}
 use Rattle.std.proofs.lemmas.Bool.{and_parts, leb-true, ltb-true, eqb-true}
-use Rattle.std.proofs.lemmas.Int.{ints}
+use Rattle.arithmetic.proofs.Tests.{int_le-yes}
 use Rattle.form.specs.Between.{Between}
 use Rattle.form.specs.Limits.{IsListed}
 use Rattle.form.specs.Bundles.{legs_in, count_sizes}
@@ -141,10 +140,6 @@ refusal number n false e = eqb-true n 0 e
 moved : (account : ℕ) (balance : ℤ) → (is_from_to 1 999999999 account && is_small balance) ≡ true → Between 1 999999999 account × IsSmall balance
 moved account balance e = let parts = and_parts (is_from_to 1 999999999 account) (is_small balance) e in (from_to 1 999999999 account parts.0, small balance parts.1)
 
-from_zero : (z : ℤ) → int_le (pos 0) z ≡ true → pos 0 ≤ℤ z
-from_zero (pos n) e = omega (arith, ints)
-from_zero (negsuc n) e = absurd (true≢false (sym e))
-
 pub reply_within : (reply : Reply) → is_reply reply ≡ true → IsReplyWithin reply
 reply_within (Opened account) e = from_to 1 999999999 account e
 reply_within (Deposited account balance) e = moved account balance e
@@ -166,6 +161,6 @@ reply_within (Balance account balance reserved) e =
     let first = and_parts (nat_le account 999999999) _ e in
     let second = and_parts (is_small balance) _ first.1 in
     let third = and_parts (is_small reserved) _ second.1 in
-    (leb-true account 999999999 first.0, small balance second.0, small reserved third.0, from_zero reserved third.1)
+    (leb-true account 999999999 first.0, small balance second.0, small reserved third.0, int_le-yes (pos 0) reserved third.1)
 reply_within (Refused number n) e =
     let parts = and_parts (is_from_to 1 13 number) _ e in (from_to 1 13 number parts.0, refusal number n (is_range_refusal number) parts.1)
