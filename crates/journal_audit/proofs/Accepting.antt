@@ -41,12 +41,12 @@ use Rattle.journal_audit.specs.AskedValues.{asked_tests}
 use Rattle.journal_audit.proofs.AskedExactly.{asked_plain, asked_reads, asked_written}
 use Rattle.journal_check.specs.declared.findings.Finding.{Finding}
 use Rattle.journal_check.specs.declared.findings.Finding.TheVariants.{Plain, Cleared, Bounded, Faulty}
-use Rattle.journal_check.specs.Findings.{cleared_finding, fault_in, reply_finding}
+use Rattle.journal_check.specs.Findings.{bounded_finding, cleared_finding, fault_in, reply_finding}
 use Rattle.journal_check.specs.Laws.{IfCleared, IsCertified, IsSoundLineOf}
 use Rattle.journal_audit.specs.declared.gate_lines.GateLine.{GateLine}
 use Rattle.journal_audit.specs.declared.gate_lines.GateLine.TheVariants.{Malformed, Sessions, Expecting}
 use Rattle.journal_audit.specs.Accepted.{accepted_line, before_end, between, if_braced, is_accepted, is_braced, is_object, message_from, reply_in, tail_text}
-use Rattle.journal_audit.specs.Findings.{accepted_finding, audit_finding, beside, bounded_finding, line_finding, plain_found, proposal_finding, proposal_found, reply_found, served_finding, session_beside, tells_asked, tells_proposal, told_finding, unspelled, value_finding}
+use Rattle.journal_audit.specs.Findings.{accepted_finding, audit_finding, beside, line_finding, plain_found, proposal_finding, proposal_found, reply_found, served_finding, session_beside, tells_asked, tells_proposal, told_finding, unspelled, value_finding}
 use Rattle.journal_audit.specs.GateLines.{IsGateLineOf, IsSessionNumber, gate_piece, gate_tests}
 use Rattle.journal_audit.specs.Laws.{AuditedReply, IfBounded, IsAcceptedLineOf, IsAuditedLine, IsAuditedLineOf, IsProposedLineOf, IsServedLineOf, IsToldLineOf, OfAsked, OfGate, OfProposals, OfRun, OfServe, ServedReply, SoundLinesAreFoundSo}
 use Rattle.journal_audit.proofs.AuditSays.{IsHeard, line_heard}

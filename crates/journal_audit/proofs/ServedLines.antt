@@ -24,10 +24,10 @@ use Rattle.journal_audit.specs.AskedValues.{asked_tests}
 use Rattle.journal_audit.proofs.AskedExactly.{asked_line_of}
 use Rattle.journal_check.specs.declared.findings.Finding.{Finding}
 use Rattle.journal_check.specs.declared.findings.Finding.TheVariants.{Plain, Cleared, Bounded, Faulty}
-use Rattle.journal_check.specs.Findings.{fault_finding, finding_of, read_finding, reply_finding}
+use Rattle.journal_check.specs.Findings.{bounded_finding, fault_finding, finding_of, read_finding, reply_finding}
 use Rattle.journal_check.specs.Laws.{IsSoundLineOf, reply_counts}
 use Rattle.journal_check.proofs.LineSays.{FindingSays, IsCountedBy, line_says}
-use Rattle.journal_audit.specs.Findings.{beside, bounded_finding, plain_found, proposal_finding, proposal_found, served_finding, tells_asked, tells_proposal, told_finding, value_finding}
+use Rattle.journal_audit.specs.Findings.{beside, plain_found, proposal_finding, proposal_found, served_finding, tells_asked, tells_proposal, told_finding, value_finding}
 use Rattle.journal_audit.specs.Laws.{IfBounded, IsServedLineOf, OfAsked, OfProposals, OfRun, is_bounded, served_counts}
 
 -- where the line is not found faulty

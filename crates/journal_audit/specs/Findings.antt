@@ -3,8 +3,6 @@ use Rattle.std.specs.Prelude.{ℕ, List, Bool, ◌&&◌, ◌||◌, ◌==◌, Opt
 use Rattle.std.specs.Str.{bytes_eq}
 use Rattle.frac.specs.Range.{limit}
 use Rattle.frac.specs.Value.{fraction_of}
-use Rattle.cert_check.specs.declared.outcome.Judgement.{Judgement}
-use Rattle.cert_check.specs.declared.outcome.Judgement.TheVariants as judgement
 use Rattle.cert_check.specs.Proposals.{bounded_verdict_of}
 use Rattle.serde_json.specs.Data.{Data}
 use Rattle.reply_print.specs.Look.{word_at, number_at}
@@ -16,22 +14,16 @@ use Rattle.proposal_text.specs.declared.replies.ProposalReply.TheVariants as tol
 use Rattle.proposal_text.specs.ReplyValues.{proposal_tests}
 use Rattle.journal_audit.specs.AskedValues.{asked_tests}
 use Rattle.journal_check.specs.declared.findings.Finding.{Finding}
-use Rattle.journal_check.specs.declared.findings.Finding.TheVariants.{Plain, Bounded, Faulty}
-use Rattle.journal_check.specs.declared.reports.Reason.TheVariants.{Range, Spelling, Wide}
+use Rattle.journal_check.specs.declared.findings.Finding.TheVariants.{Plain, Faulty}
+use Rattle.journal_check.specs.declared.reports.Reason.TheVariants.{Range, Spelling}
 use Rattle.journal_check.specs.declared.reports.Reason.TheVariants as reason
-use Rattle.journal_check.specs.Findings.{fault_finding, no_reason, reply_finding}
+use Rattle.journal_check.specs.Findings.{bounded_finding, fault_finding, reply_finding}
 use Rattle.journal_check.specs.Reports.{report_by}
 use Rattle.journal_check.specs.declared.reports.Report.{Report}
 use Rattle.journal_audit.specs.Accepted.{is_accepted, message_from, reply_in}
 use Rattle.journal_audit.specs.GateLines.{gate_tests}
 
 -- ---- lines beside those of a run
-
--- a cleared batch that is marked bounded, by the judgement of its proposal and bound
-abbrev pub bounded_finding : Judgement → Finding
-bounded_finding judgement.Yes = Bounded
-bounded_finding (judgement.No condition) = Faulty (no_reason condition)
-bounded_finding (judgement.Wide w) = Faulty Wide
 
 abbrev pub proposal_finding : ProposalReply → Finding
 proposal_finding (told.Bounded number market batch outcome) = bounded_finding (bounded_verdict_of limit batch outcome.proposal (fraction_of outcome.bound))

@@ -1,10 +1,6 @@
 // What is found of one line.
 ghost use Rattle.std.specs.Prelude.{◌≡◌, IfOk, Some, codes, option_map};
-ghost use Rattle.frac.specs.Range.{limit};
-ghost use Rattle.frac.specs.Value.{fraction_of};
 ghost use Rattle.serde_json.specs.View.{view};
-ghost use Rattle.cert_check.specs.Proposals.{bounded_verdict_of};
-ghost use Rattle.reply_print.specs.Within.{IsBatchWithin};
 ghost use Rattle.reply_print.specs.Look.{word_at as word_found};
 ghost use Rattle.reply_text.specs.Tests.{json_of, value_by};
 ghost use Rattle.journal_audit.specs.AskedValues.{asked_tests};
@@ -12,54 +8,29 @@ ghost use Rattle.proposal_text.specs.ReplyValues.{proposal_tests};
 ghost use Rattle.proposal_text.specs.Within.{IsProposalReplyWithin};
 ghost use Rattle.journal_audit.specs.Accepted.{message_from as message_found};
 ghost use Rattle.journal_audit.specs.GateLines.{gate_tests};
-ghost use Rattle.journal_audit.specs.Findings.{accepted_finding as accepted_is, plain_found as plain_read, proposal_found as proposal_read, audit_finding as audit_is, beside as beside_is, bounded_finding as bounded_is, proposal_finding as proposal_is, reply_found as reply_is, served_finding as served_is, session_beside as session_beside_is, session_value_finding as session_value_is, tells_asked as asked_is_told, tells_proposal as proposal_is_told, unspelled as unspelled_is, value_finding as value_is};
+ghost use Rattle.journal_audit.specs.Findings.{accepted_finding as accepted_is, plain_found as plain_read, proposal_found as proposal_read, audit_finding as audit_is, beside as beside_is, proposal_finding as proposal_is, reply_found as reply_is, served_finding as served_is, session_beside as session_beside_is, session_value_finding as session_value_is, tells_asked as asked_is_told, tells_proposal as proposal_is_told, unspelled as unspelled_is, value_finding as value_is};
 
 use crate::accepted::{is_accepted, message_from, reply_in};
 use crate::asked_reading::read_asked_value;
 use crate::gate_reading::read_gate_value;
-use cert_check::{Judgement, bounded_verdict};
-use form::Batch;
-use journal_check::findings::{fault_finding, leg_count, no_reason, reply_finding};
+use journal_check::findings::{bounded_finding, fault_finding, reply_finding};
 use journal_check::{Finding, Reason};
+use proposal_text::ProposalReply;
 use proposal_text::reading::read_proposal_value;
-use proposal_text::{BoundedOutcome, ProposalReply};
 use reply_print::look::{number_at, word_at};
 use reply_text::reading::json_value;
 use reply_text::{LineFault, read_line};
 use serde_json::Value;
 use std::alloc::{AllocError, Global};
 
-fn judgement_finding(judgement: Judgement) -> Finding
-    ensures { result ≡ bounded_is judgement }
-{
-    match judgement {
-        Judgement::Yes => Finding::Bounded,
-        Judgement::No(no) => Finding::Faulty(no_reason(no)),
-        Judgement::Wide(_) => Finding::Faulty(Reason::Wide),
-    }
-}
-
-// Judges a batch that is marked bounded.
-fn bounded_finding(
-    alloc: Global,
-    batch: &Batch,
-    outcome: &BoundedOutcome,
-) -> Result<Finding, AllocError>
-    requires { IsBatchWithin batch.now }
-    ensures { IfOk result (λ f. f ≡ bounded_is
-        (bounded_verdict_of limit batch.now outcome.now.proposal (fraction_of outcome.now.bound))) }
-{
-    let mut signs = vec![in alloc; 0; leg_count(batch.orders.as_slice())]?;
-    let judgement = bounded_verdict(batch, &outcome.proposal, &outcome.bound, &mut signs);
-    Ok(judgement_finding(judgement))
-}
-
 fn proposal_finding(alloc: Global, reply: &ProposalReply) -> Result<Finding, AllocError>
     requires { IsProposalReplyWithin reply.now }
     ensures { IfOk result (λ f. f ≡ proposal_is reply.now) }
 {
     match reply {
-        ProposalReply::Bounded { batch, outcome, .. } => bounded_finding(alloc, batch, outcome),
+        ProposalReply::Bounded { batch, outcome, .. } => {
+            bounded_finding(alloc, batch, &outcome.proposal, &outcome.bound)
+        }
         _ => Ok(Finding::Plain),
     }
 }

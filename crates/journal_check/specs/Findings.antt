@@ -46,6 +46,12 @@ cleared_finding judgement.Yes m = Cleared (is_marked m)
 cleared_finding (judgement.No condition) m = Faulty (no_reason condition)
 cleared_finding (judgement.Wide w) m = Faulty Wide
 
+-- one that is marked bounded, by the judgement of its proposal and bound
+abbrev pub bounded_finding : Judgement → Finding
+bounded_finding judgement.Yes = Bounded
+bounded_finding (judgement.No condition) = Faulty (no_reason condition)
+bounded_finding (judgement.Wide w) = Faulty Wide
+
 abbrev pub reply_finding : Reply → Finding
 reply_finding (reply.Cleared number market batch outcome) = cleared_finding (verdict_of limit batch outcome) outcome.mark
 reply_finding other = Plain

@@ -1,14 +1,17 @@
 //! What is found of one line.
 ghost use Rattle.std.specs.Prelude.{◌≡◌, ◌≢◌, ◌≤◌, IfOk, length};
-ghost use Rattle.journal_check.specs.Findings.{cleared_finding as cleared_is, fault_finding as fault_is, finding_of, is_marked as is_marked_by, no_reason as reason_is, reply_finding as reply_is};
+ghost use Rattle.journal_check.specs.Findings.{bounded_finding as bounded_is, cleared_finding as cleared_is, fault_finding as fault_is, finding_of, is_marked as is_marked_by, no_reason as reason_is, reply_finding as reply_is};
 ghost use Rattle.reply_print.specs.Within.{IsBatchWithin, IsReplyWithin};
 ghost use Rattle.frac.specs.Range.{limit};
+ghost use Rattle.frac.specs.Value.{fraction_of};
 ghost use Rattle.cert_check.specs.Events.{verdict_of};
+ghost use Rattle.cert_check.specs.Proposals.{bounded_verdict_of};
 ghost use Rattle.sign_tree.specs.Legs.{leg_count};
 
 use crate::Reason;
-use cert_check::{Judgement, Mark, No, Outcome, verdict};
+use cert_check::{Judgement, Mark, No, Outcome, Proposal, bounded_verdict, verdict};
 use form::{Batch, Order};
+use frac::Frac128;
 use reply_text::{LineFault, Reply, read_line};
 use std::alloc::{AllocError, Global};
 
@@ -25,8 +28,8 @@ pub enum Finding {
     Faulty(Reason),
 }
 
-/// The condition that is not met, as a reason.
-pub fn no_reason(no: No) -> Reason
+// The condition that is not met, as a reason.
+fn no_reason(no: No) -> Reason
     ensures { result ≡ reason_is no }
 {
     match no {
@@ -59,8 +62,18 @@ fn judgement_finding(judgement: Judgement, mark: &Mark) -> Finding
     }
 }
 
-/// How many legs the orders of a batch have.
-pub fn leg_count(orders: &[Order]) -> usize
+fn bounded_judgement(judgement: Judgement) -> Finding
+    ensures { result ≡ bounded_is judgement }
+{
+    match judgement {
+        Judgement::Yes => Finding::Bounded,
+        Judgement::No(no) => Finding::Faulty(no_reason(no)),
+        Judgement::Wide(_) => Finding::Faulty(Reason::Wide),
+    }
+}
+
+// How many legs the orders of a batch have.
+fn leg_count(orders: &[Order]) -> usize
     requires { length orders.now ≤ 256 }
     ensures count { result ≡ leg_count orders.now }
     ensures few { result ≤ 1024 }
@@ -80,6 +93,22 @@ fn cleared_finding(alloc: Global, batch: &Batch, outcome: &Outcome) -> Result<Fi
 {
     let mut signs = vec![in alloc; 0; leg_count(batch.orders.as_slice())]?;
     Ok(judgement_finding(verdict(batch, outcome, &mut signs), &outcome.mark))
+}
+
+/// What a cleared batch that is marked bounded is found to be, by the judgement of its proposal and of the bound that is told. The
+/// only error is want of memory.
+pub fn bounded_finding(
+    alloc: Global,
+    batch: &Batch,
+    proposal: &Proposal,
+    bound: &Frac128,
+) -> Result<Finding, AllocError>
+    requires { IsBatchWithin batch.now }
+    ensures { IfOk result (λ f. f
+        ≡ bounded_is (bounded_verdict_of limit batch.now proposal.now (fraction_of bound.now))) }
+{
+    let mut signs = vec![in alloc; 0; leg_count(batch.orders.as_slice())]?;
+    Ok(bounded_judgement(bounded_verdict(batch, proposal, bound, &mut signs)))
 }
 
 /// What a reply within its ranges is found to be. The only error is want of memory.
