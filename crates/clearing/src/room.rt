@@ -13,13 +13,23 @@ use std::alloc::{AllocError, Global};
 
 /// What a batch is cleared in, with at most so many units. Only `new` and `renew` take memory. A contract sees it as the batch
 /// and the limit that it is for; after a clear it is for none until `renew`, since the outcome takes its lists out.
-#[derive(Drop)]
 pub struct ClearRoom {
     pub(crate) run: JointRoom<Frac128>,
     // a sign for each leg, for the sums of the verdict
     pub(crate) signs: Vec<i8>,
     // where the run stops
     pub(crate) matched: Matched,
+}
+
+// Not derived: whoever owns a room lets it go by this one call, and not field by field.
+impl Drop for ClearRoom {
+    fn drop(self) {
+        let ClearRoom {
+            run: _run,
+            signs: _signs,
+            matched: _matched,
+        } = self;
+    }
 }
 
 impl ClearRoom {
@@ -30,9 +40,9 @@ impl ClearRoom {
         ensures { IfOk result (IsClearRoom batch.now limit) }
     {
         Ok(ClearRoom {
-            run: JointRoom::new(alloc, batch, limit)?,
             signs: vec![in alloc; 0_i8; leg_count(batch.orders.as_slice())]?,
             matched: Matched::new(alloc, batch)?,
+            run: JointRoom::new(alloc, batch, limit)?,
         })
     }
 

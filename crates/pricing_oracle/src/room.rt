@@ -22,7 +22,6 @@ use std::marker::Model;
 
 /// What searches over batches with at most so many underlyings and legs work in, one after another, with at most so many
 /// units each. Only `new` and `renew` take memory. Contracts see it as these sizes and the tree of the last search.
-#[derive(Drop)]
 pub struct SearchRoom<N: Exact> {
     underlyings: usize,
     legs: usize,
@@ -35,6 +34,21 @@ pub struct SearchRoom<N: Exact> {
     row: Vec<N>,
     // the nodes and multipliers so far: no more than units are spent
     tree: TreeParts,
+}
+
+// Not derived: whoever owns a room lets it go by this one call, and not field by field.
+impl<N: Exact> Drop for SearchRoom<N> {
+    fn drop(self) {
+        let SearchRoom {
+            underlyings: _,
+            legs: _,
+            units: _,
+            space: _space,
+            signs: _signs,
+            row: _row,
+            tree: _tree,
+        } = self;
+    }
 }
 
 impl<N: Exact> Model for SearchRoom<N> {
@@ -76,11 +90,11 @@ impl<N: Exact> SearchRoom<N> {
             × (room.legs ≡ legs) × (room.units ≡ units)) }
     {
         let columns = underlyings + 1 + legs;
-        let space = Space::new(alloc, 1 + legs, columns)?;
         let signs = Vec::with_capacity(alloc, legs)?;
         let row = Vec::with_capacity(alloc, columns)?;
         let nodes = Vec::with_capacity(alloc, units as usize)?;
         let multipliers = Vec::with_capacity(alloc, units as usize)?;
+        let space = Space::new(alloc, 1 + legs, columns)?;
         Ok(SearchRoom {
             underlyings,
             legs,

@@ -19,13 +19,23 @@ pub const MAX_UNITS: u32 = 199_000;
 
 /// What the joint solve of a batch with so many units works in. Only `new` and `renew` take memory. What a solve finds takes its
 /// lists out of the room, which is then room for no batch until `renew`.
-#[derive(Drop)]
 pub struct JointRoom<N: Exact> {
     // the states of the line, or those of the rounds so far
     pub(crate) states: Vec<State>,
     pub(crate) solve: SolveRoom<N>,
     // for several underlyings
     pub(crate) search: Option<SearchRoom<N>>,
+}
+
+// Not derived: whoever owns a room lets it go by this one call, and not field by field.
+impl<N: Exact> Drop for JointRoom<N> {
+    fn drop(self) {
+        let JointRoom {
+            states: _states,
+            solve: _solve,
+            search: _search,
+        } = self;
+    }
 }
 
 // Room for a batch on one underlying.

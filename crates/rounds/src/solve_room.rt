@@ -16,12 +16,23 @@ use std::alloc::{AllocError, Global};
 
 /// What the solves of master programs work in, one after another: the space of the programs and the row that is given next,
 /// and the fills and the weighted states that are read off.
-#[derive(Drop)]
 pub(crate) struct SolveRoom<N: Exact> {
     pub(crate) space: Space<N>,
     pub(crate) row: Vec<N>,
     pub(crate) fills: Vec<N>,
     pub(crate) points: Vec<Weighted>,
+}
+
+// Not derived: whoever owns a room lets it go by this one call, and not field by field.
+impl<N: Exact> Drop for SolveRoom<N> {
+    fn drop(self) {
+        let SolveRoom {
+            space: _space,
+            row: _row,
+            fills: _fills,
+            points: _points,
+        } = self;
+    }
 }
 
 impl<N: Exact> SolveRoom<N> {
@@ -36,10 +47,10 @@ impl<N: Exact> SolveRoom<N> {
         ensures { IfOk result (IsSolveRoom orders states) }
     {
         Ok(SolveRoom {
-            space: Space::new(alloc, orders + states, orders + 1)?,
             row: Vec::with_capacity(alloc, orders + 1)?,
             fills: Vec::with_capacity(alloc, orders)?,
             points: Vec::with_capacity(alloc, states)?,
+            space: Space::new(alloc, orders + states, orders + 1)?,
         })
     }
 

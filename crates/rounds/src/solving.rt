@@ -95,8 +95,8 @@ pub fn solve_joint<N: Exact>(
     ensures limit { budget.new.limit ≡ budget.old.limit }
 {
     let orders = batch.orders.as_slice();
-    let room = JointRoom::new(alloc, batch, budget.limit)?;
     let fills = Vec::with_capacity(alloc, orders.len())?;
     let mut signs = vec![in alloc; 0_i8; leg_count(orders)]?;
+    let room = JointRoom::new(alloc, batch, budget.limit)?;
     Ok(solve_judged(batch, budget, room, fills, &mut signs)?)
 }

@@ -144,10 +144,10 @@ pub fn solve<N: Exact>(
     ensures memory { result ≡ Err Stop.Memory → budget.new.spent ≡ budget.old.spent }
     ensures limit { budget.new.limit ≡ budget.old.limit }
 {
-    let mut space = space_for(alloc, program)?;
     let x = zeros(alloc, program.n)?;
     let y = zeros(alloc, program.m)?;
     let reduced = zeros(alloc, program.n)?;
+    let mut space = space_for(alloc, program)?;
     if space.run(budget)? {
         Ok(optimum(&space, x, y, reduced))
     } else {

@@ -24,7 +24,6 @@ use whole_solver::WholeTable;
 /// `reserve` take memory.
 ///
 /// A program is given by its costs and then its rows, and run; its optimum is then read off.
-#[derive(Drop)]
 pub struct Space<N: Exact> {
     rows: usize,
     columns: usize,
@@ -35,6 +34,21 @@ pub struct Space<N: Exact> {
     whole: WholeTable,
     // room for a row of the program
     line: Vec<N>,
+}
+
+// Not derived: whoever owns a space lets it go by this one call, and not field by field.
+impl<N: Exact> Drop for Space<N> {
+    fn drop(self) {
+        let Space {
+            rows: _,
+            columns: _,
+            stage: _,
+            program: _program,
+            table: _table,
+            whole: _whole,
+            line: _line,
+        } = self;
+    }
 }
 
 impl<N: Exact> Model for Space<N> {
@@ -75,10 +89,10 @@ impl<N: Exact> Space<N> {
         ensures sizes { IfOk result (λ space. (space.rows ≡ rows) × (space.columns ≡ columns)) }
         ensures contents { IfOk result (λ space. space.contents ≡ nothing) }
     {
+        let line = zeros(alloc, columns + 1)?;
         let program = SparseProgram::with_room(alloc, rows, columns)?;
         let table = Table::with_room(alloc, rows, columns)?;
         let whole = WholeTable::with_room(alloc, rows, columns)?;
-        let line = zeros(alloc, columns + 1)?;
         Ok(Space {
             rows,
             columns,

@@ -85,8 +85,8 @@ returns-then-branch-clause-holds g c =
     let end = solved_is g.N.Exact.fraction E solved after (c.optimum.ensures ∙ c.run.ensures.contents) c.run.ensures.units in
     subst (λ (p : LinearProgram). HoldsOf g.N.Exact.fraction p (Ok solved)) same (holds g.N.Exact.fraction (program_given c.in_ok-space.space.contents) E solved after c.run.ensures.holds end)
 
-pub returns-clause-holds : goal.returns-clause-holds
-returns-clause-holds g c =
+pub returns-else-branch-clause-holds : goal.returns-else-branch-clause-holds
+returns-else-branch-clause-holds g c =
     let E = run (unsigned_abs g.N.Exact.LIMIT) (program_given c.in_ok-space.space.contents) (c.args.budget.now.limit - c.args.budget.now.spent) c.args.budget.now.spent in
     let same = ap program_given c.in_ok-space.ensures in
     let solved = c.without_limit.result in
@@ -104,8 +104,8 @@ returns-then-branch-clause-run g c =
     let end = solved_is g.N.Exact.fraction E c.optimum.result c.run.new.budget.spent (c.optimum.ensures ∙ c.run.ensures.contents) c.run.ensures.units in
     ap (λ (p : LinearProgram). run L p left spent) (sym same) ∙ end
 
-pub returns-clause-run : goal.returns-clause-run
-returns-clause-run g c =
+pub returns-else-branch-clause-run : goal.returns-else-branch-clause-run
+returns-else-branch-clause-run g c =
     let L = unsigned_abs g.N.Exact.LIMIT in
     let left = c.args.budget.now.limit - c.args.budget.now.spent in
     let spent = c.args.budget.now.spent in
