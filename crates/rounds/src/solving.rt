@@ -49,8 +49,29 @@ impl<N: Exact> JointRoom<N> {
     }
 }
 
-/// The whole run in given room: the run of `solve_unjudged`, and last the sums of the verdict, for which there are a list for
-/// the fills in 128 bits and a sign for each leg.
+// The whole run in given room: the run of `solve_unjudged`, and last the sums of the verdict, for which there are a list for
+// the fills in 128 bits and a sign for each leg.
+fn judged_in<N: Exact>(
+    room: &mut JointRoom<N>,
+    batch: &Batch,
+    budget: &mut Budget,
+    fills: Vec<Frac128>,
+    signs: &mut [i8],
+) -> Result<Joint<N>, RunStop>
+    requires limits { IsWithinLimits batch.now }
+    requires room { IsJointRoom batch.now budget.old.limit room.old }
+    requires fills { length batch.now.orders ≤ vec_capacity fills }
+    requires signs { AreSigns batch.now.orders (length signs.old) }
+    ensures run { IsJointAnswer N.fraction (joint_run
+        (limits_of (unsigned_abs N.LIMIT) budget.old.limit) batch.now.underlyings
+        batch.now.orders budget.old.spent) (as_stopped result) budget.new.spent }
+    ensures limit { budget.new.limit ≡ budget.old.limit }
+{
+    let joint = room.solve_unjudged(batch, budget)?;
+    judge_widened(batch, joint, budget.spent, fills, signs)
+}
+
+// The same in room that it lets go.
 fn solve_judged<N: Exact>(
     batch: &Batch,
     budget: &mut Budget,
@@ -67,8 +88,7 @@ fn solve_judged<N: Exact>(
         batch.now.orders budget.old.spent) (as_stopped result) budget.new.spent }
     ensures limit { budget.new.limit ≡ budget.old.limit }
 {
-    let joint = room.solve_unjudged(batch, budget)?;
-    judge_widened(batch, joint, budget.spent, fills, signs)
+    judged_in(&mut room, batch, budget, fills, signs)
 }
 
 /// The fills of the batch with the greatest surplus, in ticks, and the certificate that shows it: the reference run, which is

@@ -3,7 +3,7 @@ use Rattle.std.proofs.lemmas.Result.{err_from_is_err_and}
 use Rattle.simplex.specs.Stops.{stop_of}
 use Rattle.rounds.specs.Answers.{as_stopped, limits_of}
 use Rattle.rounds.proofs.Certified.{judged_after, stops_before, then_sums}
-use Rattle.rounds.proofs.solving.solve_judged.Goals as goal
+use Rattle.rounds.proofs.solving.judged_in.Goals as goal
 
 pub returns-in_err-joint-clause-run : goal.returns-in_err-joint-clause-run
 returns-in_err-joint-clause-run g c =
