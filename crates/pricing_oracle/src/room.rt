@@ -179,11 +179,4 @@ impl<N: Exact> SearchRoom<N> {
             multipliers: Multipliers::from_vec(take_list(&mut self.tree.multipliers)),
         }
     }
-
-    /// The tree of the last search, which closed.
-    pub fn into_tree(mut self) -> SignTree
-        ensures { result ≡ self.tree }
-    {
-        self.take_tree()
-    }
 }

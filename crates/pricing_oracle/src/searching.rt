@@ -58,6 +58,35 @@ pub fn search_in<N: Exact>(
     room.search(asked, leg_count(orders), budget)
 }
 
+// The same, with the tree of a search that closes taken out of the room.
+fn found_by<N: Exact>(
+    batch: &Batch,
+    fills: &[N],
+    liability: &N,
+    budget: &mut Budget,
+    room: &mut SearchRoom<N>,
+) -> Result<Found, Stop>
+    requires forms { HasItsForms batch.now }
+    requires few { length batch.now.orders ≤ MAX_ORDERS }
+    requires fills { length fills.now ≡ length batch.now.orders }
+    requires not_below_zero { All IsNotBelowZero (map N.fraction fills.now) }
+    requires underlyings { batch.now.underlyings ≤ room.old.underlyings }
+    requires legs { leg_count batch.now.orders ≤ room.old.legs }
+    requires units { budget.old.limit ≤ room.old.units }
+    ensures search { IsSearchAnswer (search_of
+        (question (unsigned_abs N.LIMIT) budget.old.limit batch.now (map N.fraction fills.now)
+        (N.fraction liability.now)) budget.old.spent) result budget.new.spent }
+    ensures found { IfOk result (IsTrueOf
+        (question (unsigned_abs N.LIMIT) budget.old.limit batch.now (map N.fraction fills.now)
+        (N.fraction liability.now))) }
+    ensures limit { budget.new.limit ≡ budget.old.limit }
+{
+    match search_in(batch, fills, liability, budget, room)? {
+        Some(state) => Ok(Found::Violated(state)),
+        None => Ok(Found::Closed(room.take_tree())),
+    }
+}
+
 /// The same in room of its own, for want of which `Memory` comes.
 pub fn search<N: Exact>(
     alloc: Global,
@@ -80,8 +109,5 @@ pub fn search<N: Exact>(
 {
     let legs = leg_count(batch.orders.as_slice());
     let mut room = SearchRoom::new(alloc, batch.underlyings as usize, legs, budget.limit)?;
-    match search_in(batch, fills, liability, budget, &mut room)? {
-        Some(state) => Ok(Found::Violated(state)),
-        None => Ok(Found::Closed(room.into_tree())),
-    }
+    found_by(batch, fills, liability, budget, &mut room)
 }
