@@ -1,3 +1,4 @@
+use command_text::MAX_INPUT;
 use exchange_sessions::{AnswerStop, answer_messages};
 use port_io::MemSink;
 use std::alloc::{AllocError, Global};
@@ -52,7 +53,7 @@ fn outcome(
     write: u32,
 ) -> Result<(Result<(), AnswerStop>, MemSink), AllocError> {
     let mut sink = MemSink::new(alloc, 1_000_000, 64, vec![in alloc; write]?)?;
-    let end = if input.len() <= 16_777_216 {
+    let end = if input.len() <= MAX_INPUT {
         answer_messages(alloc, input, &mut sink)
     } else {
         Ok(())
