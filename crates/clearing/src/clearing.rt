@@ -1,4 +1,5 @@
-//! The clearing of a batch: a run, and at its end the outcome that it proves, or the match of each bundle by itself.
+//! The clearing of a batch: a run, and at its end the outcome that it proves, or the match of each
+//! bundle by itself.
 ghost use Rattle.std.specs.Prelude.{◌≡◌, ◌≤◌, IfOk, length, map};
 ghost use Rattle.frac.specs.Range.{limit as largest};
 ghost use Rattle.frac.specs.Value.{fraction_of};
@@ -62,7 +63,8 @@ fn outcome_at(
     }
 }
 
-/// The end of a run after the sums of the verdict, which are done where it has found a solution; `units` are spent.
+/// The end of a run after the sums of the verdict, which are done where it has found a solution;
+/// `units` are spent.
 fn judged(
     batch: &Batch,
     solved: Result<Joint<Frac128>, RunStop>,
@@ -79,9 +81,10 @@ fn judged(
 }
 
 impl ClearRoom {
-    /// Clears the batch in this room by a run in 128 bits: the solver tries rows of whole numbers first, and a run in narrow
-    /// fractions before it would only cost time. What more there is to say of the outcome follows from its definition by the
-    /// laws. It takes no memory, and has no other answer.
+    /// Clears the batch in this room by a run in 128 bits: the solver tries rows of whole numbers
+    /// first, and a run in narrow fractions before it would only cost time. What more there is to
+    /// say of the outcome follows from its definition by the laws. It takes no memory, and has no
+    /// other answer.
     pub fn clear(&mut self, batch: &Batch, limit: u32) -> Outcome
         requires within { IsWithinLimits batch.now }
         requires limit { limit ≤ MAX_BUDGET }
@@ -93,8 +96,9 @@ impl ClearRoom {
         self.outcome_after(batch, limit, solved, budget.spent)
     }
 
-    /// The outcome of the batch after a run before the sums of the verdict has ended so, with `units` of `limit` units spent:
-    /// the sums come last, in 128 bits, and where the run or one of them stops, the outcome is the match. It takes no memory.
+    /// The outcome of the batch after a run before the sums of the verdict has ended so, with
+    /// `units` of `limit` units spent: the sums come last, in 128 bits, and where the run or one of
+    /// them stops, the outcome is the match. It takes no memory.
     pub fn outcome_after(
         &mut self,
         batch: &Batch,
@@ -113,10 +117,10 @@ impl ClearRoom {
     }
 }
 
-/// Clears a batch: the fills that earn the greatest surplus with their proof, or where the run stops, at a number that does
-/// not fit or for want of a unit, the match of each bundle by itself. The batch is within the limits of the exchange, on 1 to
-/// 8 underlyings, and at most `limit` units of work are spent. All memory is taken before the first step. The only error is
-/// want of memory.
+/// Clears a batch: the fills that earn the greatest surplus with their proof, or where the run
+/// stops, at a number that does not fit or for want of a unit, the match of each bundle by itself.
+/// The batch is within the limits of the exchange, on 1 to 8 underlyings, and at most `limit` units
+/// of work are spent. All memory is taken before the first step. The only error is want of memory.
 pub fn clear(alloc: Global, batch: &Batch, limit: u32) -> Result<Outcome, AllocError>
     requires within { IsWithinLimits batch.now }
     requires limit { (1 ≤ limit) × (limit ≤ MAX_BUDGET) }
@@ -125,7 +129,8 @@ pub fn clear(alloc: Global, batch: &Batch, limit: u32) -> Result<Outcome, AllocE
     ensures outcome { IfOk result (λ outcome. outcome ≡ outcome_of batch.now limit) }
     ensures marked { IfOk result (IsMarked batch.now limit) }
 
-    // Each fill is from 0 to its quantity; the fills cover the surplus at every settlement, and it is not below 0.
+    // Each fill is from 0 to its quantity; the fills cover the surplus at every settlement, and it
+    // is not below 0.
     ensures within { IfOk result (λ outcome.
         AreFractionFills batch.now.orders (map fraction_of outcome.fills)) }
     ensures covers { IfOk result (IsCovered batch.now) }
@@ -138,8 +143,8 @@ pub fn clear(alloc: Global, batch: &Batch, limit: u32) -> Result<Outcome, AllocE
 
     ensures yes { IfOk result (λ outcome. verdict_of largest batch.now outcome ≡ Yes) }
 
-    // On one underlying, with at least as many units as `simplex::choices` has for the batch's master program, the mark is not
-    // budget.
+    // On one underlying, with at least as many units as `simplex::choices` has for the batch's
+    // master program, the mark is not budget.
     ensures choices { IfOk result (HasEnoughUnits batch.now limit) }
 {
     let mut room = ClearRoom::new(alloc, batch, limit)?;

@@ -81,8 +81,8 @@ fn whole_fills(alloc: Global, amounts: &[u64]) -> Result<Vec<Frac128>, AllocErro
     Ok(fills)
 }
 
-/// The match of each bundle by itself, which is kept for a run that stops: its fills, and what buyers pay less what sellers
-/// get. Only `new` takes memory.
+/// The match of each bundle by itself, which is kept for a run that stops: its fills, and what
+/// buyers pay less what sellers get. Only `new` takes memory.
 #[derive(Drop)]
 pub(crate) struct Matched {
     fills: Vec<Frac128>,
@@ -114,7 +114,8 @@ impl Matched {
     }
 }
 
-/// The match, with the mark of a run that stopped after so many units. Its liability is 0. It takes no memory.
+/// The match, with the mark of a run that stopped after so many units. Its liability is 0. It takes
+/// no memory.
 pub(crate) fn fallback(matched: Matched, mark: Mark, units: u32) -> Outcome
     ensures { (orders : List Order) → IsMatchOf orders matched
         → result ≡ fallback orders mark units }

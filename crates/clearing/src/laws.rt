@@ -16,7 +16,8 @@ pub fn outcomes_are_covered()
     ensures { OutcomesAreCovered }
 {}
 
-/// With the mark optimal the measure is one of the batch's underlyings, and its bound is the surplus,
+/// With the mark optimal the measure is one of the batch's underlyings, and its bound is the
+/// surplus,
 pub fn outcomes_are_measured()
     ensures { OutcomesAreMeasured }
 {}
@@ -31,14 +32,14 @@ pub fn outcomes_are_judged_yes()
     ensures { OutcomesAreJudgedYes }
 {}
 
-/// The mark of an outcome and its units are those of the end of its run: what it cleared, the step that did not fit, or a unit
-/// wanted beyond the limit.
+/// The mark of an outcome and its units are those of the end of its run: what it cleared, the step
+/// that did not fit, or a unit wanted beyond the limit.
 pub fn outcomes_are_marked()
     ensures { OutcomesAreMarked }
 {}
 
-/// With as many units as there are ways to choose the basic variables of its master program, the run of a batch on one underlying
-/// does not end for want of one.
+/// With as many units as there are ways to choose the basic variables of its master program, the
+/// run of a batch on one underlying does not end for want of one.
 pub fn units_suffice()
     ensures { UnitsSuffice }
 {}

@@ -1,4 +1,5 @@
-//! The clearing of a batch: the greatest surplus with its proof, or where the run stops, the match of each bundle by itself.
+//! The clearing of a batch: the greatest surplus with its proof, or where the run stops, the match
+//! of each bundle by itself.
 #![tactic(auto)]
 
 mod clearing;

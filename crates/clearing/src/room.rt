@@ -1,4 +1,5 @@
-//! What a batch is cleared in. All memory of a clear is taken here, before the first step of its run.
+//! What a batch is cleared in. All memory of a clear is taken here, before the first step of its
+//! run.
 ghost use Rattle.std.specs.Prelude.{◌≤◌, IfOk, OnOk};
 ghost use Rattle.form.specs.declared.limits.TheConstants.{MAX_BUDGET};
 ghost use Rattle.form.specs.Limits.{IsWithinLimits};
@@ -11,8 +12,9 @@ use rounds::JointRoom;
 use sign_tree::leg_count;
 use std::alloc::{AllocError, Global};
 
-/// What a batch is cleared in, with at most so many units. Only `new` and `renew` take memory. A contract sees it as the batch
-/// and the limit that it is for; after a clear it is for none until `renew`, since the outcome takes its lists out.
+/// What a batch is cleared in, with at most so many units. Only `new` and `renew` take memory. A
+/// contract sees it as the batch and the limit that it is for; after a clear it is for none until
+/// `renew`, since the outcome takes its lists out.
 pub struct ClearRoom {
     pub(crate) run: JointRoom<Frac128>,
     // a sign for each leg, for the sums of the verdict
@@ -46,9 +48,9 @@ impl ClearRoom {
         })
     }
 
-    /// Makes it room for the clearing of this batch with at most `limit` units. The tables of the programs, by far the most of
-    /// it, stay where they are large enough; the lists that an outcome takes out, and the match of the batch, are taken anew.
-    /// The error is want of memory.
+    /// Makes it room for the clearing of this batch with at most `limit` units. The tables of the
+    /// programs, by far the most of it, stay where they are large enough; the lists that an outcome
+    /// takes out, and the match of the batch, are taken anew. The error is want of memory.
     pub fn renew(&mut self, alloc: Global, batch: &Batch, limit: u32) -> Result<(), AllocError>
         requires within { IsWithinLimits batch.now }
         requires limit { limit ≤ MAX_BUDGET }

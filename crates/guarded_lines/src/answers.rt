@@ -10,9 +10,9 @@ use crate::replies::{print, reply_to};
 use exchange_core::Exchange;
 use std::alloc::{AllocError, Global};
 
-/// Takes the exchange one line further, and answers what is written for a line of exactly these bytes with this number: the line
-/// of its reply and a line feed. A line that asks for a margin changes nothing, nor does a withdrawal that is refused. The only
-/// error is want of memory.
+/// Takes the exchange one line further, and answers what is written for a line of exactly these
+/// bytes with this number: the line of its reply and a line feed. A line that asks for a margin
+/// changes nothing, nor does a withdrawal that is refused. The only error is want of memory.
 pub fn answer(
     alloc: Global,
     exchange: &mut Exchange,
@@ -28,8 +28,8 @@ pub fn answer(
     answer_said(alloc, exchange, number, &said)
 }
 
-/// Takes the exchange further by a line that says this, and answers what is written for it with this
-/// number. The only error is want of memory.
+/// Takes the exchange further by a line that says this, and answers what is written for it with
+/// this number. The only error is want of memory.
 pub fn answer_said(
     alloc: Global,
     exchange: &mut Exchange,

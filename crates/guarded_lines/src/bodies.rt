@@ -15,7 +15,8 @@ use std::alloc::{AllocError, Global};
 /// What a line says.
 #[derive(Debug, Drop)]
 pub enum GuardedBody {
-    /// What a line of a run says: a command, or none. A line that would ask for a margin and has not its form is no command.
+    /// What a line of a run says: a command, or none. A line that would ask for a margin and has
+    /// not its form is no command.
     Plain(Body),
     /// It asks for a margin.
     Margin(MarginRequest),
@@ -56,8 +57,8 @@ fn request_or_syntax(alloc: Global, line: &[u8]) -> Result<GuardedBody, AllocErr
     }
 }
 
-/// What a line of exactly these bytes says: no carriage return is taken away, and no first bytes are skipped. The only error is
-/// want of memory.
+/// What a line of exactly these bytes says: no carriage return is taken away, and no first bytes
+/// are skipped. The only error is want of memory.
 pub fn guarded_body_of(alloc: Global, line: &[u8]) -> Result<GuardedBody, AllocError>
     requires some { 0 < length line.now }
     requires one_line { list_any (λ b. b == 10) line.now ≡ false }

@@ -1,5 +1,5 @@
-//! Lines that may ask for a margin, and their answers: those of a run, what is told of margins, and withdrawals that an account's
-//! margins do not leave room for.
+//! Lines that may ask for a margin, and their answers: those of a run, what is told of margins, and
+//! withdrawals that an account's margins do not leave room for.
 #![tactic(auto)]
 
 mod answers;

@@ -18,7 +18,8 @@ use portfolio_margin::{LeastMargin, margin};
 use settlement::Position;
 use std::alloc::{AllocError, Global};
 
-// The number of underlyings of a market; 1 where there is no such market, in which no account has positions.
+// The number of underlyings of a market; 1 where there is no such market, in which no account has
+// positions.
 fn underlyings_in(exchange: &Exchange, market: u32) -> u8
     ensures value { result ≡ underlyings_in exchange.now.book market }
     ensures some { 1 ≤ result }
@@ -42,7 +43,8 @@ fn positions_in(exchange: &Exchange, account: u32, market: u32) -> Result<Vec<Po
     exchange.positions_of(account, market)
 }
 
-/// The margin of the positions that an account has in a market, with their number; `None` where they are more than
+/// The margin of the positions that an account has in a market, with their number; `None` where
+/// they are more than
 /// 256. The only error is want of memory.
 pub(crate) fn margin_in(
     alloc: Global,
@@ -89,7 +91,8 @@ fn refused_by(info: Option<MarketInfo>) -> Option<Refusal>
     }
 }
 
-/// The margin that is asked for, or the first refusal that the request meets. The only error is want of memory.
+/// The margin that is asked for, or the first refusal that the request meets. The only error is
+/// want of memory.
 pub(crate) fn margin_reply(
     alloc: Global,
     exchange: &Exchange,

@@ -37,7 +37,8 @@ fn word_of(margin: &LeastMargin) -> Option<Need>
     }
 }
 
-// What a market demands of an account: a margin that is least with its number of positions, or else a word.
+// What a market demands of an account: a margin that is least with its number of positions, or else
+// a word.
 fn demand(
     alloc: Global,
     exchange: &Exchange,
@@ -55,9 +56,9 @@ fn demand(
     }
 }
 
-/// What the positions of an account demand of its balance: the markets in which it has some are taken in rising number, and the first
-/// in which they are more than 256, or whose margin is not least, decides; else the margins' need. The only error is want of
-/// memory.
+/// What the positions of an account demand of its balance: the markets in which it has some are
+/// taken in rising number, and the first in which they are more than 256, or whose margin is not
+/// least, decides; else the margins' need. The only error is want of memory.
 pub(crate) fn need_of(alloc: Global, exchange: &Exchange, account: u32) -> Result<Need, AllocError>
     ensures { IfOk result (λ need. need ≡ need_in exchange.now account) }
 {

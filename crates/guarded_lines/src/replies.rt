@@ -27,8 +27,9 @@ pub enum GuardedReply {
     },
 }
 
-/// Takes the exchange one line further: a line of a run as there, but for a withdrawal that would leave its account less than its
-/// positions demand; that and a request for a margin change nothing.
+/// Takes the exchange one line further: a line of a run as there, but for a withdrawal that would
+/// leave its account less than its positions demand; that and a request for a margin change
+/// nothing.
 ///
 /// Want of memory leaves the exchange as it was.
 pub fn reply_to(

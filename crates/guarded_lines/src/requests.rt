@@ -7,8 +7,8 @@ use command_text::MAX_MARKET;
 use command_text::asked::{Asked, Fault, first_fault, natural};
 use form::MAX_BUDGET;
 
-/// What is asked where a line asks for a margin: that of an account's positions in a market, in searches of at most `budget`
-/// units together. Its numbers are within the limits.
+/// What is asked where a line asks for a margin: that of an account's positions in a market, in
+/// searches of at most `budget` units together. Its numbers are within the limits.
 #[derive(Clone, Copy, Debug, PartialEq, Eq)]
 pub struct MarginRequest {
     /// The number of the account.

@@ -14,7 +14,8 @@ use std::alloc::{AllocError, Global};
 /// What is told of the margin of an account in a market.
 #[derive(Clone, Copy, Debug, PartialEq, Eq)]
 pub enum ToldMargin {
-    /// The least liability that covers what the positions owe, and a settlement at which they owe just that.
+    /// The least liability that covers what the positions owe, and a settlement at which they owe
+    /// just that.
     Least { liability: Frac128, at: State },
     /// No liability covers what they owe along this ray.
     Unbounded { ray: State },
@@ -76,7 +77,8 @@ fn margin_value(
     }
 }
 
-/// The line of a margin that was asked for, without its line feed. The only error is want of memory.
+/// The line of a margin that was asked for, without its line feed. The only error is want of
+/// memory.
 pub fn print_margin(
     alloc: Global,
     line: u32,
@@ -129,7 +131,8 @@ fn uncovered_value(alloc: Global, line: u32, need: Need) -> Result<Value, AllocE
     })
 }
 
-/// The line of a withdrawal that is refused for want of margin, without its line feed. The only error is want of memory.
+/// The line of a withdrawal that is refused for want of margin, without its line feed. The only
+/// error is want of memory.
 pub fn print_uncovered(alloc: Global, line: u32, need: Need) -> Result<Vec<u8>, AllocError>
     ensures { IfOk result (λ text. text.items ≡ uncovered_line line need) }
 {

@@ -60,8 +60,8 @@ fn uncovered_withdrawal(
     }
 }
 
-/// The need that a line would leave uncovered: a withdrawal's alone, and none of one that a run refuses. The only error is want
-/// of memory.
+/// The need that a line would leave uncovered: a withdrawal's alone, and none of one that a run
+/// refuses. The only error is want of memory.
 pub(crate) fn uncovered_by(
     alloc: Global,
     exchange: &Exchange,

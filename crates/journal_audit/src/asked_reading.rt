@@ -34,9 +34,10 @@ impl TestedReply for AskedReply {
     }
 }
 
-/// Reads a line that tells a quote, prices, a margin or a need, by the value of its text: its number and what it tells. Ok
-/// exactly where the text is the print of the pair that is answered, and that pair is within its ranges; else the first test
-/// that the text fails, in the order of the faults. `Memory` where memory is wanting.
+/// Reads a line that tells a quote, prices, a margin or a need, by the value of its text: its
+/// number and what it tells. Ok exactly where the text is the print of the pair that is answered,
+/// and that pair is within its ranges; else the first test that the text fails, in the order of the
+/// faults. `Memory` where memory is wanting.
 pub fn read_asked_value(
     alloc: Global,
     text: &[u8],

@@ -3,10 +3,12 @@
 use guarded_lines::{Need, ToldMargin};
 use quote_lines::QuotedPrice;
 
-/// What a line is answered that asks for something, or a withdrawal that is refused for what it would leave.
+/// What a line is answered that asks for something, or a withdrawal that is refused for what it
+/// would leave.
 #[derive(Clone, Copy, Debug, PartialEq, Eq)]
 pub enum AskedReply {
-    /// The prices at which one further buy, and one further sell, of an option would raise the greatest surplus of a market.
+    /// The prices at which one further buy, and one further sell, of an option would raise the
+    /// greatest surplus of a market.
     Quoted {
         market: u32,
         bid: QuotedPrice,

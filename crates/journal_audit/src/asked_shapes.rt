@@ -118,7 +118,8 @@ fn is_need(value: &Value) -> bool
         || is_whole_text(value)
 }
 
-// Whether the texts of the reply that this word names are numbers or words where they should be. The value has its shape.
+// Whether the texts of the reply that this word names are numbers or words where they should be.
+// The value has its shape.
 pub(crate) fn has_numbers(value: &Value, word: &str) -> bool
     ensures { result ≡ numbers_are word.now (view value.now) }
 {

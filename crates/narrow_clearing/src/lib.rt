@@ -1,5 +1,5 @@
-//! Clearing by a run in narrow numbers first, and where one does not fit, in 128 bits: the outcome is that of a clear, and it is
-//! told in which numbers it was found.
+//! Clearing by a run in narrow numbers first, and where one does not fit, in 128 bits: the outcome
+//! is that of a clear, and it is told in which numbers it was found.
 #![tactic(auto)]
 
 mod narrow;

@@ -26,8 +26,8 @@ use rounds::{JointRoom, widened};
 use simplex::{Budget, RunStop};
 use std::alloc::{AllocError, Global};
 
-/// The outcome of a batch by a run in these numbers, where each number before the sums of the verdict fits, and else by a run
-/// in 128 bits. The sums are in 128 bits.
+/// The outcome of a batch by a run in these numbers, where each number before the sums of the
+/// verdict fits, and else by a run in 128 bits. The sums are in 128 bits.
 fn outcome_by<N: Exact>(
     batch: &Batch,
     limit: u32,
@@ -76,8 +76,8 @@ fn outcome_first<N: Exact>(batch: &Batch, limit: u32, room: FirstRoom<N>) -> (Ou
     outcome_by(batch, limit, &mut first, fills, &mut broad)
 }
 
-/// Clears a batch in given room as `clear` does, and tells in which numbers: the master programs, searches and rounds are run
-/// in 64 bits first. It takes no memory, and has no other answer.
+/// Clears a batch in given room as `clear` does, and tells in which numbers: the master programs,
+/// searches and rounds are run in 64 bits first. It takes no memory, and has no other answer.
 pub fn clear_in(batch: &Batch, limit: u32, room: Room) -> (Outcome, Pass)
     requires within { IsWithinLimits batch.now }
     requires limit { (1 ≤ limit) × (limit ≤ MAX_BUDGET) }
@@ -101,10 +101,11 @@ pub fn clear_in(batch: &Batch, limit: u32, room: Room) -> (Outcome, Pass)
     outcome_first(batch, limit, room)
 }
 
-/// Clears a batch as `clear` does, and tells in which numbers: the master programs, searches and rounds are run in N first.
-/// Where each of their numbers fits, the pass is narrow, and only the sums of the verdict are in 128 bits. Where one does
-/// not, the whole run is done again in 128 bits, from no unit spent, and the pass is broad. The outcome is the same in both.
-/// All memory is taken before the first step.
+/// Clears a batch as `clear` does, and tells in which numbers: the master programs, searches and
+/// rounds are run in N first. Where each of their numbers fits, the pass is narrow, and only the
+/// sums of the verdict are in 128 bits. Where one does not, the whole run is done again in 128
+/// bits, from no unit spent, and the pass is broad. The outcome is the same in both. All memory is
+/// taken before the first step.
 pub fn clear_first<N: Exact>(
     alloc: Global,
     batch: &Batch,

@@ -11,8 +11,8 @@ use frac::{Frac64, Frac128};
 use rounds::JointRoom;
 use std::alloc::{AllocError, Global};
 
-/// What a batch is cleared in by a run in N first. Only `new` takes memory. A contract sees it as the batch and the limit that
-/// it is for.
+/// What a batch is cleared in by a run in N first. Only `new` takes memory. A contract sees it as
+/// the batch and the limit that it is for.
 #[derive(Drop)]
 pub struct FirstRoom<N: Exact> {
     pub(crate) first: JointRoom<N>,

@@ -34,8 +34,8 @@ fn add_split(tree: &mut TreeParts, place: usize)
     push_within(&mut tree.nodes, split);
 }
 
-// Searches the branch with these signs: adds its tree where it closes, and the signs stand again as before; else answers
-// the state that it finds.
+// Searches the branch with these signs: adds its tree where it closes, and the signs stand again as
+// before; else answers the state that it finds.
 #[cycle(branching)]
 pub(crate) fn branch<N: Exact>(
     space: &mut Space<N>,
@@ -70,7 +70,8 @@ pub(crate) fn branch<N: Exact>(
     }
 }
 
-// Searches both sides of a split at the leg: first with the plus sign, and then with the minus sign.
+// Searches both sides of a split at the leg: first with the plus sign, and then with the minus
+// sign.
 #[cycle(branching)]
 fn sides<N: Exact>(
     space: &mut Space<N>,

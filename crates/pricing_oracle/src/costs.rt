@@ -141,7 +141,8 @@ fn add_cover_costs<N: Exact>(row: &mut Vec<N>, asked: Asked<N>, signs: &[i8]) ->
     Ok(())
 }
 
-/// Writes the costs of the program of a node: those of the state's entries, and of the covering legs' variables.
+/// Writes the costs of the program of a node: those of the state's entries, and of the covering
+/// legs' variables.
 pub fn write_costs<N: Exact>(row: &mut Vec<N>, asked: Asked<N>, signs: &[i8]) -> Result<(), Wide>
     requires asked { MayBeAsked asked }
     requires room { asked.underlyings + 1 + length signs.now ≤ vec_capacity row.old }

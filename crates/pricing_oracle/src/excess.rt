@@ -66,7 +66,8 @@ fn scale<N: Exact>(state: &State) -> Result<N, Wide>
     N::from_whole(state.entries[0])
 }
 
-/// What the fills owe at a state above the liability times t: the orders in turn, and then the liability.
+/// What the fills owe at a state above the liability times t: the orders in turn, and then the
+/// liability.
 #[tactic(auto, unfolding(master_program::specs::Search::excess_of))]
 pub fn excess<N: Exact>(asked: Asked<N>, state: &State) -> Result<N, Wide>
     requires asked { MayBeAsked asked }

@@ -21,8 +21,8 @@ pub struct Asked<'a, N> {
     pub liability: &'a N,
 }
 
-/// What a leg does in the program of a node: a leg that is not filled is idle, a short leg covers, and a long leg is free
-/// without a sign, above with plus and below with minus.
+/// What a leg does in the program of a node: a leg that is not filled is idle, a short leg covers,
+/// and a long leg is free without a sign, above with plus and below with minus.
 #[derive(Clone, Copy)]
 pub enum Role {
     Idle,
@@ -64,7 +64,8 @@ pub struct NodeLeg<'a, N> {
     pub leg: BatchLeg<'a, N>,
 }
 
-/// The legs of a node that are still to come, and their signs: 0 for none, and else above 0 or below.
+/// The legs of a node that are still to come, and their signs: 0 for none, and else above 0 or
+/// below.
 #[derive(Clone, Copy)]
 pub struct LegsLeft<'a, N> {
     pub legs: BatchLegs<'a, N>,

@@ -1,5 +1,6 @@
-//! The search for a state at which fills owe more than a liability, over the signs of what long legs pay (Wang, Pennock,
-//! Devanur, Rothschild, Tao and Wellman, EC 2021, on the pricing of combinatorial options).
+//! The search for a state at which fills owe more than a liability, over the signs of what long
+//! legs pay (Wang, Pennock, Devanur, Rothschild, Tao and Wellman, EC 2021, on the pricing of
+//! combinatorial options).
 #![tactic(auto)]
 
 mod branches;

@@ -116,7 +116,8 @@ fn look_at_state<N: Exact>(
     }
 }
 
-/// Opens the node with these signs, for a unit: runs its program, and says what it shows. A leaf is added to the tree.
+/// Opens the node with these signs, for a unit: runs its program, and says what it shows. A leaf is
+/// added to the tree.
 pub fn open_node<N: Exact>(
     space: &mut Space<N>,
     row: &mut Vec<N>,

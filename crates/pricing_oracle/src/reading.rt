@@ -94,7 +94,8 @@ fn add_multiplier<N: Exact>(multipliers: &mut Vec<Multiplier>, place: usize, by:
     }
 }
 
-/// Adds the multipliers of a leaf: of the dual values of the rows after the first those above 0, by rising place.
+/// Adds the multipliers of a leaf: of the dual values of the rows after the first those above 0, by
+/// rising place.
 pub fn add_multipliers<N: Exact>(
     multipliers: &mut Vec<Multiplier>,
     space: &Space<N>,

@@ -20,8 +20,9 @@ use simplex::{Budget, RunStop, Space};
 use std::alloc::{AllocError, Global};
 use std::marker::Model;
 
-/// What searches over batches with at most so many underlyings and legs work in, one after another, with at most so many
-/// units each. Only `new` and `renew` take memory. Contracts see it as these sizes and the tree of the last search.
+/// What searches over batches with at most so many underlyings and legs work in, one after another,
+/// with at most so many units each. Only `new` and `renew` take memory. Contracts see it as these
+/// sizes and the tree of the last search.
 pub struct SearchRoom<N: Exact> {
     underlyings: usize,
     legs: usize,
@@ -76,8 +77,8 @@ fn write_unsigned(signs: &mut Vec<i8>, count: usize)
 }
 
 impl<N: Exact> SearchRoom<N> {
-    /// Room for searches over batches with at most so many underlyings and legs, with at most so many units. The error is
-    /// want of memory.
+    /// Room for searches over batches with at most so many underlyings and legs, with at most so
+    /// many units. The error is want of memory.
     pub fn new(
         alloc: Global,
         underlyings: usize,
@@ -106,9 +107,9 @@ impl<N: Exact> SearchRoom<N> {
         })
     }
 
-    /// Makes it room for searches over batches with at least so many underlyings and legs, with at least so many units: the
-    /// programs, signs and rows stay where they are large enough, and the lists of the tree are taken where they are not
-    /// there. The error is want of memory.
+    /// Makes it room for searches over batches with at least so many underlyings and legs, with at
+    /// least so many units: the programs, signs and rows stay where they are large enough, and the
+    /// lists of the tree are taken where they are not there. The error is want of memory.
     pub fn renew(
         &mut self,
         alloc: Global,
@@ -133,8 +134,8 @@ impl<N: Exact> SearchRoom<N> {
         Ok(())
     }
 
-    /// Searches from the root, at which no leg has a sign: the tree stands here where it closes, and else the answer is the
-    /// state that it finds.
+    /// Searches from the root, at which no leg has a sign: the tree stands here where it closes,
+    /// and else the answer is the state that it finds.
     pub(crate) fn search(
         &mut self,
         asked: Asked<N>,
@@ -167,7 +168,8 @@ impl<N: Exact> SearchRoom<N> {
         )
     }
 
-    /// Takes the tree of the last search, which closed, and its memory: the room is for no unit then, until `renew`.
+    /// Takes the tree of the last search, which closed, and its memory: the room is for no unit
+    /// then, until `renew`.
     pub fn take_tree(&mut self) -> SignTree
         ensures tree { result ≡ self.old.tree }
         ensures sizes { (self.new.underlyings ≡ self.old.underlyings)

@@ -96,7 +96,8 @@ fn push_zeros<N: Exact>(row: &mut Vec<N>, count: usize)
     }
 }
 
-/// Writes the row of a state's size: 1 for each of its entries, and 0 for the variables of the covering legs.
+/// Writes the row of a state's size: 1 for each of its entries, and 0 for the variables of the
+/// covering legs.
 pub fn write_size_row<N: Exact>(row: &mut Vec<N>, n: usize, covers: usize)
     requires n { n ≤ 8 }
     requires room { n + 1 + covers ≤ vec_capacity row.old }

@@ -18,12 +18,12 @@ use sign_tree::leg_count;
 use simplex::{Budget, RunStop, Stop};
 use std::alloc::Global;
 
-/// Whether the liability is enough for the fills at every state: the search of the reference run, in given room. Where it
-/// is, there is no answer and the room has the tree that closes; else the answer is a state at which it is not. It takes no
-/// memory.
+/// Whether the liability is enough for the fills at every state: the search of the reference run,
+/// in given room. Where it is, there is no answer and the room has the tree that closes; else the
+/// answer is a state at which it is not. It takes no memory.
 ///
-/// `Wide` comes at the first step of the search that does not fit, `Budget` where it wants one unit more than the budget
-/// has; units that were spent stay spent.
+/// `Wide` comes at the first step of the search that does not fit, `Budget` where it wants one unit
+/// more than the budget has; units that were spent stay spent.
 pub fn search_in<N: Exact>(
     batch: &Batch,
     fills: &[N],

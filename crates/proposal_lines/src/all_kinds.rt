@@ -8,8 +8,8 @@ use exchange_core::Exchange;
 use std::alloc::{AllocError, Global};
 
 /// Takes the exchange one line further, whatever kind the line is of, and answers what is written
-/// for a line of exactly these bytes with this number. A line that asks for a quote, prices or a margin
-/// changes nothing, nor does a withdrawal that is refused. The only error is want of memory.
+/// for a line of exactly these bytes with this number. A line that asks for a quote, prices or a
+/// margin changes nothing, nor does a withdrawal that is refused. The only error is want of memory.
 pub fn answer(
     alloc: Global,
     exchange: &mut Exchange,

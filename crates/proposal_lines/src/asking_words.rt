@@ -32,7 +32,8 @@ fn word_in(fields: &[&[u8]]) -> Option<AskingWord>
     }
 }
 
-// The word by which the first field of a line asks. The fields of most lines need not be read for it.
+// The word by which the first field of a line asks. The fields of most lines need not be read for
+// it.
 #[tactic(auto, using(crate::proofs::FirstWords::other_line))]
 pub(crate) fn asking_word(alloc: Global, line: &[u8]) -> Result<Option<AskingWord>, AllocError>
     requires some { 0 < length line.now }

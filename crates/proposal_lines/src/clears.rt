@@ -41,8 +41,8 @@ pub(crate) fn clear_said(said: &GuardedBody) -> Option<(u32, u32)>
     }
 }
 
-// Charges an outcome of the batch of a market, or what is kept for its orders, where the run stopped
-// and this covers more. Want of memory may lose what is kept for the market.
+// Charges an outcome of the batch of a market, or what is kept for its orders, where the run
+// stopped and this covers more. Want of memory may lose what is kept for the market.
 fn charge(
     alloc: Global,
     exchange: &mut Exchange,

@@ -34,8 +34,8 @@ pub fn refused_change_nothing()
 /// is promised: a run's, batches that were cleared as proposals had it, and texts beside them that
 /// change nothing in the exchange. A batch that is not marked optimal nor cleared as proposals had
 /// it is matched where nothing that counts covers more. The answers leave the house its gains: of
-/// each batch at least the surplus that is told, batches that were cleared as proposals had it among
-/// them.
+/// each batch at least the surplus that is told, batches that were cleared as proposals had it
+/// among them.
 pub fn outputs_tell_proposals()
     ensures { OutputsTellProposals }
 {}

@@ -8,8 +8,9 @@ use crate::replies::{print, reply_to};
 use exchange_core::Exchange;
 use std::alloc::{AllocError, Global};
 
-/// Takes the exchange one line further, and answers what is written for a line of exactly these bytes with this number, which may
-/// ask by the word: the line of its reply and a line feed. A line that asks changes nothing. The only error is want of memory.
+/// Takes the exchange one line further, and answers what is written for a line of exactly these
+/// bytes with this number, which may ask by the word: the line of its reply and a line feed. A line
+/// that asks changes nothing. The only error is want of memory.
 pub fn answer_by(
     alloc: Global,
     exchange: &mut Exchange,

@@ -24,7 +24,8 @@ pub enum AskingWord {
 /// What a line says.
 #[derive(Debug, Drop)]
 pub enum QuotesBody {
-    /// What a line of a run says: a command, or none. A line that would ask for something and has not its form is no command.
+    /// What a line of a run says: a command, or none. A line that would ask for something and has
+    /// not its form is no command.
     Plain(Body),
     /// It asks for a quote.
     Quote(QuoteRequest),
@@ -94,8 +95,8 @@ fn request_or_syntax(alloc: Global, word: AskingWord, line: &[u8]) -> Result<Quo
     }
 }
 
-/// What a line of exactly these bytes says where it may ask by the word: no carriage return is taken away, and no first bytes are
-/// skipped. The only error is want of memory.
+/// What a line of exactly these bytes says where it may ask by the word: no carriage return is
+/// taken away, and no first bytes are skipped. The only error is want of memory.
 pub fn body_by(alloc: Global, word: AskingWord, line: &[u8]) -> Result<QuotesBody, AllocError>
     requires some { 0 < length line.now }
     requires one_line { list_any (λ b. b == 10) line.now ≡ false }

@@ -1,4 +1,5 @@
-//! Lines that may ask for a quote or for prices, and their answers: those of a run, and what is told.
+//! Lines that may ask for a quote or for prices, and their answers: those of a run, and what is
+//! told.
 #![tactic(auto)]
 
 mod answers;

@@ -81,8 +81,8 @@ fn priced_value(
     })
 }
 
-/// The line of the prices of so many options in a market, without its line feed: `ask` is that of a further buy, and `bid` that of a
-/// further sell. The only error is want of memory.
+/// The line of the prices of so many options in a market, without its line feed: `ask` is that of a
+/// further buy, and `bid` that of a further sell. The only error is want of memory.
 pub fn print_priced(
     alloc: Global,
     line: u32,

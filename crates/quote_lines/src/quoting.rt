@@ -154,7 +154,8 @@ fn refused_by(info: Option<MarketInfo>, request: &QuoteRequest) -> Option<Refusa
     }
 }
 
-// What is told of a market which refuses nothing by what is told of it, or that there are as many batches as there may be.
+// What is told of a market which refuses nothing by what is told of it, or that there are as many
+// batches as there may be.
 fn asked_live(
     alloc: Global,
     exchange: &Exchange,

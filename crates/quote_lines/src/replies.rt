@@ -14,7 +14,8 @@ use std::alloc::{AllocError, Global};
 pub enum QuotesReply {
     /// What a line of a run is answered.
     Plain(Reply),
-    /// The prices at which one further buy, and one further sell, of the option raises the greatest surplus of the market.
+    /// The prices at which one further buy, and one further sell, of the option raises the greatest
+    /// surplus of the market.
     Quoted {
         market: u32,
         bid: QuotedPrice,

@@ -10,8 +10,9 @@ use command_text::ranges::{BUDGET, MARKET, STRIKE};
 use command_text::trades::{all_zero, kind, weights};
 use form::{Form, MAX_QUANTITY, MAX_STRIKE, MAX_WEIGHT};
 
-/// What is asked where a line asks for a quote: at which prices one further option would raise the greatest surplus of a market,
-/// in clears of at most `budget` units each. Its numbers are within the limits.
+/// What is asked where a line asks for a quote: at which prices one further option would raise the
+/// greatest surplus of a market, in clears of at most `budget` units each. Its numbers are within
+/// the limits.
 #[derive(Clone, Copy, Debug, PartialEq, Eq)]
 pub struct QuoteRequest {
     /// The number of the market.
@@ -22,7 +23,8 @@ pub struct QuoteRequest {
     pub form: Form,
 }
 
-/// What is asked where a line asks for prices: at which a further order for so many of the options would.
+/// What is asked where a line asks for prices: at which a further order for so many of the options
+/// would.
 #[derive(Clone, Copy, Debug, PartialEq, Eq)]
 pub struct PriceRequest {
     /// The market, the budget and the option.
@@ -95,7 +97,8 @@ fn strike_at(place: u8) -> Asked
     Asked { place, ..STRIKE }
 }
 
-// What the fields of a line ask of an option whose kind is at a place, and whose strike and weights follow it.
+// What the fields of a line ask of an option whose kind is at a place, and whose strike and weights
+// follow it.
 fn option_request(fields: &[&[u8]], place: u8, asked: &[Asked]) -> Result<QuoteRequest, Fault>
     requires place { (4 ≤ place) × (place ≤ 5) }
     requires asked { All (λ a. IsAsked 0 a) asked.now }

@@ -65,8 +65,8 @@ fn give_states<N: Exact>(
     Ok(())
 }
 
-/// Gives the master program of the orders over the state where all prices are 0 and these states: costs first, then row by
-/// row.
+/// Gives the master program of the orders over the state where all prices are 0 and these states:
+/// costs first, then row by row.
 pub(crate) fn give_master<N: Exact>(
     space: &mut Space<N>,
     row: &mut Vec<N>,

@@ -17,8 +17,9 @@ use std::alloc::{AllocError, Global};
 /// The most units of a joint solve in given room.
 pub const MAX_UNITS: u32 = 199_000;
 
-/// What the joint solve of a batch with so many units works in. Only `new` and `renew` take memory. What a solve finds takes its
-/// lists out of the room, which is then room for no batch until `renew`.
+/// What the joint solve of a batch with so many units works in. Only `new` and `renew` take memory.
+/// What a solve finds takes its lists out of the room, which is then room for no batch until
+/// `renew`.
 pub struct JointRoom<N: Exact> {
     // the states of the line, or those of the rounds so far
     pub(crate) states: Vec<State>,
@@ -141,7 +142,8 @@ fn renew_rounds<N: Exact>(
 }
 
 impl<N: Exact> JointRoom<N> {
-    /// Room for the joint solve of the batch with at most so many units. The error is want of memory.
+    /// Room for the joint solve of the batch with at most so many units. The error is want of
+    /// memory.
     pub fn new(alloc: Global, batch: &Batch, units: u32) -> Result<JointRoom<N>, AllocError>
         requires limits { IsWithinLimits batch.now }
         requires units { units ≤ MAX_UNITS }
@@ -154,9 +156,10 @@ impl<N: Exact> JointRoom<N> {
         }
     }
 
-    /// Makes it room for the joint solve of this batch with at most so many units: its programs and rows stay where they are
-    /// large enough, and the lists that a solve takes out are taken anew. A batch on one underlying needs no room for
-    /// searches, so that is given back, and taken anew for the next batch on several. The error is want of memory.
+    /// Makes it room for the joint solve of this batch with at most so many units: its programs and
+    /// rows stay where they are large enough, and the lists that a solve takes out are taken anew.
+    /// A batch on one underlying needs no room for searches, so that is given back, and taken anew
+    /// for the next batch on several. The error is want of memory.
     pub fn renew(&mut self, alloc: Global, batch: &Batch, units: u32) -> Result<(), AllocError>
         requires limits { IsWithinLimits batch.now }
         requires units { units ≤ MAX_UNITS }

@@ -27,7 +27,8 @@ fn write_widened<N: Exact>(wide: &mut Vec<Frac128>, numbers: &[N])
     }
 }
 
-/// The solution with its numbers in 128 bits, its fills in a list that has room for them. It takes no memory.
+/// The solution with its numbers in 128 bits, its fills in a list that has room for them. It takes
+/// no memory.
 pub fn widened<N: Exact>(joint: Joint<N>, mut fills: Vec<Frac128>) -> Joint<Frac128>
     requires { vec_len joint.fills ≤ vec_capacity fills }
     ensures reading { reading_in fraction_of result ≡ reading_in N.fraction joint }
@@ -73,8 +74,9 @@ fn tests_hold(
     bound_holds(batch, measure, &claim.surplus)
 }
 
-/// The sums of the verdict on a solution, with a sign for each leg to work in: the solution, where each step fits; `unit` units
-/// are spent. `Wide` comes at the first step that does not fit. It takes no memory.
+/// The sums of the verdict on a solution, with a sign for each leg to work in: the solution, where
+/// each step fits; `unit` units are spent. `Wide` comes at the first step that does not fit. It
+/// takes no memory.
 pub fn judge(
     batch: &Batch,
     joint: Joint<Frac128>,

@@ -2,8 +2,8 @@
 ghost use Rattle.rounds.specs.Laws.{ClearedIsGreatest, ClearedPassesTheVerdict, JointRunsAreTheSame, NoRunIsWithoutEnd, UnitsSufficeOnLine, UnjudgedRunsAreTheSame};
 ghost use Rattle.rounds.specs.Worked.{ButterflyCleared, DearCoverIsLeft, EqualPricesAreLeft, LargeBatchIsTooWide, LowerStrikeCleared, NoOrderCleared, OneOptionCleared, OneUnitIsTooFew, SpreadCleared};
 
-/// What a run clears is covered at every settlement, by the line of one underlying or by a tree; its measure proves its
-/// surplus, and no fills cover more, whatever the limits and the units.
+/// What a run clears is covered at every settlement, by the line of one underlying or by a tree;
+/// its measure proves its surplus, and no fills cover more, whatever the limits and the units.
 pub fn cleared_is_greatest()
     ensures { ClearedIsGreatest }
 {}
@@ -18,14 +18,15 @@ pub fn cleared_passes_the_verdict()
     ensures { ClearedPassesTheVerdict }
 {}
 
-/// A run that meets no misfit is the same with each greater limit of the solver's numbers: with what it clears, or where it ends
-/// for want of a unit, and as many units spent.
+/// A run that meets no misfit is the same with each greater limit of the solver's numbers: with
+/// what it clears, or where it ends for want of a unit, and as many units spent.
 pub fn runs_are_the_same()
     ensures unjudged { UnjudgedRunsAreTheSame }
     ensures joint { JointRunsAreTheSame }
 {}
 
-/// On one underlying as many units suffice as there are ways to choose the basic variables of the master program.
+/// On one underlying as many units suffice as there are ways to choose the basic variables of the
+/// master program.
 pub fn units_suffice_on_line()
     ensures { UnitsSufficeOnLine }
 {}

@@ -1,5 +1,6 @@
-//! The joint solve of a batch. On one underlying: one master program over the states of the line; on several: rounds of a
-//! master program and a search for a state at which its liability is not enough. Last come the sums of the verdict.
+//! The joint solve of a batch. On one underlying: one master program over the states of the line;
+//! on several: rounds of a master program and a search for a state at which its liability is not
+//! enough. Last come the sums of the verdict.
 #![tactic(auto)]
 
 mod first_states;

@@ -13,8 +13,9 @@ use exact_num::Exact;
 use form::{Batch, State};
 use simplex::{Budget, RunStop};
 
-// The joint solve on one underlying, before the sums of the verdict: one master program over the states of the line is solved,
-// and its optimum is read off. (The matching program of Wang et al., EC 2021.)
+// The joint solve on one underlying, before the sums of the verdict: one master program over the
+// states of the line is solved, and its optimum is read off. (The matching program of Wang et al.,
+// EC 2021.)
 pub(crate) fn solve_line<N: Exact>(
     batch: &Batch,
     budget: &mut Budget,

@@ -128,7 +128,8 @@ fn short_difference(owed: i128, t: i128, first: i128) -> i128
     owed - t * first
 }
 
-/// What one unit of an order that pays `owed` at a state owes there above what is put aside for it, step by step.
+/// What one unit of an order that pays `owed` at a state owes there above what is put aside for it,
+/// step by step.
 fn entry_by_steps<N: Exact>(order: &Order, state: &State, owed: i128) -> Result<N, Wide>
     ensures { meaning N.fraction result ≡ entry_over (unsigned_abs N.LIMIT)
         (vector_of state.now) order.now owed }

@@ -23,8 +23,9 @@ use exact_num::Exact;
 use form::{Batch, Order, State};
 use simplex::{Budget, RunStop, Space};
 
-/// Runs the master program of the orders over the state where all prices are 0 and these: its optimum then stands in the space.
-/// Its shape, and that it does not rise without an end, hang on no number of underlyings.
+/// Runs the master program of the orders over the state where all prices are 0 and these: its
+/// optimum then stands in the space. Its shape, and that it does not rise without an end, hang on
+/// no number of underlyings.
 fn run_master<N: Exact>(
     space: &mut Space<N>,
     row: &mut Vec<N>,
@@ -56,8 +57,8 @@ fn run_master<N: Exact>(
     Ok(())
 }
 
-/// Solves the master program of the batch over these states and the one where all prices are 0, and reads off what its
-/// optimum earns and what shows it.
+/// Solves the master program of the batch over these states and the one where all prices are 0, and
+/// reads off what its optimum earns and what shows it.
 pub(crate) fn solve_over<N: Exact>(
     batch: &Batch,
     states: &[State],

@@ -76,7 +76,8 @@ fn add_point<N: Exact>(points: &mut Vec<Weighted>, state: &State, weight: N)
     }
 }
 
-/// Adds the states with their weights, where these are above 0: the dual values behind those of the orders.
+/// Adds the states with their weights, where these are above 0: the dual values behind those of the
+/// orders.
 fn add_points<N: Exact>(
     points: &mut Vec<Weighted>,
     states: &[State],
@@ -98,15 +99,16 @@ fn add_points<N: Exact>(
     }
 }
 
-/// What is read off but for its lists: the most that the house owes on the fills, and what is left to it.
+/// What is read off but for its lists: the most that the house owes on the fills, and what is left
+/// to it.
 #[derive(Clone, Copy)]
 pub(crate) struct Read<N> {
     pub(crate) liability: N,
     pub(crate) surplus: N,
 }
 
-/// Reads off what the optimum in the space, over a first state and later ones, earns and what shows it: the fills and the
-/// states with their weights into these lists.
+/// Reads off what the optimum in the space, over a first state and later ones, earns and what shows
+/// it: the fills and the states with their weights into these lists.
 pub(crate) fn read_off<N: Exact>(
     space: &Space<N>,
     orders: &[Order],

@@ -28,7 +28,8 @@ pub(crate) enum RoundEnd<N> {
     Violated(State),
 }
 
-/// Solves the master program over the states, and searches for one at which its liability is not enough.
+/// Solves the master program over the states, and searches for one at which its liability is not
+/// enough.
 pub(crate) fn round<N: Exact>(
     batch: &Batch,
     states: &[State],

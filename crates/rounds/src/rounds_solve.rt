@@ -44,8 +44,9 @@ fn close<N: Exact>(
     Err(RunStop::Budget)
 }
 
-// The joint solve on several underlyings, before the sums of the verdict: a master program over some states and a search for
-// one at which its liability is not enough take turns. (Wang et al., EC 2021, where an integer program finds the states.)
+// The joint solve on several underlyings, before the sums of the verdict: a master program over
+// some states and a search for one at which its liability is not enough take turns. (Wang et al.,
+// EC 2021, where an integer program finds the states.)
 pub(crate) fn solve_rounds<N: Exact>(
     batch: &Batch,
     budget: &mut Budget,

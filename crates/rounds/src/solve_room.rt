@@ -14,8 +14,8 @@ use lists::{make_room, take_list};
 use simplex::Space;
 use std::alloc::{AllocError, Global};
 
-/// What the solves of master programs work in, one after another: the space of the programs and the row that is given next,
-/// and the fills and the weighted states that are read off.
+/// What the solves of master programs work in, one after another: the space of the programs and the
+/// row that is given next, and the fills and the weighted states that are read off.
 pub(crate) struct SolveRoom<N: Exact> {
     pub(crate) space: Space<N>,
     pub(crate) row: Vec<N>,
@@ -54,8 +54,8 @@ impl<N: Exact> SolveRoom<N> {
         })
     }
 
-    /// Makes it room for master programs of at least so many orders and states, where it is not yet. The error is want of
-    /// memory.
+    /// Makes it room for master programs of at least so many orders and states, where it is not
+    /// yet. The error is want of memory.
     pub(crate) fn renew(
         &mut self,
         alloc: Global,

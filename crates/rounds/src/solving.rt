@@ -21,13 +21,14 @@ use simplex::{Budget, RunStop, Stop};
 use std::alloc::Global;
 
 impl<N: Exact> JointRoom<N> {
-    /// The run before the sums of the verdict: on one underlying one master program over the states of the line is solved; on
-    /// several a master program over some states and a search for a state at which its liability is not enough take turns,
-    /// until a tree closes. What it finds is for `judge`.
+    /// The run before the sums of the verdict: on one underlying one master program over the states
+    /// of the line is solved; on several a master program over some states and a search for a state
+    /// at which its liability is not enough take turns, until a tree closes. What it finds is for
+    /// `judge`.
     ///
-    /// `Wide` comes at the first step that does not fit, `Budget` where the run wants one unit more than the budget has; units
-    /// that were spent stay spent. It takes no memory. The batch is within the limits.
-    /// (The matching program of Wang et al., EC 2021.)
+    /// `Wide` comes at the first step that does not fit, `Budget` where the run wants one unit more
+    /// than the budget has; units that were spent stay spent. It takes no memory. The batch is
+    /// within the limits. (The matching program of Wang et al., EC 2021.)
     pub fn solve_unjudged(
         &mut self,
         batch: &Batch,
@@ -49,8 +50,8 @@ impl<N: Exact> JointRoom<N> {
     }
 }
 
-// The whole run in given room: the run of `solve_unjudged`, and last the sums of the verdict, for which there are a list for
-// the fills in 128 bits and a sign for each leg.
+// The whole run in given room: the run of `solve_unjudged`, and last the sums of the verdict, for
+// which there are a list for the fills in 128 bits and a sign for each leg.
 fn judged_in<N: Exact>(
     room: &mut JointRoom<N>,
     batch: &Batch,
@@ -91,12 +92,14 @@ fn solve_judged<N: Exact>(
     judged_in(&mut room, batch, budget, fills, signs)
 }
 
-/// The fills of the batch with the greatest surplus, in ticks, and the certificate that shows it: the reference run, which is
-/// that of `JointRoom::solve_unjudged` and last the sums of the verdict in 128 bits.
+/// The fills of the batch with the greatest surplus, in ticks, and the certificate that shows it:
+/// the reference run, which is that of `JointRoom::solve_unjudged` and last the sums of the verdict
+/// in 128 bits.
 ///
-/// The fills are from 0 to their quantities and cover the surplus at every settlement, and no fractional fills cover more;
-/// the verdict on them, with the cover and the measure, is yes. `Wide` and `Budget` come as there, and `Wide` at the first
-/// step of the sums that does not fit. All room is taken first, and for want of it `Memory` comes before the first unit.
+/// The fills are from 0 to their quantities and cover the surplus at every settlement, and no
+/// fractional fills cover more; the verdict on them, with the cover and the measure, is yes. `Wide`
+/// and `Budget` come as there, and `Wide` at the first step of the sums that does not fit. All room
+/// is taken first, and for want of it `Memory` comes before the first unit.
 pub fn solve_joint<N: Exact>(
     alloc: Global,
     batch: &Batch,
