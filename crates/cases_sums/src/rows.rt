@@ -12,7 +12,7 @@ use std::alloc::Global;
 
 // What the rows of a table ask for.
 #[derive(Clone, Copy)]
-enum Asked {
+enum RowKind {
     Operation,
     NarrowOperation,
     NarrowNumber,
@@ -25,24 +25,24 @@ enum Asked {
 }
 
 // The answer to what a row asks for, as text.
-fn answer(alloc: Global, asked: Asked, text: &str) -> Result<String> {
-    match asked {
-        Asked::Operation => operation_text::<Frac128>(alloc, text),
-        Asked::NarrowOperation => operation_text::<Frac64>(alloc, text),
-        Asked::NarrowNumber => narrow_text(alloc, text),
-        Asked::Order => order_text(alloc, text),
-        Asked::Divisor => divisor_text(alloc, text),
-        Asked::Payoff => payoff_text(alloc, text),
-        Asked::Bundle => bundle_text(alloc, text),
-        Asked::Primitive => primitive_text(alloc, text),
-        Asked::Premium => premium_text(alloc, text),
+fn answer(alloc: Global, kind: RowKind, text: &str) -> Result<String> {
+    match kind {
+        RowKind::Operation => operation_text::<Frac128>(alloc, text),
+        RowKind::NarrowOperation => operation_text::<Frac64>(alloc, text),
+        RowKind::NarrowNumber => narrow_text(alloc, text),
+        RowKind::Order => order_text(alloc, text),
+        RowKind::Divisor => divisor_text(alloc, text),
+        RowKind::Payoff => payoff_text(alloc, text),
+        RowKind::Bundle => bundle_text(alloc, text),
+        RowKind::Primitive => primitive_text(alloc, text),
+        RowKind::Premium => premium_text(alloc, text),
     }
 }
 
 // A row that is not answered as it says, and its answer; nothing where it is.
-fn fault(alloc: Global, asked: Asked, row: &str) -> Result<String> {
+fn fault(alloc: Global, kind: RowKind, row: &str) -> Result<String> {
     let (text, wanted) = row.split_once('=').context("an answer")?;
-    let found = answer(alloc, asked, text)?;
+    let found = answer(alloc, kind, text)?;
     if found.trim() == wanted.trim() {
         Ok(String::new(alloc))
     } else {
@@ -51,9 +51,9 @@ fn fault(alloc: Global, asked: Asked, row: &str) -> Result<String> {
 }
 
 // The first row of a table that is not answered as it says; nothing where each is.
-fn first_fault(alloc: Global, asked: Asked, rows: &str) -> Result<String> {
+fn first_fault(alloc: Global, kind: RowKind, rows: &str) -> Result<String> {
     for row in rows.split_terminator('\n') {
-        let fault = fault(alloc, asked, row)?;
+        let fault = fault(alloc, kind, row)?;
         if !fault.is_empty() {
             return Ok(fault);
         }
@@ -63,19 +63,19 @@ fn first_fault(alloc: Global, asked: Asked, rows: &str) -> Result<String> {
 
 #[test]
 fn each_row_is_answered_as_it_says(rt: HostRuntime) -> Result<()> {
-    for (asked, rows) in [
-        (Asked::Operation, OPERATIONS),
-        (Asked::Operation, LIMITS),
-        (Asked::NarrowOperation, NARROW_OPERATIONS),
-        (Asked::NarrowNumber, NARROW_NUMBERS),
-        (Asked::Order, ORDERS),
-        (Asked::Divisor, DIVISORS),
-        (Asked::Payoff, PAYOFFS),
-        (Asked::Bundle, BUNDLES),
-        (Asked::Primitive, PRIMITIVES),
-        (Asked::Premium, PREMIUMS),
+    for (kind, rows) in [
+        (RowKind::Operation, OPERATIONS),
+        (RowKind::Operation, LIMITS),
+        (RowKind::NarrowOperation, NARROW_OPERATIONS),
+        (RowKind::NarrowNumber, NARROW_NUMBERS),
+        (RowKind::Order, ORDERS),
+        (RowKind::Divisor, DIVISORS),
+        (RowKind::Payoff, PAYOFFS),
+        (RowKind::Bundle, BUNDLES),
+        (RowKind::Primitive, PRIMITIVES),
+        (RowKind::Premium, PREMIUMS),
     ] {
-        let fault = first_fault(rt.alloc(), asked, rows)?;
+        let fault = first_fault(rt.alloc(), kind, rows)?;
         assert_eq!(rt; fault.as_str(), "");
     }
     Ok(())

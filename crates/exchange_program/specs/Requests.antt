@@ -176,5 +176,5 @@ WherePropose Propose P = P
 WherePropose (Demo seed count) P = Unit {0}
 
 -- a fact of what the words ask for
-abbrev pub Asked : List (List ℕ) → (Request → Type 0) → Type 0
-Asked words P = IfSome (request_of words) P
+abbrev pub WithRequest : List (List ℕ) → (Request → Type 0) → Type 0
+WithRequest words P = IfSome (request_of words) P

@@ -9,7 +9,7 @@ ghost use Rattle.journal_check.specs.JournalLines.{lines_of};
 ghost use Rattle.program_words.specs.Requests.{request_of};
 ghost use Rattle.exchange_program.specs.Live.{ProposedAt, ServedAt};
 ghost use Rattle.exchange_program.specs.Journals.{IsSoundIn, NamesFault};
-ghost use Rattle.exchange_program.specs.Requests.{Asked, HasEnded, IsCheck, IsInputWithin, IsPastLimit, IsReadFirst, IsReadWhole, OfInput, OfOutput, OfSomeInput, Promised, PromisedFront, WhereCheck, WhereDemo, WherePropose, WhereServe, WithLimit, past_size, status_for};
+ghost use Rattle.exchange_program.specs.Requests.{WithRequest, HasEnded, IsCheck, IsInputWithin, IsPastLimit, IsReadFirst, IsReadWhole, OfInput, OfOutput, OfSomeInput, Promised, PromisedFront, WhereCheck, WhereDemo, WherePropose, WhereServe, WithLimit, past_size, status_for};
 ghost use Rattle.exchange_program.specs.Wrote.{Wrote, WroteFront};
 
 use crate::live::answer_live;
@@ -52,76 +52,76 @@ pub fn exchange<S: Source, K: Sink>(
 
     // What is written is the defined output of all bytes that were left, and the status is theirs.
     ensures done { HasEnded result →
-        Asked (map string_bytes words.now) (λ request.
+        WithRequest (map string_bytes words.now) (λ request.
         OfInput request (S.left source.old) (λ input. (result ≡ status_for request input)
         × OfOutput request input (Appends (K.written sink.old) (K.written sink.new)))) }
     ensures whole { HasEnded result →
-        Asked (map string_bytes words.now) (λ request.
+        WithRequest (map string_bytes words.now) (λ request.
         IsReadWhole request (S.left source.old) (S.left source.new)) }
     ensures front { (result ≡ Status.WriteFault) ⊎ (result ≡ Status.Memory) →
-        Asked (map string_bytes words.now) (λ request.
+        WithRequest (map string_bytes words.now) (λ request.
         OfInput request (S.left source.old) (λ input.
         OfOutput request input (AppendsFront (K.written sink.old) (K.written sink.new)))) }
 
     // It keeps what the request promises of it: each line is told its answer, and the answers keep
     // what is promised.
     ensures told { result ≡ Status.Done →
-        Asked (map string_bytes words.now) (λ request.
+        WithRequest (map string_bytes words.now) (λ request.
         OfSomeInput request (S.left source.old) (λ input.
         Wrote (K.written sink.old) (K.written sink.new) (Promised request input))) }
     ensures told_front { (result ≡ Status.WriteFault) ⊎ (result ≡ Status.Memory) →
-        Asked (map string_bytes words.now) (λ request.
+        WithRequest (map string_bytes words.now) (λ request.
         OfSomeInput request (S.left source.old) (λ input.
         WroteFront (K.written sink.old) (K.written sink.new) (PromisedFront request input))) }
 
     // Where a check is done every line is sound, and else its report names the first that is not.
     ensures sound { result ≡ Status.Done →
-        Asked (map string_bytes words.now) (λ request.
+        WithRequest (map string_bytes words.now) (λ request.
         WhereCheck request (λ journal. IfSome (S.left source.old) (λ input.
         All (IsSoundIn journal) (lines_of input)))) }
     ensures faulty { result ≡ Status.CheckNo →
-        Asked (map string_bytes words.now) (λ request.
+        WithRequest (map string_bytes words.now) (λ request.
         WhereCheck request (λ journal.
         IfSome (S.left source.old) (NamesFault journal))) }
     ensures check_alone { result ≡ Status.CheckNo →
-        Asked (map string_bytes words.now) (λ request.
+        WithRequest (map string_bytes words.now) (λ request.
         IsCheck request) }
 
     // A demo reads nothing, so no read of it fails.
-    ensures unread { Asked (map string_bytes words.now) (λ request.
+    ensures unread { WithRequest (map string_bytes words.now) (λ request.
         WhereDemo request (source.new ≡ source.old)) }
     ensures no_read_fault { result ≡ Status.ReadFault →
-        Asked (map string_bytes words.now) (λ request.
+        WithRequest (map string_bytes words.now) (λ request.
         WhereDemo request ⊥) }
 
     // Each other status has its cause.
     ensures read_fault { result ≡ Status.ReadFault →
         Rose (S.faults source.old) (S.faults source.new) }
     ensures read_fault_in_time { result ≡ Status.ReadFault →
-        Asked (map string_bytes words.now) (λ request. WithLimit request (λ limit.
+        WithRequest (map string_bytes words.now) (λ request. WithLimit request (λ limit.
         (S.taken source.new ≤ S.taken source.old + limit)
         × TakesUpTo (S.left source.old) (S.left source.new) limit)) }
     ensures silent { (result ≡ Status.ReadFault) ⊎ (result ≡ Status.TooLong) →
-        Asked (map string_bytes words.now) (λ request.
+        WithRequest (map string_bytes words.now) (λ request.
         IsReadFirst request → sink.new ≡ sink.old) }
     ensures write_fault { result ≡ Status.WriteFault →
         Rose (K.faults sink.old) (K.faults sink.new) }
     ensures too_long { result ≡ Status.TooLong →
-        Asked (map string_bytes words.now) (λ request.
+        WithRequest (map string_bytes words.now) (λ request.
         OfInput request (S.left source.old) (IsPastLimit request)) }
     ensures too_long_no_fault { result ≡ Status.TooLong →
         S.faults source.new ≡ S.faults source.old }
     ensures too_many { result ≡ Status.TooLong →
-        Asked (map string_bytes words.now) (λ request.
+        WithRequest (map string_bytes words.now) (λ request.
         raised_by (S.taken source.old) (past_size request) ≤ S.taken source.new) }
     ensures within { HasEnded result ⊎ (result ≡ Status.WriteFault) →
-        Asked (map string_bytes words.now) (λ request.
+        WithRequest (map string_bytes words.now) (λ request.
         OfInput request (S.left source.old) (λ input.
         WithLimit request (λ limit. length input ≤ limit))) }
 
     // Between two reads the output of the complete lines was written, so it is at each status what
     // it was then.
-    ensures served { Asked (map string_bytes words.now) (λ request.
+    ensures served { WithRequest (map string_bytes words.now) (λ request.
         WhereServe request (λ served. ServedAt served result (record {
           left = S.left source.old;
           still = S.left source.new;
@@ -132,7 +132,7 @@ pub fn exchange<S: Source, K: Sink>(
     // Each proposal is judged a bound for the book that a line tells. What is written at the end is
     // said here; that it is written before the next read is said of `turn`, which follows each
     // read.
-    ensures proposed { Asked (map string_bytes words.now) (λ request.
+    ensures proposed { WithRequest (map string_bytes words.now) (λ request.
         WherePropose request (ProposedAt result (record {
           left = S.left source.old;
           still = S.left source.new;
@@ -141,7 +141,7 @@ pub fn exchange<S: Source, K: Sink>(
         }))) }
 
     // Within the limit and without a fault, the output is written, or there was no memory.
-    ensures complete { Asked (map string_bytes words.now) (λ request.
+    ensures complete { WithRequest (map string_bytes words.now) (λ request.
         IsInputWithin request (S.left source.old) →
         ¬ Rose (S.faults source.old) (S.faults source.new) →
         ¬ Rose (K.faults sink.old) (K.faults sink.new) →

@@ -14,7 +14,7 @@ use Rattle.portfolio_margin.specs.declared.least_margin.LeastMargin.{LeastMargin
 use Rattle.portfolio_margin.specs.declared.least_margin.LeastMargin.TheVariants.{Least, Unbounded, Wide, Budget}
 use Rattle.portfolio_margin.specs.Answers.{IsMarginOf}
 use Rattle.portfolio_margin.specs.Need.{liability_or_word}
-use Rattle.portfolio_margin.specs.Run.{Asked, Margin, asked_for, margin_run}
+use Rattle.portfolio_margin.specs.Run.{MarginQuestion, Margin, asked_for, margin_run}
 use Rattle.guarded_lines.specs.Margins.{IsMarginIn, held_by, run_in, told_by, told_of, underlyings_in}
 use Rattle.guarded_lines.specs.Needs.{liability_in, liability_of, margin_budget, liability_or_need}
 
@@ -40,7 +40,7 @@ margin_told state account market budget n count positions margin are on few coun
     λ i. asked_for largest budget (on i) (are i) in (
       subst (λ (ps : List Position). length ps ≤ MAX_ORDERS) are few,
       counted ∙ ap length are,
-      subst (λ (a : Asked). IsMarginOf (margin_run a) margin) asked is,
+      subst (λ (a : MarginQuestion). IsMarginOf (margin_run a) margin) asked is,
     )
 
 pub many_so : (n : ℕ) → MAX_ORDERS < n → nat_lt MAX_ORDERS n ≡ true

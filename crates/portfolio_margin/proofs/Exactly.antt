@@ -21,7 +21,7 @@ use Rattle.line_cover.proofs.Fills.{fills_stand}
 use Rattle.line_cover.proofs.Sound.{payoff_adds}
 use Rattle.settlement.specs.declared.position.Position.{Position}
 use Rattle.portfolio_margin.specs.Owed.{EqualsAt, fills_of, owed_over}
-use Rattle.portfolio_margin.specs.Run.{Asked, asked_for, net_at, orders_of, wanted_at}
+use Rattle.portfolio_margin.specs.Run.{MarginQuestion, asked_for, net_at, orders_of, wanted_at}
 use Rattle.portfolio_margin.proofs.Owing.{Divides, fills_lowest, signed_is_owed}
 
 net_stands : (limit D : ℕ) (os : List Order) (fs : List Fraction) (z : List ℕ) (s : Fraction) → All IsLowest fs → All (Divides D) fs → net_of limit (zip os fs) z ≡ Ok s
@@ -52,7 +52,7 @@ not_zero : (t : ℕ) → 1 ≤ t → pos t ≢ pos 0
 not_zero t some e = omega (arith, ints, e)
 
 -- ---- the liability of a settlement
-pub wanted_is_lowest : (a : Asked) (z : List ℕ) (L : Fraction) → All IsLowest a.fills → 1 ≤ scale_of z → wanted_at a z ≡ Ok L → IsLowest L
+pub wanted_is_lowest : (a : MarginQuestion) (z : List ℕ) (L : Fraction) → All IsLowest a.fills → 1 ≤ scale_of z → wanted_at a z ≡ Ok L → IsLowest L
 wanted_is_lowest a z L lowest some h =
     let t = whole (pos (scale_of z)) in
     let f = after_value (net_at a z) (λ net. div_of a.limit net t) L h in

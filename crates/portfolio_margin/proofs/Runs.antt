@@ -12,17 +12,17 @@ use Rattle.search_laws.proofs.Searching.{search_ends}
 use Rattle.search_laws.proofs.Units.{search_is_counted}
 use Rattle.table_run.specs.Ending.{Ending, done, unbounded, wide_at, no_unit_left, on_answer, on_steps}
 use Rattle.table_run.proofs.Endings.{EndsWith}
-use Rattle.portfolio_margin.specs.Run.{Asked, Margin, least, endless, ends, goes, at_state, on_found, on_turn, question_of, turns_from, wanted_at}
+use Rattle.portfolio_margin.specs.Run.{MarginQuestion, Margin, least, endless, ends, goes, at_state, on_found, on_turn, question_of, turns_from, wanted_at}
 
 -- a fact W of each liability with its state, which the searches keep, and a fact Q of the end that follows from it
-pub record Keeps (a : Asked) (W : Fraction → List ℕ → Type 0) (Q : Margin → Type 0) : Type 0 where
+pub record Keeps (a : MarginQuestion) (W : Fraction → List ℕ → Type 0) (Q : Margin → Type 0) : Type 0 where
   pub asked : (L : Fraction) (at : List ℕ) → W L at → IsAsked (question_of a L)
   pub closes : (L : Fraction) (at : List ℕ) (spent units : ℕ) (tree : WrittenTree) → W L at → search (question_of a L) spent ≡ done (closed tree) units → Q (least L at tree)
   pub shows : (L : Fraction) (at z : List ℕ) (spent units : ℕ) → W L at → search (question_of a L) spent ≡ done (found z) units → scale_of z ≡ 0 → Q (endless z)
   pub wants : (L : Fraction) (at z : List ℕ) (spent units : ℕ) (more : Fraction) → W L at → search (question_of a L) spent ≡ done (found z) units
       → 1 ≤ scale_of z → wanted_at a z ≡ Ok more → W more z
 
-module _ (a : Asked) (W : Fraction → List ℕ → Type 0) (Q : Margin → Type 0) (keeps : Keeps a W Q) where
+module _ (a : MarginQuestion) (W : Fraction → List ℕ → Type 0) (Q : Margin → Type 0) (keeps : Keeps a W Q) where
   abbrev EndsIn : Margin → ℕ → Type 0
   EndsIn margin units = Q margin
 

@@ -26,20 +26,20 @@ use Rattle.portfolio_margin.specs.declared.least_margin.LeastMargin.{LeastMargin
 use Rattle.portfolio_margin.specs.declared.least_margin.LeastMargin.TheVariants.{Least, Unbounded, Wide, Budget}
 use Rattle.portfolio_margin.specs.declared.turn.Turn.TheVariants.{Ends, Goes}
 use Rattle.portfolio_margin.specs.declared.turn.Wanted.{Wanted}
-use Rattle.portfolio_margin.specs.Run.{Asked, Margin, Turn, asked_for, margin_run, net_at, on_turn, order_of, orders_of, turn_at, turns_from}
+use Rattle.portfolio_margin.specs.Run.{MarginQuestion, Margin, Turn, asked_for, margin_run, net_at, on_turn, order_of, orders_of, turn_at, turns_from}
 use Rattle.portfolio_margin.specs.Answers.{EndsAs, IsMarginOf, StopsAs, TurnsAs, asked_in}
 use Rattle.portfolio_margin.specs.Owed.{fill_of, fills_of}
 use Rattle.portfolio_margin.proofs.Exactly.{wanted_is_lowest}
 use Rattle.portfolio_margin.proofs.Runs.{Keeps, turns_say}
 
 -- the searches that are left after i of them are all
-abbrev pub AreLeft : (a : Asked) (all : Ending Margin) (i : ℕ) (L : Fraction) (at : List ℕ) (spent : ℕ) → Type 0
+abbrev pub AreLeft : (a : MarginQuestion) (all : Ending Margin) (i : ℕ) (L : Fraction) (at : List ℕ) (spent : ℕ) → Type 0
 AreLeft a all i L at spent = all ≡ turns_from a (a.budget + 1 - i) L at spent
 
-abbrev later_turns : Asked → ℕ → Fraction → List ℕ → ℕ → Ending Margin
+abbrev later_turns : MarginQuestion → ℕ → Fraction → List ℕ → ℕ → Ending Margin
 later_turns a i more z units = turns_from a (a.budget + 1 - (i + 1)) more z units
 
-next_is : (a : Asked) (all : Ending Margin) (i : ℕ) (L : Fraction) (at : List ℕ) (spent : ℕ) → i ≤ a.budget → AreLeft a all i L at spent
+next_is : (a : MarginQuestion) (all : Ending Margin) (i : ℕ) (L : Fraction) (at : List ℕ) (spent : ℕ) → i ≤ a.budget → AreLeft a all i L at spent
     → all ≡ on_answer (turn_at a L at spent) (on_turn (later_turns a i))
 unfolding turns_from
 next_is a all i L at spent le left =
@@ -47,7 +47,7 @@ next_is a all i L at spent le left =
     left ∙ ap (λ (k : ℕ). turns_from a k L at spent) more
 
 -- with an end they end
-pub turns_end : (a : Asked) (all : Ending Margin) (i : ℕ) (L : Fraction) (at : List ℕ) (spent later : ℕ) (margin : LeastMargin) → i ≤ a.budget → AreLeft a all i L at spent
+pub turns_end : (a : MarginQuestion) (all : Ending Margin) (i : ℕ) (L : Fraction) (at : List ℕ) (spent later : ℕ) (margin : LeastMargin) → i ≤ a.budget → AreLeft a all i L at spent
     → TurnsAs (turn_at a L at spent) (Ends margin) later → EndsAs all margin later
 turns_end a all i L at spent later (Least M z tree) le left (written, is, ended) =
     (written, is, next_is a all i L at spent le left ∙ ap (λ (e : Ending Turn). on_answer e (on_turn (later_turns a i))) ended)
@@ -57,7 +57,7 @@ turns_end a all i L at spent later (Wide unit wide) le left ended = ended
 turns_end a all i L at spent later Budget le left ended = ended
 
 -- with a greater liability they go on
-pub turns_go : (a : Asked) (all : Ending Margin) (i : ℕ) (L : Fraction) (at : List ℕ) (spent later : ℕ) (wanted : Wanted) → i ≤ a.budget → AreLeft a all i L at spent
+pub turns_go : (a : MarginQuestion) (all : Ending Margin) (i : ℕ) (L : Fraction) (at : List ℕ) (spent later : ℕ) (wanted : Wanted) → i ≤ a.budget → AreLeft a all i L at spent
     → TurnsAs (turn_at a L at spent) (Goes wanted) later → AreLeft a all (i + 1) (fraction_of wanted.liability) (vector_of wanted.at) later
 turns_go a all i L at spent later wanted le left went =
     next_is a all i L at spent le left ∙ ap (λ (e : Ending Turn). on_answer e (on_turn (later_turns a i))) went
@@ -68,7 +68,7 @@ stops_after e next (WideStop unit w) spent is = (ap (λ (x : Ending Turn). on_an
 stops_after e next BudgetStop spent is = ap (λ (x : Ending Turn). on_answer x next) is
 stops_after e next Memory spent is = tt
 
-pub turns_stop : (a : Asked) (all : Ending Margin) (i : ℕ) (L : Fraction) (at : List ℕ) (spent later : ℕ) (stop : Stop) → i ≤ a.budget → AreLeft a all i L at spent
+pub turns_stop : (a : MarginQuestion) (all : Ending Margin) (i : ℕ) (L : Fraction) (at : List ℕ) (spent later : ℕ) (stop : Stop) → i ≤ a.budget → AreLeft a all i L at spent
     → StopsAs (turn_at a L at spent) stop later → StopsAs all stop later
 turns_stop a all i L at spent later stop le left is =
     subst (λ (e : Ending Margin). StopsAs e stop later) (sym (next_is a all i L at spent le left)) (stops_after (turn_at a L at spent) (on_turn (later_turns a i)) stop later is)
@@ -112,7 +112,7 @@ never_none budget batch fills first spent i L at units forms count low le high l
 
 -- ---- the whole run
 -- it begins with what the orders owe where all prices are 0
-pub run_starts : (a : Asked) (orders : List Order) (z : List ℕ) (L : Fraction) (spent : ℕ) → orders ≡ a.orders → z ≡ zero_prices a.underlyings → spent ≡ 0
+pub run_starts : (a : MarginQuestion) (orders : List Order) (z : List ℕ) (L : Fraction) (spent : ℕ) → orders ≡ a.orders → z ≡ zero_prices a.underlyings → spent ≡ 0
     → Ok L ≡ net_of a.limit (zip orders a.fills) z → margin_run a ≡ turns_from a (a.budget + 1) L z spent
 unfolding margin_run
 run_starts a orders z L spent same zero none is =
@@ -121,7 +121,7 @@ run_starts a orders z L spent same zero none is =
     let all : turns_from a (a.budget + 1) L z spent ≡ turns_from a (a.budget + 1) L first 0 = λ j. turns_from a (a.budget + 1) L (zero j) (none j) in
     ap (λ (r : Result Fraction Misfit). on_steps 0 r (λ M. turns_from a (a.budget + 1) M first 0)) net ∙ sym all
 
-pub run_stops : (a : Asked) (orders : List Order) (z : List ℕ) (w : Misfit) → orders ≡ a.orders → z ≡ zero_prices a.underlyings
+pub run_stops : (a : MarginQuestion) (orders : List Order) (z : List ℕ) (w : Misfit) → orders ≡ a.orders → z ≡ zero_prices a.underlyings
     → Err w ≡ net_of a.limit (zip orders a.fills) z → margin_run a ≡ wide_at 0 w
 unfolding margin_run
 run_stops a orders z w same zero is =

@@ -18,10 +18,10 @@ use Rattle.portfolio_margin.specs.declared.least_margin.LeastMargin.TheVariants.
 use Rattle.portfolio_margin.specs.declared.turn.Turn.{Turn as TurnOf}
 use Rattle.portfolio_margin.specs.declared.turn.Turn.TheVariants.{Ends, Goes}
 use Rattle.portfolio_margin.specs.Owed.{IsLeast, IsUnbounded, fills_of}
-use Rattle.portfolio_margin.specs.Run.{Asked, Margin, least, endless, Turn, ends, goes, orders_of}
+use Rattle.portfolio_margin.specs.Run.{MarginQuestion, Margin, least, endless, Turn, ends, goes, orders_of}
 
 -- a batch and its fills in numbers of the code
-abbrev pub asked_in : ℕ → Batch → List Frac128 → Asked
+abbrev pub asked_in : ℕ → Batch → List Frac128 → MarginQuestion
 asked_in budget batch fills = record { limit = largest; budget = budget; underlyings = batch.underlyings; orders = batch.orders; fills = map fraction_of fills }
 
 -- a run ends with what the code found, or for want of a unit, or at a number that does not fit

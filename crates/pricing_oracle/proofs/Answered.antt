@@ -14,7 +14,7 @@ use Rattle.search_laws.specs.Search.{IsAsked}
 use Rattle.search_laws.proofs.Searching.{search_closes, search_finds}
 use Rattle.pricing_oracle.specs.declared.found.Found.{Found as Answer}
 use Rattle.pricing_oracle.specs.declared.found.Found.TheVariants.{Closed, Violated}
-use Rattle.pricing_oracle.specs.declared.legs.Asked.{Asked}
+use Rattle.pricing_oracle.specs.declared.legs.SearchQuestion.{SearchQuestion}
 use Rattle.form.specs.declared.states.State.{State}
 use Rattle.simplex.specs.declared.stop.RunStop.{RunStop}
 use Rattle.simplex.specs.declared.stop.RunStop.TheVariants.{Wide, Budget}
@@ -29,7 +29,7 @@ each_lowest value [] lowest = All-nil IsLowest
 each_lowest value (x ∷ xs) lowest = All-cons IsLowest (value x) (map value xs) (lowest x) (each_lowest value xs lowest)
 
 -- what may be asked is a question of the laws
-pub is_asked : {A : Type 0} (value : A → Fraction) (limit budget : ℕ) (asked : Asked A) → ((a : A) → IsLowest (value a)) → MayBeAsked asked → All IsNotBelowZero (map value asked.fills.now) → IsAsked (asked_within value limit budget asked)
+pub is_asked : {A : Type 0} (value : A → Fraction) (limit budget : ℕ) (asked : SearchQuestion A) → ((a : A) → IsLowest (value a)) → MayBeAsked asked → All IsNotBelowZero (map value asked.fills.now) → IsAsked (asked_within value limit budget asked)
 is_asked value limit budget asked lowest may low =
     record {
       some = may.some;

@@ -16,8 +16,8 @@ use Rattle.master_program.specs.NodeSteps.{counted_role, add_by_role}
 use Rattle.pricing_oracle.specs.declared.legs.Role.{Role}
 use Rattle.pricing_oracle.specs.declared.legs.Role.TheVariants.{Idle, Covering, Free, Above, Below}
 use Rattle.pricing_oracle.specs.declared.legs.NodeLeg.{NodeLeg}
-use Rattle.pricing_oracle.specs.declared.legs.LegsLeft.{LegsLeft}
-use Rattle.pricing_oracle.specs.declared.legs.Asked.{Asked}
+use Rattle.pricing_oracle.specs.declared.legs.NodeLegsLeft.{NodeLegsLeft}
+use Rattle.pricing_oracle.specs.declared.legs.SearchQuestion.{SearchQuestion}
 
 abbrev pub role_as : Role → ModelRole
 role_as Idle = ModelIdle
@@ -58,14 +58,14 @@ node_leg l = record { role = l.role; option = l.leg.option }
 abbrev pub role_leg_as : {A : Type 0} → (A → Fraction) → NodeLeg A → RoleLeg
 role_leg_as value l = record { role = role_as l.role; leg = leg_as value l.leg }
 
-abbrev pub roles_left : {A : Type 0} → (A → Fraction) → LegsLeft A → List RoleLeg
+abbrev pub roles_left : {A : Type 0} → (A → Fraction) → NodeLegsLeft A → List RoleLeg
 roles_left value left = in_roles (legs_left value left.legs) (map sign_of left.signs.now)
 
-abbrev pub legs_asked : {A : Type 0} → (A → Fraction) → Asked A → List FractionLeg
+abbrev pub legs_asked : {A : Type 0} → (A → Fraction) → SearchQuestion A → List FractionLeg
 legs_asked value asked = batch_legs value asked.orders.now asked.fills.now
 
 -- a market on 1 to 8 underlyings, orders on just these, and a fill for each of them
-pub record MayBeAsked {A : Type 0} (asked : Asked A) : Type 0 where
+pub record MayBeAsked {A : Type 0} (asked : SearchQuestion A) : Type 0 where
   pub some : 1 ≤ asked.underlyings
   pub few : asked.underlyings ≤ 8
   pub forms : All (λ (order : Order). IsOnCount (asked.underlyings + 1) order.bundle) asked.orders.now

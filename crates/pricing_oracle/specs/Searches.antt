@@ -15,14 +15,14 @@ use Rattle.master_program.specs.Roles.{NodeLeg}
 use Rattle.master_program.specs.Node.{covers_of, signed_of}
 use Rattle.master_program.specs.NodeSteps.{counted_node}
 use Rattle.master_program.specs.Search.{Question, NodeFound, leaf, violated, splits, Found, closed, found, node_at, on_side, on_state, search_from, state_of, stuck}
-use Rattle.pricing_oracle.specs.declared.legs.Asked.{Asked}
+use Rattle.pricing_oracle.specs.declared.legs.SearchQuestion.{SearchQuestion}
 use Rattle.pricing_oracle.specs.Nodes.{legs_asked}
 use Rattle.pricing_oracle.specs.declared.node.Shown.{Shown}
 use Rattle.pricing_oracle.specs.declared.node.Shown.TheVariants.{Leaf, Violated, Splits}
 use Rattle.pricing_oracle.specs.declared.node.TreeParts.{TreeParts}
 
 -- what is asked, in numbers within a limit and with a budget
-abbrev pub asked_within : {A : Type 0} → (A → Fraction) → (limit budget : ℕ) → Asked A → Question
+abbrev pub asked_within : {A : Type 0} → (A → Fraction) → (limit budget : ℕ) → SearchQuestion A → Question
 asked_within value limit budget asked =
     record { payoff_limit = largest; limit = limit; budget = budget; underlyings = asked.underlyings; orders = asked.orders.now; fills = map value asked.fills.now; liability = value asked.liability.now }
 
@@ -72,7 +72,7 @@ unsigned_in [] = 0
 unsigned_in (sign ∷ signs) = one_if_unsigned sign + unsigned_in signs
 
 -- ---- a node of the code
-abbrev pub node_of_asked : {A : Type 0} → (A → Fraction) → Asked A → List Sign → List NodeLeg
+abbrev pub node_of_asked : {A : Type 0} → (A → Fraction) → SearchQuestion A → List Sign → List NodeLeg
 node_of_asked value asked signs = counted_node (legs_asked value asked) signs
 
 -- the dual values of the first row, the covering legs' and the signed legs'
@@ -80,7 +80,7 @@ abbrev pub HasRows : ℕ → List NodeLeg → List Fraction → Type 0
 HasRows n node y = length y ≡ suc (length (covers_of node) + length (signed_of n node))
 
 -- how a node ends with an optimum above 0 at x
-abbrev pub state_end : {A : Type 0} → (A → Fraction) → (limit : ℕ) → Asked A → List Sign → List Fraction → ℕ → Ending NodeFound
+abbrev pub state_end : {A : Type 0} → (A → Fraction) → (limit : ℕ) → SearchQuestion A → List Sign → List Fraction → ℕ → Ending NodeFound
 state_end value limit asked signs x unit =
     let q = asked_within value limit 0 asked in
     on_steps unit (state_of q x) (on_state q (node_at q signs) unit)

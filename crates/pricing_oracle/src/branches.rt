@@ -10,7 +10,7 @@ ghost use Rattle.pricing_oracle.specs.Programs.{HasSameSize};
 ghost use Rattle.pricing_oracle.specs.Rooms.{HasRoom, KeepsRoom};
 ghost use Rattle.pricing_oracle.specs.Searches.{HasSearched, after_split, asked_within, parts_of, unsigned_in};
 
-use crate::legs::Asked;
+use crate::legs::SearchQuestion;
 use crate::node::{Shown, TreeParts, open_node};
 use exact_num::Exact;
 use form::State;
@@ -40,7 +40,7 @@ fn add_split(tree: &mut TreeParts, place: usize)
 pub(crate) fn branch<N: Exact>(
     space: &mut Space<N>,
     row: &mut Vec<N>,
-    asked: Asked<N>,
+    asked: SearchQuestion<N>,
     signs: &mut [i8],
     budget: &mut Budget,
     tree: &mut TreeParts,
@@ -76,7 +76,7 @@ pub(crate) fn branch<N: Exact>(
 fn sides<N: Exact>(
     space: &mut Space<N>,
     row: &mut Vec<N>,
-    asked: Asked<N>,
+    asked: SearchQuestion<N>,
     signs: &mut [i8],
     budget: &mut Budget,
     tree: &mut TreeParts,

@@ -11,7 +11,7 @@ ghost use Rattle.pricing_oracle.specs.Filled.{HasFilled};
 ghost use Rattle.pricing_oracle.specs.Programs.{costs_steps};
 ghost use Rattle.pricing_oracle.specs.Nodes.{MayBeAsked, add_earned_by, legs_asked, role_leg_as};
 
-use crate::legs::{Asked, NodeLeg, Role, entry, first_of, legs_of};
+use crate::legs::{NodeLeg, Role, SearchQuestion, entry, first_of, legs_of};
 use exact_num::{Exact, Wide, plus_product};
 use lists::push_within;
 use sign_tree::BatchLeg;
@@ -59,7 +59,7 @@ fn add_leg<N: Exact>(total: N, leg: NodeLeg<N>, i: usize) -> Result<N, Wide>
 }
 
 // What all legs earn at entry i.
-fn earned_at<N: Exact>(asked: Asked<N>, signs: &[i8], i: usize) -> Result<N, Wide>
+fn earned_at<N: Exact>(asked: SearchQuestion<N>, signs: &[i8], i: usize) -> Result<N, Wide>
     requires asked { MayBeAsked asked }
     requires entry { i < 9 }
     ensures { meaning N.fraction result
@@ -77,7 +77,7 @@ fn earned_at<N: Exact>(asked: Asked<N>, signs: &[i8], i: usize) -> Result<N, Wid
 
 // The cost of entry i of the state: what all legs earn there, and at entry 0 less the liability.
 #[tactic(auto, unfolding(master_program::specs::NodeSteps::state_cost_steps))]
-fn state_cost<N: Exact>(asked: Asked<N>, signs: &[i8], i: usize) -> Result<N, Wide>
+fn state_cost<N: Exact>(asked: SearchQuestion<N>, signs: &[i8], i: usize) -> Result<N, Wide>
     requires asked { MayBeAsked asked }
     requires entry { i < 9 }
     ensures { meaning N.fraction result
@@ -93,7 +93,11 @@ fn state_cost<N: Exact>(asked: Asked<N>, signs: &[i8], i: usize) -> Result<N, Wi
 }
 
 // Adds the costs of the state's entries.
-fn add_state_costs<N: Exact>(row: &mut Vec<N>, asked: Asked<N>, signs: &[i8]) -> Result<(), Wide>
+fn add_state_costs<N: Exact>(
+    row: &mut Vec<N>,
+    asked: SearchQuestion<N>,
+    signs: &[i8],
+) -> Result<(), Wide>
     requires asked { MayBeAsked asked }
     requires room { vec_len row.old + (asked.underlyings + 1) ≤ vec_capacity row.old }
     ensures added { HasFilled (map N.fraction row.old.items)
@@ -122,7 +126,11 @@ fn cover_cost<N: Exact>(leg: BatchLeg<N>) -> Result<N, Wide>
 }
 
 // Adds the costs of the covering legs' variables.
-fn add_cover_costs<N: Exact>(row: &mut Vec<N>, asked: Asked<N>, signs: &[i8]) -> Result<(), Wide>
+fn add_cover_costs<N: Exact>(
+    row: &mut Vec<N>,
+    asked: SearchQuestion<N>,
+    signs: &[i8],
+) -> Result<(), Wide>
     requires asked { MayBeAsked asked }
     requires room { vec_len row.old + length signs.now ≤ vec_capacity row.old }
     ensures added { HasFilled (map N.fraction row.old.items)
@@ -143,7 +151,11 @@ fn add_cover_costs<N: Exact>(row: &mut Vec<N>, asked: Asked<N>, signs: &[i8]) ->
 
 /// Writes the costs of the program of a node: those of the state's entries, and of the covering
 /// legs' variables.
-pub fn write_costs<N: Exact>(row: &mut Vec<N>, asked: Asked<N>, signs: &[i8]) -> Result<(), Wide>
+pub fn write_costs<N: Exact>(
+    row: &mut Vec<N>,
+    asked: SearchQuestion<N>,
+    signs: &[i8],
+) -> Result<(), Wide>
     requires asked { MayBeAsked asked }
     requires room { asked.underlyings + 1 + length signs.now ≤ vec_capacity row.old }
     ensures written { HasFilled []

@@ -11,7 +11,7 @@ ghost use Rattle.master_program.specs.Search.{add_filled, add_owed, excess_of};
 ghost use Rattle.table_run.specs.Places.{fraction_zero};
 ghost use Rattle.pricing_oracle.specs.Nodes.{MayBeAsked};
 
-use crate::legs::Asked;
+use crate::legs::SearchQuestion;
 use exact_num::{Exact, Wide, less_product};
 use form::{Order, State, add_for_side, bundle_payoff};
 
@@ -69,7 +69,7 @@ fn scale<N: Exact>(state: &State) -> Result<N, Wide>
 /// What the fills owe at a state above the liability times t: the orders in turn, and then the
 /// liability.
 #[tactic(auto, unfolding(master_program::specs::Search::excess_of))]
-pub fn excess<N: Exact>(asked: Asked<N>, state: &State) -> Result<N, Wide>
+pub fn excess<N: Exact>(asked: SearchQuestion<N>, state: &State) -> Result<N, Wide>
     requires asked { MayBeAsked asked }
     requires count { state.now.count ≡ asked.underlyings + 1 }
     ensures { meaning N.fraction result ≡ excess_of limit (unsigned_abs N.LIMIT)

@@ -13,7 +13,7 @@ ghost use Rattle.pricing_oracle.specs.Nodes.{MayBeAsked, legs_asked};
 ghost use Rattle.pricing_oracle.specs.Programs.{HasGiven, HasSameSize, IsOpen};
 
 use crate::costs::write_costs;
-use crate::legs::{Asked, first_of, legs_of};
+use crate::legs::{SearchQuestion, first_of, legs_of};
 use crate::rows::{cover_count, write_cover_row, write_signed_row, write_size_row};
 use exact_num::{Exact, Wide};
 use simplex::Space;
@@ -38,7 +38,7 @@ fn give_size_row<N: Exact>(space: &mut Space<N>, row: &mut Vec<N>, n: usize, cov
 fn give_cover_rows<N: Exact>(
     space: &mut Space<N>,
     row: &mut Vec<N>,
-    asked: Asked<N>,
+    asked: SearchQuestion<N>,
     signs: &[i8],
     covers: usize,
 ) -> Result<(), Wide>
@@ -73,7 +73,7 @@ fn give_cover_rows<N: Exact>(
 fn give_signed_rows<N: Exact>(
     space: &mut Space<N>,
     row: &mut Vec<N>,
-    asked: Asked<N>,
+    asked: SearchQuestion<N>,
     signs: &[i8],
     covers: usize,
 ) -> Result<(), Wide>
@@ -107,7 +107,7 @@ fn give_signed_rows<N: Exact>(
 pub fn give_program<N: Exact>(
     space: &mut Space<N>,
     row: &mut Vec<N>,
-    asked: Asked<N>,
+    asked: SearchQuestion<N>,
     signs: &[i8],
 ) -> Result<(), Wide>
     requires asked { MayBeAsked asked }

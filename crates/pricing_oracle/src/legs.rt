@@ -10,11 +10,11 @@ ghost use Rattle.pricing_oracle.specs.Nodes.{MayBeAsked, in_roles, legs_asked, r
 
 use exact_num::Exact;
 use form::{Form, Order};
-use sign_tree::{BatchLeg, Exposure, LegsLeft as BatchLegs, first_leg};
+use sign_tree::{BatchLeg, Exposure, LegsLeft, first_leg};
 
 /// What a search asks: whether the liability is enough for the fills of the orders at each state.
 #[derive(Clone, Copy)]
-pub struct Asked<'a, N> {
+pub struct SearchQuestion<'a, N> {
     pub underlyings: usize,
     pub orders: &'a [Order],
     pub fills: &'a [N],
@@ -67,8 +67,8 @@ pub struct NodeLeg<'a, N> {
 /// The legs of a node that are still to come, and their signs: 0 for none, and else above 0 or
 /// below.
 #[derive(Clone, Copy)]
-pub struct LegsLeft<'a, N> {
-    pub legs: BatchLegs<'a, N>,
+pub struct NodeLegsLeft<'a, N> {
+    pub legs: LegsLeft<'a, N>,
     pub signs: &'a [i8],
 }
 
@@ -114,14 +114,14 @@ pub fn entry(form: &Form, i: usize) -> i64
 }
 
 /// All legs of a node with these signs.
-pub fn legs_of<'a, N: Exact>(asked: Asked<'a, N>, signs: &'a [i8]) -> LegsLeft<'a, N>
+pub fn legs_of<'a, N: Exact>(asked: SearchQuestion<'a, N>, signs: &'a [i8]) -> NodeLegsLeft<'a, N>
     requires { MayBeAsked asked }
     ensures legs { roles_left N.fraction result
         ≡ in_roles (legs_asked N.fraction asked.entry) (map sign_of signs.now) }
     ensures at_leg { IsAtLeg result.legs }
 {
-    LegsLeft {
-        legs: BatchLegs {
+    NodeLegsLeft {
+        legs: LegsLeft {
             orders: asked.orders,
             fills: asked.fills,
             next: 0,
@@ -131,7 +131,9 @@ pub fn legs_of<'a, N: Exact>(asked: Asked<'a, N>, signs: &'a [i8]) -> LegsLeft<'
 }
 
 /// The first leg, where there is one, and those after it.
-pub fn first_of<'a, N: Exact>(left: LegsLeft<'a, N>) -> Option<(NodeLeg<'a, N>, LegsLeft<'a, N>)>
+pub fn first_of<'a, N: Exact>(
+    left: NodeLegsLeft<'a, N>,
+) -> Option<(NodeLeg<'a, N>, NodeLegsLeft<'a, N>)>
     requires { IsAtLeg left.legs }
     ensures { MatchOption result (roles_left N.fraction left.entry ≡ [])
         (λ p. (roles_left N.fraction left.entry
@@ -141,5 +143,5 @@ pub fn first_of<'a, N: Exact>(left: LegsLeft<'a, N>) -> Option<(NodeLeg<'a, N>, 
     let (leg, legs) = first_leg(left.legs)?;
     let role = role_for(is_filled(leg.fill, leg.size), leg.exposure, *sign);
     let first = NodeLeg { role, leg };
-    Some((first, LegsLeft { legs, signs }))
+    Some((first, NodeLegsLeft { legs, signs }))
 }

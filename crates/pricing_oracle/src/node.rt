@@ -16,7 +16,7 @@ ghost use Rattle.pricing_oracle.specs.Searches.{HasRows, HasShown, WrittenParts,
 
 use crate::excess::excess;
 use crate::giving::give_program;
-use crate::legs::Asked;
+use crate::legs::SearchQuestion;
 use crate::reading::{add_multipliers, state_of};
 use crate::rows::cover_count;
 use crate::splitting::split_place;
@@ -52,7 +52,12 @@ fn is_above_zero<N: Exact>(x: N) -> bool
 }
 
 // Adds a leaf, whose multipliers the optimum in the space gives.
-fn add_leaf<N: Exact>(tree: &mut TreeParts, space: &Space<N>, asked: Asked<N>, signs: &[i8])
+fn add_leaf<N: Exact>(
+    tree: &mut TreeParts,
+    space: &Space<N>,
+    asked: SearchQuestion<N>,
+    signs: &[i8],
+)
     requires asked { MayBeAsked asked }
     requires signs { length signs.now ≤ 1024 }
     requires found { IsFound space.now.contents }
@@ -81,7 +86,7 @@ fn add_leaf<N: Exact>(tree: &mut TreeParts, space: &Space<N>, asked: Asked<N>, s
 fn look_at_state<N: Exact>(
     space: &Space<N>,
     row: &mut Vec<N>,
-    asked: Asked<N>,
+    asked: SearchQuestion<N>,
     signs: &[i8],
     unit: u32,
 ) -> Result<Shown, RunStop>
@@ -121,7 +126,7 @@ fn look_at_state<N: Exact>(
 pub fn open_node<N: Exact>(
     space: &mut Space<N>,
     row: &mut Vec<N>,
-    asked: Asked<N>,
+    asked: SearchQuestion<N>,
     signs: &[i8],
     budget: &mut Budget,
     tree: &mut TreeParts,

@@ -13,7 +13,7 @@ ghost use Rattle.pricing_oracle.specs.Nodes.{MayBeAsked, legs_asked, role_as};
 ghost use Rattle.pricing_oracle.specs.Multipliers.{HasRow, multiplier_in, rows_after};
 
 use crate::filling::write_values;
-use crate::legs::{Asked, Role, first_of, legs_of};
+use crate::legs::{Role, SearchQuestion, first_of, legs_of};
 use exact_num::{Exact, Wide};
 use form::{State, primitive};
 use frac::Frac128;
@@ -99,7 +99,7 @@ fn add_multiplier<N: Exact>(multipliers: &mut Vec<Multiplier>, place: usize, by:
 pub fn add_multipliers<N: Exact>(
     multipliers: &mut Vec<Multiplier>,
     space: &Space<N>,
-    asked: Asked<N>,
+    asked: SearchQuestion<N>,
     signs: &[i8],
     covers: usize,
 )

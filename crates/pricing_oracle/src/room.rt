@@ -10,7 +10,7 @@ ghost use Rattle.pricing_oracle.specs.Rooms.{HasSameRoom};
 ghost use Rattle.pricing_oracle.specs.Searches.{HasSearched, asked_within, no_parts, parts_in};
 
 use crate::branches::branch;
-use crate::legs::Asked;
+use crate::legs::SearchQuestion;
 use crate::node::TreeParts;
 use exact_num::Exact;
 use form::State;
@@ -138,7 +138,7 @@ impl<N: Exact> SearchRoom<N> {
     /// and else the answer is the state that it finds.
     pub(crate) fn search(
         &mut self,
-        asked: Asked<N>,
+        asked: SearchQuestion<N>,
         legs: usize,
         budget: &mut Budget,
     ) -> Result<Option<State>, RunStop>

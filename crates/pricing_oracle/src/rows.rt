@@ -13,7 +13,7 @@ ghost use Rattle.pricing_oracle.specs.Filled.{HasFilled};
 ghost use Rattle.pricing_oracle.specs.Nodes.{MayBeAsked, legs_asked, role_as};
 ghost use Rattle.pricing_oracle.specs.Programs.{signed_entries, unit_at};
 
-use crate::legs::{Asked, Role, entry, first_of, legs_of};
+use crate::legs::{Role, SearchQuestion, entry, first_of, legs_of};
 use exact_num::{Exact, Wide};
 use form::Form;
 use lists::push_within;
@@ -160,7 +160,7 @@ pub fn write_signed_row<N: Exact>(
 }
 
 /// How many legs of a node cover.
-pub fn cover_count<N: Exact>(asked: Asked<N>, signs: &[i8]) -> usize
+pub fn cover_count<N: Exact>(asked: SearchQuestion<N>, signs: &[i8]) -> usize
     requires asked { MayBeAsked asked }
     requires signs { length signs.now ≤ 1024 }
     ensures count { result ≡ length (covers_of

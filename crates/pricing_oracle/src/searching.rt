@@ -10,7 +10,7 @@ ghost use Rattle.pricing_oracle.specs.Answers.{IsSearchAnswer, IsTrueOf, found_i
 ghost use Rattle.pricing_oracle.specs.Rooms.{HasSameRoom};
 
 use crate::found::Found;
-use crate::legs::Asked;
+use crate::legs::SearchQuestion;
 use crate::room::SearchRoom;
 use exact_num::Exact;
 use form::{Batch, State};
@@ -49,7 +49,7 @@ pub fn search_in<N: Exact>(
     ensures limit { budget.new.limit ≡ budget.old.limit }
 {
     let orders = batch.orders.as_slice();
-    let asked = Asked {
+    let asked = SearchQuestion {
         underlyings: batch.underlyings as usize,
         orders,
         fills,

@@ -6,7 +6,7 @@ ghost use Rattle.master_program.specs.Roles.{can_split, entries, has_above, has_
 ghost use Rattle.master_program.specs.NodeSteps.{counted_node};
 ghost use Rattle.pricing_oracle.specs.Nodes.{MayBeAsked, legs_asked, node_leg, role_leg_as};
 
-use crate::legs::{Asked, NodeLeg, entry, first_of, legs_of};
+use crate::legs::{NodeLeg, SearchQuestion, entry, first_of, legs_of};
 use exact_num::Exact;
 use form::Form;
 
@@ -61,7 +61,7 @@ fn can_split<N: Exact>(leg: NodeLeg<N>, n: usize) -> bool
 }
 
 /// The place, counted from 0, of the first leg at which a node can split.
-pub fn split_place<N: Exact>(asked: Asked<N>, signs: &[i8]) -> Option<usize>
+pub fn split_place<N: Exact>(asked: SearchQuestion<N>, signs: &[i8]) -> Option<usize>
     requires asked { MayBeAsked asked }
     requires signs { length signs.now ≤ 1024 }
     ensures place { result ≡ split_place asked.entry.underlyings

@@ -23,7 +23,7 @@ use Rattle.table_run.specs.Ending.{Ending, done, unbounded, wide_at, no_unit_lef
 use Rattle.portfolio_margin.specs.declared.needs.Needed.TheVariants as needed
 use Rattle.portfolio_margin.specs.Need.{Demand, demand_sum, demand_word, first_demand_word, or_word, whole_demand}
 use Rattle.portfolio_margin.specs.Owed.{fill_of, fills_of}
-use Rattle.portfolio_margin.specs.Run.{Asked, Margin, Turn, at_state, endless, ends, goes, least, margin_run, net_at, on_found, on_turn, order_of, orders_of, question_of, turn_at, turns_from, wanted_at}
+use Rattle.portfolio_margin.specs.Run.{MarginQuestion, Margin, Turn, at_state, endless, ends, goes, least, margin_run, net_at, on_found, on_turn, order_of, orders_of, question_of, turn_at, turns_from, wanted_at}
 use Rattle.guarded_lines.specs.declared.told.Need.{Need}
 use Rattle.guarded_lines.specs.declared.told.Need.TheVariants as need
 use Rattle.guarded_lines.specs.Margins.{are_many, held_by, run_in, told_of, underlyings_in}
@@ -50,7 +50,7 @@ IsTurnOf (ends margin) = IsMarginOf margin
 IsTurnOf (goes L at) = IsValue L × IsSmallState at
 
 module _ (budget n : ℕ) (orders : List Order) (fills : List Fraction) (within : All IsOrderWithin orders) (are : AreValues fills) where
-  abbrev asked : Asked
+  abbrev asked : MarginQuestion
   asked = record { limit = largest; budget = budget; underlyings = n; orders = orders; fills = fills }
 
   net_has : (z : List ℕ) → IsSmallState z → Has IsValue (net_at asked z)

@@ -3,7 +3,7 @@ use Rattle.exact_num.specs.Fraction.{IsNotBelowZero}
 use Rattle.portfolio_margin.specs.declared.least_margin.LeastMargin.TheVariants.{Wide, Budget}
 use Rattle.portfolio_margin.specs.Answers.{IsMarginOf}
 use Rattle.portfolio_margin.specs.Laws.{MayBeAsked}
-use Rattle.portfolio_margin.specs.Run.{Asked, margin_run}
+use Rattle.portfolio_margin.specs.Run.{MarginQuestion, margin_run}
 use Rattle.portfolio_margin.proofs.LeastMargins.{true_of}
 use Rattle.portfolio_margin.proofs.Turns.{asked_is, budget_of, fills_are, fills_low, forms_are, margin_of, wide_of}
 use Rattle.portfolio_margin.proofs.margins.margin.Goals as goal
@@ -24,7 +24,7 @@ returns-in-Ok-clause-run c =
     let n = c.args.underlyings in
     let fills = fills_are ps c.as_slice.result.now c.in_ok-fills.fills.items c.as_slice.ensures.value c.in_ok-fills.ensures in
     let same = asked_is c.new-budget.result.limit c.args.limit n c.from_vec.result c.as_slice.result.now ps c.new-budget.ensures.limit (c.from_vec.ensures ∙ c.in_ok-orders.ensures) fills in
-    subst (λ (a : Asked). IsMarginOf (margin_run a) c.in-Ok.margin) same (margin_of _ c.in-Ok.margin c.least.new.budget.spent c.in-Ok.ensures.end)
+    subst (λ (a : MarginQuestion). IsMarginOf (margin_run a) c.in-Ok.margin) same (margin_of _ c.in-Ok.margin c.least.new.budget.spent c.in-Ok.ensures.end)
 
 pub returns-in-Ok-clause-least : goal.returns-in-Ok-clause-least
 returns-in-Ok-clause-least c =
@@ -39,7 +39,7 @@ returns-in-Err-Wide-clause-run c =
     let fills = fills_are ps c.as_slice.result.now c.in_ok-fills.fills.items c.as_slice.ensures.value c.in_ok-fills.ensures in
     let same = asked_is c.new-budget.result.limit c.args.limit n c.from_vec.result c.as_slice.result.now ps c.new-budget.ensures.limit (c.from_vec.ensures ∙ c.in_ok-orders.ensures) fills in
     let said = wide_of _ c.in-Err-Wide.field-0 c.in-Err-Wide.unit c.in-Err-Wide.wide _ c.in-Err-Wide.field-0-is c.in-Err-Wide.ensures.end in
-    subst (λ (a : Asked). IsMarginOf (margin_run a) (Wide c.in-Err-Wide.unit c.in-Err-Wide.wide)) same said
+    subst (λ (a : MarginQuestion). IsMarginOf (margin_run a) (Wide c.in-Err-Wide.unit c.in-Err-Wide.wide)) same said
 
 pub returns-in-Err-Budget-clause-run : goal.returns-in-Err-Budget-clause-run
 returns-in-Err-Budget-clause-run c =
@@ -48,4 +48,4 @@ returns-in-Err-Budget-clause-run c =
     let fills = fills_are ps c.as_slice.result.now c.in_ok-fills.fills.items c.as_slice.ensures.value c.in_ok-fills.ensures in
     let same = asked_is c.new-budget.result.limit c.args.limit n c.from_vec.result c.as_slice.result.now ps c.new-budget.ensures.limit (c.from_vec.ensures ∙ c.in_ok-orders.ensures) fills in
     let said = budget_of _ c.in-Err-Budget.field-0 _ c.in-Err-Budget.field-0-is c.in-Err-Budget.ensures.end in
-    subst (λ (a : Asked). IsMarginOf (margin_run a) Budget) same said
+    subst (λ (a : MarginQuestion). IsMarginOf (margin_run a) Budget) same said

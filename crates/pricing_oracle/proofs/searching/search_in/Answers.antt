@@ -1,7 +1,7 @@
 use Rattle.std.proofs.Common.{◌∙◌, ap, sym, length, map, unsigned_abs}
 use Rattle.std.proofs.lemmas.List.{length-map}
 use Rattle.sign_tree.proofs.LegLists.{length-fraction_legs}
-use Rattle.pricing_oracle.specs.declared.legs.Asked.{Asked}
+use Rattle.pricing_oracle.specs.declared.legs.SearchQuestion.{SearchQuestion}
 use Rattle.pricing_oracle.specs.Answers.{question}
 use Rattle.pricing_oracle.specs.Searches.{asked_within}
 use Rattle.pricing_oracle.proofs.Answered.{answer_is_true, answers, is_question}
@@ -21,7 +21,7 @@ returns-clause-search g c =
     let batch = c.args.batch.now in
     let budget = c.args.budget.now in
     let q = question limit budget.limit batch (map value c.args.fills.now) (value c.args.liability.now) in
-    let those : Asked g.row.N.Denot = record { underlyings = batch.underlyings; orders = c.as_slice-orders.result; fills = c.args.fills; liability = c.args.liability } in
+    let those : SearchQuestion g.row.N.Denot = record { underlyings = batch.underlyings; orders = c.as_slice-orders.result; fills = c.args.fills; liability = c.args.liability } in
     answers q (asked_within value limit budget.limit those) budget.spent c.search.new.budget.spent c.search.new.self.tree c.search.result (λ i. record q { orders = c.as_slice-orders.ensures i }) c.search.ensures.search
 
 pub returns-clause-found : goal.returns-clause-found
