@@ -31,11 +31,17 @@ margin_without line request word =
     (field (codes "market") (natural request.market)
     (field (codes "reply") (words (codes "margin")) no_fields)))))
 
+abbrev pub margin_text : ToldMargin → List ℕ
+margin_text (Least liability at) = fraction_text (fraction_of liability)
+margin_text (Unbounded ray) = codes "unbounded"
+margin_text Wide = codes "wide"
+margin_text Budget = codes "budget"
+
 abbrev pub margin_piece : ℕ → MarginRequest → ToldMargin → Piece
-margin_piece line request (Least liability at) = margin_with line request (fraction_text (fraction_of liability)) at
-margin_piece line request (Unbounded ray) = margin_with line request (codes "unbounded") ray
-margin_piece line request Wide = margin_without line request (codes "wide")
-margin_piece line request Budget = margin_without line request (codes "budget")
+margin_piece line request (Least liability at) = margin_with line request (margin_text (Least liability at)) at
+margin_piece line request (Unbounded ray) = margin_with line request (margin_text (Unbounded ray)) ray
+margin_piece line request Wide = margin_without line request (margin_text Wide)
+margin_piece line request Budget = margin_without line request (margin_text Budget)
 
 -- the line of a margin that was asked for, without its line feed
 abbrev pub margin_line : ℕ → MarginRequest → ToldMargin → List ℕ

@@ -1,14 +1,13 @@
 //! What is told of a margin, or of a withdrawal that is refused in want of one, and its line.
-ghost use Rattle.std.specs.Prelude.{◌≡◌, IfOk, string_bytes};
-ghost use Rattle.serde_json.specs.View.{view};
-ghost use Rattle.reply_print.specs.PieceData.{piece_data};
-ghost use Rattle.guarded_lines.specs.Told.{margin_line, margin_piece, margin_with, margin_without, need_text, uncovered_line, uncovered_piece};
+ghost use Rattle.std.specs.Prelude.{true, ◌≡◌, ◌++◌, IfOk, OnOk, codes};
+ghost use Rattle.reply_print.specs.Piece.{Fields, field, fields_text, piece_text, words};
+ghost use Rattle.guarded_lines.specs.Told.{margin_line, margin_piece, margin_text, margin_with, margin_without, need_text, uncovered_line, uncovered_piece};
 
 use crate::requests::MarginRequest;
 use form::State;
 use frac::Frac128;
-use reply_print::{fraction_string, state_value};
-use serde_json::{Value, json};
+use itoa::Buffer;
+use reply_print::printing::{add_field, add_items, add_key, add_number, add_words, append};
 use std::alloc::{AllocError, Global};
 
 /// What is told of the margin of an account in a market.
@@ -25,55 +24,74 @@ pub enum ToldMargin {
     Budget,
 }
 
-// A margin that is told with a state.
-fn with_state(
-    alloc: Global,
-    line: u32,
-    request: &MarginRequest,
-    margin: &str,
-    at: &State,
-) -> Result<Value, AllocError>
-    ensures { IfOk result (λ v. view v
-        ≡ piece_data (margin_with line request.now margin.now at.now)) }
-{
-    let at = state_value(alloc, at)?;
-    json!(in alloc; {
-        "account": request.account, "at": at, "line": line, "margin": margin,
-        "market": request.market, "reply": "margin"
-    })
-}
-
-// A margin that is told by its word alone.
-fn without_state(
-    alloc: Global,
-    line: u32,
-    request: &MarginRequest,
-    word: &str,
-) -> Result<Value, AllocError>
-    ensures { IfOk result (λ v. view v ≡ piece_data (margin_without line request.now word.now)) }
-{
-    json!(in alloc; {
-        "account": request.account, "line": line, "margin": word, "market": request.market,
-        "reply": "margin"
-    })
-}
-
-fn margin_value(
-    alloc: Global,
-    line: u32,
-    request: &MarginRequest,
-    margin: &ToldMargin,
-) -> Result<Value, AllocError>
-    ensures { IfOk result (λ v. view v ≡ piece_data (margin_piece line request.now margin.now)) }
+// Adds the field of a margin.
+fn add_margin_field(line: &mut Vec<u8>, margin: &ToldMargin) -> Result<(), AllocError>
+    ensures { OnOk result ((fs : Fields) → line.new.items ++ fields_text true fs
+        ≡ line.old.items
+        ++ fields_text true (field (codes "margin") (words (margin_text margin.now)) fs)) }
 {
     match margin {
-        ToldMargin::Least { liability, at } => {
-            let text = fraction_string(alloc, *liability)?;
-            with_state(alloc, line, request, &text, at)
-        }
-        ToldMargin::Unbounded { ray } => with_state(alloc, line, request, "unbounded", ray),
-        ToldMargin::Wide => without_state(alloc, line, request, "wide"),
-        ToldMargin::Budget => without_state(alloc, line, request, "budget"),
+        ToldMargin::Least { liability, .. } => add_field(line, true, "margin", liability),
+        ToldMargin::Unbounded { .. } => add_words(line, true, "margin", "unbounded"),
+        ToldMargin::Wide => add_words(line, true, "margin", "wide"),
+        ToldMargin::Budget => add_words(line, true, "margin", "budget"),
+    }
+}
+
+// Adds a margin that is told with a state.
+fn add_with_state(
+    line: &mut Vec<u8>,
+    at: u32,
+    request: &MarginRequest,
+    margin: &ToldMargin,
+    state: &State,
+) -> Result<(), AllocError>
+    ensures { OnOk result (line.new.items ≡ line.old.items
+        ++ piece_text (margin_with at request.now (margin_text margin.now) state.now)) }
+{
+    append(line, "{")?;
+    add_number(line, false, "account", u64::from(request.account))?;
+    add_items(line, true, "at", &state.entries[..state.count as usize])?;
+    add_number(line, true, "line", u64::from(at))?;
+    add_margin_field(line, margin)?;
+    add_number(line, true, "market", u64::from(request.market))?;
+    add_words(line, true, "reply", "margin")?;
+    append(line, "}")
+}
+
+// Adds a margin that is told by its word alone.
+fn add_without_state(
+    line: &mut Vec<u8>,
+    at: u32,
+    request: &MarginRequest,
+    margin: &ToldMargin,
+) -> Result<(), AllocError>
+    ensures { OnOk result (line.new.items ≡ line.old.items
+        ++ piece_text (margin_without at request.now (margin_text margin.now))) }
+{
+    append(line, "{")?;
+    add_number(line, false, "account", u64::from(request.account))?;
+    add_number(line, true, "line", u64::from(at))?;
+    add_margin_field(line, margin)?;
+    add_number(line, true, "market", u64::from(request.market))?;
+    add_words(line, true, "reply", "margin")?;
+    append(line, "}")
+}
+
+fn add_margin(
+    line: &mut Vec<u8>,
+    at: u32,
+    request: &MarginRequest,
+    margin: &ToldMargin,
+) -> Result<(), AllocError>
+    ensures { OnOk result (line.new.items
+        ≡ line.old.items ++ piece_text (margin_piece at request.now margin.now)) }
+{
+    match margin {
+        ToldMargin::Least { at: state, .. } => add_with_state(line, at, request, margin, state),
+        ToldMargin::Unbounded { ray } => add_with_state(line, at, request, margin, ray),
+        ToldMargin::Wide => add_without_state(line, at, request, margin),
+        ToldMargin::Budget => add_without_state(line, at, request, margin),
     }
 }
 
@@ -87,8 +105,9 @@ pub fn print_margin(
 ) -> Result<Vec<u8>, AllocError>
     ensures { IfOk result (λ text. text.items ≡ margin_line line request.now margin.now) }
 {
-    let value = margin_value(alloc, line, request, margin)?;
-    value.to_vec(alloc)
+    let mut text = Vec::new(alloc);
+    add_margin(&mut text, line, request, margin)?;
+    Ok(text)
 }
 
 /// What the positions of an account demand of its balance.
@@ -108,27 +127,43 @@ pub enum Need {
     Sum,
 }
 
-// The amount, or the word.
-fn need_word(alloc: Global, need: Need) -> Result<String, AllocError>
-    ensures { IfOk result (λ s. string_bytes s ≡ need_text need) }
+// Adds the amount, or the word.
+fn add_need_word(line: &mut Vec<u8>, need: Need) -> Result<(), AllocError>
+    ensures { OnOk result (line.new.items ≡ line.old.items ++ need_text need) }
 {
     match need {
-        Need::Amount { amount } => format!(in alloc; "{amount}"),
-        Need::Positions => String::from_str(alloc, "positions"),
-        Need::Unbounded => String::from_str(alloc, "unbounded"),
-        Need::Wide => String::from_str(alloc, "wide"),
-        Need::Budget => String::from_str(alloc, "budget"),
-        Need::Sum => String::from_str(alloc, "sum"),
+        Need::Amount { amount } => append(line, Buffer::new().format(amount)),
+        Need::Positions => append(line, "positions"),
+        Need::Unbounded => append(line, "unbounded"),
+        Need::Wide => append(line, "wide"),
+        Need::Budget => append(line, "budget"),
+        Need::Sum => append(line, "sum"),
     }
 }
 
-fn uncovered_value(alloc: Global, line: u32, need: Need) -> Result<Value, AllocError>
-    ensures { IfOk result (λ v. view v ≡ piece_data (uncovered_piece line need)) }
+// Adds the field of a need.
+fn add_need(line: &mut Vec<u8>, need: Need) -> Result<(), AllocError>
+    ensures { OnOk result ((fs : Fields) → line.new.items ++ fields_text true fs
+        ≡ line.old.items
+        ++ fields_text true (field (codes "need") (words (need_text need)) fs)) }
 {
-    let need = need_word(alloc, need)?;
-    json!(in alloc; {
-        "line": line, "need": &need, "number": 14, "reason": "Margin", "reply": "refused"
-    })
+    add_key(line, true, "need")?;
+    append(line, "\"")?;
+    add_need_word(line, need)?;
+    append(line, "\"")
+}
+
+fn add_uncovered(line: &mut Vec<u8>, at: u32, need: Need) -> Result<(), AllocError>
+    ensures { OnOk result (line.new.items
+        ≡ line.old.items ++ piece_text (uncovered_piece at need)) }
+{
+    append(line, "{")?;
+    add_number(line, false, "line", u64::from(at))?;
+    add_need(line, need)?;
+    add_number(line, true, "number", 14)?;
+    add_words(line, true, "reason", "Margin")?;
+    add_words(line, true, "reply", "refused")?;
+    append(line, "}")
 }
 
 /// The line of a withdrawal that is refused for want of margin, without its line feed. The only
@@ -136,6 +171,7 @@ fn uncovered_value(alloc: Global, line: u32, need: Need) -> Result<Value, AllocE
 pub fn print_uncovered(alloc: Global, line: u32, need: Need) -> Result<Vec<u8>, AllocError>
     ensures { IfOk result (λ text. text.items ≡ uncovered_line line need) }
 {
-    let value = uncovered_value(alloc, line, need)?;
-    value.to_vec(alloc)
+    let mut text = Vec::new(alloc);
+    add_uncovered(&mut text, line, need)?;
+    Ok(text)
 }

@@ -1,22 +1,24 @@
 // Lines of the gate, as they are read.
-ghost use Rattle.std.specs.Prelude.{◌≡◌, ◌⊎◌, IfErr, IfOk, Err, Ok, option_map};
+ghost use Rattle.std.specs.Prelude.{◌≡◌, ◌⊎◌, ◌++◌, IfErr, IfOk, OnOk, Err, Ok, option_map};
 ghost use Rattle.serde_json.specs.View.{view};
-ghost use Rattle.reply_print.specs.PieceData.{piece_data};
+ghost use Rattle.reply_print.specs.Piece.{piece_text};
 ghost use Rattle.reply_text.specs.Tests.{value_by};
 ghost use Rattle.reply_text.specs.declared.faults.LineFault.TheVariants.{Memory};
 ghost use Rattle.journal_audit.specs.declared.gate_lines.GateLine.TheVariants as refused;
 ghost use Rattle.journal_audit.specs.GateLines.{expecting_from as expecting_found, expecting_shape as expecting_is, gate_by as refused_found, gate_line, gate_lines, gate_piece, gate_shape_by as shape_is, gate_tests, has_reason as reason_is, session_at as session_found, sessions_shape as sessions_are, why_number as number_is, why_word as word_is};
 
 use crate::gate_lines::{GateLine, Why};
+use reply_print::limits::MAX_LINE;
 use reply_print::look::{has_members, has_whole, has_word, number_at};
+use reply_print::printing::{add_number, add_words, append};
 use reply_text::taking::natural_at;
 use reply_text::tested::read_value;
 use reply_text::{LineFault, TestedReply};
-use serde_json::{Value, json};
+use serde_json::Value;
 use session_gate::{MAX_NUMBER, MAX_SESSION};
 use std::alloc::{AllocError, Global};
 
-fn number(why: Why) -> u32
+fn number(why: Why) -> u64
     ensures { result ≡ number_is why }
 {
     match why {
@@ -36,59 +38,72 @@ fn word(why: Why) -> &'static str
     }
 }
 
-fn malformed_value(alloc: Global, line: u32) -> Result<Value, AllocError>
-    ensures { IfOk result (λ v. view v ≡ piece_data (gate_piece line refused.Malformed)) }
+fn add_malformed(line: &mut Vec<u8>, at: u32) -> Result<(), AllocError>
+    ensures { OnOk result (line.new.items
+        ≡ line.old.items ++ piece_text (gate_piece at refused.Malformed)) }
 {
-    json!(in alloc; {
-        "line": line, "number": 15, "reason": "Malformed", "reply": "gate"
-    })
+    append(line, "{")?;
+    add_number(line, false, "line", u64::from(at))?;
+    add_number(line, true, "number", 15)?;
+    add_words(line, true, "reason", "Malformed")?;
+    add_words(line, true, "reply", "gate")?;
+    append(line, "}")
 }
 
-fn sessions_value(alloc: Global, line: u32, session: u32) -> Result<Value, AllocError>
-    ensures { IfOk result (λ v. view v ≡ piece_data (gate_piece line (refused.Sessions session))) }
+fn add_sessions(line: &mut Vec<u8>, at: u32, session: u32) -> Result<(), AllocError>
+    ensures { OnOk result (line.new.items
+        ≡ line.old.items ++ piece_text (gate_piece at (refused.Sessions session))) }
 {
-    json!(in alloc; {
-        "line": line, "number": 19, "reason": "Sessions", "reply": "gate", "session": session
-    })
+    append(line, "{")?;
+    add_number(line, false, "line", u64::from(at))?;
+    add_number(line, true, "number", 19)?;
+    add_words(line, true, "reason", "Sessions")?;
+    add_words(line, true, "reply", "gate")?;
+    add_number(line, true, "session", u64::from(session))?;
+    append(line, "}")
 }
 
-fn expecting_value(
-    alloc: Global,
-    line: u32,
+fn add_expecting(
+    line: &mut Vec<u8>,
+    at: u32,
     session: u32,
     expected: u32,
     why: Why,
-) -> Result<Value, AllocError>
-    ensures { IfOk result (λ v.
-        view v ≡ piece_data (gate_piece line (refused.Expecting session expected why))) }
+) -> Result<(), AllocError>
+    ensures { OnOk result (line.new.items ≡ line.old.items
+        ++ piece_text (gate_piece at (refused.Expecting session expected why))) }
 {
-    let number = number(why);
-    let word = word(why);
-    json!(in alloc; {
-        "expected": expected, "line": line, "number": number, "reason": word,
-        "reply": "gate", "session": session
-    })
+    append(line, "{")?;
+    add_number(line, false, "expected", u64::from(expected))?;
+    add_number(line, true, "line", u64::from(at))?;
+    add_number(line, true, "number", number(why))?;
+    add_words(line, true, "reason", word(why))?;
+    add_words(line, true, "reply", "gate")?;
+    add_number(line, true, "session", u64::from(session))?;
+    append(line, "}")
 }
 
-fn gate_value(alloc: Global, line: u32, refused: GateLine) -> Result<Value, AllocError>
-    ensures { IfOk result (λ v. view v ≡ piece_data (gate_piece line refused)) }
+fn add_gate_line(line: &mut Vec<u8>, at: u32, refused: GateLine) -> Result<(), AllocError>
+    ensures { OnOk result (line.new.items
+        ≡ line.old.items ++ piece_text (gate_piece at refused)) }
 {
     match refused {
-        GateLine::Malformed => malformed_value(alloc, line),
-        GateLine::Sessions { session } => sessions_value(alloc, line, session),
+        GateLine::Malformed => add_malformed(line, at),
+        GateLine::Sessions { session } => add_sessions(line, at, session),
         GateLine::Expecting {
             session,
             expected,
             why,
-        } => expecting_value(alloc, line, session, expected, why),
+        } => add_expecting(line, at, session, expected, why),
     }
 }
 
 fn print(alloc: Global, line: u32, refused: GateLine) -> Result<Vec<u8>, AllocError>
     ensures { IfOk result (λ text. text.items ≡ gate_line line refused) }
 {
-    let value = gate_value(alloc, line, refused)?;
-    value.to_vec(alloc)
+    let mut text = Vec::new(alloc);
+    add_gate_line(&mut text, line, refused)?;
+    Ok(text)
 }
 
 fn has_reason(value: &Value, reason: &str) -> bool

@@ -1,10 +1,10 @@
 //! What is quoted and priced, and its line.
-ghost use Rattle.std.specs.Prelude.{◌≡◌, IfOk, string_bytes};
-ghost use Rattle.serde_json.specs.View.{view};
-ghost use Rattle.reply_print.specs.PieceData.{piece_data};
+ghost use Rattle.std.specs.Prelude.{true, ◌≡◌, ◌++◌, IfOk, OnOk};
+ghost use Rattle.reply_print.specs.Piece.{Fields, field, fields_text, piece_text, words};
 ghost use Rattle.quote_lines.specs.Quoted.{price_text, priced_line, priced_piece, quoted_line, quoted_piece};
 
-use serde_json::{Value, json};
+use itoa::Buffer;
+use reply_print::printing::{add_key, add_number, add_words, append};
 use std::alloc::{AllocError, Global};
 
 /// The price of a further order, as it is quoted.
@@ -18,31 +18,50 @@ pub enum QuotedPrice {
     Unmarked,
 }
 
-// The word of a price.
-fn price_word(alloc: Global, price: QuotedPrice) -> Result<String, AllocError>
-    ensures { IfOk result (λ s. string_bytes s ≡ price_text price) }
+// Adds the word of a price.
+fn add_price_word(line: &mut Vec<u8>, price: QuotedPrice) -> Result<(), AllocError>
+    ensures { OnOk result (line.new.items ≡ line.old.items ++ price_text price) }
 {
     match price {
-        QuotedPrice::At { price } => format!(in alloc; "{price}"),
-        QuotedPrice::Never => String::from_str(alloc, "never"),
-        QuotedPrice::Unmarked => String::from_str(alloc, "unmarked"),
+        QuotedPrice::At { price } => append(line, Buffer::new().format(price)),
+        QuotedPrice::Never => append(line, "never"),
+        QuotedPrice::Unmarked => append(line, "unmarked"),
     }
 }
 
-fn quoted_value(
-    alloc: Global,
-    line: u32,
+// Adds the field of a price.
+fn add_price(
+    line: &mut Vec<u8>,
+    later: bool,
+    key: &str,
+    price: QuotedPrice,
+) -> Result<(), AllocError>
+    ensures { OnOk result ((fs : Fields) → line.new.items ++ fields_text true fs
+        ≡ line.old.items ++ fields_text later (field key.now (words (price_text price)) fs)) }
+{
+    add_key(line, later, key)?;
+    append(line, "\"")?;
+    add_price_word(line, price)?;
+    append(line, "\"")
+}
+
+fn add_quoted(
+    line: &mut Vec<u8>,
+    at: u32,
     market: u32,
     bid: QuotedPrice,
     ask: QuotedPrice,
-) -> Result<Value, AllocError>
-    ensures { IfOk result (λ v. view v ≡ piece_data (quoted_piece line market bid ask)) }
+) -> Result<(), AllocError>
+    ensures { OnOk result (line.new.items
+        ≡ line.old.items ++ piece_text (quoted_piece at market bid ask)) }
 {
-    let ask = price_word(alloc, ask)?;
-    let bid = price_word(alloc, bid)?;
-    json!(in alloc; {
-        "ask": &ask, "bid": &bid, "line": line, "market": market, "reply": "quoted"
-    })
+    append(line, "{")?;
+    add_price(line, false, "ask", ask)?;
+    add_price(line, true, "bid", bid)?;
+    add_number(line, true, "line", u64::from(at))?;
+    add_number(line, true, "market", u64::from(market))?;
+    add_words(line, true, "reply", "quoted")?;
+    append(line, "}")
 }
 
 /// The line of a quote of a market, without its line feed. The only error is want of memory.
@@ -55,30 +74,30 @@ pub fn print_quoted(
 ) -> Result<Vec<u8>, AllocError>
     ensures { IfOk result (λ text. text.items ≡ quoted_line line market bid ask) }
 {
-    let value = quoted_value(alloc, line, market, bid, ask)?;
-    value.to_vec(alloc)
+    let mut text = Vec::new(alloc);
+    add_quoted(&mut text, line, market, bid, ask)?;
+    Ok(text)
 }
 
-fn priced_value(
-    alloc: Global,
-    line: u32,
+fn add_priced(
+    line: &mut Vec<u8>,
+    at: u32,
     market: u32,
     quantity: u32,
     ask: QuotedPrice,
     bid: QuotedPrice,
-) -> Result<Value, AllocError>
-    ensures { IfOk result (λ v. view v ≡ piece_data (priced_piece line market quantity ask bid)) }
+) -> Result<(), AllocError>
+    ensures { OnOk result (line.new.items
+        ≡ line.old.items ++ piece_text (priced_piece at market quantity ask bid)) }
 {
-    let ask = price_word(alloc, ask)?;
-    let bid = price_word(alloc, bid)?;
-    json!(in alloc; {
-        "ask": &ask,
-        "bid": &bid,
-        "line": line,
-        "market": market,
-        "quantity": quantity,
-        "reply": "priced"
-    })
+    append(line, "{")?;
+    add_price(line, false, "ask", ask)?;
+    add_price(line, true, "bid", bid)?;
+    add_number(line, true, "line", u64::from(at))?;
+    add_number(line, true, "market", u64::from(market))?;
+    add_number(line, true, "quantity", u64::from(quantity))?;
+    add_words(line, true, "reply", "priced")?;
+    append(line, "}")
 }
 
 /// The line of the prices of so many options in a market, without its line feed: `ask` is that of a
@@ -93,6 +112,7 @@ pub fn print_priced(
 ) -> Result<Vec<u8>, AllocError>
     ensures { IfOk result (λ text. text.items ≡ priced_line line market quantity ask bid) }
 {
-    let value = priced_value(alloc, line, market, quantity, ask, bid)?;
-    value.to_vec(alloc)
+    let mut text = Vec::new(alloc);
+    add_priced(&mut text, line, market, quantity, ask, bid)?;
+    Ok(text)
 }

@@ -1,0 +1,23 @@
+use Rattle.std.proofs.Common.{codes, ◌∙◌}
+use Rattle.std.proofs.lemmas.Result.{on_ok_weaker}
+use Rattle.reply_print.specs.BatchPieces.{natural}
+use Rattle.reply_print.specs.Piece.{words, no_fields, field}
+use Rattle.reply_print.proofs.Behind.{closed, fields_of}
+use Rattle.journal_audit.specs.declared.gate_lines.GateLine.TheVariants as refused
+use Rattle.journal_audit.specs.GateLines.{gate_piece, session_field}
+use Rattle.journal_audit.proofs.gate_reading.add_sessions.Goals as goal
+
+pub returns : goal.returns
+returns c =
+    let session = session_field c.from-2.result in
+    let reply = field (codes "reply") (words (codes "gate")) session in
+    let reason = field (codes "reason") (words (codes "Sessions")) reply in
+    let number = field (codes "number") (natural 19) reason in
+    let fields =
+    c.in_ok-add_number-3.ensures no_fields ∙ c.in_ok-add_words-2.ensures session ∙ c.in_ok-add_words.ensures reply ∙ c.in_ok-add_number-2.ensures reason
+    ∙ c.in_ok-add_number.ensures number in
+    on_ok_weaker c.append-2.result
+    (λ e. closed c.args.line.now.items c.append.new.line.items c.add_number-3.new.line.items c.append-2.new.line.items (fields_of (gate_piece c.args.at (refused.Sessions c.args.session)))
+    c.in_ok-append.ensures
+    (rw (c.from.ensures, c.from-2.ensures) at fields) e)
+    c.append-2.ensures
