@@ -17,12 +17,16 @@ pub enum WholeEnd {
     Unbounded { column: Entering },
     /// No unit is left.
     NoUnit,
-    /// A step may leave the limit: nothing is said of the run.
+    /// The run is given up: nothing is said of it.
     GivenUp,
 }
 
-/// Turns until no column enters, nothing limits the column, no unit is left or a step may leave the
-/// limit.
+// Where a row wants 128 bits in one of so many turns at first, rows grow on, and most such runs are
+// given up: so this is done at once, and nearly all that end want their first such row later.
+const EARLY: u32 = 48;
+
+/// Turns until no column enters, nothing limits the column or no unit is left. The run is given up
+/// where a step may leave the limit, and where a row wants 128 bits in the first turns.
 pub fn whole_run(table: &mut WholeTable, limit: u128, budget: &mut Budget) -> WholeEnd
     requires limit { (widest ≤ limit) × (limit ≤ 2 ^ 127 - 1) }
     requires within { IsWithin limit table.old }
@@ -32,7 +36,11 @@ pub fn whole_run(table: &mut WholeTable, limit: u128, budget: &mut Budget) -> Wh
     ensures shape { SameShape table.old table.new }
     ensures limit { budget.new.limit ≡ budget.old.limit }
 {
+    let early = budget.spent.saturating_add(EARLY);
     while let Some(column) = table.entering() {
+        if budget.spent < early && table.has_wide_row() {
+            return WholeEnd::GivenUp;
+        }
         if !budget.spend() {
             return WholeEnd::NoUnit;
         }

@@ -120,6 +120,13 @@ impl Rows {
         self.sizes[i] = WIDEST;
     }
 
+    /// Whether a row is wide.
+    pub fn has_wide(&self) -> bool {
+        self.is_wide[..self.short.len()]
+            .iter()
+            .any(|is_wide| *is_wide)
+    }
+
     /// The number at place k of a row, its denominator at place 0.
     pub fn number(&self, i: usize, k: usize) -> i128
         requires row { i < length self.now.short.rows }

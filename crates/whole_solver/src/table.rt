@@ -289,6 +289,11 @@ impl WholeTable {
         }
     }
 
+    /// Whether a row wants 128 bits.
+    pub fn has_wide_row(&self) -> bool {
+        self.rows.has_wide()
+    }
+
     /// The number of variables.
     pub fn variables(&self) -> usize
         ensures { result ≡ length self.now.names.items }
