@@ -2,8 +2,8 @@
 use Rattle.std.proofs.Common.{◌≡◌, ℕ, ◌^◌, ◌<◌, ◌≤◌, List, length, map, slice_index_or, sym, ◌∙◌, ap, subst, arith, Bool, true, false, ℤ}
 use Rattle.std.proofs.lemmas.List.{get_or_default, map-id}
 use Rattle.equal_runs.specs.Lines.{AreSizes, line_size, widest}
-use Rattle.whole_solver.specs.Rows.{line_in, nonzero_in, row_at}
-use Rattle.whole_solver.specs.Stored.{HasSigns, IsKnown, IsStored, is_wide_at, rows_in, size_at}
+use Rattle.whole_solver.specs.Rows.{AreLinesIn, line_in, nonzero_in, row_at}
+use Rattle.whole_solver.specs.Stored.{AreStored, HasSigns, IsKnown, IsStored, is_wide_at, rows_in, size_at}
 use Rattle.whole_solver.specs.declared.rows.Rows.{Rows}
 use Rattle.whole_solver.proofs.Stored.{row_short, row_wide, rows_count}
 
@@ -37,6 +37,14 @@ still_stored w j old new g s =
         subst (λ (n : ℕ). n < 2 ^ 64) (sym g.size) (s.short (sym g.flag ∙ e)).1,
       );
       signs = λ e. subst (λ (z : List ℤ). HasSigns w z (row_at new.wide.rows j)) (sym g.short) (subst (λ (z : List ℤ). HasSigns w (row_at old.short.rows j) z) (sym g.wide) (s.signs (sym g.flag ∙ e)));
+    }
+
+-- nothing of any row changes
+pub all_stored : (limit w : ℕ) (old new : Rows) → rows_in new ≡ rows_in old → length new.short.rows ≡ length old.short.rows → ((j : ℕ) → j < length old.short.rows → IsStill j old new) → AreStored limit w old → AreStored limit w new
+all_stored limit w old new same count g s =
+    record {
+      lines = subst (AreLinesIn limit w) (sym same) s.lines;
+      rows = λ j low. let before : j < length old.short.rows = omega (arith, low, count) in still_stored w j old new (g j before) (s.rows j before);
     }
 
 -- the pivot row as words

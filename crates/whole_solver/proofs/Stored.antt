@@ -1,5 +1,5 @@
 -- Rows of both widths, one of them written.
-use Rattle.std.proofs.Common.{◌≡◌, ℕ, zero, suc, ◌+◌, ◌<◌, List, [], ◌∷◌, ◌++◌, length, map, set, get_or, refl, sym, ◌∙◌, ap, arith, Bool, true, false, ℤ, pos, negsuc, unsigned_abs, nat_eq}
+use Rattle.std.proofs.Common.{◌≡◌, ℕ, zero, suc, ◌+◌, ◌<◌, ◌≤◌, List, [], ◌∷◌, ◌++◌, length, map, set, get_or, refl, sym, ◌∙◌, ap, arith, Bool, true, false, ℤ, pos, negsuc, unsigned_abs, nat_eq}
 use Rattle.std.specs.Prelude.{int_lt, if◌then◌else◌}
 use Rattle.std.proofs.lemmas.Int.{ints}
 use Rattle.std.specs.Int.{int_signum}
@@ -122,6 +122,14 @@ flag_unread bs [] there b = refl
 flag_unread [] (s ∷ short) there b = refl
 flag_unread (a ∷ bs) (s ∷ short) [] b = ap (λ rows. s ∷ rows) (flag_unread bs short [] b)
 flag_unread (a ∷ bs) (s ∷ short) (x ∷ there) b = ap (λ rows. (if a then x else s) ∷ rows) (flag_unread bs short there b)
+
+-- ---- room for one row more
+pub room_unread : (bs : List Bool) (short there : List (List ℤ)) (ys : List ℤ) → length short ≤ length there → rows_of bs short (there ++ ys ∷ []) ≡ rows_of bs short there
+unfolding rows_of
+room_unread bs [] there ys p = refl
+room_unread [] (s ∷ short) there ys p = all_short (s ∷ short) (there ++ ys ∷ []) ∙ sym (all_short (s ∷ short) there)
+room_unread (b ∷ bs) (s ∷ short) [] ys p = absurd (omega (arith, p))
+room_unread (b ∷ bs) (s ∷ short) (x ∷ there) ys p = ap (λ rows. (if b then x else s) ∷ rows) (room_unread bs short there ys (omega (arith, p)))
 
 -- ---- signs tell what is 0 and what is above 0
 not_zero : (n : ℕ) → nat_eq (suc n) 0 ≡ false

@@ -26,29 +26,19 @@ use std::alloc::{AllocError, Global};
 pub struct Rows {
     // the short rows: of a wide row its signs, which the choices of a turn read first
     short: RowArena<i64>,
-    // room for each row to be wide
+    // room for each row to be wide. A row is made, of these zeros, when a short one first has its
+    // place, so that room that is not used is not written
     wide: RowArena<i128>,
+    zeros: Vec<i128>,
     is_wide: Vec<bool>,
     // of each row a size that neither its denominator nor one of its numbers is above
     sizes: Vec<u128>,
-    ghost wide_count: { length wide.rows ≡ length short.rows + short.spare },
+    ghost wide_count: { length short.rows ≤ length wide.rows },
+    ghost wide_room: { length short.rows + short.spare ≤ length wide.rows + wide.spare },
     ghost wide_width: { wide.width ≡ short.width },
+    ghost zeros_count: { vec_len zeros ≡ short.width },
     ghost is_wide_count: { vec_len is_wide ≡ length short.rows + short.spare },
     ghost sizes_count: { vec_len sizes ≡ length short.rows + short.spare },
-}
-
-/// An arena of so many rows, all 0.
-fn zero_rows(alloc: Global, rows: usize, width: usize) -> Result<RowArena<i128>, AllocError>
-    requires { (1 ≤ width) × (width ≤ 1048576) }
-    ensures { IfOk result (λ arena. (length arena.rows ≡ rows) × (arena.width ≡ width)) }
-{
-    let mut arena = RowArena::new(alloc, width);
-    arena.reserve(rows)?;
-    let row = vec![in alloc; 0_i128; width]?;
-    for _ in 0..rows {
-        arena.append(row.as_slice());
-    }
-    Ok(arena)
 }
 
 impl Rows {
@@ -62,12 +52,15 @@ impl Rows {
     {
         let mut short = RowArena::new(alloc, width);
         short.reserve(rows)?;
-        let wide = zero_rows(alloc, short.spare(), width)?;
+        let mut wide = RowArena::new(alloc, width);
+        wide.reserve(short.spare())?;
+        let zeros = vec![in alloc; 0_i128; width]?;
         let is_wide = vec![in alloc; false; short.spare()]?;
         let sizes = vec![in alloc; 0_u128; short.spare()]?;
         Ok(Rows {
             short,
             wide,
+            zeros,
             is_wide,
             sizes,
         })
@@ -103,6 +96,19 @@ impl Rows {
         self.short.release_from(0);
     }
 
+    /// The next row has room to be wide.
+    fn make_wide_room(&mut self)
+        requires spare { 0 < self.old.short.spare }
+        ensures room { length self.new.short.rows < length self.new.wide.rows }
+        ensures rows { rows_in self.new ≡ rows_in self.old }
+        ensures stored { (limit w : ℕ) → AreStored limit w self.old → AreStored limit w self.new }
+        ensures count { SameCounts self.old self.new }
+    {
+        if self.wide.len() <= self.short.len() {
+            self.wide.append(self.zeros.as_slice());
+        }
+    }
+
     /// Adds a row, which 64 bits hold in either sign.
     pub fn append(&mut self, row: &[i64])
         requires spare { 0 < self.old.short.spare }
@@ -114,6 +120,7 @@ impl Rows {
         ensures spare { self.new.short.spare + 1 ≡ self.old.short.spare }
         ensures same_width { self.new.short.width ≡ self.old.short.width }
     {
+        self.make_wide_room();
         let i = self.short.len();
         self.short.append(row);
         self.is_wide[i] = false;
