@@ -38,7 +38,7 @@ pub fn whole_run(table: &mut WholeTable, limit: u128, budget: &mut Budget) -> Wh
 {
     let early = budget.spent.saturating_add(EARLY);
     while let Some(column) = table.entering() {
-        if budget.spent < early && table.has_wide_row() {
+        if budget.spent < early && table.has_grown() {
             return WholeEnd::GivenUp;
         }
         if !budget.spend() {

@@ -31,6 +31,8 @@ pub struct Rows {
     wide: RowArena<i128>,
     zeros: Vec<i128>,
     is_wide: Vec<bool>,
+    // whether a row has grown beyond 64 bits since all were released
+    grown: bool,
     // of each row a size that neither its denominator nor one of its numbers is above
     sizes: Vec<u128>,
     ghost wide_count: { length short.rows ≤ length wide.rows },
@@ -62,6 +64,7 @@ impl Rows {
             wide,
             zeros,
             is_wide,
+            grown: false,
             sizes,
         })
     }
@@ -94,6 +97,7 @@ impl Rows {
         ensures width { self.new.short.width ≡ self.old.short.width }
     {
         self.short.release_from(0);
+        self.grown = false;
     }
 
     /// The next row has room to be wide.
@@ -127,11 +131,9 @@ impl Rows {
         self.sizes[i] = WIDEST;
     }
 
-    /// Whether a row is wide.
-    pub fn has_wide(&self) -> bool {
-        self.is_wide[..self.short.len()]
-            .iter()
-            .any(|is_wide| *is_wide)
+    /// Whether a row has grown beyond 64 bits since all were released.
+    pub fn has_grown(&self) -> bool {
+        self.grown
     }
 
     /// The number at place k of a row, its denominator at place 0.
@@ -358,6 +360,7 @@ impl Rows {
     {
         write_front(self.wide.row_mut(i), denominator, numbers);
         self.is_wide[i] = true;
+        self.grown = true;
         self.sizes[i] = wide_size(numbers) | denominator;
         self.keep_signs(i, numbers.len());
     }

@@ -289,9 +289,9 @@ impl WholeTable {
         }
     }
 
-    /// Whether a row wants 128 bits.
-    pub fn has_wide_row(&self) -> bool {
-        self.rows.has_wide()
+    /// Whether a row has wanted 128 bits since the program was taken in.
+    pub fn has_grown(&self) -> bool {
+        self.rows.has_grown()
     }
 
     /// The number of variables.
