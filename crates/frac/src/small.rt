@@ -8,7 +8,7 @@ use crate::frac128::Frac128;
 use crate::sizes::{short_divisor, short_quotient};
 
 // The largest part of a small fraction.
-const SMALL: u128 = i32::MAX as u128;
+const SMALL: i128 = i32::MAX as i128;
 
 /// Whether both parts are of 31 bits.
 #[inline(always)]
@@ -16,7 +16,7 @@ pub fn is_small(x: Frac128) -> bool
     ensures { result
         ≡ nat_lt (unsigned_abs x.numerator) (2 ^ 31) && nat_lt x.denominator (2 ^ 31) }
 {
-    x.numerator.unsigned_abs() <= SMALL && x.denominator <= SMALL
+    -SMALL <= x.numerator && x.numerator <= SMALL && x.denominator <= SMALL as u128
 }
 
 /// The quotient, rounded toward zero.
