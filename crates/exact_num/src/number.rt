@@ -3,6 +3,7 @@ ghost use Rattle.std.specs.Prelude.{◌≡◌, ◌≢◌, ℤ, ◌≤◌, ◌≤
 ghost use Rattle.std.specs.Int.{int_signum};
 ghost use Rattle.exact_num.specs.Fraction.{Fraction, IsLowest, whole, negated, fraction_cmp};
 ghost use Rattle.exact_num.specs.Fits.{add_of, sub_of, mul_of, div_of, whole_of, meaning};
+ghost use Rattle.exact_num.specs.Steps.{less_product as less_product_of};
 
 use crate::misfit::Wide;
 
@@ -50,6 +51,16 @@ pub trait Exact: Copy + Ord {
     fn mul(self, other: Self) -> Result<Self, Wide>
         ensures { meaning fraction result
             ≡ mul_of (unsigned_abs LIMIT) (fraction self) (fraction other) };
+
+    /// The number less the product of the others, or the first `Wide`: that of the product, else
+    /// that of the difference.
+    fn less_product(self, a: Self, b: Self) -> Result<Self, Wide>
+        ensures { meaning fraction result
+            ≡ less_product_of (unsigned_abs LIMIT) (fraction self) (fraction a) (fraction b) }
+    {
+        let product = a.mul(b)?;
+        self.sub(product)
+    }
 
     /// The quotient by an `other` that is not 0, or `Wide`.
     fn div(self, other: Self) -> Result<Self, Wide>

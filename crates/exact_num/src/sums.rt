@@ -21,6 +21,5 @@ pub fn less_product<N: Exact>(total: N, a: N, b: N) -> Result<N, Wide>
     ensures { meaning N.fraction result
         ≡ less_product (unsigned_abs N.LIMIT) (N.fraction total) (N.fraction a) (N.fraction b) }
 {
-    let product = a.mul(b)?;
-    total.sub(product)
+    total.less_product(a, b)
 }
