@@ -2,6 +2,7 @@ pub mod Choices
 pub mod Turns
 pub mod Equality
 pub mod Lowest
+pub mod Reducing
 pub mod SmallSteps
 pub mod SumSteps
 pub mod ProductSteps

@@ -12,7 +12,7 @@ mod order;
 
 use crate::products::{product, reciprocal};
 use crate::sizes::is_in_range;
-use crate::small::{is_small, small_product, small_sum};
+use crate::small::{is_small, small_less_product, small_product, small_sum};
 use crate::sums::sum;
 use exact_num::{Exact, Operator, Wide};
 use order::order;
@@ -79,7 +79,8 @@ impl PartialOrd for Frac128 {
 }
 
 impl Frac128 {
-    ghost use Rattle.exact_num.specs.Fits.{misfit as misfit_of};
+    ghost use Rattle.exact_num.specs.Fits.{meaning, misfit as misfit_of};
+    ghost use Rattle.exact_num.specs.Steps.{less_product};
     ghost use Rattle.frac.specs.Value.{fraction_of};
 
     // The sum in lowest terms, where each of its quantities is in range. That of small fractions is
@@ -125,6 +126,16 @@ impl Frac128 {
             ≡ product_within limit (fraction_of self) (fraction_of other) }
     {
         product(self, other, LARGEST)
+    }
+
+    // The number less the product of any fractions.
+    #[inline(never)]
+    fn long_less_product(self, a: Frac128, b: Frac128) -> Result<Frac128, Wide>
+        ensures { meaning fraction_of result
+            ≡ less_product limit (fraction_of self) (fraction_of a) (fraction_of b) }
+    {
+        let product = a.mul(b)?;
+        self.sub(product)
     }
 
     /// The operation that does not fit, with its operands.
@@ -213,6 +224,15 @@ impl Exact for Frac128 {
         match self.product(other) {
             Some(value) => Ok(value),
             None => Err(self.misfit(Operator::Mul, other)),
+        }
+    }
+
+    #[inline(always)]
+    fn less_product(self, a: Self, b: Self) -> Result<Self, Wide> {
+        if is_small(self) && is_small(a) && is_small(b) {
+            Ok(small_less_product(self, a, b))
+        } else {
+            self.long_less_product(a, b)
         }
     }
 
