@@ -4,7 +4,7 @@ ghost use Rattle.exact_num.specs.Fits.{meaning, written_back};
 ghost use Rattle.table_run.specs.Places.{at};
 ghost use Rattle.table_run.specs.Choice.{first_below};
 ghost use Rattle.table_run.specs.Pivot.{each, each_pair};
-ghost use Rattle.equal_runs.specs.CompactSteps.{is_zero as is_zero_of, short_quotient, short_difference, short_less};
+ghost use Rattle.equal_runs.specs.CompactSteps.{is_zero as is_zero_of, short_quotient, short_less};
 ghost use Rattle.compact_table.specs.Nonzero.{entry_after, nonzero_places};
 
 use exact_num::{Exact, Wide};
@@ -57,26 +57,18 @@ pub fn divide_row<N: Exact>(row: &mut [N], divisor: N) -> Result<(), Wide>
     Ok(())
 }
 
-/// The entry less a product.
-fn difference<N: Exact>(entry: N, product: N) -> Result<N, Wide>
-    ensures { meaning N.fraction result
-        ≡ short_difference (unsigned_abs N.LIMIT) (N.fraction entry) (N.fraction product) }
-{
-    if entry.sign() == 0 {
-        Ok(product.neg())
-    } else {
-        entry.sub(product)
-    }
-}
-
 /// The entry less `factor` times the entry `pivot` of the pivot row, which is not 0.
 fn entry_less_product<N: Exact>(entry: N, factor: N, pivot: N) -> Result<N, Wide>
     requires { is_zero_of (N.fraction pivot) ≡ false }
     ensures { meaning N.fraction result ≡ short_less (unsigned_abs N.LIMIT)
         (N.fraction factor) (N.fraction entry) (N.fraction pivot) }
 {
-    let product = factor.mul(pivot)?;
-    difference(entry, product)
+    if is_zero(entry) {
+        let product = factor.mul(pivot)?;
+        Ok(product.neg())
+    } else {
+        entry.less_product(factor, pivot)
+    }
 }
 
 /// Takes `factor` times the entry of the pivot row from the entry at place j.
