@@ -89,7 +89,7 @@ drop_past [] ys n k e = let none : n + k ≡ k = omega (arith, e) in rw none ref
 drop_past (x ∷ xs) ys zero k e = absurd (omega (arith, e))
 drop_past (x ∷ xs) ys (suc n) k e = let more : suc n + k ≡ suc (n + k) = omega arith in rw more (drop_past xs ys n k (omega (arith, e)))
 
-take_past : {A : Type 0} (n : ℕ) (xs ys : List A) → length xs ≡ n → take n (xs ++ ys) ≡ xs
+pub take_past : {A : Type 0} (n : ℕ) (xs ys : List A) → length xs ≡ n → take n (xs ++ ys) ≡ xs
 take_past n xs ys e = let low : n ≤ length xs = omega (arith, e) in rw take-append-le (take_all n xs (omega (arith, e)))
 
 -- all lists have n entries and a right side

@@ -82,10 +82,3 @@ lists_first n lists costs long =
     let none : n ≡ n + 0 = omega arith in
     let rows = ap (λ k. beside_lists (numbers k (length lists)) lists) none ∙ sym (rows_given n costs [] lists (none_long n) long) in
     ap (λ r. fractions_with (numbers 0 n) r (map negated costs ++ fraction_zero ∷ [])) rows
-
--- what is written over a whole vector
-pub written_whole : {A : Type 0} (n : ℕ) (xs rest : List A) → length xs ≡ n → take n (xs ++ rest) ≡ xs
-written_whole zero [] rest e = refl
-written_whole (suc n) [] rest e = absurd (omega (arith, e))
-written_whole zero (x ∷ xs) rest e = absurd (omega (arith, e))
-written_whole {A} (suc n) (x ∷ xs) rest e = ap (λ (zs : List A). x ∷ zs) (written_whole n xs rest (omega (arith, e)))

@@ -1,8 +1,8 @@
 use Rattle.std.proofs.Common.{◌≡◌, ◌++◌, ◌∙◌, sym, subst, length, take, drop, ℕ, ℤ, List}
+use Rattle.compact_table.proofs.Starts.{take_past}
 use Rattle.equal_runs.specs.Lines.{IsLine, widest}
 use Rattle.whole_solver.specs.Rows.{line_in}
 use Rattle.whole_solver.specs.Tables.{width_of}
-use Rattle.whole_solver.proofs.Taken.{written_whole}
 use Rattle.whole_solver.proofs.Turned.{size_below}
 use Rattle.whole_solver.proofs.table.WholeTable.take_objective.Goals as goal
 
@@ -12,7 +12,7 @@ returns-clause-size g c done =
     let numbers = c.args.self.now.objective.numbers in
     let row = c.take_line.new.row in
     let out = c.widen.new.out in
-    let taken = c.as_slice.ensures.value ∙ written_whole c.args.self.now.line.len row (drop (length row) c.args.self.now.line.items) (c.take_line.auto.row ∙ c.as_mut_slice.ensures.len) in
-    let is : take numbers.len (out ++ drop (length out) numbers.items) ≡ row = written_whole numbers.len out (drop (length out) numbers.items) (c.widen.auto.out ∙ c.as_mut_slice-2.ensures.len) ∙ c.widen.ensures ∙ taken in
+    let taken = c.as_slice.ensures.value ∙ take_past c.args.self.now.line.len row (drop (length row) c.args.self.now.line.items) (c.take_line.auto.row ∙ c.as_mut_slice.ensures.len) in
+    let is : take numbers.len (out ++ drop (length out) numbers.items) ≡ row = take_past numbers.len out (drop (length out) numbers.items) (c.widen.auto.out ∙ c.as_mut_slice-2.ensures.len) ∙ c.widen.ensures ∙ taken in
     let line = subst (λ (k : ℕ). IsLine widest k (line_in k row)) c.requires.width (c.take_line.ensures.within c.if-not-take_line.false) in
     size_below widest w _ (subst (λ (zs : List ℤ). IsLine widest w (line_in w zs)) (sym is) line)
