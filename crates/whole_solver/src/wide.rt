@@ -91,6 +91,7 @@ fn wide_mixed_size(
 
 /// The size of the line when it is mixed, where it is within the limit: by the one that is kept, or
 /// where that is too great by one that is made anew.
+#[inline(always)]
 fn wide_size_to_mix(
     denominator: u128,
     numbers: &[i128],
@@ -188,6 +189,7 @@ fn cut_in_place(denominator: u128, numbers: &mut [i128], size: &mut u128) -> u12
 }
 
 /// `a` and `x` without what they have in common.
+#[inline(always)]
 fn without_common_wide(a: u128, x: i128) -> Factors<i128>
     requires above { 0 < a }
     requires below { a ≤ 2 ^ 127 - 1 }
