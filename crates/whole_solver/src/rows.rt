@@ -4,6 +4,7 @@ ghost use Rattle.compact_table.specs.Candidates.{best_with};
 ghost use Rattle.equal_runs.specs.Lines.{IsLine, line_of, line_size, number_at, widest};
 ghost use Rattle.equal_runs.specs.Labelled.{labelled_cleared};
 ghost use Rattle.equal_runs.specs.WholeTurning.{cut, step_size, steps_within, whole_ratios};
+ghost use Rattle.whole_solver.specs.Choices.{entry_of, right_side_of};
 ghost use Rattle.whole_solver.specs.Rows.{AreStepsBelow, AreStepsWithin, IsPivot, IsTurned, beside_basics, column_in, line_in, lines_after, lines_in, nonzero_in, pivot_line, row_at};
 
 use crate::front::{
@@ -14,7 +15,7 @@ use crate::line::{list_place, size_of};
 use crate::mix::{Known, Step};
 use crate::objective::Objective;
 use crate::outcome::Cleared;
-use crate::ratios::{Candidate, better};
+use crate::ratios::{Candidate, RowRatio, better};
 use crate::wide::wide_size;
 use crate::word::WIDEST;
 use lists::RowArena;
@@ -164,21 +165,26 @@ impl Rows {
         count
     }
 
-    /// Row i of `width` numbers, which limits the variable of column `c`: `basic` is basic in it.
-    fn candidate(&self, i: usize, basic: usize, width: usize, c: usize) -> Candidate
+    /// The ratio of row i of `width` numbers for column `c`.
+    fn ratio(&self, i: usize, width: usize, c: usize) -> RowRatio
         requires row { i < length self.now.short.rows }
         requires widths { (c < width) × (width < self.now.short.width) }
-        ensures place { result.place ≡ i }
-        ensures basic { result.basic ≡ basic }
-        ensures right_side { result.right_side ≡ number_at (row_at (rows_in self.now) i) width }
-        ensures entry { result.entry
+        ensures right_side { right_side_of result ≡ number_at (row_at (rows_in self.now) i) width }
+        ensures entry { entry_of result
             ≡ unsigned_abs (number_at (row_at (rows_in self.now) i) (c + 1)) }
     {
-        Candidate {
-            place: i,
-            basic,
-            right_side: self.number(i, width),
-            entry: self.number(i, c + 1).unsigned_abs(),
+        if self.is_wide[i] {
+            let row = self.wide.row(i);
+            RowRatio::Wide {
+                right_side: row[width],
+                entry: row[c + 1].unsigned_abs(),
+            }
+        } else {
+            let row = self.short.row(i);
+            RowRatio::Short {
+                right_side: row[width],
+                entry: row[c + 1].unsigned_abs(),
+            }
         }
     }
 
@@ -204,7 +210,11 @@ impl Rows {
             let i = *place;
             let sign = self.short.row(i)[c + 1];
             if sign > 0 {
-                let next = self.candidate(i, basics[i], columns + 1, c);
+                let next = Candidate {
+                    place: i,
+                    basic: basics[i],
+                    ratio: self.ratio(i, columns + 1, c),
+                };
                 best = Some(better(best, next));
             }
         }

@@ -9,7 +9,7 @@ use Rattle.compact_table.specs.Candidates.{best_with, better_of}
 use Rattle.equal_runs.specs.Lines.{Line, no_line, number_at}
 use Rattle.equal_runs.proofs.TurnSteps.{size_above}
 use Rattle.whole_solver.specs.declared.ratios.Candidate.{Candidate}
-use Rattle.whole_solver.specs.Choices.{as_ratio}
+use Rattle.whole_solver.specs.Choices.{as_ratio, entry_of, right_side_of}
 use Rattle.whole_solver.specs.Rows.{beside_basics, line_in, lines_in, row_at}
 use Rattle.whole_solver.specs.Stored.{rows_in}
 use Rattle.whole_solver.proofs.Choosing.{Chooses, chooses_taken, chooses_passed, chooses_on, chooses_end, front_beside, length-beside, line_place, in_line}
@@ -35,8 +35,8 @@ row-requires c =
     let low = row_inside c.args.c (rows_in t) c.args.places.now c.requires.places c.loop-place.place-index c.loop-place-test.true in
     omega (arith, low, rows_count t.is_wide.items t.short.rows t.wide.rows)
 
-pub candidate-next-requires-clause-row : goal.candidate-next-requires-clause-row
-candidate-next-requires-clause-row c =
+pub ratio-requires-clause-row : goal.ratio-requires-clause-row
+ratio-requires-clause-row c =
     let t = c.args.self.now in
     let low = row_inside c.args.c (rows_in t) c.args.places.now c.requires.places c.loop-place.place-index c.loop-place-test.true in
     omega (arith, low, rows_count t.is_wide.items t.short.rows t.wide.rows)
@@ -55,7 +55,7 @@ better-requires-clause-next c =
     let alike = above_by_sign _ _ (sign_there (k + 1) c.args.c i t (omega (arith, c.requires.columns.0)) inside (omega (arith, inside, t.wide_count)) (c.requires.stored.1.rows i inside)) in
     let above : int_lt (pos 0) sign ≡ true = simp to_z-of_z at c.if-sign-gt0.true in
     let here = sym alike ∙ ap (λ (x : List ℤ). int_lt (pos 0) (number_at x (c.args.c + 1))) (sym c.row.ensures.row) ∙ above in
-    subst (λ (n : ℕ). 0 < n) (sym c.candidate-next.ensures.entry) (size_above (number_at (row_at rows i) (c.args.c + 1)) here).1
+    subst (λ (n : ℕ). 0 < n) (sym c.ratio.ensures.entry) (size_above (number_at (row_at rows i) (c.args.c + 1)) here).1
 
 pub loop-place-preserved : goal.loop-place-preserved
 loop-place-preserved c =
@@ -93,18 +93,18 @@ loop-place-preserved c =
       | then-sign-gt0 u ↦
           (let above : int_lt (pos 0) sign ≡ true = simp to_z-of_z at u.if-sign-gt0.true in
           let more = chooses_taken k c.args.c all i b l (option_map as_ratio c.loop-place.best) front (ap (int_lt (pos 0)) is_entry ∙ is_sign ∙ above) here in
-          let q = u.candidate-next.ensures in
-          let next : as_ratio u.candidate-next.result ≡ ratio_of i b (over (number_at l.numbers k) (unsigned_abs (number_at l.numbers c.args.c))) = λ j. ratio_of (q.place j) (q.basic j) (over ((q.right_side ∙ sym is_side) j) ((q.entry ∙ ap unsigned_abs (sym is_entry)) j)) in
+          let q = u.ratio.ensures in
+          let next : ratio_of i b (over (right_side_of u.ratio.result) (entry_of u.ratio.result)) ≡ ratio_of i b (over (number_at l.numbers k) (unsigned_abs (number_at l.numbers c.args.c))) = λ j. ratio_of i b (over ((q.right_side ∙ sym is_side) j) ((q.entry ∙ ap unsigned_abs (sym is_entry)) j)) in
           let told = u.better.ensures.ratio ∙ ap (better_of (option_map as_ratio c.loop-place.best)) next in
           record {
-            above = subst (λ (o : Option Candidate). IfSome o (λ p. 0 < p.entry)) (sym u.best-is) u.better.ensures.above;
+            above = subst (λ (o : Option Candidate). IfSome o (λ p. 0 < entry_of p.ratio)) (sym u.best-is) u.better.ensures.above;
             chooses = on _ (subst (λ (o : Option Ratio). Chooses k c.args.c all (i + 1) o) (sym (ap (option_map as_ratio) u.best-is ∙ ap Some told)) more);
           })
       | else-sign-gt0 u ↦
           (let below : int_lt (pos 0) sign ≡ false = simp to_z-of_z at u.if-sign-gt0.false in
           let more = chooses_passed k c.args.c all i b l (option_map as_ratio c.loop-place.best) front (ap (int_lt (pos 0)) is_entry ∙ is_sign ∙ below) here in
           record {
-            above = subst (λ (o : Option Candidate). IfSome o (λ p. 0 < p.entry)) (sym u.best-is) c.loop-place.invariant.above;
+            above = subst (λ (o : Option Candidate). IfSome o (λ p. 0 < entry_of p.ratio)) (sym u.best-is) c.loop-place.invariant.above;
             chooses = on _ (subst (λ (o : Option Ratio). Chooses k c.args.c all (i + 1) o) (sym (ap (option_map as_ratio) u.best-is)) more);
           })
     ]

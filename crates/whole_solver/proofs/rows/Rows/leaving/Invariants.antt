@@ -1,7 +1,7 @@
 use Rattle.std.proofs.Common.{◌+◌, ◌<◌}
 use Rattle.std.specs.Prelude.{IfSome}
 use Rattle.std.specs.Option.{option_map}
-use Rattle.whole_solver.specs.Choices.{as_ratio}
+use Rattle.whole_solver.specs.Choices.{as_ratio, entry_of}
 use Rattle.whole_solver.specs.Rows.{beside_basics, lines_in}
 use Rattle.whole_solver.specs.Stored.{rows_in}
 use Rattle.whole_solver.proofs.Choosing.{Chooses}
@@ -12,6 +12,6 @@ use Rattle.whole_solver.proofs.rows.Rows.leaving.Given as goal
 abbrev pub invariant-loop-place : goal.invariant-loop-place
 invariant-loop-place l =
     record {
-      above : IfSome l.best (λ q. 0 < q.entry);
+      above : IfSome l.best (λ q. 0 < entry_of q.ratio);
       chooses : Chooses l.columns l.c (beside_basics l.basics (lines_in (l.columns + 1) (rows_in l.self))) (next_row l.places l.place-index (rows_in l.self)) (option_map as_ratio l.best);
     }
