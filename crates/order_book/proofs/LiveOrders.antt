@@ -59,12 +59,18 @@ pub none_has : (number : ℕ) (orders : List Order) → AllByRecursion (λ k. na
 none_has number [] none = refl
 none_has number (o ∷ orders) none = ap (λ b. b || list_any (has_number number) orders) none.0 ∙ none_has number orders none.1
 
+no_order : (found : Order) → None ≡ Some found → IsOrderWithin found
+no_order found same = cc
+
+one_order : (o found : Order) → Some o ≡ Some found → o ≡ found
+one_order o found same = cc
+
 pub found_within : (number : ℕ) (orders : List Order) (found : Order) → All IsOrderWithin orders → find (has_number number) orders ≡ Some found → IsOrderWithin found
-found_within number [] found all same = cc
+found_within number [] found _ same = no_order found same
 found_within number (o ∷ orders) found all same = by (nat_eq number o.id) same (found_within number orders found (All-tail IsOrderWithin o orders all))
   where
     by : (b : Bool) → cond b (Some o) (find (has_number number) orders) ≡ Some found → (find (has_number number) orders ≡ Some found → IsOrderWithin found) → IsOrderWithin found
-    by true h later = let own : o ≡ found = cc in subst IsOrderWithin own (All-head IsOrderWithin o orders all)
+    by true h later = subst IsOrderWithin (one_order o found h) (All-head IsOrderWithin o orders all)
     by false h later = later h
 
 -- ---- how many have a number
@@ -96,12 +102,14 @@ none_counted number (o ∷ orders) none = by (nat_eq number o.id) none (none_cou
     by true h later = absurd (omega arith)
     by false h later = later (omega arith)
 
+next_apart : (accepted id : ℕ) → id ≤ accepted → nat_eq (accepted + 1) id ≡ false
+next_apart accepted id bound = grind (arith, nat_tests)
+
 -- no order has the number that comes next
 pub fresh_counted : (underlyings accepted : ℕ) (orders : List Order) → All (IsLive underlyings accepted) orders → number_count (accepted + 1) orders ≡ 0
 fresh_counted underlyings accepted [] all = refl
 fresh_counted underlyings accepted (o ∷ orders) all =
-    let bound = (All-head (IsLive underlyings accepted) o orders all).number in
-    let other : nat_eq (accepted + 1) o.id ≡ false = grind (arith, nat_tests) in
+    let other = next_apart accepted o.id (All-head (IsLive underlyings accepted) o orders all).number in
     let count : Bool → ℕ = λ b. if b then 1 else 0 in
     let none : count (nat_eq (accepted + 1) o.id) ≡ count false = ap count other in
     omega (arith, none, fresh_counted underlyings accepted orders (All-tail (IsLive underlyings accepted) o orders all))
