@@ -16,6 +16,7 @@ ghost use Rattle.sign_tree.specs.Read.{node_of, placed_of, sign_of};
 ghost use Rattle.sign_tree.specs.Walk.{closes_of, fraction_legs, may_split};
 ghost use Rattle.sign_tree.specs.Verdict.{IsSplit, WalksTo, goes_on, is_nothing, tree_verdict};
 
+use crate::filled::Filled;
 use crate::leaf::{is_unsigned, leaf_closes};
 use crate::legs::leg_at;
 use crate::trees::{Multiplier, Node, SignTree, TreeVerdict};
@@ -74,15 +75,13 @@ pub fn closes(
         nodes: tree.nodes.as_slice(),
         multipliers: tree.multipliers.as_slice(),
     };
-    let entries = batch.underlyings as usize + 1;
-    verdict_of(subtree(
-        batch.orders.as_slice(),
+    let filled = Filled {
+        orders: batch.orders.as_slice(),
         fills,
         liability,
-        entries,
-        signs,
-        left,
-    ))
+        entries: batch.underlyings as usize + 1,
+    };
+    verdict_of(subtree(&filled, signs, left))
 }
 
 /// The verdict at the end of the whole walk.
@@ -122,19 +121,11 @@ fn unsign(signs: &mut [i8])
 /// Walks one subtree under these signs, which stand again as before where it closes, and answers
 /// what is left.
 #[cycle(walk)]
-fn subtree<'a>(
-    orders: &[Order],
-    fills: &[Frac128],
-    liability: &Frac128,
-    entries: usize,
-    signs: &mut [i8],
-    left: Left<'a>,
-) -> Result<Left<'a>, Stop>
-    requires fills { length fills.now ≡ length orders.now }
-    requires entries { (1 ≤ entries) × (entries ≤ 9) }
-    ensures walks { WalksTo (entries - 1) (batch_legs fraction_of orders.now fills.now)
-        (fraction_of liability.now) (map node_of left.entry.nodes.now) (map sign_of signs.old)
-        (map placed_of left.entry.multipliers.now) result }
+fn subtree<'a>(filled: &Filled, signs: &mut [i8], left: Left<'a>) -> Result<Left<'a>, Stop>
+    ensures walks { WalksTo (filled.now.entries - 1)
+        (batch_legs fraction_of filled.now.orders.now filled.now.fills.now)
+        (fraction_of filled.now.liability.now) (map node_of left.entry.nodes.now)
+        (map sign_of signs.old) (map placed_of left.entry.multipliers.now) result }
     ensures signs { IfOk result (λ rest. signs.new ≡ signs.old) }
     ensures shorter { IfOk result (λ rest. length rest.nodes.now < length left.entry.nodes.now) }
 {
@@ -143,55 +134,42 @@ fn subtree<'a>(
     };
     let left = Left { nodes, ..left };
     match *node {
-        Node::Leaf { count } => leaf(orders, fills, liability, entries, signs, count, left),
-        Node::Split { place } => split(orders, fills, liability, entries, signs, place, left),
+        Node::Leaf { count } => leaf(filled, signs, count, left),
+        Node::Split { place } => split(filled, signs, place, left),
     }
 }
 
 /// Walks both sides of a split at the place, first with the plus sign and then with the minus sign.
 #[cycle(walk)]
 fn split<'a>(
-    orders: &[Order],
-    fills: &[Frac128],
-    liability: &Frac128,
-    entries: usize,
+    filled: &Filled,
     signs: &mut [i8],
     place: u32,
     left: Left<'a>,
 ) -> Result<Left<'a>, Stop>
-    requires fills { length fills.now ≡ length orders.now }
-    requires entries { (1 ≤ entries) × (entries ≤ 9) }
-    ensures walks { WalksTo (entries - 1) (batch_legs fraction_of orders.now fills.now)
-        (fraction_of liability.now) (SplitNode place ∷ map node_of left.entry.nodes.now)
+    ensures walks { WalksTo (filled.now.entries - 1)
+        (batch_legs fraction_of filled.now.orders.now filled.now.fills.now)
+        (fraction_of filled.now.liability.now) (SplitNode place ∷ map node_of left.entry.nodes.now)
         (map sign_of signs.old) (map placed_of left.entry.multipliers.now) result }
     ensures signs { IfOk result (λ rest. signs.new ≡ signs.old) }
     ensures shorter { IfOk result (λ rest. length rest.nodes.now < length left.entry.nodes.now) }
 {
-    let Some(i) = split_index(orders, fills, signs, place) else {
+    let Some(i) = split_index(filled.orders, filled.fills, signs, place) else {
         return Err(Stop::Open);
     };
     signs[i] = 1;
-    let middle = subtree(orders, fills, liability, entries, signs, left)?;
+    let middle = subtree(filled, signs, left)?;
     signs[i] = -1;
-    let rest = subtree(orders, fills, liability, entries, signs, middle)?;
+    let rest = subtree(filled, signs, middle)?;
     signs[i] = 0;
     Ok(rest)
 }
 
 /// Takes the multipliers of a leaf, and answers what is left after it where it closes.
-fn leaf<'a>(
-    orders: &[Order],
-    fills: &[Frac128],
-    liability: &Frac128,
-    entries: usize,
-    signs: &[i8],
-    count: u32,
-    left: Left<'a>,
-) -> Result<Left<'a>, Stop>
-    requires fills { length fills.now ≡ length orders.now }
-    requires entries { (1 ≤ entries) × (entries ≤ 9) }
-    ensures walks { WalksTo (entries - 1) (batch_legs fraction_of orders.now fills.now)
-        (fraction_of liability.now) (LeafNode count ∷ map node_of left.entry.nodes.now)
+fn leaf<'a>(filled: &Filled, signs: &[i8], count: u32, left: Left<'a>) -> Result<Left<'a>, Stop>
+    ensures walks { WalksTo (filled.now.entries - 1)
+        (batch_legs fraction_of filled.now.orders.now filled.now.fills.now)
+        (fraction_of filled.now.liability.now) (LeafNode count ∷ map node_of left.entry.nodes.now)
         (map sign_of signs.now) (map placed_of left.entry.multipliers.now) result }
     ensures nodes { IfOk result (λ rest. rest.nodes.now ≡ left.entry.nodes.now) }
 {
@@ -200,7 +178,7 @@ fn leaf<'a>(
         return Err(Stop::Open);
     }
     let (here, multipliers) = left.multipliers.split_at(count);
-    match leaf_closes(orders, fills, liability, signs, here, entries) {
+    match leaf_closes(filled, signs, here) {
         Ok(true) => Ok(Left {
             multipliers,
             ..left

@@ -11,6 +11,7 @@ ghost use Rattle.sign_tree.specs.Read.{placed_of, sign_of};
 ghost use Rattle.sign_tree.specs.Left.{batch_legs, exposure_as, leg_as};
 ghost use Rattle.sign_tree.specs.Walk.{add_leg, add_term, are_placed, entries_close, entry_sum, first_at, has_no_minus, is_unsigned, is_within, keeps_within, leaf_closes, left_after, leg_fill, may_carry, places_rise, plus_filled, signed_legs};
 
+use crate::filled::Filled;
 use crate::legs::{BatchLeg, Exposure, LegsLeft, first_leg, leg_at, leg_fill};
 use crate::trees::Multiplier;
 use exact_num::{Exact, Wide, less_product, plus_product};
@@ -283,44 +284,34 @@ fn add_legs(
 
 /// The entry's sum: what the legs add, and in entry 0 less the liability.
 fn entry_sum(
-    orders: &[Order],
-    fills: &[Frac128],
-    liability: &Frac128,
+    filled: &Filled,
     signs: &[i8],
     multipliers: &[Multiplier],
     i: usize,
 ) -> Result<Frac128, Wide>
-    requires fills { length fills.now ≡ length orders.now }
-    requires entry { i < 9 }
+    requires { i < 9 }
     ensures { meaning fraction_of result ≡ entry_sum limit
-        (batch_legs fraction_of orders.now fills.now)
-        (fraction_of liability.now) (map sign_of signs.now) (map placed_of multipliers.now) i }
+        (batch_legs fraction_of filled.now.orders.now filled.now.fills.now)
+        (fraction_of filled.now.liability.now) (map sign_of signs.now)
+        (map placed_of multipliers.now) i }
 {
-    let total = add_legs(orders, fills, signs, multipliers, i)?;
+    let total = add_legs(filled.orders, filled.fills, signs, multipliers, i)?;
     if i == 0 {
-        total.sub(*liability)
+        total.sub(*filled.liability)
     } else {
         Ok(total)
     }
 }
 
-/// Whether none of the first `count` entries is above 0.
-fn entries_close(
-    orders: &[Order],
-    fills: &[Frac128],
-    liability: &Frac128,
-    signs: &[i8],
-    multipliers: &[Multiplier],
-    count: usize,
-) -> Result<bool, Wide>
-    requires fills { length fills.now ≡ length orders.now }
-    requires entries { count ≤ 9 }
-    ensures { result ≡ entries_close limit (batch_legs fraction_of orders.now fills.now)
-        (fraction_of liability.now) (map sign_of signs.now) (map placed_of multipliers.now) 0
-        count }
+/// Whether none of the entries is above 0.
+fn entries_close(filled: &Filled, signs: &[i8], multipliers: &[Multiplier]) -> Result<bool, Wide>
+    ensures { result ≡ entries_close limit
+        (batch_legs fraction_of filled.now.orders.now filled.now.fills.now)
+        (fraction_of filled.now.liability.now) (map sign_of signs.now)
+        (map placed_of multipliers.now) 0 filled.now.entries }
 {
-    for i in 0..count {
-        let sum = entry_sum(orders, fills, liability, signs, multipliers, i)?;
+    for i in 0..filled.entries {
+        let sum = entry_sum(filled, signs, multipliers, i)?;
         if sum.sign() > 0 {
             return Ok(false);
         }
@@ -329,25 +320,18 @@ fn entries_close(
 }
 
 /// Whether a leaf with these multipliers closes: they are placed, those of short legs are within
-/// the legs' fills, and none of the first `count` entries is above 0.
-pub fn leaf_closes(
-    orders: &[Order],
-    fills: &[Frac128],
-    liability: &Frac128,
-    signs: &[i8],
-    multipliers: &[Multiplier],
-    count: usize,
-) -> Result<bool, Wide>
-    requires fills { length fills.now ≡ length orders.now }
-    requires entries { (1 ≤ count) × (count ≤ 9) }
-    ensures { result ≡ leaf_closes limit (count - 1) (batch_legs fraction_of orders.now fills.now)
-        (fraction_of liability.now) (map sign_of signs.now) (map placed_of multipliers.now) }
+/// the legs' fills, and none of the entries is above 0.
+pub fn leaf_closes(filled: &Filled, signs: &[i8], multipliers: &[Multiplier]) -> Result<bool, Wide>
+    ensures { result ≡ leaf_closes limit (filled.now.entries - 1)
+        (batch_legs fraction_of filled.now.orders.now filled.now.fills.now)
+        (fraction_of filled.now.liability.now) (map sign_of signs.now)
+        (map placed_of multipliers.now) }
 {
-    if !are_placed(orders, fills, signs, multipliers) {
+    if !are_placed(filled.orders, filled.fills, signs, multipliers) {
         return Ok(false);
     }
-    if !all_keep_within(orders, fills, multipliers)? {
+    if !all_keep_within(filled.orders, filled.fills, multipliers)? {
         return Ok(false);
     }
-    entries_close(orders, fills, liability, signs, multipliers, count)
+    entries_close(filled, signs, multipliers)
 }

@@ -2,6 +2,7 @@
 #![tactic(auto)]
 
 mod closing;
+mod filled;
 pub mod laws;
 mod leaf;
 mod legs;

@@ -10,24 +10,24 @@ use Rattle.sign_tree.proofs.closing.+walk.Goals as goal
 
 pub split-returns-in_default-clause-walks : goal.split-returns-in_default-clause-walks
 split-returns-in_default-clause-walks t c pending =
-    no_split limit (c.args.entries - 1) (batch_legs fraction_of c.args.orders.now c.args.fills.now) (fraction_of c.args.liability.now) (map node_of c.args.left.nodes.now) c.args.signs.now pending (map placed_of c.args.left.multipliers.now) c.args.place c.in_default.ensures
+    no_split limit (c.args.filled.now.entries - 1) (batch_legs fraction_of c.args.filled.now.orders.now c.args.filled.now.fills.now) (fraction_of c.args.filled.now.liability.now) (map node_of c.args.left.nodes.now) c.args.signs.now pending (map placed_of c.args.left.multipliers.now) c.args.place c.in_default.ensures
 
 pub split-returns-in_err-middle-clause-walks : goal.split-returns-in_err-middle-clause-walks
 split-returns-in_err-middle-clause-walks t c pending =
     let p = err_from_is_err_and c.from_residual.result c.from_residual.ensures.1 in
     let ss = c.args.signs.now in
-    let legs = batch_legs fraction_of c.args.orders.now c.args.fills.now in
-    let first = plus_first limit (c.args.entries - 1) (batch_legs fraction_of c.args.orders.now c.args.fills.now) (fraction_of c.args.liability.now) (map node_of c.args.left.nodes.now) ss pending (map placed_of c.args.left.multipliers.now) c.args.place
+    let legs = batch_legs fraction_of c.args.filled.now.orders.now c.args.filled.now.fills.now in
+    let first = plus_first limit (c.args.filled.now.entries - 1) (batch_legs fraction_of c.args.filled.now.orders.now c.args.filled.now.fills.now) (fraction_of c.args.filled.now.liability.now) (map node_of c.args.left.nodes.now) ss pending (map placed_of c.args.left.multipliers.now) c.args.place
     c.in-Some.i c.in-Some.ensures in
     rw (p.1, p.2) (first ∙ c.in_err-middle.ensures.walks (map sign_of (set ss c.in-Some.i (negsuc 0)) ∷ pending)
-    ∙ ends_alike (λ nodes ms. walk limit (c.args.entries - 1) legs (fraction_of c.args.liability.now) nodes (map sign_of (set ss c.in-Some.i (negsuc 0)) ∷ pending) ms)
-    (λ nodes ms. walk limit (c.args.entries - 1) legs (fraction_of c.args.liability.now) nodes pending ms) c.in_err-middle.field-0.0)
+    ∙ ends_alike (λ nodes ms. walk limit (c.args.filled.now.entries - 1) legs (fraction_of c.args.filled.now.liability.now) nodes (map sign_of (set ss c.in-Some.i (negsuc 0)) ∷ pending) ms)
+    (λ nodes ms. walk limit (c.args.filled.now.entries - 1) legs (fraction_of c.args.filled.now.liability.now) nodes pending ms) c.in_err-middle.field-0.0)
 
 pub split-returns-in_err-rest-clause-walks : goal.split-returns-in_err-rest-clause-walks
 split-returns-in_err-rest-clause-walks t c pending =
     let p = err_from_is_err_and c.from_residual-in_err-rest.result c.from_residual-in_err-rest.ensures.1 in
     let ss = c.args.signs.now in
-    let first = plus_first limit (c.args.entries - 1) (batch_legs fraction_of c.args.orders.now c.args.fills.now) (fraction_of c.args.liability.now) (map node_of c.args.left.nodes.now) ss pending (map placed_of c.args.left.multipliers.now) c.args.place
+    let first = plus_first limit (c.args.filled.now.entries - 1) (batch_legs fraction_of c.args.filled.now.orders.now c.args.filled.now.fills.now) (fraction_of c.args.filled.now.liability.now) (map node_of c.args.left.nodes.now) ss pending (map placed_of c.args.left.multipliers.now) c.args.place
     c.in-Some.i c.in-Some.ensures in
     let signs = minus_signs ss c.subtree.new.signs c.in-Some.i c.in_ok-middle.ensures.signs in
     rw (p.1, p.2) (first ∙ c.in_ok-middle.ensures.walks (map sign_of (set ss c.in-Some.i (negsuc 0)) ∷ pending) ∙ rw (← signs) (c.in_err-rest.ensures.walks pending))
@@ -35,7 +35,7 @@ split-returns-in_err-rest-clause-walks t c pending =
 pub split-returns-clause-walks : goal.split-returns-clause-walks
 split-returns-clause-walks t c pending =
     let ss = c.args.signs.now in
-    let first = plus_first limit (c.args.entries - 1) (batch_legs fraction_of c.args.orders.now c.args.fills.now) (fraction_of c.args.liability.now) (map node_of c.args.left.nodes.now) ss pending (map placed_of c.args.left.multipliers.now) c.args.place
+    let first = plus_first limit (c.args.filled.now.entries - 1) (batch_legs fraction_of c.args.filled.now.orders.now c.args.filled.now.fills.now) (fraction_of c.args.filled.now.liability.now) (map node_of c.args.left.nodes.now) ss pending (map placed_of c.args.left.multipliers.now) c.args.place
     c.in-Some.i c.in-Some.ensures in
     let signs = minus_signs ss c.subtree.new.signs c.in-Some.i c.in_ok-middle.ensures.signs in
     first ∙ c.in_ok-middle.ensures.walks (map sign_of (set ss c.in-Some.i (negsuc 0)) ∷ pending) ∙ rw (← signs) (c.in_ok-rest.ensures.walks pending)

@@ -15,5 +15,5 @@ pub loop-i-preserved : goal.loop-i-preserved
 loop-i-preserved c =
     let fits : FitsSigned w8 c.sign.result = search rules in
     let low : int_lt (pos 0) (int_signum (fraction_of c.in_ok-sum.sum).numerator) ≡ false = rw (← c.sign.ensures, ← to_z-of_z w8 c.sign.result fits) c.if-sign-gt0.false in
-    c.loop-i.invariant ∙ entries_step limit (fraction_legs c.args.orders.now (map fraction_of c.args.fills.now)) (fraction_of c.args.liability.now) (map sign_of c.args.signs.now) (map placed_of c.args.multipliers.now)
-    c.loop-i.i c.args.count (fraction_of c.in_ok-sum.sum) c.loop-i-test.true (sym c.entry_sum.ensures ∙ ap (meaning fraction_of) c.in_ok-sum.was) low
+    c.loop-i.invariant ∙ entries_step limit (fraction_legs c.args.filled.now.orders.now (map fraction_of c.args.filled.now.fills.now)) (fraction_of c.args.filled.now.liability.now) (map sign_of c.args.signs.now) (map placed_of c.args.multipliers.now)
+    c.loop-i.i c.args.filled.now.entries (fraction_of c.in_ok-sum.sum) c.loop-i-test.true (sym c.entry_sum.ensures ∙ ap (meaning fraction_of) c.in_ok-sum.was) low

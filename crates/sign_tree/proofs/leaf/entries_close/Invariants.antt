@@ -8,5 +8,6 @@ use Rattle.sign_tree.proofs.leaf.entries_close.Given as goal
 -- the entries from i on decide
 abbrev pub invariant-loop-i : goal.invariant-loop-i
 invariant-loop-i l =
-    entries_close limit (fraction_legs l.orders (map fraction_of l.fills)) (fraction_of l.liability) (map sign_of l.signs) (map placed_of l.multipliers) 0 l.count
-    ≡ entries_close limit (fraction_legs l.orders (map fraction_of l.fills)) (fraction_of l.liability) (map sign_of l.signs) (map placed_of l.multipliers) l.i (l.count - l.i)
+    let legs = fraction_legs l.filled.orders.now (map fraction_of l.filled.fills.now) in
+    let closes = entries_close limit legs (fraction_of l.filled.liability.now) (map sign_of l.signs) (map placed_of l.multipliers) in
+    closes 0 l.filled.entries ≡ closes l.i (l.filled.entries - l.i)
