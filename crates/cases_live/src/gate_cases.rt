@@ -166,7 +166,8 @@ fn first_messages(alloc: Global, sessions: u32) -> Result<Vec<Sent>, AllocError>
     Ok(messages)
 }
 
-// Whether the answers are First to 10,000 messages, and then that there are too many sessions, and First again.
+// Whether the answers are First to 10,000 messages, and then that there are too many sessions, and
+// First again.
 fn is_last_refused(answers: &[Answer]) -> bool {
     answers
         .iter()

@@ -46,7 +46,8 @@ static BODIES: &str = r#"999999999,1,"open","1"
 static MALFORMED: &str =
     "7|7,1|7,1,|,1,a|7,,a|0,1,a|1000000000,1,a|7,0,a|7,1000001,a|07,1,a|-7,1,a|+7,1,a| 7,1,a|\"7\",1,a|7,1,\u{feff}a|7,1,\u{feff}|7,1,a\rb|7,1,a\r\r|\u{feff}7,1,a|\u{feff}";
 
-// How an input ends and what is written for it, 64 bytes a write, where the write of this number fails; none where it is 0.
+// How an input ends and what is written for it, 64 bytes a write, where the write of this number
+// fails; none where it is 0.
 fn outcome(
     alloc: Global,
     input: &[u8],
@@ -61,7 +62,8 @@ fn outcome(
     Ok((end, sink))
 }
 
-// Compares what was written with what is wanted: at the first line that differs the test tells the two.
+// Compares what was written with what is wanted: at the first line that differs the test tells the
+// two.
 fn assert_lines(rt: &impl Abort, written: &[u8], wanted: &str) {
     let written = str::from_utf8(written).unwrap_or("no text");
     for (had, line) in written.split('\n').zip(wanted.split('\n')) {

@@ -1,4 +1,5 @@
-//! Fractions, each operation through the bound `Exact`: from the text of what is asked to that of the answer.
+//! Fractions, each operation through the bound `Exact`: from the text of what is asked to that of
+//! the answer.
 ghost use Rattle.std.specs.Prelude.{◌<◌, ◌*◌, ◌^◌};
 ghost use Rattle.std.specs.Int.{div_ceil};
 

@@ -1,5 +1,5 @@
-//! Fractions, payoffs, premiums, programs and searches: cases from outside, each from the text of what is asked to the
-//! text of the answer.
+//! Fractions, payoffs, premiums, programs and searches: cases from outside, each from the text of
+//! what is asked to the text of the answer.
 #![tactic(auto)]
 
 #[cfg(test)]

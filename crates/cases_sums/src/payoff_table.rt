@@ -1,5 +1,5 @@
-//! Payoffs of options and of bundles, primitive states and premiums, one a line, with what they are: the value, or the operation that does not
-//! fit with its operands.
+//! Payoffs of options and of bundles, primitive states and premiums, one a line, with what they
+//! are: the value, or the operation that does not fit with its operands.
 
 /// An option's entries, the entries of a primitive state, and what the option pays there.
 pub static PAYOFFS: &str = "\
@@ -53,8 +53,8 @@ pub static PAYOFFS: &str = "\
 -135574196 401 474 120 -861 -740 197 | 1207007394236271380119527929696141101 1060205322790423515542641267458108686 281085115370367802862447569114670482 411000407490552409230480739635298038 383325077923117380588337042847311175 724959018022204534489221394238571198 1273504007060455594767122344488442016 = mul -135574196 1207007394236271380119527929696141101
 ";
 
-/// A bundle's legs, each with its count and its option's entries, the entries of a primitive state, and what the bundle
-/// pays there.
+/// A bundle's legs, each with its count and its option's entries, the entries of a primitive state,
+/// and what the bundle pays there.
 pub static BUNDLES: &str = "\
 1 : -10 1 ; -1 : -12 1 | 1 15 = 2
 -1 : -10 1 ; 1 : -12 1 | 1 15 = -2

@@ -1,7 +1,8 @@
-//! Programs and how their runs end. `== ` stands before the name of each. A program: the units of the budget, the number of
-//! variables and of rows, then the coefficients row by row, the right sides and the costs. `= ` stands before its end: the units
-//! spent, then the optimum with x, the dual, the reduced costs and the value; or the direction; or the operation that did not
-//! fit with its operands; or the budget.
+//! Programs and how their runs end. `== ` stands before the name of each. A program: the units of
+//! the budget, the number of variables and of rows, then the coefficients row by row, the right
+//! sides and the costs. `= ` stands before its end: the units spent, then the optimum with x, the
+//! dual, the reduced costs and the value; or the direction; or the operation that did not fit with
+//! its operands; or the budget.
 
 /// The cases.
 pub static CASES: &str = "\

@@ -5,7 +5,8 @@ use exact_num::Exact;
 use frac::Frac128;
 use std::alloc::Global;
 
-/// The numerator and the denominator of a text like `-3` or `2/7`. An error names the part that is no number.
+/// The numerator and the denominator of a text like `-3` or `2/7`. An error names the part that is
+/// no number.
 pub fn parts(text: &str) -> Result<(i128, i128)> {
     match text.split_once('/') {
         Some((above, below)) => Ok((above.parse::<i128>()?, below.parse::<i128>()?)),
@@ -13,7 +14,8 @@ pub fn parts(text: &str) -> Result<(i128, i128)> {
     }
 }
 
-/// The fraction of a text like `-3` or `2/7`. An error names the part that is no number, or does not fit.
+/// The fraction of a text like `-3` or `2/7`. An error names the part that is no number, or does
+/// not fit.
 pub fn number(text: &str) -> Result<Frac128> {
     let (above, below) = parts(text)?;
     let above = Frac128::from_whole(above).ok().context("a numerator")?;
@@ -22,7 +24,8 @@ pub fn number(text: &str) -> Result<Frac128> {
     above.div(below).ok().context("a fraction")
 }
 
-/// The fractions of a text, with spaces between them. The errors are those of `number`, and want of memory.
+/// The fractions of a text, with spaces between them. The errors are those of `number`, and want of
+/// memory.
 pub fn numbers(alloc: Global, text: &str) -> Result<Vec<Frac128>> {
     let mut all = Vec::new(alloc);
     for word in text.split_whitespace() {

@@ -33,7 +33,8 @@ fn order(side: Side) -> Order
     }
 }
 
-// A call that is bought and sold is covered by both signs of it, and one that is only bought is not covered.
+// A call that is bought and sold is covered by both signs of it, and one that is only bought is not
+// covered.
 #[test]
 fn calls_are_covered_where_they_are_sold(rt: HostRuntime) -> Result<(), Fail> {
     let alloc = rt.alloc();

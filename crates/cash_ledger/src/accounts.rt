@@ -1,4 +1,5 @@
-// The open accounts in the order in which they were opened, the house first, each with what is kept of it.
+// The open accounts in the order in which they were opened, the house first, each with what is kept
+// of it.
 ghost use Rattle.std.specs.Prelude.{◌≡◌, ◌+◌, ◌++◌, [], ◌∷◌, ℕ, nat_eq, cond, length, Some, None, IsSome, is_some, OnOk, OnErr};
 ghost use Rattle.std.specs.List.{list_any};
 ghost use Rattle.std.specs.Map.{lookup, keys_of};

@@ -36,7 +36,8 @@ impl From<AllocError> for LedgerRefusal {
     }
 }
 
-/// The open accounts and the entries; with the total and the reserve of each account kept beside them.
+/// The open accounts and the entries; with the total and the reserve of each account kept beside
+/// them.
 #[derive(Drop)]
 pub struct Ledger {
     accounts: Accounts,
@@ -211,8 +212,8 @@ impl Ledger {
 
     /// Takes an amount from an account, and answers its new balance.
     ///
-    /// `NoAccount` where the account is not open, and else `Funds` where its balance less what is reserved is below the
-    /// amount.
+    /// `NoAccount` where the account is not open, and else `Funds` where its balance less what is
+    /// reserved is below the amount.
     pub fn withdraw(&mut self, account: u32, amount: u64) -> Result<i128, LedgerRefusal>
         requires some { 1 ≤ amount }
         requires within { amount ≤ MAX_AMOUNT }
@@ -234,8 +235,8 @@ impl Ledger {
 
     /// Reserves an amount of an account's balance, beside what is reserved already.
     ///
-    /// `NoAccount` where the account is not open, and else `Funds` where its balance less what is reserved is below the
-    /// amount.
+    /// `NoAccount` where the account is not open, and else `Funds` where its balance less what is
+    /// reserved is below the amount.
     pub fn reserve(&mut self, account: u32, amount: u64) -> Result<(), LedgerRefusal>
         requires within { amount ≤ MAX_RESERVE }
         requires reserved { reserved_of self.old account ≤ MAX_RESERVED }

@@ -1,4 +1,5 @@
-//! The ledger: accounts, a list of entries whose sums are their balances, and what is reserved of them.
+//! The ledger: accounts, a list of entries whose sums are their balances, and what is reserved of
+//! them.
 //!
 //! A call takes memory only where it may answer `Memory`.
 #![tactic(auto)]

@@ -15,11 +15,12 @@ use exact_num::{Exact, Wide, plus_product};
 use form::{Batch, Order, Side};
 use frac::{Frac128, whole};
 
-/// The bound of the measure: the sum over orders of quantity times the positive part of limit less price for a buy, and
-/// of price less limit for a sell. An order counts whether it is filled or not. Where the points are a measure of the
-/// batch's underlyings, no fills of the batch cover a surplus above it. Each state has as many entries as the forms.
-/// `Wide` comes exactly where a step does not fit. Takes no memory. (The dual objective and weak duality: Chvatal,
-/// Linear Programming, chapter 5.)
+/// The bound of the measure: the sum over orders of quantity times the positive part of limit less
+/// price for a buy, and of price less limit for a sell. An order counts whether it is filled or
+/// not. Where the points are a measure of the batch's underlyings, no fills of the batch cover a
+/// surplus above it. Each state has as many entries as the forms. `Wide` comes exactly where a step
+/// does not fit. Takes no memory. (The dual objective and weak duality: Chvatal, Linear
+/// Programming, chapter 5.)
 pub fn bound(batch: &Batch, m: &Measure) -> Result<Frac128, Wide>
     requires forms { HasItsForms batch.now }
     requires states { IsOnStates batch.now.underlyings m.now }

@@ -21,8 +21,8 @@ use frac::{Frac128, whole};
 use line_cover::{LineVerdict, holds_on_line};
 use sign_tree::{TreeVerdict, closes};
 
-/// Whether the premium of the fills less the liability is the surplus, and that is not below 0. `Wide` comes exactly
-/// where a step does not fit. Takes no memory.
+/// Whether the premium of the fills less the liability is the surplus, and that is not below 0.
+/// `Wide` comes exactly where a step does not fit. Takes no memory.
 pub fn surplus_holds(orders: &[Order], fills: &[Frac128], claim: &Claim) -> Result<bool, Wide>
     requires { length fills.now ≡ length orders.now }
     ensures { result ≡ claim_holds limit orders.now fills.now claim.now }
@@ -60,10 +60,11 @@ fn add_premium(total: Frac128, order: &Order, fill: Frac128) -> Result<Frac128, 
     add_for_side(total, order.side, fill, whole(order.price.into()))
 }
 
-/// Whether the line or the tree shows that the liability is enough for the fills. `Wide` comes exactly where a step does
-/// not fit before the cover fails. There are as many fills as orders, the cover is one of the batch's underlyings, and for
-/// a tree there are as many signs as the orders have legs, at most 1,024; what they held does not matter, and a line looks
-/// at none. Takes no memory.
+/// Whether the line or the tree shows that the liability is enough for the fills. `Wide` comes
+/// exactly where a step does not fit before the cover fails. There are as many fills as orders, the
+/// cover is one of the batch's underlyings, and for a tree there are as many signs as the orders
+/// have legs, at most 1,024; what they held does not matter, and a line looks at none. Takes no
+/// memory.
 pub fn cover_holds(
     batch: &Batch,
     fills: &[Frac128],
@@ -105,16 +106,16 @@ fn of_tree(verdict: TreeVerdict) -> Result<bool, Wide>
     }
 }
 
-/// Whether no weight of the measure is below 0 and the sum of `weight * t` is 1. `Wide` comes exactly where a step of the
-/// sum does not fit and no weight is below 0. Takes no memory.
+/// Whether no weight of the measure is below 0 and the sum of `weight * t` is 1. `Wide` comes
+/// exactly where a step of the sum does not fit and no weight is below 0. Takes no memory.
 pub fn measure_holds(measure: &Measure) -> Result<bool, Wide>
     ensures { result ≡ measure_holds limit (points_of measure.now) }
 {
     is_measure(measure)
 }
 
-/// Whether the bound of the measure is the surplus. Each state has as many entries as the forms. `Wide` comes exactly
-/// where a step does not fit. Takes no memory.
+/// Whether the bound of the measure is the surplus. Each state has as many entries as the forms.
+/// `Wide` comes exactly where a step does not fit. Takes no memory.
 pub fn bound_holds(batch: &Batch, measure: &Measure, surplus: &Frac128) -> Result<bool, Wide>
     requires forms { HasItsForms batch.now }
     requires states { IsOnStates batch.now.underlyings measure.now }

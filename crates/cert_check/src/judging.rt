@@ -23,13 +23,14 @@ use exact_num::Wide;
 use form::Batch;
 use frac::Frac128;
 
-/// The judgement of an outcome. Yes where each condition holds: the shape of the batch, the fills from 0 to their
-/// quantities, the cover, and with the mark optimal the measure and its bound. `No` has the first condition that fails,
-/// `Wide` the first step that does not fit where no condition failed before. A yes shows that the fills cover the
-/// claimed surplus at every settlement and that it is not below 0; with the mark optimal also that no fractional fills
-/// cover more. A no shows that its condition does not hold, and that each before it does. The batch is on 1 to 8
-/// underlyings, and there are as many signs as the orders have legs, at most 1,024; what they held does not matter. Takes
-/// no memory.
+/// The judgement of an outcome. Yes where each condition holds: the shape of the batch, the fills
+/// from 0 to their quantities, the cover, and with the mark optimal the measure and its bound. `No`
+/// has the first condition that fails, `Wide` the first step that does not fit where no condition
+/// failed before. A yes shows that the fills cover the claimed surplus at every settlement and that
+/// it is not below 0; with the mark optimal also that no fractional fills cover more. A no shows
+/// that its condition does not hold, and that each before it does. The batch is on 1 to 8
+/// underlyings, and there are as many signs as the orders have legs, at most 1,024; what they held
+/// does not matter. Takes no memory.
 pub fn verdict(batch: &Batch, outcome: &Outcome, signs: &mut [i8]) -> Judgement
     requires underlyings { (1 ≤ batch.now.underlyings) × (batch.now.underlyings ≤ 8) }
     requires signs { length signs.old ≡ leg_count batch.now.orders }

@@ -14,7 +14,8 @@ pub fn conditions_cover()
     ensures { ConditionsCover }
 {}
 
-/// And with the mark optimal the measure is one of the batch's underlyings whose bound is the claimed surplus,
+/// And with the mark optimal the measure is one of the batch's underlyings whose bound is the
+/// claimed surplus,
 pub fn conditions_measure()
     ensures { ConditionsMeasure }
 {}
@@ -29,18 +30,20 @@ pub fn yes_covers()
     ensures { YesCovers }
 {}
 
-/// A yes on the mark optimal has a measure of the batch's underlyings whose bound is the claimed surplus.
+/// A yes on the mark optimal has a measure of the batch's underlyings whose bound is the claimed
+/// surplus.
 pub fn yes_has_its_measure()
     ensures { YesHasItsMeasure }
 {}
 
-/// A yes on the mark optimal: the fills cover the claimed surplus, which is not below 0 and the greatest.
+/// A yes on the mark optimal: the fills cover the claimed surplus, which is not below 0 and the
+/// greatest.
 pub fn yes_on_optimal_proves()
     ensures { YesOnOptimalProves }
 {}
 
-/// A proposal that is judged a bound covers its surplus, and the greatest is from that to the bound; else what is told of it
-/// is the first condition that it does not meet.
+/// A proposal that is judged a bound covers its surplus, and the greatest is from that to the
+/// bound; else what is told of it is the first condition that it does not meet.
 pub fn proposals_are_decided()
     ensures { ProposalsAreDecided }
 {}
@@ -55,8 +58,8 @@ pub fn halves_join()
     ensures { HalvesJoin }
 {}
 
-/// The butterfly by two sells and the spread covered by two options, sound and changed, are judged as
-/// they are worked by hand.
+/// The butterfly by two sells and the spread covered by two options, sound and changed, are judged
+/// as they are worked by hand.
 pub fn verdicts_as_worked()
     ensures { VerdictsAsWorked }
 {}

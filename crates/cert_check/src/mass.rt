@@ -12,8 +12,9 @@ use crate::measures::{Measure, Weighted};
 use exact_num::{Exact, Wide, plus_product};
 use frac::{Frac128, whole};
 
-/// Whether no weight is below 0 and the sum of `weight * t` is 1: true shows that it is so, and false that it is not.
-/// `Wide` comes exactly where a step of the sum does not fit and no weight is below 0. Takes no memory.
+/// Whether no weight is below 0 and the sum of `weight * t` is 1: true shows that it is so, and
+/// false that it is not. `Wide` comes exactly where a step of the sum does not fit and no weight is
+/// below 0. Takes no memory.
 pub fn is_measure(m: &Measure) -> Result<bool, Wide>
     ensures steps { result ≡ has_unit_mass limit (map point_of m.now.points) }
     ensures holds { result ≡ Ok true → HasUnitMass (map point_of m.now.points) }

@@ -2,8 +2,8 @@
 
 ghost use Rattle.cert_check.specs.MeasureLaws.{BoundsAreExact, MassesAreExact, NoCoverIsAboveTheBound, PricesAreExact};
 
-/// In weights that pass none is below 0 and the sum of `weight * t` is 1; in weights that do not pass one is, or the sum
-/// is another.
+/// In weights that pass none is below 0 and the sum of `weight * t` is 1; in weights that do not
+/// pass one is, or the sum is another.
 pub fn masses_are_exact()
     ensures { MassesAreExact }
 {}

@@ -14,8 +14,8 @@ pub struct Weighted {
 /// Weighted states, which contracts see as their list.
 pub type Points = List<Weighted>;
 
-/// A pricing measure: weights of states, none below 0, where the sum of `weight * t` is 1. It prices a bundle at the
-/// sum of weight times payoff.
+/// A pricing measure: weights of states, none below 0, where the sum of `weight * t` is 1. It
+/// prices a bundle at the sum of weight times payoff.
 #[derive(Debug, Drop)]
 pub struct Measure {
     pub points: Points,

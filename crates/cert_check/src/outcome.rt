@@ -12,14 +12,16 @@ use sign_tree::SignTree;
 /// The fills of a batch, one for each order, which contracts see as their list.
 pub type Fills = List<Frac128>;
 
-/// What a cleared batch claims: the most that the house can owe, and what is left to it at every settlement.
+/// What a cleared batch claims: the most that the house can owe, and what is left to it at every
+/// settlement.
 #[derive(Clone, Copy, Debug, PartialEq, Eq)]
 pub struct Claim {
     pub liability: Frac128,
     pub surplus: Frac128,
 }
 
-/// The proof that the liability is enough: the line of a market on one underlying, or a tree of signs.
+/// The proof that the liability is enough: the line of a market on one underlying, or a tree of
+/// signs.
 #[derive(Debug, Drop)]
 pub enum Cover {
     Line,
@@ -46,7 +48,8 @@ pub struct Outcome {
     pub units: u32,
 }
 
-/// What a solver, whoever it is, proposes for a batch: fills with their claim, the cover of the liability, and a measure.
+/// What a solver, whoever it is, proposes for a batch: fills with their claim, the cover of the
+/// liability, and a measure.
 #[derive(Debug, Drop)]
 pub struct Proposal {
     pub fills: Fills,
@@ -73,7 +76,8 @@ pub enum Judgement {
     Wide(Wide),
 }
 
-/// Why a proposal proves no bound: the condition that fails first, never that of the bound, or the step that does not fit.
+/// Why a proposal proves no bound: the condition that fails first, never that of the bound, or the
+/// step that does not fit.
 #[derive(Clone, Copy, Debug, PartialEq, Eq)]
 pub enum Unproved {
     No(No),

@@ -14,8 +14,8 @@ use exact_num::{Exact, Wide, plus_product};
 use form::{Bundle, bundle_payoff};
 use frac::{Frac128, whole};
 
-/// The price of the bundle: the sum of `weight * payoff`. Each state has as many entries as the forms of its legs. `Wide`
-/// comes exactly where a step does not fit. Takes no memory.
+/// The price of the bundle: the sum of `weight * payoff`. Each state has as many entries as the
+/// forms of its legs. `Wide` comes exactly where a step does not fit. Takes no memory.
 pub fn price_of(bundle: &Bundle, m: &Measure) -> Result<Frac128, Wide>
     requires { FitsStates bundle.now m.now.points }
     ensures steps { meaning fraction_of result

@@ -21,12 +21,14 @@ use exact_num::Wide;
 use form::Batch;
 use frac::Frac128;
 
-/// The bound that the proposal proves for the batch: that of its measure, where the conditions of an outcome marked
-/// optimal hold up to it (the shape of the batch, the fills from 0 to their quantities, the cover, and the measure). It
-/// shows that the fills cover the claimed surplus at every settlement, that this is not below 0, and that no fractional
-/// fills cover more than the bound. `No` has the first condition that fails, which is never that of the bound, and `Wide`
-/// the first step that does not fit where no condition failed before. The batch is on 1 to 8 underlyings, and there are as
-/// many signs as the orders have legs, at most 1,024; what they held does not matter. Takes no memory.
+/// The bound that the proposal proves for the batch: that of its measure, where the conditions of
+/// an outcome marked optimal hold up to it (the shape of the batch, the fills from 0 to their
+/// quantities, the cover, and the measure). It shows that the fills cover the claimed surplus at
+/// every settlement, that this is not below 0, and that no fractional fills cover more than the
+/// bound. `No` has the first condition that fails, which is never that of the bound, and `Wide` the
+/// first step that does not fit where no condition failed before. The batch is on 1 to 8
+/// underlyings, and there are as many signs as the orders have legs, at most 1,024; what they held
+/// does not matter. Takes no memory.
 pub fn judge_proposal(
     batch: &Batch,
     proposal: &Proposal,
@@ -90,11 +92,11 @@ fn is_covered(batch: &Batch, proposal: &Proposal, signs: &mut [i8]) -> Result<bo
     )
 }
 
-/// The judgement of a batch that was cleared by fills with a cover, a measure and the bound that is told of it. Yes where
-/// the proposal of these proves a bound, and it is the bound that is told; `No` and `Wide` as `judge_proposal` tells
-/// them, and then `No(Bound)` where the bound is another. A yes shows what a bound shows. The batch is on 1 to 8
-/// underlyings, and there are as many signs as the orders have legs, at most 1,024; what they held does not matter. Takes
-/// no memory.
+/// The judgement of a batch that was cleared by fills with a cover, a measure and the bound that is
+/// told of it. Yes where the proposal of these proves a bound, and it is the bound that is told;
+/// `No` and `Wide` as `judge_proposal` tells them, and then `No(Bound)` where the bound is another.
+/// A yes shows what a bound shows. The batch is on 1 to 8 underlyings, and there are as many signs
+/// as the orders have legs, at most 1,024; what they held does not matter. Takes no memory.
 pub fn bounded_verdict(
     batch: &Batch,
     proposal: &Proposal,

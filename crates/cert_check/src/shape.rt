@@ -11,7 +11,8 @@ use exact_num::Exact;
 use form::{Batch, Order};
 use frac::{Frac128, whole};
 
-// Whether there are as many fills as orders, and forms, states and cover are those of the batch's underlyings.
+// Whether there are as many fills as orders, and forms, states and cover are those of the batch's
+// underlyings.
 pub(crate) fn has_shape(batch: &Batch, outcome: &Outcome) -> bool
     ensures { result ≡ has_shape batch.now outcome.now }
 {

@@ -5,7 +5,8 @@ use std::alloc::{AllocError, Global};
 use std::fmt;
 use std::marker::Model;
 
-/// A bundle on the heap, which contracts see as the bundle, so that a command takes no more room than the numbers of a trade.
+/// A bundle on the heap, which contracts see as the bundle, so that a command takes no more room
+/// than the numbers of a trade.
 #[derive(Drop)]
 pub struct BoxedBundle {
     bundle: Box<Bundle>,

@@ -12,5 +12,6 @@ pub const MAX_SETTLEMENT: u32 = 1_000_000_000;
 // The greatest number of fields of a command: a bundle of four legs on eight underlyings.
 pub(crate) const MAX_FIELDS: usize = 51;
 
-// The greatest number of fields of a trade, on eight underlyings: room for so many is taken at once for each line.
+// The greatest number of fields of a trade, on eight underlyings: room for so many is taken at once
+// for each line.
 pub(crate) const MOST_OF_TRADE: usize = 15;

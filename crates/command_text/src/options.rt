@@ -7,7 +7,8 @@ ghost use Rattle.command_text.specs.Options.{option_by};
 use crate::command::Kind;
 use form::{Form, call, put};
 
-/// The form of an option with a strike, in whole prices, and the first `count` of the weights. Takes no memory.
+/// The form of an option with a strike, in whole prices, and the first `count` of the weights.
+/// Takes no memory.
 pub fn option_form(kind: Kind, strike: i64, count: u8, weights: &[i16; 8]) -> Form
     requires some { 1 ≤ count }
     requires few { count ≤ 8 }

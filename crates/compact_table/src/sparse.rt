@@ -17,7 +17,8 @@ use std::alloc::{AllocError, Global};
 #[derive(Drop)]
 pub struct SparseProgram<N: Copy> {
     costs: Vec<N>,
-    // of each row the coefficients that are not 0, and its right side last, at the place behind them
+    // of each row the coefficients that are not 0, and its right side last, at the place behind
+    // them
     entries: Vec<Entry<N>>,
     // where the entries of each row end
     ends: Vec<usize>,

@@ -3,8 +3,9 @@
 ghost use Rattle.each_match.specs.Laws.{AuctionGoesOn, MatchIsTheAuction, MatchIsWithin, MatchIsBalanced, MatchOwesNothing, MatchEarns, MatchCovers, MatchHasPrices, MatchIsTheBest};
 ghost use Rattle.each_match.specs.Worked.{BatchesByHand};
 
-/// An auction makes the next trade of its two queues and goes on with what that leaves of them, and ends where there is
-/// no next trade: the bound on the number of trades in its definition cuts none off.
+/// An auction makes the next trade of its two queues and goes on with what that leaves of them, and
+/// ends where there is no next trade: the bound on the number of trades in its definition cuts none
+/// off.
 pub fn auction_goes_on()
     ensures { AuctionGoesOn }
 {}
@@ -39,16 +40,18 @@ pub fn match_covers()
     ensures { MatchCovers }
 {}
 
-/// Each bundle has one price, in ticks, that parts its orders: those with a better limit are filled whole, and those
-/// with a worse one are not filled. A buy's limit is better above the price, a sell's below it.
+/// Each bundle has one price, in ticks, that parts its orders: those with a better limit are filled
+/// whole, and those with a worse one are not filled. A buy's limit is better above the price, a
+/// sell's below it.
 pub fn match_has_prices()
     ensures { MatchHasPrices }
 {}
 
-/// No fills that balance each bundle by itself, fractions of orders included, earn more than the match.
+/// No fills that balance each bundle by itself, fractions of orders included, earn more than the
+/// match.
 ///
-/// Source: weak duality of the double auction. Balanced fills earn what their orders gain at the prices of
-/// [`match_has_prices`], and no fills gain more there than the match.
+/// Source: weak duality of the double auction. Balanced fills earn what their orders gain at the
+/// prices of [`match_has_prices`], and no fills gain more there than the match.
 pub fn match_is_the_best()
     ensures { MatchIsTheBest }
 {}

@@ -5,9 +5,10 @@ ghost use Rattle.form.specs.Legs.{IsCounted, IsFiller};
 
 use crate::legs::Leg;
 
-/// One to four legs, of which the first `size` count. Those past them have count 0 and the form of count 2 whose entries
-/// are all 0, so that equal lists of legs are equal bundles. The legs of an order of a market are on the same underlyings;
-/// those of an order that is read in a reply line may have forms of different counts.
+/// One to four legs, of which the first `size` count. Those past them have count 0 and the form of
+/// count 2 whose entries are all 0, so that equal lists of legs are equal bundles. The legs of an
+/// order of a market are on the same underlyings; those of an order that is read in a reply line
+/// may have forms of different counts.
 #[derive(Clone, Copy, Debug, PartialEq, Eq)]
 pub struct Bundle {
     pub size: u8,

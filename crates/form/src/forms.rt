@@ -2,8 +2,9 @@
 
 ghost use Rattle.std.specs.Prelude.{ℕ, ◌≡◌, ◌≤◌, length, pos, slice_index_or};
 
-/// An option on `count - 1` underlyings as a whole vector: `(-K, w)` is the call with strike K and weights w, and
-/// `(K, -w)` the put. Equal vectors are the same option. Entries from `count` on are 0.
+/// An option on `count - 1` underlyings as a whole vector: `(-K, w)` is the call with strike K and
+/// weights w, and `(K, -w)` the put. Equal vectors are the same option. Entries from `count` on are
+/// 0.
 #[derive(Clone, Copy, Debug, PartialEq, Eq)]
 pub struct Form {
     pub count: u8,

@@ -28,8 +28,8 @@ impl Form {
 }
 
 impl State {
-    /// The state with these entries. None exactly where there are not 2 to 9, one is below 0, or none is above. Takes no
-    /// memory.
+    /// The state with these entries. None exactly where there are not 2 to 9, one is below 0, or
+    /// none is above. Takes no memory.
     pub fn from_entries(entries: &[i128]) -> Option<State>
         ensures { result ≡ state_from entries.now }
     {

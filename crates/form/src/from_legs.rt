@@ -22,8 +22,8 @@ impl Bundle {
         Bundle { size: 1, legs }
     }
 
-    /// The bundle of these 1 to 4 legs, with counts from -1000 to 1000 but not 0, and forms of equal counts. Takes no
-    /// memory.
+    /// The bundle of these 1 to 4 legs, with counts from -1000 to 1000 but not 0, and forms of
+    /// equal counts. Takes no memory.
     pub fn of(legs: &[Leg]) -> Bundle
         requires legs { AreLegs legs.now }
         requires alike { AreAlike legs.now }
@@ -64,7 +64,8 @@ impl Bundle {
     }
 }
 
-/// Whether these are the legs of a bundle: 1 to 4, with counts from -1000 to 1000 but not 0. Takes no memory.
+/// Whether these are the legs of a bundle: 1 to 4, with counts from -1000 to 1000 but not 0. Takes
+/// no memory.
 pub fn are_legs(legs: &[Leg]) -> bool
     ensures decides { result ≡ are_legs legs.now }
     ensures legs { IsTrue result → AreLegs legs.now }

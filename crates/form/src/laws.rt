@@ -26,12 +26,14 @@ pub fn bundle_payoffs_are_exact()
     ensures { BundlePayoffsAreExact }
 {}
 
-/// A bundle of one option that counts once pays what the option pays, and does not fit where that does not.
+/// A bundle of one option that counts once pays what the option pays, and does not fit where that
+/// does not.
 pub fn one_option_pays()
     ensures { OneOptionPays }
 {}
 
-/// The primitive vector of a state is a state of the same direction whose entries have no common divisor above 1.
+/// The primitive vector of a state is a state of the same direction whose entries have no common
+/// divisor above 1.
 pub fn primitive_vectors_are_primitive()
     ensures { PrimitiveVectorsArePrimitive }
 {}

@@ -1,4 +1,5 @@
-//! Options on several underlyings, bundles of them, their orders and batches, and what a certified clearing of them means.
+//! Options on several underlyings, bundles of them, their orders and batches, and what a certified
+//! clearing of them means.
 #![tactic(auto)]
 
 pub mod bundles;

@@ -21,7 +21,8 @@ pub const MAX_LEGS: u8 = 4;
 /// The largest size of a leg's count.
 pub const MAX_COUNT: u16 = 1_000;
 
-/// The most options that an order counts: its quantity times the sum of the sizes of its bundle's counts.
+/// The most options that an order counts: its quantity times the sum of the sizes of its bundle's
+/// counts.
 pub const MAX_OPTIONS: u32 = 1_000_000;
 
 /// The most orders of a batch.

@@ -6,8 +6,9 @@ ghost use Rattle.form.specs.Payoff.{option_of};
 
 use crate::forms::Form;
 
-/// The call with this strike, in whole prices, on a basket with these weights: it pays what the basket is worth above
-/// the strike. There are 1 to 8 weights, one for each underlying of the market.
+/// The call with this strike, in whole prices, on a basket with these weights: it pays what the
+/// basket is worth above the strike. There are 1 to 8 weights, one for each underlying of the
+/// market.
 pub fn call(strike: i64, weights: &[i16]) -> Form
     requires weights { (1 ≤ length weights.now) × (length weights.now ≤ 8) }
     requires strike { strike ≢ i64.MIN }
@@ -24,8 +25,9 @@ pub fn call(strike: i64, weights: &[i16]) -> Form
     }
 }
 
-/// The put with this strike, in whole prices, on a basket with these weights: it pays what the basket is worth below
-/// the strike. There are 1 to 8 weights, one for each underlying of the market.
+/// The put with this strike, in whole prices, on a basket with these weights: it pays what the
+/// basket is worth below the strike. There are 1 to 8 weights, one for each underlying of the
+/// market.
 pub fn put(strike: i64, weights: &[i16]) -> Form
     requires weights { (1 ≤ length weights.now) × (length weights.now ≤ 8) }
     ensures { option_of result ≡ put_of strike weights.now }

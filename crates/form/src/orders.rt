@@ -10,7 +10,8 @@ pub enum Side {
     Sell,
 }
 
-/// An order: at most `quantity` of the bundle at the limit `price`, in ticks for one bundle, or better.
+/// An order: at most `quantity` of the bundle at the limit `price`, in ticks for one bundle, or
+/// better.
 #[derive(Clone, Copy, Debug, PartialEq, Eq)]
 pub struct Order {
     pub id: u64,

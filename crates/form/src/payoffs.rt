@@ -15,8 +15,9 @@ use crate::legs::Leg;
 use crate::states::State;
 use exact_num::{Operator, Wide};
 
-/// What the option pays at the state `(t, s)`: t times its payoff at the prices `s / t`. `Wide` comes exactly where a
-/// product of two entries or their sum so far is above `2^127 - 1` in size. Takes no memory.
+/// What the option pays at the state `(t, s)`: t times its payoff at the prices `s / t`. `Wide`
+/// comes exactly where a product of two entries or their sum so far is above `2^127 - 1` in size.
+/// Takes no memory.
 pub fn payoff(form: &Form, state: &State) -> Result<i128, Wide>
     requires { form.now.count ≡ state.now.count }
     ensures payoff { meaning whole result
@@ -79,8 +80,9 @@ fn add_short_product(total: i128, a: i64, x: i32) -> i128
     total + i128::from(a) * i128::from(x)
 }
 
-/// What the bundle pays at the state: the sum of each leg's count times its payoff, which may be below 0. `Wide` comes
-/// exactly where a leg's payoff, its product with the count or the sum so far does not fit. Takes no memory.
+/// What the bundle pays at the state: the sum of each leg's count times its payoff, which may be
+/// below 0. `Wide` comes exactly where a leg's payoff, its product with the count or the sum so far
+/// does not fit. Takes no memory.
 pub fn bundle_payoff(bundle: &Bundle, state: &State) -> Result<i128, Wide>
     requires counts { IsOnCount state.now.count bundle.now }
     ensures payoff { meaning whole result
@@ -107,7 +109,8 @@ fn short_bundle_payoff(bundle: &Bundle, state: &State) -> Option<i128>
     Some(total)
 }
 
-/// The total and the count times the payoff of the leg, where each entry of the state is of 32 bits.
+/// The total and the count times the payoff of the leg, where each entry of the state is of 32
+/// bits.
 fn add_short_leg(total: i128, leg: &Leg, state: &State) -> Option<i128>
     requires count { leg.now.form.count ≡ state.now.count }
     requires total { unsigned_abs total ≤ 2 ^ 126 }
@@ -165,7 +168,8 @@ fn add_product(total: i128, a: i64, x: i128) -> Result<i128, Wide>
     whole_sum(total, product)
 }
 
-/// The product of two whole numbers, as exact numbers of 128 bits have it. Of two numbers of 64 bits each fits.
+/// The product of two whole numbers, as exact numbers of 128 bits have it. Of two numbers of 64
+/// bits each fits.
 fn whole_product(a: i64, b: i128) -> Result<i128, Wide>
     ensures product { meaning whole result ≡ mul_of limit (whole a) (whole b) }
     ensures fits { IfOk result (λ p. unsigned_abs p ≤ limit) }

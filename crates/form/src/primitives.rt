@@ -11,9 +11,10 @@ ghost use Rattle.form.specs.States.{vector_of};
 use crate::states::State;
 use exact_num::{Exact, Wide, gcd};
 
-/// The state of the same direction whose entries have no common divisor above 1, for 2 to 9 entries none of which is
-/// below 0 and not all of which are 0. `Wide` comes exactly where the least common multiple of the denominators, or an
-/// entry times it, does not fit the type of the entries. Takes no memory.
+/// The state of the same direction whose entries have no common divisor above 1, for 2 to 9 entries
+/// none of which is below 0 and not all of which are 0. `Wide` comes exactly where the least common
+/// multiple of the denominators, or an entry times it, does not fit the type of the entries. Takes
+/// no memory.
 pub fn primitive<N: Exact>(entries: &[N]) -> Result<State, Wide>
     requires { IsDirection (map N.fraction entries.now) }
     ensures steps { meaning vector_of result

@@ -7,8 +7,8 @@ ghost use Rattle.form.specs.Steps.{add_for_side};
 use crate::orders::Side;
 use exact_num::{Exact, Wide, less_product, plus_product};
 
-/// The total and the product of `a` and `b`, which a sell subtracts: nothing is computed where one of the two is 0, as most
-/// fills are and what many options pay. Takes no memory.
+/// The total and the product of `a` and `b`, which a sell subtracts: nothing is computed where one
+/// of the two is 0, as most fills are and what many options pay. Takes no memory.
 #[inline(always)]
 pub fn add_for_side<N: Exact>(total: N, side: Side, a: N, b: N) -> Result<N, Wide>
     ensures { let limit = unsigned_abs N.LIMIT in

@@ -4,8 +4,8 @@ ghost use Rattle.std.specs.Prelude.{ℕ, ◌<◌, ◌≡◌, ◌≤◌, ◌≤�
 ghost use Rattle.std.specs.Prelude.{length, map, pos, slice_index_or, sum, take};
 ghost use Rattle.form.specs.Vector.{positive_part};
 
-/// The settlement `(t, s)` at the prices `s / t`, or the ray `s` where t is 0. No entry is below 0, not all are 0, and
-/// entries from `count` on are 0.
+/// The settlement `(t, s)` at the prices `s / t`, or the ray `s` where t is 0. No entry is below 0,
+/// not all are 0, and entries from `count` on are 0.
 #[derive(Clone, Copy, Debug, PartialEq, Eq)]
 pub struct State {
     pub count: u8,

@@ -28,8 +28,8 @@ struct Factors {
     denominators: (u128, u128),
 }
 
-/// The parts of the two fractions, each numerator and the other's denominator without what they have in common, where
-/// all are of 64 bits.
+/// The parts of the two fractions, each numerator and the other's denominator without what they
+/// have in common, where all are of 64 bits.
 #[inline(always)]
 fn short_factors(x: Frac128, y: Frac128) -> Factors
     requires left { (unsigned_abs x.numerator < 2 ^ 64) × (x.denominator < 2 ^ 64) }
@@ -54,8 +54,8 @@ fn short_factors(x: Frac128, y: Frac128) -> Factors
     }
 }
 
-/// The parts of the two fractions, each numerator and the other's denominator without what they have in common: their
-/// products are those of a product in lowest terms.
+/// The parts of the two fractions, each numerator and the other's denominator without what they
+/// have in common: their products are those of a product in lowest terms.
 #[inline(always)]
 fn reduced_factors(x: Frac128, y: Frac128) -> Factors
     ensures above { result.numerators.0 *ℤ result.numerators.1

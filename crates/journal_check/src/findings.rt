@@ -95,8 +95,8 @@ fn cleared_finding(alloc: Global, batch: &Batch, outcome: &Outcome) -> Result<Fi
     Ok(judgement_finding(verdict(batch, outcome, &mut signs), &outcome.mark))
 }
 
-/// What a cleared batch that is marked bounded is found to be, by the judgement of its proposal and of the bound that is told. The
-/// only error is want of memory.
+/// What a cleared batch that is marked bounded is found to be, by the judgement of its proposal and
+/// of the bound that is told. The only error is want of memory.
 pub fn bounded_finding(
     alloc: Global,
     batch: &Batch,

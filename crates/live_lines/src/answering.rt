@@ -36,8 +36,8 @@ pub(crate) fn add_answer<A: LineAnswers>(
     replies.extend_from_slice(&reply)
 }
 
-// Takes bytes up to the first line feed, and adds the answer to the line that it ends. How many were taken; `None` where they tell
-// a line that is too long.
+// Takes bytes up to the first line feed, and adds the answer to the line that it ends. How many
+// were taken; `None` where they tell a line that is too long.
 pub(crate) fn take_line<A: LineAnswers>(
     alloc: Global,
     answers: &mut A,

@@ -22,7 +22,8 @@ pub struct Live<A> {
 }
 
 impl<A: LineAnswers> Live<A> {
-    /// Before the first byte of an input, whose mark at the start is skipped or is a part of the first line. Takes no memory.
+    /// Before the first byte of an input, whose mark at the start is skipped or is a part of the
+    /// first line. Takes no memory.
     pub fn new(alloc: Global, answers: A, skips_mark: bool) -> Self
         ensures answers { result.answers ≡ answers }
         ensures line { result.line ≡ new_open skips_mark }
@@ -34,9 +35,11 @@ impl<A: LineAnswers> Live<A> {
         }
     }
 
-    /// Answers each line that the piece completes, and keeps what is behind them. At `Ok` all is written.
+    /// Answers each line that the piece completes, and keeps what is behind them. At `Ok` all is
+    /// written.
     ///
-    /// The replies are written together where they do not fill a buffer, and else at each time that they do.
+    /// The replies are written together where they do not fill a buffer, and else at each time that
+    /// they do.
     pub fn take<K: Sink>(
         &mut self,
         alloc: Global,

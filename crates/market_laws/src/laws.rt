@@ -131,7 +131,8 @@ pub fn fills_cover_along_lines()
     ensures { FillsCoverAlongLines }
 {}
 
-/// So the greatest surplus at any limit is on the line through an optimum, whose slope is the order's fill, or above it.
+/// So the greatest surplus at any limit is on the line through an optimum, whose slope is the
+/// order's fill, or above it.
 pub fn greatest_is_above_lines()
     ensures { GreatestIsAboveLines }
 {}

@@ -1,6 +1,8 @@
-//! The batch as the solver sees it: orders and legs one behind another, in floats about 1 and in whole numbers.
+//! The batch as the solver sees it: orders and legs one behind another, in floats about 1 and in
+//! whole numbers.
 //!
-//! Money is divided by 2^money, prices of underlyings by 2^(money - weight), weights by 2^weight, fills by 2^fill.
+//! Money is divided by 2^money, prices of underlyings by 2^(money - weight), weights by 2^weight,
+//! fills by 2^fill.
 
 use crate::numbers::{bits_of, float_of};
 use crate::rows::{power, set_entry};
@@ -8,7 +10,8 @@ use form::{Batch, Leg, Order, Side};
 use std::alloc::{AllocError, Global};
 use std::num::nearest_i64_to_f64;
 
-/// The powers of two by which the solver's floats are divided, and the bits after the point of a state's prices.
+/// The powers of two by which the solver's floats are divided, and the bits after the point of a
+/// state's prices.
 #[derive(Clone, Copy)]
 pub struct Scales {
     pub money: u32,
@@ -31,8 +34,8 @@ pub struct NearOrder {
     pub unit: f64,
 }
 
-/// A leg: the place of its order, whether the market owes what it pays, the size of its count, and its option; count and
-/// option once more in floats, the option's scaled.
+/// A leg: the place of its order, whether the market owes what it pays, the size of its count, and
+/// its option; count and option once more in floats, the option's scaled.
 #[derive(Clone, Copy)]
 pub struct NearLeg {
     pub order: usize,

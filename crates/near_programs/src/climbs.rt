@@ -191,7 +191,8 @@ impl Violated {
         Ok(())
     }
 
-    /// Climbs from the tight states of the master program and from random prices. The error is want of memory.
+    /// Climbs from the tight states of the master program and from random prices. The error is want
+    /// of memory.
     pub fn climb_all(
         &mut self,
         alloc: Global,
@@ -217,8 +218,8 @@ impl Violated {
         Some(greatest.state)
     }
 
-    /// Adds the states of greatest excess to the master program, at most so many. Answers how many were new.
-    /// The error is want of memory.
+    /// Adds the states of greatest excess to the master program, at most so many. Answers how many
+    /// were new. The error is want of memory.
     pub fn add_greatest(
         &mut self,
         book: &Book,

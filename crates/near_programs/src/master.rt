@@ -35,8 +35,8 @@ struct KnownState {
     has_row: bool,
 }
 
-/// The master program over the states found so far, in the order in which they were found, and its fills, one for each
-/// order, and its liability, in scaled floats.
+/// The master program over the states found so far, in the order in which they were found, and its
+/// fills, one for each order, and its liability, in scaled floats.
 #[derive(Drop)]
 pub struct Master {
     alloc: Global,
@@ -213,8 +213,8 @@ impl Master {
         Ok(())
     }
 
-    /// The program over the same states with rays as they are, solved: its prices bound more closely,
-    /// but its fills leave no room to be rounded. The error is want of memory.
+    /// The program over the same states with rays as they are, solved: its prices bound more
+    /// closely, but its fills leave no room to be rounded. The error is want of memory.
     pub fn for_prices(&self, book: &Book) -> Result<Master, AllocError> {
         let states = self.live_states()?;
         let mut master = Master::new(self.alloc, book)?;
@@ -295,7 +295,8 @@ impl Master {
         Ok(())
     }
 
-    /// Solves the program by at most 20,000 turns, and reads fills and liability off. The error is want of memory.
+    /// Solves the program by at most 20,000 turns, and reads fills and liability off. The error is
+    /// want of memory.
     pub fn solve(&mut self, book: &Book) -> Result<(), AllocError> {
         self.solve_once(book)?;
         if self.drift(book) > SMALL * 256.0 {

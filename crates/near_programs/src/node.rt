@@ -13,13 +13,14 @@ pub(crate) const NODE_TURNS: Turns = Turns {
     pivot: 5.960464477539063e-8,
     cap: 400,
 };
-// The most that a multiplier of a long leg may be, in scaled fills: signs that no state has are told apart by much of both.
+// The most that a multiplier of a long leg may be, in scaled fills: signs that no state has are
+// told apart by much of both.
 const TOP: f64 = 1024.0;
 /// What is owed along a ray and counts for nothing: 2^-31.
 pub const RAY_TOLERANCE: f64 = 4.656612873077393e-10;
 
-/// What a leaf is solved for: the fills, a sign for each leg, whether the signs hold (else they only choose what a long
-/// leg pays), and how far below 0 each slope is to be.
+/// What a leaf is solved for: the fills, a sign for each leg, whether the signs hold (else they
+/// only choose what a long leg pays), and how far below 0 each slope is to be.
 #[derive(Clone, Copy)]
 pub struct Question<'a> {
     pub fills: &'a [f64],
@@ -35,7 +36,8 @@ pub struct LegMultiplier {
     pub value: f64,
 }
 
-/// The answer: the liability wanted at a point, or a ray with what is owed along it; with the legs' multipliers.
+/// The answer: the liability wanted at a point, or a ray with what is owed along it; with the legs'
+/// multipliers.
 #[derive(Drop)]
 pub struct Found {
     pub value: f64,
@@ -332,7 +334,8 @@ fn found_in(table: &mut Table, columns: &[Column]) -> Result<Found, AllocError> 
     })
 }
 
-/// Solves the program of a node by at most 400 turns in each of its two phases. The error is want of memory.
+/// Solves the program of a node by at most 400 turns in each of its two phases. The error is want
+/// of memory.
 pub fn solve_node(alloc: Global, book: &Book, question: Question) -> Result<Found, AllocError> {
     let columns = columns_of(alloc, book, question)?;
     let mut table = table_of(alloc, book, &columns, question)?;
@@ -352,8 +355,8 @@ fn closing_multipliers(
     Ok(Some(read_multipliers(table, columns)?))
 }
 
-/// The multipliers of least cost that close a node at this liability, each at its leg's cost for each 1 of it; None where none
-/// do. Two phases of at most 400 turns. The error is want of memory.
+/// The multipliers of least cost that close a node at this liability, each at its leg's cost for
+/// each 1 of it; None where none do. Two phases of at most 400 turns. The error is want of memory.
 pub fn solve_closing(
     alloc: Global,
     book: &Book,

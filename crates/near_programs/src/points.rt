@@ -70,8 +70,8 @@ fn nearest_quotient(above: i128, below: i128) -> i128 {
     twice.div_euclid(below.saturating_mul(2).max(1))
 }
 
-/// The state near the price of one underlying at which an option begins or ends to pay, the others at 0; None where there
-/// is no such price.
+/// The state near the price of one underlying at which an option begins or ends to pay, the others
+/// at 0; None where there is no such price.
 pub fn bend(leg: &NearLeg, underlying: usize, scales: Scales) -> Option<NearState> {
     let strike = i128::from(leg.entries[0]);
     let weight = i128::from(*leg.entries.get(underlying)?);

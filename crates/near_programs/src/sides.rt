@@ -9,15 +9,16 @@ use std::alloc::{AllocError, Global};
 // The row of a node's program that asks for the least first entry.
 const LEAST_ENTRY: usize = 1;
 
-/// The program of a node as it was solved, and the column of the common slack, which nothing needs any more.
+/// The program of a node as it was solved, and the column of the common slack, which nothing needs
+/// any more.
 #[derive(Drop)]
 pub struct SolvedNode {
     table: Table,
     spare: usize,
 }
 
-/// Solves the program of a node, so that those of its sides begin from it. None where it has no multipliers, or a ray. The
-/// error is want of memory.
+/// Solves the program of a node, so that those of its sides begin from it. None where it has no
+/// multipliers, or a ray. The error is want of memory.
 pub fn solve_for_sides(
     alloc: Global,
     book: &Book,
@@ -40,7 +41,8 @@ fn solved(mut table: Table, slack: usize) -> Result<Option<SolvedNode>, AllocErr
     }
 }
 
-// What the sums of entries lose by the sign of a long leg that had none, behind a place for the common slack's objective.
+// What the sums of entries lose by the sign of a long leg that had none, behind a place for the
+// common slack's objective.
 fn freed(form: &[f64; 9], fill: f64, factor: f64) -> [f64; 10] {
     let mut less = [0.0; 10];
     for (place, number) in form.iter().enumerate() {
@@ -63,7 +65,8 @@ fn signed(form: &[f64; 9], factor: f64) -> [f64; 10] {
 }
 
 impl SolvedNode {
-    /// The liability wanted with one more sign, 1 or -1, at a long leg that has none and this fill. The error is want of memory.
+    /// The liability wanted with one more sign, 1 or -1, at a long leg that has none and this fill.
+    /// The error is want of memory.
     pub fn value_with(&self, leg: &NearLeg, fill: f64, sign: i8) -> Result<f64, AllocError> {
         let factor = if sign == 1 { 1.0 } else { -1.0 };
         let mut table = self.table.clone()?;

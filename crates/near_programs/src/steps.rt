@@ -30,7 +30,8 @@ struct Misfit {
 }
 
 impl Table {
-    // The column whose entry of the objective is furthest below 0, or the first such one, apart from a variable shut out.
+    // The column whose entry of the objective is furthest below 0, or the first such one, apart
+    // from a variable shut out.
     fn entering(&self, objective: usize, shut: usize, small: f64, first: bool) -> Option<usize> {
         let row = self.rows().get(objective)?;
         let mut best = -small;
@@ -97,8 +98,9 @@ impl Table {
         self.pivot(row, column)
     }
 
-    /// Raises an objective, until it is greatest or has no greatest value, or all turns are taken; the variable `shut` does
-    /// not enter. No right side is below 0 at the start. From half the turns on the first column that raises enters.
+    /// Raises an objective, until it is greatest or has no greatest value, or all turns are taken;
+    /// the variable `shut` does not enter. No right side is below 0 at the start. From half the
+    /// turns on the first column that raises enters.
     pub fn primal(
         &mut self,
         objective: usize,
@@ -155,8 +157,8 @@ impl Table {
         Ok(true)
     }
 
-    /// From a table in which this objective has no entry below 0: makes the right sides fit their bounds, until they do,
-    /// cannot, or all turns are taken.
+    /// From a table in which this objective has no entry below 0: makes the right sides fit their
+    /// bounds, until they do, cannot, or all turns are taken.
     pub fn dual(&mut self, objective: usize, turns: Turns) -> Result<(), AllocError> {
         for _ in 0..turns.cap {
             if !self.dual_turn(objective, turns)? {

@@ -8,9 +8,9 @@ use std::alloc::{AllocError, Global};
 /// The bound of a variable that has none.
 pub const UNBOUNDED: f64 = 1e300;
 
-/// A condensed table with bounded variables. Each row says: basic = right side - sum of entry times other variable. A
-/// variable that is not basic is 0, or complemented where it stands at its upper bound. The first rows are objectives to
-/// be raised, which are basic as no variable.
+/// A condensed table with bounded variables. Each row says: basic = right side - sum of entry times
+/// other variable. A variable that is not basic is 0, or complemented where it stands at its upper
+/// bound. The first rows are objectives to be raised, which are basic as no variable.
 #[derive(Clone, Drop)]
 pub struct Table {
     alloc: Global,
@@ -25,8 +25,8 @@ pub struct Table {
 }
 
 impl Table {
-    /// A table of `width` variables without bounds, none of them basic, and so many objectives that are 0. The error is want of
-    /// memory, as of each call that adds a row or turns.
+    /// A table of `width` variables without bounds, none of them basic, and so many objectives that
+    /// are 0. The error is want of memory, as of each call that adds a row or turns.
     pub fn new(alloc: Global, width: usize, objectives: usize) -> Result<Table, AllocError> {
         Ok(Table {
             alloc,
@@ -107,7 +107,8 @@ impl Table {
         }
     }
 
-    /// Puts a row behind the others, whose slack is a new variable without a bound. Answers that variable.
+    /// Puts a row behind the others, whose slack is a new variable without a bound. Answers that
+    /// variable.
     pub fn add_row(&mut self, row: Vec<f64>) -> Result<usize, AllocError> {
         let slack = self.upper.len();
         self.upper.push(UNBOUNDED)?;
@@ -155,8 +156,8 @@ impl Table {
         }
     }
 
-    /// Adds the row that says: the sum of coefficient times variable is at most 0. The coefficients are those of the
-    /// first variables. Answers the variable of the slack.
+    /// Adds the row that says: the sum of coefficient times variable is at most 0. The coefficients
+    /// are those of the first variables. Answers the variable of the slack.
     pub fn add_sum(&mut self, coefficients: &[f64]) -> Result<usize, AllocError> {
         let mut row = zero_row(self.alloc, self.width)?;
         set_entry(&mut row, self.width, -self.flipped_sum(coefficients));
@@ -260,8 +261,9 @@ impl Table {
         }
     }
 
-    /// Adds to a column, of which the one behind the last is the right side, what one with these coefficients has become by
-    /// the pivots: a coefficient for each row, in the order in which they were added, and none was taken out.
+    /// Adds to a column, of which the one behind the last is the right side, what one with these
+    /// coefficients has become by the pivots: a coefficient for each row, in the order in which
+    /// they were added, and none was taken out.
     pub fn add_column(&mut self, column: usize, coefficients: &[f64]) {
         for (row, coefficient) in coefficients.iter().enumerate() {
             match row.checked_sub(self.objectives) {

@@ -42,7 +42,8 @@ pub enum TreeNode {
     },
 }
 
-/// A leaf: its node, its signs, and the multipliers that closed it last; of short legs as shares of their fills.
+/// A leaf: its node, its signs, and the multipliers that closed it last; of short legs as shares of
+/// their fills.
 #[derive(Drop)]
 pub struct Leaf {
     node: usize,
@@ -51,7 +52,8 @@ pub struct Leaf {
     is_split: bool,
 }
 
-/// A tree of signs: its nodes, of which the first is the root, and its leaves, those that were split among them.
+/// A tree of signs: its nodes, of which the first is the root, and its leaves, those that were
+/// split among them.
 #[derive(Drop)]
 pub struct Tree {
     alloc: Global,
@@ -159,7 +161,8 @@ impl Leaf {
         Ok(())
     }
 
-    // Solves the leaf, where its last multipliers do not close it. Answers how it is open, where it is.
+    // Solves the leaf, where its last multipliers do not close it. Answers how it is open, where it
+    // is.
     fn look(&mut self, aim: Aim, place: usize) -> Result<Option<Open>, AllocError> {
         if self.is_split || self.is_still_closed(aim) {
             return Ok(None);
@@ -282,7 +285,8 @@ fn place_of_most(numbers: &[f64]) -> Option<usize> {
     place
 }
 
-// A leaf that is to be split: its signs, its excess, and its program as it was solved, which a ray has not.
+// A leaf that is to be split: its signs, its excess, and its program as it was solved, which a ray
+// has not.
 #[derive(Clone, Copy)]
 struct Splitting<'a> {
     signs: &'a [i8],
@@ -371,7 +375,8 @@ fn with_sign(alloc: Global, signs: &[i8], leg: usize, sign: i8) -> Result<Vec<i8
     Ok(more)
 }
 
-// The state of an open leaf, where more is owed there than is forgiven and the master program does not know it.
+// The state of an open leaf, where more is owed there than is forgiven and the master program does
+// not know it.
 fn violated(aim: Aim, open: &Open) -> Option<NearState> {
     let net = net_at(
         aim.book,
@@ -393,8 +398,8 @@ fn violated(aim: Aim, open: &Open) -> Option<NearState> {
 }
 
 impl Tree {
-    /// A tree of one leaf without signs, which is grown with care from its first split on, or from when it is large. The error
-    /// is want of memory.
+    /// A tree of one leaf without signs, which is grown with care from its first split on, or from
+    /// when it is large. The error is want of memory.
     pub fn new(alloc: Global, book: &Book, is_careful: bool) -> Result<Tree, AllocError> {
         let mut tree = Tree {
             alloc,
@@ -543,8 +548,8 @@ impl Tree {
         Ok(true)
     }
 
-    /// Grows the tree until each leaf is closed for the master program's fills, the tree is full, or there are states at
-    /// which more is owed. Answers these. The error is want of memory.
+    /// Grows the tree until each leaf is closed for the master program's fills, the tree is full,
+    /// or there are states at which more is owed. Answers these. The error is want of memory.
     pub fn grow(
         &mut self,
         book: &Book,

@@ -71,7 +71,8 @@ impl Book {
 
     /// Lists a market on 1 to 8 underlyings, without live orders. It goes last.
     ///
-    /// `MarketExists` where a market has this number, and else `TooMany` where there are 64 markets.
+    /// `MarketExists` where a market has this number, and else `TooMany` where there are 64
+    /// markets.
     pub fn market(&mut self, market: u32, underlyings: u8) -> Result<(), BookRefusal>
         requires some { 1 ≤ underlyings }
         requires few { underlyings ≤ MAX_UNDERLYINGS }
@@ -84,7 +85,8 @@ impl Book {
         Ok(())
     }
 
-    /// What there is to tell of a market: its underlyings, whether it is settled, how many live orders it has.
+    /// What there is to tell of a market: its underlyings, whether it is settled, how many live
+    /// orders it has.
     ///
     /// `None` where no market has this number.
     pub fn info(&self, market: u32) -> Option<MarketInfo>
@@ -99,8 +101,9 @@ impl Book {
 
     /// Looks whether an order's market is there, not settled and for the order's bundle.
     ///
-    /// The first of these: `NoMarket` where no market has the number; `Settled` where it is settled; `WeightCount` where
-    /// a leg of the bundle has another number of underlyings than the market.
+    /// The first of these: `NoMarket` where no market has the number; `Settled` where it is
+    /// settled; `WeightCount` where a leg of the bundle has another number of underlyings than the
+    /// market.
     pub fn check_order(&self, order: &NewOrder) -> Result<(), BookRefusal>
         ensures refused { TellsFirst unless_memory result (order_refusals self.now order.now) }
         ensures no_memory { result ≢ Err BookRefusal.Memory }
@@ -140,11 +143,12 @@ impl Book {
         self.check_room(order.market)
     }
 
-    /// Accepts an order whose options, price and quantity are within the limits, and answers its number, which is one
-    /// more than the orders accepted before. It goes last among the live orders of its market.
+    /// Accepts an order whose options, price and quantity are within the limits, and answers its
+    /// number, which is one more than the orders accepted before. It goes last among the live
+    /// orders of its market.
     ///
-    /// As `check_order` refuses, and then the first of these: `BookFull` where the market has 256 live orders; `TooMany`
-    /// where 1,000,000 orders were accepted.
+    /// As `check_order` refuses, and then the first of these: `BookFull` where the market has 256
+    /// live orders; `TooMany` where 1,000,000 orders were accepted.
     pub fn place(&mut self, order: &NewOrder) -> Result<u64, BookRefusal>
         requires { IsNewOrderWithin order.now }
         ensures refused { TellsFirst unless_memory result (place_refusals self.old order.now) }
@@ -162,7 +166,8 @@ impl Book {
 
     /// Takes a live order out, and answers it. The others keep their places.
     ///
-    /// `NoOrder` where no live order has the number, and else `NotOwner` where it is another account's.
+    /// `NoOrder` where no live order has the number, and else `NotOwner` where it is another
+    /// account's.
     pub fn cancel(&mut self, account: u32, order: u64) -> Result<Order, BookRefusal>
         ensures refused { TellsFirst unless_memory result (cancel_refusals self.old account order) }
         ensures no_memory { result ≢ Err BookRefusal.Memory }
@@ -219,8 +224,8 @@ impl Book {
 
     /// The live orders of a market, in rising number: the next batch.
     ///
-    /// The first of these: `NoMarket` where no market has the number; `Settled` where it is settled; `TooMany` where
-    /// 2,000,000 batches were finished.
+    /// The first of these: `NoMarket` where no market has the number; `Settled` where it is
+    /// settled; `TooMany` where 2,000,000 batches were finished.
     pub fn batch(&self, market: u32) -> Result<Batch, BookRefusal>
         ensures refused { TellsFirst unless_memory result (batch_refusals self.now market) }
         ensures batch { IfOk result (λ batch.
@@ -239,8 +244,9 @@ impl Book {
         Ok(found.batch(self.alloc)?)
     }
 
-    /// Finishes a batch of a market that is there and not settled, while fewer than 2,000,000 batches were finished: the
-    /// market has no live orders left. Answers the number of the batch, counted from 1 over all markets.
+    /// Finishes a batch of a market that is there and not settled, while fewer than 2,000,000
+    /// batches were finished: the market has no live orders left. Answers the number of the batch,
+    /// counted from 1 over all markets.
     pub fn finish_batch(&mut self, market: u32) -> u32
         requires open { is_trading self.old market ≡ true }
         requires few { self.old.finished < MAX_BATCHES }
@@ -254,8 +260,8 @@ impl Book {
 
     /// Looks whether a market may be settled at this number of prices.
     ///
-    /// The first of these: `NoMarket` where no market has the number; `Settled` where it is settled; `WeightCount` where
-    /// it has another number of underlyings. Takes no memory.
+    /// The first of these: `NoMarket` where no market has the number; `Settled` where it is
+    /// settled; `WeightCount` where it has another number of underlyings. Takes no memory.
     pub fn check_close(&self, market: u32, prices: u8) -> Result<(), BookRefusal>
         ensures refused { TellsFirst unless_memory result (close_refusals self.now market prices) }
         ensures no_memory { result ≢ Err BookRefusal.Memory }
@@ -270,8 +276,8 @@ impl Book {
         Ok(())
     }
 
-    /// Settles a market that is there and not settled, for good: its live orders lapse. Answers how many they were.
-    /// Takes no memory.
+    /// Settles a market that is there and not settled, for good: its live orders lapse. Answers how
+    /// many they were. Takes no memory.
     pub fn close(&mut self, market: u32) -> u32
         requires { is_trading self.old market ≡ true }
         ensures lapsed { result ≡ length (live_of self.old market) }
@@ -291,7 +297,8 @@ impl Book {
     }
 }
 
-// Notes the market in which the order after so many is placed; one noted before, whose order found no memory, is forgotten.
+// Notes the market in which the order after so many is placed; one noted before, whose order found
+// no memory, is forgotten.
 fn note(placed: &mut Vec<u32>, accepted: u64, market: u32) -> Result<(), AllocError> {
     placed.truncate(accepted as usize);
     placed.push(market)?;

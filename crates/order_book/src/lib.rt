@@ -1,4 +1,5 @@
-//! The order book: markets, their live orders in rising number, and how many orders and batches there were.
+//! The order book: markets, their live orders in rising number, and how many orders and batches
+//! there were.
 //!
 //! A call takes memory only where it may answer `Memory`.
 #![tactic(auto)]

@@ -1,5 +1,5 @@
-// The live orders of one market in rising number, found by their numbers. Each is in a box: an order takes some four hundred
-// bytes, and those behind one that is taken out move by a place.
+// The live orders of one market in rising number, found by their numbers. Each is in a box: an
+// order takes some four hundred bytes, and those behind one that is taken out move by a place.
 ghost use Rattle.std.specs.Prelude.{◌≡◌, ◌++◌, [], ◌∷◌, length, slice_get, None, is_some, IfOk, OnOk, OnErr};
 ghost use Rattle.std.specs.List.{find};
 ghost use Rattle.order_book.specs.Markets.{has_number, without};

@@ -10,7 +10,8 @@ use form::{Batch, Order, Orders};
 use std::alloc::{AllocError, Global};
 use std::marker::Model;
 
-/// What is told of a market: how many underlyings it has, whether it is settled, and how many live orders it has.
+/// What is told of a market: how many underlyings it has, whether it is settled, and how many live
+/// orders it has.
 #[derive(Clone, Copy, Debug, PartialEq, Eq)]
 pub struct MarketInfo {
     pub underlyings: u8,

@@ -85,8 +85,8 @@ impl Markets {
         }
     }
 
-    // The number of the market with a live order of the number, of which there are no two. It is looked for first in the
-    // market in which it was placed, if that is told.
+    // The number of the market with a live order of the number, of which there are no two. It is
+    // looked for first in the market in which it was placed, if that is told.
     #[tactic(auto, using(crate::proofs::Placed::held))]
     pub(crate) fn holder(&self, placed: Option<u32>, number: u64) -> Option<u32>
         requires { number_count number (live_orders self.now) ≤ 1 }

@@ -1,7 +1,7 @@
 use form::{Bundle, Side};
 
-/// An order as a trader hands it in: at most `quantity` of the bundle at the limit `price`, in ticks for one bundle,
-/// or better.
+/// An order as a trader hands it in: at most `quantity` of the bundle at the limit `price`, in
+/// ticks for one bundle, or better.
 #[derive(Clone, Copy, Debug, PartialEq, Eq)]
 pub struct NewOrder {
     pub account: u32,

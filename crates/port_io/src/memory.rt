@@ -120,7 +120,8 @@ impl Source for MemSource {
     }
 }
 
-/// Keeps what is written, in the room that it was made with. The calls whose numbers stand in a list fail.
+/// Keeps what is written, in the room that it was made with. The calls whose numbers stand in a
+/// list fail.
 #[derive(Drop)]
 pub struct MemSink {
     bytes: Vec<u8>,

@@ -65,8 +65,9 @@ impl From<AllocError> for ReadStop {
 
 /// Reads all bytes that are left, of which there may be `limit`.
 ///
-/// `TooLong` comes only where more bytes than `limit` were left and no fault came before these were read, and `ReadFault`
-/// only where the count of faults rose, before more bytes than `limit` were taken. Either may have taken bytes of the source.
+/// `TooLong` comes only where more bytes than `limit` were left and no fault came before these were
+/// read, and `ReadFault` only where the count of faults rose, before more bytes than `limit` were
+/// taken. Either may have taken bytes of the source.
 pub fn read_all<S: Source>(alloc: Global, source: &mut S, limit: usize) -> Result<Vec<u8>, ReadStop>
     requires { limit ≤ 268435456 }
     ensures all { IfOk result (λ bytes. IfSome (S.left source.old) (λ left.

@@ -59,7 +59,8 @@ fn add_order(line: &mut Vec<u8>, order: &Order, single: bool) -> Result<(), Allo
     append(line, "}")
 }
 
-/// Adds a list of orders, each with a form where `single`, and else with legs. The only error is want of memory.
+/// Adds a list of orders, each with a form where `single`, and else with legs. The only error is
+/// want of memory.
 pub fn add_orders(line: &mut Vec<u8>, orders: &[Order], single: bool) -> Result<(), AllocError>
     ensures { OnOk result (line.new.items
         ≡ line.old.items ++ piece_text (each (order_piece single) orders.now)) }

@@ -1,4 +1,5 @@
-//! Pieces that are added to a line, one behind another. The only error of each call is want of memory.
+//! Pieces that are added to a line, one behind another. The only error of each call is want of
+//! memory.
 ghost use Rattle.std.specs.Prelude.{true, ◌≡◌, ◌++◌, ◌∷◌, [], ℤ, OnOk};
 ghost use Rattle.exact_num.specs.Fraction.{over};
 ghost use Rattle.reply_print.specs.BatchPieces.{each, fraction, natural, pieces_of, whole_words};

@@ -34,15 +34,17 @@ pub enum Reply {
     Cancelled {
         order: u64,
     },
-    /// The batch of this number was cleared: what was filled of its orders, and what is left to the house at every
-    /// settlement, with the proof that it is the greatest, or with what the run stopped at.
+    /// The batch of this number was cleared: what was filled of its orders, and what is left to the
+    /// house at every settlement, with the proof that it is the greatest, or with what the run
+    /// stopped at.
     Cleared {
         number: u32,
         market: u32,
         batch: Batch,
         outcome: Outcome,
     },
-    /// The market is settled: how many live orders lapsed, and what its positions were paid, in their order.
+    /// The market is settled: how many live orders lapsed, and what its positions were paid, in
+    /// their order.
     Settled {
         market: u32,
         lapsed: u32,

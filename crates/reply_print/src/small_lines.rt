@@ -1,5 +1,5 @@
-//! The lines of replies without lists, each put together from its pieces: a value of the JSON library for each would cost a
-//! stream of commands more than reading and carrying them out.
+//! The lines of replies without lists, each put together from its pieces: a value of the JSON
+//! library for each would cost a stream of commands more than reading and carrying them out.
 ghost use Rattle.std.specs.Prelude.{◌≡◌, ◌==◌, false, true, IfOk};
 ghost use Rattle.std.specs.List.{flat_map};
 ghost use Rattle.reply_print.specs.Piece.{piece_text};

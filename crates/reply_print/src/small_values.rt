@@ -21,7 +21,8 @@ fn whole_text(alloc: Global, z: i128) -> Result<String, AllocError>
     format!(in alloc; "{z}")
 }
 
-/// The text of a fraction: a whole number, or a numerator over a denominator. The only error is want of memory.
+/// The text of a fraction: a whole number, or a numerator over a denominator. The only error is
+/// want of memory.
 pub fn fraction_string(alloc: Global, value: Frac128) -> Result<String, AllocError>
     ensures { IfOk result (λ text. string_bytes text ≡ fraction_text (fraction_of value)) }
 {

@@ -8,9 +8,10 @@ pub fn outputs_are_answers<A: LineSteps>()
     ensures { OutputsAreAnswers A.step }
 {}
 
-/// Where each answer to a body is the text of lines, what is written tells each message once: those that are answered First have,
-/// session by session, the numbers 1, 2, 3 and so on, their replies are the output of their bodies as one input, and a message that
-/// is answered Repeat was answered First before, with the same reply.
+/// Where each answer to a body is the text of lines, what is written tells each message once: those
+/// that are answered First have, session by session, the numbers 1, 2, 3 and so on, their replies
+/// are the output of their bodies as one input, and a message that is answered Repeat was answered
+/// First before, with the same reply.
 pub fn outputs_tell_once<A: LineSteps>()
     ensures { OutputsTellOnce A.step }
 {}

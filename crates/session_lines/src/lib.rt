@@ -1,4 +1,5 @@
-//! Messages of many sessions to one way of answering lines: each line of an input is a message or none, and has one answer.
+//! Messages of many sessions to one way of answering lines: each line of an input is a message or
+//! none, and has one answer.
 #![tactic(auto)]
 
 pub mod laws;

@@ -39,7 +39,8 @@ fn number_to(limit: u32, field: &[u8]) -> Option<u32>
     }
 }
 
-/// What a line says as a message: SESSION,NUMBER,BODY, split at its first two commas. `None` where it is none.
+/// What a line says as a message: SESSION,NUMBER,BODY, split at its first two commas. `None` where
+/// it is none.
 pub fn message(line: &[u8]) -> Option<Sent<'_>>
     ensures says { option_map (λ m. message_of m.session m.number m.body.now) result
         ≡ message_in line.now }

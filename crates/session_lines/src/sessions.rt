@@ -17,7 +17,8 @@ use session_gate::{Answer, Gate};
 use std::alloc::{AllocError, Global};
 use std::marker::Model;
 
-/// The known sessions, and what answers the bodies of their messages, each as the next line of one input.
+/// The known sessions, and what answers the bodies of their messages, each as the next line of one
+/// input.
 #[derive(Drop)]
 pub struct SessionLines<A: LineSteps> {
     gate: Gate,

@@ -20,14 +20,15 @@ pub fn units_are_counted()
     ensures { UnitsAreCounted }
 {}
 
-/// Each table of a run, read as a tableau over the rationals, is feasible, and has the solutions of the first one and on these
-/// its objective.
+/// Each table of a run, read as a tableau over the rationals, is feasible, and has the solutions of
+/// the first one and on these its objective.
 pub fn tables_are_feasible()
     ensures { TablesAreFeasible }
 {}
 
-/// And each turn is a turn of the simplex method by Bland's rule: the first column whose objective entry is below 0 enters, and
-/// of the rows of the least ratio that of the smallest basic variable leaves. (Chvatal, Linear Programming, chapters 2 and 3.)
+/// And each turn is a turn of the simplex method by Bland's rule: the first column whose objective
+/// entry is below 0 enters, and of the rows of the least ratio that of the smallest basic variable
+/// leaves. (Chvatal, Linear Programming, chapters 2 and 3.)
 pub fn turns_are_by_blands_rule()
     ensures { TurnsAreByBlandsRule }
 {}
