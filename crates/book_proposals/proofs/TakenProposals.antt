@@ -1,4 +1,5 @@
--- A proposal that is judged a bound for the live orders is taken: its bound is a number of the code.
+-- A proposal that is judged a bound for the live orders is taken: its bound is a number of the
+-- code.
 use Rattle.std.proofs.Common.{◌≡◌, ℕ, List, [], ◌∷◌, Bool, true, false, Option, Some, None, Result, Ok, Err, pos, if◌then◌else◌, refl, ap, sym, subst, arith}
 use Rattle.std.specs.Prelude.{IsOk}
 use Rattle.std.specs.Option.{option_map_or}

@@ -1,4 +1,5 @@
--- What is proposed for a line: for the print of a book reply a proposal that is judged a bound for its orders, and nothing for any other.
+-- What is proposed for a line: for the print of a book reply a proposal that is judged a bound for
+-- its orders, and nothing for any other.
 use Rattle.std.specs.Prelude.{ℕ, ◌≡◌, ◌+◌, ◌≤◌, ◌⊎◌, List, [], ◌∷◌, ◌++◌, length, map, codes, decimal}
 use Rattle.form.specs.declared.orders.Batch.{Batch}
 use Rattle.form.specs.declared.orders.Order.{Order}
@@ -12,10 +13,12 @@ use Rattle.proposal_text.specs.Pieces.{submission_text}
 use Rattle.proposal_text.specs.ReplyValues.{IsProposalLineOf}
 use Rattle.proposal_text.specs.Within.{IsSubmissionWithin}
 
--- The line is the print of a reply that tells the live orders of a market, and they are such: at most 256, for options on its underlyings,
--- by rising number. A line that tells other orders is no reply to `book`: for options on other underlyings no proposal is judged a bound, and
--- orders whose numbers do not rise are never the live ones, so that what is proposed for them would always be stale. Nothing is written for
--- it. That there are no orders is told too, and something is proposed for them.
+-- The line is the print of a reply that tells the live orders of a market, and they are such: at
+-- most 256, for options on its underlyings, by rising number. A line that tells other orders is no
+-- reply to `book`: for options on other underlyings no proposal is judged a bound, and orders whose
+-- numbers do not rise are never the live ones, so that what is proposed for them would always be
+-- stale. Nothing is written for it. That there are no orders is told too, and something is proposed
+-- for them.
 pub record IsBookOf (line : List ℕ) (market : ℕ) (batch : Batch) : Type 0 where
   pub number : ℕ
   pub told : IsProposalLineOf line number (Book market batch)
@@ -29,8 +32,8 @@ submission_for batch proposal = record { orders = map (λ (order : Order). order
 abbrev pub proposing_text : ℕ → Submission → List ℕ
 proposing_text market submission = codes "propose," ++ (decimal market ++ (codes "," ++ submission_text submission))
 
--- the text is such a line, with its line feed, of a proposal that is judged a bound for the orders and within its ranges; the line is as short
--- as an exchange takes it
+-- the text is such a line, with its line feed, of a proposal that is judged a bound for the orders
+-- and within its ranges; the line is as short as an exchange takes it
 pub record IsProposed (market : ℕ) (batch : Batch) (text : List ℕ) : Type 0 where
   pub proposal : Proposal
   pub judged : IsJudgedBound batch proposal

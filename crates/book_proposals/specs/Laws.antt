@@ -29,14 +29,16 @@ ProposingIsRead =
 abbrev pub IsShortLine : List ℕ → Type 0
 IsShortLine line = IsOneLine line × (length line ≤ line_limit)
 
--- what is written for a book is one such line that is read as a proposal for the book's market and orders, and it is judged a bound for them
+-- what is written for a book is one such line that is read as a proposal for the book's market and
+-- orders, and it is judged a bound for them
 abbrev pub ProposalsAreSubmissions : Type 0
 ProposalsAreSubmissions =
     (told text : List ℕ) (market : ℕ) (batch : Batch) → IsBookOf told market batch → IsProposed market batch text
     → (line : List ℕ) × (proposal : Proposal) × (text ≡ line ++ 10 ∷ []) × IsShortLine line × IsReadAs line market (submission_for batch proposal)
     × IsJudgedBound batch proposal
 
--- where the market is there, what is judged a bound for its live orders is no proposal that an exchange refuses
+-- where the market is there, what is judged a bound for its live orders is no proposal that an
+-- exchange refuses
 abbrev pub ProposalsAreTaken : Type 0
 ProposalsAreTaken =
     (state : ProposingState) (market : ℕ) (proposal : Proposal) → first_of (by_book (live_refusals state.exchange.book market)) ≡ None

@@ -1,5 +1,5 @@
--- What is written for lines: one answer for each that is not empty, in their order. No definition says which proposal an answer has, so
--- this is a relation.
+-- What is written for lines: one answer for each that is not empty, in their order. No definition
+-- says which proposal an answer has, so this is a relation.
 use Rattle.std.specs.Prelude.{ℕ, ◌≡◌, ◌+◌, ◌==◌, Bool, true, List, [], ◌∷◌, ◌++◌, length, if◌then◌else◌}
 use Rattle.std.specs.List.{slice_split}
 use Rattle.live_lines.specs.Open.{line_text}
@@ -9,8 +9,8 @@ use Rattle.book_proposals.specs.Answers.{IsAnswerTo}
 abbrev pub unless_empty : List ℕ → List (List ℕ) → List (List ℕ)
 unless_empty text texts = if length text == 0 then texts else text ∷ texts
 
--- what is answered of lines, the first of which has this number: the mark before the first is skipped, and a carriage return at an end is
--- taken away
+-- what is answered of lines, the first of which has this number: the mark before the first is
+-- skipped, and a carriage return at an end is taken away
 abbrev pub texts_from : Bool → ℕ → List (List ℕ) → List (List ℕ)
 texts_from skips number [] = []
 texts_from skips number (line ∷ lines) = unless_empty (line_text skips number line) (texts_from skips (number + 1) lines)

@@ -1,4 +1,5 @@
--- What was taken and written when the answers to an input end. The bytes left and written are known where they are told.
+-- What was taken and written when the answers to an input end. The bytes left and written are known
+-- where they are told.
 use Rattle.std.specs.Prelude.{◌≡◌, ℕ, true, List, ◌++◌}
 use Rattle.std.specs.Io.KnownBytes.{Appends}
 use Rattle.port_io.specs.Writes.{AppendsFront}
@@ -21,12 +22,13 @@ WroteAll known = OfAll true known (WroteFor known)
 abbrev pub WroteLines : Known → Type 0
 WroteLines known = OfLines true known (WroteFor known)
 
--- the bytes taken tell a line that is too long, or is one too many, as those before the last read did not, and the answers to all lines
--- before it are written
+-- the bytes taken tell a line that is too long, or is one too many, as those before the last read
+-- did not, and the answers to all lines before it are written
 abbrev pub WroteBefore : Known → Type 0
 WroteBefore known = OfBefore true known (WroteFor known)
 
--- a front of the answers to lines that are complete in the bytes taken is written; or all was taken, and it is a front of all answers
+-- a front of the answers to lines that are complete in the bytes taken is written; or all was
+-- taken, and it is a front of all answers
 abbrev pub WroteFront : Known → Type 0
 WroteFront known = OfSome true known (WroteFrontFor known)
 

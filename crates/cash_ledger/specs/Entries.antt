@@ -1,4 +1,5 @@
--- The plain ledger: a list of entries in the order in which they came. A balance is the sum of the account's entries.
+-- The plain ledger: a list of entries in the order in which they came. A balance is the sum of the
+-- account's entries.
 use Rattle.std.specs.Prelude.{ℕ, ℤ, pos, neg_ℤ, ◌+ℤ◌, ◌≤ℤ◌, List, [], ◌∷◌, nat_eq, if◌then◌else◌}
 use Rattle.cash_ledger.specs.declared.entry.Cause.{Cause}
 use Rattle.cash_ledger.specs.declared.entry.Cause.TheVariants.{Deposit, Withdraw}

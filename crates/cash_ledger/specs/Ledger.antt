@@ -1,4 +1,5 @@
--- What a contract sees of a ledger: plain lists, in the order in which things came, and the room for more entries.
+-- What a contract sees of a ledger: plain lists, in the order in which things came, and the room
+-- for more entries.
 use Rattle.std.specs.Prelude.{ℕ, ℤ, pos, ◌≡◌, ◌-ℤ◌, List, Bool, nat_eq, Option, Some, None, unwrap_or, if◌then◌else◌}
 use Rattle.std.specs.List.{list_any}
 use Rattle.std.specs.Map.{lookup}

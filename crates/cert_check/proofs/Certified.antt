@@ -1,4 +1,5 @@
--- What follows from the conditions of the model: the fills cover, and the measure proves the greatest surplus.
+-- What follows from the conditions of the model: the fills cover, and the measure proves the
+-- greatest surplus.
 use Rattle.std.proofs.Common.{List, [], ◌∷◌, map, All, sym, subst}
 use Rattle.arithmetic.proofs.Sums.{All-head, All-tail}
 use Rattle.frac.specs.Value.{fraction_of}

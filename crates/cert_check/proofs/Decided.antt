@@ -1,4 +1,5 @@
--- A verdict decides the conditions of the model: a yes meets each, and a no has the first that is not met.
+-- A verdict decides the conditions of the model: a yes meets each, and a no has the first that is
+-- not met.
 use Rattle.std.proofs.Common.{◌≡◌, Bool, true, false, List, [], ◌∷◌, length, map, zip, arith, All, Result, Ok, Err, refl, sym, subst, inl, inr}
 use Rattle.std.proofs.lemmas.List.Elements.{All-nil, All-cons}
 use Rattle.arithmetic.proofs.Sums.{All-head, All-tail}

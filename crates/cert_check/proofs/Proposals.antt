@@ -1,4 +1,5 @@
--- What the judgement of a proposal shows: that of an outcome marked optimal, its bound in place of the surplus.
+-- What the judgement of a proposal shows: that of an outcome marked optimal, its bound in place of
+-- the surplus.
 use Rattle.std.proofs.Common.{◌≡◌, ◌≢◌, ◌+◌, Bool, true, false, ◌&&◌, List, [], ◌∷◌, map, All, Result, Ok, Err, IfOk, IfErr, refl, ap, sym, subst, ◌∙◌}
 use Rattle.std.proofs.lemmas.List.Elements.{All-nil, All-cons}
 use Rattle.std.proofs.lemmas.Bool.{and_parts}

@@ -51,8 +51,8 @@ abbrev pub IsCoverOn : ℕ → Cover → Type 0
 IsCoverOn n Line = n ≡ 1
 IsCoverOn n (Tree tree) = 1 < n
 
--- each order is on the batch's underlyings and has a fill, and on these underlyings are the cover and the states of the
--- measure
+-- each order is on the batch's underlyings and has a fill, and on these underlyings are the cover
+-- and the states of the measure
 pub record IsOfBatch (batch : Batch) (outcome : Outcome) : Type 0 where
   pub orders : AreOn batch.underlyings batch.orders
   pub fills : length outcome.fills ≡ length batch.orders

@@ -14,8 +14,8 @@ use Rattle.cert_check.specs.declared.outcome.Judgement.TheVariants.{Yes}
 use Rattle.cert_check.specs.Conditions.{OnYes, IfNo, IfOptimal, Meets, conditions, IsFirstUnmet}
 use Rattle.cert_check.specs.Events.{verdict_of}
 
--- each order is a bundle on the batch's underlyings, and the fills cover the claimed surplus at every settlement; it is
--- not below 0
+-- each order is a bundle on the batch's underlyings, and the fills cover the claimed surplus at
+-- every settlement; it is not below 0
 pub record IsCovered (batch : Batch) (outcome : Outcome) : Type 0 where
   pub on_underlyings : AreOn batch.underlyings batch.orders
   pub covers : FillsCover batch.underlyings batch.orders (map fraction_of outcome.fills) (fraction_of outcome.claim.surplus)
@@ -46,7 +46,8 @@ Says batch outcome judgement =
 abbrev pub VerdictsDecide : Type 0
 VerdictsDecide = (batch : Batch) (outcome : Outcome) → Says batch outcome (verdict_of limit batch outcome)
 
--- where each condition is met the fills cover; with the mark optimal the measure is one, and the surplus the greatest
+-- where each condition is met the fills cover; with the mark optimal the measure is one, and the
+-- surplus the greatest
 abbrev pub ConditionsCover : Type 0
 ConditionsCover = (batch : Batch) (outcome : Outcome) → All (Meets batch outcome) conditions → IsCovered batch outcome
 

@@ -25,7 +25,8 @@ IsPrice bundle points price =
 abbrev pub IsBoundOf : Batch → Measure → Frac128 → Type 0
 IsBoundOf batch measure bound = MeasureProves batch.orders (points_of measure) (fraction_of bound)
 
--- where the points are a measure of the batch's underlyings, no fills of the batch cover a surplus above it
+-- where the points are a measure of the batch's underlyings, no fills of the batch cover a surplus
+-- above it
 abbrev pub IsAboveCovers : Batch → Measure → Frac128 → Type 0
 IsAboveCovers batch measure bound =
     IsFractionMeasure batch.underlyings (points_of measure)

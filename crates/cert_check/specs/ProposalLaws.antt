@@ -52,7 +52,8 @@ pub record Proves (batch : Batch) (proposal : Proposal) (B : Fraction) : Type 0 
   pub measured : HasBound batch proposal B
   pub bounds : BoundSurplus batch proposal B
 
--- a proposal that is judged a bound shows that, and else the condition that is told is the first that it does not meet
+-- a proposal that is judged a bound shows that, and else the condition that is told is the first
+-- that it does not meet
 pub record ProposalsDecide (batch : Batch) (proposal : Proposal) : Type 0 where
   pub proved : (B : Fraction) → proposal_bound limit batch proposal ≡ Ok B → Proves batch proposal B
   pub unproved : (failed : Unproved) → proposal_bound limit batch proposal ≡ Err failed → IsUnproved batch proposal failed

@@ -1,4 +1,5 @@
--- The judgement of a proposal: the conditions of an outcome marked optimal up to its measure, and then the bound.
+-- The judgement of a proposal: the conditions of an outcome marked optimal up to its measure, and
+-- then the bound.
 use Rattle.std.specs.Prelude.{ℕ, List, Bool, true, false, Result, Ok, Err}
 use Rattle.exact_num.specs.declared.misfit.Wide.{Wide as Misfit}
 use Rattle.exact_num.specs.Fraction.{Fraction}

@@ -1,6 +1,7 @@
--- Two batches worked by hand, one of each order at most. The butterfly by two sells: a call with strike 10 is bought at 6,
--- and calls with strikes 5 and 12 are sold at 8 and 4. The spread covered by two options: one call 10 less one call 12 is
--- bought at 2, a call 10 is sold at 6, and a call 12 is bought at 5.
+-- Two batches worked by hand, one of each order at most. The butterfly by two sells: a call with
+-- strike 10 is bought at 6, and calls with strikes 5 and 12 are sold at 8 and 4. The spread covered
+-- by two options: one call 10 less one call 12 is bought at 2, a call 10 is sold at 6, and a call
+-- 12 is bought at 5.
 use Rattle.std.specs.Prelude.{ℕ, ◌≡◌, List, [], ◌∷◌, map, ℤ, pos, negsuc, Result, Ok, Err}
 use Rattle.exact_num.specs.Fraction.{Fraction, over, whole}
 use Rattle.frac.specs.Range.{limit}
@@ -60,7 +61,8 @@ outcome fills surplus mark = record {
 abbrev pub judged : List Fraction → Fraction → Mark → Judgement
 judged fills surplus mark = verdict_of limit batch (outcome fills surplus mark)
 
--- the judgement of all three orders of the spread filled, where the bundle has this count of the call 12
+-- the judgement of all three orders of the spread filled, where the bundle has this count of the
+-- call 12
 abbrev pub judged_spread : ℤ → Mark → Judgement
 judged_spread count mark =
     let one = whole (pos 1) in

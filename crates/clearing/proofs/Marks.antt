@@ -1,4 +1,5 @@
--- The mark of each outcome is that of the end of its run: the numbers that a run clears are numbers of the code.
+-- The mark of each outcome is that of the end of its run: the numbers that a run clears are numbers
+-- of the code.
 use Rattle.std.proofs.Common.{◌≡◌, ℕ, List, [], ◌∷◌, map, unsigned_abs, true, refl, sym, ap, ◌∙◌, subst, arith, ◌^◌, ◌<◌}
 use Rattle.std.specs.List.{All}
 use Rattle.std.proofs.lemmas.Bool.{lt-ltb}

@@ -1,4 +1,5 @@
--- The outcome of a batch: what the reference run clears, or where it stops, the match of each bundle by itself.
+-- The outcome of a batch: what the reference run clears, or where it stops, the match of each
+-- bundle by itself.
 use Rattle.std.specs.Prelude.{ℕ, ◌≡◌, ◌≤◌, List, [], ◌∷◌, map, pos, Bool, true, ◌&&◌, if◌then◌else◌}
 use Rattle.exact_num.specs.Fraction.{Fraction, whole}
 use Rattle.frac.specs.declared.frac128.Frac128.{Frac128}
@@ -102,8 +103,9 @@ reading_has_values r =
 abbrev pub has_values : Solution → Bool
 has_values (r, cover) = reading_has_values r && are_values (multipliers_in cover)
 
--- the outcome at the end of a run with a limit on its units. An end without an optimum, and a solution whose numbers are not
--- all numbers of the code, have the match too: no answer of a clear comes from them
+-- the outcome at the end of a run with a limit on its units. An end without an optimum, and a
+-- solution whose numbers are not all numbers of the code, have the match too: no answer of a clear
+-- comes from them
 abbrev pub outcome_at : List Order → ℕ → Ending Solution → Outcome
 outcome_at orders units (done s spent) = if has_values s then optimal_outcome s spent else fallback orders Budget units
 outcome_at orders units (wide_at spent wide) = fallback orders (Wide wide) spent
@@ -131,8 +133,8 @@ abbrev pub HasCleared : Ending Solution → Outcome → Cover → Measure → Ty
 HasCleared end outcome cover measure =
     (written : WrittenCover) × IsCoverAs written cover × (end ≡ done (claim_of outcome measure, written) outcome.units)
 
--- the mark of an outcome and its units are those of the end of the run: what was cleared, the step that did not fit, or a unit
--- wanted beyond the limit
+-- the mark of an outcome and its units are those of the end of the run: what was cleared, the step
+-- that did not fit, or a unit wanted beyond the limit
 abbrev pub EndsAs : Ending Solution → ℕ → Outcome → Mark → Type 0
 EndsAs end units outcome (Optimal cover measure) = HasCleared end outcome cover measure
 EndsAs end units outcome (Wide wide) = end ≡ wide_at outcome.units wide
@@ -141,7 +143,7 @@ EndsAs end units outcome Budget = ((spent : ℕ) × (end ≡ no_unit_left spent)
 abbrev pub IsMarked : Batch → ℕ → Outcome → Type 0
 IsMarked batch units outcome = EndsAs (run_of batch units) units outcome outcome.mark
 
--- on one underlying the mark is not for want of a unit, where there are as many as ways to choose the basic variables of the
--- batch's master program
+-- on one underlying the mark is not for want of a unit, where there are as many as ways to choose
+-- the basic variables of the batch's master program
 abbrev pub HasEnoughUnits : Batch → ℕ → Outcome → Type 0
 HasEnoughUnits batch units outcome = batch.underlyings ≡ 1 → choices_of batch.orders ≤ units → outcome.mark ≡ Budget → ⊥

@@ -16,7 +16,8 @@ pub record FilledLeg : Type 0 where
   pub amount : ℕ
   pub option : List ℤ
 
--- a leg is long where its order buys and its count is above 0, or its order sells and its count is below 0
+-- a leg is long where its order buys and its count is above 0, or its order sells and its count is
+-- below 0
 abbrev pub exposure_of : Side → ℤ → Exposure
 exposure_of Buy (pos zero) = Short
 exposure_of Buy (pos (suc n)) = Long

@@ -1,4 +1,5 @@
--- The cover of a market with one underlying, by the places where a payoff bends. The amounts may be of either sign.
+-- The cover of a market with one underlying, by the places where a payoff bends. The amounts may be
+-- of either sign.
 use Rattle.std.specs.Prelude.{ℕ, List, [], ◌∷◌, get_or, nat_abs, ℤ, pos, ◌*ℤ◌, ◌≤ℤ◌, ◌<ℤ◌}
 use Rattle.std.specs.List.{All}
 use Rattle.form.specs.Payoff.{BundleLeg, bundle_of}

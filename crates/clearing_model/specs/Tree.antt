@@ -8,7 +8,8 @@ pub data Sign : Type 0 where
   Plus : Sign
   Minus : Sign
 
--- a leaf has a multiplier for each leg, and a split names a long leg and has a side for each sign of it
+-- a leaf has a multiplier for each leg, and a split names a long leg and has a side for each sign
+-- of it
 pub data Tree : Type 0 where
   Leaf : List ℕ → Tree
   Split : ℕ → Tree → Tree → Tree

@@ -1,4 +1,5 @@
--- A tree of signs as it is written: a list of nodes in preorder, and the multipliers of its leaves one leaf after another.
+-- A tree of signs as it is written: a list of nodes in preorder, and the multipliers of its leaves
+-- one leaf after another.
 use Rattle.std.specs.Prelude.{ℕ, suc, zero, ◌+◌, ◌-◌, ◌≡◌, ◌<◌, ◌≤◌, ◌==◌, cond, List, [], ◌∷◌, ◌++◌, length, slice_set, pos, ◌≤ℤ◌}
 use Rattle.std.specs.List.{All, AllPairs}
 use Rattle.form.specs.Fraction.{Fraction}
@@ -7,7 +8,8 @@ use Rattle.form.specs.Payoff.{positive_part}
 use Rattle.clearing_model.specs.Legs.{Exposure, Long, Short, FilledLeg}
 use Rattle.clearing_model.specs.Tree.{Sign, Unsigned, Plus, Minus, Tree, Leaf, Split}
 
--- a node as it is written: a split at a place, or a leaf with a count of multipliers. Places count the legs from 1
+-- a node as it is written: a split at a place, or a leaf with a count of multipliers. Places count
+-- the legs from 1
 pub data WrittenNode : Type 0 where
   SplitNode : ℕ → WrittenNode
   LeafNode : ℕ → WrittenNode

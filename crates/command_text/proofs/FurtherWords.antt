@@ -1,4 +1,5 @@
--- Lines of a further word, which the crates above read: by that word they ask for something, and else they say what they say to a run.
+-- Lines of a further word, which the crates above read: by that word they ask for something, and
+-- else they say what they say to a run.
 use Rattle.std.proofs.Common.{◌≡◌, ◌<◌, ℕ, List, Bool, true, false, length, Option, Some, None, Result, Err, IfOk, if◌then◌else◌, refl, ap}
 use Rattle.std.specs.Option.{option_map_or}
 use Rattle.std.specs.Str.{bytes_eq}
@@ -30,7 +31,8 @@ module _ {R B : Type 0} (word : List ℕ) (request_of : List (List ℕ) → Resu
   unfolding by_word
   same_said long fields = λ i. by_word (bytes_eq (same_word fields i) word) (same_read request_of long fields i) (same_body (Some fields) i)
 
-  -- a line that says a command, or has a number out of its range, says just that, where the word is that of no command
+  -- a line that says a command, or has a number out of its range, says just that, where the word is
+  -- that of no command
   pub plain_said : ((fields : List (List ℕ)) → bytes_eq (text_of fields 1) word ≡ true → command_of_fields fields ≡ Err Syntax)
       → (fields : Option (List (List ℕ))) → (body_of_fields fields ≡ body.Syntax → ⊥) → plain (body_of_fields fields) ≡ option_map_or said_by fields (plain body.Syntax)
   plain_said none None other = absurd (other refl)

@@ -1,4 +1,5 @@
--- What a line says does not depend on the fields past those that a command can have, but for the first of them.
+-- What a line says does not depend on the fields past those that a command can have, but for the
+-- first of them.
 use Rattle.std.proofs.Common.{◌≡◌, ◌≤◌, ◌<◌, ℕ, ◌+◌, ◌-◌, ◌*◌, ◌/◌, ◌%◌, List, [], ◌∷◌, Bool, true, false, ◌&&◌, ◌==◌, nat_le, length, option_map, Option, Some, None, Result, Err, codes, if◌then◌else◌, unsigned_abs, pos, refl, sym, ap, inl, inr, ◌∙◌, arith}
 use Rattle.std.proofs.Math.Nat.{div-add-mod}
 use Rattle.std.proofs.lemmas.Nat.{mul-le}

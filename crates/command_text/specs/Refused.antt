@@ -33,7 +33,8 @@ pub record Shape : Type 0 where
   pub sized : Bool
   -- what each number field, KIND and SIDE says, with its place
   pub reads : List (ℕ × NumberRead)
-  -- the field that is told where each number is in its range, and the line still asks for too little or too much
+  -- the field that is told where each number is in its range, and the line still asks for too
+  -- little or too much
   pub beyond : Option ℕ
 
 abbrev pub plain_shape : ℕ → List Asked → List (List ℕ) → Shape
@@ -70,7 +71,8 @@ leg_weight_place size shift fields = if has_leg size shift fields then weight_pl
 abbrev pub legs_reads : ℕ → List (List ℕ) → List (ℕ × NumberRead)
 legs_reads size fields = leg_reads size 7 fields ++ (leg_reads size (7 + size) fields ++ (leg_reads size (7 + 2 * size) fields ++ leg_reads size (7 + 3 * size) fields))
 
--- the first weight of the first leg whose weights are all 0, or else the quantity where it counts too many options
+-- the first weight of the first leg whose weights are all 0, or else the quantity where it counts
+-- too many options
 abbrev pub legs_beyond : ℕ → List (List ℕ) → Option ℕ
 legs_beyond size fields =
     or_else
@@ -128,8 +130,9 @@ abbrev pub first_outside : List (ℕ × NumberRead) → Option ℕ
 first_outside [] = None
 first_outside (read ∷ reads) = if is_outside read.1 then Some read.0 else first_outside reads
 
--- a line is Syntax exactly where its fields are not as many as its word allows, or a field is unread. A line that is not
--- Syntax is Range exactly where a number is outside its range, at the first such field, or at the place told beyond
+-- a line is Syntax exactly where its fields are not as many as its word allows, or a field is
+-- unread. A line that is not Syntax is Range exactly where a number is outside its range, at the
+-- first such field, or at the place told beyond
 abbrev pub fault_of_shape : Shape → Option Fault
 fault_of_shape shape =
     if not shape.sized || has_unread shape.reads then Some Syntax else option_map (λ place. Range place) (or_else (first_outside shape.reads) shape.beyond)

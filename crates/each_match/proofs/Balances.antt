@@ -1,4 +1,5 @@
--- Of each bundle as much is bought as sold: on each side the fills of its orders add up to the amounts of the trades.
+-- Of each bundle as much is bought as sold: on each side the fills of its orders add up to the
+-- amounts of the trades.
 use Rattle.std.proofs.Common.{◌≡◌, ℕ, zero, suc, ◌+◌, ◌==◌, ◌<◌, List, [], ◌∷◌, Bool, true, false, ◌&&◌, if◌then◌else◌, get_or, Some, slice_get, pos, ◌*ℤ◌, refl, ap, ap₂, ◌∙◌, arith}
 use Rattle.std.proofs.lemmas.Bool.Decides.{nat_tests}
 use Rattle.std.proofs.lemmas.Int.{ints}

@@ -1,4 +1,5 @@
--- What fills earn above and below the prices of their options: no fills gain more there than those that the prices part.
+-- What fills earn above and below the prices of their options: no fills gain more there than those
+-- that the prices part.
 use Rattle.std.proofs.Common.{◌≡◌, ℕ, ◌+◌, ◌-◌, ◌*◌, ◌≤◌, List, [], ◌∷◌, inl, inr, length, All, ℤ, pos, ◌-ℤ◌, ◌*ℤ◌, ◌≤ℤ◌, refl, subst, ◌∙◌, arith}
 use Rattle.std.specs.List.{zip}
 use Rattle.std.proofs.lemmas.Bool.{cases_order}

@@ -1,5 +1,5 @@
--- A stable sort of offers leaves them in line: there is one order in which none stands before an earlier one and offers that tie stay
--- as they were.
+-- A stable sort of offers leaves them in line: there is one order in which none stands before an
+-- earlier one and offers that tie stay as they were.
 use Rattle.std.proofs.Common.{◌≡◌, ℕ, suc, ◌+◌, ◌<◌, List, [], ◌∷◌, Bool, true, false, not, cond, filter, length, get_or, refl, sym, ap, subst, ◌∙◌, arith}
 use Rattle.std.proofs.lemmas.Bool.{and_parts}
 use Rattle.std.proofs.lemmas.Bool.Decides.{nat_tests}

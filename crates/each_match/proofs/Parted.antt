@@ -1,5 +1,5 @@
--- An auction has a price that parts its orders: those that would trade at a better price are filled whole, and those that trade at it or
--- better are all that is filled.
+-- An auction has a price that parts its orders: those that would trade at a better price are filled
+-- whole, and those that trade at it or better are all that is filled.
 use Rattle.std.proofs.Common.{◌≡◌, ℕ, ◌+◌, ◌-◌, ◌==◌, ◌≤◌, min, max, nat_lt, nat_le, List, [], ◌∷◌, Bool, true, false, ◌&&◌, if◌then◌else◌, refl, arith}
 use Rattle.std.proofs.lemmas.Bool.Decides.{nat_tests}
 use Rattle.std.proofs.lemmas.Bool.{le-leb, le-ltb}

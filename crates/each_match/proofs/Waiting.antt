@@ -86,7 +86,8 @@ from_place side bundle p k place (suc i) (order ∷ orders) o is at =
       | false ↦ later
     ]
 
--- the order at a place waits whole in the queue of its bundle on its side, and not at all in another
+-- the order at a place waits whole in the queue of its bundle on its side, and not at all in
+-- another
 pub waits-queue_of : (side : Side) (bundle : List BundleLeg) (p : ℕ → Bool) (k : ℕ) (orders : List Order) (o : Order) → slice_get orders k ≡ Some o
     → waits p k (queue_of side bundle orders) ≡ (if belongs side bundle o then waiting_of p o else 0)
 waits-queue_of side bundle p k orders o at = waits-in_line side p k (offers_from side bundle 0 orders) ∙ from_place side bundle p k 0 k orders o (omega arith) at

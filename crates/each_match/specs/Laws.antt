@@ -17,7 +17,8 @@ use Rattle.each_match.specs.Match.{fill_of, match_by_bundle}
 abbrev pub match_of : List Order → List Filled
 match_of orders = zip orders (match_by_bundle orders)
 
--- an auction makes its next trade and goes on with what that leaves of the queues, and ends where there is none
+-- an auction makes its next trade and goes on with what that leaves of the queues, and ends where
+-- there is none
 abbrev pub AuctionGoesOn : Type 0
 AuctionGoesOn =
     (buys sells : List Offer)
@@ -61,7 +62,8 @@ abbrev pub IsBetter : Side → ℕ → ℕ → Type 0
 IsBetter Buy limit price = price < limit
 IsBetter Sell limit price = limit < price
 
--- an order whose limit is better than the price is filled whole, and one whose limit is worse is not filled
+-- an order whose limit is better than the price is filled whole, and one whose limit is worse is
+-- not filled
 abbrev pub IsFilledAt : ℕ → Filled → Type 0
 IsFilledAt price fill =
     (IsBetter fill.0.side fill.0.price price → fill.1 ≡ fill.0.quantity)
@@ -74,7 +76,8 @@ MatchHasPrices =
     → (price : List BundleLeg → ℕ)
     × All (λ (fill : Filled). IsFilledAt (price (bundle_of fill.0)) fill) (match_of orders)
 
--- no fills g over F of the orders that sell of each bundle just what they buy of it earn more than the fills m
+-- no fills g over F of the orders that sell of each bundle just what they buy of it earn more than
+-- the fills m
 abbrev pub IsBestBalanced : List Order → List ℕ → Type 0
 IsBestBalanced orders m =
     (g : List ℕ) (F : ℕ) → AreFills orders g F → AreBalanced (zip orders g)

@@ -1,7 +1,7 @@
 -- The queues of the buys and the sells of one bundle.
 --
--- The buys stand by falling price, the sells by rising price. At one price the order with the smaller
--- number stands first.
+-- The buys stand by falling price, the sells by rising price. At one price the order with the
+-- smaller number stands first.
 use Rattle.std.specs.Prelude.{ℕ, ◌+◌, ◌==◌, nat_lt, List, [], ◌∷◌, Bool, true, false, ◌&&◌, ◌||◌, if◌then◌else◌}
 use Rattle.form.specs.declared.orders.Order.{Order}
 use Rattle.form.specs.declared.orders.Side.{Side}

@@ -70,11 +70,13 @@ abbrev spreads : Bundle → List Order
 spreads sold = order_on spread 1 Buy 3 1 ∷ order_on sold 2 Sell 2 1 ∷ []
 
 pub record BatchesByHand : Type 0 where
-  -- the buy at 7 takes 2 of the sell at 5 and 1 of the sell at 6; the buy at 6 is not above the sell that is left
+  -- the buy at 7 takes 2 of the sell at 5 and 1 of the sell at 6; the buy at 6 is not above the
+  -- sell that is left
   pub one_option_matched : match_by_bundle one_option ≡ 3 ∷ 0 ∷ 2 ∷ 1 ∷ []
   -- 3 * 7 less 2 * 5 and 6
   pub one_option_earns : premium (match_of one_option) ≡ pos 5
-  -- the sell at 1 is of another option; the buys at 7 come before the one at 6, and the sell at 5 before the other
+  -- the sell at 1 is of another option; the buys at 7 come before the one at 6, and the sell at 5
+  -- before the other
   pub two_options_matched : match_by_bundle two_options ≡ 0 ∷ 0 ∷ 1 ∷ 1 ∷ 0 ∷ 2 ∷ []
   -- equal prices stay
   pub equal_prices_stay : match_by_bundle equal_prices ≡ 0 ∷ 0 ∷ []

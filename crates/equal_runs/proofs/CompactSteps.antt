@@ -1,4 +1,5 @@
--- Single steps: which always fit, and that a step set down without computing it is the computed one.
+-- Single steps: which always fit, and that a step set down without computing it is the computed
+-- one.
 use Rattle.std.proofs.Common.{◌≡◌, ℕ, zero, suc, ◌≤◌, List, [], ◌∷◌, length, arith, refl, sym, ◌∙◌, ap, subst, ℤ, pos, negsuc, unsigned_abs, Bool, true, false, nat_eq, insert, remove}
 use Rattle.std.specs.Prelude.{Result, Ok, Err, if◌then◌else◌}
 use Rattle.std.proofs.lemmas.Bool.Decides.{nat_tests}

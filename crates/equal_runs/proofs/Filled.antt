@@ -1,4 +1,5 @@
--- Numbers by the variable of their column: lists as functions, and a column that changes its variable.
+-- Numbers by the variable of their column: lists as functions, and a column that changes its
+-- variable.
 use Rattle.std.proofs.Common.{◌≡◌, ℕ, zero, suc, ◌+◌, ◌/◌, ◌<◌, ◌≤◌, List, [], ◌∷◌, length, map, set, ◌⊎◌, inl, inr, arith, refl, sym, ◌∙◌, ap, subst, ℤ, pos, ◌*ℤ◌, ◌-ℤ◌, int_div, unsigned_abs, Bool, true, false, ◌&&◌, nat_eq}
 use Rattle.arithmetic.proofs.Tests.{both_so}
 use Rattle.std.specs.Prelude.{if◌then◌else◌, nat_le}

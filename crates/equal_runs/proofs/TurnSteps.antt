@@ -1,4 +1,5 @@
--- One turn over rows of whole numbers, and the turn of the run over fractions on what they stand for.
+-- One turn over rows of whole numbers, and the turn of the run over fractions on what they stand
+-- for.
 use Rattle.exact_num.specs.Rationals.{reduced_is_lowest}
 use Rattle.exact_num.proofs.GreaterLimit.{le_more}
 use Rattle.std.proofs.Common.{◌≡◌, ℕ, zero, suc, ◌+◌, ◌*◌, ◌/◌, ◌<◌, ◌≤◌, List, [], ◌∷◌, length, map, take, arith, refl, sym, ◌∙◌, ap, subst, ℤ, pos, negsuc, ◌*ℤ◌, unsigned_abs, int_div, Bool, true, false, nat_eq}

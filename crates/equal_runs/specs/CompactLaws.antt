@@ -39,7 +39,8 @@ pub record PivotFits (limit : ℕ) (t : Table) (e r : ℕ) : Type 0 where
   pub entering_row : (i : ℕ) → i < length t.rows
       → less_product limit (at (entries_at t.rows i) e) (at (entries_at t.rows i) e) (whole (pos 1)) ≡ Ok fraction_zero
   pub entering_objective : less_product limit (at t.objective e) (at t.objective e) (whole (pos 1)) ≡ Ok fraction_zero
-  -- a column that stays basic is 0 in the pivot row before and after, and is left as it was elsewhere
+  -- a column that stays basic is 0 in the pivot row before and after, and is left as it was
+  -- elsewhere
   pub basic_pivot : (k : ℕ) → k < length t.rows → (k ≡ r → ⊥)
       → (at (entries_at t.rows r) (basic_at t.rows k) ≡ fraction_zero)
       × (div_of limit (at (entries_at t.rows r) (basic_at t.rows k)) (at (entries_at t.rows r) e) ≡ Ok fraction_zero)

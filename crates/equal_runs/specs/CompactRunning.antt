@@ -29,7 +29,8 @@ unfoldable pub compact_read_off : ℕ → ℕ → CompactTable → ℕ → Endin
 compact_read_off n m c spent =
     done (optimum (compact_solution n c) (values_at (price_of c) n m) (values_at (price_of c) 0 n) (right_side (length c.kept) c.objective)) spent
 
--- 1 at the entering variable, whose column is at place h, and what it then asks of each basic variable
+-- 1 at the entering variable, whose column is at place h, and what it then asks of each basic
+-- variable
 unfoldable pub compact_direction : ℕ → ℕ → CompactTable → List Fraction
 compact_direction n h c =
     values_at (λ j. if nat_eq j (variable_at c h) then whole (pos 1) else where_basic (λ row. negated (at row.entries h)) j c.rows) 0 n

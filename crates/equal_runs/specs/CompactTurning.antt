@@ -12,7 +12,8 @@ use Rattle.table_run.specs.Pivot.{each, each_pair}
 use Rattle.equal_runs.specs.CompactSteps.{is_zero, short_quotient, short_less, short_ratio_in}
 use Rattle.equal_runs.specs.Compact.{CompactTable, variable_at, place_for, remove_insert}
 
--- the ratios of the rows that limit the column at place h, in rising order, the first row being row i
+-- the ratios of the rows that limit the column at place h, in rising order, the first row being row
+-- i
 unfoldable pub short_ratios : ℕ → ℕ → ℕ → ℕ → List Row → Result (List Ratio) Wide
 short_ratios limit columns h i [] = Ok []
 short_ratios limit columns h i (row ∷ rows) =
@@ -44,7 +45,8 @@ short_rows_after limit h k e r pivot i (row ∷ rows) =
     after (short_row_after limit h k e r pivot i row)
     (λ first. after (short_rows_after limit h k e r pivot (i + 1) rows) (λ others. Ok (first ∷ others)))
 
--- the place of the column of the variable that is basic in row r, once the column at place h is gone
+-- the place of the column of the variable that is basic in row r, once the column at place h is
+-- gone
 abbrev pub leaving_place : ℕ → ℕ → CompactTable → ℕ
 leaving_place h r c = place_for (basic_at c.rows r) (remove c.kept h)
 

@@ -5,8 +5,8 @@ use Rattle.table_run.specs.Places.{fraction_zero}
 use Rattle.table_run.specs.Table.{Row, Table, row_of}
 use Rattle.equal_runs.specs.Compact.{CompactTable}
 
--- the entries of the columns j, j + 1 and so on, n of them: those of the rising kept columns as they
--- stand, and of the others what `other` says; then the right side
+-- the entries of the columns j, j + 1 and so on, n of them: those of the rising kept columns as
+-- they stand, and of the others what `other` says; then the right side
 unfoldable pub spread_out : (ℕ → Fraction) → ℕ → ℕ → List ℕ → List Fraction → List Fraction
 spread_out other j zero ks xs = xs
 spread_out other j (suc n) [] xs = other j ∷ spread_out other (j + 1) n [] xs

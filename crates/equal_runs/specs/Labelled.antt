@@ -1,4 +1,5 @@
--- The same run without the columns of the basic variables: each column bears the variable that it is for.
+-- The same run without the columns of the basic variables: each column bears the variable that it
+-- is for.
 use Rattle.std.specs.Prelude.{ℕ, zero, suc, ◌+◌, List, [], ◌∷◌, ◌++◌, map, length, ℤ, pos, neg_ℤ, int_lt, unsigned_abs, slice_index_or, slice_set, if◌then◌else◌, nat_eq, nat_lt, Option, Some, None, Bool, ◌&&◌}
 use Rattle.arithmetic.specs.Gcd.{gcd}
 use Rattle.exact_num.specs.Fraction.{Fraction, whole, reduced, negated}
@@ -11,7 +12,8 @@ use Rattle.equal_runs.specs.Lines.{Line, WholeRow, WholeTable, line_of, whole_ro
 use Rattle.equal_runs.specs.WholeTurning.{whole_ratios, cut, cut_where_wide, line_mixed, leaving_fits}
 use Rattle.equal_runs.specs.WholeRunning.{whole_where_basic}
 
--- the rows have a number for each name, and the right side last; `columns` counts all variables, basic or not
+-- the rows have a number for each name, and the right side last; `columns` counts all variables,
+-- basic or not
 pub record LabelledTable : Type 0 where
   pub columns : ℕ
   pub names : List ℕ

@@ -1,4 +1,5 @@
--- The run without the columns of the basic variables is the run with them, and so the run over fractions.
+-- The run without the columns of the basic variables is the run with them, and so the run over
+-- fractions.
 use Rattle.std.specs.Prelude.{◌≡◌, ℕ, ◌<◌, ◌≤◌, ◌^◌, ◌-◌, List, [], ◌∷◌, length, ℤ, pos, unsigned_abs, Option, Some, None}
 use Rattle.exact_num.specs.Fraction.{whole, over}
 use Rattle.table_run.specs.Program.{LinearProgram}
@@ -70,7 +71,8 @@ pub record LabelledWorked : Type 0 where
   -- a step of a row, and the surplus, is beyond the limit
   pub too_wide : labelled_worked too_wide ≡ None
   pub surplus_too_wide : labelled_worked surplus_too_wide ≡ None
-  -- 3 x1 + x2 under -2 x0 + 2 x1 - x2 <= 0 and -x0 + 3 x1 <= 1: after two turns the columns are out of order, and
-  -- the first of them below 0 is not that of the smallest variable. Four turns, as over fractions
+  -- 3 x1 + x2 under -2 x0 + 2 x1 - x2 <= 0 and -x0 + 3 x1 <= 1: after two turns the columns are out
+  -- of order, and the first of them below 0 is not that of the smallest variable. Four turns, as
+  -- over fractions
   pub in_order : labelled_worked out_of_order ≡ Some (unbounded (wholes (pos 0 ∷ pos 0 ∷ pos 1 ∷ [])) 4)
   pub as_fractions : worked out_of_order ≡ unbounded (wholes (pos 0 ∷ pos 0 ∷ pos 1 ∷ [])) 4

@@ -78,14 +78,15 @@ abbrev pub as_turn : Option WholeTable → Turn
 as_turn None = unlimited
 as_turn (Some u) = moved (table_for u)
 
--- from a table within the limit a turn whose steps are meets no misfit, also where it leaves the limit: it leaves the same row
+-- from a table within the limit a turn whose steps are meets no misfit, also where it leaves the
+-- limit: it leaves the same row
 abbrev pub TurnsAgree : Type 0
 TurnsAgree =
     (limit n e : ℕ) (w : WholeTable) → IsWithin limit n w → turn_fits limit e w ≡ true
     → turn limit e (table_for w) ≡ as_turn (whole_turn e w)
 
--- each table of the run is, as fractions, that of the run over fractions with the same limit: so no step before it misfits,
--- the same columns entered and the same rows left
+-- each table of the run is, as fractions, that of the run over fractions with the same limit: so no
+-- step before it misfits, the same columns entered and the same rows left
 abbrev pub TablesAgree : Type 0
 TablesAgree =
     (limit : ℕ) (p : LinearProgram) (k : ℕ) (w : WholeTable) → IsProgram p
@@ -98,7 +99,8 @@ TablesStand =
     (limit : ℕ) (p : LinearProgram) (k : ℕ) (w : WholeTable) → IsProgram p
     → whole_table_after limit p k ≡ Some w → IsTableAfter p k (table_for w)
 
--- a run that is not given up ends as the run over fractions does, number for number and unit for unit
+-- a run that is not given up ends as the run over fractions does, number for number and unit for
+-- unit
 abbrev pub RunsAgree : Type 0
 RunsAgree =
     (limit : ℕ) (p : LinearProgram) (left spent : ℕ) (end : Ending Optimum) → IsProgram p

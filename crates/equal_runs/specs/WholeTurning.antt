@@ -46,12 +46,13 @@ divided_by c l = line_of (l.denominator / c) (map (λ z. int_div z (pos c)) l.nu
 unfoldable pub cut : Line → Line
 cut l = divided_by (content l.denominator l.numbers) l
 
--- a line that 64 bits do not hold is divided by what it has in common, and any other is left as it is: by value that is
--- the same, and no line that 64 bits hold in lowest terms becomes too wide
+-- a line that 64 bits do not hold is divided by what it has in common, and any other is left as it
+-- is: by value that is the same, and no line that 64 bits hold in lowest terms becomes too wide
 unfoldable pub cut_where_wide : Line → Line
 cut_where_wide l = let other = cut l in if line_fits widest l then l else other
 
--- a line whose number in column e is x, by pivot numbers whose own is a, before it is cut: g is what both have in common
+-- a line whose number in column e is x, by pivot numbers whose own is a, before it is cut: g is
+-- what both have in common
 abbrev pub line_mixed : ℕ → ℤ → ℕ → List ℤ → Line → Line
 line_mixed a x g pivot l = line_of (l.denominator * (a / g)) (cross_difference (a / g) (int_div x (pos g)) l.numbers pivot)
 
@@ -91,8 +92,8 @@ unfoldable pub whole_turn : ℕ → WholeTable → Option WholeTable
 whole_turn e w = whole_leave e w (whole_ratios w.columns e 0 w.rows)
 
 -- ---- what must fit is not each number but each step of a turn
--- a size that no step is above where numbers up to one size are cleared by pivot numbers up to another: x and a stand in the
--- column, and what they have in common goes away
+-- a size that no step is above where numbers up to one size are cleared by pivot numbers up to
+-- another: x and a stand in the column, and what they have in common goes away
 abbrev pub step_size : ℕ → ℕ → ℕ → ℕ → ℕ
 step_size size x a pivot_size = size * (a / gcd x a) + x / gcd x a * pivot_size
 

@@ -1,4 +1,5 @@
--- The worked programs over rows of whole numbers: the same ends, where each step stays within the limit.
+-- The worked programs over rows of whole numbers: the same ends, where each step stays within the
+-- limit.
 use Rattle.std.specs.Prelude.{◌≡◌, ◌^◌, ◌-◌, [], ◌∷◌, pos, Option, Some, None}
 use Rattle.exact_num.specs.Fraction.{whole}
 use Rattle.table_run.specs.Program.{LinearProgram}
@@ -18,8 +19,8 @@ wide_surplus_end = done (optimum (wholes (pos (2 ^ 40) ∷ [])) (wholes (pos (2 
 abbrev pub whole_worked : LinearProgram → Option (Ending Optimum)
 whole_worked p = whole_run (2 ^ 127 - 1) p 20000 0
 
--- a step of the first is beyond the limit, and so is the surplus of `surplus_too_wide`. That of `wide_surplus` is beyond 64 bits
--- alone
+-- a step of the first is beyond the limit, and so is the surplus of `surplus_too_wide`. That of
+-- `wide_surplus` is beyond 64 bits alone
 pub record WholeProgramsEnd : Type 0 where
   pub too_wide_ends : whole_worked too_wide ≡ None
   pub without_end_ends : whole_worked without_end ≡ Some without_end_end

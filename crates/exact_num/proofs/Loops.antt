@@ -1,4 +1,5 @@
--- A loop that takes a step for each item: over values of the code, of which f says what they stand for.
+-- A loop that takes a step for each item: over values of the code, of which f says what they stand
+-- for.
 use Rattle.std.proofs.Common.{◌≡◌, List, [], ◌∷◌, Bool, true, false, Result, Ok, Err, refl, ap, sym, ◌∙◌, inl, inr, ◌⊎◌}
 use Rattle.std.specs.Prelude.{IsErrAnd}
 use Rattle.std.proofs.lemmas.Result.{err_from_is_err_and}

@@ -1,4 +1,5 @@
--- The rationals: fractions in lowest terms, so that equal values are equal. They are a field in order.
+-- The rationals: fractions in lowest terms, so that equal values are equal. They are a field in
+-- order.
 use Rattle.std.proofs.Common.{List, get_or, ◌≡◌, ℕ, zero, suc, ◌*◌, ◌/◌, ◌<◌, ℤ, pos, negsuc, ◌+ℤ◌, ◌*ℤ◌, ◌<ℤ◌, ◌≤ℤ◌, neg_ℤ, unsigned_abs, int_div, arith, refl, sym, ◌∙◌, ap, subst, [], ◌∷◌, lit<, ◌≢◌}
 use Rattle.std.specs.Prelude.{Ok}
 use Rattle.std.proofs.Math.Nat.{mul-pos, div-mul_cancel}

@@ -1,4 +1,5 @@
--- Fractions as parts of one denominator: what the steps with fractions are in whole numbers over it.
+-- Fractions as parts of one denominator: what the steps with fractions are in whole numbers over
+-- it.
 use Rattle.std.proofs.Common.{◌≡◌, ℕ, ◌*◌, ◌≤◌, List, [], ◌∷◌, ◌++◌, map, arith, ℤ, pos, neg_ℤ, ◌+ℤ◌, ◌*ℤ◌, ◌≤ℤ◌, ap, sym, ◌∙◌, lit≤}
 use Rattle.std.proofs.lemmas.Int.{ints}
 use Rattle.arithmetic.specs.Sums.{dot_ℤ}

@@ -1,4 +1,5 @@
--- The rationals: fractions in lowest terms, so that equal values are equal; sums of them over the numbers below n.
+-- The rationals: fractions in lowest terms, so that equal values are equal; sums of them over the
+-- numbers below n.
 use Rattle.std.specs.Prelude.{ℕ, zero, suc, ◌/◌, ◌<◌, ℤ, pos, ◌<ℤ◌, ◌≤ℤ◌, unsigned_abs, nat_eq, Bool, true, false}
 use Rattle.std.proofs.Math.Nat.{zero-lt-suc}
 use Rattle.std.proofs.Math.Path.{ap, ◌∙◌}

@@ -1,4 +1,5 @@
--- The batch of a market: its orders are the market's live orders, it may be cleared, and the premiums can be moved.
+-- The batch of a market: its orders are the market's live orders, it may be cleared, and the
+-- premiums can be moved.
 use Rattle.std.proofs.Common.{◌≡◌, ℕ, List, [], ◌∷◌, length, map, Option, None, Some, IsSome, refl, sym, ap, ◌∙◌, subst, arith}
 use Rattle.std.specs.List.{All, zip}
 use Rattle.std.specs.Option.{option_map, option_map_or}

@@ -1,4 +1,5 @@
--- Ledger and book stay joined: the house is open, live orders are of open accounts, and reserves are the sums over live buys.
+-- Ledger and book stay joined: the house is open, live orders are of open accounts, and reserves
+-- are the sums over live buys.
 use Rattle.std.proofs.Common.{◌≡◌, ℕ, ◌+◌, ◌≤◌, [], ◌∷◌, ◌++◌, true, None, Some, IsSome, refl, sym, ap, ◌∙◌, subst, arith}
 use Rattle.std.proofs.lemmas.Bool.Decides.{nat_tests}
 use Rattle.cash_ledger.specs.Ledger.{LedgerState, is_open, reserved_of}

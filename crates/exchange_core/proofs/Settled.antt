@@ -1,4 +1,5 @@
--- The positions of a market that is settled: each is paid out at the prices, from an account that is open.
+-- The positions of a market that is settled: each is paid out at the prices, from an account that
+-- is open.
 use Rattle.std.proofs.Common.{◌≡◌, ℕ, ◌+◌, ◌≤◌, List, [], ◌∷◌, Bool, true, false, cond, length, nat_eq, Some, refl, sym, ap, ◌∙◌, subst}
 use Rattle.std.specs.List.{All}
 use Rattle.std.proofs.lemmas.List.Elements.{All-nil, All-cons, All-head, All-tail, All-map, All-weaker}

@@ -54,8 +54,8 @@ budget_of (Clear market budget) = budget
 budget_of (Settle market count prices) = 0
 budget_of (BalanceOf account) = 0
 
--- from such a state, the mark and the units of a batch that is cleared are those of the end of the run: what it cleared, the step that did not
--- fit, or a unit wanted beyond the budget
+-- from such a state, the mark and the units of a batch that is cleared are those of the end of the
+-- run: what it cleared, the step that did not fit, or a unit wanted beyond the budget
 abbrev pub IsMarkedFor : Command → Reply → Type 0
 IsMarkedFor command reply = IfCleared (λ batch outcome. IsMarked batch (budget_of command) outcome) reply
 

@@ -11,7 +11,8 @@ is_held_by account market position = nat_eq position.account account && nat_eq p
 abbrev pub positions_of : ℕ → ℕ → List Position → List Position
 positions_of account market positions = filter (is_held_by account market) positions
 
--- the market numbers so far, and that of a position of the account at its place in their order, unless it is there
+-- the market numbers so far, and that of a position of the account at its place in their order,
+-- unless it is there
 abbrev pub with_market : ℕ → List ℕ → Position → List ℕ
 with_market account markets position = if nat_eq position.account account then insert_key nat_cmp markets position.market else markets
 

@@ -34,8 +34,9 @@ on_if_trading market = if market.settled then None else Some market.underlyings
 abbrev pub trading_on : Markets → ℕ → Option ℕ
 trading_on markets market = option_map_or on_if_trading (lookup (nat_eq market) markets) None
 
--- a position of an open account in a market that is there and not settled: its options are within the limits and on the
--- market's underlyings, and its fill is above 0 and counts at most 1,000,000 options
+-- a position of an open account in a market that is there and not settled: its options are within
+-- the limits and on the market's underlyings, and its fill is above 0 and counts at most 1,000,000
+-- options
 pub record IsPositionKept (opened : List ℕ) (markets : Markets) (position : Position) : Type 0 where
   pub account : is_open opened position.account ≡ true
   pub underlyings : ℕ
@@ -48,8 +49,8 @@ pub record IsPositionKept (opened : List ℕ) (markets : Markets) (position : Po
 abbrev pub ArePositionsKept : List ℕ → Markets → List Position → Type 0
 ArePositionsKept accounts markets positions = All (IsPositionKept accounts markets) positions
 
--- the house is open, each live order is of an open account, and the book is kept: each live order is within the limits and
--- in a market on as many underlyings as its options, which is not settled
+-- the house is open, each live order is of an open account, and the book is kept: each live order
+-- is within the limits and in a market on as many underlyings as its options, which is not settled
 pub record AreOrdersKept (opened : List ℕ) (state : BookState) : Type 0 where
   pub house : is_open opened 0 ≡ true
   pub accounts : All (IsOfOpen opened) (live_orders state.markets)
@@ -60,7 +61,8 @@ pub record IsKept (state : ExchangeState) : Type 0 where
   pub orders : AreOrdersKept state.accounts state.book
   pub positions : ArePositionsKept state.accounts state.book.markets state.positions
 
--- orders are kept by ledger and book together, and what is reserved of each account is the sum over its live buys
+-- orders are kept by ledger and book together, and what is reserved of each account is the sum over
+-- its live buys
 pub record AreJoined (ledger : LedgerState) (book : BookState) : Type 0 where
   pub kept : AreOrdersKept ledger.accounts book
   pub reserves : (q : ℕ) → reserved_of ledger q ≡ reserve_of q (live_orders book.markets)
@@ -74,7 +76,8 @@ pub record IsPaidOut (accounts : List ℕ) (paid : PaidOut) : Type 0 where
   pub account : is_open accounts paid.account ≡ true
   pub amount : paid.amount ≤ MAX_GAIN
 
--- an order whose premium can be moved: its account is open, and its price and quantity are within the limits
+-- an order whose premium can be moved: its account is open, and its price and quantity are within
+-- the limits
 pub record IsPayable (accounts : List ℕ) (order : Order) : Type 0 where
   pub account : is_open accounts order.account ≡ true
   pub price : order.price ≤ MAX_PRICE

@@ -1,4 +1,5 @@
--- What moves as a market is settled: the house pays the gains of positions, and is paid their losses.
+-- What moves as a market is settled: the house pays the gains of positions, and is paid their
+-- losses.
 use Rattle.std.specs.Prelude.{ℕ, ◌++◌, List, [], ◌∷◌}
 use Rattle.cash_ledger.specs.declared.entry.Entry.{Entry}
 use Rattle.cash_ledger.specs.declared.entry.Cause.{Cause}

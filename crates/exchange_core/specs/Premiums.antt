@@ -1,4 +1,5 @@
--- The premiums of a cleared batch: each order trades at its own limit price, and the house stands between.
+-- The premiums of a cleared batch: each order trades at its own limit price, and the house stands
+-- between.
 use Rattle.std.specs.Prelude.{ℕ, ◌++◌, List, [], ◌∷◌, pos, int_lt, if◌then◌else◌}
 use Rattle.cash_ledger.specs.declared.entry.Entry.{Entry}
 use Rattle.cash_ledger.specs.declared.entry.Cause.{Cause}
@@ -17,7 +18,8 @@ abbrev pub premium_transfer : Side → ℕ → ℕ → Cause → List Entry
 premium_transfer Buy account amount cause = transfer_of account 0 amount cause
 premium_transfer Sell account amount cause = transfer_of 0 account amount cause
 
--- the entries of one fill: its premium moves, even where it is 0; an order that is not filled has none
+-- the entries of one fill: its premium moves, even where it is 0; an order that is not filled has
+-- none
 abbrev pub premiums_of : ℕ → Order → Fraction → List Entry
 premiums_of batch order fill =
     if int_lt (pos 0) fill.numerator then premium_transfer order.side order.account (premium_of order.side fill order.price) (Premium batch) else []

@@ -1,5 +1,5 @@
--- The refusals of each command, each with its condition, in the order in which they are tried: those of ledger and book, by
--- their names in the exchange.
+-- The refusals of each command, each with its condition, in the order in which they are tried:
+-- those of ledger and book, by their names in the exchange.
 use Rattle.std.specs.Prelude.{ℕ, ℤ, ◌*◌, Bool, List, ◌++◌, Option}
 use Rattle.cash_ledger.specs.declared.ledger.LedgerRefusal.{LedgerRefusal}
 use Rattle.cash_ledger.specs.Ledger.{LedgerState, free_of}

@@ -62,8 +62,8 @@ abbrev pub batch_in : ExchangeState → ℕ → Batch
 batch_in state market =
     option_map_or book.batch_of (book.market_of state.book market) (record { underlyings = 0; orders = [] })
 
--- a batch of the market is cleared with these fills of its live orders: their premiums move and they are positions, and what is
--- unfilled lapses
+-- a batch of the market is cleared with these fills of its live orders: their premiums move and
+-- they are positions, and what is unfilled lapses
 abbrev pub cleared_with : ExchangeState → ℕ → List Frac128 → ExchangeState
 cleared_with state market fills =
     let batch = batch_in state market in
@@ -83,7 +83,8 @@ cleared_as state market outcome =
 abbrev pub clear_effect : ExchangeState → ℕ → ℕ → Reply × ExchangeState
 clear_effect state market budget = cleared_as state market (outcome_of (batch_in state market) budget)
 
--- the market is settled for good at the prices: its live orders lapse, its positions are paid out and taken out
+-- the market is settled for good at the prices: its live orders lapse, its positions are paid out
+-- and taken out
 abbrev pub settle_effect : ExchangeState → ℕ → List ℕ → Reply × ExchangeState
 settle_effect state market prices =
     let payouts = payouts_of market prices state.positions in (

@@ -82,7 +82,8 @@ butterfly = after (after (after three_traders (call_at Buy 1 10 6)) (call_at Sel
 abbrev pub balances : List ℕ → ExchangeState → List ℤ
 balances accounts state = map (λ account. balance_of account state.entries) accounts
 
--- the buy is filled, and 2/7 and 5/7 of the sells: the buyer pays 6, and each seller gets 16/7 or 20/7, rounded down
+-- the buy is filled, and 2/7 and 5/7 of the sells: the buyer pays 6, and each seller gets 16/7 or
+-- 20/7, rounded down
 abbrev pub ButterflyIsPaid : Type 0
 ButterflyIsPaid = balances (0 ∷ 1 ∷ 2 ∷ 3 ∷ []) (after butterfly (Clear 1 100)) ≡ pos 2 ∷ pos 94 ∷ pos 2 ∷ pos 2 ∷ []
 
@@ -94,7 +95,8 @@ at_price price = Settle 1 1 (price ∷ 0 ∷ 0 ∷ 0 ∷ 0 ∷ 0 ∷ 0 ∷ 0 ∷
 abbrev pub settled_butterfly : ExchangeState
 settled_butterfly = after (after butterfly (Clear 1 100)) (at_price 11)
 
--- at 11 the buy gains 1, and the sells lose 12/7, which is rounded to 2, and nothing. Then the market is settled for good
+-- at 11 the buy gains 1, and the sells lose 12/7, which is rounded to 2, and nothing. Then the
+-- market is settled for good
 pub record ButterflyIsSettled : Type 0 where
   pub reply : (step (after butterfly (Clear 1 100)) (at_price 11)).0
       ≡ Settled 1 0 (
@@ -123,8 +125,8 @@ abbrev pub basket_at : Side → ℕ → ℕ → ℕ → ℤ → ℤ → Command
 basket_at side account strike price first second =
     Trade side account 1 Call (pos strike) price 1 2 (first ∷ second ∷ pos 0 ∷ pos 0 ∷ pos 0 ∷ pos 0 ∷ pos 0 ∷ pos 0 ∷ [])
 
--- a call on the sum with strike 10 is bought at 6; one on the first with strike 4 is sold at 3, and one on the second with
--- strike 6 at 2
+-- a call on the sum with strike 10 is bought at 6; one on the first with strike 4 is sold at 3, and
+-- one on the second with strike 6 at 2
 abbrev pub basket : ExchangeState
 basket = after (after (after on_two (basket_at Buy 1 10 6 (pos 1) (pos 1))) (basket_at Sell 2 4 3 (pos 1) (pos 0))) (basket_at Sell 3 6 2 (pos 0) (pos 1))
 

@@ -1,4 +1,5 @@
--- Whatever answers lines as a run does, but for texts beside these that change nothing, tells answers that keep what is promised.
+-- Whatever answers lines as a run does, but for texts beside these that change nothing, tells
+-- answers that keep what is promised.
 use Rattle.std.proofs.Common.{◌≡◌, inl, inr, ℕ, List, [], ◌∷◌, ◌++◌, All, map, refl, sym, ap, ◌∙◌, subst}
 use Rattle.std.proofs.lemmas.List.Elements.{All-nil, All-cons}
 use Rattle.command_text.specs.declared.command.Line.{Line}

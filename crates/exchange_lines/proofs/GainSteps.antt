@@ -50,7 +50,8 @@ abbrev pub IsTrader : Order → Type 0
 IsTrader order = 1 ≤ order.account
 
 module _ (state : ExchangeState) (result : Reply × ExchangeState) where
-  -- neither: positions, the number of batches, the house's entries for each batch and each listing stay
+  -- neither: positions, the number of batches, the house's entries for each batch and each listing
+  -- stay
   pub record IsQuiet : Type 0 where
     pub reply : is_plain result.0 ≡ true
     pub positions : result.1.positions ≡ state.positions

@@ -1,4 +1,5 @@
--- What holds between the steps of a run: of each state, of a batch until its market is settled, and of it from then on.
+-- What holds between the steps of a run: of each state, of a batch until its market is settled, and
+-- of it from then on.
 use Rattle.std.proofs.Common.{◌≡◌, ℕ, ◌+◌, ◌<◌, ◌≤◌, List, [], ◌++◌, true, false, not, nat_eq, ◌⊎◌, inl, inr, pos, ◌+ℤ◌, ◌-ℤ◌, refl, sym, ap, ◌∙◌, subst, arith}
 use Rattle.std.specs.List.{All}
 use Rattle.std.proofs.lemmas.Bool.Decides.{nat_tests}
@@ -42,7 +43,8 @@ HasTrader position = 1 ≤ position.account
 abbrev IsNumbered : ℕ → Position → Type 0
 IsNumbered finished position = position.batch ≤ finished
 
--- no account of an order or a position is the house, and no batch that is still to come has positions or entries
+-- no account of an order or a position is the house, and no batch that is still to come has
+-- positions or entries
 pub record IsRunning (state : ExchangeState) : Type 0 where
   pub kept : IsKept state
   pub traders : All IsTrader (all_live state)

@@ -1,4 +1,5 @@
--- What the house gains of a batch: the premiums of its fills, and the payoffs once its market is settled.
+-- What the house gains of a batch: the premiums of its fills, and the payoffs once its market is
+-- settled.
 use Rattle.std.specs.Prelude.{ℕ, ℤ, pos, ◌-ℤ◌, ◌≡◌, Bool, false, nat_eq, List, filter}
 use Rattle.std.specs.List.{zip}
 use Rattle.arithmetic.specs.Sums.{total}
@@ -35,7 +36,8 @@ is_payout_of number paid = nat_eq paid.batch number
 abbrev pub paid_to_traders : ℕ → List PaidOut → ℤ
 paid_to_traders number payouts = total paid_to_trader (filter (is_payout_of number) payouts)
 
--- the house's gain of a batch under its number, from its fills and from what was paid out as its market was settled
+-- the house's gain of a batch under its number, from its fills and from what was paid out as its
+-- market was settled
 abbrev pub house_gain : ℕ → Batch → Outcome → List PaidOut → ℤ
 house_gain number batch outcome payouts = premium_gains batch.orders outcome.fills -ℤ paid_to_traders number payouts
 

@@ -1,4 +1,5 @@
--- Whole runs of an exchange: the replies, the state after them, and what each batch leaves to the house.
+-- Whole runs of an exchange: the replies, the state after them, and what each batch leaves to the
+-- house.
 use Rattle.std.specs.Prelude.{ℕ, ◌≡◌, List, [], ◌∷◌, ⊤}
 use Rattle.std.specs.List.{All}
 use Rattle.cash_ledger.specs.declared.entry.Entry.{Entry}
@@ -53,7 +54,8 @@ IfSettles market P (Balance account balance reserved) = ⊤
 IfSettles market P (Refused number field) = ⊤
 
 -- ---- of all replies
--- a fact of each batch that is cleared and of what is paid out, where a later reply settles its market
+-- a fact of each batch that is cleared and of what is paid out, where a later reply settles its
+-- market
 abbrev pub OfEachSettled : (ℕ → Batch → Outcome → List PaidOut → Type 0) → List Reply → Type 0
 OfEachSettled P [] = ⊤
 OfEachSettled P (reply ∷ later) =

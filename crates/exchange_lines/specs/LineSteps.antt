@@ -59,7 +59,8 @@ RunsAreByLines = (input : List ℕ) → output_of line_output input ≡ output i
 abbrev pub IsRefusalText : ℕ → List ℕ → Type 0
 IsRefusalText number text = (refusal : Refusal) × (text ≡ reply_line number (refused_with refusal) ++ 10 ∷ [])
 
--- a run's answer to a line that says this, or one of the texts beside a run's answers, which leaves the exchange as it is
+-- a run's answer to a line that says this, or one of the texts beside a run's answers, which leaves
+-- the exchange as it is
 abbrev pub IsAsRun : (ℕ → List ℕ → Type 0) → ℕ → ExchangeState → Body → List ℕ × ExchangeState → Type 0
 IsAsRun IsBeside number state said answer =
     (answer ≡ written_line number (reply_to state said)) ⊎ (IsBeside number answer.0 × (answer.1 ≡ state))

@@ -1,4 +1,5 @@
--- What takes an exchange further: what a line says, and a batch that is cleared with an outcome from elsewhere.
+-- What takes an exchange further: what a line says, and a batch that is cleared with an outcome
+-- from elsewhere.
 use Rattle.std.specs.Prelude.{ℕ, ◌≡◌, List, None}
 use Rattle.cert_check.specs.declared.outcome.Outcome.{Outcome}
 use Rattle.cert_check.specs.Laws.{IsCovered}

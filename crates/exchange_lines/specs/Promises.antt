@@ -25,7 +25,8 @@ use Rattle.exchange_lines.specs.Replies.{Answer, IsMarkedAs, answer_to, answers,
 abbrev pub IsCoveredIn : Answer → Type 0
 IsCoveredIn answer = IfCleared IsCovered answer.reply
 
--- a batch that is marked optimal has the greatest surplus of any fractional fills, and its measure proves it
+-- a batch that is marked optimal has the greatest surplus of any fractional fills, and its measure
+-- proves it
 abbrev pub IsGreatestIn : Answer → Type 0
 IsGreatestIn answer = IfCleared IsProvedGreatest answer.reply
 
@@ -36,7 +37,8 @@ IsJudgedYes batch outcome = verdict_of limit batch outcome ≡ Yes
 abbrev pub IsJudgedYesIn : Answer → Type 0
 IsJudgedYesIn answer = IfCleared IsJudgedYes answer.reply
 
--- a batch lacks this mark only where its reference run stops, at the step or for want of the unit that the reply tells
+-- a batch lacks this mark only where its reference run stops, at the step or for want of the unit
+-- that the reply tells
 abbrev pub IsMarkedIn : Answer → Type 0
 IsMarkedIn answer = IsMarkedAs answer.said answer.reply
 
@@ -78,8 +80,8 @@ abbrev pub told_texts : List LineAnswer → List ℕ
 told_texts [] = []
 told_texts (answer ∷ more) = told_text answer ++ told_texts more
 
--- the step tells this for the line in the state: a run's answer to what the line says, or one of the texts beside these, by which
--- the state stays
+-- the step tells this for the line in the state: a run's answer to what the line says, or one of
+-- the texts beside these, by which the state stays
 abbrev pub IsAnswerTo : (ℕ → List ℕ → Type 0) → LineStep → ExchangeState → InputLine → LineAnswer → Type 0
 IsAnswerTo IsBeside step state line (replied answer) =
     (answer ≡ answer_to state (line_of line)) × (step line.number state line.bytes ≡ line_output line.number state line.bytes)
@@ -93,8 +95,8 @@ AreAnswersTo IsBeside step state (line ∷ lines) [] = ⊥
 AreAnswersTo IsBeside step state (line ∷ lines) (answer ∷ answers) =
     IsAnswerTo IsBeside step state line answer × AreAnswersTo IsBeside step (step line.number state line.bytes).1 lines answers
 
--- the bytes are the text of the answers to the lines of the input; each keeps what is promised, they leave the house its gains, and the
--- exchange keeps to what holds between two lines
+-- the bytes are the text of the answers to the lines of the input; each keeps what is promised,
+-- they leave the house its gains, and the exchange keeps to what holds between two lines
 pub record TellAnswers (IsBeside : ℕ → List ℕ → Type 0) (step : LineStep) (input bytes : List ℕ) : Type 0 where
   pub answers : List LineAnswer
   pub to_lines : AreAnswersTo IsBeside step empty_exchange (input_lines input) answers
@@ -122,6 +124,7 @@ OutputIsAnswers = (input : List ℕ) → output input ≡ answers_text (answers 
 abbrev pub OfEachAnswer : (Answer → Type 0) → Type 0
 OfEachAnswer Holds = (input : List ℕ) → All Holds (answers input)
 
--- whatever the input, the house gains at least each surplus, and its entries for each batch sum to the gain
+-- whatever the input, the house gains at least each surplus, and its entries for each batch sum to
+-- the gain
 abbrev pub AnswersGain : Type 0
 AnswersGain = (input : List ℕ) → HouseGains (state_after input).entries (replies_of (answers input))

@@ -33,7 +33,8 @@ abbrev pub answers_text : List Answer → List ℕ
 answers_text [] = []
 answers_text (answer ∷ more) = (reply_line answer.line answer.reply ++ 10 ∷ []) ++ answers_text more
 
--- a reply that clears a batch has the mark and the units of the end of its reference run within the budget of the command
+-- a reply that clears a batch has the mark and the units of the end of its reference run within the
+-- budget of the command
 abbrev pub IsMarkedAs : Body → Reply → Type 0
 IsMarkedAs (Command command) reply = IsMarkedFor command reply
 IsMarkedAs Syntax reply = ⊤

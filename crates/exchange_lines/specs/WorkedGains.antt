@@ -32,7 +32,8 @@ butterfly_commands =
     Open 1 ∷ Open 2 ∷ Open 3 ∷ Deposit 1 100 ∷ Market 1 1
     ∷ call_at Buy 1 10 6 ∷ call_at Sell 2 5 8 ∷ call_at Sell 3 12 4 ∷ Clear 1 100 ∷ at_price 11 ∷ []
 
--- the buyer pays 6 and each seller gets 2; then the buyer is paid 1 and a seller pays 2. So the house has 3, and 6/7 was told
+-- the buyer pays 6 and each seller gets 2; then the buyer is paid 1 and a seller pays 2. So the
+-- house has 3, and 6/7 was told
 pub record ButterflyGains : Type 0 where
   pub surplus : fraction_of butterfly_outcome.claim.surplus ≡ over (pos 6) 7
   pub premiums : premium_gains butterfly_batch.orders butterfly_outcome.fills ≡ pos 2

@@ -23,8 +23,9 @@ status_at ended.WriteFault = WriteFault
 status_at ended.TooLong = TooLong
 status_at ended.Memory = Memory
 
--- by one way of answering: at Done all was taken and its output is written; at a read fault that of the complete lines, and at a line too
--- long or one too many that of the lines before it; at a write fault or for want of memory a front of it
+-- by one way of answering: at Done all was taken and its output is written; at a read fault that of
+-- the complete lines, and at a line too long or one too many that of the lines before it; at a
+-- write fault or for want of memory a front of it
 abbrev pub ServedBy : {S : Type 0} → (ℕ → S → List ℕ → List ℕ × S) → Bool → S → Status → Known → Type 0
 ServedBy step skips start Done known = WroteAll step skips start known
 ServedBy step skips start Usage known = ⊥
@@ -55,9 +56,10 @@ ServedTell Lines input bytes = TellProposals input bytes
 ServedTell Sessions input bytes = TellAllOnce input bytes
 
 -- ---- proposals
--- at Done all was taken and each line has its answer: a proposal that is judged a bound where it tells a book, and else nothing; at a
--- read fault the complete lines have, and at a line too long or one too many those before it; at a write fault or for want of memory a
--- front of such answers is written
+-- at Done all was taken and each line has its answer: a proposal that is judged a bound where it
+-- tells a book, and else nothing; at a read fault the complete lines have, and at a line too long
+-- or one too many those before it; at a write fault or for want of memory a front of such answers
+-- is written
 abbrev pub ProposedAt : Status → Known → Type 0
 ProposedAt Done known = proposing.WroteAll known
 ProposedAt Usage known = ⊥

@@ -24,8 +24,8 @@ use Rattle.exchange_program.specs.declared.status.Status.{Status}
 use Rattle.exchange_program.specs.declared.status.Status.TheVariants.{Done, CheckNo}
 
 -- ---- the input
--- how many bytes are read at most, all of them before anything is written: none for a demo. There is no such limit where lines are answered
--- between two reads
+-- how many bytes are read at most, all of them before anything is written: none for a demo. There
+-- is no such limit where lines are answered between two reads
 abbrev pub limit_of : Request → Option ℕ
 limit_of (Lines mode) = Some MAX_INPUT
 limit_of (Check journal) = Some MAX_JOURNAL
@@ -87,7 +87,8 @@ abbrev pub past_size : Request → ℕ
 past_size request = option_map_or (λ limit. limit + 1) (limit_of request) (line_limit + 1)
 
 -- ---- the output
--- a fact of what is written, the input being these bytes, where they define it: which proposals are written no definition says
+-- a fact of what is written, the input being these bytes, where they define it: which proposals are
+-- written no definition says
 abbrev pub OfOutput : Request → List ℕ → (List ℕ → Type 0) → Type 0
 OfOutput (Lines mode) input P = P (mode_output mode input)
 OfOutput (Check journal) input P = P (report_line journal input)
@@ -115,8 +116,8 @@ abbrev pub HasEnded : Status → Type 0
 HasEnded status = (status ≡ Done) ⊎ (status ≡ CheckNo)
 
 -- ---- facts of one request alone
--- what is promised of the bytes that are written for an input: its lines are told their answers, and its messages each once; each book has
--- its proposal
+-- what is promised of the bytes that are written for an input: its lines are told their answers,
+-- and its messages each once; each book has its proposal
 abbrev pub Promised : Request → List ℕ → List ℕ → Type 0
 Promised (Lines mode) input bytes = TellAnswers (IsBesideIn mode) (step_in mode) input bytes
 Promised (Check journal) input bytes = Unit {0}
@@ -125,7 +126,8 @@ Promised (Serve served) input bytes = ServedTell served input bytes
 Promised Propose input bytes = IsWrittenFor input bytes
 Promised (Demo seed count) input bytes = Unit {0}
 
--- and of those of which a front is written: the same, but that proposals may be for the books among its first lines
+-- and of those of which a front is written: the same, but that proposals may be for the books among
+-- its first lines
 abbrev pub PromisedFront : Request → List ℕ → List ℕ → Type 0
 PromisedFront (Lines mode) input bytes = Promised (Lines mode) input bytes
 PromisedFront (Check journal) input bytes = Promised (Check journal) input bytes

@@ -1,4 +1,5 @@
--- Messages whose bodies are lines of any kind, proposals among them, each answered between two reads.
+-- Messages whose bodies are lines of any kind, proposals among them, each answered between two
+-- reads.
 use Rattle.std.specs.Prelude.{ℕ, List, false}
 use Rattle.exchange_sessions.specs.Laws.{SessionsTold}
 use Rattle.live_lines.specs.Output.{output_of}

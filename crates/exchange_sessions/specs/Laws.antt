@@ -10,8 +10,9 @@ use Rattle.exchange_sessions.specs.Answers.{sessions_output}
 use Rattle.exchange_sessions.specs.Served.{exchange_reply}
 
 -- ---- by any server
--- Bytes are the text of the answers to the lines of an input, by which each message takes effect once, in its session's order. The
--- bodies as the lines of one input have this output, and what is told of it holds of the replies.
+-- Bytes are the text of the answers to the lines of an input, by which each message takes effect
+-- once, in its session's order. The bodies as the lines of one input have this output, and what is
+-- told of it holds of the replies.
 pub record SessionsTold (reply : Replies) (output_by : List ℕ → List ℕ) (Tell : List ℕ → List ℕ → Type 0) (input bytes : List ℕ) : Type 0 where
   pub once : lines.TellOnce reply output_by input bytes
   pub promises : Tell (as_input (accepted_bodies (answers_by reply input))) (replies_text (told_first (answers_by reply input)))

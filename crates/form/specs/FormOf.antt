@@ -3,7 +3,8 @@ use Rattle.std.specs.Prelude.{◌++◌, ◌&&◌, min, max, nat_le, List, length
 use Rattle.form.specs.declared.forms.Form.{Form}
 use Rattle.form.specs.Padded.{padded_range, padded_length, padded_zeros}
 
--- the form whose option is v, where v has 2 to 9 entries; one entry for each place, and 0 past the end
+-- the form whose option is v, where v has 2 to 9 entries; one entry for each place, and 0 past the
+-- end
 unfoldable pub form_of : List ℤ → Form
 form_of v = record {
   count = max 2 (min 9 (length v));

@@ -6,7 +6,8 @@ pub use Rattle.form.specs.Vector.{IsState, scale_of, dot, positive_part, payoff,
 pub use Rattle.form.specs.Options.{option_of}
 pub use Rattle.form.specs.Bundles.{leg_of, legs_in, bundle_legs, count_sizes, IsOnCount, is_on_count, IsOneOption, first_option, BundlesAreLegs}
 
--- the bundle of an order. The laws hold of any bundles, so that no proof of them opens this definition
+-- the bundle of an order. The laws hold of any bundles, so that no proof of them opens this
+-- definition
 unfoldable pub bundle_of : Order → List BundleLeg
 bundle_of order = bundle_legs order.bundle
 

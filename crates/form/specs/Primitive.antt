@@ -41,8 +41,8 @@ multiples_of limit D [] = Ok []
 multiples_of limit D (f ∷ fs) =
     after (mul_of limit f D) (λ p. after (multiples_of limit D fs) (λ z. Ok (positive_part p.numerator ∷ z)))
 
--- the primitive vector in the direction of fractions: each times the least common multiple of the denominators, and then
--- divided by what the entries have in common
+-- the primitive vector in the direction of fractions: each times the least common multiple of the
+-- denominators, and then divided by what the entries have in common
 unfoldable pub primitive_of : ℕ → List Fraction → Result (List ℕ) Wide
 primitive_of limit fs = after (common_multiple_of limit fs) (λ D. after (multiples_of limit D fs) (λ z. Ok (primitive_vector z)))
 
@@ -53,7 +53,8 @@ pub record IsPrimitiveOf (n : ℕ) (z y : List ℕ) : Type 0 where
   pub factor_positive : 1 ≤ common_divisor z
   pub multiple : z ≡ map (λ x. common_divisor z * x) y
 
--- the primitive vector of a state is a state whose entries have no common divisor above 1, and the state is a multiple of it
+-- the primitive vector of a state is a state whose entries have no common divisor above 1, and the
+-- state is a multiple of it
 abbrev pub PrimitiveVectorsArePrimitive : Type 0
 PrimitiveVectorsArePrimitive = (n : ℕ) (z : List ℕ) → IsState n z → IsPrimitiveOf n z (primitive_vector z)
 
@@ -67,8 +68,8 @@ pub record IsLeastMultiple (fs : List Fraction) (D : ℕ) : Type 0 where
   pub multiple : IsCommonMultiple fs D
   pub least : (m : ℕ) → IsCommonMultiple fs m → D ∣ m
 
--- y is the primitive vector in the direction of the fractions: that of the whole numbers that stand over the least common
--- multiple of their denominators
+-- y is the primitive vector in the direction of the fractions: that of the whole numbers that stand
+-- over the least common multiple of their denominators
 pub record IsPrimitiveDirection (fs : List Fraction) (y : List ℕ) : Type 0 where
   pub denominator : ℕ
   pub least : IsLeastMultiple fs denominator

@@ -1,11 +1,12 @@
--- Whole vectors: options as lists of whole numbers, states as lists of natural numbers, bundles of options, and what they
--- pay. This file names no struct, so that ghost fields may cite it.
+-- Whole vectors: options as lists of whole numbers, states as lists of natural numbers, bundles of
+-- options, and what they pay. This file names no struct, so that ghost fields may cite it.
 use Rattle.std.specs.Prelude.{ℕ, ◌+◌, ◌≡◌, ◌<◌, ◌≤◌, Bool, true, false, ◌&&◌, List, [], ◌∷◌, length, map, drop, get_or, ℤ, pos, neg_ℤ, ◌+ℤ◌, ◌*ℤ◌}
 use Rattle.std.specs.Ordering.{int_eq}
 use Rattle.std.specs.List.{sum, All}
 pub use Rattle.arithmetic.specs.Sums.{positive_part}
 
--- an option on n underlyings is a whole vector of n + 1 entries: the call with strike K and weights w is (-K, w)
+-- an option on n underlyings is a whole vector of n + 1 entries: the call with strike K and weights
+-- w is (-K, w)
 abbrev pub call_of : ℤ → List ℤ → List ℤ
 call_of K w = neg_ℤ K ∷ w
 
@@ -20,8 +21,8 @@ strike_entry v = get_or v 0 (pos 0)
 abbrev pub weights_of : List ℤ → List ℤ
 weights_of v = drop 1 v
 
--- a state of n underlyings: a whole vector (t, s) with no entry below 0 and some entry above 0. With t above 0 it is the
--- settlement at the prices s / t, and with t at 0 a ray
+-- a state of n underlyings: a whole vector (t, s) with no entry below 0 and some entry above 0.
+-- With t above 0 it is the settlement at the prices s / t, and with t at 0 a ray
 abbrev pub IsState : ℕ → List ℕ → Type 0
 IsState n z = (length z ≡ n + 1) × (0 < sum z)
 

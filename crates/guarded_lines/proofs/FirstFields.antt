@@ -1,4 +1,5 @@
--- What a line says does not depend on the fields past those that a command can have, but for the first of them.
+-- What a line says does not depend on the fields past those that a command can have, but for the
+-- first of them.
 use Rattle.std.proofs.Common.{◌≡◌, ◌==◌, ℕ, List, length, codes, arith}
 use Rattle.command_text.specs.Fields.{first_of_many}
 use Rattle.command_text.proofs.FurtherWords.{same_said}

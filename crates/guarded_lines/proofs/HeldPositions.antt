@@ -1,4 +1,5 @@
--- The positions that an account has in a market are on its underlyings, and may be asked for a margin.
+-- The positions that an account has in a market are on its underlyings, and may be asked for a
+-- margin.
 use Rattle.std.proofs.Common.{◌≡◌, ℕ, ◌+◌, ◌≤◌, List, [], ◌∷◌, Bool, true, false, nat_eq, if◌then◌else◌, Option, Some, None, option_map, refl, sym, ap, ◌∙◌, subst, lit≤}
 use Rattle.std.specs.List.{All}
 use Rattle.std.specs.Map.{lookup}

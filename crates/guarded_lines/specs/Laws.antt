@@ -17,11 +17,13 @@ use Rattle.guarded_lines.specs.Output.{IsMarginText, guarded_line}
 use Rattle.guarded_lines.specs.Replies.{guarded_reply_to}
 use Rattle.guarded_lines.specs.Settlements.{after_settling}
 
--- each line is answered as in a run, or by a refusal or by what is told of a margin, and then the exchange is as it was
+-- each line is answered as in a run, or by a refusal or by what is told of a margin, and then the
+-- exchange is as it was
 abbrev pub GuardedAnswerAsRun : Type 0
 GuardedAnswerAsRun = AnswersAsRun IsMarginText guarded_line
 
--- what is written for an input is the text of the answers to its lines, which keep what is promised and leave the house its gains
+-- what is written for an input is the text of the answers to its lines, which keep what is promised
+-- and leave the house its gains
 abbrev pub GuardedTellAnswers : Type 0
 GuardedTellAnswers = OutputTells IsMarginText guarded_line
 
@@ -30,8 +32,8 @@ GuardedTellAnswers = OutputTells IsMarginText guarded_line
 abbrev pub answer_to_withdrawal : ExchangeState → ℕ → ℕ → GuardedReply × ExchangeState
 answer_to_withdrawal state account amount = guarded_reply_to state (said.Plain (Command (Withdraw account amount)))
 
--- after a withdrawal that is accepted, were all markets in which the account has positions settled next, in rising number and at
--- any prices, its balance would not be below 0
+-- after a withdrawal that is accepted, were all markets in which the account has positions settled
+-- next, in rising number and at any prices, its balance would not be below 0
 abbrev pub WithdrawalsAreCovered : Type 0
 WithdrawalsAreCovered =
     (state : ExchangeState) (account amount : ℕ) (balance : ℤ) (prices : ℕ → List ℕ) → IsKept state → 1 ≤ account

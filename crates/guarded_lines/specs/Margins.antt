@@ -68,7 +68,8 @@ told_of (wide_at units wide) = told.Wide
 told_of (no_unit_left units) = told.Budget
 
 -- ---- the reply
--- the refusals of a request, each with its condition, in the order in which they are tried: by what is told of the market
+-- the refusals of a request, each with its condition, in the order in which they are tried: by what
+-- is told of the market
 abbrev pub market_refusals : Option MarketInfo → List (Bool × Refusal)
 market_refusals None = (true, NoMarket) ∷ []
 market_refusals (Some info) = (info.settled, Settled) ∷ []

@@ -17,8 +17,8 @@ use Rattle.guarded_lines.specs.Withdrawals.{uncovered_by}
 abbrev pub plain_reply_to : ExchangeState → Body → GuardedReply × ExchangeState
 plain_reply_to state said = let now = reply_to state said in (Plain now.0, now.1)
 
--- the reply to what a line says, and the exchange after it: a run's, but for a withdrawal that would leave less than is needed.
--- That and a request for a margin change nothing
+-- the reply to what a line says, and the exchange after it: a run's, but for a withdrawal that
+-- would leave less than is needed. That and a request for a margin change nothing
 abbrev pub guarded_reply_to : ExchangeState → GuardedBody → GuardedReply × ExchangeState
 guarded_reply_to state (body.Plain said) =
     option_map_or (λ need. (Uncovered need, state)) (uncovered_by state said) (plain_reply_to state said)

@@ -202,7 +202,8 @@ object_braced (list ps) h = absurd h
 
 -- ---- lines of `serve`
 
--- it is found sound, as a line of `serve` and as any line, and is the print of an object of few levels
+-- it is found sound, as a line of `serve` and as any line, and is the print of an object of few
+-- levels
 record IsFoundSound (text : List ℕ) : Type 0 where
   served : IsNoFault (served_finding text)
   heard : IsNoFault (audit_finding text)

@@ -1,4 +1,5 @@
--- A line that tells a quote, prices, a margin or a need is read as that exactly where it is its print.
+-- A line that tells a quote, prices, a margin or a need is read as that exactly where it is its
+-- print.
 use Rattle.std.proofs.Common.{◌≡◌, ℕ, ◌≤◌, pos, int_le, unsigned_abs, List, true, Ok, option_and_then, codes, refl, ap, ◌∙◌, arith}
 use Rattle.std.specs.Prelude.{⊤}
 use Rattle.std.specs.List.{AllByRecursion}

@@ -1,4 +1,5 @@
--- A line of `serve` or of `serve sessions` that is not found faulty is a sound one, and what a report says of its lines.
+-- A line of `serve` or of `serve sessions` that is not found faulty is a sound one, and what a
+-- report says of its lines.
 use Rattle.std.proofs.Common.{◌≡◌, ℕ, ◌-◌, List, ◌++◌, length, take, drop, Bool, true, false, ◌==◌, Option, Some, None, Result, Ok, Err, refl, sym, ap, ap₂, ◌∙◌, inl, inr, if◌then◌else◌, codes}
 use Rattle.std.specs.Str.{bytes_eq}
 use Rattle.std.proofs.lemmas.List.{take-append-drop}

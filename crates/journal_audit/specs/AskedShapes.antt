@@ -1,4 +1,5 @@
--- The shapes of lines that tell quotes, prices and margins, and whether their texts are numbers or words.
+-- The shapes of lines that tell quotes, prices and margins, and whether their texts are numbers or
+-- words.
 use Rattle.std.specs.Prelude.{List, ℕ, Bool, ◌&&◌, ◌||◌, ◌==◌, codes, if◌then◌else◌}
 use Rattle.std.specs.Str.{bytes_eq}
 use Rattle.serde_json.specs.Data.{Data}

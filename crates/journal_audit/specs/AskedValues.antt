@@ -1,4 +1,5 @@
--- What is told of quotes, prices and margins as it is taken out of a line, where it is within its ranges, and its reading.
+-- What is told of quotes, prices and margins as it is taken out of a line, where it is within its
+-- ranges, and its reading.
 use Rattle.std.specs.Prelude.{ℕ, ◌≡◌, unsigned_abs, List, Option, Some, Result, option_map, option_and_then, codes, if◌then◌else◌}
 use Rattle.std.specs.Str.{bytes_eq}
 use Rattle.form.specs.declared.limits.TheConstants.{MAX_PRICE, MAX_QUANTITY}

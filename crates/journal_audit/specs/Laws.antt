@@ -27,7 +27,8 @@ use Rattle.journal_audit.specs.Accepted.{accepted_line}
 use Rattle.journal_audit.specs.Findings.{audit_finding, audit_of}
 use Rattle.journal_audit.specs.GateLines.{IsGateLineOf, IsSessionNumber}
 
--- the judgement is yes: the fills cover the surplus at every settlement, and no fills cover more than the bound, as the measure proves
+-- the judgement is yes: the fills cover the surplus at every settlement, and no fills cover more
+-- than the bound, as the measure proves
 pub record IsBoundedProved (batch : Batch) (outcome : BoundedOutcome) : Type 0 where
   pub yes : bounded_verdict_of limit batch outcome.proposal (fraction_of outcome.bound) ≡ judgement.Yes
   pub covered : IsCovered batch (as_optimal outcome.proposal)
@@ -48,14 +49,16 @@ pub record IsProposedLineOf (text : List ℕ) (reply : ProposalReply) : Type 0 w
 abbrev pub IsToldLineOf : List ℕ → AskedReply → Type 0
 IsToldLineOf text reply = (line : ℕ) × IsAskedLineOf text line reply
 
--- the reply to a line of `serve`: one of a run, one about proposals, or what is told of quotes, prices and margins
+-- the reply to a line of `serve`: one of a run, one about proposals, or what is told of quotes,
+-- prices and margins
 pub data ServedReply : Type 0 where
   OfRun : Reply → ServedReply
   OfProposals : ProposalReply → ServedReply
   OfAsked : AskedReply → ServedReply
 
--- a sound line of `serve`: the print of a reply within its ranges; a cleared line covers its surplus, which is the greatest where it is
--- marked optimal, and within the bound where it is marked bounded
+-- a sound line of `serve`: the print of a reply within its ranges; a cleared line covers its
+-- surplus, which is the greatest where it is marked optimal, and within the bound where it is
+-- marked bounded
 abbrev pub IsServedLineOf : List ℕ → ServedReply → Type 0
 IsServedLineOf text (OfRun reply) = IsSoundLineOf text reply
 IsServedLineOf text (OfProposals reply) = IsProposedLineOf text reply
@@ -125,7 +128,8 @@ audit_counts = record { batch = as_served serve_clears; bounded = as_served serv
 abbrev pub IsFoundFaulty : List ℕ → Reason → Type 0
 IsFoundFaulty text reason = audit_finding text ≡ Faulty reason
 
--- where a report names no line all are sound and counted, and else the line that it names is the first that is found faulty
+-- where a report names no line all are sound and counted, and else the line that it names is the
+-- first that is found faulty
 abbrev pub AuditSays : List (List ℕ) → Report → Type 0
 AuditSays = SaysBy IsAuditedLineOf audit_counts IsFoundFaulty
 

@@ -12,6 +12,7 @@ after_with batches bounded lines optimal findings (Some fault) = Faulty fault.0 
 after_with batches bounded lines optimal findings None =
     Sound (batches + count_by is_batch findings) (bounded + count_by is_bounded findings) (lines + length findings) (optimal + count_by is_optimal findings)
 
--- the report on findings behind so many batches, those marked bounded, lines and lines marked optimal
+-- the report on findings behind so many batches, those marked bounded, lines and lines marked
+-- optimal
 abbrev pub report_after : ℕ → ℕ → ℕ → ℕ → List Finding → Report
 report_after batches bounded lines optimal findings = after_with batches bounded lines optimal findings (first_fault (lines + 1) findings)

@@ -27,7 +27,8 @@ use Rattle.journal_check.specs.Reports.{sound_report, report_of}
 
 -- ---- a report on lines of any kind, where it is said which are the sound lines of a reply
 
--- what a reply counts for: whether it clears a batch, whether it marks it bounded, and whether it marks it optimal
+-- what a reply counts for: whether it clears a batch, whether it marks it bounded, and whether it
+-- marks it optimal
 pub record Counts (R : Type 0) : Type 0 where
   pub batch : R → Bool
   pub bounded : R → Bool
@@ -44,7 +45,8 @@ AreLinesOf IsLine [] replies = replies ≡ []
 AreLinesOf IsLine (text ∷ texts) [] = ⊥
 AreLinesOf IsLine (text ∷ texts) (reply ∷ replies) = IsLine text reply × AreLinesOf IsLine texts replies
 
--- all lines are sound; so many of the replies clear a batch, so many of these mark it bounded, and so many optimal
+-- all lines are sound; so many of the replies clear a batch, so many of these mark it bounded, and
+-- so many optimal
 pub record AreSoundBy {R : Type 0} (IsLine : List ℕ → R → Type 0) (counts : Counts R) (texts : List (List ℕ)) (batches bounded lines optimal : ℕ) : Type 0 where
   pub sound : All (IsSomeLine IsLine) texts
   pub replies : List R
@@ -67,7 +69,8 @@ SaysBy IsLine counts Fails texts (Faulty line reason) = IsFirstBy (IsSomeLine Is
 
 -- ---- a report on lines of a run
 
--- the verdict is yes: so the fills cover the claimed surplus, and with the mark optimal no fills cover more, as the measure proves
+-- the verdict is yes: so the fills cover the claimed surplus, and with the mark optimal no fills
+-- cover more, as the measure proves
 pub record IsCertified (batch : Batch) (outcome : Outcome) : Type 0 where
   pub yes : verdict_of limit batch outcome ≡ judgement.Yes
   pub covered : IsCovered batch outcome
@@ -141,7 +144,8 @@ AreSoundLines = AreSoundBy IsSoundLineOf reply_counts
 abbrev pub Says : List (List ℕ) → Report → Type 0
 Says = SaysBy IsSoundLineOf reply_counts HasReason
 
--- where a report names no line all are sound and counted, and else the line that it names is the first that is not
+-- where a report names no line all are sound and counted, and else the line that it names is the
+-- first that is not
 abbrev pub ReportsSay : Type 0
 ReportsSay = (bytes : List ℕ) → Says (lines_of bytes) (report_of bytes)
 

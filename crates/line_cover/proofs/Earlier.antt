@@ -1,4 +1,5 @@
--- A test that holds at the breakpoints of earlier orders holds where an option bends as one of them does.
+-- A test that holds at the breakpoints of earlier orders holds where an option bends as one of them
+-- does.
 use Rattle.std.proofs.Common.{◌≡◌, ℕ, ◌+◌, ◌<◌, ◌≤◌, Bool, true, false, List, [], ◌∷◌, ◌++◌, length, get_or, take, arith, ℤ, Result, Option, Ok, Some, None, refl, ap, sym, ◌∙◌}
 use Rattle.std.specs.Prelude.{◌||◌, ◌&&◌, if◌then◌else◌, nat_abs, nat_eq}
 use Rattle.std.specs.List.{filter_map, cons_option, list_any}
@@ -26,7 +27,8 @@ breakpoints-append xs ys =
     ap (filter_map breakpoint_of_leg) (flat_map-append bundle_of xs ys)
     ∙ filter_map-append breakpoint_of_leg (legs_of_orders xs) (legs_of_orders ys)
 
--- where it holds at those of the orders before i and of the order there, it holds at those of the orders up to it
+-- where it holds at those of the orders before i and of the order there, it holds at those of the
+-- orders up to it
 pub one_more : (test : List ℕ → Result Bool Wide) (orders : List Order) (i : ℕ) (o : Order) (r : Result Bool Wide) (b : Bool) → i < length orders → o ≡ get_or orders i o
     → all_of test (breakpoints_of (take i orders)) ≡ Ok true → r ≡ all_of test (filter_map breakpoint_of_leg (bundle_legs o.bundle)) → r ≡ Ok b → b ≡ true
     → all_of test (breakpoints_of (take (i + 1) orders)) ≡ Ok true

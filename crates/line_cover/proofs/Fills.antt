@@ -24,7 +24,8 @@ side_stands limit Sell total f s k x y D st sf h =
     let e : x +ℤ neg_ℤ (y *ℤ k) ≡ x +ℤ neg_ℤ (k *ℤ y) = omega (arith, ints, products) in
     subst (λ w. IsLowestRatio s w D) e (less_stands limit total f s k x y D st sf h)
 
--- where the step for a fill adds the order's f times the amount, or subtracts it, the steps give the signed sum
+-- where the step for a fill adds the order's f times the amount, or subtracts it, the steps give
+-- the signed sum
 pub fills_stand : (D : ℕ) (step : Fraction → Order × Fraction → Result Fraction Wide) (f : Order → ℤ)
     → ((o : Order) (a : Fraction) → IsLowestRatio a (amount_over D a) D → Adds step (λ (fill : Order × Fraction). for_side fill.0.side (f fill.0 *ℤ amount_over D fill.1)) D (o, a))
     → (os : List Order) (fs : List Fraction) (s : Fraction) → All (λ a. IsLowestRatio a (amount_over D a) D) fs → fold_steps step (whole (pos 0)) (zip os fs) ≡ Ok s

@@ -1,4 +1,5 @@
--- The states of a line: what holds at each of them holds at each price where a payoff bends, and the other way round.
+-- The states of a line: what holds at each of them holds at each price where a payoff bends, and
+-- the other way round.
 use Rattle.std.proofs.Common.{◌≡◌, ℕ, zero, suc, ◌*◌, ◌/◌, ◌≤◌, true, false, List, [], ◌∷◌, ◌++◌, map, zip, length, nat_abs, arith, ℤ, pos, negsuc, ◌*ℤ◌, ◌<ℤ◌, All, Option, Some, None, refl, ap, sym, subst, ◌∙◌}
 use Rattle.std.specs.Prelude.{IfSome, ◌↔◌, if◌then◌else◌}
 use Rattle.std.specs.List.{filter_map, cons_option, Contains}

@@ -1,4 +1,5 @@
--- The states of a market on one underlying: the price 0, each price where a payoff bends, and the slope beyond the last.
+-- The states of a market on one underlying: the price 0, each price where a payoff bends, and the
+-- slope beyond the last.
 use Rattle.std.specs.Prelude.{ℕ, ◌*◌, ◌≡◌, ◌≤◌, List, [], ◌∷◌, ◌++◌, length, nat_lt, get_or, Bool, true, if◌then◌else◌, ℤ, pos, ◌*ℤ◌, ◌≤ℤ◌}
 use Rattle.std.specs.List.{fold, All}
 use Rattle.exact_num.specs.Fraction.{IsLowest, over}

@@ -11,8 +11,8 @@ use Rattle.clearing_model.specs.Certificate.{LineCloses, filled_over, signed_ove
 use Rattle.line_cover.specs.Line.{breakpoints_of, legs_of_orders, line_holds}
 use Rattle.line_cover.specs.Breakpoints.{first_state, last_state, line_states, Rise, HoldsAtState}
 
--- over one denominator of all these fractions: the net of the fills is at most the liability at each settlement of one
--- underlying and at the ray
+-- over one denominator of all these fractions: the net of the fills is at most the liability at
+-- each settlement of one underlying and at the ray
 abbrev pub IsEnoughOnLine : List Order → List Fraction → Fraction → Type 0
 IsEnoughOnLine orders fills L =
     let D = common_denominator (L ∷ fills) in

@@ -20,7 +20,8 @@ use Rattle.line_cover.specs.Net.{excess}
 abbrev pub lowest_state : ℕ → ℕ → List ℕ
 lowest_state t s = (t / gcd t s) ∷ (s / gcd t s) ∷ []
 
--- whether the strike's entry and the weight have opposite signs: then the payoff bends at a price above 0
+-- whether the strike's entry and the weight have opposite signs: then the payoff bends at a price
+-- above 0
 abbrev pub bends : ℤ → ℤ → Bool
 bends strike weight =
     (int_lt strike (pos 0) && int_lt (pos 0) weight) || (int_lt (pos 0) strike && int_lt weight (pos 0))
@@ -32,7 +33,8 @@ breakpoint_of v =
     then Some (lowest_state (nat_abs (weight_entry v)) (nat_abs (strike_entry v)))
     else None
 
--- whether an option bends, and its entries have the sizes of those of another: then the other bends there or nowhere
+-- whether an option bends, and its entries have the sizes of those of another: then the other bends
+-- there or nowhere
 abbrev pub bends_alike : List ℤ → List ℤ → Bool
 bends_alike v other =
     bends (strike_entry v) (weight_entry v)

@@ -33,7 +33,8 @@ three_calls =
     ∷ order_for 3 Sell (call_on (pos 12) (pos 1)) 1
     ∷ []
 
--- a call and a put that bend at 5 / 2, a call that bends at 7 / 3, and two that bend at no price above 0
+-- a call and a put that bend at 5 / 2, a call that bends at 7 / 3, and two that bend at no price
+-- above 0
 abbrev pub shared_break : List Order
 shared_break =
     order_for 1 Buy (call_on (pos 10) (pos 4)) 1

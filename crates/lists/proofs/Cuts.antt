@@ -1,4 +1,5 @@
--- Two runs of the elements of an array in memory come out of it, and go back changed. Assumes nothing.
+-- Two runs of the elements of an array in memory come out of it, and go back changed. Assumes
+-- nothing.
 use mathlib.Core.Path.{◌≡◌, refl, sym, ◌∙◌, ap}
 use mathlib.Core.Logic.{◌⊎◌, inl, inr}
 use Prim.Native.Nat.{ℕ, ◌+◌, ◌*◌, ◌≤◌}

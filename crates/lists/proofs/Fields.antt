@@ -1,6 +1,6 @@
--- A block by value, and behind a `&mut`. Assumes `Logic`.
---     holdings, block_places, block_from_parts      what a block owns beside its fields; with a place there is an allocation; a block is made of what it owns
---     block_opens, block_closes          a `&mut` to a block is opened and closed
+-- A block by value, and behind a `&mut`. Assumes `Logic`. holdings, block_places, block_from_parts
+-- what a block owns beside its fields; with a place there is an allocation; a block is made of what
+-- it owns block_opens, block_closes          a `&mut` to a block is opened and closed
 use mathlib.Core.Path.{◌≡◌, sym, ap, ◌∙◌}
 use Prim.Native.Nat.{ℕ, suc, zero, ◌+◌, ◌*◌, ◌<◌, ◌^◌}
 use native.Mathlib.Nat.{zero-mul, suc-mul}

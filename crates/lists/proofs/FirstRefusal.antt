@@ -9,7 +9,8 @@ first_of-append {R} (r ∷ front) back =
     let Goal : Bool → Type 0 = λ b. (if b then Some r.1 else first_of (front ++ back)) ≡ option_or (if b then Some r.1 else first_of front) (first_of back) in
     elim r.0 as Goal [ true ↦ refl | false ↦ first_of-append front back ]
 
--- where the list in front holds none, that behind it decides; and where neither does, both hold none
+-- where the list in front holds none, that behind it decides; and where neither does, both hold
+-- none
 pub first_behind : {R : Type 0} (front back : List (Bool × R)) → first_of front ≡ None → first_of (front ++ back) ≡ first_of back
 first_behind front back none = first_of-append front back ∙ ap (λ r. option_or r (first_of back)) none
 

@@ -1,4 +1,5 @@
--- A part of a block's numbers is lent to be read and another to be written; the block follows the second. Assumes `Logic`.
+-- A part of a block's numbers is lent to be read and another to be written; the block follows the
+-- second. Assumes `Logic`.
 use mathlib.Core.Path.{◌≡◌, refl, sym, subst}
 use Prim.Native.Nat.{ℕ, ◌+◌, ◌*◌, ◌<◌, ◌^◌}
 use mathlib.Core.List.{List, [], ◌∷◌}
@@ -60,7 +61,8 @@ module _ (E : El) (Z : Al) {M : Type 1} {𝓤 : Ura M} (𝓛 : Logic 𝓤) (κ :
   whole w' =
       qed 𝓛 (‵ (Items.own_at w' b pw) ∷ (‵ Read ⊛ ‵ ftrue) ∷ (raw c.rest ⊛ ‵ (room_after E Z d b o) ⊛ ‵ (deed E Z d b o) ⊛ ‵ (words E Z d rb ro)) ∷ []) ∵ fsplit ! $ feq_l ! (λ e. move ! (1 ∷ []) $ split ! $
       use1 𝓛 (‵ (cells (mem (R E)) r b pr)) (whole_in 𝓛 (R E) r b pr) $ move ! (3 ∷ []) $ split3 ! $ move ! (2 ∷ []) $ split ! $
-      -- [what frees it; the fields; the rest; the room behind; the read numbers; nothing; the written numbers]
+      -- [what frees it; the fields; the rest; the room behind; the read numbers; nothing; the
+      -- written numbers]
       move ! (6 ∷ 4 ∷ 2 ∷ []) $ use3 𝓛 (‵ (cells (mem (R E)) (G w') b o)) (c.back w' e) $
       let same : length d.numbers ≡ length (G w') = sym (long w' e) in
       rewrite ! 1 (λ (n : ℕ). ‵ (deed_of n)) same refl $ rewrite ! 3 (λ (n : ℕ). ‵ (room_behind n)) same refl $ move ! (0 ∷ 3 ∷ 1 ∷ []) $
@@ -80,7 +82,8 @@ module _ (E : El) (Z : Al) {M : Type 1} {𝓤 : Ura M} (𝓛 : Logic 𝓤) (κ :
       qed 𝓛 (‵ (cells (mem (R E)) d.numbers b o) ∷ ‵ (room_after E Z d b o) ∷ ‵ (deed E Z d b o) ∷ ‵ (words E Z d rb ro) ∷ ‵ (fobor κ q (Borrowed (mem (Br E Z)) rb ro γ)) ∷ ‵ (fobs γ u) ∷ ‵ (fauth γ v) ∷ []) ∵ updating ! $
       use1 𝓛 (‵ (cells (mem (R E)) r b pr) ⊛ ‵ (cells (mem (R E)) w b pw) ⊛ raw c.rest) c.out $ split3 ! $
       use1 𝓛 (‵ Read) (whole_out 𝓛 (R E) r b pr) $ nothing ! $ move ! (1 ∷ 0 ∷ []) $ fjoin ! $ move ! (1 ∷ []) $ feq_i ! ℕ (length w) (length w) refl $ fjoin ! $
-      -- [the numbers to be written; those to be read; the rest; the room behind; what frees it; the fields; the open borrow; obs; auth]
+      -- [the numbers to be written; those to be read; the rest; the room behind; what frees it; the
+      -- fields; the open borrow; obs; auth]
       move ! (2 ∷ 3 ∷ 4 ∷ 5 ∷ []) $ group ! 4 $ move ! (3 ∷ 4 ∷ 5 ∷ 1 ∷ 2 ∷ 0 ∷ []) $ group ! 6 $
       use1 𝓛 (later (some (λ (γ' : GName). ‵ (fobs γ' (Items.coded.code w)) ⊛ ‵ (fbor κ (Borrowed Items b pw γ')) ⊛ ‵ (flft κ q) ⊛ ‵ (follows (Br E Z) (Array (R E) 0) γ γ' new) ⊛ ‵ (fbor κ Read) ⊛ ‵ ftrue)))
       (takes_beside 𝓛 (mem (Br E Z)) Items new κ q rb ro b pw γ (Read ∷ []) Others whole u v w) $ await ! tt $ pick ! (λ γ'. split3 ! $

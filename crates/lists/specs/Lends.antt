@@ -1,4 +1,5 @@
--- How many places a block has, and what it ends as where a part of its numbers is lent to be written.
+-- How many places a block has, and what it ends as where a part of its numbers is lent to be
+-- written.
 use Rattle.std.specs.Prelude.{ℕ, ◌+◌, List, length}
 use Rattle.std.specs.Borrow.{Fml, RattleType, MutBor, follows, Array}
 use Rattle.std.specs.declared.alloc.Allocator.{Ghosts}

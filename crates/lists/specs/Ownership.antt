@@ -1,4 +1,5 @@
--- What a block owns and lends, at numbers of the row R: xs from the pointer on, and room for m more behind them.
+-- What a block owns and lends, at numbers of the row R: xs from the pointer on, and room for m more
+-- behind them.
 use Rattle.std.specs.Prelude.{ℕ, ◌+◌, ◌*◌, ◌^◌, List, [], ◌∷◌, length}
 use Rattle.std.specs.Mem.{type_size}
 use base.Fml.{Lft, Fml, fsep, flt, froom}

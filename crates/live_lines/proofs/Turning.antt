@@ -32,19 +32,22 @@ pub record Came {S : Type 0} (Answers : Answering S) (old : S) (line : Open) (ne
 abbrev pub IsOver : Known → Type 0
 IsOver known = Keeps known.left known.still × IsAtEnd known.left
 
--- these bytes, at most so many, came and were counted, and tell a line that is too long; the answers to the lines before it are written
+-- these bytes, at most so many, came and were counted, and tell a line that is too long; the
+-- answers to the lines before it are written
 abbrev pub TellsTooLong : {S : Type 0} → Answering S → S → Open → ℕ → Known → Counts → Type 0
 TellsTooLong Answers old line limit known counts =
     (bytes : List ℕ) × (text : List ℕ) × Consumes known.left known.still bytes × (length bytes ≤ limit) × (counts.takes ≡ raised_by counts.taken (length bytes))
     × Appends known.written known.writes text × Stops Answers old line bytes text
 
--- a front of the answers to lines that the bytes of a read complete is written; or no byte is left, and it is one of a last answer, or nothing
+-- a front of the answers to lines that the bytes of a read complete is written; or no byte is left,
+-- and it is one of a last answer, or nothing
 abbrev pub BeganSome : {S : Type 0} → Answering S → S → Open → Known → Type 0
 BeganSome Answers old line known =
     ((bytes : List ℕ) × (text : List ℕ) × Consumes known.left known.still bytes × AppendsFront known.written known.writes text × Completes Answers old line bytes text)
     ⊎ (IsOver known × BeganLast Answers old line known.written known.writes)
 
--- what the read and the turn did together, where at most so many bytes were read: the input goes on, or ends so
+-- what the read and the turn did together, where at most so many bytes were read: the input goes
+-- on, or ends so
 abbrev pub ReadsTo : {S : Type 0} → Answering S → S → Open → S → Open → ℕ → Known → Counts → Option Ended → Type 0
 ReadsTo Answers old line new next limit known counts None =
     (came : Came Answers old line new next known counts) × (1 ≤ length came.bytes) × (length came.bytes ≤ limit)

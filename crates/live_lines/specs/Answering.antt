@@ -1,4 +1,5 @@
--- Ways of answering lines, over states of any type. A way may leave open which text is written: it is a relation.
+-- Ways of answering lines, over states of any type. A way may leave open which text is written: it
+-- is a relation.
 use Rattle.std.specs.Prelude.{◌≡◌, ℕ, ◌+◌, ◌==◌, Bool, List, [], ◌∷◌, ◌++◌}
 use Rattle.std.specs.List.{slice_split}
 use Rattle.live_lines.specs.Open.{Open, line_text}

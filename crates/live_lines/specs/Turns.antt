@@ -11,7 +11,8 @@ use Rattle.live_lines.specs.Taken.{Completes, Stops, Took}
 use Rattle.live_lines.specs.declared.ended.Ended.{Ended}
 use Rattle.live_lines.specs.declared.ended.Ended.TheVariants.{Done, ReadFault, WriteFault, TooLong, Memory}
 
--- so many of the bytes were taken, and what is written for them was added to a text; none where they tell a line that is too long
+-- so many of the bytes were taken, and what is written for them was added to a text; none where
+-- they tell a line that is too long
 abbrev pub Turned : {S : Type 0} → Answering S → S → Open → S → Open → List ℕ → List ℕ → List ℕ → Option ℕ → Type 0
 Turned Answers old line new next bytes before after (Some used) =
     (1 ≤ used) × (used ≤ length bytes) × (text : List ℕ) × (after ≡ before ++ text) × Took Answers old line new next (take used bytes) text
@@ -41,7 +42,8 @@ AddsAnswer Answers old line new before after =
 abbrev pub BeganLines : {S : Type 0} → Answering S → S → Open → List ℕ → Option (List ℕ) → Option (List ℕ) → Type 0
 BeganLines Answers old line bytes written writes = (text : List ℕ) × AppendsFront written writes text × Completes Answers old line bytes text
 
--- bytes came: all lines that they complete are answered and the answers written, and the input goes on; or it ends so
+-- bytes came: all lines that they complete are answered and the answers written, and the input goes
+-- on; or it ends so
 abbrev pub TurnsBy : {S : Type 0} → Answering S → S → Open → S → Open → List ℕ → Option (List ℕ) → Option (List ℕ) → ℕ → ℕ → Option Ended → Type 0
 TurnsBy Answers old line new next bytes written writes fault faults None =
     (faults ≡ fault) × (text : List ℕ) × Appends written writes text × Took Answers old line new next bytes text
@@ -62,7 +64,8 @@ TurnsLast Answers old line written writes fault faults (Some Memory) = BeganLast
 TurnsLast Answers old line written writes fault faults (Some TooLong) = ⊥
 TurnsLast Answers old line written writes fault faults (Some ReadFault) = ⊥
 
--- so many bytes of the buffer, or none: where the read failed, nothing is answered and nothing written
+-- so many bytes of the buffer, or none: where the read failed, nothing is answered and nothing
+-- written
 abbrev pub TurnsTo : {S : Type 0} → Answering S → S → Open → S → Open → ReadAnswer → List ℕ → Option (List ℕ) → Option (List ℕ) → ℕ → ℕ → Option Ended → Type 0
 TurnsTo Answers old line new next (Got count) buf written writes fault faults end =
     TurnsBy Answers old line new next (take count buf) written writes fault faults end

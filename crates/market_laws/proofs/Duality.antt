@@ -39,7 +39,8 @@ at_state n fills F S defined h (suc t ∷ s) is = omega (arith, covers_nat n fil
 abbrev pub IsWithin : ℕ → Filled → Type 0
 IsWithin F fill = fill.1 ≤ fill.0.quantity * F
 
--- an order's gain is at least what its fill is worth at the price; x and y are what its legs are worth, long and short
+-- an order's gain is at least what its fill is worth at the price; x and y are what its legs are
+-- worth, long and short
 gain_is : (side : Side) (a p q F W x y : ℕ) (v : ℤ) → a ≤ q * F → pos x -ℤ pos y ≡ signed side a v
     → W * (if_buy side a * p) + y ≤ W * (if_sell side a * p) + x + F * (q * gain side (pos (p * W)) v)
 gain_is Buy a p q F W x y v h e =

@@ -1,4 +1,5 @@
--- The definitions compute: a call and a put with strike 100, at the price 120, at 130 / 2 and at the ray; a spread; legs.
+-- The definitions compute: a call and a put with strike 100, at the price 120, at 130 / 2 and at
+-- the ray; a spread; legs.
 use Rattle.std.proofs.Common.{◌≡◌, ◌^◌, List, [], ◌∷◌, ℤ, pos, negsuc, refl}
 use Rattle.exact_num.specs.CommonDenominator.{common_denominator, amounts_of}
 use Rattle.exact_num.specs.Fraction.{Fraction}

@@ -1,4 +1,5 @@
--- The net over orders is the net over their legs: what is long less what is short. No proof opens `bundle_of`.
+-- The net over orders is the net over their legs: what is long less what is short. No proof opens
+-- `bundle_of`.
 use Rattle.std.proofs.Common.{◌≡◌, ℕ, zero, suc, ◌*◌, List, [], ◌∷◌, map, nat_abs, arith, ℤ, pos, negsuc, ◌-ℤ◌, ◌*ℤ◌, refl}
 use Rattle.std.proofs.lemmas.Int.{ints}
 use Rattle.form.specs.declared.orders.Side.{Side}

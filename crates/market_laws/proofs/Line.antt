@@ -1,5 +1,5 @@
--- A line cover holds at every state. A state lies between two at which the cover holds; the two are moved together, order by
--- order, until no payoff bends between them, and there the net is linear.
+-- A line cover holds at every state. A state lies between two at which the cover holds; the two are
+-- moved together, order by order, until no payoff bends between them, and there the net is linear.
 use Rattle.std.proofs.Common.{◌≡◌, ℕ, zero, suc, ◌+◌, ◌-◌, ◌*◌, ◌≤◌, ◌⊎◌, inl, inr, List, [], ◌∷◌, ◌++◌, map, get_or, nat_abs, arith, ℤ, pos, negsuc, neg_ℤ, ◌+ℤ◌, ◌*ℤ◌, ◌≤ℤ◌, ◌<ℤ◌, All, refl, ap, sym, subst, ◌∙◌}
 use Rattle.std.proofs.lemmas.Int.{ints}
 use Rattle.std.proofs.lemmas.Bool.{cases_lt}

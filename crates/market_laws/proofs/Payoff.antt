@@ -18,7 +18,8 @@ abbrev pub first_size : List ℤ → ℕ
 first_size [] = 0
 first_size (a ∷ v) = nat_abs a
 
--- between a ray, k times as far, and the settlement there, payoffs differ by at most the first entry
+-- between a ray, k times as far, and the settlement there, payoffs differ by at most the first
+-- entry
 payoff_far : (a x : ℤ) (k : ℕ) → (k * positive_part x ≤ positive_part (a +ℤ (x *ℤ pos k)) + nat_abs a) × (positive_part (a +ℤ (x *ℤ pos k)) ≤ k * positive_part x + nat_abs a)
 payoff_far a (pos n) k = (
   omega (arith, ints, positive_part_above (a +ℤ pos (n * k))),

@@ -10,7 +10,8 @@ abbrev pub NoCoverIsAbove : ℕ → List Order → Fraction → Type 0
 NoCoverIsAbove n orders B =
     (fills : List Fraction) (S : Fraction) → IsDefined S → FillsCover n orders fills S → AtMost S B
 
--- the greatest surplus is from S to B: no fills cover more than B, so S is at most B, and the greatest where it is B
+-- the greatest surplus is from S to B: no fills cover more than B, so S is at most B, and the
+-- greatest where it is B
 pub record BoundTheGreatest (n : ℕ) (orders : List Order) (S B : Fraction) : Type 0 where
   pub none_above : NoCoverIsAbove n orders B
   pub at_most : AtMost S B

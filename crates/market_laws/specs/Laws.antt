@@ -15,8 +15,8 @@ use Rattle.clearing_model.specs.Line.{HoldsAtPrice, IsLineCover}
 use Rattle.clearing_model.specs.Written.{WrittenNode, PlacedMultiplier, WrittenTree, nodes_of, multipliers_of}
 use Rattle.clearing_model.specs.Certificate.{fractions_of, TreeCloses, ClosesAsWritten, LineCloses, IsPremiumLessLiability, FillsCover, AreFractionFills, by_of, Point, IsFractionMeasure, MeasureProves}
 
--- at the settlement (t, s) a call pays, times t, what the basket is worth above the strike at the prices s / t, and a put
--- what it is worth below
+-- at the settlement (t, s) a call pays, times t, what the basket is worth above the strike at the
+-- prices s / t, and a put what it is worth below
 abbrev pub CallsAndPutsPay : Type 0
 CallsAndPutsPay =
     (K : ℤ) (w : List ℤ) (t : ℕ) (s : List ℕ)

@@ -1,4 +1,5 @@
--- Limits that get better for a match: a higher bid, a lower ask. What fills cover, and the greatest surplus, at them.
+-- Limits that get better for a match: a higher bid, a lower ask. What fills cover, and the greatest
+-- surplus, at them.
 use Rattle.std.specs.Prelude.{ℕ, ◌≤◌, List, ◌∷◌, ◌++◌}
 use Rattle.std.specs.List.{zip}
 use Rattle.exact_num.specs.Fraction.{Fraction, AtMost}

@@ -1,4 +1,5 @@
--- The exchange of single options is the case of bundles of one leg with count 1: there every definition is the plain one.
+-- The exchange of single options is the case of bundles of one leg with count 1: there every
+-- definition is the plain one.
 use Rattle.std.specs.Prelude.{ℕ, ◌-◌, ◌≡◌, List, [], ◌∷◌, map, ℤ, pos, ◌+ℤ◌, ◌-ℤ◌, ◌*ℤ◌}
 use Rattle.std.specs.List.{All}
 use Rattle.arithmetic.specs.Sums.{weigh}

@@ -1,5 +1,5 @@
--- The greatest surplus as the limit of one order changes. The line through an optimum, whose slope is the order's fill, is nowhere
--- above it: so it is convex.
+-- The greatest surplus as the limit of one order changes. The line through an optimum, whose slope
+-- is the order's fill, is nowhere above it: so it is convex.
 use Rattle.std.specs.Prelude.{ℕ, ◌*◌, ◌-◌, ◌≡◌, ◌≤◌, List, ◌∷◌, ◌++◌, length, ℤ, pos, ◌+ℤ◌, ◌-ℤ◌, ◌*ℤ◌}
 use Rattle.exact_num.specs.Fraction.{Fraction, IsDefined, AtMost, over, plain_sum}
 use Rattle.form.specs.declared.orders.Side.{Side}
@@ -24,7 +24,8 @@ FillsCoverAlongLines =
     → FillsCoverAt n (front ++ order ∷ back) (before ++ a ∷ after) F S
     → FillsCoverAt n (front ++ at_price order price ∷ back) (before ++ a ∷ after) F T
 
--- so the greatest surplus at any limit is on the line through an optimum, whose slope is the order's fill, or above it
+-- so the greatest surplus at any limit is on the line through an optimum, whose slope is the
+-- order's fill, or above it
 abbrev pub GreatestIsAboveLines : Type 0
 GreatestIsAboveLines =
     (n : ℕ) (front back : List Order) (order : Order) (price : ℕ) (before after : List ℕ) (a F : ℕ) (S T R : Fraction)

@@ -62,7 +62,8 @@ covers_hold n (v ∷ vs) Z (u ∷ U) len count h =
     )
 
 -- ---- all rows
--- the state's entries sum to at most b times F, each variable is at least what its leg pays, and each sign is kept
+-- the state's entries sum to at most b times F, each variable is at least what its leg pays, and
+-- each sign is kept
 pub record HoldsAt (n F : ℕ) (node : List NodeLeg) (b : ℤ) (Z U : List ℤ) : Type 0 where
   pub size : dot_ℤ (replicate (suc n) (pos 1)) Z ≤ℤ (b *ℤ pos F)
   pub covers : CoversHold n (covers_of node) Z U

@@ -88,7 +88,8 @@ less-along : (f g : ℕ → ℤ) (z : List ℕ) → along (λ i. f i -ℤ g i) z
 less-along f g [] = refl
 less-along f g (x ∷ z) = omega (arith, ints, products, less-along (λ i. f (suc i)) (λ i. g (suc i)) z)
 
--- the objective: what the legs earn along the state, less the liability times t, less what the variables cost
+-- the objective: what the legs earn along the state, less the liability times t, less what the
+-- variables cost
 pub objective_is : (n : ℕ) (legs : List FilledLeg) (L : ℤ) (signs : List Sign) (z : List ℕ) (U : List ℤ) → length z ≡ suc n
     → dot_ℤ (costs_of n legs L signs) (wholes z ++ U)
     ≡ (along (λ i. earned_at i legs signs) z -ℤ (L *ℤ pos (scale_of z))) +ℤ dot_ℤ (map minus_amount (cover_amounts legs signs)) U

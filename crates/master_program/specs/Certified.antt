@@ -17,8 +17,8 @@ IsLiability first orders fills slack L =
     let D = common_denominator (L ∷ fills) in
     IsRatio slack (amount_over D L -ℤ signed_net (signed_over D orders fills) first) D
 
--- an optimum of the master program in parts: fills and slack, the dual values of quantities and of states, the reduced costs
--- of fills and of the slack; and the liability that is read off
+-- an optimum of the master program in parts: fills and slack, the dual values of quantities and of
+-- states, the reduced costs of fills and of the slack; and the liability that is read off
 pub record IsSolved (first : List ℕ) (orders : List Order) (states : List (List ℕ)) (fills : List Fraction) (slack liability surplus : Fraction) (duals weights reduced : List Fraction) (first_weight : Fraction) : Type 0 where
   pub optimum : IsOptimum (plain_master first orders states) (fills ++ (slack ∷ [])) (duals ++ weights) (reduced ++ (first_weight ∷ [])) surplus
   pub fills_count : length fills ≡ length orders
@@ -34,8 +34,9 @@ IsEnoughAt orders fills L z =
     let D = common_denominator (L ∷ fills) in
     signed_net (signed_over D orders fills) z ≤ℤ (amount_over D L *ℤ pos (scale_of z))
 
--- the fills are allowed and earn the surplus, which is not below 0; the liability is enough at each of the states; the weights
--- are a measure; and where the fills cover the surplus, the measure proves it
+-- the fills are allowed and earn the surplus, which is not below 0; the liability is enough at each
+-- of the states; the weights are a measure; and where the fills cover the surplus, the measure
+-- proves it
 pub record IsCertifiedAt (n : ℕ) (orders : List Order) (states : List (List ℕ)) (r : Reading) : Type 0 where
   pub fills : AreFractionFills orders r.fills
   pub liability_defined : IsDefined r.liability

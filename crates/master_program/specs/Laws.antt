@@ -15,7 +15,8 @@ StepsGiveMaster =
     (payoff_limit limit n : ℕ) (orders : List Order) (states : List (List ℕ)) (p : LinearProgram)
     → master payoff_limit limit orders states ≡ Ok p → p ≡ plain_master (zero_prices n) orders states
 
--- rows of n places that are 0 but for a 1: at place i in the first, and one place later in each of those that are left
+-- rows of n places that are 0 but for a 1: at place i in the first, and one place later in each of
+-- those that are left
 unfoldable pub unit_rows : ℕ → ℕ → ℕ → List Fraction
 unit_rows n i zero = []
 unit_rows n i (suc left) = unit_row n i ++ unit_rows n (i + 1) left

@@ -1,5 +1,5 @@
--- The master program: how much of each order to fill, and what to put aside, so that the premium less the liability is the
--- greatest while the liability is enough at each of some states.
+-- The master program: how much of each order to fill, and what to put aside, so that the premium
+-- less the liability is the greatest while the liability is enough at each of some states.
 use Rattle.std.specs.Prelude.{ℕ, zero, suc, ◌+◌, List, [], ◌∷◌, ◌++◌, length, map, replicate, ℤ, pos, negsuc, neg_ℤ, ◌-ℤ◌, ◌*ℤ◌, Result, Ok}
 use Rattle.std.specs.List.{flat_map}
 use Rattle.exact_num.specs.declared.misfit.Wide.{Wide}
@@ -32,7 +32,8 @@ order_cost first order = for_side order.side (pos order.price -ℤ pays order fi
 abbrev pub order_entry : List ℕ → List ℕ → Order → ℤ
 order_entry first z order = for_side order.side (pays order z -ℤ (pos (scale_of z) *ℤ pays order first))
 
--- the costs: those of the orders, and 1 lost for each unit of the slack, which is put aside beyond that
+-- the costs: those of the orders, and 1 lost for each unit of the slack, which is put aside beyond
+-- that
 abbrev pub costs_of : List ℕ → List Order → List ℤ
 costs_of first orders = map (order_cost first) orders ++ (negsuc 0 ∷ [])
 
@@ -52,7 +53,8 @@ rows_of first orders states = quantity_rows (length orders) ++ map (state_row fi
 abbrev pub right_sides_of : List Order → List (List ℕ) → List ℤ
 right_sides_of orders states = map (λ (order : Order). pos order.quantity) orders ++ replicate (length states) (pos 0)
 
--- the master program of orders over the first state and the later ones: its variables are the fills and the slack
+-- the master program of orders over the first state and the later ones: its variables are the fills
+-- and the slack
 abbrev pub plain_master : List ℕ → List Order → List (List ℕ) → LinearProgram
 plain_master first orders states = record {
   variables = length orders + 1;
@@ -118,8 +120,8 @@ rows_steps payoff_limit limit orders (z ∷ states) =
 abbrev pub quantity_steps : ℕ → Order → Result Fraction Wide
 quantity_steps limit order = whole_of limit (pos order.quantity)
 
--- the master program of orders over the state where all prices are 0 and later states: costs first, then row by row, each
--- with its right side last
+-- the master program of orders over the state where all prices are 0 and later states: costs first,
+-- then row by row, each with its right side last
 unfoldable pub master : ℕ → ℕ → List Order → List (List ℕ) → Result LinearProgram Wide
 master payoff_limit limit orders states =
     after (map_steps (cost_steps limit) orders)

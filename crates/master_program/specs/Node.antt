@@ -1,5 +1,6 @@
--- The program of a node of the search for a state at which the net is above the liability. Its states have entries that sum to
--- at most 1; each covering leg has a variable that is at least what it pays there, and each signed leg a row that keeps its sign.
+-- The program of a node of the search for a state at which the net is above the liability. Its
+-- states have entries that sum to at most 1; each covering leg has a variable that is at least what
+-- it pays there, and each signed leg a row that keeps its sign.
 use Rattle.std.specs.Prelude.{ℕ, zero, suc, ◌+◌, List, [], ◌∷◌, ◌++◌, length, map, replicate, get_or, ℤ, pos, negsuc, neg_ℤ, ◌+ℤ◌, ◌-ℤ◌, ◌*ℤ◌}
 use Rattle.std.specs.List.{flat_map}
 use Rattle.exact_num.specs.Fraction.{whole, reduced}
@@ -22,7 +23,8 @@ abbrev pub covers_of : List NodeLeg → List (List ℤ)
 covers_of [] = []
 covers_of (leg ∷ legs) = if_covering leg.role leg.option (covers_of legs)
 
--- the state's part of the row of a signed leg: what it pays with a minus is at most 0 above, and what it pays is below
+-- the state's part of the row of a signed leg: what it pays with a minus is at most 0 above, and
+-- what it pays is below
 abbrev pub with_sign : Role → List ℤ → List (List ℤ) → List (List ℤ)
 with_sign Above v rows = map neg_ℤ v ∷ rows
 with_sign Below v rows = v ∷ rows

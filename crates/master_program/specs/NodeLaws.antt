@@ -22,7 +22,8 @@ pub record IsOver (D : ℕ) (f : Fraction) : Type 0 where
 abbrev pub IsFillOver : ℕ → FractionLeg → Type 0
 IsFillOver D leg = IsOver D leg.fill × IsNotBelowZero leg.fill
 
--- where each step fits, the steps give the program in whole numbers over any common denominator, whatever the limit
+-- where each step fits, the steps give the program in whole numbers over any common denominator,
+-- whatever the limit
 abbrev pub StepsGiveNode : Type 0
 StepsGiveNode =
     (limit n D : ℕ) (legs : List FractionLeg) (L : Fraction) (signs : List Sign) (p : LinearProgram)

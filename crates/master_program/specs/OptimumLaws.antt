@@ -65,7 +65,8 @@ CoveredIsGreatest =
     (n : ℕ) (orders : List Order) (states : List (List ℕ)) (r : Reading)
     → IsCertifiedAt n orders states r → FillsCover n orders r.fills r.surplus → IsGreatestByMeasure n orders r
 
--- on one underlying, what is read off an optimum over the states of the line is covered by the line, and the greatest
+-- on one underlying, what is read off an optimum over the states of the line is covered by the
+-- line, and the greatest
 abbrev pub LineReadingsAreGreatest : Type 0
 LineReadingsAreGreatest =
     (limit : ℕ) (orders : List Order) (x y reduced : List Fraction) (value : Fraction) (r : Reading)

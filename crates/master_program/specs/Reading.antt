@@ -42,8 +42,8 @@ abbrev pub points_with_weight : List Point → List Point
 points_with_weight [] = []
 points_with_weight (point ∷ points) = if has_weight point then point ∷ points_with_weight points else points_with_weight points
 
--- the weight of the first state is the reduced cost of the slack, the variable after k fills; that of another is the dual
--- value of its row, which stands after the k rows of quantities
+-- the weight of the first state is the reduced cost of the slack, the variable after k fills; that
+-- of another is the dual value of its row, which stands after the k rows of quantities
 abbrev pub points_of : ℕ → List ℕ → List (List ℕ) → (y reduced : List Fraction) → List Point
 points_of k first states y reduced = (first, at reduced k) ∷ zip states (drop k y)
 
@@ -52,7 +52,8 @@ abbrev pub reading_with : (fills : List Fraction) → Fraction → (measure : Li
 reading_with fills surplus measure liability =
     record { fills = fills; liability = liability; surplus = surplus; measure = measure }
 
--- the reading of the optimum x with its dual y, its reduced costs and its value, over a first state and later ones
+-- the reading of the optimum x with its dual y, its reduced costs and its value, over a first state
+-- and later ones
 abbrev pub reading_of : ℕ → List ℕ → List Order → List (List ℕ) → (x y reduced : List Fraction) → Fraction → Result Reading Wide
 reading_of limit first orders states x y reduced value =
     let k = length orders in

@@ -1,5 +1,6 @@
--- The rounds of a joint clearing on several underlyings: a master program over some states, and a search for a state at which
--- its liability is not enough. Such a state is added to the list, and the next round begins.
+-- The rounds of a joint clearing on several underlyings: a master program over some states, and a
+-- search for a state at which its liability is not enough. Such a state is added to the list, and
+-- the next round begins.
 use Rattle.std.specs.Prelude.{ℕ, ◌≤◌, ◌≡◌, zero, suc, ◌+◌, ◌-◌, List, [], ◌∷◌, ◌++◌, map, replicate}
 use Rattle.form.specs.declared.orders.Order.{Order}
 use Rattle.clearing_model.specs.Written.{WrittenTree}

@@ -1,5 +1,5 @@
--- The search for a state at which the net of fills is above the liability, with units of work: one for each node that is
--- opened, and one for each turn of its program.
+-- The search for a state at which the net of fills is above the liability, with units of work: one
+-- for each node that is opened, and one for each turn of its program.
 use Rattle.std.specs.Prelude.{ℕ, ◌≤◌, ◌≡◌, zero, suc, ◌+◌, ◌-◌, List, [], length, take, drop, zip, replicate, slice_set, nat_lt, if◌then◌else◌, pos, Option, Some, None, Result, Ok}
 use Rattle.exact_num.specs.declared.misfit.Wide.{Wide}
 use Rattle.exact_num.specs.Fraction.{Fraction}
@@ -40,7 +40,8 @@ excess_of payoff_limit limit fills L z =
     (λ net. after (whole_of limit (pos (scale_of z))) (λ t. less_product limit net L t))
 
 -- ---- one node
--- whether the liability is enough for the fills of the orders at each state, within these limits of numbers and of units
+-- whether the liability is enough for the fills of the orders at each state, within these limits of
+-- numbers and of units
 pub record Question : Type 0 where
   pub payoff_limit : ℕ
   pub limit : ℕ

@@ -1,4 +1,5 @@
--- Worked batches on two underlyings: a call on the sum is bought, and a call on each price is sold. Their numbers have 127 bits.
+-- Worked batches on two underlyings: a call on the sum is bought, and a call on each price is sold.
+-- Their numbers have 127 bits.
 use Rattle.std.specs.Prelude.{◌≡◌, ℕ, ◌^◌, ◌-◌, List, [], ◌∷◌, ◌++◌, ℤ, pos, negsuc, Ok}
 use Rattle.exact_num.specs.declared.misfit.Operator.TheVariants.{Whole}
 use Rattle.exact_num.specs.Fraction.{Fraction, whole, over}
@@ -30,7 +31,8 @@ half_of_third = record { place = 3; by = over (pos 1) 2 }
 abbrev pub sum_tree : WrittenTree
 sum_tree = Parts 1 (Ends (multiplier 2 1 ∷ multiplier 3 1 ∷ [])) (Ends [])
 
--- buy call 10 on the sum at 6, sell call 4 on the first at 3 and call 6 on the second at 2: one round, with three nodes
+-- buy call 10 on the sum at 6, sell call 4 on the first at 3 and call 6 on the second at 2: one
+-- round, with three nodes
 abbrev pub covered_sum : List Order
 covered_sum =
     order_for Buy (minus 10 ∷ pos 1 ∷ pos 1 ∷ []) 6 1
@@ -50,7 +52,8 @@ covered_sum_end =
       sum_tree,
     ) 11
 
--- with the units that it spends, and with fewer: they end in the master program, at the first node and at its plus side
+-- with the units that it spends, and with fewer: they end in the master program, at the first node
+-- and at its plus side
 pub record CoveredSum : Type 0 where
   pub clears : worked_rounds 20000 covered_sum ≡ covered_sum_end
   pub just_enough : worked_rounds 11 covered_sum ≡ covered_sum_end
@@ -59,7 +62,8 @@ pub record CoveredSum : Type 0 where
   pub at_the_first_node : worked_rounds 3 covered_sum ≡ no_unit_left 3
   pub at_the_plus_side : worked_rounds 7 covered_sum ≡ no_unit_left 7
 
--- buy call 8 on the sum at 8, sell the same at 3 and 2: the first search finds the prices 4 and 6, and the second round clears
+-- buy call 8 on the sum at 8, sell the same at 3 and 2: the first search finds the prices 4 and 6,
+-- and the second round clears
 abbrev pub two_rounds_end : Ending Cleared
 two_rounds_end =
     done (
@@ -75,7 +79,8 @@ two_rounds_end =
 abbrev pub TwoRounds : Type 0
 TwoRounds = worked_rounds 20000 basket ≡ two_rounds_end
 
--- buy call 10 on the sum less call 4 on the first at 3, sell call 6 on the second at 2: places count legs
+-- buy call 10 on the sum less call 4 on the first at 3, sell call 6 on the second at 2: places
+-- count legs
 abbrev pub covered_bundle : List Order
 covered_bundle =
     bundle_order Buy
@@ -99,7 +104,8 @@ abbrev pub CoveredBundle : Type 0
 CoveredBundle = worked_rounds 20000 covered_bundle ≡ covered_bundle_end
 
 -- ---- other batches, whose ends come from an implementation of its own
--- a put and a call bought, one option sold: a split below a split, and a multiplier of half an option
+-- a put and a call bought, one option sold: a split below a split, and a multiplier of half an
+-- option
 abbrev pub DeeperTree : Type 0
 DeeperTree =
     worked_rounds 20000
@@ -157,7 +163,8 @@ LiabilityBelowZero =
       (Ends (multiplier 5 1 ∷ multiplier 6 1 ∷ [])),
     ) 9
 
--- three underlyings, with numbers of up to 7 in size: an entry of a node's row is the first that does not fit
+-- three underlyings, with numbers of up to 7 in size: an entry of a node's row is the first that
+-- does not fit
 abbrev pub EntryTooWide : Type 0
 EntryTooWide =
     rounds (record { payoff_limit = 2 ^ 127 - 1; limit = 7; budget = 20000 }) 3
@@ -175,8 +182,8 @@ pub record OtherBatches : Type 0 where
   pub too_wide : EntryTooWide
 
 -- ---- legs of bundles
--- of an order that is half filled two calls on the sum are bought; of one that is filled by a third three calls on the first
--- and six on the second are sold; so one, one and two are filled
+-- of an order that is half filled two calls on the sum are bought; of one that is filled by a third
+-- three calls on the first and six on the second are sold; so one, one and two are filled
 abbrev pub counted : Exposure → Fraction → ℕ → List ℤ → FractionLeg
 counted exposure fill size option = record { exposure = exposure; fill = fill; size = size; option = option }
 

@@ -1,4 +1,5 @@
--- A run in narrow numbers that meets no misfit is the run in 128 bits before the sums of the verdict.
+-- A run in narrow numbers that meets no misfit is the run in 128 bits before the sums of the
+-- verdict.
 use Rattle.std.proofs.Common.{◌≡◌, ℕ, ◌≤◌, sym, ap, ◌∙◌, subst}
 use Rattle.frac.specs.Range.{limit as largest}
 use Rattle.table_run.specs.Ending.{Ending, HasNoMisfit}

@@ -1,5 +1,5 @@
--- Where a line leads past the price from which on the order raises, the price beside it is the one: there the line is still above the
--- base's surplus.
+-- Where a line leads past the price from which on the order raises, the price beside it is the one:
+-- there the line is still above the base's surplus.
 use Rattle.std.proofs.Common.{◌≡◌, ℕ, suc, ◌*◌, ◌-◌, ◌/◌, ◌<◌, ◌≤◌, List, [], ◌∷◌, ◌++◌, length, length-append, map, arith, Option, Some, None, slice_get, true, ℤ, pos, neg_ℤ, ◌+ℤ◌, ◌-ℤ◌, ◌*ℤ◌, ◌<ℤ◌, refl, ap, sym, subst, ◌∙◌, inl, inr}
 use Rattle.std.specs.Int.{◌∣◌}
 use Rattle.std.specs.Option.{option_map, option_map_or}
@@ -37,8 +37,8 @@ use Rattle.option_quotes.specs.Quotes.{Raises}
 use Rattle.option_quotes.proofs.Raising.{less_says, probe_within, raised_where_raises}
 
 -- ---- numbers
--- a line with slope e / f is k whole steps above a level: after fewer steps it is still above it. Here the line is M / (d * d0) above,
--- and a / D is its slope too
+-- a line with slope e / f is k whole steps above a level: after fewer steps it is still above it.
+-- Here the line is M / (d * d0) above, and a / D is its slope too
 still_above : (M f d d0 e D a j : ℕ) → 1 ≤ M → 1 ≤ f → 1 ≤ d → 1 ≤ d0 → 1 ≤ D → j < (f * M) / (d * d0 * e) → a * f ≡ e * D → j * a * (d * d0) < M * D
 still_above M f d d0 e D a j M_some f_some d_some d0_some D_some few slope =
     let k = (f * M) / (d * d0 * e) in
@@ -71,7 +71,8 @@ line_above v v0 earned d d0 D M n above moved less =
 scaled_down : (g a : ℕ) → neg_ℤ (pos g) *ℤ pos a ≡ neg_ℤ (pos (g * a))
 scaled_down g a = omega (arith, ints, products)
 
--- what the fill earns less at a price beside the one that the line leads to, and by how few ticks that is worse
+-- what the fill earns less at a price beside the one that the line leads to, and by how few ticks
+-- that is worse
 moved : (side : Side) (p q other ticks a : ℕ) → other ≡ price_along side p ticks → IsBetter side other p → q ≡ next_better side other → (q ≡ p → ⊥)
     → (gap p q < ticks) × (earned_more side p q a ≡ neg_ℤ (pos (gap p q * a)))
 moved Buy p q other ticks a is better beside off = elim (cases_lt q p) [

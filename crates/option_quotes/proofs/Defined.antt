@@ -1,4 +1,5 @@
--- A quote is what its probes give: the last of them that raised is at the price from which on all prices raise.
+-- A quote is what its probes give: the last of them that raised is at the price from which on all
+-- prices raise.
 use Rattle.std.proofs.Common.{◌≡◌, ℕ, suc, zero, ◌^◌, ◌≤◌, ◌==◌, Bool, true, false, List, [], ◌∷◌, map, arith, Option, Some, None, Result, Ok, Err, IfOk, if◌then◌else◌, refl, ap, sym, subst, ◌∙◌, true≢false, inl, inr}
 use Rattle.std.specs.Option.{option_map_or, option_or}
 use Rattle.std.specs.Prelude.{◌↔◌}

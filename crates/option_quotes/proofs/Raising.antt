@@ -226,7 +226,8 @@ quote_worst batch o limit base p within first at_worst is raised =
       never = tt;
     }
 
--- where the ends are next to each other, each price is no worse than the one or no better than the other
+-- where the ends are next to each other, each price is no worse than the one or no better than the
+-- other
 next_worse : (side : Side) (raising other : ℕ) → IsBetter side other raising → gap raising other ≤ 1 → IsNextWorse side raising other
 next_worse Buy raising other better near = omega (arith, better, near)
 next_worse Sell raising other better near = omega (arith, better, near)

@@ -1,4 +1,5 @@
--- The quote that the probes give tells from which price on a further order raises the greatest surplus.
+-- The quote that the probes give tells from which price on a further order raises the greatest
+-- surplus.
 use Rattle.std.proofs.Common.{◌≡◌, ℕ, suc, zero, ◌^◌, ◌≤◌, Bool, true, List, [], ◌∷◌, map, arith, Option, Some, None, if◌then◌else◌, refl, ap, sym, subst, ◌∙◌, inl, inr}
 use Rattle.std.proofs.lemmas.Bool.{cases_Bool, cases_lt}
 use Rattle.form.specs.declared.forms.Form.{Form}

@@ -1,4 +1,5 @@
--- The price from which on a further order raises the greatest surplus, found along lines: each probe that raises it tells the next.
+-- The price from which on a further order raises the greatest surplus, found along lines: each
+-- probe that raises it tells the next.
 use Rattle.std.specs.Prelude.{ℕ, suc, zero, ◌+◌, ◌-◌, ◌==◌, max, min, Some, None, slice_get, length, if◌then◌else◌}
 use Rattle.std.specs.Option.{option_map_or}
 use Rattle.frac.specs.Value.{fraction_of}
@@ -29,8 +30,8 @@ asked form side quantity = record {
   quantity = quantity;
 }
 
--- (V - V0) / x rounded down: by so many ticks the price may get worse until the line through the outcome's surplus V, whose slope is
--- the order's fill x, is at the base's surplus V0
+-- (V - V0) / x rounded down: by so many ticks the price may get worse until the line through the
+-- outcome's surplus V, whose slope is the order's fill x, is at the base's surplus V0
 abbrev pub ticks_by : Outcome → Outcome → Frac128 → ℕ
 ticks_by base outcome fill = whole_steps (fraction_of outcome.claim.surplus) (fraction_of base.claim.surplus) (fraction_of fill)
 
@@ -98,6 +99,7 @@ prices_for batch buy sell limit =
     let base = outcome_of batch limit in
     if is_optimal base then market.Marked base (side_price batch buy limit) (side_price batch sell limit) else market.Unmarked base
 
--- the prices of both sides: that of a further buy is what the market asks, that of a further sell what it bids
+-- the prices of both sides: that of a further buy is what the market asks, that of a further sell
+-- what it bids
 unfoldable pub prices_of : Batch → Form → ℕ → ℕ → MarketPrices
 prices_of batch form quantity limit = prices_for batch (asked form Buy quantity) (asked form Sell quantity) limit

@@ -56,8 +56,8 @@ gap a b = (a - b) + (b - a)
 abbrev pub middle : ℕ → ℕ → ℕ
 middle a b = (a + b) / 2
 
--- the middles of the gap between a price that raises and one that does not, halved at most so many times until the prices
--- are next to each other: the half is kept in which the test changes
+-- the middles of the gap between a price that raises and one that does not, halved at most so many
+-- times until the prices are next to each other: the half is kept in which the test changes
 unfoldable pub middles : ℕ → (ℕ → Bool) → ℕ → ℕ → List ℕ
 middles zero raises a b = []
 middles (suc halvings) raises a b =

@@ -17,8 +17,9 @@ pub record IsStopped (batch : Batch) (order : Order) (limit price : ℕ) (outcom
   pub is : outcome ≡ probe_outcome batch order limit price
   pub unmarked : is_optimal outcome ≡ false
 
--- the order raises the surplus exactly at the whole prices that are no worse than this one, as the outcomes at it and at the next worse
--- one show; or at none; or the outcome at this price is not marked
+-- the order raises the surplus exactly at the whole prices that are no worse than this one, as the
+-- outcomes at it and at the next worse one show; or at none; or the outcome at this price is not
+-- marked
 abbrev pub IsImplied : Batch → Order → ℕ → Outcome → SidePrice → Type 0
 IsImplied batch order limit base (At price raising beside) = RaisesFrom batch order base price × AreShown batch order limit price raising beside base
 IsImplied batch order limit base (Never extreme) = IsNever batch order limit extreme base

@@ -24,7 +24,8 @@ use Rattle.option_quotes.specs.Probes.{first_unmarked, is_optimal, probes}
 use Rattle.option_quotes.specs.Quotes.{RaisesAbove}
 use Rattle.option_quotes.specs.Shown.{IsStopped}
 
--- a batch within the limits with room for one order more, and an option on its underlyings that may be listed
+-- a batch within the limits with room for one order more, and an option on its underlyings that may
+-- be listed
 pub record MayBeQuoted (batch : Batch) (form : Form) : Type 0 where
   pub within : IsWithinLimits batch
   pub room : length batch.orders ≤ 255
@@ -32,7 +33,8 @@ pub record MayBeQuoted (batch : Batch) (form : Form) : Type 0 where
   pub listed : IsListed (option_of form)
   pub on : form.count ≡ batch.underlyings + 1
 
--- the order raises the greatest surplus of the batch exactly at the whole prices that are no worse for a match than this one
+-- the order raises the greatest surplus of the batch exactly at the whole prices that are no worse
+-- for a match than this one
 abbrev pub RaisesGreatestFrom : Batch → Order → ℕ → Type 0
 RaisesGreatestFrom batch order price =
     (price ≤ MAX_PRICE) × (S : Fraction) × IsGreatest batch.underlyings batch.orders S
@@ -69,8 +71,8 @@ TellPrices batch form quantity limit (market.Marked base ask bid) =
     TellsSide batch (asked form Buy quantity) limit ask × TellsSide batch (asked form Sell quantity) limit bid
 TellPrices batch form quantity limit (market.Unmarked base) = IsUnmarked batch limit base
 
--- why no price of the order is found: the clear of the batch, or one of the batch with the order at some price, is not marked optimal,
--- or one more was wanted than a side may have
+-- why no price of the order is found: the clear of the batch, or one of the batch with the order at
+-- some price, is not marked optimal, or one more was wanted than a side may have
 abbrev pub IsUnfound : Batch → Order → ℕ → Type 0
 IsUnfound batch order limit =
     ((base : Outcome) × IsUnmarked batch limit base)

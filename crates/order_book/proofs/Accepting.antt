@@ -70,7 +70,8 @@ accepts book order none = by (market_of book order.market) refl none
           more = less MAX_ACCEPTED book.accepted not_many.0;
         }
 
--- a market whose batch may be finished: it is there and not settled, and there is room for one batch more
+-- a market whose batch may be finished: it is there and not settled, and there is room for one
+-- batch more
 pub finishable : (book : BookState) (market : ℕ) → first_of (batch_refusals book market) ≡ None
     → (m : MarketState) × (market_of book market ≡ Some m) × (book.finished < MAX_BATCHES) × (m.settled ≡ false)
 finishable book market none = by (market_of book market) refl none
@@ -104,7 +105,8 @@ unrefused book market trading more = by (market_of book market) trading
     by None h = cc
     by (Some m) h = rw (settled_not m.settled h, not_many MAX_BATCHES book.finished more) refl
 
--- a market that may be settled at so many prices: it is there, not settled, and on as many underlyings
+-- a market that may be settled at so many prices: it is there, not settled, and on as many
+-- underlyings
 pub closable : (book : BookState) (market prices : ℕ) → first_of (close_refusals book market prices) ≡ None
     → (m : MarketState) × (market_of book market ≡ Some m) × (m.settled ≡ false) × (prices ≡ m.underlyings)
 closable book market prices none = by (market_of book market) refl none

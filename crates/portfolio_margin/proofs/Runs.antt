@@ -14,7 +14,8 @@ use Rattle.table_run.specs.Ending.{Ending, done, unbounded, wide_at, no_unit_lef
 use Rattle.table_run.proofs.Endings.{EndsWith}
 use Rattle.portfolio_margin.specs.Run.{MarginQuestion, Margin, least, endless, ends, goes, at_state, on_found, on_turn, question_of, turns_from, wanted_at}
 
--- a fact W of each liability with its state, which the searches keep, and a fact Q of the end that follows from it
+-- a fact W of each liability with its state, which the searches keep, and a fact Q of the end that
+-- follows from it
 pub record Keeps (a : MarginQuestion) (W : Fraction → List ℕ → Type 0) (Q : Margin → Type 0) : Type 0 where
   pub asked : (L : Fraction) (at : List ℕ) → W L at → IsAsked (question_of a L)
   pub closes : (L : Fraction) (at : List ℕ) (spent units : ℕ) (tree : WrittenTree) → W L at → search (question_of a L) spent ≡ done (closed tree) units → Q (least L at tree)

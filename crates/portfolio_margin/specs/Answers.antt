@@ -32,7 +32,8 @@ IsMarginOf ending (Unbounded ray) = (units : ℕ) × (ending ≡ done (endless (
 IsMarginOf ending (Wide unit wide) = ending ≡ wide_at unit wide
 IsMarginOf ending Budget = (units : ℕ) × (ending ≡ no_unit_left units)
 
--- the least liability, with a tree that closes for the batch of the positions; or that there is none
+-- the least liability, with a tree that closes for the batch of the positions; or that there is
+-- none
 abbrev pub IsTrueOf : ℕ → List Position → LeastMargin → Type 0
 IsTrueOf n positions (Least L at tree) =
     IsLeast n positions (fraction_of L) (vector_of at)

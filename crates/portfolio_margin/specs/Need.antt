@@ -56,7 +56,8 @@ first_demand_word (d ∷ demands) = or_word (demand_word d.0) (first_demand_word
 abbrev pub whole_demand : {W : Type 0} → List (Demand W) → ℕ
 whole_demand demands = sum (map (λ d. demand_amount d.0 d.1) demands)
 
--- no part is below 0, so that some sum of the first ones passes the limit just where the whole sum does
+-- no part is below 0, so that some sum of the first ones passes the limit just where the whole sum
+-- does
 abbrev pub demand_sum : {W : Type 0} → List (Demand W) → Needed
 demand_sum demands = if nat_le (whole_demand demands) largest then Amount (whole_demand demands) else Sum
 

@@ -1,4 +1,5 @@
--- The run of a margin: searches, one after another, each with the liability that the state found before it wants.
+-- The run of a margin: searches, one after another, each with the liability that the state found
+-- before it wants.
 use Rattle.std.specs.Prelude.{ℕ, ◌+◌, zero, suc, nat_eq, List, map, zip, pos, if◌then◌else◌, Result}
 use Rattle.exact_num.specs.declared.misfit.Wide.{Wide}
 use Rattle.exact_num.specs.Fraction.{Fraction, whole}
@@ -29,7 +30,8 @@ abbrev pub orders_of : List Position → List Order
 orders_of positions = map order_of positions
 
 -- ---- the run
--- the orders of positions and their fills, on so many underlyings, in numbers within a limit and with a budget of units
+-- the orders of positions and their fills, on so many underlyings, in numbers within a limit and
+-- with a budget of units
 pub record MarginQuestion : Type 0 where
   pub limit : ℕ
   pub budget : ℕ
@@ -53,8 +55,8 @@ net_at a z = net_of a.limit (zip a.orders a.fills) z
 abbrev pub wanted_at : MarginQuestion → List ℕ → Result Fraction Wide
 wanted_at a z = after (net_at a z) (λ net. div_of a.limit net (whole (pos (scale_of z))))
 
--- what it ends with: the least liability, the settlement that wants it and the tree of the last search; or a ray that no
--- liability covers
+-- what it ends with: the least liability, the settlement that wants it and the tree of the last
+-- search; or a ray that no liability covers
 pub data Margin : Type 0 where
   least : (liability : Fraction) (at : List ℕ) (tree : WrittenTree) → Margin
   endless : (ray : List ℕ) → Margin
@@ -85,8 +87,8 @@ unfoldable pub turns_from : MarginQuestion → ℕ → Fraction → List ℕ →
 turns_from a zero L at spent = stuck spent
 turns_from a (suc left) L at spent = on_answer (turn_at a L at spent) (on_turn (λ more z units. turns_from a left more z units))
 
--- the first liability is the net where all prices are 0. Each search spends a unit, so that there is no more than one beyond
--- the budget
+-- the first liability is the net where all prices are 0. Each search spends a unit, so that there
+-- is no more than one beyond the budget
 unfoldable pub margin_run : MarginQuestion → Ending Margin
 margin_run a =
     let first = zero_prices a.underlyings in

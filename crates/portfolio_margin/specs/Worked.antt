@@ -37,7 +37,8 @@ sold_call = position_of Sell (option (negsuc 4 ∷ pos 1 ∷ [])) (over (pos 2) 
 abbrev pub spread : List Position
 spread = position_of Sell (option (negsuc 9 ∷ pos 1 ∷ [])) (whole (pos 1)) ∷ position_of Buy (option (negsuc 11 ∷ pos 1 ∷ [])) (whole (pos 1)) ∷ []
 
--- a bundle is sold that counts a put with strike 10 once below 0: it is owed 10 where the price is 0, and nothing from 10 on
+-- a bundle is sold that counts a put with strike 10 once below 0: it is owed 10 where the price is
+-- 0, and nothing from 10 on
 abbrev pub sold_short : List Position
 sold_short = position_of Sell (bundle_made (record { count = negsuc 0; form = form_of (pos 10 ∷ negsuc 0 ∷ []) } ∷ [])) (whole (pos 1)) ∷ []
 

@@ -144,7 +144,8 @@ signed_rows_of limit n tail node c = given_with (program_given c) (length (signe
 abbrev pub cover_rows_of : ℕ → ℕ → ℕ → List NodeLeg → Contents → Result Contents Misfit
 cover_rows_of limit n covers node c = given_with (program_given c) covers (cover_rows_steps limit n (covers_of node) (minus_units covers))
 
--- with the costs that were written and the size's row in place, what is left are the rows of the covering and the signed legs
+-- with the costs that were written and the size's row in place, what is left are the rows of the
+-- covering and the signed legs
 pub program_from : (limit n covers : ℕ) (legs : List FractionLeg) (L : Fraction) (signs : List Sign) (costs : List Fraction) (c : Contents)
     → covers ≡ length (covers_of (counted_node legs signs)) → costs_steps limit n legs L signs ≡ Ok costs → c ≡ given (sized n covers costs)
     → after (node_steps limit n legs L signs) (λ p. Ok (given p)) ≡ after (cover_rows_of limit n covers (counted_node legs signs) c) (signed_rows_of limit n (replicate covers fraction_zero) (counted_node legs signs))

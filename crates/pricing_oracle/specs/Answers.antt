@@ -23,7 +23,8 @@ use Rattle.pricing_oracle.specs.declared.found.Found.TheVariants.{Closed, Violat
 abbrev pub IsTreeAs : WrittenTree → SignTree → Type 0
 IsTreeAs written tree = IsWritten written (map node_of tree.nodes) (map placed_of tree.multipliers)
 
--- what a batch, its fills and the liability ask of a search, in numbers within a limit and with a budget
+-- what a batch, its fills and the liability ask of a search, in numbers within a limit and with a
+-- budget
 abbrev pub question : (limit budget : ℕ) → Batch → List Fraction → Fraction → Question
 question limit budget batch fills liability =
     record { payoff_limit = largest; limit = limit; budget = budget; underlyings = batch.underlyings; orders = batch.orders; fills = fills; liability = liability }
@@ -33,7 +34,8 @@ abbrev pub EndsWith : Ending Found → Answer → ℕ → Type 0
 EndsWith ending (Closed tree) spent = (written : WrittenTree) × IsTreeAs written tree × (ending ≡ done (closed written) spent)
 EndsWith ending (Violated state) spent = ending ≡ done (found (vector_of state)) spent
 
--- the answer of the call is the end of the search, and the units are those spent; want of memory says nothing
+-- the answer of the call is the end of the search, and the units are those spent; want of memory
+-- says nothing
 abbrev pub IsSearchAnswer : Ending Found → Result Answer Stop → ℕ → Type 0
 IsSearchAnswer ending (Ok answer) spent = EndsWith ending answer spent
 IsSearchAnswer ending (Err (Wide unit wide)) spent = (ending ≡ wide_at unit wide) × (spent ≡ unit)
@@ -46,7 +48,8 @@ found_in tree (Ok None) = Ok (Closed tree)
 found_in tree (Ok (Some state)) = Ok (Violated state)
 found_in tree (Err stop) = Err (stop_of stop)
 
--- the tree is well formed and closes; the state is primitive, and at it the fills owe more than the liability
+-- the tree is well formed and closes; the state is primitive, and at it the fills owe more than the
+-- liability
 abbrev pub IsTrueOf : Question → Answer → Type 0
 IsTrueOf q (Closed tree) = ClosesAsWritten q.underlyings q.orders q.fills q.liability (map node_of tree.nodes) (map placed_of tree.multipliers)
 IsTrueOf q (Violated state) = IsFound q (vector_of state)

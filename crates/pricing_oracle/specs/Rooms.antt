@@ -26,7 +26,8 @@ pub record HasTreeRoom (units : ℕ) (tree : TreeParts) : Type 0 where
   pub nodes : units ≤ vec_capacity tree.nodes
   pub multipliers : units ≤ vec_capacity tree.multipliers
 
--- a space in which the programs of the nodes have room, and room for so many signs, for a row of so many numbers and for a tree
+-- a space in which the programs of the nodes have room, and room for so many signs, for a row of so
+-- many numbers and for a tree
 pub record IsRoom (underlyings legs units : ℕ) (space : Workspace) (signs numbers : ℕ) (tree : TreeParts) : Type 0 where
   pub rows : 1 + legs ≤ space.rows
   pub columns : underlyings + 1 + legs ≤ space.columns

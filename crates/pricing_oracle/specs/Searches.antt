@@ -86,7 +86,8 @@ state_end value limit asked signs x unit =
     on_steps unit (state_of q x) (on_state q (node_at q signs) unit)
 
 -- ---- the sides
--- what follows a split, where at most so many legs may be signed: the plus side whole, and then the minus side
+-- what follows a split, where at most so many legs may be signed: the plus side whole, and then the
+-- minus side
 abbrev pub after_split : Question → ℕ → List Sign → ℕ → ℕ → Ending Found
 after_split q zero signs place units = stuck units
 after_split q (suc depth) signs place units =

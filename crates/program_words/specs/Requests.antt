@@ -41,7 +41,8 @@ abbrev pub three_words : List ℕ → List ℕ → List ℕ → Option Request
 three_words word seed count =
     if bytes_eq word (codes "demo") then demo_of (natural_in 0 MAX_SEED seed) (natural_in 1 MAX_DEMO_ORDERS count) else None
 
--- `run`, `quotes`, `guarded`, `check`, `audit`, `sessions`, `serve`, `serve sessions`, `propose`, or `demo` with a seed and a number of orders
+-- `run`, `quotes`, `guarded`, `check`, `audit`, `sessions`, `serve`, `serve sessions`, `propose`,
+-- or `demo` with a seed and a number of orders
 abbrev pub request_of : List (List ℕ) → Option Request
 request_of [] = None
 request_of (word ∷ []) = one_word word

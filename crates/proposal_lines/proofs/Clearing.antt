@@ -1,4 +1,5 @@
--- What takes the place of the reference run's outcome is proved, and no proposal lowers what is cleared.
+-- What takes the place of the reference run's outcome is proved, and no proposal lowers what is
+-- cleared.
 use Rattle.std.proofs.Common.{◌≡◌, ℕ, List, [], Bool, true, false, if◌then◌else◌, Option, Some, None, option_and_then, refl, sym, ap, ◌∙◌, subst, arith, ℤ, ◌≤ℤ◌, int_le, pos, ◌*ℤ◌}
 use Rattle.std.specs.Prelude.{IfSome}
 use Rattle.std.specs.Option.{option_map_or}

@@ -22,7 +22,8 @@ word_in fields =
 abbrev pub asking_word : List ℕ → Option AskingWord
 asking_word line = option_map_or word_in (fields_of_line line) None
 
--- it begins with the letter q or p or with a quotation mark, as each line does that asks so; no other need be read to its first field
+-- it begins with the letter q or p or with a quotation mark, as each line does that asks so; no
+-- other need be read to its first field
 abbrev pub may_ask : List ℕ → Bool
 may_ask [] = false
 may_ask (b ∷ bs) = (b == 113) || (b == 112) || (b == 34)

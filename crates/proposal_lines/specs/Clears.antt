@@ -22,16 +22,16 @@ use Rattle.proposal_lines.specs.declared.replies.ProposingReply.TheVariants.{Pla
 abbrev pub reference_in : ProposingState → ℕ → ℕ → Outcome
 reference_in state market budget = outcome_of (batch_in state.exchange market) budget
 
--- what takes the place of an outcome of the market's batch: what is kept for just the live orders, where the run stopped and the kept
--- surplus is above that of the outcome, which is the match then
+-- what takes the place of an outcome of the market's batch: what is kept for just the live orders,
+-- where the run stopped and the kept surplus is above that of the outcome, which is the match then
 abbrev pub better_than : ProposingState → ℕ → Outcome → Option BoundedOutcome
 better_than state market outcome = bounded_in market (numbers_of (batch_in state.exchange market).orders) outcome state.kept
 
 abbrev pub better_in : ProposingState → ℕ → ℕ → Option BoundedOutcome
 better_in state market budget = better_than state market (reference_in state market budget)
 
--- it is charged as any outcome is. What is kept for these orders is let go, which no reply shows: their numbers are never given again, so
--- it could never count
+-- it is charged as any outcome is. What is kept for these orders is let go, which no reply shows:
+-- their numbers are never given again, so it could never count
 abbrev pub bounded_effect : ProposingState → ℕ → BoundedOutcome → ProposingReply × ProposingState
 bounded_effect state market outcome = (
   Told (told.Bounded (state.exchange.book.finished + 1) market (batch_in state.exchange market) outcome),

@@ -26,8 +26,8 @@ LeaveOrders market state (line ∷ lines) =
     IsNoClearOf market (body_of_line line.bytes) × (batch_in next.exchange market ≡ batch_in state.exchange market)
     × LeaveOrders market next lines
 
--- after a proposal, whatever it is, and such lines the exchange is as it would be without the proposal, and a clear of any market tells no
--- lower surplus
+-- after a proposal, whatever it is, and such lines the exchange is as it would be without the
+-- proposal, and a clear of any market tells no lower surplus
 pub record IsUnharmed (without with : ProposingState) : Type 0 where
   pub exchange : with.exchange ≡ without.exchange
   pub surplus : (market budget : ℕ) → AtMost (cleared_surplus without market budget) (cleared_surplus with market budget)

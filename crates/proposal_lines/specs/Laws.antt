@@ -34,7 +34,8 @@ pub record IsSound (state : ProposingState) : Type 0 where
 abbrev pub IsMatch : Batch → Outcome → Type 0
 IsMatch batch outcome = outcome ≡ fallback batch.orders outcome.mark outcome.units
 
--- the proposal proves its bound for the batch, whose reference run stopped, and its surplus is above that of the match
+-- the proposal proves its bound for the batch, whose reference run stopped, and its surplus is
+-- above that of the match
 pub record IsBetter (batch : Batch) (reference : Outcome) (better : BoundedOutcome) : Type 0 where
   pub proves : Proves batch better.proposal (fraction_of better.bound)
   pub stopped : stop_of reference.mark ≡ Some better.run

@@ -35,7 +35,8 @@ use Rattle.proposal_lines.specs.Reads.{read_of_line, read_reply}
 use Rattle.proposal_lines.specs.ProposingState.{ProposingState, empty_state}
 
 -- ---- of each line
--- a batch that was cleared as proposals had it, in place of the reference run's outcome within the budget
+-- a batch that was cleared as proposals had it, in place of the reference run's outcome within the
+-- budget
 pub record BoundedAnswer : Type 0 where
   pub line : ℕ
   pub market : ℕ
@@ -44,7 +45,8 @@ pub record BoundedAnswer : Type 0 where
   pub batch : Batch
   pub better : BoundedOutcome
 
--- what is told for a line: a run's answer, such a batch, or a text by which the exchange stays as it is
+-- what is told for a line: a run's answer, such a batch, or a text by which the exchange stays as
+-- it is
 pub data ProposalAnswer : Type 0 where
   replied : Answer → ProposalAnswer
   bounded : BoundedAnswer → ProposalAnswer
@@ -70,8 +72,8 @@ replies_in (replied answer ∷ more) = answer.reply ∷ replies_in more
 replies_in (bounded answer ∷ more) = Cleared answer.number answer.market answer.batch (charged answer.better) ∷ replies_in more
 replies_in (beside line text ∷ more) = replies_in more
 
--- a run's keeps what is promised of a run; a batch that was cleared as proposals had it is better than what the reference run answers
--- within the budget
+-- a run's keeps what is promised of a run; a batch that was cleared as proposals had it is better
+-- than what the reference run answers within the budget
 abbrev pub KeepsProposalPromises : ProposalAnswer → Type 0
 KeepsProposalPromises (replied answer) = KeepsPromises answer
 KeepsProposalPromises (bounded answer) = IsBetter answer.batch (outcome_of answer.batch answer.budget) answer.better
@@ -91,19 +93,22 @@ ClearsNothing (told.Unproved failed) = ⊤
 abbrev pub IsToldText : ℕ → List ℕ → Type 0
 IsToldText number text = (reply : ProposalReply) × ClearsNothing reply × (text ≡ proposal_line number reply ++ 10 ∷ [])
 
--- or one that is written where no proposals are taken: of a quote, of prices, of a margin or of a refusal
+-- or one that is written where no proposals are taken: of a quote, of prices, of a margin or of a
+-- refusal
 abbrev pub IsBesideProposals : ℕ → List ℕ → Type 0
 IsBesideProposals number text = IsBesideText number text ⊎ IsToldText number text
 
 -- ---- of an input
--- the answer is a run's to what the line says. Where it clears a batch whose run stopped, nothing that counts covers more than the match
+-- the answer is a run's to what the line says. Where it clears a batch whose run stopped, nothing
+-- that counts covers more than the match
 pub record IsRepliedFor (state : ProposingState) (line : InputLine) (answer : Answer) (after : ProposingState) : Type 0 where
   pub reply : answer ≡ answer_to state.exchange (line_of line)
   pub unbeaten : IfClears (λ number market batch outcome. NoneIsAbove state market outcome) answer.reply
   pub exchange : after.exchange ≡ (reply_to state.exchange (body_of_line line.bytes)).1
   pub kept : after.kept ≡ state.kept
 
--- the line says to clear the market within the budget, and it is not refused; the market's batch is cleared as what is kept has it
+-- the line says to clear the market within the budget, and it is not refused; the market's batch is
+-- cleared as what is kept has it
 pub record IsBoundedFor (state : ProposingState) (line : InputLine) (answer : BoundedAnswer) (after : ProposingState) : Type 0 where
   pub of_line : answer.line ≡ line.number
   pub says : body_of_line line.bytes ≡ Command (Clear answer.market answer.budget)
@@ -114,7 +119,8 @@ pub record IsBoundedFor (state : ProposingState) (line : InputLine) (answer : Bo
   pub exchange : after.exchange ≡ cleared_with state.exchange answer.market answer.better.proposal.fills
   pub kept : after.kept ≡ without_kept answer.market state.kept
 
--- the text moves nothing of the exchange, and a line that does not propose changes nothing of what is kept
+-- the text moves nothing of the exchange, and a line that does not propose changes nothing of what
+-- is kept
 pub record IsBesideFor (state : ProposingState) (line : InputLine) (number : ℕ) (text : List ℕ) (after : ProposingState) : Type 0 where
   pub of_line : number ≡ line.number
   pub of_kind : IsBesideProposals number text
@@ -140,8 +146,9 @@ abbrev pub state_by_lines : ProposingState → List InputLine → ProposingState
 state_by_lines state [] = state
 state_by_lines state (line ∷ lines) = state_by_lines (proposing_line line.number state line.bytes).1 lines
 
--- the bytes are the text of the answers to the lines of the input. Each keeps what is promised, they leave the house its gains, batches
--- that were cleared as proposals had it among them, and the state is one that an exchange which takes proposals may be in
+-- the bytes are the text of the answers to the lines of the input. Each keeps what is promised,
+-- they leave the house its gains, batches that were cleared as proposals had it among them, and the
+-- state is one that an exchange which takes proposals may be in
 pub record TellProposals (input bytes : List ℕ) : Type 0 where
   pub answers : List ProposalAnswer
   pub to_lines : AreToldFor empty_state (input_lines input) answers
@@ -158,7 +165,8 @@ abbrev pub OutputsTellProposals : Type 0
 OutputsTellProposals = (input : List ℕ) → TellProposals input (proposing_output input)
 
 -- ---- where nothing is proposed
--- what is written where no proposals are taken: a line that reads is told what it asks for, and any other is answered as ever
+-- what is written where no proposals are taken: a line that reads is told what it asks for, and any
+-- other is answered as ever
 abbrev pub reading_line : ℕ → ExchangeState → List ℕ → List ℕ × ExchangeState
 reading_line number exchange line =
     option_map_or (λ asked. (proposing_reply_line number (read_reply exchange asked) ++ 10 ∷ [], exchange)) (read_of_line line)

@@ -42,7 +42,8 @@ propose_word = codes "propose,"
 abbrev pub after_word : List ℕ → Option (List ℕ)
 after_word line = if bytes_eq (take 8 line) propose_word then Some (drop 8 line) else None
 
--- the market is what stands up to the first comma, and the proposal all behind it; the word is the first field
+-- the market is what stands up to the first comma, and the proposal all behind it; the word is the
+-- first field
 abbrev pub proposed_at : List ℕ → ℕ → Result Proposed Fault
 proposed_at text place =
     let fields = [] ∷ take place text ∷ [] in

@@ -19,8 +19,9 @@ AgreesWith orders order = All (λ (own : Order). order.id ≡ own.id → order �
 abbrev pub underlyings_in : BookState → ℕ → Option ℕ
 underlyings_in book market = option_map (λ (m : MarketState). m.underlyings) (market_of book market)
 
--- the halves prove their bound for a batch of the market, whose orders have the numbers that are kept. A live order with one of these
--- numbers is that order: so where they are the live ones, the market's batch is this one
+-- the halves prove their bound for a batch of the market, whose orders have the numbers that are
+-- kept. A live order with one of these numbers is that order: so where they are the live ones, the
+-- market's batch is this one
 pub record IsProvedIn (book : BookState) (market : ℕ) (best : Best) : Type 0 where
   pub batch : Batch
   pub proved : IsProvedBest batch best

@@ -1,4 +1,5 @@
--- The pieces of proposals and of the replies about them within their ranges are plain and shallow, and their keys rise.
+-- The pieces of proposals and of the replies about them within their ranges are plain and shallow,
+-- and their keys rise.
 use Rattle.std.proofs.Common.{ℕ, List, false, refl, arith}
 use Rattle.std.specs.List.{AllByRecursion}
 use Rattle.form.specs.declared.orders.Batch.{Batch}

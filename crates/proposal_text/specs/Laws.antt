@@ -9,6 +9,7 @@ use Rattle.proposal_text.specs.Submissions.{IsTextOf, submission_of}
 abbrev pub SubmissionsReadExactly : Type 0
 SubmissionsReadExactly = (text : List ℕ) (s : Submission) → (submission_of text ≡ Some s) ↔ IsTextOf text s
 
--- a text reads as a line and its reply exactly where it is their print, and these are within their ranges
+-- a text reads as a line and its reply exactly where it is their print, and these are within their
+-- ranges
 abbrev pub RepliesReadExactly : Type 0
 RepliesReadExactly = (text : List ℕ) (line : ℕ) (reply : ProposalReply) → (reply_reading text ≡ Ok (line, reply)) ↔ IsProposalLineOf text line reply

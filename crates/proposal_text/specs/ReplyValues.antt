@@ -1,4 +1,5 @@
--- The replies about proposals as they are taken out of a line, where they are within their ranges, and their reading.
+-- The replies about proposals as they are taken out of a line, where they are within their ranges,
+-- and their reading.
 use Rattle.std.specs.Prelude.{ℕ, ◌≡◌, pos, int_le, List, false, ◌==◌, Option, Some, None, Result, option_map, option_and_then, codes, if◌then◌else◌}
 use Rattle.std.specs.Str.{bytes_eq}
 use Rattle.form.specs.declared.orders.Side.{Side}

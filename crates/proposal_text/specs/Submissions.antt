@@ -1,4 +1,5 @@
--- What a text proposes: something exactly where it passes the five tests of a line, with a proposal in place of a reply.
+-- What a text proposes: something exactly where it passes the five tests of a line, with a proposal
+-- in place of a reply.
 use Rattle.std.specs.Prelude.{ℕ, ◌≡◌, List, length, Bool, ◌&&◌, nat_le, Option, Some, None, option_map, option_and_then, codes, if◌then◌else◌}
 use Rattle.std.specs.Result.{result_ok}
 use Rattle.frac.specs.declared.frac128.Frac128.{Frac128}

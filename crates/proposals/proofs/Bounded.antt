@@ -24,7 +24,8 @@ use Rattle.settlement.proofs.Worth.{plus_fits}
 use Rattle.proposals.specs.Judged.{zero_prices}
 use Rattle.proposals.proofs.Payoffs.{pays, small_at_zero}
 
--- how far a limit price and a price at the state are apart at most, and that for the greatest quantity
+-- how far a limit price and a price at the state are apart at most, and that for the greatest
+-- quantity
 abbrev MOST_GAIN : ℕ
 MOST_GAIN = 1000000000000 + 4000 * MAX_PAYOFF
 

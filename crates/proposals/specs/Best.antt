@@ -1,4 +1,5 @@
--- The best halves of proposals: the fills with the greatest surplus, and the measure with the least bound.
+-- The best halves of proposals: the fills with the greatest surplus, and the measure with the least
+-- bound.
 use Rattle.std.specs.Prelude.{ℕ, List, Bool, nat_eq, Option, None, Some, if◌then◌else◌}
 use Rattle.std.specs.Cmp.Lexicographic.{pointwise}
 use Rattle.exact_num.specs.Fraction.{Fraction}

@@ -34,7 +34,8 @@ pub record ProposesNothing (batch : Batch) (proposal : Proposal) : Type 0 where
   pub cover : IsBareCover batch.underlyings proposal.cover
   pub measure : points_of proposal.measure ≡ zero_prices batch.underlyings
 
--- what is handed out for what was found: that, where it is judged a bound, and else a proposal of nothing
+-- what is handed out for what was found: that, where it is judged a bound, and else a proposal of
+-- nothing
 abbrev pub IsHandedOut : Batch → Option Proposal → Proposal → Type 0
 IsHandedOut batch None proposal = ProposesNothing batch proposal
 IsHandedOut batch (Some found) proposal =

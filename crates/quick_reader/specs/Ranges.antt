@@ -1,4 +1,5 @@
--- The tests by which a reply is within its ranges. That of the mark wide is left out: no such reply passes.
+-- The tests by which a reply is within its ranges. That of the mark wide is left out: no such reply
+-- passes.
 use Rattle.std.specs.Prelude.{ℕ, ◌*◌, ◌^◌, ℤ, pos, int_le, unsigned_abs, List, length, Bool, true, false, ◌&&◌, ◌==◌, nat_le, nat_lt}
 use Rattle.std.specs.List.{list_all}
 use Rattle.form.specs.declared.limits.TheConstants.{MAX_BUDGET, MAX_OPTIONS, MAX_ORDER, MAX_ORDERS, MAX_PRICE, MAX_QUANTITY, MAX_UNDERLYINGS}

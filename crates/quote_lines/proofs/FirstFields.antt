@@ -1,4 +1,5 @@
--- What a line says does not depend on the fields past those that a command can have, but for the first of them.
+-- What a line says does not depend on the fields past those that a command can have, but for the
+-- first of them.
 use Rattle.std.proofs.Common.{◌≡◌, ◌<◌, ℕ, List, ◌&&◌, nat_le, length, Err, ap, codes, arith}
 use Rattle.command_text.specs.declared.asked.Fault.TheVariants.{Syntax}
 use Rattle.command_text.specs.Asked.{natural_in}

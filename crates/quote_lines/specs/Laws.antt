@@ -25,7 +25,8 @@ use Rattle.lists.specs.Refusals.{first_of}
 use Rattle.quote_lines.specs.Output.{IsQuoteText, IsTextBy, line_by, quotes_line}
 use Rattle.quote_lines.specs.Refusals.{quote_refusals}
 
--- each line is answered as in a run, or by a refusal or by what is told by the word, and then the exchange is as it was
+-- each line is answered as in a run, or by a refusal or by what is told by the word, and then the
+-- exchange is as it was
 abbrev pub LinesAnswerAsRun : Type 0
 LinesAnswerAsRun = (word : AskingWord) → AnswersAsRun (IsTextBy word) (line_by word)
 
@@ -33,24 +34,27 @@ LinesAnswerAsRun = (word : AskingWord) → AnswersAsRun (IsTextBy word) (line_by
 abbrev pub QuotesAnswerAsRun : Type 0
 QuotesAnswerAsRun = AnswersAsRun IsQuoteText quotes_line
 
--- what is written for an input is the text of the answers to its lines, which keep what is promised and leave the house its gains
+-- what is written for an input is the text of the answers to its lines, which keep what is promised
+-- and leave the house its gains
 abbrev pub QuotesTellAnswers : Type 0
 QuotesTellAnswers = OutputTells IsQuoteText quotes_line
 
 -- ---- what a quoted line tells
--- a price: from it on the order raises the greatest surplus of the batch; `never`: at no price; `unmarked`: the first clear
--- that is not marked optimal, of the batch or of the batch with the order at a price, each of at most so many units
+-- a price: from it on the order raises the greatest surplus of the batch; `never`: at no price;
+-- `unmarked`: the first clear that is not marked optimal, of the batch or of the batch with the
+-- order at a price, each of at most so many units
 abbrev pub TellsPrice : Batch → Order → ℕ → QuotedPrice → Type 0
 TellsPrice batch order budget (At price) = RaisesGreatestFrom batch order price
 TellsPrice batch order budget Never = NeverRaisesGreatest batch order
 TellsPrice batch order budget Unmarked = (probe : Probe) × (first_unmarked (probes batch order budget) ≡ Some probe)
 
--- of a further order on the side for the option that is asked for, and the live orders of the market
+-- of a further order on the side for the option that is asked for, and the live orders of the
+-- market
 abbrev pub TellsOf : ExchangeState → QuoteRequest → Side → QuotedPrice → Type 0
 TellsOf state request side price = TellsPrice (batch_in state request.market) (further request.form side) request.budget price
 
--- a line that asks for a quote and meets no refusal is answered by a quoted line, whose bid tells this of a further buy and
--- whose ask of a further sell, and the exchange is as it was
+-- a line that asks for a quote and meets no refusal is answered by a quoted line, whose bid tells
+-- this of a further buy and whose ask of a further sell, and the exchange is as it was
 abbrev pub QuotedLinesAreThresholds : Type 0
 QuotedLinesAreThresholds =
     (number : ℕ) (state : ExchangeState) (line : List ℕ) (request : QuoteRequest) → IsKept state
@@ -60,7 +64,8 @@ QuotedLinesAreThresholds =
     × TellsOf state request Buy bid × TellsOf state request Sell ask
 
 -- ---- what a priced line tells
--- a price, or `never`, as above; `unmarked`: no price is found, for want of a mark or of one probe more
+-- a price, or `never`, as above; `unmarked`: no price is found, for want of a mark or of one probe
+-- more
 abbrev pub TellsImplied : Batch → Order → ℕ → QuotedPrice → Type 0
 TellsImplied batch order budget (At price) = RaisesGreatestFrom batch order price
 TellsImplied batch order budget Never = NeverRaisesGreatest batch order
@@ -70,8 +75,8 @@ abbrev pub TellsImpliedOf : ExchangeState → PriceRequest → Side → QuotedPr
 TellsImpliedOf state request side price =
     TellsImplied (batch_in state request.quote.market) (asked request.quote.form side request.quantity) request.quote.budget price
 
--- a line that asks for prices and meets no refusal is answered by a priced line, whose ask tells this of a further buy and whose bid of
--- a further sell, and the exchange is as it was
+-- a line that asks for prices and meets no refusal is answered by a priced line, whose ask tells
+-- this of a further buy and whose bid of a further sell, and the exchange is as it was
 abbrev pub PricedLinesAreThresholds : Type 0
 PricedLinesAreThresholds =
     (number : ℕ) (state : ExchangeState) (line : List ℕ) (request : PriceRequest) → IsKept state

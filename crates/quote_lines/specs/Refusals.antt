@@ -1,4 +1,5 @@
--- The refusals of a request for a quote, each with its condition, in the order in which they are tried.
+-- The refusals of a request for a quote, each with its condition, in the order in which they are
+-- tried.
 use Rattle.std.specs.Prelude.{◌+◌, Bool, true, not, List, [], ◌∷◌, ◌++◌, Option, Some, None, nat_eq, nat_le}
 use Rattle.order_book.specs.declared.limits.TheConstants.{MAX_BATCHES}
 use Rattle.order_book.specs.declared.market.MarketInfo.{MarketInfo}
@@ -8,7 +9,8 @@ use Rattle.exchange_core.specs.declared.refusal.Refusal.{Refusal}
 use Rattle.exchange_core.specs.declared.refusal.Refusal.TheVariants.{NoMarket, Settled, WeightCount, BookFull, TooMany}
 use Rattle.quote_lines.specs.declared.requests.QuoteRequest.{QuoteRequest}
 
--- by what is told of the market: a further order would find no room where it has as many live orders as it may have
+-- by what is told of the market: a further order would find no room where it has as many live
+-- orders as it may have
 abbrev pub info_refusals : Option MarketInfo → QuoteRequest → List (Bool × Refusal)
 info_refusals None request = (true, NoMarket) ∷ []
 info_refusals (Some info) request =

@@ -22,7 +22,8 @@ OtherLinesAreRuns =
 abbrev pub RequestsAreWithin : Type 0
 RequestsAreWithin = (word : AskingWord) (line : List ℕ) → QuotesBodyIsWithin (body_by word line)
 
--- requests of a call, of a put on two underlyings and at the ends of the ranges; and requests that are refused
+-- requests of a call, of a put on two underlyings and at the ends of the ranges; and requests that
+-- are refused
 pub record WorkedRequests : Type 0 where
   pub call : quotes_body_of (codes "quote,1,20000,call,10,1") ≡ Quote (record { market = 1; budget = 20000; form = form_of (negsuc 9 ∷ pos 1 ∷ []) })
   pub put : quotes_body_of (codes "quote,2,1,put,0,-1,2") ≡ Quote (record { market = 2; budget = 1; form = form_of (pos 0 ∷ pos 1 ∷ negsuc 1 ∷ []) })

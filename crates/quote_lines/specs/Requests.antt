@@ -17,7 +17,8 @@ use Rattle.quote_lines.specs.declared.requests.TheConstants.{QUANTITY, QUOTE, PR
 abbrev pub strike_at : ℕ → Asked
 strike_at place = record { place = place; low = neg_ℤ (pos MAX_STRIKE); high = pos MAX_STRIKE; zero = true }
 
--- an option whose kind is at a place: KIND,STRIKE,W1,..,Wn behind the market, the budget and what else is asked
+-- an option whose kind is at a place: KIND,STRIKE,W1,..,Wn behind the market, the budget and what
+-- else is asked
 abbrev pub option_request : ℕ → List Asked → List (List ℕ) → Result QuoteRequest Fault
 option_request place asked fields =
     if nat_le (place + 2) (length fields) && nat_le (length fields) (place + 9)

@@ -1,4 +1,5 @@
--- Whether the texts of a line that should be numbers are of their grammar. The line has the shape of a reply.
+-- Whether the texts of a line that should be numbers are of their grammar. The line has the shape
+-- of a reply.
 use Rattle.std.specs.Prelude.{ℕ, List, Bool, true, false, ◌&&◌, ◌||◌, codes, option_map, unwrap_or, if◌then◌else◌}
 use Rattle.std.specs.Str.{bytes_eq}
 use Rattle.serde_json.specs.Data.{Data}

@@ -1,4 +1,5 @@
--- The positions of an exchange, as orders whose net is what they owe, are within the limits of orders.
+-- The positions of an exchange, as orders whose net is what they owe, are within the limits of
+-- orders.
 use Rattle.std.proofs.Common.{◌≡◌, ℕ, zero, suc, ◌+◌, ◌*◌, ◌<◌, ◌≤◌, ◌≤ℤ◌, ◌<ℤ◌, ℤ, pos, negsuc, List, [], ◌∷◌, map, not, int_lt, Bool, true, false, if◌then◌else◌, Option, Some, None, refl, arith}
 use Rattle.std.specs.Int.{div_ceil}
 use Rattle.std.specs.List.{All, zip}

@@ -16,7 +16,8 @@ pub record IsAnswered {S : Type 0} (Next : S → Type 0) (now : List ℕ × S) :
   pub accepted : IsAccepted text
   pub stands : Next now.1
 
--- the state before the line of each number stands so, behind an empty line as behind one that is answered
+-- the state before the line of each number stands so, behind an empty line as behind one that is
+-- answered
 module _ {S : Type 0} (step : ℕ → S → List ℕ → List ℕ × S) (Stands : ℕ → S → Type 0)
     (passes : (number : ℕ) (state : S) → Stands number state → Stands (number + 1) state)
     (answers : (number : ℕ) (state : S) (line : List ℕ) → number ≤ count_limit → Stands number state → IsAnswered (Stands (number + 1)) (step number state line)) where

@@ -64,7 +64,8 @@ pub record IsRanged (lines : ℕ) (state : ExchangeState) : Type 0 where
   pub accounts : All (λ account. account ≤ MAX_ACCOUNT) state.accounts
   pub positions : All (IsNumbered state.book) state.positions
   pub bounded : AreBounded state.entries
-  -- an entry for a line, and four for an order of a batch: two as it is cleared, and two as its market is settled
+  -- an entry for a line, and four for an order of a batch: two as it is cleared, and two as its
+  -- market is settled
   pub few : length state.entries + 2 * length state.positions ≤ lines + 1024 * state.book.finished
 
 pub empty_is_ranged : IsRanged 0 empty_exchange

@@ -12,7 +12,8 @@ abbrev pub NamesNoLine : Report → Type 0
 NamesNoLine (Sound batches bounded lines optimal) = ⊤
 NamesNoLine (Faulty line reason) = ⊥
 
--- the report on what is written for an input whose lines are within the limits, as those of a run that finished are, names no line
+-- the report on what is written for an input whose lines are within the limits, as those of a run
+-- that finished are, names no line
 abbrev pub ServedLinesAreAccepted : Type 0
 ServedLinesAreAccepted = (input : List ℕ) → IsInputWithin true input → NamesNoLine (audit_of (proposing_output input))
 

@@ -1,4 +1,5 @@
--- What is told of a market's live orders where lines are served, and what becomes of what is proposed for them.
+-- What is told of a market's live orders where lines are served, and what becomes of what is
+-- proposed for them.
 use Rattle.std.specs.Prelude.{ℕ, ◌≡◌, Bool, List, [], ◌∷◌, ◌++◌, true, Some, None, Ok}
 use Rattle.exchange_core.specs.Step.{batch_in}
 use Rattle.exchange_lines.specs.LineSteps.{InputLine, input_lines}
@@ -20,7 +21,8 @@ use Rattle.book_proposals.specs.Laws.{IsShortLine}
 abbrev pub TellsLive : ProposingState → ℕ → Type 0
 TellsLive state market = first_of (read_refusals state.exchange (Book market)) ≡ None
 
--- nothing of the line is passed over where it is read: neither a mark at its start nor a carriage return at its end
+-- nothing of the line is passed over where it is read: neither a mark at its start nor a carriage
+-- return at its end
 abbrev pub IsWholeText : List ℕ → Type 0
 IsWholeText line = (skips : Bool) (number : ℕ) → line_text skips number line ≡ line
 
@@ -28,8 +30,9 @@ IsWholeText line = (skips : Bool) (number : ℕ) → line_text skips number line
 abbrev pub IsReadAsBook : List ℕ → ℕ → Batch → Type 0
 IsReadAsBook line market batch = IsOneLine line × IsWholeText line × IsBookOf line market batch
 
--- Whatever the lines of an input are, within the limits that a run keeps to which finishes: one that asks for the live orders of a market is
--- answered, where they are told, by a line that is read as a book of just these
+-- Whatever the lines of an input are, within the limits that a run keeps to which finishes: one
+-- that asks for the live orders of a market is answered, where they are told, by a line that is
+-- read as a book of just these
 abbrev pub BooksAreTold : Type 0
 BooksAreTold =
     (input : List ℕ) (before later : List InputLine) (line : InputLine) (market : ℕ) → IsInputWithin true input
@@ -38,7 +41,8 @@ BooksAreTold =
     TellsLive state market
     → (told : List ℕ) × ((proposing_line line.number state line.bytes).0 ≡ told ++ 10 ∷ []) × IsReadAsBook told market (batch_in state.exchange market))
 
--- wherever just these are the live orders of the market, and are told, the line is answered by no refusal: what it proposes is taken
+-- wherever just these are the live orders of the market, and are told, the line is answered by no
+-- refusal: what it proposes is taken
 abbrev pub IsTakenFor : ℕ → Batch → List ℕ → Type 0
 IsTakenFor market batch line =
     (number : ℕ) (state : ProposingState) → TellsLive state market → batch_in state.exchange market ≡ batch

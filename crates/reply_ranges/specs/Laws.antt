@@ -30,7 +30,8 @@ FieldsAreWithin = (line : List ℕ) → HasField (body_of_line line)
 abbrev pub OutcomesAreRanged : Type 0
 OutcomesAreRanged = (batch : Batch) (units : ℕ) → IsWithinLimits batch → units ≤ MAX_BUDGET → IsOutcomeWithin (outcome_of batch units)
 
--- whatever commands come to an empty exchange, as many as a run may have lines, each reply is within the ranges of its line
+-- whatever commands come to an empty exchange, as many as a run may have lines, each reply is
+-- within the ranges of its line
 abbrev pub RepliesAreWithin : Type 0
 RepliesAreWithin =
     (commands : List CommandOf) → All IsWithin commands → length commands ≤ MAX_INPUT → All IsReplyWithin (replies_by step empty_exchange commands)

@@ -1,4 +1,5 @@
--- The tests over any kind of line: what passes them is within its ranges and spelled so, and what is written passes them.
+-- The tests over any kind of line: what passes them is within its ranges and spelled so, and what
+-- is written passes them.
 use Rattle.std.proofs.Common.{◌≡◌, List, ℕ, Bool, true, false, Option, Some, None, option_map, option_and_then, Result, Ok, Err, refl, sym, ap, ap₂, ◌∙◌, subst, arith, true≢false, if◌then◌else◌, codes}
 use Rattle.std.specs.Str.{bytes_eq}
 use Rattle.std.proofs.lemmas.Slice.Eq.{bytes_eq-Decides}

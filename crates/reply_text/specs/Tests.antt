@@ -1,4 +1,5 @@
--- The five tests over any kind of line: what is taken out of the value of a text, where the text is its print.
+-- The five tests over any kind of line: what is taken out of the value of a text, where the text is
+-- its print.
 use Rattle.std.specs.Prelude.{List, ℕ, Bool, Option, Some, None, Result, Ok, Err, option_map, option_and_then, codes, if◌then◌else◌}
 use Rattle.std.specs.Str.{bytes_eq, is_utf8}
 use Rattle.serde_json.specs.Data.{Data}
@@ -9,7 +10,8 @@ use Rattle.reply_text.specs.declared.faults.LineFault.{LineFault}
 use Rattle.reply_text.specs.declared.faults.LineFault.TheVariants.{NotJson, Shape, Number, Range, Spelling}
 use Rattle.reply_text.specs.Taking.{natural_at}
 
--- of a kind of line: its shape, whether its texts are numbers, what is taken out where it is within its ranges, and the print
+-- of a kind of line: its shape, whether its texts are numbers, what is taken out where it is within
+-- its ranges, and the print
 pub record Tests (A : Type 0) : Type 0 where
   pub has_shape : Data → Bool
   pub has_numbers : Data → Bool
@@ -41,7 +43,8 @@ read_by tests text = json_by tests text (json_of text)
 
 -- ---- replies of a kind, each told on a numbered line
 
--- by the word of the reply: its shape, whether its texts are numbers, and what is taken out; and the line that tells it
+-- by the word of the reply: its shape, whether its texts are numbers, and what is taken out; and
+-- the line that tells it
 pub record ReplyTests (R : Type 0) : Type 0 where
   pub shape_by : List ℕ → Data → Bool
   pub numbers_by : List ℕ → Data → Bool

@@ -26,7 +26,8 @@ abbrev pub reading_in : {A : Type 0} → (A → Fraction) → Joint A → Readin
 reading_in value joint =
     reading_with (map value joint.fills.items) (value joint.surplus) (map point_of joint.measure.points) (value joint.liability)
 
--- it is of the batch: each order has a fill, and the cover and the states of the measure are on the batch's underlyings
+-- it is of the batch: each order has a fill, and the cover and the states of the measure are on the
+-- batch's underlyings
 pub record IsJointOf {A : Type 0} (batch : Batch) (joint : Joint A) : Type 0 where
   pub fills : vec_len joint.fills ≡ length batch.orders
   pub cover : IsCoverOn batch.underlyings joint.cover
@@ -47,7 +48,8 @@ IsCoverAs (by_tree written) (Tree tree) = IsTreeAs written tree
 abbrev pub OfSolution : {A : Type 0} → (A → Fraction) → (Solution → Type 0) → Joint A → Type 0
 OfSolution value Holds joint = (cover : WrittenCover) × IsCoverAs cover joint.cover × Holds (reading_in value joint, cover)
 
--- the answer of the call is the end of the run, and the units are those spent; want of memory says nothing
+-- the answer of the call is the end of the run, and the units are those spent; want of memory says
+-- nothing
 abbrev pub IsJointAnswer : {A : Type 0} → (A → Fraction) → Ending Solution → Result (Joint A) Stop → ℕ → Type 0
 IsJointAnswer value ending (Ok joint) spent = OfSolution value (λ s. ending ≡ done s spent) joint
 IsJointAnswer value ending (Err (Wide unit wide)) spent = (ending ≡ wide_at unit wide) × (spent ≡ unit)

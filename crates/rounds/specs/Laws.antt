@@ -22,7 +22,8 @@ use Rattle.rounds.specs.Run.{Solution, by_line, by_tree, unjudged_run, joint_run
 use Rattle.table_run.specs.Choose.{choose}
 use Rattle.table_run.specs.Ending.{done, unbounded, no_unit_left, HasNoMisfit}
 
--- what was cleared is covered by the line of one underlying, or else by a tree, and its measure proves that it is the greatest
+-- what was cleared is covered by the line of one underlying, or else by a tree, and its measure
+-- proves that it is the greatest
 abbrev pub IsGreatestBy : ℕ → List Order → Solution → Type 0
 IsGreatestBy n orders (r, by_line) = (n ≡ 1) × IsGreatestByLine orders r
 IsGreatestBy n orders (r, by_tree tree) = (1 < n) × IsGreatestByTree n orders r tree
@@ -39,7 +40,8 @@ NoRunIsWithoutEnd =
     (limits : Limits) (n spent units : ℕ) (orders : List Order) (d : List Fraction) → 1 ≤ n → n ≤ MAX_UNDERLYINGS → spent ≤ limits.budget
     → joint_run limits n orders spent ≡ unbounded d units → ⊥
 
--- a run before the sums that meets no misfit is the same with each greater limit of the solver's numbers,
+-- a run before the sums that meets no misfit is the same with each greater limit of the solver's
+-- numbers,
 abbrev pub UnjudgedRunsAreTheSame : Type 0
 UnjudgedRunsAreTheSame =
     (limits : Limits) (greater n spent : ℕ) (orders : List Order) → limits.limit ≤ greater → HasNoMisfit (unjudged_run limits n orders spent)
@@ -51,8 +53,9 @@ JointRunsAreTheSame =
     (limits : Limits) (greater n spent : ℕ) (orders : List Order) → limits.limit ≤ greater → HasNoMisfit (joint_run limits n orders spent)
     → joint_run (limits_within greater limits) n orders spent ≡ joint_run limits n orders spent
 
--- the ways to choose the basic variables of the master program of orders on one underlying: its variables are the orders and one
--- more, its rows the orders and the states of the line but the first
+-- the ways to choose the basic variables of the master program of orders on one underlying: its
+-- variables are the orders and one more, its rows the orders and the states of the line but the
+-- first
 abbrev pub choices_of : List Order → ℕ
 choices_of orders = let rows = length orders + length (later_states orders) in choose (length orders + 1 + rows) rows
 

@@ -14,7 +14,8 @@ abbrev pub IsRunAnswer : Ending Optimum → Contents → Result (Unit {0}) RunSt
 IsRunAnswer ending c (Ok run) spent = IsFound c × (ending ≡ done (optimum_of c) spent)
 IsRunAnswer ending c (Err stop) spent = IsStopOf ending stop spent
 
--- the numbers for so many orders and states after the first: for each order and the slack, and for each row
+-- the numbers for so many orders and states after the first: for each order and the slack, and for
+-- each row
 abbrev pub HasLengths : (orders states : ℕ) → Contents → Type 0
 HasLengths orders states c =
     (length (x_of c) ≡ orders + 1) × (length (y_of c) ≡ orders + states) × (length (reduced_of c) ≡ orders + 1)

@@ -13,7 +13,8 @@ use Rattle.simplex.specs.Spaces.{Contents, given}
 abbrev pub costs_steps : ℕ → List Order → Result (List Fraction) Wide
 costs_steps limit orders = after (map_steps (cost_steps limit) orders) (λ costs. Ok (costs ++ (whole (negsuc 0) ∷ [])))
 
--- the rows of these quantities in a program of n variables, the first of which has its 1 at place i, and what stands then in a space
+-- the rows of these quantities in a program of n variables, the first of which has its 1 at place
+-- i, and what stands then in a space
 abbrev pub with_units : ℕ → ℕ → LinearProgram → List Fraction → LinearProgram
 with_units n i p quantities =
     record p { rows = p.rows + length quantities; coefficients = p.coefficients ++ unit_rows n i (length quantities); right_sides = p.right_sides ++ quantities }

@@ -53,8 +53,8 @@ pub record IsLineRoom {A : Type 0} (batch : Batch) (states : List State) (solve 
 abbrev pub states_within : ℕ → ℕ → ℕ
 states_within n units = 1 + n + units / 2
 
--- on several: the axis rays, with room for as many states as the rounds find, and room for master programs over them and for
--- searches
+-- on several: the axis rays, with room for as many states as the rounds find, and room for master
+-- programs over them and for searches
 pub record IsRoundsRoom {A : Type 0} (batch : Batch) (units : ℕ) (states : List State) (room_for : ℕ) (solve : SolveRoom A) (search : SearchSpace) : Type 0 where
   pub several : 1 < batch.underlyings
   pub are : map vector_of states ≡ axis_rays batch.underlyings

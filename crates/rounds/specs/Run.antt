@@ -1,5 +1,5 @@
--- The reference run of a batch. On one underlying: the master program over the states of the line, what is read off its
--- optimum, and the sums of the verdict. On several: the rounds, and the sums.
+-- The reference run of a batch. On one underlying: the master program over the states of the line,
+-- what is read off its optimum, and the sums of the verdict. On several: the rounds, and the sums.
 use Rattle.std.specs.Prelude.{ℕ, ◌-◌, ◌==◌, if◌then◌else◌, List, Bool, Result}
 use Rattle.std.specs.List.{zip}
 use Rattle.exact_num.specs.declared.misfit.Wide.{Wide}
@@ -19,8 +19,9 @@ unfoldable pub use Rattle.search_laws.specs.Run.{tree_run}
 abbrev pub sums_hold : ℕ → List Order → Reading → Result Bool Wide
 sums_hold limit orders r = sums_with limit orders r (line_holds limit (zip orders r.fills) orders r.liability)
 
--- the run on one underlying with `left` units left and `spent` units spent before: the master program over the states of the line is solved, and
--- last come the sums. Payoffs and these sums are in the wide limit, the solver's numbers in the other
+-- the run on one underlying with `left` units left and `spent` units spent before: the master
+-- program over the states of the line is solved, and last come the sums. Payoffs and these sums are
+-- in the wide limit, the solver's numbers in the other
 unfoldable pub line_run : (wide_limit limit left spent : ℕ) → List Order → Ending Reading
 line_run wide_limit limit left spent orders =
     on_answer (master_solve wide_limit limit left spent 1 orders (later_states orders)) (where_fits (sums_hold wide_limit orders))
@@ -41,8 +42,8 @@ on_line r spent = done (r, by_line) spent
 abbrev pub on_tree : Cleared → ℕ → Ending Solution
 on_tree (r, tree) spent = done (r, by_tree tree) spent
 
--- the run of a batch on n underlyings before the sums, with so many units spent before: the master program over the states of
--- the line, or the rounds
+-- the run of a batch on n underlyings before the sums, with so many units spent before: the master
+-- program over the states of the line, or the rounds
 abbrev pub unjudged_run : Limits → ℕ → List Order → ℕ → Ending Solution
 unjudged_run limits n orders spent =
     if n == 1 then on_answer (master_solve limits.payoff_limit limits.limit (limits.budget - spent) spent 1 orders (later_states orders)) on_line
@@ -53,6 +54,7 @@ abbrev pub sums_of : ℕ → ℕ → List Order → Solution → Result Bool Wid
 sums_of limit n orders (r, by_line) = sums_hold limit orders r
 sums_of limit n orders (r, by_tree tree) = tree_sums_hold limit n orders (r, tree)
 
--- the run of a batch on n underlyings with so many units spent before: last come the sums, in the limit of payoffs
+-- the run of a batch on n underlyings with so many units spent before: last come the sums, in the
+-- limit of payoffs
 unfoldable pub joint_run : Limits → ℕ → List Order → ℕ → Ending Solution
 joint_run limits n orders spent = on_answer (unjudged_run limits n orders spent) (where_fits (sums_of limits.payoff_limit n orders))

@@ -1,4 +1,5 @@
--- The numbers of the search for a state at which a liability is not enough: of its programs, its states and its trees.
+-- The numbers of the search for a state at which a liability is not enough: of its programs, its
+-- states and its trees.
 use Rattle.std.proofs.Common.{◌≡◌, ℕ, zero, suc, ◌+◌, ◌*◌, ◌/◌, ◌≤◌, ◌<◌, List, [], ◌∷◌, ◌++◌, length, map, drop, zip, replicate, get_or, Bool, true, false, ℤ, pos, negsuc, unsigned_abs, refl, ap, arith}
 use Rattle.std.specs.Prelude.{Option, Some, None, IfSome, Result, Ok, if◌then◌else◌}
 use Rattle.std.specs.List.{All, flat_map}

@@ -1,4 +1,5 @@
--- Steps over numbers of the code: each gives a number of the code, or does not fit over two such numbers.
+-- Steps over numbers of the code: each gives a number of the code, or does not fit over two such
+-- numbers.
 use Rattle.std.proofs.Common.{◌≡◌, ◌≢◌, ℕ, ◌≤◌, List, [], ◌∷◌, Bool, true, false, ℤ, pos, unsigned_abs, refl, arith}
 use Rattle.std.specs.Prelude.{Result, Ok, Err, if◌then◌else◌}
 use Rattle.std.specs.List.{All}

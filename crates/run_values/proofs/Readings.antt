@@ -1,4 +1,5 @@
--- The numbers of what is read off an optimum of the master program, and of the sums of the verdict on it.
+-- The numbers of what is read off an optimum of the master program, and of the sums of the verdict
+-- on it.
 use Rattle.std.proofs.Common.{ℕ, ◌≤◌, List, [], ◌∷◌, length, replicate, drop, take, zip, Bool, true, false, pos, arith}
 use Rattle.std.specs.Prelude.{Result, Ok, if◌then◌else◌}
 use Rattle.std.specs.List.{All}

@@ -1,4 +1,5 @@
--- What a search writes is at most what it spends: a unit for each node, and a turn for each multiplier.
+-- What a search writes is at most what it spends: a unit for each node, and a turn for each
+-- multiplier.
 use Rattle.std.proofs.Common.{◌≡◌, ℕ, zero, suc, ◌+◌, ◌-◌, ◌≤◌, ◌<◌, List, [], ◌∷◌, length, take, drop, replicate, arith, ℤ, Bool, true, false, refl, sym, subst, length-append}
 use Rattle.std.specs.Prelude.{Result, Ok, Err, Option, Some, None, if◌then◌else◌, nat_lt, slice_set}
 use Rattle.exact_num.specs.declared.misfit.Wide.{Wide}

@@ -1,4 +1,5 @@
--- Each turn makes at most one more slack a variable that is not basic, and only those have a dual value above 0.
+-- Each turn makes at most one more slack a variable that is not basic, and only those have a dual
+-- value above 0.
 use Rattle.std.proofs.Common.{◌≡◌, ℕ, zero, suc, ◌+◌, ◌-◌, ◌≤◌, ◌<◌, List, [], ◌∷◌, take, drop, arith, refl, sym, ◌∙◌, ap, subst, pos, Bool, true, false, nat_eq}
 use Rattle.std.specs.Prelude.{Option, Some, None, if◌then◌else◌}
 use Rattle.std.proofs.lemmas.Bool.Decides.{nat_tests}

@@ -27,7 +27,8 @@ abbrev pub count_above : List Fraction → ℕ
 count_above [] = 0
 count_above (f ∷ fs) = one_if (is_above_zero f) + count_above fs
 
--- an optimum has at most as many dual values above 0 as there were turns, and a value above 0 only after one
+-- an optimum has at most as many dual values above 0 as there were turns, and a value above 0 only
+-- after one
 abbrev pub IsTurned : ℕ → Ending Optimum → Type 0
 IsTurned spent (done (optimum x y reduced value) units) = (spent + count_above y ≤ units) × (is_above_zero value ≡ true → spent < units)
 IsTurned spent (unbounded d units) = Unit {0}
@@ -55,7 +56,8 @@ NodesArePaid = (q : Question) (signs : List Sign) (spent : ℕ) → IsAsked q �
 abbrev pub size_of : WrittenTree → ℕ
 size_of tree = length (nodes_of tree) + length (multipliers_of tree)
 
--- a tree has spent a unit for each node and for each multiplier, and a search that finds a state two
+-- a tree has spent a unit for each node and for each multiplier, and a search that finds a state
+-- two
 abbrev pub IsPaid : ℕ → Ending Found → Type 0
 IsPaid spent (done (closed tree) units) = spent + size_of tree ≤ units
 IsPaid spent (done (found z) units) = spent + 2 ≤ units
@@ -71,7 +73,8 @@ abbrev pub SearchIsPaid : Type 0
 SearchIsPaid = (q : Question) (spent : ℕ) → IsAsked q → IsPaid spent (search q spent)
 
 -- ---- the rounds
--- one round: a solve over these states after the first, with so many units spent before, and a search on what is read off
+-- one round: a solve over these states after the first, with so many units spent before, and a
+-- search on what is read off
 abbrev pub one_round : Limits → ℕ → List Order → List (List ℕ) → ℕ → Ending (Reading × Found)
 one_round limits n orders states spent =
     on_answer (master_solve limits.payoff_limit limits.limit (limits.budget - spent) spent n orders states)

@@ -79,8 +79,9 @@ line_message line = (line.number, message_in line.text)
 abbrev pub answered_message : LineAnswer → ℕ × Option Message
 answered_message answer = (answer.line, option_map (λ (told : Told). told.message) answer.told)
 
--- They are the text of the answers to its lines, by which each message takes effect once, in its session's order. The server replies so
--- to the last of its bodies, and the bodies as the lines of one input have such an output.
+-- They are the text of the answers to its lines, by which each message takes effect once, in its
+-- session's order. The server replies so to the last of its bodies, and the bodies as the lines of
+-- one input have such an output.
 pub record TellOnce (reply : Replies) (output : List ℕ → List ℕ) (input bytes : List ℕ) : Type 0 where
   pub text : bytes ≡ answers_text (answers_by reply input)
   -- to each line of the input one, in order, to the message that the line says
@@ -99,8 +100,8 @@ abbrev pub OutputsAreAnswers : {S : Type 0} → (ℕ → S → List ℕ → List
 OutputsAreAnswers {S} step =
     (start : S) (input : List ℕ) → output_of (session_step step) false (new_sessions start) input ≡ answers_text (answers_by (reply_by step start) input)
 
--- Where each answer to a body is the text of lines, what is written tells each message once; a mark is skipped at the start of the
--- bodies as one input, or is not, since no body begins with one.
+-- Where each answer to a body is the text of lines, what is written tells each message once; a mark
+-- is skipped at the start of the bodies as one input, or is not, since no body begins with one.
 abbrev pub OutputsTellOnce : {S : Type 0} → (ℕ → S → List ℕ → List ℕ × S) → Type 0
 OutputsTellOnce {S} step =
     EndsLines step → (skips : Bool) (start : S) (input : List ℕ)

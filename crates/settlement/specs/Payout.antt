@@ -32,7 +32,8 @@ abbrev pub floor_of : ℤ → ℕ → ℤ
 floor_of (pos n) d = pos (n / d)
 floor_of (negsuc n) d = neg_ℤ (pos (div_ceil (suc n) d))
 
--- the gain of a position: the fill times what the bundle pays for a buy, and the negative for a sell, rounded down
+-- the gain of a position: the fill times what the bundle pays for a buy, and the negative for a
+-- sell, rounded down
 abbrev pub gain_of : Side → Fraction → List BundleLeg → List ℕ → ℤ
 gain_of side fill legs prices = floor_of (fill.numerator *ℤ for_side side (worth_at prices legs)) fill.denominator
 

@@ -84,7 +84,8 @@ pub pairs_rise : (place : ℕ) (ms : List PlacedMultiplier) → RiseFrom place m
 pairs_rise place [] rise = λ i j d lt within. absurd (omega arith)
 pairs_rise place (m ∷ ms) rise = AllPairs-cons ComesBefore m ms (all_past m (m.place + 1) ms (omega arith) rise.1) (pairs_rise (m.place + 1) ms rise.1)
 
--- the multiplier stands before the place, or within the fill of its leg, the first of which has the place
+-- the multiplier stands before the place, or within the fill of its leg, the first of which has the
+-- place
 abbrev pub KeepsWithin : ℕ → List FractionLeg → ℕ → PlacedMultiplier → Type 0
 KeepsWithin limit legs place m = place ≤ m.place → is_within_at limit legs (m.place - place) m.by ≡ Ok true
 

@@ -1,4 +1,5 @@
--- The legs of the walk are those of the fills, and stand over a common denominator with the liability and the multipliers.
+-- The legs of the walk are those of the fills, and stand over a common denominator with the
+-- liability and the multipliers.
 use Rattle.std.proofs.Common.{◌≡◌, ℕ, ◌≤◌, List, [], ◌∷◌, ◌++◌, length, map, get_or, pos, ◌≤ℤ◌, All, refl, ap}
 use Rattle.std.proofs.lemmas.List.{length-map}
 use Rattle.std.proofs.lemmas.List.Elements.{All-nil, All-cons, All-append}

@@ -19,14 +19,16 @@ abbrev pub IsClosedOver : Batch → List Frac128 → Frac128 → SignTree → Ty
 IsClosedOver batch fills L tree =
     ClosesAsWritten batch.underlyings batch.orders (map fraction_of fills) (fraction_of L) (map node_of tree.nodes) (map placed_of tree.multipliers)
 
--- over one denominator of all these fractions: the net of the fills is at most the liability at each settlement and each ray
+-- over one denominator of all these fractions: the net of the fills is at most the liability at
+-- each settlement and each ray
 abbrev pub IsEnoughByTree : Batch → List Frac128 → Frac128 → SignTree → Type 0
 IsEnoughByTree batch fills L tree =
     let fs = map fraction_of fills in
     let D = common_denominator (fraction_of L ∷ (fs ++ map by_of (map placed_of tree.multipliers))) in
     HoldsAtEachState batch.underlyings (filled_over D batch.orders fs) (amount_over D (fraction_of L))
 
--- where the walk closes, the nodes and multipliers are those of a tree that is well formed and closes over the fills
+-- where the walk closes, the nodes and multipliers are those of a tree that is well formed and
+-- closes over the fills
 abbrev pub WalksCloseTrees : Type 0
 WalksCloseTrees =
     (limit n : ℕ) (orders : List Order) (fills : List Fraction) (L : Fraction) (nodes : List WrittenNode) (ms : List PlacedMultiplier)

@@ -1,4 +1,5 @@
--- The legs of the code as those of the walk, where `value` tells the fraction that a fill stands for.
+-- The legs of the code as those of the walk, where `value` tells the fraction that a fill stands
+-- for.
 use Rattle.std.specs.Prelude.{ℕ, ◌≡◌, ◌<◌, List, [], ◌∷◌, length, map, drop}
 use Rattle.exact_num.specs.Fraction.{Fraction}
 use Rattle.form.specs.declared.orders.Order.{Order}

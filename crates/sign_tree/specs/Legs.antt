@@ -9,7 +9,8 @@ use Rattle.form.specs.declared.orders.Order.{Order}
 use Rattle.form.specs.Payoff.{BundleLeg, bundle_of}
 use Rattle.clearing_model.specs.Legs.{Exposure, exposure_of}
 
--- a leg of a batch: long or short, how much of its order is filled, the size of its count, and its option
+-- a leg of a batch: long or short, how much of its order is filled, the size of its count, and its
+-- option
 pub record FractionLeg : Type 0 where
   pub exposure : Exposure
   pub fill : Fraction

@@ -26,7 +26,8 @@ goes_on next (Ok left) = next (map node_of left.nodes.now) (map placed_of left.m
 goes_on next (Err OpenStop) = Ok false
 goes_on next (Err (WideStop w)) = Err w
 
--- the walk over the subtree at the head of the lists goes on so, whatever subtrees are still to come
+-- the walk over the subtree at the head of the lists goes on so, whatever subtrees are still to
+-- come
 abbrev pub WalksTo : ℕ → List FractionLeg → Fraction → List WrittenNode → List Sign → List PlacedMultiplier → Result Left Stop → Type 0
 WalksTo n legs L nodes signs ms walked =
     (pending : List (List Sign))

@@ -1,5 +1,5 @@
--- The walk over a written tree, each step with a limit. A tree is closed where the walk ends with the lists, and open where it
--- fails before a step does not fit.
+-- The walk over a written tree, each step with a limit. A tree is closed where the walk ends with
+-- the lists, and open where it fails before a step does not fit.
 use Rattle.std.specs.Prelude.{ℕ, zero, suc, ◌+◌, ◌-◌, ◌==◌, nat_le, nat_lt, Bool, true, false, ◌&&◌, not, if◌then◌else◌, List, [], ◌∷◌, length, take, drop, get_or, replicate, slice_set, ℤ, pos, Result, Ok}
 use Rattle.std.specs.List.{list_all}
 use Rattle.exact_num.specs.declared.misfit.Wide.{Wide}
@@ -119,8 +119,8 @@ entries_close limit legs L signs ms i (suc left) =
     after (entry_sum limit legs L signs ms i)
     (λ sum. if is_above_zero sum then Ok false else entries_close limit legs L signs ms (i + 1) left)
 
--- a leaf with these multipliers: they are placed, those of short legs are within the fills, and none of the n + 1 entries is
--- above 0
+-- a leaf with these multipliers: they are placed, those of short legs are within the fills, and
+-- none of the n + 1 entries is above 0
 abbrev pub leaf_closes : ℕ → ℕ → List FractionLeg → Fraction → List Sign → List PlacedMultiplier → Result Bool Wide
 leaf_closes limit n legs L signs ms =
     if are_placed legs signs ms

@@ -10,7 +10,8 @@ use Rattle.clearing_model.specs.Written.{WrittenNode, SplitNode, LeafNode, Place
 use Rattle.sign_tree.specs.Legs.{FractionLeg, legs_filled}
 use Rattle.sign_tree.specs.Walk.{closes_of}
 
--- a call with strike 10 on the sum of two underlyings, and calls with strike 4 on the first and 6 on the second
+-- a call with strike 10 on the sum of two underlyings, and calls with strike 4 on the first and 6
+-- on the second
 abbrev on_sum : List ℤ
 on_sum = negsuc 9 ∷ pos 1 ∷ pos 1 ∷ []
 
@@ -81,7 +82,8 @@ pub record BundlesAsWorked : Type 0 where
   pub short_leg_split : answer 10 (bought (whole (pos 1)) (pos 1) (negsuc 0)) (SplitNode 2 ∷ LeafNode 2 ∷ LeafNode 0 ∷ []) both_short ≡ Ok false
   -- there are three places
   pub past_the_last : answer 10 (bought (whole (pos 1)) (pos 1) (negsuc 0)) tree (at 3 (whole (pos 1)) ∷ at 4 (whole (pos 1)) ∷ []) ≡ Ok false
-  -- 6 times 2 is above the limit 10, in a sum and in the test of a multiplier; the test of the place comes before
+  -- 6 times 2 is above the limit 10, in a sum and in the test of a multiplier; the test of the
+  -- place comes before
   pub fill_is_wide : answer 10 (bought (whole (pos 6)) (pos 2) (negsuc 0)) (LeafNode 0 ∷ []) [] ≡ Err (misfit Mul (whole (pos 6)) (whole (pos 2)))
   pub bound_is_wide : answer 10 (bought (whole (pos 6)) (pos 1) (negsuc 1)) tree both_short ≡ Err (misfit Mul (whole (pos 6)) (whole (pos 2)))
   pub place_before : answer 10 (bought (whole (pos 6)) (pos 1) (negsuc 1)) tree (at 2 (whole (pos 1)) ∷ at 4 (whole (pos 1)) ∷ []) ≡ Ok false

@@ -23,8 +23,8 @@ solved_contents value (Optimal x y reduced v) =
     found (optimum (map value x.items) (map value y.items) (map value reduced.items) (value v))
 solved_contents value (Unbounded d) = rising (map value d.items)
 
--- the answer of a call is the end of the run, and the units are those spent; want of memory says nothing. What a value of the
--- call ends a run with is `end_with`
+-- the answer of a call is the end of the run, and the units are those spent; want of memory says
+-- nothing. What a value of the call ends a run with is `end_with`
 abbrev pub IsAnswerBy : {A X : Type 0} → (X → ℕ → Ending A) → Ending A → Result X Stop → ℕ → Type 0
 IsAnswerBy end_with ending (Ok x) spent = ending ≡ end_with x spent
 IsAnswerBy end_with ending (Err (Wide unit wide)) spent = (ending ≡ wide_at unit wide) × (spent ≡ unit)

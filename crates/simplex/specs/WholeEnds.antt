@@ -9,7 +9,8 @@ use Rattle.whole_solver.specs.Tables.{as_whole, IsWithin}
 use Rattle.simplex.specs.declared.whole_run.WholeEnd.{WholeEnd}
 use Rattle.simplex.specs.declared.whole_run.WholeEnd.TheVariants.{Optimal, Unbounded, NoUnit, GivenUp}
 
--- the run of n variables and m rows, by how it ended, the units spent and the table at the end; nothing where it is given up
+-- the run of n variables and m rows, by how it ended, the units spent and the table at the end;
+-- nothing where it is given up
 abbrev pub IsWholeEnd : ℕ → ℕ → ℕ → WholeEnd → ℕ → WholeTable → Option (Ending Optimum) → Type 0
 IsWholeEnd limit n m Optimal spent t run = (run ≡ Some (labelled_read_off n m (as_whole t) spent)) × IsWithin limit t
 IsWholeEnd limit n m (Unbounded c) spent t run =

@@ -1,4 +1,5 @@
--- Each run ends as it says: an optimum is feasible and has a dual of the same value, along a direction the objective rises without an end.
+-- Each run ends as it says: an optimum is feasible and has a dual of the same value, along a
+-- direction the objective rises without an end.
 use Rattle.std.proofs.Common.{◌≡◌, ℕ, ◌+◌, ◌*◌, ◌<◌, ◌≤◌, List, length, take, drop, arith, refl, sym, ◌∙◌, ap, subst, ℤ, pos, ◌≤ℤ◌, ◌<ℤ◌, neg_ℤ}
 use Rattle.std.specs.Prelude.{Some, None, if◌then◌else◌, nat_eq, true, false, Bool}
 use Rattle.std.proofs.Math.Nat.{mul-pos}

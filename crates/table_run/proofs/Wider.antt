@@ -1,4 +1,5 @@
--- What fits a limit fits a greater one, with the same value: so a run's tables do not depend on the limit.
+-- What fits a limit fits a greater one, with the same value: so a run's tables do not depend on the
+-- limit.
 use Rattle.std.proofs.Common.{◌≡◌, ℕ, zero, suc, ◌+◌, ◌≤◌, List, [], ◌∷◌, arith, refl, Bool, true, false, nat_eq}
 use Rattle.std.specs.Prelude.{Result, Ok, Option, Some, None, if◌then◌else◌}
 use Rattle.exact_num.specs.declared.misfit.Wide.{Wide}

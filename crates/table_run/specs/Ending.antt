@@ -3,8 +3,8 @@ use Rattle.std.specs.Prelude.{ℕ, List, Result, Ok, Err}
 use Rattle.exact_num.specs.declared.misfit.Wide.{Wide}
 use Rattle.exact_num.specs.Fraction.{Fraction}
 
--- with the units spent by then: with an answer; with an objective that rises without an end along a direction; at the first
--- number that does not fit; or for want of a unit
+-- with the units spent by then: with an answer; with an objective that rises without an end along a
+-- direction; at the first number that does not fit; or for want of a unit
 pub data Ending (A : Type 0) : Type 0 where
   done : (answer : A) (spent : ℕ) → Ending A
   unbounded : (direction : List Fraction) (spent : ℕ) → Ending A
@@ -34,7 +34,8 @@ HasNoMisfit (unbounded direction spent) = Unit {0}
 HasNoMisfit (wide_at spent wide) = ⊥
 HasNoMisfit (no_unit_left spent) = Unit {0}
 
--- P of an answer and M of a number that does not fit, each with the units by then; U where the objective rises without an end
+-- P of an answer and M of a number that does not fit, each with the units by then; U where the
+-- objective rises without an end
 abbrev pub EndsBy : {A : Type 0} → (A → ℕ → Type 0) → Type 0 → (Wide → ℕ → Type 0) → Ending A → Type 0
 EndsBy P U M (done a s) = P a s
 EndsBy P U M (unbounded d s) = U

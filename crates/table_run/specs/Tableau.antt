@@ -1,5 +1,5 @@
--- The simplex method as textbooks say it, over the rationals and without a limit: a tableau, a turn of it, and Bland's rule.
--- (Chvatal, Linear Programming, chapters 2, 3 and 8.)
+-- The simplex method as textbooks say it, over the rationals and without a limit: a tableau, a turn
+-- of it, and Bland's rule. (Chvatal, Linear Programming, chapters 2, 3 and 8.)
 use Rattle.std.specs.Prelude.{◌≡◌, ℕ, suc, ◌+◌, ◌<◌, ◌≤◌, Some}
 use Rattle.exact_num.specs.Rationals.{Q, ◌+Q◌, ◌*Q◌, neg_Q, inv_Q, 0Q, value, IsNotBelow0, IsAbove0, IsBelow0, IsAtMost, total, unit}
 use Rattle.table_run.specs.Places.{at}
@@ -9,13 +9,15 @@ use Rattle.table_run.specs.Optimum.{IsProgram}
 use Rattle.table_run.specs.Turns.{table_after}
 
 -- ---- the tableau
--- the entry of each row in each column, the right side in column n; the basic variables; the objective row
+-- the entry of each row in each column, the right side in column n; the basic variables; the
+-- objective row
 pub record Tableau : Type 0 where
   pub entry : ℕ → ℕ → Q
   pub basic : ℕ → ℕ
   pub price : ℕ → Q
 
--- each basic column is a unit column with price 0, the basic variables are columns, and no right side is below 0
+-- each basic column is a unit column with price 0, the basic variables are columns, and no right
+-- side is below 0
 pub record IsFeasible (m n : ℕ) (T : Tableau) : Type 0 where
   pub unit_columns : (i k : ℕ) → i < m → k < m → T.entry i (T.basic k) ≡ unit i k
   pub priced : (k : ℕ) → k < m → T.price (T.basic k) ≡ 0Q
@@ -42,7 +44,8 @@ pub record IsAfterPivot (m n e r : ℕ) (T U : Tableau) : Type 0 where
   pub enters : U.basic r ≡ e
   pub stays : (i : ℕ) → i < m → (i ≡ r → ⊥) → U.basic i ≡ T.basic i
 
--- a turn by Bland's rule: the first column with a price below 0 enters, and of the least ratios the smallest basic variable leaves
+-- a turn by Bland's rule: the first column with a price below 0 enters, and of the least ratios the
+-- smallest basic variable leaves
 pub record IsBlandTurn (m n e r : ℕ) (T U : Tableau) : Type 0 where
   pub choice : IsPivot m n e r T
   pub turn : IsAfterPivot m n e r T U
@@ -67,7 +70,8 @@ pub record HaveSameSolutions (m n : ℕ) (T U : Tableau) : Type 0 where
 abbrev pub tableau_of : Table → Tableau
 tableau_of t = record { entry = λ i j. value (at (entries_at t.rows i) j); basic = λ i. basic_at t.rows i; price = λ j. value (at t.objective j) }
 
--- the tables of a run are feasible, and have the solutions of the first one and on these its objective
+-- the tables of a run are feasible, and have the solutions of the first one and on these its
+-- objective
 pub record IsTableOf (p : LinearProgram) (t : Table) : Type 0 where
   pub feasible : IsFeasible p.rows (p.variables + p.rows) (tableau_of t)
   pub same : HaveSameSolutions p.rows (p.variables + p.rows) (tableau_of (first_table p)) (tableau_of t)

@@ -140,8 +140,8 @@ cover_too_dear =
 abbrev pub cover_too_dear_end : Ending Optimum
 cover_too_dear_end = done (optimum (wholes (pos 0 ∷ pos 0 ∷ pos 0 ∷ [])) (wholes (pos 0 ∷ pos 0 ∷ pos 0 ∷ pos 1 ∷ pos 4 ∷ [])) (wholes (pos 0 ∷ pos 0 ∷ pos 0 ∷ [])) (whole (pos 0))) 2
 
--- buy call 500001 at 400000000 and call 899999999 at 200000; sell call 0 on 1000 units at 1501501501,
--- call 1000000000 on 999 units at 1000000000 and call 999999999 at 0
+-- buy call 500001 at 400000000 and call 899999999 at 200000; sell call 0 on 1000 units at
+-- 1501501501, call 1000000000 on 999 units at 1000000000 and call 999999999 at 0
 abbrev pub surplus_too_wide : LinearProgram
 surplus_too_wide =
     program_of (pos 400000000 ∷ pos 200000 ∷ minus 1501501501 ∷ minus 1000000000 ∷ pos 0 ∷ minus 1 ∷ [])
@@ -161,7 +161,8 @@ abbrev pub surplus_too_wide_end : Ending Optimum
 surplus_too_wide_end = wide_at 6 (misfit Add (over (pos 398748100250250500749500501) 1000000000000) (over (pos 99599999800200000) 997999999001))
 
 -- ---- how they end
--- a run within a limit and a number of units ends so, with 127 bits and 20,000 units; and with 2 units, for want of a third
+-- a run within a limit and a number of units ends so, with 127 bits and 20,000 units; and with 2
+-- units, for want of a third
 pub record EndAsWorked (run : ℕ → LinearProgram → ℕ → ℕ → Ending Optimum) : Type 0 where
   pub too_wide_ends : run (2 ^ 127 - 1) too_wide 20000 0 ≡ too_wide_end
   pub without_end_ends : run (2 ^ 127 - 1) without_end 20000 0 ≡ without_end_end

@@ -53,7 +53,8 @@ pivot_size b w c a l column g above is =
     let within = pivot_within (line_size l) w c l column own (subst (λ (k : ℕ). 0 < k) is above) in
     subst (λ (k : ℕ). line_size (pivot_line c k l) ≤ line_size l) (sym is) (size_below (line_size l) w (pivot_line c (unsigned_abs (number_at l.numbers c)) l) within)
 
--- the front after its denominator and the number in column c are exchanged, each being its own value
+-- the front after its denominator and the number in column c are exchanged, each being its own
+-- value
 pub exchanged : (w c : ℕ) (x y : List ℤ) → c < w → c + 1 < length x
     → map (λ (z : ℤ). z) y ≡ set (set (map (λ (z : ℤ). z) x) 0 (number_at (map (λ (z : ℤ). z) x) (c + 1))) (c + 1) (pos (unsigned_abs (number_at (map (λ (z : ℤ). z) x) 0)))
     → line_in w y ≡ pivot_line c (unsigned_abs (number_at (line_in w x).numbers c)) (line_in w x)

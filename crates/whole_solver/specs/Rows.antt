@@ -68,7 +68,8 @@ pub record IsTurned (w c r : ℕ) (from : List (List ℤ)) (before : List ℤ) (
       let l = cut (line_in w (row_at from r)) in
       line_in w last ≡ labelled_cleared c (unsigned_abs (number_at l.numbers c)) (turned_in c l) (line_in w before)
 
--- each step of the rows but row r, by pivot numbers up to `most` whose own is a, is within the limit
+-- each step of the rows but row r, by pivot numbers up to `most` whose own is a, is within the
+-- limit
 abbrev pub AreStepsBelow : ℕ → ℕ → ℕ → ℕ → ℕ → ℕ → List (List ℤ) → Type 0
 AreStepsBelow limit c a most r w rows = (i : ℕ) → i < length rows → (i ≡ r → ⊥) → step_size (line_size (line_in w (row_at rows i))) (unsigned_abs (number_at (line_in w (row_at rows i)).numbers c)) a most ≤ limit
 

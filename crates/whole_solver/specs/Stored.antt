@@ -25,8 +25,8 @@ size_at r i = slice_index_or r.sizes.items i 0
 abbrev pub HasSigns : ℕ → List ℤ → List ℤ → Type 0
 HasSigns w signs row = (j : ℕ) → j ≤ w → int_signum (number_at signs j) ≡ int_signum (number_at row j)
 
--- row i is of w numbers: it is at most its size. Where it is short 64 bits hold both, and where it is wide its short row has
--- its signs
+-- row i is of w numbers: it is at most its size. Where it is short 64 bits hold both, and where it
+-- is wide its short row has its signs
 pub record IsStored (w : ℕ) (r : Rows) (i : ℕ) : Type 0 where
   pub size : line_size (line_in w (row_at (rows_in r) i)) ≤ size_at r i
   pub short : is_wide_at r i ≡ false → (line_size (line_in w (row_at (rows_in r) i)) ≤ widest) × (size_at r i < 2 ^ 64)
@@ -37,8 +37,8 @@ pub record AreStored (limit w : ℕ) (r : Rows) : Type 0 where
   pub lines : AreLinesIn limit w (rows_in r)
   pub rows : (i : ℕ) → i < length r.short.rows → IsStored w r i
 
--- row r is the pivot row: a stands in the column, its numbers are at most `most`, and these are the places where they are
--- not 0
+-- row r is the pivot row: a stands in the column, its numbers are at most `most`, and these are the
+-- places where they are not 0
 pub record IsKnown (a most : ℕ) (listed : List ℕ) (r w : ℕ) (rows : Rows) : Type 0 where
   pub row : r < length rows.short.rows
   pub above : 0 < a

@@ -27,7 +27,8 @@ table_of names basics rows objective =
 abbrev pub as_whole : WholeTable → LabelledTable
 as_whole t = table_of t.names.items t.basics.items (rows_in t.rows) t.objective.numbers.items
 
--- each row and the objective row are within the limit, and each is at most the size that is kept with it
+-- each row and the objective row are within the limit, and each is at most the size that is kept
+-- with it
 pub record IsWithin (limit : ℕ) (t : WholeTable) : Type 0 where
   pub rows : AreStored limit (width_of t) t.rows
   pub objective : IsLine limit (width_of t) (line_in (width_of t) t.objective.numbers.items)

@@ -7,7 +7,8 @@ use Rattle.pricing_oracle.specs.Programs.{HasSameSize, IsOpen}
 use Rattle.rounds.specs.Parts.{units_given}
 use Rattle.rounds.proofs.giving.give_quantities.Given as goal
 
--- the rows that are left, given to what stands in the space, are all rows, and the next one is written
+-- the rows that are left, given to what stands in the space, are all rows, and the next one is
+-- written
 abbrev pub invariant-loop-i : goal.invariant-loop-i
 invariant-loop-i g l =
     let f = quantity_steps (unsigned_abs g.N.Exact.LIMIT) in

@@ -10,7 +10,8 @@ use Rattle.rounds.specs.Rooms.{IsSolveRoom, states_within}
 use Rattle.rounds.proofs.Rounds.{AreLeft}
 use Rattle.rounds.proofs.rounds_solve.close.Given as goal
 
--- the rounds that are left, over the states so far, are all; the states are few, and the rooms those of the batch
+-- the rounds that are left, over the states so far, are all; the states are few, and the rooms
+-- those of the batch
 abbrev pub invariant-loop-round : goal.invariant-loop-round
 invariant-loop-round g l = record {
   left : AreLeft (limits_of (unsigned_abs g.N.Exact.LIMIT) l.fn.budget.limit) l.batch.underlyings l.batch.orders l.fn.budget.spent l._round (map vector_of l.states.items) l.budget.spent;

@@ -37,7 +37,8 @@ push_spec 𝓤 𝓛 𝓜 𝓡 wired X U L LU g d dd _ _ =
     let bytes : k * s < 2 ^ 64 = omega (arith, times_below k (length xs + m) s (2 ^ 63) (omega (arith, asked.1)) fit) in
     move ! (1 ∷ []) $ as_written ! (ty_array τ m) b (length xs * s + o) $ move ! (1 ∷ 0 ∷ []) $
     use2 𝓛 (‵ (cells (mem (R E)) (take k xs) b o) ⊛ ‵ (froom τ b e) ⊛ ‵ (froom (ty_array τ m') b (e + s))) (cut_place E 𝓛 b xs k m m' o asked.0 places) $ split3 ! $ move ! (1 ∷ []) $
-    -- [the place; the numbers kept; the room behind; what frees it; the fields; the open borrow; obs; auth; the other tokens; the number]
+    -- [the place; the numbers kept; the room behind; what frees it; the fields; the open borrow;
+    -- obs; auth; the other tokens; the number]
     first ! $ blocks ! $ sets ! (is ! (of_opd ! (load ! (through ! refl (fld ! refl (stop !))) (look_in ! 4 (sub ! 0 refl (whole !))))) (ap ptr_val at)) refl (tt, tt) $
     sets ! (bin ! (get ! refl) (size_lit ! (record { fits = tiny })) (record { fits = bytes })) refl (tt, record { fits = bytes }) $ sets ! (bin ! (get ! refl) (get ! refl) tt) refl (tt, tt) $
     sets ! (of_opd ! (get ! refl)) refl tv $ assigns_last ! (of_opd ! (get ! refl)) (through ! refl (stop !)) (init ! 0 refl tv) $ exec ! 𝓣.C 𝓣.Λ Ev (after 1 fn.body) (at_ret Ev Post) $ sets ! (of_opd ! (unit_lit !)) refl (tt, tt) $
