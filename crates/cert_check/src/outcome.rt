@@ -40,12 +40,24 @@ pub enum Mark {
 }
 
 /// What a clearing answers for a batch.
-#[derive(Debug, Drop)]
+#[derive(Debug)]
 pub struct Outcome {
     pub fills: Fills,
     pub claim: Claim,
     pub mark: Mark,
     pub units: u32,
+}
+
+// Not derived: whoever owns an outcome lets it go by this one call, and not field by field.
+impl Drop for Outcome {
+    fn drop(self) {
+        let Outcome {
+            fills: _fills,
+            claim: _,
+            mark: _mark,
+            units: _,
+        } = self;
+    }
 }
 
 /// What a solver, whoever it is, proposes for a batch: fills with their claim, the cover of the

@@ -23,26 +23,6 @@ loop-alloc-preserved-then-is_raised c =
     let raised : is_raised c.args.base outcome ≡ true = search rules in
     narrows_up c.args.batch.now c.args.order c.args.limit c.args.base first.raising.price first.other.price ends outcome c.loop-alloc.invariant far c.in_ok-outcome.ensures optimal raised
 
-pub loop-alloc-preserved-then-is_raised-2 : goal.loop-alloc-preserved-then-is_raised-2
-loop-alloc-preserved-then-is_raised-2 c =
-    let first = c.args.ends in
-    let ends = c.loop-alloc.ends in
-    let outcome = c.in_ok-outcome.outcome in
-    let far : 1 < gap ends.raising.price ends.other.price = grind (arith, c.abs_diff.ensures, c.loop-alloc-test.true) in
-    let optimal : is_optimal outcome ≡ true = search rules in
-    let raised : is_raised c.args.base outcome ≡ true = search rules in
-    narrows_up c.args.batch.now c.args.order c.args.limit c.args.base first.raising.price first.other.price ends outcome c.loop-alloc.invariant far c.in_ok-outcome.ensures optimal raised
-
-pub loop-alloc-preserved-else-is_raised : goal.loop-alloc-preserved-else-is_raised
-loop-alloc-preserved-else-is_raised c =
-    let first = c.args.ends in
-    let ends = c.loop-alloc.ends in
-    let outcome = c.in_ok-outcome.outcome in
-    let far : 1 < gap ends.raising.price ends.other.price = grind (arith, c.abs_diff.ensures, c.loop-alloc-test.true) in
-    let optimal : is_optimal outcome ≡ true = search rules in
-    let not_raised : is_raised c.args.base outcome ≡ false = search rules in
-    narrows_down c.args.batch.now c.args.order c.args.limit c.args.base first.raising.price first.other.price ends outcome c.loop-alloc.invariant far c.in_ok-outcome.ensures optimal not_raised
-
 pub loop-alloc-preserved : goal.loop-alloc-preserved
 loop-alloc-preserved c =
     let first = c.args.ends in
