@@ -14,4 +14,4 @@ pub mod sums;
 pub use divisor::{gcd, gcd_of_short};
 pub use misfit::{Operator, Wide};
 pub use number::Exact;
-pub use sums::{less_product, plus_product};
+pub use sums::plus_product;

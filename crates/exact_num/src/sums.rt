@@ -2,7 +2,7 @@
 
 ghost use Rattle.std.specs.Prelude.{◌≡◌, unsigned_abs};
 ghost use Rattle.exact_num.specs.Fits.{meaning};
-ghost use Rattle.exact_num.specs.Steps.{less_product, plus_product};
+ghost use Rattle.exact_num.specs.Steps.{plus_product};
 
 use crate::misfit::Wide;
 use crate::number::Exact;
@@ -14,12 +14,4 @@ pub fn plus_product<N: Exact>(total: N, a: N, b: N) -> Result<N, Wide>
 {
     let product = a.mul(b)?;
     total.add(product)
-}
-
-/// The total less the product of `a` and `b`. Takes no memory.
-pub fn less_product<N: Exact>(total: N, a: N, b: N) -> Result<N, Wide>
-    ensures { meaning N.fraction result
-        ≡ less_product (unsigned_abs N.LIMIT) (N.fraction total) (N.fraction a) (N.fraction b) }
-{
-    total.less_product(a, b)
 }

@@ -5,7 +5,7 @@ ghost use Rattle.exact_num.specs.Fits.{meaning};
 ghost use Rattle.form.specs.Steps.{add_for_side};
 
 use crate::orders::Side;
-use exact_num::{Exact, Wide, less_product, plus_product};
+use exact_num::{Exact, Wide, plus_product};
 
 /// The total and the product of `a` and `b`, which a sell subtracts: nothing is computed where one
 /// of the two is 0, as most fills are and what many options pay. Takes no memory.
@@ -20,6 +20,6 @@ pub fn add_for_side<N: Exact>(total: N, side: Side, a: N, b: N) -> Result<N, Wid
     }
     match side {
         Side::Buy => plus_product(total, a, b),
-        Side::Sell => less_product(total, a, b),
+        Side::Sell => total.less_product(a, b),
     }
 }

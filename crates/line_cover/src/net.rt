@@ -8,7 +8,7 @@ ghost use Rattle.form.specs.Payoff.{IsOnCount};
 ghost use Rattle.form.specs.States.{vector_of};
 ghost use Rattle.line_cover.specs.Net.{add_payoff, excess, net_of};
 
-use exact_num::{Exact, Wide, less_product};
+use exact_num::{Exact, Wide};
 use form::{Order, State, add_for_side, bundle_payoff};
 use frac::{Frac128, whole};
 
@@ -52,5 +52,5 @@ pub fn excess(
         ≡ excess limit filled (fraction_of liability.now) (vector_of state.now) }
 {
     let net = net(orders, fills, state)?;
-    less_product(net, *liability, whole(state.entries[0]))
+    net.less_product(*liability, whole(state.entries[0]))
 }

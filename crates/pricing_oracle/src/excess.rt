@@ -12,7 +12,7 @@ ghost use Rattle.table_run.specs.Places.{fraction_zero};
 ghost use Rattle.pricing_oracle.specs.Nodes.{MayBeAsked};
 
 use crate::legs::SearchQuestion;
-use exact_num::{Exact, Wide, less_product};
+use exact_num::{Exact, Wide};
 use form::{Order, State, add_for_side, bundle_payoff};
 
 // The total and what a filled order owes.
@@ -78,5 +78,5 @@ pub fn excess<N: Exact>(asked: SearchQuestion<N>, state: &State) -> Result<N, Wi
 {
     let net: N = net(asked.orders, asked.fills, state)?;
     let t: N = scale(state)?;
-    less_product(net, *asked.liability, t)
+    net.less_product(*asked.liability, t)
 }

@@ -14,7 +14,7 @@ ghost use Rattle.sign_tree.specs.Walk.{add_leg, add_term, are_placed, entries_cl
 use crate::filled::Filled;
 use crate::legs::{BatchLeg, Exposure, LegsLeft, first_leg, leg_at, leg_fill};
 use crate::trees::Multiplier;
-use exact_num::{Exact, Wide, less_product, plus_product};
+use exact_num::{Exact, Wide, plus_product};
 use form::Order;
 use frac::{Frac128, whole};
 
@@ -199,7 +199,7 @@ fn less_times(total: Frac128, a: Frac128, x: i64) -> Result<Frac128, Wide>
     if is_nothing(a, x) {
         return Ok(total);
     }
-    less_product(total, a, whole(x.into()))
+    total.less_product(a, whole(x.into()))
 }
 
 /// The total and the product of the leg's fill and x.
