@@ -13,8 +13,8 @@ use exact_num::Exact;
 // The largest part of a small fraction.
 const SMALL: i128 = i32::MAX as i128;
 
-// The largest size of a number of 64 bits.
-const SHORT: i128 = i64::MAX as i128;
+// The largest signed number of 64 bits.
+const SHORT_SIGNED: i128 = i64::MAX as i128;
 
 /// Whether both parts are of 31 bits.
 #[inline(always)]
@@ -75,7 +75,7 @@ fn reduced(n: i128, d: u128) -> Frac128
     requires in_range { d < 2 ^ 127 }
     ensures { fraction_of result ≡ reduced_of n d }
 {
-    if -SHORT <= n && n <= SHORT && d <= SHORT as u128 {
+    if -SHORT_SIGNED <= n && n <= SHORT_SIGNED && d <= SHORT_SIGNED as u128 {
         short_reduced(n as i64, d as u64)
     } else {
         long_reduced(n, d)
