@@ -40,10 +40,7 @@ fn is_done<N: Exact>(operation: Operation, x: N, y: N, z: N) -> bool {
             let (a, b) = x.parts();
             gcd(a.unsigned_abs(), b.unsigned_abs()) > 1
         }
-        Operation::Eliminate => match x.mul(y) {
-            Ok(product) => z.sub(product).is_ok(),
-            Err(_) => false,
-        },
+        Operation::Eliminate => z.less_product(x, y).is_ok(),
     }
 }
 
