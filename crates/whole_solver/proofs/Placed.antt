@@ -39,6 +39,12 @@ pub record IsPlacedAt (limit w c r a most : ℕ) (old new : Rows) : Type 0 where
   pub short : is_wide_at new r ≡ false → most < 2 ^ 64
   pub written : IsWrittenAt w r old new
 
+pub placed_at : (limit w c r a most : ℕ) (old new : Rows) → c < w → IsPivot w c r (rows_in old) → AreStored limit w old → line_in w (row_at (rows_in new) r) ≡ pivot_line c a (cut (line_in w (row_at (rows_in old) r)))
+    → a ≡ unsigned_abs (number_at (cut (line_in w (row_at (rows_in old) r))).numbers c) → line_size (line_in w (row_at (rows_in new) r)) ≤ most → (is_wide_at new r ≡ false → most < 2 ^ 64) → IsWrittenAt w r old new
+    → IsPlacedAt limit w c r a most old new
+placed_at limit w c r a most old new column pivot stored line denominator size short written =
+    record { column = column; pivot = pivot; stored = stored; line = line; denominator = denominator; size = size; short = short; written = written }
+
 module _ (limit w c r a most : ℕ) (old new : Rows) (g : IsPlacedAt limit w c r a most old new) where
   pub is_placed : IsPlaced limit w a (row_at (rows_in new) r)
   is_placed = placed limit w c r a (rows_in old) (row_at (rows_in new) r) g.column g.pivot g.stored.lines g.denominator g.line

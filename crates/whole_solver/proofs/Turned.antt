@@ -259,23 +259,30 @@ short_denominator w d ns l size g =
     let fits : line_fits widest (line_of d ns) ≡ true = sizes_least widest (line_of d ns) ∙ le-leb (line_size (line_of d ns)) widest low in
     leb-true _ _ (and_parts (nat_le d widest) (numbers_fit widest ns) fits).0
 
--- the row that is written
-pub record IsWritten (limit w d : ℕ) (row ns : List ℤ) : Type 0 where
+-- the row that is cleared and written
+pub record IsRowWritten (most limit w c a d : ℕ) (row pivot ns : List ℤ) : Type 0 where
+  pub fits : step_size (line_size (line_in w row)) (unsigned_abs (number_at (line_in w row).numbers c)) a most ≤ limit
+  pub told : line_of d ns ≡ labelled_cleared c a (line_in w pivot).numbers (line_in w row)
   pub line : IsLine limit w (line_of d ns)
   pub written : line_in w (set (put_mid 1 (w + 1 - 1) row ns) 0 (to_z w128 d)) ≡ line_of d ns
 
-pub objective_written : (most limit w c a d : ℕ) (row pivot ns : List ℤ) → limit ≤ 2 ^ 127 - 1 → w < length row → w < length pivot → IsLine limit w (line_in w row) → AreSizes most (line_in w pivot).numbers → 0 < a
-    → step_size (line_size (line_in w row)) (unsigned_abs (number_at (line_in w row).numbers c)) a most ≤ limit → line_of d ns ≡ labelled_cleared c a (line_in w pivot).numbers (line_in w row) → IsWritten limit w d row ns
-objective_written most limit w c a d row pivot ns held wide_row wide g sizes above room told =
-    let behind = length-drop 1 pivot in
-    let count : length (take w (drop 1 pivot)) ≡ w = length-take-le w (drop 1 pivot) (omega (arith, behind, wide)) in
+-- by a pivot row of these numbers, the row over the denominator b
+pub row_written : (most limit w c a b d : ℕ) (row pivot ps ns : List ℤ) → b ≡ unsigned_abs (number_at row 0) → ps ≡ take (w + 1 - 1) (drop 1 pivot)
+    → limit ≤ 2 ^ 127 - 1 → w < length row → w < length pivot → IsLine limit w (line_in w row) → AreSizes most (line_in w pivot).numbers → 0 < a
+    → step_size (line_size (line_of b (take (w + 1 - 1) (drop 1 row)))) (unsigned_abs (number_at (take (w + 1 - 1) (drop 1 row)) c)) a most ≤ limit
+    → line_of d ns ≡ labelled_cleared c a ps (line_of b (take (w + 1 - 1) (drop 1 row))) → IsRowWritten most limit w c a d row pivot ns
+row_written most limit w c a b d row pivot ps ns size is held wide_row wide g sizes above fits told =
+    let same : w + 1 - 1 ≡ w = omega arith in
+    let room : step_size (line_size (line_in w row)) (unsigned_abs (number_at (line_in w row).numbers c)) a most ≤ limit = rw (size, same) at fits in
+    let cleared : line_of d ns ≡ labelled_cleared c a (line_in w pivot).numbers (line_in w row) = rw (size, is, same) at told in
+    let count : length (take w (drop 1 pivot)) ≡ w = length-take-le w (drop 1 pivot) (omega (arith, length-drop 1 pivot, wide)) in
     let own = sizes_bound w (line_in w row) (record { positive = g.positive; count = g.count }) in
-    let line : IsLine limit w (line_of d ns) = subst (IsLine limit w) (sym told) (cleared_lines_fit (line_size (line_in w row)) most limit w c a (line_in w pivot).numbers (line_in w row) room own sizes count above) in
+    let line : IsLine limit w (line_of d ns) = subst (IsLine limit w) (sym cleared) (cleared_lines_fit (line_size (line_in w row)) most limit w c a (line_in w pivot).numbers (line_in w row) room own sizes count above) in
     let low = line.below in
     let signed : to_z w128 d ≡ pos d = to_z_pos w128 d (omega (arith, low, held)) in
     let front = front_of_mid w (w + 1 - 1) row ns (omega (arith, wide_row)) line.count in
     let written = written_front w (put_mid 1 (w + 1 - 1) row ns) ns (number_at row 0) (pos d) front in
-    record { line = line; written = rw signed written }
+    record { fits = room; told = cleared; line = line; written = rw signed written }
 
 pub sizes_more : (b j : ℕ) (zs : List ℤ) (v : ℤ) → j < length zs → ((k : ℕ) → k < j → unsigned_abs (number_at zs k) ≤ b) → unsigned_abs v ≤ b → (k : ℕ) → k < j + 1 → unsigned_abs (number_at (set zs j v) k) ≤ b
 sizes_more b j [] v low h q k lt = absurd (omega (arith, low))

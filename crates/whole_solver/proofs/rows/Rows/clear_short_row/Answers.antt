@@ -17,43 +17,31 @@ use Rattle.whole_solver.proofs.rows.Rows.clear_short_row.Goals as goal
 pub clear_front-requires-clause-line : goal.clear_front-requires-clause-line
 clear_front-requires-clause-line c =
     let t = c.args.self.now in
-    let k = c.args.known in
     let w = length c.args.room.now in
     let i = c.args.i in
     let here = row_standing_short t i c.requires.short.0 ∙ sym c.pair-row.ensures.parts.1 in
-    let there = row_standing_short t k.step.r c.requires.short.1 ∙ sym c.pair-row.ensures.parts.0 in
     let low = (c.requires.stored.short c.requires.short.0).0 in
-    subst (λ (z : List ℤ). IsLine widest w (line_in w z)) here (line_below k.step.limit widest w (line_in w (row_at (rows_in t) i)) c.requires.line low)
+    subst (λ (z : List ℤ). IsLine widest w (line_in w z)) here (line_below c.args.known.step.limit widest w (line_in w (row_at (rows_in t) i)) c.requires.line low)
 
 pub clear_front-requires-clause-size : goal.clear_front-requires-clause-size
 clear_front-requires-clause-size c =
     let t = c.args.self.now in
-    let k = c.args.known in
     let w = length c.args.room.now in
     let i = c.args.i in
     let here = row_standing_short t i c.requires.short.0 ∙ sym c.pair-row.ensures.parts.1 in
-    let there = row_standing_short t k.step.r c.requires.short.1 ∙ sym c.pair-row.ensures.parts.0 in
     let kept = size_there t i c.index.result.now c.requires.rows.0 c.index.ensures in
     subst (λ (n : ℕ). line_size (line_in w c.pair-row.result.1.now) ≤ n) kept (subst (λ (z : List ℤ). line_size (line_in w z) ≤ size_at t i) here c.requires.stored.size)
 
 pub clear_front-requires-clause-pivot : goal.clear_front-requires-clause-pivot
 clear_front-requires-clause-pivot c =
-    let t = c.args.self.now in
-    let k = c.args.known in
     let w = length c.args.room.now in
-    let i = c.args.i in
-    let here = row_standing_short t i c.requires.short.0 ∙ sym c.pair-row.ensures.parts.1 in
-    let there = row_standing_short t k.step.r c.requires.short.1 ∙ sym c.pair-row.ensures.parts.0 in
-    subst (λ (z : List ℤ). AreSizes k.most (line_in w z).numbers) there c.requires.pivot.sizes
+    let there = row_standing_short c.args.self.now c.args.known.step.r c.requires.short.1 ∙ sym c.pair-row.ensures.parts.0 in
+    subst (λ (z : List ℤ). AreSizes c.args.known.most (line_in w z).numbers) there c.requires.pivot.sizes
 
 pub clear_front-requires-clause-places : goal.clear_front-requires-clause-places
 clear_front-requires-clause-places c =
-    let t = c.args.self.now in
-    let k = c.args.known in
     let w = length c.args.room.now in
-    let i = c.args.i in
-    let here = row_standing_short t i c.requires.short.0 ∙ sym c.pair-row.ensures.parts.1 in
-    let there = row_standing_short t k.step.r c.requires.short.1 ∙ sym c.pair-row.ensures.parts.0 in
+    let there = row_standing_short c.args.self.now c.args.known.step.r c.requires.short.1 ∙ sym c.pair-row.ensures.parts.0 in
     c.requires.pivot.places ∙ ap (λ (z : List ℤ). nonzero_in (line_in w z).numbers) there
 
 -- the line in the room is within the limit
@@ -62,8 +50,7 @@ grow-requires-clause-denominator c =
     let t = c.args.self.now in
     let k = c.args.known in
     let w = length c.args.room.now in
-    let i = c.args.i in
-    let here = row_standing_short t i c.requires.short.0 ∙ sym c.pair-row.ensures.parts.1 in
+    let here = row_standing_short t c.args.i c.requires.short.0 ∙ sym c.pair-row.ensures.parts.1 in
     let there = row_standing_short t k.step.r c.requires.short.1 ∙ sym c.pair-row.ensures.parts.0 in
     let pivot = c.pair-row.result.0.now in
     let l = line_in w c.pair-row.result.1.now in
@@ -74,34 +61,8 @@ grow-requires-clause-denominator c =
     let low = (subst (IsLine k.step.limit w) (sym c.in-Wide.ensures.line) cleared).below in
     omega (arith, low, c.requires.limit)
 
-pub returns-in-Short-clause-fits : goal.returns-in-Short-clause-fits
-returns-in-Short-clause-fits c done =
-    let t = c.args.self.now in
-    let k = c.args.known in
-    let w = length c.args.room.now in
-    let i = c.args.i in
-    let here = row_standing_short t i c.requires.short.0 ∙ sym c.pair-row.ensures.parts.1 in
-    let there = row_standing_short t k.step.r c.requires.short.1 ∙ sym c.pair-row.ensures.parts.0 in
-    subst (λ (z : List ℤ). step_size (line_size (line_in w z)) (unsigned_abs (number_at (line_in w z).numbers k.step.c)) k.a k.most ≤ k.step.limit) (sym here) c.in-Short.ensures.fits
-
-pub returns-in-Short-clause-cleared : goal.returns-in-Short-clause-cleared
-returns-in-Short-clause-cleared c done =
-    let t = c.args.self.now in
-    let k = c.args.known in
-    let w = length c.args.room.now in
-    let i = c.args.i in
-    let here = row_standing_short t i c.requires.short.0 ∙ sym c.pair-row.ensures.parts.1 in
-    let there = row_standing_short t k.step.r c.requires.short.1 ∙ sym c.pair-row.ensures.parts.0 in
-    let x = row_at t.short.rows i in
-    let y = c.clear_front.new.row in
-    let full : length y ≡ t.short.width = omega (arith, c.pair-row.ensures.widths, c.clear_front.auto.row) in
-    let standing = row_short t.is_wide.items (set t.short.rows i (refit t.short.width x y)) t.wide.rows i c.requires.short.0 in
-    ap (line_in w) (standing ∙ row_placed t.short.width i t.short.rows x y c.requires.rows.0 full)
-    ∙ c.in-Short.ensures.line.0
-    ∙ (λ q. labelled_cleared k.step.c k.a (line_in w (sym there q)).numbers (line_in w (sym here q)))
-
-pub returns-in-Short-clause-written : goal.returns-in-Short-clause-written
-returns-in-Short-clause-written c done =
+pub returns-in-Short : goal.returns-in-Short
+returns-in-Short c =
     let t = c.args.self.now in
     let k = c.args.known in
     let w = length c.args.room.now in
@@ -115,8 +76,9 @@ returns-in-Short-clause-written c done =
     let kept = at_set_same t.sizes.items i size 0 (omega arith) in
     let short = c.in-Short.ensures.line.1 in
     let line_is = ap (line_in w) (row_placed t.short.width i t.short.rows x y c.requires.rows.0 full) ∙ c.in-Short.ensures.line.0 in
+    let standing = row_short t.is_wide.items (set t.short.rows i (refit t.short.width x y)) t.wide.rows i c.requires.short.0 in
     let made = row_at (set t.short.rows i (refit t.short.width x y)) i in
-    written w i t _
+    let is_written = written w i t _
     (record {
       flags = sym (set-get_or t.is_wide.items i false);
       sizes = set_again t.sizes.items i size 0;
@@ -127,39 +89,25 @@ returns-in-Short-clause-written c done =
     })
     (stored_short w i _ c.requires.short.0
     (subst (λ (n : ℕ). line_size (line_in w made) ≤ n) (sym kept) (subst (λ (m : Line). line_size m ≤ size) (sym line_is) short.size)) (subst (λ (m : Line). line_size m ≤ widest) (sym line_is) short.short)
-    (subst (λ (n : ℕ). n < 2 ^ 64) (sym kept) (omega arith)))
+    (subst (λ (n : ℕ). n < 2 ^ 64) (sym kept) (omega arith))) in
+    record {
+      fits = λ done. subst (λ (z : List ℤ). step_size (line_size (line_in w z)) (unsigned_abs (number_at (line_in w z).numbers k.step.c)) k.a k.most ≤ k.step.limit) (sym here) c.in-Short.ensures.fits;
+      cleared = λ done. ap (line_in w) standing ∙ line_is ∙ (λ q. labelled_cleared k.step.c k.a (line_in w (sym there q)).numbers (line_in w (sym here q)));
+      written = λ done. is_written;
+      count = is_written.count;
+    }
 
-pub returns-in-Wide-clause-fits : goal.returns-in-Wide-clause-fits
-returns-in-Wide-clause-fits c done =
+pub returns-in-Wide : goal.returns-in-Wide
+returns-in-Wide c =
     let t = c.args.self.now in
     let k = c.args.known in
     let w = length c.args.room.now in
     let i = c.args.i in
     let here = row_standing_short t i c.requires.short.0 ∙ sym c.pair-row.ensures.parts.1 in
     let there = row_standing_short t k.step.r c.requires.short.1 ∙ sym c.pair-row.ensures.parts.0 in
-    subst (λ (z : List ℤ). step_size (line_size (line_in w z)) (unsigned_abs (number_at (line_in w z).numbers k.step.c)) k.a k.most ≤ k.step.limit) (sym here) c.in-Wide.ensures.fits
-
-pub returns-in-Wide-clause-cleared : goal.returns-in-Wide-clause-cleared
-returns-in-Wide-clause-cleared c done =
-    let t = c.args.self.now in
-    let k = c.args.known in
-    let w = length c.args.room.now in
-    let i = c.args.i in
-    let here = row_standing_short t i c.requires.short.0 ∙ sym c.pair-row.ensures.parts.1 in
-    let there = row_standing_short t k.step.r c.requires.short.1 ∙ sym c.pair-row.ensures.parts.0 in
-    let room = c.clear_front.new.room in
     let grown = row_at (rows_in c.grow.new.self) i in
-    let count : length room ≡ w = c.clear_front.auto.room in
-    sym (ap (λ (n : ℕ). line_in n grown) count)
-    ∙ c.grow.ensures.line
-    ∙ c.in-Wide.ensures.line
-    ∙ (λ q. labelled_cleared k.step.c k.a (line_in w (sym there q)).numbers (line_in w (sym here q)))
-
-pub returns-in-Wide-clause-written : goal.returns-in-Wide-clause-written
-returns-in-Wide-clause-written c done =
-    let t = c.args.self.now in
-    let i = c.args.i in
-    subst (λ (n : ℕ). IsWrittenAt n i t c.grow.new.self) c.clear_front.auto.room
+    let count : length c.clear_front.new.room ≡ w = c.clear_front.auto.room in
+    let is_written = subst (λ (n : ℕ). IsWrittenAt n i t c.grow.new.self) count
     (written_after (length c.clear_front.new.room) i t _ c.grow.new.self c.grow.ensures.written
     (record {
       flags = sym (set-get_or t.is_wide.items i false);
@@ -168,4 +116,13 @@ returns-in-Wide-clause-written c done =
       wide = sym (set-get_or t.wide.rows i []);
       spare = refl;
       width = refl;
-    }))
+    })) in
+    record {
+      fits = λ done. subst (λ (z : List ℤ). step_size (line_size (line_in w z)) (unsigned_abs (number_at (line_in w z).numbers k.step.c)) k.a k.most ≤ k.step.limit) (sym here) c.in-Wide.ensures.fits;
+      cleared = λ done. sym (ap (λ (n : ℕ). line_in n grown) count)
+          ∙ c.grow.ensures.line
+          ∙ c.in-Wide.ensures.line
+          ∙ (λ q. labelled_cleared k.step.c k.a (line_in w (sym there q)).numbers (line_in w (sym here q)));
+      written = λ done. is_written;
+      count = is_written.count;
+    }

@@ -6,7 +6,7 @@ use Rattle.equal_runs.specs.Labelled.{labelled_cleared, turned_in}
 use Rattle.equal_runs.specs.WholeTurning.{cut, step_size}
 use Rattle.whole_solver.specs.Rows.{AreStepsBelow, line_in, lines_in, lines_after, pivot_line, row_at}
 use Rattle.whole_solver.specs.Stored.{AreStored, IsKnown, rows_in}
-use Rattle.whole_solver.proofs.Placed.{IsPlacedAt, is_placed, leaving_size, placed_column, placed_known, placed_stored}
+use Rattle.whole_solver.proofs.Placed.{is_placed, leaving_size, placed_at, placed_column, placed_known, placed_stored}
 use Rattle.whole_solver.proofs.Standing.{rows_many}
 use Rattle.whole_solver.proofs.Turned.{steps_less, turned_rows}
 use Rattle.whole_solver.proofs.Written.{counts_then, steps_within_of_below}
@@ -29,16 +29,7 @@ clear_objective-requires c =
     let a = c.place_pivot-a.result.0 in
     let most = c.place_pivot-a.result.1 in
     let s = c.place_pivot-a.new.self in
-    let g : IsPlacedAt limit w k r a most first s = record {
-      column = c.requires.widths.0;
-      pivot = c.requires.pivot;
-      stored = c.requires.stored;
-      line = told.pivot;
-      denominator = told.denominator;
-      size = told.size;
-      short = told.short;
-      written = told.written;
-    } in
+    let g = placed_at limit w k r a most first s c.requires.widths.0 c.requires.pivot c.requires.stored told.pivot told.denominator told.size told.short told.written in
     let low = (is_placed limit w k r a most first s g).below in
     let wide : w < length c.row.result.now = omega (arith, c.row.ensures.width, told.written.count.width, c.requires.widths.1) in
     let listed = take c.front_nonzero-count.result c.front_nonzero-count.new.places in
@@ -56,16 +47,7 @@ clear_rows-requires c =
     let a = c.place_pivot-a.result.0 in
     let most = c.place_pivot-a.result.1 in
     let s = c.place_pivot-a.new.self in
-    let g : IsPlacedAt limit w k r a most first s = record {
-      column = c.requires.widths.0;
-      pivot = c.requires.pivot;
-      stored = c.requires.stored;
-      line = told.pivot;
-      denominator = told.denominator;
-      size = told.size;
-      short = told.short;
-      written = told.written;
-    } in
+    let g = placed_at limit w k r a most first s c.requires.widths.0 c.requires.pivot c.requires.stored told.pivot told.denominator told.size told.short told.written in
     let low = (is_placed limit w k r a most first s g).below in
     let wide : w < length c.row.result.now = omega (arith, c.row.ensures.width, told.written.count.width, c.requires.widths.1) in
     let listed = take c.front_nonzero-count.result c.front_nonzero-count.new.places in
@@ -91,16 +73,7 @@ returns c =
     let a = c.place_pivot-a.result.0 in
     let most = c.place_pivot-a.result.1 in
     let s = c.place_pivot-a.new.self in
-    let g : IsPlacedAt limit w k r a most first s = record {
-      column = c.requires.widths.0;
-      pivot = c.requires.pivot;
-      stored = c.requires.stored;
-      line = told.pivot;
-      denominator = told.denominator;
-      size = told.size;
-      short = told.short;
-      written = told.written;
-    } in
+    let g = placed_at limit w k r a most first s c.requires.widths.0 c.requires.pivot c.requires.stored told.pivot told.denominator told.size told.short told.written in
     let count : length (take w c.args.room.now) ≡ w = length-take-le w c.args.room.now c.requires.room.0 in
     let old = rows_in first in
     let new = rows_in c.clear_rows.new.self in
