@@ -26,6 +26,10 @@ scaled_at p (z ∷ zs) (suc j) = scaled_at p zs j
 pub scaled_room : (held f : ℕ) (p : ℤ) (zs qs : List ℤ) → HasRoom held (unsigned_abs p) f zs qs → HasRoom held 1 f (map (λ z. z *ℤ p) zs) qs
 scaled_room held f p zs qs room j = let here = room j in let size = scaled_at p zs j in omega (arith, here, size)
 
+-- what has room for a product to be taken from it has room for the difference
+pub difference_within : (held : ℕ) (z f q p : ℤ) → p ≡ f *ℤ q → unsigned_abs z + unsigned_abs f * unsigned_abs q ≤ held → unsigned_abs (z -ℤ p) ≤ held
+difference_within held z f q p is room = let size = ap unsigned_abs is ∙ unsigned_abs-mul f q in omega (arith, ints, size, room)
+
 -- ---- numbers of these sizes
 pub mixed_of_sizes : (b m n p f : ℕ) (zs : List ℤ) → AreSizes m zs → m * p + f * n ≤ b → AreMixedSizes b p f n zs
 mixed_of_sizes b m n p f zs hz room j = let less : unsigned_abs (number_at zs j) * p ≤ m * p = mul-le-mul (hz j) (omega arith) in omega (arith, less, room)
