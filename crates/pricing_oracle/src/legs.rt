@@ -11,14 +11,22 @@ ghost use Rattle.pricing_oracle.specs.Nodes.{MayBeAsked, in_roles, legs_asked, r
 use exact_num::Exact;
 use form::{Form, Order};
 use sign_tree::{BatchLeg, Exposure, LegsLeft, first_leg};
+use std::alloc::AllocError;
 
 /// What a search asks: whether the liability is enough for the fills of the orders at each state.
-#[derive(Clone, Copy)]
+#[derive(Copy)]
 pub struct SearchQuestion<'a, N> {
     pub underlyings: usize,
     pub orders: &'a [Order],
     pub fills: &'a [N],
     pub liability: &'a N,
+}
+
+// Not derived: the whole is copied in one step, where a derived clone goes field by field.
+impl<N: Copy> Clone for SearchQuestion<'_, N> {
+    fn clone(&self) -> Result<Self, AllocError> {
+        Ok(*self)
+    }
 }
 
 /// What a leg does in the program of a node: a leg that is not filled is idle, a short leg covers,
@@ -66,10 +74,17 @@ pub struct NodeLeg<'a, N> {
 
 /// The legs of a node that are still to come, and their signs: 0 for none, and else above 0 or
 /// below.
-#[derive(Clone, Copy)]
+#[derive(Copy)]
 pub struct NodeLegsLeft<'a, N> {
     pub legs: LegsLeft<'a, N>,
     pub signs: &'a [i8],
+}
+
+// Not derived, as that of a question.
+impl<N: Copy> Clone for NodeLegsLeft<'_, N> {
+    fn clone(&self) -> Result<Self, AllocError> {
+        Ok(*self)
+    }
 }
 
 // Whether a leg with this fill and this size of its count is filled.

@@ -22,9 +22,10 @@ use crate::rows::cover_count;
 use crate::splitting::split_place;
 use exact_num::Exact;
 use form::State;
-use lists::push_within;
+use lists::{make_room, push_within};
 use sign_tree::{Multiplier, Node};
 use simplex::{Budget, RunStop, Space};
+use std::alloc::{AllocError, Global};
 
 /// What a node shows.
 #[derive(Clone, Copy)]
@@ -42,6 +43,28 @@ pub enum Shown {
 pub struct TreeParts {
     pub nodes: Vec<Node>,
     pub multipliers: Vec<Multiplier>,
+}
+
+impl TreeParts {
+    ghost use Rattle.pricing_oracle.specs.Rooms.{HasTreeRoom};
+    ghost use Rattle.std.specs.Prelude.{IfOk, OnOk};
+
+    /// Room for the tree of a search with at most so many units. The error is want of memory.
+    pub fn new(alloc: Global, units: u32) -> Result<TreeParts, AllocError>
+        ensures { IfOk result (HasTreeRoom units) }
+    {
+        let nodes = Vec::with_capacity(alloc, units as usize)?;
+        let multipliers = Vec::with_capacity(alloc, units as usize)?;
+        Ok(TreeParts { nodes, multipliers })
+    }
+
+    /// Makes it room for the tree of a search with at least so many units.
+    pub fn renew(&mut self, units: u32) -> Result<(), AllocError>
+        ensures { OnOk result (HasTreeRoom units self.new) }
+    {
+        make_room(&mut self.nodes, units as usize)?;
+        make_room(&mut self.multipliers, units as usize)
+    }
 }
 
 // Whether a number is above 0.

@@ -14,7 +14,7 @@ use crate::legs::SearchQuestion;
 use crate::node::TreeParts;
 use exact_num::Exact;
 use form::State;
-use lists::{make_room, push_within, take_list};
+use lists::{push_within, take_list};
 use sign_tree::{Multipliers, Nodes, SignTree};
 use simplex::{Budget, RunStop, Space};
 use std::alloc::{AllocError, Global};
@@ -93,8 +93,7 @@ impl<N: Exact> SearchRoom<N> {
         let columns = underlyings + 1 + legs;
         let signs = Vec::with_capacity(alloc, legs)?;
         let row = Vec::with_capacity(alloc, columns)?;
-        let nodes = Vec::with_capacity(alloc, units as usize)?;
-        let multipliers = Vec::with_capacity(alloc, units as usize)?;
+        let tree = TreeParts::new(alloc, units)?;
         let space = Space::new(alloc, 1 + legs, columns)?;
         Ok(SearchRoom {
             underlyings,
@@ -103,7 +102,7 @@ impl<N: Exact> SearchRoom<N> {
             space,
             signs,
             row,
-            tree: TreeParts { nodes, multipliers },
+            tree,
         })
     }
 
@@ -128,8 +127,7 @@ impl<N: Exact> SearchRoom<N> {
         }
         // Until both lists are there, it is for no unit.
         self.units = 0;
-        make_room(&mut self.tree.nodes, units as usize)?;
-        make_room(&mut self.tree.multipliers, units as usize)?;
+        self.tree.renew(units)?;
         self.units = units;
         Ok(())
     }
