@@ -2,6 +2,7 @@
 #![tactic(auto)]
 
 pub mod breakpoint;
+mod filled;
 pub mod laws;
 pub mod net;
 pub mod price;
