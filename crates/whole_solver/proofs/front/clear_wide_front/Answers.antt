@@ -47,7 +47,7 @@ overflow_cast-row g c =
     let size : c.unsigned_abs-denominator.result ≡ unsigned_abs first = simp to_z-of_z at c.unsigned_abs-denominator.ensures.value in
     let long : c.args.width < length (map value c.args.pivot.now) = omega (arith, c.requires.widths.1, length-map c.args.pivot.now value) in
     let is = row_written known.most known.step.limit c.args.width known.step.c known.a c.unsigned_abs-denominator.result c.in-Some.below c.args.row.now (map value c.args.pivot.now) _ c.clear_wide_line.new.numbers size (front_words value (c.args.width + 1 - 1) c.args.pivot.now)
-        c.requires.limit c.requires.widths.0 long c.requires.line c.requires.pivot c.requires.above.0 c.in-Some.ensures.fits c.in-Some.ensures.line in
+    c.requires.limit c.requires.widths.0 long c.requires.line c.requires.pivot c.requires.above.0 c.in-Some.ensures.fits c.in-Some.ensures.line in
     let low = is.line.below in
     held_128 (pos c.in-Some.below) (omega (arith, low, c.requires.limit))
 
@@ -60,7 +60,7 @@ returns g c =
     let size : c.unsigned_abs-denominator.result ≡ unsigned_abs first = simp to_z-of_z at c.unsigned_abs-denominator.ensures.value in
     let long : c.args.width < length (map value c.args.pivot.now) = omega (arith, c.requires.widths.1, length-map c.args.pivot.now value) in
     let is = row_written known.most known.step.limit c.args.width known.step.c known.a c.unsigned_abs-denominator.result c.in-Some.below c.args.row.now (map value c.args.pivot.now) _ c.clear_wide_line.new.numbers size (front_words value (c.args.width + 1 - 1) c.args.pivot.now)
-        c.requires.limit c.requires.widths.0 long c.requires.line c.requires.pivot c.requires.above.0 c.in-Some.ensures.fits c.in-Some.ensures.line in
+    c.requires.limit c.requires.widths.0 long c.requires.line c.requires.pivot c.requires.above.0 c.in-Some.ensures.fits c.in-Some.ensures.line in
     record {
       fits = λ done. is.fits;
       cleared = λ done. is.written ∙ is.told;
