@@ -8,8 +8,6 @@ mod block;
 pub mod list;
 pub mod refusals;
 pub mod room;
-#[cfg(test)]
-mod tests;
 
 pub use arena::RowArena;
 pub use list::List;
