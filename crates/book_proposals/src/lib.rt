@@ -7,8 +7,6 @@ mod books;
 pub mod laws;
 mod limits;
 mod live;
-#[cfg(test)]
-mod tests;
 
 pub use answers::propose_for;
 pub use live::propose_live;
