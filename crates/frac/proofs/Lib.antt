@@ -4,6 +4,7 @@ pub mod Equality
 pub mod Lowest
 pub mod Reducing
 pub mod SmallSteps
+pub mod SmallSums
 pub mod SumSteps
 pub mod ProductSteps
 pub mod ShareSteps

@@ -161,7 +161,7 @@ unfolding sum_value
 value_over_one a b d positive = rw (total_over_one a b d positive, common_is a b d positive, below_is a b d positive) refl
 
 -- the sum, by what the total shares with the denominator
-over_one_value : (x y : Fraction) (n : ℤ) (shared e : ℕ) → 0 < x.denominator → y.denominator ≡ x.denominator
+pub over_one_value : (x y : Fraction) (n : ℤ) (shared e : ℕ) → 0 < x.denominator → y.denominator ≡ x.denominator
     → shared ≡ gcd (unsigned_abs (x.numerator +ℤ y.numerator)) x.denominator → n ≡ int_div (x.numerator +ℤ y.numerator) (pos shared) → e ≡ x.denominator / shared → over n e ≡ sum_value x y
 over_one_value x y n shared e positive same es en ee =
     let a = x.numerator in

@@ -94,6 +94,43 @@ pub fn small_product(x: Frac128, y: Frac128) -> Frac128
     short_reduced(above, below)
 }
 
+/// The sum of two fractions over two denominators, in lowest terms: by what these have in common,
+/// which is mostly 1.
+#[inline(always)]
+fn small_sum_over_two(x: Frac128, y: Frac128) -> Frac128
+    requires left { IsSmall (fraction_of x) }
+    requires right { IsSmall (fraction_of y) }
+    ensures { fraction_of result ≡ sum_value (fraction_of x) (fraction_of y) }
+{
+    let (a, b) = (x.numerator as i64, x.denominator as u64);
+    let (c, d) = (y.numerator as i64, y.denominator as u64);
+    let g = short_divisor(b, d);
+    let left = short_quotient(b, g);
+    let total = a * short_quotient(d, g) as i64 + c * left as i64;
+    let shared = short_divisor(total.unsigned_abs(), g);
+    Frac128 {
+        numerator: signed_quotient(total, shared) as i128,
+        denominator: (left * short_quotient(d, shared)) as u128,
+    }
+}
+
+/// The sum of two fractions over one denominator, in lowest terms.
+#[inline(always)]
+fn small_sum_over_one(x: Frac128, y: Frac128) -> Frac128
+    requires same { x.denominator ≡ y.denominator }
+    requires left { IsSmall (fraction_of x) }
+    requires right { IsSmall (fraction_of y) }
+    ensures { fraction_of result ≡ sum_value (fraction_of x) (fraction_of y) }
+{
+    let denominator = x.denominator as u64;
+    let total = x.numerator as i64 + y.numerator as i64;
+    let shared = short_divisor(total.unsigned_abs(), denominator);
+    Frac128 {
+        numerator: signed_quotient(total, shared) as i128,
+        denominator: short_quotient(denominator, shared) as u128,
+    }
+}
+
 /// The sum in lowest terms.
 #[inline(always)]
 pub fn small_sum(x: Frac128, y: Frac128) -> Frac128
@@ -101,9 +138,11 @@ pub fn small_sum(x: Frac128, y: Frac128) -> Frac128
     requires right { IsSmall (fraction_of y) }
     ensures { fraction_of result ≡ sum_value (fraction_of x) (fraction_of y) }
 {
-    let (a, b) = (x.numerator as i64, x.denominator as u64);
-    let (c, d) = (y.numerator as i64, y.denominator as u64);
-    short_reduced(a * d as i64 + c * b as i64, b * d)
+    if x.denominator == y.denominator {
+        small_sum_over_one(x, y)
+    } else {
+        small_sum_over_two(x, y)
+    }
 }
 
 /// The number less the product, in lowest terms.
