@@ -84,6 +84,7 @@ fn gcd_of_odd(mut a: u64, mut b: u64) -> u64
     }
 }
 
+// The same of numbers of 128 bits, down to where the lesser one fits in 64.
 fn gcd_of_long(a: u128, b: u128) -> u128
     requires left { 0 < a }
     requires right { 0 < b }
@@ -91,26 +92,17 @@ fn gcd_of_long(a: u128, b: u128) -> u128
 {
     let twos_of_a = a.trailing_zeros();
     let twos_of_b = b.trailing_zeros();
-    gcd_of_long_odd(a >> twos_of_a, b >> twos_of_b) << twos_of_a.min(twos_of_b)
-}
-
-fn gcd_of_long_odd(mut a: u128, mut b: u128) -> u128
-    requires left { a % 2 ≡ 1 }
-    requires right { b % 2 ≡ 1 }
-    ensures { result ≡ gcd_of a b }
-{
-    loop {
-        let difference = a.wrapping_sub(b);
-        if difference == 0 {
-            return a;
-        }
-        let twos = difference.trailing_zeros();
-        let low = a.min(b);
-        let gap = a.max(b) - low;
+    let twos = twos_of_a.min(twos_of_b);
+    let (mut x, mut y) = (a >> twos_of_a, b >> twos_of_b);
+    while x != y {
+        let twos_of_gap = x.wrapping_sub(y).trailing_zeros();
+        let low = x.min(y);
+        let gap = x.max(y) - low;
         if low <= SHORT {
-            return gcd_with_short(low as u64, gap);
+            return gcd_with_short(low as u64, gap) << twos;
         }
-        a = low;
-        b = gap >> twos;
+        x = low;
+        y = gap >> twos_of_gap;
     }
+    x << twos
 }
