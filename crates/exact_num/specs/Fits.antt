@@ -1,5 +1,5 @@
--- The four operations with a limit: the value, or the misfit with its operands.
-use Rattle.std.specs.Prelude.{ℕ, ◌*◌, ◌/◌, ℤ, pos, negsuc, ◌+ℤ◌, ◌*ℤ◌, neg_ℤ, unsigned_abs, int_div, Bool, ◌&&◌, nat_le, if◌then◌else◌, Result, Ok, Err}
+-- The four operations with a limit: the value or none, and the value or the misfit with its operands.
+use Rattle.std.specs.Prelude.{ℕ, ◌*◌, ◌/◌, ℤ, pos, negsuc, ◌+ℤ◌, ◌*ℤ◌, neg_ℤ, unsigned_abs, int_div, Bool, ◌&&◌, nat_le, if◌then◌else◌, Option, Some, None, Result, Ok, Err}
 use Rattle.arithmetic.specs.Gcd.{gcd_within, gcd}
 use Rattle.exact_num.specs.declared.misfit.Operator.{Operator}
 use Rattle.exact_num.specs.declared.misfit.Operator.TheVariants.{Add, Mul, Div, Whole}
@@ -42,6 +42,9 @@ sum_value x y = over (int_div (sum_total x y) (pos (sum_common x y))) (sum_below
 unfoldable pub sum_fits : ℕ → Fraction → Fraction → Bool
 sum_fits limit x y = size_fits limit (sum_left x y) && size_fits limit (sum_right x y) && size_fits limit (sum_total x y) && nat_le (sum_below x y) limit
 
+abbrev pub sum_within : ℕ → Fraction → Fraction → Option Fraction
+sum_within limit x y = if sum_fits limit x y then Some (sum_value x y) else None
+
 unfoldable pub add_of : ℕ → Fraction → Fraction → Result Fraction Wide
 add_of limit x y = if sum_fits limit x y then Ok (sum_value x y) else Err (misfit Add x y)
 
@@ -63,6 +66,9 @@ product_value x y = over (product_above x y) (product_below x y)
 unfoldable pub product_fits : ℕ → Fraction → Fraction → Bool
 product_fits limit x y = size_fits limit (product_above x y) && nat_le (product_below x y) limit
 
+abbrev pub product_within : ℕ → Fraction → Fraction → Option Fraction
+product_within limit x y = if product_fits limit x y then Some (product_value x y) else None
+
 unfoldable pub mul_of : ℕ → Fraction → Fraction → Result Fraction Wide
 mul_of limit x y = if product_fits limit x y then Ok (product_value x y) else Err (misfit Mul x y)
 
@@ -78,6 +84,9 @@ unfoldable pub div_of : ℕ → Fraction → Fraction → Result Fraction Wide
 div_of limit x y = if product_fits limit x (inverse y) then Ok (product_value x (inverse y)) else Err (misfit Div x y)
 
 -- ---- the number itself
+abbrev pub whole_within : ℕ → ℤ → Option Fraction
+whole_within limit v = if size_fits limit v then Some (whole v) else None
+
 unfoldable pub whole_of : ℕ → ℤ → Result Fraction Wide
 whole_of limit v = if size_fits limit v then Ok (whole v) else Err (misfit Whole (whole v) (whole (pos 0)))
 

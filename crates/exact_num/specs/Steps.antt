@@ -1,8 +1,8 @@
 -- Steps one after another, each of which may not fit.
-use Rattle.std.specs.Prelude.{ℕ, List, [], ◌∷◌, Bool, true, false, if◌then◌else◌, Result, Ok}
+use Rattle.std.specs.Prelude.{ℕ, List, [], ◌∷◌, Bool, true, false, if◌then◌else◌, Option, None, Result, Ok}
 use Rattle.exact_num.specs.declared.misfit.Wide.{Wide}
-use Rattle.exact_num.specs.Fraction.{Fraction}
-use Rattle.exact_num.specs.Fits.{add_of, sub_of, mul_of, after}
+use Rattle.exact_num.specs.Fraction.{Fraction, negated}
+use Rattle.exact_num.specs.Fits.{add_of, sub_of, mul_of, product_fits, product_value, sum_within, after}
 
 -- a step for each item of a list, in order
 abbrev pub fold_steps : {A T : Type 0} → (T → A → Result T Wide) → T → List A → Result T Wide
@@ -25,3 +25,7 @@ plus_product limit total a b = after (mul_of limit a b) (λ p. add_of limit tota
 -- the total less that product
 abbrev pub less_product : ℕ → Fraction → Fraction → Fraction → Result Fraction Wide
 less_product limit total a b = after (mul_of limit a b) (λ p. sub_of limit total p)
+
+-- the same, where both steps fit
+abbrev pub less_product_within : ℕ → Fraction → Fraction → Fraction → Option Fraction
+less_product_within limit total a b = if product_fits limit a b then sum_within limit total (negated (product_value a b)) else None

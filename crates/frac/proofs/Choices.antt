@@ -1,11 +1,10 @@
--- What a value behind a test says of the test, and an answer of both.
-use Rattle.std.proofs.Common.{◌≡◌, Bool, true, false, refl, sym, ap, ◌∙◌, ℕ, ◌≤◌, ℤ, unsigned_abs}
+-- What a value behind a test says of the test.
+use Rattle.std.proofs.Common.{◌≡◌, Bool, true, false, refl, sym, ◌∙◌, ℕ, ◌≤◌, ℤ, unsigned_abs}
 use Rattle.std.proofs.lemmas.Bool.{leb-true}
 use Rattle.exact_num.specs.Fraction.{Fraction, over}
 use Rattle.exact_num.specs.Fits.{size_fits}
 use Rattle.frac.specs.Range.{within}
-use Rattle.std.specs.Prelude.{Option, Some, None, Ok, Err, if◌then◌else◌}
-use Rattle.exact_num.specs.declared.misfit.Wide.{Wide}
+use Rattle.std.specs.Prelude.{Option, Some, None, if◌then◌else◌}
 
 pub chosen_none : {A : Type 0} (b : Bool) (v : A) (r : Option A) → r ≡ (if b then Some v else None) → r ≡ None → b ≡ false
 chosen_none true v r e n = cc
@@ -14,15 +13,6 @@ chosen_none false v r e n = refl
 pub chosen_some : {A : Type 0} (b : Bool) (v w : A) (r : Option A) → r ≡ (if b then Some v else None) → r ≡ Some w → (b ≡ true) × (w ≡ v)
 chosen_some true v w r e n = (refl, cc)
 chosen_some false v w r e n = cc
-
--- an answer with an error where the test fails
-pub some_answers : {A : Type 0} (b : Bool) (w v : A) (m : Wide) → Some w ≡ (if b then Some v else None) → Ok w ≡ (if b then Ok v else Err m)
-some_answers true w v m h = cc
-some_answers false w v m h = cc
-
-pub none_answers : {A : Type 0} (b : Bool) (v : A) (k m : Wide) → k ≡ m → None ≡ (if b then Some v else None) → Err k ≡ (if b then Ok v else Err m)
-none_answers true v k m e h = cc
-none_answers false v k m e h = ap Err e
 
 -- ---- a whole number within the limit, or none
 pub whole_stops : (limit : ℕ) (z : ℤ) (r : Option ℤ) (f : Option Fraction) → f ≡ (if size_fits limit z then Some (over z 1) else None) → r ≡ within limit z → r ≡ None → None ≡ f

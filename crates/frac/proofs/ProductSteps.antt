@@ -4,11 +4,12 @@ use Rattle.std.specs.Prelude.{Option, Some, None, unsigned_abs, nat_le, int_div,
 use Rattle.arithmetic.specs.Gcd.{gcd}
 use Rattle.exact_num.specs.declared.misfit.Operator.TheVariants.{Mul}
 use Rattle.exact_num.specs.Fraction.{Fraction, IsLowest, over}
-use Rattle.exact_num.specs.Fits.{size_fits, product_above, product_below, product_fits, product_value, mul_of, misfit, signed_by}
+use Rattle.exact_num.specs.Fits.{size_fits, product_above, product_below, product_fits, product_value, mul_of, misfit, signed_by, product_within}
 use Rattle.exact_num.specs.Laws.{IsWithin}
 use Rattle.exact_num.proofs.Exactness.{products_are_exact}
-use Rattle.frac.specs.Range.{within, within_natural, product_within}
-use Rattle.frac.proofs.Choices.{chosen_none, chosen_some, some_answers}
+use Rattle.frac.specs.Range.{within, within_natural}
+use Rattle.exact_num.proofs.Answered.{some_answers}
+use Rattle.frac.proofs.Choices.{chosen_none, chosen_some}
 use Rattle.std.proofs.lemmas.Bool.{leb-true}
 use Rattle.exact_num.proofs.WholeNumbers.{product_fits-wholes, product_value-wholes}
 

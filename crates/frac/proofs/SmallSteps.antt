@@ -1,6 +1,6 @@
 -- The steps of sums and products of small fractions.
 use Rattle.std.proofs.Common.{◌≡◌, ℕ, ◌*◌, ◌/◌, ◌<◌, ◌≤◌, ◌^◌, true, ℤ, pos, negsuc, ◌*ℤ◌, ◌+ℤ◌, ◌-ℤ◌, arith, refl, ap, to_z-of_z}
-use Rattle.std.specs.Prelude.{Some, Ok, unsigned_abs, int_div}
+use Rattle.std.specs.Prelude.{Some, unsigned_abs, int_div}
 use Rattle.std.proofs.lemmas.Bool.{le-leb}
 use Rattle.std.proofs.lemmas.Int.{ints, unsigned_abs-mul, fits_signed_from_abs, to_z_pos}
 use Rattle.std.proofs.Math.Nat.{div-le_self, mul-le-mul}
@@ -10,9 +10,9 @@ use Rattle.arithmetic.proofs.Integers.{unsigned_abs-neg}
 use Rattle.arithmetic.proofs.Quotients.{unsigned_abs-int_div}
 use Rattle.arithmetic.specs.Gcd.{gcd}
 use Rattle.exact_num.specs.Fraction.{Fraction, negated}
-use Rattle.exact_num.specs.Fits.{sum_divisor, sum_left, sum_right, sum_total, sum_common, sum_below, sum_fits, sum_value, add_of, product_above, product_below, product_fits, product_value, mul_of}
-use Rattle.exact_num.specs.Steps.{less_product}
-use Rattle.frac.specs.Range.{limit, IsSmall, sum_within, product_within}
+use Rattle.exact_num.specs.Fits.{sum_divisor, sum_left, sum_right, sum_total, sum_common, sum_below, sum_fits, sum_value, product_above, product_below, product_fits, product_value, sum_within, product_within}
+use Rattle.exact_num.specs.Steps.{less_product_within}
+use Rattle.frac.specs.Range.{limit, IsSmall}
 
 pub quotient_is_below : (k : ℕ) (n a : ℤ) (g : ℕ) → unsigned_abs n < k → a ≡ int_div n (pos g) → unsigned_abs a < k
 quotient_is_below k n a g small e = rw (e, unsigned_abs-int_div n g) (omega (arith, small, div-le_self (unsigned_abs n) g))
@@ -99,9 +99,8 @@ less_fits x y z p q r =
     let sizes = small_product_sizes y z q r in
     long_sums_fit x (negated (product_value y z)) p (rw (unsigned_abs-neg (product_above y z)) sizes.0) sizes.1
 
-pub small_less_answers : (x y z s : Fraction) → IsSmall x → IsSmall y → IsSmall z → s ≡ sum_value x (negated (product_value y z)) → Ok s ≡ less_product limit x y z
-unfolding mul_of add_of
-small_less_answers x y z s p q r e = rw (small_products_fit y z q r, less_fits x y z p q r) (ap Ok e)
+pub small_less_answers : (x y z s : Fraction) → IsSmall x → IsSmall y → IsSmall z → s ≡ sum_value x (negated (product_value y z)) → Some s ≡ less_product_within limit x y z
+small_less_answers x y z s p q r e = rw (small_products_fit y z q r, less_fits x y z p q r) (ap Some e)
 
 -- ---- the numbers that the code makes on the way
 -- a numerator of 31 bits stays what it is in 64

@@ -7,8 +7,8 @@ use Rattle.std.proofs.Math.Nat.{div-le_self, mul-le-mul}
 use Rattle.arithmetic.proofs.Quotients.{unsigned_abs-int_div}
 use Rattle.arithmetic.specs.Gcd.{gcd}
 use Rattle.exact_num.specs.Fraction.{Fraction, over}
-use Rattle.exact_num.specs.Fits.{sum_divisor, sum_left, sum_right, sum_total, sum_common, sum_below, sum_fits, sum_value, product_above, product_below, product_fits, product_value}
-use Rattle.frac.specs.Range.{limit, IsSmall, sum_within, product_within}
+use Rattle.exact_num.specs.Fits.{sum_divisor, sum_left, sum_right, sum_total, sum_common, sum_below, sum_fits, sum_value, product_above, product_below, product_fits, product_value, sum_within, product_within}
+use Rattle.frac.specs.Range.{limit, IsSmall}
 
 pub quotient_is_below : (k : ℕ) (n a : ℤ) (g : ℕ) → unsigned_abs n < k → a ≡ int_div n (pos g) → unsigned_abs a < k
 quotient_is_below k n a g small e = rw (e, unsigned_abs-int_div n g) (omega (arith, small, div-le_self (unsigned_abs n) g))

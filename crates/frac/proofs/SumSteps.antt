@@ -8,11 +8,12 @@ use Rattle.arithmetic.specs.Gcd.{gcd}
 use Rattle.arithmetic.proofs.Quotients.{unsigned_abs-int_div}
 use Rattle.exact_num.specs.declared.misfit.Operator.TheVariants.{Add}
 use Rattle.exact_num.specs.Fraction.{Fraction, IsLowest, over}
-use Rattle.exact_num.specs.Fits.{size_fits, sum_divisor, sum_left, sum_right, sum_total, sum_common, sum_below, sum_fits, sum_value, add_of, misfit}
+use Rattle.exact_num.specs.Fits.{size_fits, sum_divisor, sum_left, sum_right, sum_total, sum_common, sum_below, sum_fits, sum_value, add_of, misfit, sum_within}
 use Rattle.exact_num.specs.Laws.{IsWithin}
 use Rattle.exact_num.proofs.Exactness.{sums_are_exact}
-use Rattle.frac.specs.Range.{within, within_natural, total_within, sum_within}
-use Rattle.frac.proofs.Choices.{chosen_none, chosen_some, some_answers}
+use Rattle.frac.specs.Range.{within, within_natural, total_within}
+use Rattle.exact_num.proofs.Answered.{some_answers}
+use Rattle.frac.proofs.Choices.{chosen_none, chosen_some}
 use Rattle.arithmetic.proofs.GcdLaws.{gcd_self}
 use Rattle.std.proofs.Math.Bool.{and-true}
 

@@ -1,8 +1,8 @@
--- Numbers within a limit, as options, and the operations with fractions within it.
+-- Numbers within a limit, as options.
 use Rattle.std.specs.Prelude.{ℕ, ◌-◌, ◌<◌, ◌^◌, ◌&&◌, ℤ, Option, Some, None, nat_le, unsigned_abs, if◌then◌else◌}
 use Rattle.exact_num.specs.Fraction.{Fraction}
 pub use Rattle.exact_num.specs.Limit.{limit}
-use Rattle.exact_num.specs.Fits.{size_fits, sum_left, sum_right, sum_total, sum_fits, sum_value, product_fits, product_value}
+use Rattle.exact_num.specs.Fits.{size_fits, sum_left, sum_right, sum_total}
 
 -- the largest size of a number of 64 bits
 abbrev pub narrow_limit : ℕ
@@ -18,12 +18,6 @@ within_natural limit n = if nat_le n limit then Some n else None
 abbrev pub total_within : ℕ → Fraction → Fraction → Option ℤ
 total_within limit x y =
     if size_fits limit (sum_left x y) && size_fits limit (sum_right x y) && size_fits limit (sum_total x y) then Some (sum_total x y) else None
-
-abbrev pub sum_within : ℕ → Fraction → Fraction → Option Fraction
-sum_within limit x y = if sum_fits limit x y then Some (sum_value x y) else None
-
-abbrev pub product_within : ℕ → Fraction → Fraction → Option Fraction
-product_within limit x y = if product_fits limit x y then Some (product_value x y) else None
 
 -- both parts are of 31 bits
 abbrev pub IsSmall : Fraction → Type 0

@@ -6,7 +6,7 @@ ghost use Rattle.std.proofs.Common.{lit≤};
 ghost use Rattle.exact_num.specs.Fraction.{over, IsLowest};
 ghost use Rattle.exact_num.proofs.Order.{values_in_order, values_equal, values_partly_equal, values_partly_ordered};
 ghost use Rattle.arithmetic.proofs.Integers.{le_pred, le_pos};
-ghost use Rattle.frac.specs.Range.{limit, sum_within, product_within};
+ghost use Rattle.frac.specs.Range.{limit};
 
 mod order;
 
@@ -14,7 +14,8 @@ use crate::products::{product, reciprocal};
 use crate::sizes::is_in_range;
 use crate::small::{is_small, small_less_product, small_product, small_sum};
 use crate::sums::sum;
-use exact_num::{Exact, Operator, Wide};
+use crate::wholes::whole;
+use exact_num::Exact;
 use order::order;
 use std::cmp::Ordering;
 
@@ -79,25 +80,11 @@ impl PartialOrd for Frac128 {
 }
 
 impl Frac128 {
-    ghost use Rattle.exact_num.specs.Fits.{meaning, misfit as misfit_of};
-    ghost use Rattle.exact_num.specs.Steps.{less_product};
+    ghost use Rattle.exact_num.specs.Fits.{sum_within, product_within};
+    ghost use Rattle.exact_num.specs.Steps.{less_product_within};
     ghost use Rattle.frac.specs.Value.{fraction_of};
 
-    // The sum in lowest terms, where each of its quantities is in range. That of small fractions is
-    // put together where the caller is compiled.
-    #[inline(always)]
-    fn sum(self, other: Frac128) -> Option<Frac128>
-        ensures { option_map fraction_of result
-            ≡ sum_within limit (fraction_of self) (fraction_of other) }
-    {
-        if is_small(self) && is_small(other) {
-            Some(small_sum(self, other))
-        } else {
-            self.long_sum(other)
-        }
-    }
-
-    // The same of any fractions. It is a call with a short answer, without room for a misfit.
+    // The sum of any fractions. It is a call with a short answer, without room for a misfit.
     #[inline(never)]
     fn long_sum(self, other: Frac128) -> Option<Frac128>
         ensures { option_map fraction_of result
@@ -106,20 +93,7 @@ impl Frac128 {
         sum(self, other, LARGEST)
     }
 
-    // The product in lowest terms, where each of its quantities is in range.
-    #[inline(always)]
-    fn product(self, other: Frac128) -> Option<Frac128>
-        ensures { option_map fraction_of result
-            ≡ product_within limit (fraction_of self) (fraction_of other) }
-    {
-        if is_small(self) && is_small(other) {
-            Some(small_product(self, other))
-        } else {
-            self.long_product(other)
-        }
-    }
-
-    // The same of any fractions.
+    // The product of any fractions.
     #[inline(never)]
     fn long_product(self, other: Frac128) -> Option<Frac128>
         ensures { option_map fraction_of result
@@ -128,27 +102,14 @@ impl Frac128 {
         product(self, other, LARGEST)
     }
 
-    // The number less the product of any fractions.
+    // The number less the product of any fractions, none of which is tried as a small one.
     #[inline(never)]
-    fn long_less_product(self, a: Frac128, b: Frac128) -> Result<Frac128, Wide>
-        ensures { meaning fraction_of result
-            ≡ less_product limit (fraction_of self) (fraction_of a) (fraction_of b) }
+    fn long_less_product(self, a: Frac128, b: Frac128) -> Option<Frac128>
+        ensures { option_map fraction_of result
+            ≡ less_product_within limit (fraction_of self) (fraction_of a) (fraction_of b) }
     {
-        let product = a.mul(b)?;
-        self.sub(product)
-    }
-
-    /// The operation that does not fit, with its operands.
-    #[cold]
-    #[inline(never)]
-    fn misfit(self, operator: Operator, other: Frac128) -> Wide
-        ensures { result ≡ misfit_of operator (fraction_of self) (fraction_of other) }
-    {
-        Wide {
-            operator,
-            left: self.parts(),
-            right: other.parts(),
-        }
+        let product = a.long_product(b)?;
+        self.long_sum(product.neg())
     }
 
     /// The same value in 128 bits. Takes no memory.
@@ -175,72 +136,56 @@ impl Exact for Frac128 {
     const LIMIT: i128 = i128::MAX;
 
     fn zero() -> Self {
-        Frac128 {
-            numerator: 0,
-            denominator: 1,
-        }
+        whole(0)
     }
 
     fn one() -> Self {
-        Frac128 {
-            numerator: 1,
-            denominator: 1,
-        }
+        whole(1)
     }
 
-    fn from_whole(v: i128) -> Result<Self, Wide> {
-        if !is_in_range(v, LARGEST) {
-            return Err(Wide {
-                operator: Operator::Whole,
-                left: (v, 1),
-                right: (0, 1),
-            });
+    fn whole_within(v: i128) -> Option<Self> {
+        if is_in_range(v, LARGEST) {
+            Some(whole(v))
+        } else {
+            None
         }
-        Ok(Frac128 {
-            numerator: v,
-            denominator: 1,
-        })
     }
 
     fn parts(self) -> (i128, i128) {
         (self.numerator, self.denominator as i128)
     }
 
+    // Sums, products and differences of small fractions are put together where the caller is
+    // compiled.
     #[inline(always)]
-    fn add(self, other: Self) -> Result<Self, Wide> {
-        match self.sum(other) {
-            Some(value) => Ok(value),
-            None => Err(self.misfit(Operator::Add, other)),
+    fn sum_within(self, other: Self) -> Option<Self> {
+        if is_small(self) && is_small(other) {
+            Some(small_sum(self, other))
+        } else {
+            self.long_sum(other)
         }
     }
 
     #[inline(always)]
-    fn sub(self, other: Self) -> Result<Self, Wide> {
-        self.add(other.neg())
-    }
-
-    #[inline(always)]
-    fn mul(self, other: Self) -> Result<Self, Wide> {
-        match self.product(other) {
-            Some(value) => Ok(value),
-            None => Err(self.misfit(Operator::Mul, other)),
+    fn product_within(self, other: Self) -> Option<Self> {
+        if is_small(self) && is_small(other) {
+            Some(small_product(self, other))
+        } else {
+            self.long_product(other)
         }
     }
 
     #[inline(always)]
-    fn less_product(self, a: Self, b: Self) -> Result<Self, Wide> {
+    fn quotient_within(self, other: Self) -> Option<Self> {
+        self.product_within(reciprocal(other))
+    }
+
+    #[inline(always)]
+    fn less_product_within(self, a: Self, b: Self) -> Option<Self> {
         if is_small(self) && is_small(a) && is_small(b) {
-            Ok(small_less_product(self, a, b))
+            Some(small_less_product(self, a, b))
         } else {
             self.long_less_product(a, b)
-        }
-    }
-
-    #[inline(always)]
-    fn div(self, other: Self) -> Result<Self, Wide> {
-        match self.product(reciprocal(other)) {
-            Some(value) => Ok(value),
-            None => Err(self.misfit(Operator::Div, other)),
         }
     }
 

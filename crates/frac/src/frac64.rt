@@ -1,21 +1,20 @@
 //! Fractions whose numerator and denominator are at most 2^63 - 1 in size.
 //!
 //! Sums and products are those of 128 bits with this limit, compiled anew for operands of 64 bits.
-ghost use Rattle.std.specs.Prelude.{◌≡◌, ◌≢◌, pos, ◌*ℤ◌, refl};
-ghost use Rattle.std.specs.Option.{option_map};
+ghost use Rattle.std.specs.Prelude.{◌≡◌, ◌≤◌, pos, ◌*ℤ◌, unsigned_abs, refl};
 ghost use Rattle.std.specs.Ordering.{is_eq, as_partial_cmp};
 ghost use Rattle.std.proofs.Common.{lit≤};
-ghost use Rattle.exact_num.specs.Fraction.{over, IsLowest};
+ghost use Rattle.exact_num.specs.Fraction.{over, whole as whole_of, IsLowest};
 ghost use Rattle.exact_num.specs.Laws.{IsWithin};
 ghost use Rattle.exact_num.proofs.Order.{values_in_order, values_equal, values_partly_equal, values_partly_ordered};
 ghost use Rattle.arithmetic.proofs.Integers.{le_pos};
-ghost use Rattle.frac.specs.Range.{narrow_limit, sum_within, product_within};
+ghost use Rattle.frac.specs.Range.{narrow_limit};
 
 use crate::products::{product, reciprocal};
 use crate::sizes::is_in_range;
 use crate::sums::sum;
 use crate::widths::{narrow, widen};
-use exact_num::{Exact, Operator, Wide};
+use exact_num::Exact;
 use std::cmp::Ordering;
 
 // The limit, as a size.
@@ -80,7 +79,6 @@ impl PartialOrd for Frac64 {
 }
 
 impl Frac64 {
-    ghost use Rattle.exact_num.specs.Fits.{misfit as misfit_of, inverse};
     ghost use Rattle.frac.specs.Narrow.{narrow_fraction};
 
     // The numerator times the denominator of `other`, which fits 128 bits.
@@ -90,48 +88,14 @@ impl Frac64 {
         self.numerator as i128 * other.denominator as i128
     }
 
-    // The sum in lowest terms, where each of its quantities is in range. It is a call with a short
-    // answer: the long one, with room for a misfit, is put together where the caller is compiled.
-    #[inline(never)]
-    fn sum(self, other: Frac64) -> Option<Frac64>
-        ensures { option_map narrow_fraction result
-            ≡ sum_within narrow_limit (narrow_fraction self) (narrow_fraction other) }
+    // The whole number `v`.
+    fn whole(v: i64) -> Frac64
+        requires { unsigned_abs v ≤ narrow_limit }
+        ensures { narrow_fraction result ≡ whole_of v }
     {
-        let value = sum(widen(self), widen(other), LARGEST)?;
-        Some(narrow(value))
-    }
-
-    // The product in lowest terms, where each of its quantities is in range.
-    #[inline(never)]
-    fn product(self, other: Frac64) -> Option<Frac64>
-        ensures { option_map narrow_fraction result
-            ≡ product_within narrow_limit (narrow_fraction self) (narrow_fraction other) }
-    {
-        let value = product(widen(self), widen(other), LARGEST)?;
-        Some(narrow(value))
-    }
-
-    // The quotient in lowest terms, where each of its quantities is in range.
-    #[inline(never)]
-    fn quotient(self, other: Frac64) -> Option<Frac64>
-        requires { other.numerator ≢ pos 0 }
-        ensures { option_map narrow_fraction result ≡ product_within narrow_limit
-            (narrow_fraction self) (inverse (narrow_fraction other)) }
-    {
-        let value = product(widen(self), reciprocal(widen(other)), LARGEST)?;
-        Some(narrow(value))
-    }
-
-    // The operation that does not fit, with its operands.
-    #[cold]
-    #[inline(never)]
-    fn misfit(self, operator: Operator, other: Frac64) -> Wide
-        ensures { result ≡ misfit_of operator (narrow_fraction self) (narrow_fraction other) }
-    {
-        Wide {
-            operator,
-            left: self.parts(),
-            right: other.parts(),
+        Frac64 {
+            numerator: v,
+            denominator: 1,
         }
     }
 }
@@ -146,64 +110,43 @@ impl Exact for Frac64 {
     const LIMIT: i128 = i64::MAX as i128;
 
     fn zero() -> Self {
-        Frac64 {
-            numerator: 0,
-            denominator: 1,
-        }
+        Frac64::whole(0)
     }
 
     fn one() -> Self {
-        Frac64 {
-            numerator: 1,
-            denominator: 1,
-        }
+        Frac64::whole(1)
     }
 
-    fn from_whole(v: i128) -> Result<Self, Wide> {
-        if !is_in_range(v, LARGEST) {
-            return Err(Wide {
-                operator: Operator::Whole,
-                left: (v, 1),
-                right: (0, 1),
-            });
+    fn whole_within(v: i128) -> Option<Self> {
+        if is_in_range(v, LARGEST) {
+            Some(Frac64::whole(v as i64))
+        } else {
+            None
         }
-        Ok(Frac64 {
-            numerator: v as i64,
-            denominator: 1,
-        })
     }
 
     fn parts(self) -> (i128, i128) {
         (self.numerator as i128, self.denominator as i128)
     }
 
-    #[inline(always)]
-    fn add(self, other: Self) -> Result<Self, Wide> {
-        match self.sum(other) {
-            Some(value) => Ok(value),
-            None => Err(self.misfit(Operator::Add, other)),
-        }
+    // A call with a short answer: the long one, with room for a misfit, is put together where the
+    // caller is compiled.
+    #[inline(never)]
+    fn sum_within(self, other: Self) -> Option<Self> {
+        let value = sum(widen(self), widen(other), LARGEST)?;
+        Some(narrow(value))
     }
 
-    #[inline(always)]
-    fn sub(self, other: Self) -> Result<Self, Wide> {
-        self.add(other.neg())
+    #[inline(never)]
+    fn product_within(self, other: Self) -> Option<Self> {
+        let value = product(widen(self), widen(other), LARGEST)?;
+        Some(narrow(value))
     }
 
-    #[inline(always)]
-    fn mul(self, other: Self) -> Result<Self, Wide> {
-        match self.product(other) {
-            Some(value) => Ok(value),
-            None => Err(self.misfit(Operator::Mul, other)),
-        }
-    }
-
-    #[inline(always)]
-    fn div(self, other: Self) -> Result<Self, Wide> {
-        match self.quotient(other) {
-            Some(value) => Ok(value),
-            None => Err(self.misfit(Operator::Div, other)),
-        }
+    #[inline(never)]
+    fn quotient_within(self, other: Self) -> Option<Self> {
+        let value = product(widen(self), reciprocal(widen(other)), LARGEST)?;
+        Some(narrow(value))
     }
 
     fn neg(self) -> Self {

@@ -1,8 +1,7 @@
 //! Products of fractions within a limit, for both widths, and inverses.
 ghost use Rattle.std.specs.Prelude.{◌≡◌, ◌≢◌, ◌<◌, ◌^◌, ◌*◌, ◌&&◌, pos, ◌*ℤ◌, nat_lt, unsigned_abs};
 ghost use Rattle.std.specs.Option.{option_map};
-ghost use Rattle.exact_num.specs.Fits.{product_above, product_below, inverse};
-ghost use Rattle.frac.specs.Range.{product_within};
+ghost use Rattle.exact_num.specs.Fits.{product_above, product_below, inverse, product_within};
 ghost use Rattle.frac.specs.Value.{fraction_of};
 
 use crate::frac128::Frac128;

@@ -1,9 +1,9 @@
 //! Sums of fractions within a limit, for both widths.
 ghost use Rattle.std.specs.Prelude.{◌≡◌, ◌<◌, ◌/◌, ◌^◌, pos, ◌*ℤ◌};
 ghost use Rattle.std.specs.Option.{option_map};
-ghost use Rattle.exact_num.specs.Fits.{sum_divisor};
+ghost use Rattle.exact_num.specs.Fits.{sum_divisor, sum_within};
 ghost use Rattle.exact_num.specs.Laws.{IsWithin};
-ghost use Rattle.frac.specs.Range.{within, total_within, sum_within};
+ghost use Rattle.frac.specs.Range.{within, total_within};
 ghost use Rattle.frac.specs.Value.{fraction_of};
 
 use crate::frac128::Frac128;
