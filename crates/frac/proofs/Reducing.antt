@@ -35,10 +35,6 @@ pub product_reduced : (x y : Fraction) → IsLowest x → IsLowest y → reduced
 product_reduced x y p q =
     reduced_is (x.numerator *ℤ y.numerator) (x.denominator * y.denominator) (product_value x y) (mul-pos p.positive q.positive) (product_is_lowest x y p q) (sym (product_is x y))
 
-pub sum_reduced : (x y : Fraction) → IsLowest x → IsLowest y → reduced (x.numerator *ℤ pos y.denominator +ℤ y.numerator *ℤ pos x.denominator) (x.denominator * y.denominator) ≡ sum_value x y
-sum_reduced x y p q =
-    reduced_is (x.numerator *ℤ pos y.denominator +ℤ y.numerator *ℤ pos x.denominator) (x.denominator * y.denominator) (sum_value x y) (mul-pos p.positive q.positive) (sum_is_lowest x y p q) (sym (sum_is x y))
-
 -- ---- a number less a product
 -- t / (d * b) is x / d less a / b, and so is s / e, where u / v is a / b
 less_cross : (x a u s t : ℤ) (d b v e : ℕ) → 0 < v → t +ℤ a *ℤ pos d ≡ x *ℤ pos b → u *ℤ pos b ≡ a *ℤ pos v → s *ℤ pos (d * v) ≡ (x *ℤ pos v +ℤ neg_ℤ u *ℤ pos d) *ℤ pos e

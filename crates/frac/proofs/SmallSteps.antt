@@ -9,7 +9,7 @@ use mir.Syntax.{w64, w128}
 use Rattle.arithmetic.proofs.Integers.{unsigned_abs-neg}
 use Rattle.arithmetic.proofs.Quotients.{unsigned_abs-int_div}
 use Rattle.arithmetic.specs.Gcd.{gcd}
-use Rattle.exact_num.specs.Fraction.{Fraction, negated}
+use Rattle.exact_num.specs.Fraction.{Fraction, over, negated}
 use Rattle.exact_num.specs.Fits.{sum_divisor, sum_left, sum_right, sum_total, sum_common, sum_below, sum_fits, sum_value, product_above, product_below, product_fits, product_value, sum_within, product_within}
 use Rattle.exact_num.specs.Steps.{less_product_within}
 use Rattle.frac.specs.Range.{limit, IsSmall}
@@ -26,13 +26,13 @@ short_is_below (negsuc n) h =
     let below : n < 2 ^ 63 = h.sfits in
     omega (arith, below)
 
-product_is_short : (a b : ℤ) → unsigned_abs a < 2 ^ 31 → unsigned_abs b < 2 ^ 31 → unsigned_abs (a *ℤ b) < 2 ^ 62
+pub product_is_short : (a b : ℤ) → unsigned_abs a < 2 ^ 31 → unsigned_abs b < 2 ^ 31 → unsigned_abs (a *ℤ b) < 2 ^ 62
 product_is_short a b p q =
     let first : unsigned_abs a ≤ 2147483647 = omega (arith, p) in
     let second : unsigned_abs b ≤ 2147483647 = omega (arith, q) in
     rw (unsigned_abs-mul a b) (omega (arith, mul-le-mul first second))
 
-natural_is_short : (a b m n : ℕ) → a ≤ m → b ≤ n → m < 2 ^ 31 → n < 2 ^ 31 → a * b < 2 ^ 62
+pub natural_is_short : (a b m n : ℕ) → a ≤ m → b ≤ n → m < 2 ^ 31 → n < 2 ^ 31 → a * b < 2 ^ 62
 natural_is_short a b m n p q left right =
     let first : a ≤ 2147483647 = omega (arith, p, left) in
     let second : b ≤ 2147483647 = omega (arith, q, right) in
@@ -139,15 +139,13 @@ pub record SumFits (m n : ℤ) (b d : ℕ) : Type 0 where
   pub left : SFits w64 (m *ℤ pos d)
   pub right : SFits w64 (n *ℤ pos b)
   pub total : SFits w64 (m *ℤ pos d +ℤ n *ℤ pos b)
+  pub size : unsigned_abs (m *ℤ pos d +ℤ n *ℤ pos b) < 2 ^ 63
 
-pub sums_fit : (x y : Fraction) → IsSmall x → IsSmall y → SumFits x.numerator y.numerator x.denominator y.denominator
-sums_fit x y p q =
-    let m = x.numerator in
-    let n = y.numerator in
-    let b = x.denominator in
-    let d = y.denominator in
+pub sums_fit : (m n : ℤ) (b d : ℕ) → IsSmall (over m b) → IsSmall (over n d) → SumFits m n b d
+sums_fit m n b d p q =
     let left = product_is_short m (pos d) p.0 q.1 in
     let right = product_is_short n (pos b) q.0 p.1 in
+    let total : unsigned_abs (m *ℤ pos d +ℤ n *ℤ pos b) < 2 ^ 63 = omega (arith, ints, left, right) in
     record {
       left_above = in_short m p.0;
       right_above = in_short n q.0;
@@ -155,7 +153,8 @@ sums_fit x y p q =
       right_below = to_z_pos w64 d (omega (arith, q.1));
       left = fits_signed_from_abs w64 (m *ℤ pos d) (omega (arith, left));
       right = fits_signed_from_abs w64 (n *ℤ pos b) (omega (arith, right));
-      total = fits_signed_from_abs w64 (m *ℤ pos d +ℤ n *ℤ pos b) (omega (arith, ints, left, right));
+      total = fits_signed_from_abs w64 (m *ℤ pos d +ℤ n *ℤ pos b) (omega (arith, total));
+      size = total;
     }
 
 -- of m / d less a / b, where a is the product of m' and n'
