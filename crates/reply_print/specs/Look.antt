@@ -1,6 +1,5 @@
 -- Looking into the value of a line.
 use Rattle.std.specs.Prelude.{◌≡◌, ℕ, List, [], Bool, true, false, ◌&&◌, ◌==◌, nat_le, option_map, option_and_then, unwrap_or, is_some}
-use Rattle.std.specs.Fn.{Shared, FnReturnsAt}
 use Rattle.std.specs.Str.{bytes_eq}
 use Rattle.serde_json.specs.Data.{Data, Items, no_items, item}
 use Rattle.serde_json.specs.Events.{items_len, members_len}
@@ -9,9 +8,9 @@ use Rattle.serde_json.specs.declared.value.Value.{Value}
 use denote.Ref.{Bor}
 use Rattle.serde_json.specs.Find.{get, as_number, as_u64, as_integer, as_str, as_array, as_object}
 
--- a test of values, as the code makes it, is the one of this definition
-abbrev pub Decides : {F : Type 0} → Shared F (Bor Value × Unit {0}) Bool → F → (Data → Bool) → Type 0
-Decides calls f test = (value : Value) (answer : Bool) → FnReturnsAt calls f value answer → answer ≡ test (view value)
+-- what a test of values answers is what the one of this definition does
+abbrev pub Decides : (Bor Value → Bool → Type 0) → (Data → Bool) → Type 0
+Decides answers test = (value : Bor Value) (answer : Bool) → answers value answer → answer ≡ test (view value.now)
 
 -- an object with this many members
 abbrev pub has_members : ℕ → Data → Bool

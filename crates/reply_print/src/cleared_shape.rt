@@ -1,5 +1,5 @@
 //! The shape of a cleared line.
-ghost use Rattle.std.specs.Prelude.{◌≡◌, ◌&&◌, codes};
+ghost use Rattle.std.specs.Prelude.{◌≡◌, ◌&&◌, codes, false, true};
 ghost use Rattle.serde_json.specs.View.{view};
 ghost use Rattle.reply_print.specs.ClearedShape.{is_form as form_is, leg_shape as leg_is, are_legs as legs_are, is_state as state_is, bundle_shape as bundle_is, is_side as side_is, order_shape as order_is, point_shape as point_is, multiplier_shape as multiplier_is, node_shape as node_is, cover_shape as cover_is, certificate_shape as certificate_is, is_operator as operator_is, wide_shape as wide_is, mark_shape as mark_is, orders_shape as orders_are, cleared_shape as cleared_is};
 ghost use Rattle.reply_print.specs.Look.{has_at as passes_at, is_list as list_passes, is_whole as whole_number, is_text as text_value};
@@ -65,11 +65,27 @@ fn order_shape(value: &Value, single: bool) -> bool
         && has_at(value, "side", is_side)
 }
 
+fn is_single_order(value: &Value) -> bool
+    ensures { result ≡ order_is true (view value.now) }
+{
+    order_shape(value, true)
+}
+
+fn is_bundle_order(value: &Value) -> bool
+    ensures { result ≡ order_is false (view value.now) }
+{
+    order_shape(value, false)
+}
+
 /// Whether the value is a list of orders: with a form where `single`, and else with legs.
 pub fn are_orders(value: &Value, single: bool) -> bool
     ensures { result ≡ list_passes (order_is single) (view value.now) }
 {
-    is_list(value, |order| order_shape(order, single))
+    if single {
+        is_list(value, is_single_order)
+    } else {
+        is_list(value, is_bundle_order)
+    }
 }
 
 /// Whether the value is a list of texts.
@@ -171,7 +187,8 @@ fn orders_shape(value: &Value, version: u64) -> bool
     ensures { result ≡ orders_are version (view value.now) }
 {
     let single = version == 1;
-    (single || version == 2) && has_at(value, "orders", |orders| are_orders(orders, single))
+    (single || version == 2)
+        && matches!(value.get("orders"), Some(orders) if are_orders(orders, single))
 }
 
 fn amounts_shape(value: &Value) -> bool

@@ -20,9 +20,9 @@ pub fn has_members(value: &Value, count: usize) -> bool
 }
 
 /// Whether the key is there, and its value passes a test.
-pub fn has_at<F: Fn(&Value) -> bool>(value: &Value, key: &str, passes: F) -> bool
-    requires { F.IsAlwaysCallable passes }
-    ensures { (test : Data → Bool) → Decides F.Fn passes test
+pub fn has_at(value: &Value, key: &str, passes: fn(&Value) -> bool) -> bool
+    requires { IsAlwaysCallable passes }
+    ensures { (test : Data → Bool) → Decides (post passes) test
         → result ≡ passes_at key.now test (view value.now) }
 {
     match value.get(key) {
@@ -31,18 +31,18 @@ pub fn has_at<F: Fn(&Value) -> bool>(value: &Value, key: &str, passes: F) -> boo
     }
 }
 
-fn all_pass<F: Fn(&Value) -> bool>(items: &[Value], passes: F) -> bool
-    requires { F.IsAlwaysCallable passes }
-    ensures { (test : Data → Bool) → Decides F.Fn passes test
+fn all_pass(items: &[Value], passes: fn(&Value) -> bool) -> bool
+    requires { IsAlwaysCallable passes }
+    ensures { (test : Data → Bool) → Decides (post passes) test
         → result ≡ list_all (λ item. test (view item)) items.now }
 {
     items.iter().all(passes)
 }
 
 /// Whether the value is a list whose items pass a test.
-pub fn is_list<F: Fn(&Value) -> bool>(value: &Value, passes: F) -> bool
-    requires { F.IsAlwaysCallable passes }
-    ensures { (test : Data → Bool) → Decides F.Fn passes test
+pub fn is_list(value: &Value, passes: fn(&Value) -> bool) -> bool
+    requires { IsAlwaysCallable passes }
+    ensures { (test : Data → Bool) → Decides (post passes) test
         → result ≡ list_passes test (view value.now) }
 {
     match value.as_array() {
@@ -66,11 +66,9 @@ fn has_length(value: &Value, low: usize, high: usize) -> bool
 }
 
 /// The same, with `low` to `high` items.
-pub fn is_list_of<F>(value: &Value, low: usize, high: usize, passes: F) -> bool
-where
-    F: Fn(&Value) -> bool,
-    requires { F.IsAlwaysCallable passes }
-    ensures { (test : Data → Bool) → Decides F.Fn passes test
+pub fn is_list_of(value: &Value, low: usize, high: usize, passes: fn(&Value) -> bool) -> bool
+    requires { IsAlwaysCallable passes }
+    ensures { (test : Data → Bool) → Decides (post passes) test
         → result ≡ list_passes_of low high test (view value.now) }
 {
     is_list(value, passes) && has_length(value, low, high)
@@ -121,7 +119,7 @@ pub fn is_word(value: &Value, word: &str) -> bool
 pub fn has_word(value: &Value, key: &str, word: &str) -> bool
     ensures { result ≡ passes_at key.now (word_is word.now) (view value.now) }
 {
-    has_at(value, key, |found| is_word(found, word))
+    matches!(value.get(key), Some(found) if is_word(found, word))
 }
 
 /// The text at a key, empty where there is none.
