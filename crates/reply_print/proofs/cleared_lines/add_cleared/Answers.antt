@@ -1,8 +1,7 @@
-use Rattle.std.proofs.Common.{codes, ◌∙◌}
+use Rattle.std.proofs.Common.{◌∙◌}
 use Rattle.std.proofs.lemmas.Result.{on_ok_weaker}
 use Rattle.reply_print.specs.BatchPieces.{are_single}
 use Rattle.reply_print.specs.OutcomePieces.{certificate_field}
-use Rattle.reply_print.specs.Piece.{no_fields}
 use Rattle.reply_print.specs.ReplyPieces.{cleared_middle, cleared_piece}
 use Rattle.reply_print.proofs.Behind.{closed, fields_of}
 use Rattle.reply_print.proofs.cleared_lines.add_cleared.Goals as goal

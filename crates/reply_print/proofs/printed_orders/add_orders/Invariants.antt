@@ -1,4 +1,4 @@
-use Rattle.std.proofs.Common.{◌≡◌, List, [], ◌∷◌, ◌++◌, false, drop}
+use Rattle.std.proofs.Common.{◌≡◌, [], ◌∷◌, ◌++◌, false, drop}
 use Rattle.reply_print.specs.BatchPieces.{order_piece, pieces_of}
 use Rattle.reply_print.specs.Piece.{pieces_text}
 use Rattle.reply_print.proofs.printed_orders.add_orders.Given as goal

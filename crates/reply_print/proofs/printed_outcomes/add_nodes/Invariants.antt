@@ -1,4 +1,4 @@
-use Rattle.std.proofs.Common.{◌≡◌, List, [], ◌∷◌, ◌++◌, false, drop}
+use Rattle.std.proofs.Common.{◌≡◌, [], ◌∷◌, ◌++◌, false, drop}
 use Rattle.reply_print.specs.OutcomePieces.{node_pieces}
 use Rattle.reply_print.specs.Piece.{pieces_text}
 use Rattle.reply_print.proofs.printed_outcomes.add_nodes.Given as goal
