@@ -100,6 +100,12 @@ abbrev pub is_field : ℕ → Bool → Bool
 is_field place true = is_from_to MIN_FIELD MAX_FIELD place
 is_field place false = place == 0
 
+abbrev pub is_cleared : ℕ → ℕ → Batch → Outcome → Bool
+is_cleared number market batch outcome = is_from_to 1 MAX_BATCH number && (is_from_to 1 MAX_MARKET market && (is_batch batch && is_outcome outcome))
+
+abbrev pub is_balance : ℕ → ℤ → ℤ → Bool
+is_balance account balance reserved = nat_le account MAX_ACCOUNT && (is_small balance && (is_small reserved && int_le (pos 0) reserved))
+
 abbrev pub is_reply : Reply → Bool
 is_reply (Opened account) = is_from_to 1 MAX_ACCOUNT account
 is_reply (Deposited account balance) = is_from_to 1 MAX_ACCOUNT account && is_small balance
@@ -107,7 +113,7 @@ is_reply (Withdrawn account balance) = is_from_to 1 MAX_ACCOUNT account && is_sm
 is_reply (Listed market underlyings) = is_from_to 1 MAX_MARKET market && is_from_to 1 MAX_UNDERLYINGS underlyings
 is_reply (Placed order) = is_from_to 1 MAX_ORDER order
 is_reply (Cancelled order) = is_from_to 1 MAX_ORDER order
-is_reply (Cleared number market batch outcome) = is_from_to 1 MAX_BATCH number && (is_from_to 1 MAX_MARKET market && (is_batch batch && is_outcome outcome))
+is_reply (Cleared number market batch outcome) = is_cleared number market batch outcome
 is_reply (Settled market lapsed payouts) = is_from_to 1 MAX_MARKET market && (nat_le lapsed MAX_LAPSED && list_all is_paid payouts)
-is_reply (Balance account balance reserved) = nat_le account MAX_ACCOUNT && (is_small balance && (is_small reserved && int_le (pos 0) reserved))
+is_reply (Balance account balance reserved) = is_balance account balance reserved
 is_reply (Refused number place) = is_from_to 1 MAX_REFUSAL number && is_field place (is_range_refusal number)

@@ -287,6 +287,21 @@ fn is_field(field: u8, is_range: bool) -> bool
     }
 }
 
+fn is_cleared(number: u32, market: u32, batch: &Batch, outcome: &Outcome) -> bool
+    ensures { result ≡ tests.is_cleared number market batch.now outcome.now }
+{
+    is_from_to(1, MAX_BATCH, u64::from(number))
+        && is_market(market)
+        && is_batch(batch)
+        && is_outcome(outcome)
+}
+
+fn is_balance(account: u32, balance: i128, reserved: i128) -> bool
+    ensures { result ≡ tests.is_balance account balance reserved }
+{
+    u64::from(account) <= MAX_ACCOUNT && is_small(balance) && is_small(reserved) && 0 <= reserved
+}
+
 fn is_reply(reply: &Reply) -> bool
     ensures { result ≡ tests.is_reply reply.now }
 {
@@ -307,12 +322,7 @@ fn is_reply(reply: &Reply) -> bool
             market,
             batch,
             outcome,
-        } => {
-            is_from_to(1, MAX_BATCH, u64::from(*number))
-                && is_market(*market)
-                && is_batch(batch)
-                && is_outcome(outcome)
-        }
+        } => is_cleared(*number, *market, batch, outcome),
         Reply::Settled {
             market,
             lapsed,
@@ -324,12 +334,7 @@ fn is_reply(reply: &Reply) -> bool
             account,
             balance,
             reserved,
-        } => {
-            u64::from(*account) <= MAX_ACCOUNT
-                && is_small(*balance)
-                && is_small(*reserved)
-                && 0 <= *reserved
-        }
+        } => is_balance(*account, *balance, *reserved),
         Reply::Refused { number, field } => {
             is_from_to(1, MAX_REFUSAL, u64::from(*number)) && is_field(*field, *number == 8)
         }
