@@ -8,7 +8,7 @@ use Rattle.equal_runs.specs.Lines.{Line, AreSizes, IsLine, line_size, number_at}
 use Rattle.equal_runs.specs.WholeTurning.{cut}
 use Rattle.equal_runs.proofs.LineSteps.{cut_within, sizes_bound}
 use Rattle.whole_solver.specs.Rows.{IsPivot, column_in, line_in, nonzero_in, pivot_line, row_at}
-use Rattle.whole_solver.specs.Stored.{AreStored, HasSigns, IsKnown, IsWrittenAt, is_wide_at, rows_in}
+use Rattle.whole_solver.specs.Stored.{AreStored, HasSigns, IsKnown, IsPlacedAt, is_wide_at, rows_in}
 use Rattle.whole_solver.specs.declared.rows.Rows.{Rows}
 use Rattle.whole_solver.proofs.Choosing.{in_line}
 use Rattle.whole_solver.proofs.Standing.{row_standing_short, row_standing_wide, rows_many}
@@ -28,29 +28,20 @@ line_by_signs w xs ys h long wide = nonzero_by_signs (line_in w xs).numbers (lin
         let high : w ≤ j = leb-true _ _ e in
         ap int_signum (get_or_past (line_in w xs).numbers j (pos 0) (omega (arith, high, long)) ∙ sym (get_or_past (line_in w ys).numbers j (pos 0) (omega (arith, high, wide))))
 
--- row r is the pivot row then, over a, and none of its numbers is above `most`
-pub record IsPlacedAt (limit w c r a most : ℕ) (old new : Rows) : Type 0 where
-  pub column : c < w
-  pub pivot : IsPivot w c r (rows_in old)
-  pub stored : AreStored limit w old
-  pub line : line_in w (row_at (rows_in new) r) ≡ pivot_line c a (cut (line_in w (row_at (rows_in old) r)))
-  pub denominator : a ≡ unsigned_abs (number_at (cut (line_in w (row_at (rows_in old) r))).numbers c)
-  pub size : line_size (line_in w (row_at (rows_in new) r)) ≤ most
-  pub short : is_wide_at new r ≡ false → most < 2 ^ 64
-  pub written : IsWrittenAt w r old new
+-- what clearing by the pivot row asks for: the line that left is no greater, and the same rows are listed
+pub record IsReady (limit w c r a most : ℕ) (listed : List ℕ) (old new : Rows) : Type 0 where
+  pub known : IsKnown a most listed r w new
+  pub below : a ≤ limit
+  pub stored : AreStored limit w new
+  pub leaving : line_size (cut (line_in w (row_at (rows_in old) r))) ≤ most
+  pub column : nonzero_in (column_in c (rows_in new)) ≡ nonzero_in (column_in c (rows_in old))
 
-pub placed_at : (limit w c r a most : ℕ) (old new : Rows) → c < w → IsPivot w c r (rows_in old) → AreStored limit w old → line_in w (row_at (rows_in new) r) ≡ pivot_line c a (cut (line_in w (row_at (rows_in old) r)))
-    → a ≡ unsigned_abs (number_at (cut (line_in w (row_at (rows_in old) r))).numbers c) → line_size (line_in w (row_at (rows_in new) r)) ≤ most → (is_wide_at new r ≡ false → most < 2 ^ 64) → IsWrittenAt w r old new
-    → IsPlacedAt limit w c r a most old new
-placed_at limit w c r a most old new column pivot stored line denominator size short written =
-    record { column = column; pivot = pivot; stored = stored; line = line; denominator = denominator; size = size; short = short; written = written }
-
-module _ (limit w c r a most : ℕ) (old new : Rows) (g : IsPlacedAt limit w c r a most old new) where
-  pub is_placed : IsPlaced limit w a (row_at (rows_in new) r)
-  is_placed = placed limit w c r a (rows_in old) (row_at (rows_in new) r) g.column g.pivot g.stored.lines g.denominator g.line
+module _ (limit w c r a most : ℕ) (old new : Rows) (column : c < w) (pivot : IsPivot w c r (rows_in old)) (stored : AreStored limit w old) (g : IsPlacedAt w c r a most old new) where
+  is_placed : IsPlaced limit w a (row_at (rows_in new) r)
+  is_placed = placed limit w c r a (rows_in old) (row_at (rows_in new) r) column pivot stored.lines g.denominator g.line
 
   leaving : IsLine limit w (cut (line_in w (row_at (rows_in old) r)))
-  leaving = cut_within limit w (line_in w (row_at (rows_in old) r)) (g.stored.lines r g.pivot.row)
+  leaving = cut_within limit w (line_in w (row_at (rows_in old) r)) (stored.lines r pivot.row)
 
   own : IsLine (line_size (line_in w (row_at (rows_in new) r))) w (line_in w (row_at (rows_in new) r))
   own = sizes_bound w (line_in w (row_at (rows_in new) r)) (record { positive = is_placed.line.positive; count = is_placed.line.count })
@@ -58,8 +49,8 @@ module _ (limit w c r a most : ℕ) (old new : Rows) (g : IsPlacedAt limit w c r
   over_a : a ≤ line_size (line_in w (row_at (rows_in new) r))
   over_a = subst (λ (k : ℕ). k ≤ line_size (line_in w (row_at (rows_in new) r))) (ap (λ (l : Line). l.denominator) g.line) own.below
 
-  pub row_inside : r < length new.short.rows
-  row_inside = let count = g.written.count.count in let low = g.pivot.row in omega (arith, low, count, rows_many old)
+  row_inside : r < length new.short.rows
+  row_inside = let count = g.written.count.count in let low = pivot.row in omega (arith, low, count, rows_many old)
 
   sizes_low : AreSizes most (line_in w (row_at (rows_in new) r)).numbers
   sizes_low j = let low = own.sizes j in let size = g.size in omega (arith, low, size)
@@ -67,8 +58,8 @@ module _ (limit w c r a most : ℕ) (old new : Rows) (g : IsPlacedAt limit w c r
   a_low : a ≤ most
   a_low = let low = over_a in let size = g.size in omega (arith, low, size)
 
-  pub placed_stored : AreStored limit w new
-  placed_stored = stored_after limit w r old new g.stored g.written is_placed.line
+  placed_stored : AreStored limit w new
+  placed_stored = stored_after limit w r old new stored g.written is_placed.line
 
   -- the short row that is read has the numbers or their signs
   places_read : (p : List ℤ) → w < length p → p ≡ row_at new.short.rows r → nonzero_in (line_in w p).numbers ≡ nonzero_in (line_in w (row_at (rows_in new) r)).numbers
@@ -81,7 +72,7 @@ module _ (limit w c r a most : ℕ) (old new : Rows) (g : IsPlacedAt limit w c r
           let signs = subst (λ (z : List ℤ). HasSigns w p z) (sym standing) (subst (λ (z : List ℤ). HasSigns w z (row_at new.wide.rows r)) (sym is) (g.written.stored.signs e)) in
           line_by_signs w p (row_at (rows_in new) r) signs (length-take-le w (drop 1 p) (omega (arith, wide, length-drop 1 p))) is_placed.line.count
 
-  pub placed_known : (listed : List ℕ) (p : List ℤ) → w < length p → p ≡ row_at new.short.rows r → listed ≡ nonzero_in (line_in w p).numbers → IsKnown a most listed r w new
+  placed_known : (listed : List ℕ) (p : List ℤ) → w < length p → p ≡ row_at new.short.rows r → listed ≡ nonzero_in (line_in w p).numbers → IsKnown a most listed r w new
   placed_known listed p wide is places =
       record {
         row = row_inside;
@@ -92,12 +83,23 @@ module _ (limit w c r a most : ℕ) (old new : Rows) (g : IsPlacedAt limit w c r
         short = λ e. (let low = over_a in let size = (g.written.stored.short e).0 in omega (arith, low, size), g.short e);
       }
 
-  -- the line that leaves is no greater
-  pub leaving_size : line_size (cut (line_in w (row_at (rows_in old) r))) ≤ most
-  leaving_size = placed_size limit w c a most (cut (line_in w (row_at (rows_in old) r))) (row_at (rows_in new) r) leaving g.column g.denominator g.line sizes_low a_low
+  leaving_size : line_size (cut (line_in w (row_at (rows_in old) r))) ≤ most
+  leaving_size = placed_size limit w c a most (cut (line_in w (row_at (rows_in old) r))) (row_at (rows_in new) r) leaving column g.denominator g.line sizes_low a_low
 
-  -- and the same rows are listed
-  pub placed_column : nonzero_in (column_in c (rows_in new)) ≡ nonzero_in (column_in c (rows_in old))
+  placed_column : nonzero_in (column_in c (rows_in new)) ≡ nonzero_in (column_in c (rows_in old))
   placed_column =
       ap (λ (s : List (List ℤ)). nonzero_in (column_in c s)) g.written.row
-      ∙ listed_still w c r a (rows_in old) (row_at (rows_in new) r) (cut (line_in w (row_at (rows_in old) r))) g.column g.pivot g.line leaving.positive leaving.count
+      ∙ listed_still w c r a (rows_in old) (row_at (rows_in new) r) (cut (line_in w (row_at (rows_in old) r))) column pivot g.line leaving.positive leaving.count
+
+-- the places are those of the short row, which is read
+pub ready : {limit w c r a most : ℕ} {listed : List ℕ} {old new : Rows} (p : List ℤ) → AreStored limit w old → IsPlacedAt w c r a most old new → IsPivot w c r (rows_in old) → c < w → w < old.short.width
+    → length p ≡ new.short.width → p ≡ row_at new.short.rows r → listed ≡ nonzero_in (line_in w p).numbers → IsReady limit w c r a most listed old new
+ready {limit} {w} {c} {r} {a} {most} {listed} {old} {new} p stored g pivot column room long is places =
+    let count = g.written.count.width in
+    record {
+      known = placed_known limit w c r a most old new column pivot stored g listed p (omega (arith, long, count, room)) is places;
+      below = (is_placed limit w c r a most old new column pivot stored g).below;
+      stored = placed_stored limit w c r a most old new column pivot stored g;
+      leaving = leaving_size limit w c r a most old new column pivot stored g;
+      column = placed_column limit w c r a most old new column pivot stored g;
+    }

@@ -1,8 +1,11 @@
 -- Rows of both widths as they are stored, and the rows that they are.
-use Rattle.std.specs.Prelude.{◌≡◌, ℕ, ◌<◌, ◌≤◌, ◌^◌, List, [], ◌∷◌, ℤ, length, slice_index_or, slice_set, if◌then◌else◌, Bool, true, false}
+use Rattle.std.specs.Prelude.{◌≡◌, ℕ, ◌<◌, ◌≤◌, ◌^◌, List, [], ◌∷◌, ℤ, length, slice_index_or, slice_set, unsigned_abs, if◌then◌else◌, Bool, true, false}
 use Rattle.std.specs.Int.{int_signum}
 use Rattle.equal_runs.specs.Lines.{AreSizes, line_size, number_at, widest}
-use Rattle.whole_solver.specs.Rows.{AreLinesIn, line_in, nonzero_in, row_at}
+use Rattle.equal_runs.specs.Labelled.{labelled_cleared}
+use Rattle.equal_runs.specs.WholeTurning.{cut, step_size}
+use Rattle.whole_solver.specs.Rows.{AreLinesIn, line_in, nonzero_in, pivot_line, row_at}
+use Rattle.whole_solver.specs.declared.mix.Known.{Known}
 use Rattle.whole_solver.specs.declared.rows.Rows.{Rows}
 
 -- of each row the wide one where it is wide, and else the short one
@@ -60,3 +63,21 @@ pub record IsWrittenAt (w i : ℕ) (old new : Rows) : Type 0 where
   pub others : (j : ℕ) → (j ≡ i → ⊥) → IsStored w old j → IsStored w new j
   pub flags : (j : ℕ) → (j ≡ i → ⊥) → is_wide_at new j ≡ is_wide_at old j
   pub count : SameCounts old new
+
+-- row r is the pivot row of column c, over a, and none of its numbers is above `most`
+pub record IsPlacedAt (w c r a most : ℕ) (old new : Rows) : Type 0 where
+  pub line : line_in w (row_at (rows_in new) r) ≡ pivot_line c a (cut (line_in w (row_at (rows_in old) r)))
+  pub denominator : a ≡ unsigned_abs (number_at (cut (line_in w (row_at (rows_in old) r))).numbers c)
+  pub size : line_size (line_in w (row_at (rows_in new) r)) ≤ most
+  pub short : is_wide_at new r ≡ false → most < 2 ^ 64
+  pub written : IsWrittenAt w r old new
+
+-- row i is cleared by the pivot row of which this is known, each step within the limit
+pub record IsRowCleared (k : Known) (w i : ℕ) (old new : Rows) : Type 0 where
+  pub fits :
+      let l = line_in w (row_at (rows_in old) i) in
+      step_size (line_size l) (unsigned_abs (number_at l.numbers k.step.c)) k.a k.most ≤ k.step.limit
+  pub cleared :
+      let pivot = (line_in w (row_at (rows_in old) k.step.r)).numbers in
+      line_in w (row_at (rows_in new) i) ≡ labelled_cleared k.step.c k.a pivot (line_in w (row_at (rows_in old) i))
+  pub written : IsWrittenAt w i old new

@@ -45,7 +45,7 @@ pub struct Rows {
 }
 
 impl Rows {
-    ghost use Rattle.whole_solver.specs.Stored.{AreStored, IsKnown, IsStored, IsWrittenAt, SameCounts, is_wide_at, rows_in, size_at};
+    ghost use Rattle.whole_solver.specs.Stored.{AreStored, IsKnown, IsPlacedAt, IsRowCleared, IsStored, IsWrittenAt, SameCounts, is_wide_at, rows_in, size_at};
 
     /// No rows, and room for as many of as many numbers each, the denominator among them.
     pub fn with_room(alloc: Global, rows: usize, width: usize) -> Result<Rows, AllocError>
@@ -389,17 +389,8 @@ impl Rows {
             (length room.old) self.old }
         requires short { (is_wide_at self.old i ≡ false)
             × (is_wide_at self.old known.step.r ≡ false) }
-        ensures fits { result ≡ true → step_size
-            (line_size (line_in (length room.old) (row_at (rows_in self.old) i)))
-            (unsigned_abs (number_at (line_in (length room.old)
-            (row_at (rows_in self.old) i)).numbers known.entry.step.c))
-            known.entry.a known.entry.most ≤ known.entry.step.limit }
         ensures cleared { result ≡ true
-            → line_in (length room.old) (row_at (rows_in self.new) i)
-            ≡ labelled_cleared known.entry.step.c known.entry.a
-            (line_in (length room.old) (row_at (rows_in self.old) known.entry.step.r)).numbers
-            (line_in (length room.old) (row_at (rows_in self.old) i)) }
-        ensures written { result ≡ true → IsWrittenAt (length room.old) i self.old self.new }
+            → IsRowCleared known.entry (length room.old) i self.old self.new }
         ensures count { SameCounts self.old self.new }
     {
         let mut size = self.sizes[i] as u64;
@@ -468,15 +459,7 @@ impl Rows {
         requires stored { IsStored width self.old i }
         requires pivot { IsKnown known.a known.most known.places.now known.step.r width self.old }
         requires below { known.a ≤ 2 ^ 127 - 1 }
-        ensures fits { result ≡ true
-            → step_size (line_size (line_in width (row_at (rows_in self.old) i)))
-            (unsigned_abs (number_at (line_in width (row_at (rows_in self.old) i)).numbers
-            known.entry.step.c)) known.entry.a known.entry.most ≤ known.entry.step.limit }
-        ensures cleared { result ≡ true → line_in width (row_at (rows_in self.new) i)
-            ≡ labelled_cleared known.entry.step.c known.entry.a
-            (line_in width (row_at (rows_in self.old) known.entry.step.r)).numbers
-            (line_in width (row_at (rows_in self.old) i)) }
-        ensures written { result ≡ true → IsWrittenAt width i self.old self.new }
+        ensures cleared { result ≡ true → IsRowCleared known.entry width i self.old self.new }
         ensures count { SameCounts self.old self.new }
     {
         self.widen_row(i, width);
@@ -500,17 +483,8 @@ impl Rows {
         requires pivot { IsKnown known.a known.most known.places.now known.step.r
             (length room.old) self.old }
         requires below { known.a ≤ 2 ^ 127 - 1 }
-        ensures fits { result ≡ true → step_size
-            (line_size (line_in (length room.old) (row_at (rows_in self.old) i)))
-            (unsigned_abs (number_at (line_in (length room.old)
-            (row_at (rows_in self.old) i)).numbers known.entry.step.c))
-            known.entry.a known.entry.most ≤ known.entry.step.limit }
         ensures cleared { result ≡ true
-            → line_in (length room.old) (row_at (rows_in self.new) i)
-            ≡ labelled_cleared known.entry.step.c known.entry.a
-            (line_in (length room.old) (row_at (rows_in self.old) known.entry.step.r)).numbers
-            (line_in (length room.old) (row_at (rows_in self.old) i)) }
-        ensures written { result ≡ true → IsWrittenAt (length room.old) i self.old self.new }
+            → IsRowCleared known.entry (length room.old) i self.old self.new }
         ensures count { SameCounts self.old self.new }
     {
         if self.is_wide[i] || self.is_wide[known.step.r] {
@@ -602,13 +576,7 @@ impl Rows {
         requires pivot { IsPivot width c r (rows_in self.old) }
         requires line { IsLine (2 ^ 127 - 1) width (line_in width (row_at (rows_in self.old) r)) }
         requires stored { IsStored width self.old r }
-        ensures pivot { line_in width (row_at (rows_in self.new) r)
-            ≡ pivot_line c result.0 (cut (line_in width (row_at (rows_in self.old) r))) }
-        ensures denominator { result.0 ≡ unsigned_abs
-            (number_at (cut (line_in width (row_at (rows_in self.old) r))).numbers c) }
-        ensures size { line_size (line_in width (row_at (rows_in self.new) r)) ≤ result.1 }
-        ensures short { is_wide_at self.new r ≡ false → result.1 < 2 ^ 64 }
-        ensures written { IsWrittenAt width r self.old self.new }
+        ensures { IsPlacedAt width c r result.0 result.1 self.old self.new }
     {
         self.cut_row(r, width);
         let a = self.exchange_row(r, c, width);

@@ -98,12 +98,11 @@ loop-place-preserved c =
     elim c.if-i-r.branch [
       | then-i-r+else-not-clear_row w ↦
           (let apart : r ≡ i → ⊥ = λ e. w.if-i-r.true (sym e) in
-          let ok = w.if-not-clear_row.false in
-          let told = w.clear_row.ensures in
+          let told = w.clear_row.ensures.cleared w.if-not-clear_row.false in
           let new = w.clear_row.new.self in
-          let g : IsWrittenAt n i s new = subst (λ (q : ℕ). IsWrittenAt q i s new) inv.places (told.written ok) in
-          let cleared = subst (λ (q : ℕ). line_in q (row_at (rows_in new) i) ≡ labelled_cleared k.step.c k.a (line_in q (row_at rows r)).numbers (line_in q (row_at rows i))) inv.places (told.cleared ok) in
-          let fits = subst (λ (q : ℕ). step_size (line_size (line_in q (row_at rows i))) (unsigned_abs (number_at (line_in q (row_at rows i)).numbers k.step.c)) k.a k.most ≤ k.step.limit) inv.places (told.fits ok) in
+          let g : IsWrittenAt n i s new = subst (λ (q : ℕ). IsWrittenAt q i s new) inv.places told.written in
+          let cleared = subst (λ (q : ℕ). line_in q (row_at (rows_in new) i) ≡ labelled_cleared k.step.c k.a (line_in q (row_at rows r)).numbers (line_in q (row_at rows i))) inv.places told.cleared in
+          let fits = subst (λ (q : ℕ). step_size (line_size (line_in q (row_at rows i))) (unsigned_abs (number_at (line_in q (row_at rows i)).numbers k.step.c)) k.a k.most ≤ k.step.limit) inv.places told.fits in
           let first_fits = subst (λ (z : List ℤ). step_size (line_size (line_in n z)) (unsigned_abs (number_at (line_in n z).numbers k.step.c)) k.a k.most ≤ k.step.limit) here fits in
           let is_line = cleared ∙ (λ q. labelled_cleared k.step.c k.a (line_in n (inv.pivot q)).numbers (line_in n (here q))) ∙ sym (after_other k.step.c k.a r i P (line_in n (row_at old i)) (λ e. apart (sym e))) in
           let pivot_line = inv.stored.lines r (let p = inv.known.row in omega (arith, p, more)) in

@@ -91,9 +91,12 @@ returns-in-Short c =
     (subst (λ (n : ℕ). line_size (line_in w made) ≤ n) (sym kept) (subst (λ (m : Line). line_size m ≤ size) (sym line_is) short.size)) (subst (λ (m : Line). line_size m ≤ widest) (sym line_is) short.short)
     (subst (λ (n : ℕ). n < 2 ^ 64) (sym kept) (omega arith))) in
     record {
-      fits = λ done. subst (λ (z : List ℤ). step_size (line_size (line_in w z)) (unsigned_abs (number_at (line_in w z).numbers k.step.c)) k.a k.most ≤ k.step.limit) (sym here) c.in-Short.ensures.fits;
-      cleared = λ done. ap (line_in w) standing ∙ line_is ∙ (λ q. labelled_cleared k.step.c k.a (line_in w (sym there q)).numbers (line_in w (sym here q)));
-      written = λ done. is_written;
+      cleared = λ done.
+          record {
+            fits = subst (λ (z : List ℤ). step_size (line_size (line_in w z)) (unsigned_abs (number_at (line_in w z).numbers k.step.c)) k.a k.most ≤ k.step.limit) (sym here) c.in-Short.ensures.fits;
+            cleared = ap (line_in w) standing ∙ line_is ∙ (λ q. labelled_cleared k.step.c k.a (line_in w (sym there q)).numbers (line_in w (sym here q)));
+            written = is_written;
+          };
       count = is_written.count;
     }
 
@@ -118,11 +121,15 @@ returns-in-Wide c =
       width = refl;
     })) in
     record {
-      fits = λ done. subst (λ (z : List ℤ). step_size (line_size (line_in w z)) (unsigned_abs (number_at (line_in w z).numbers k.step.c)) k.a k.most ≤ k.step.limit) (sym here) c.in-Wide.ensures.fits;
-      cleared = λ done. sym (ap (λ (n : ℕ). line_in n grown) count)
-          ∙ c.grow.ensures.line
-          ∙ c.in-Wide.ensures.line
-          ∙ (λ q. labelled_cleared k.step.c k.a (line_in w (sym there q)).numbers (line_in w (sym here q)));
-      written = λ done. is_written;
+      cleared = λ done.
+          record {
+            fits = subst (λ (z : List ℤ). step_size (line_size (line_in w z)) (unsigned_abs (number_at (line_in w z).numbers k.step.c)) k.a k.most ≤ k.step.limit) (sym here) c.in-Wide.ensures.fits;
+            cleared =
+                sym (ap (λ (n : ℕ). line_in n grown) count)
+                ∙ c.grow.ensures.line
+                ∙ c.in-Wide.ensures.line
+                ∙ (λ q. labelled_cleared k.step.c k.a (line_in w (sym there q)).numbers (line_in w (sym here q)));
+            written = is_written;
+          };
       count = is_written.count;
     }

@@ -62,8 +62,11 @@ returns c =
       width = ap (λ a. a.width) told.short;
     }) in
     record {
-      fits = λ done. subst (λ (l : Line). step_size (line_size l) (unsigned_abs (number_at l.numbers k.step.c)) k.a k.most ≤ k.step.limit) (sym line) (told.fits passed);
-      cleared = λ done. c.settle.ensures.line ∙ ap (line_in w) row ∙ told.cleared passed ∙ (λ q. labelled_cleared k.step.c k.a (line_in w (pivot q)).numbers (sym line q));
-      written = λ done. written_then w i first s settled wide.written after;
+      cleared = λ done.
+          record {
+            fits = subst (λ (l : Line). step_size (line_size l) (unsigned_abs (number_at l.numbers k.step.c)) k.a k.most ≤ k.step.limit) (sym line) (told.fits passed);
+            cleared = c.settle.ensures.line ∙ ap (line_in w) row ∙ told.cleared passed ∙ (λ q. labelled_cleared k.step.c k.a (line_in w (pivot q)).numbers (sym line q));
+            written = written_then w i first s settled wide.written after;
+          };
       count = search rules;
     }

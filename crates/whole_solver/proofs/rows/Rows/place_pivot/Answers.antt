@@ -1,4 +1,4 @@
-use Rattle.std.proofs.Common.{◌-◌, ◌^◌, ◌<◌, sym, subst, arith, unsigned_abs}
+use Rattle.std.proofs.Common.{rules, ◌-◌, ◌^◌, ◌<◌, sym, subst, arith, unsigned_abs}
 use Rattle.equal_runs.specs.Lines.{Line, IsLine, number_at}
 use Rattle.equal_runs.specs.WholeTurning.{cut}
 use Rattle.equal_runs.proofs.LineSteps.{cut_within}
@@ -29,10 +29,16 @@ pub size_anew-requires-clause-row : goal.size_anew-requires-clause-row
 size_anew-requires-clause-row c =
     omega (arith, c.requires.pivot.row, rows_many c.args.self.now, c.cut_row.ensures.written.count.count, c.exchange_row-a.ensures.written.count.count)
 
-pub returns-clause-written : goal.returns-clause-written
-returns-clause-written c =
+pub returns : goal.returns
+returns c =
     let first = c.args.self.now in
     let cut_rows = c.cut_row.new.self in
     let exchanged = c.exchange_row-a.new.self in
     let before = written_then c.args.width c.args.r first cut_rows exchanged c.cut_row.ensures.written c.exchange_row-a.ensures.written in
-    written_then c.args.width c.args.r first exchanged c.size_anew.new.self before c.size_anew.ensures.written
+    record {
+      line = search rules;
+      denominator = search rules;
+      size = search rules;
+      short = search rules;
+      written = written_then c.args.width c.args.r first exchanged c.size_anew.new.self before c.size_anew.ensures.written;
+    }

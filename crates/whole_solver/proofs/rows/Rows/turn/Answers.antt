@@ -6,7 +6,7 @@ use Rattle.equal_runs.specs.Labelled.{labelled_cleared, turned_in}
 use Rattle.equal_runs.specs.WholeTurning.{cut, step_size}
 use Rattle.whole_solver.specs.Rows.{AreStepsBelow, line_in, lines_in, lines_after, pivot_line, row_at}
 use Rattle.whole_solver.specs.Stored.{AreStored, IsKnown, rows_in}
-use Rattle.whole_solver.proofs.Placed.{is_placed, leaving_size, placed_at, placed_column, placed_known, placed_stored}
+use Rattle.whole_solver.proofs.Placed.{ready}
 use Rattle.whole_solver.proofs.Standing.{rows_many}
 use Rattle.whole_solver.proofs.Turned.{steps_less, turned_rows}
 use Rattle.whole_solver.proofs.Written.{counts_then, steps_within_of_below}
@@ -20,46 +20,20 @@ row-requires c = omega (arith, c.requires.pivot.row, rows_many c.args.self.now, 
 
 pub clear_objective-requires : goal.clear_objective-requires
 clear_objective-requires c =
-    let w = c.args.width in
-    let k = c.args.step.c in
-    let r = c.args.step.r in
-    let limit = c.args.step.limit in
-    let first = c.args.self.now in
-    let told = c.place_pivot-a.ensures in
-    let a = c.place_pivot-a.result.0 in
-    let most = c.place_pivot-a.result.1 in
-    let s = c.place_pivot-a.new.self in
-    let g = placed_at limit w k r a most first s c.requires.widths.0 c.requires.pivot c.requires.stored told.pivot told.denominator told.size told.short told.written in
-    let low = (is_placed limit w k r a most first s g).below in
-    let wide : w < length c.row.result.now = omega (arith, c.row.ensures.width, told.written.count.width, c.requires.widths.1) in
-    let listed = take c.front_nonzero-count.result c.front_nonzero-count.new.places in
-    let known = placed_known limit w k r a most first s g listed c.row.result.now wide c.row.ensures.row c.front_nonzero-count.ensures.places in
-    record { widths = search rules; line = c.requires.objective; size = c.requires.size; pivot = known; limit = (omega (arith, low, c.requires.limit.1), c.requires.limit.1) }
+    let pivot = ready c.row.result.now c.requires.stored c.place_pivot-a.ensures c.requires.pivot c.requires.widths.0 c.requires.widths.1 c.row.ensures.width c.row.ensures.row c.front_nonzero-count.ensures.places in
+    record { widths = search rules; line = c.requires.objective; size = c.requires.size; pivot = pivot.known; limit = (omega (arith, pivot.below, c.requires.limit.1), c.requires.limit.1) }
 
 pub clear_rows-requires : goal.clear_rows-requires
 clear_rows-requires c =
-    let w = c.args.width in
-    let k = c.args.step.c in
-    let r = c.args.step.r in
-    let limit = c.args.step.limit in
-    let first = c.args.self.now in
-    let told = c.place_pivot-a.ensures in
-    let a = c.place_pivot-a.result.0 in
-    let most = c.place_pivot-a.result.1 in
-    let s = c.place_pivot-a.new.self in
-    let g = placed_at limit w k r a most first s c.requires.widths.0 c.requires.pivot c.requires.stored told.pivot told.denominator told.size told.short told.written in
-    let low = (is_placed limit w k r a most first s g).below in
-    let wide : w < length c.row.result.now = omega (arith, c.row.ensures.width, told.written.count.width, c.requires.widths.1) in
-    let listed = take c.front_nonzero-count.result c.front_nonzero-count.new.places in
-    let known = placed_known limit w k r a most first s g listed c.row.result.now wide c.row.ensures.row c.front_nonzero-count.ensures.places in
-    let count : length (take w c.args.room.now) ≡ w = length-take-le w c.args.room.now c.requires.room.0 in
+    let pivot = ready c.row.result.now c.requires.stored c.place_pivot-a.ensures c.requires.pivot c.requires.widths.0 c.requires.widths.1 c.row.ensures.width c.row.ensures.row c.front_nonzero-count.ensures.places in
+    let count : length (take c.args.width c.args.room.now) ≡ c.args.width = length-take-le c.args.width c.args.room.now c.requires.room.0 in
     record {
       widths = search rules;
       limit = c.requires.limit;
-      stored = subst (λ (n : ℕ). AreStored limit n s) (sym count) (placed_stored limit w k r a most first s g);
-      pivot = subst (λ (n : ℕ). IsKnown a most listed r n s) (sym count) known;
-      below = omega (arith, low, c.requires.limit.1);
-      column_places = c.requires.column_places ∙ sym (placed_column limit w k r a most first s g);
+      stored = subst (λ (n : ℕ). AreStored c.args.step.limit n c.place_pivot-a.new.self) (sym count) pivot.stored;
+      pivot = subst (λ (n : ℕ). IsKnown c.place_pivot-a.result.0 c.place_pivot-a.result.1 (take c.front_nonzero-count.result c.front_nonzero-count.new.places) c.args.step.r n c.place_pivot-a.new.self) (sym count) pivot.known;
+      below = omega (arith, pivot.below, c.requires.limit.1);
+      column_places = c.requires.column_places ∙ sym pivot.column;
     }
 
 pub returns : goal.returns
@@ -73,13 +47,12 @@ returns c =
     let a = c.place_pivot-a.result.0 in
     let most = c.place_pivot-a.result.1 in
     let s = c.place_pivot-a.new.self in
-    let g = placed_at limit w k r a most first s c.requires.widths.0 c.requires.pivot c.requires.stored told.pivot told.denominator told.size told.short told.written in
+    let small = (ready c.row.result.now c.requires.stored told c.requires.pivot c.requires.widths.0 c.requires.widths.1 c.row.ensures.width c.row.ensures.row c.front_nonzero-count.ensures.places).leaving in
     let count : length (take w c.args.room.now) ≡ w = length-take-le w c.args.room.now c.requires.room.0 in
     let old = rows_in first in
     let new = rows_in c.clear_rows.new.self in
     let from = rows_in s in
     let pivot = cut (line_in w (row_at old r)) in
-    let small = leaving_size limit w k r a most first s g in
     let l = line_in w c.args.objective.now.numbers.items in
     let x = unsigned_abs (number_at l.numbers k) in
     let objective = c.clear_objective.ensures in
@@ -87,7 +60,7 @@ returns c =
     let room = objective.fits passed in
     let less = steps_less (line_size l) x a (line_size pivot) most small in
     let within : step_size (line_size l) x a (line_size pivot) ≤ limit = omega (arith, less, room) in
-    let numbers = ap (λ (m : Line). m.numbers) told.pivot in
+    let numbers = ap (λ (m : Line). m.numbers) told.line in
     let rows = c.clear_rows.ensures in
     record {
       objective_fits = λ done. le-leb _ limit (subst (λ (q : ℕ). step_size (line_size l) x q (line_size pivot) ≤ limit) told.denominator within);
@@ -97,7 +70,7 @@ returns c =
       turned = λ done.
           (let cleared : lines_in w new ≡ lines_after k a r (line_in w (row_at from r)).numbers 0 (lines_in w from) =
           subst (λ (n : ℕ). lines_in n new ≡ lines_after k a r (line_in n (row_at from r)).numbers 0 (lines_in n from)) count (rows.cleared done) in
-          let turned = turned_rows w k r a old new from (row_at from r) pivot c.requires.pivot.row told.written.row told.pivot cleared in
+          let turned = turned_rows w k r a old new from (row_at from r) pivot c.requires.pivot.row told.written.row told.line cleared in
           record {
             rows = subst (λ (q : ℕ). lines_in w new ≡ lines_after k q r (turned_in k pivot) 0 (set (lines_in w old) r (pivot_line k q pivot))) told.denominator turned;
             objective = objective.cleared passed ∙ (λ q. labelled_cleared k (told.denominator q) (numbers q) l);
