@@ -3,16 +3,12 @@
 ghost use Rattle.std.specs.Prelude.{◌<◌, ◌*◌, ◌^◌};
 ghost use Rattle.std.specs.Int.{div_ceil};
 
-use crate::printing::{print_number, print_wide};
-use crate::reading::parts;
-use anyhow::{Context, Result, bail};
+use crate::printing::value_text;
+use crate::reading::{Parts, number, pair, parts, quotient, whole};
 use exact_num::{Exact, Operator, Wide};
 use frac::{Frac64, Frac128, gcd, mul_div_ceil, mul_div_floor, widen};
 use std::alloc::{AllocError, Global};
 use std::cmp::Ordering;
-
-// A numerator and a denominator.
-type Parts = (i128, i128);
 
 #[derive(Clone, Copy)]
 enum Operation {
@@ -22,39 +18,20 @@ enum Operation {
     Div,
 }
 
-fn operation_of(word: &str) -> Result<Operation> {
+fn operation_of(word: &str) -> Option<Operation> {
     match word {
-        "add" => Ok(Operation::Add),
-        "sub" => Ok(Operation::Sub),
-        "mul" => Ok(Operation::Mul),
-        "div" => Ok(Operation::Div),
-        _ => bail!("an operation"),
+        "add" => Some(Operation::Add),
+        "sub" => Some(Operation::Sub),
+        "mul" => Some(Operation::Mul),
+        "div" => Some(Operation::Div),
+        _ => None,
     }
-}
-
-// Two words with a blank between them.
-fn pair(text: &str) -> Result<(&str, &str)> {
-    text.trim().split_once(' ').context("two operands")
 }
 
 // Two fractions.
-fn operands(text: &str) -> Result<(Parts, Parts)> {
-    let (left, right) = pair(text)?;
-    Ok((parts(left)?, parts(right)?))
-}
-
-fn number<N: Exact>(parts: Parts) -> Result<N, Wide> {
-    let above = N::from_whole(parts.0)?;
-    let below = N::from_whole(parts.1)?;
-    quotient(above, below)
-}
-
-fn quotient<N: Exact>(left: N, right: N) -> Result<N, Wide> {
-    if right.sign() == 0 {
-        Ok(left)
-    } else {
-        left.div(right)
-    }
+fn operands(text: &str) -> (Parts, Parts) {
+    let (left, right) = pair(text);
+    (parts(left), parts(right))
 }
 
 fn result<N: Exact>(operation: Operation, x: N, y: N) -> Result<N, Wide> {
@@ -96,35 +73,34 @@ fn whole_refusal(number: i128) -> Wide {
     }
 }
 
-// The text of a value, or `wide` where it is refused as it must be.
-fn value_text(
-    alloc: Global,
-    value: Result<Parts, Wide>,
-    refusal: Wide,
-) -> Result<String, AllocError> {
-    let mut text = String::new(alloc);
-    match value {
-        Ok(parts) => print_number(&mut text, parts)?,
-        Err(wide) if wide == refusal => text.push_str("wide")?,
-        Err(wide) => print_wide(&mut text, &wide)?,
+// The text of a value, or `wide` where it is refused so.
+fn text_of(alloc: Global, value: Result<Parts, Wide>, refusal: Wide) -> Result<String, AllocError> {
+    if value == Err(refusal) {
+        String::from_str(alloc, "wide")
+    } else {
+        value_text(alloc, value)
     }
-    Ok(text)
 }
 
 /// The text of the value of an operation.
-pub fn operation_text<N: Exact>(alloc: Global, text: &str) -> Result<String> {
-    let (word, rest) = pair(text)?;
-    let operation = operation_of(word)?;
-    let (left, right) = operands(rest)?;
+pub fn operation_text<N: Exact>(alloc: Global, text: &str) -> Result<String, AllocError> {
+    let (word, rest) = pair(text);
+    let (left, right) = operands(rest);
+    let Some(operation) = operation_of(word) else {
+        return String::from_str(alloc, "no operation");
+    };
     let value = value::<N>(operation, left, right);
-    Ok(value_text(alloc, value, refusal(operation, left, right))?)
+    text_of(alloc, value, refusal(operation, left, right))
 }
 
 /// The text of a whole number that is taken in 64 bits and widened.
-pub fn narrow_text(alloc: Global, text: &str) -> Result<String> {
-    let number = text.trim().parse::<i128>()?;
-    let value = Frac64::from_whole(number).map(|value| widen(value).parts());
-    Ok(value_text(alloc, value, whole_refusal(number))?)
+pub fn narrow_text(alloc: Global, text: &str) -> Result<String, AllocError> {
+    let number = whole(text.trim());
+    let value = match Frac64::from_whole(number) {
+        Ok(value) => Ok(widen(value).parts()),
+        Err(wide) => Err(wide),
+    };
+    text_of(alloc, value, whole_refusal(number))
 }
 
 // How two fractions compare, and whether they are equal.
@@ -144,16 +120,16 @@ fn order_word(order: Result<(Ordering, bool), Wide>) -> &'static str {
 }
 
 /// The order of two fractions, in a word.
-pub fn order_text(alloc: Global, text: &str) -> Result<String> {
-    let (left, right) = operands(text)?;
-    Ok(String::from_str(alloc, order_word(order(left, right)))?)
+pub fn order_text(alloc: Global, text: &str) -> Result<String, AllocError> {
+    let (left, right) = operands(text);
+    String::from_str(alloc, order_word(order(left, right)))
 }
 
 /// The text of the greatest common divisor of two numbers.
-pub fn divisor_text(alloc: Global, text: &str) -> Result<String> {
-    let (a, b) = pair(text)?;
-    let divisor = gcd(a.parse::<u128>()?, b.parse::<u128>()?);
-    Ok(format!(in alloc; "{divisor}")?)
+pub fn divisor_text(alloc: Global, text: &str) -> Result<String, AllocError> {
+    let (a, b) = pair(text);
+    let divisor = gcd(whole(a).unsigned_abs(), whole(b).unsigned_abs());
+    format!(in alloc; "{divisor}")
 }
 
 // Whether numbers are at their limits as they must be, and negated, and told apart by their signs.

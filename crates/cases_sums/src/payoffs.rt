@@ -1,13 +1,13 @@
-//! Payoffs, states and premiums: from the text of what is asked to that of the answer.
+//! Payoffs, states and premiums: from the text of what is asked to that of the answer, which is
+//! empty where nothing is asked.
 ghost use Rattle.std.specs.Prelude.{IsTrue, map};
 ghost use Rattle.form.specs.Primitive.{IsDirection};
 ghost use Rattle.frac.specs.Value.{fraction_of};
 ghost use Rattle.settlement.specs.Premium.{IsOrderFill};
 
-use crate::printing::{print_number, print_wide};
-use crate::reading::{number, numbers};
+use crate::printing::{print_number, print_wide, value_text};
+use crate::reading::{Parts, number, numbers, pair, parts};
 use crate::signs::{is_any_above_zero, is_none_below_zero};
-use anyhow::{Context, Result, bail, ensure};
 use exact_num::{Exact, Wide};
 use form::{
     Bundle, Form, Leg, MAX_PRICE, Side, State, are_legs, bundle_payoff, call, payoff, primitive,
@@ -16,16 +16,29 @@ use frac::Frac128;
 use settlement::premium;
 use std::alloc::{AllocError, Global};
 
-fn form(alloc: Global, text: &str) -> Result<Form> {
-    let mut words = text.split_whitespace();
-    let first = words.next().context("an entry")?.parse::<i64>()?;
-    ensure!(first != i64::MIN, "an entry");
-    let mut weights = Vec::new(alloc);
-    for word in words {
-        weights.push(word.parse::<i16>()?)?;
+// The weights of a text, with spaces between them.
+fn weights(alloc: Global, text: &str) -> Result<Vec<i16>, AllocError> {
+    let mut all = Vec::new(alloc);
+    for word in text.split_whitespace() {
+        all.push(word.parse().unwrap_or(i16::MIN))?;
     }
-    ensure!(1 <= weights.len() && weights.len() <= 8, "the weights");
-    Ok(call(-first, weights.as_slice()))
+    Ok(all)
+}
+
+// The option of a first entry and of weights.
+fn form_of(first: i64, weights: &[i16]) -> Option<Form> {
+    if weights.is_empty() || weights.len() > 8 {
+        return None;
+    }
+    let mut form = call(0, weights);
+    form.entries[0] = first;
+    Some(form)
+}
+
+fn form(alloc: Global, text: &str) -> Result<Option<Form>, AllocError> {
+    let (first, rest) = pair(text);
+    let weights = weights(alloc, rest)?;
+    Ok(form_of(first.parse().unwrap_or(i64::MIN), &weights))
 }
 
 // Whether these may be the entries of a state.
@@ -41,11 +54,17 @@ fn is_direction(entries: &[Frac128]) -> bool
     is_none_below_zero(entries) && is_any_above_zero(entries)
 }
 
-fn state(alloc: Global, text: &str) -> Result<Result<State, Wide>> {
+fn state_of(entries: &[Frac128]) -> Option<Result<State, Wide>> {
+    if is_direction(entries) {
+        Some(primitive(entries))
+    } else {
+        None
+    }
+}
+
+fn state(alloc: Global, text: &str) -> Result<Option<Result<State, Wide>>, AllocError> {
     let entries = numbers(alloc, text)?;
-    let direction = is_direction(entries.as_slice());
-    ensure!(direction, "a direction");
-    Ok(primitive(entries.as_slice()))
+    Ok(state_of(&entries))
 }
 
 fn print_state(text: &mut String, state: &State) -> Result<(), AllocError> {
@@ -56,60 +75,93 @@ fn print_state(text: &mut String, state: &State) -> Result<(), AllocError> {
 }
 
 /// The text of the primitive state of a direction.
-pub fn primitive_text(alloc: Global, text: &str) -> Result<String> {
+pub fn primitive_text(alloc: Global, text: &str) -> Result<String, AllocError> {
+    let state = state(alloc, text)?;
     let mut answer = String::new(alloc);
-    match state(alloc, text)? {
-        Ok(state) => print_state(&mut answer, &state)?,
-        Err(wide) => print_wide(&mut answer, &wide)?,
+    match state {
+        Some(Ok(state)) => print_state(&mut answer, &state)?,
+        Some(Err(wide)) => print_wide(&mut answer, &wide)?,
+        None => {}
     }
     Ok(answer)
+}
+
+// The text of a payoff, if any.
+fn pays_text(alloc: Global, pays: Option<Result<i128, Wide>>) -> Result<String, AllocError> {
+    match pays {
+        Some(Ok(pays)) => value_text(alloc, Ok((pays, 1))),
+        Some(Err(wide)) => value_text(alloc, Err(wide)),
+        None => Ok(String::new(alloc)),
+    }
+}
+
+// What an option pays at a state, where it has as many entries.
+fn option_pays(
+    form: Option<Form>,
+    state: Option<Result<State, Wide>>,
+) -> Option<Result<i128, Wide>> {
+    let (Some(form), Some(Ok(state))) = (form, state) else {
+        return None;
+    };
+    if form.count == state.count {
+        Some(payoff(&form, &state))
+    } else {
+        None
+    }
 }
 
 /// The text of what an option pays at a primitive state.
-pub fn payoff_text(alloc: Global, text: &str) -> Result<String> {
-    let (option, entries) = text.split_once('|').context("a state")?;
+pub fn payoff_text(alloc: Global, text: &str) -> Result<String, AllocError> {
+    let (option, entries) = text.split_once('|').unwrap_or((text, ""));
     let form = form(alloc, option)?;
-    let state = state(alloc, entries)?.ok().context("a state that fits")?;
-    ensure!(form.count == state.count, "as many entries");
-    let mut answer = String::new(alloc);
-    match payoff(&form, &state) {
-        Ok(pays) => print_number(&mut answer, (pays, 1))?,
-        Err(wide) => print_wide(&mut answer, &wide)?,
-    }
-    Ok(answer)
+    let state = state(alloc, entries)?;
+    pays_text(alloc, option_pays(form, state))
 }
 
-// A leg from its count and its option.
-fn leg(alloc: Global, text: &str) -> Result<Leg> {
-    let (count, option) = text.split_once(':').context("an option")?;
-    Ok(Leg {
-        count: count.trim().parse::<i16>()?,
-        form: form(alloc, option)?,
+// The legs of a text, with semicolons between them: the count of each before a colon, and its
+// option behind it.
+fn legs(alloc: Global, text: &str) -> Result<Vec<Leg>, AllocError> {
+    let mut legs = Vec::new(alloc);
+    for leg in text.split(';') {
+        let (count, option) = leg.split_once(':').unwrap_or((leg, ""));
+        if let Some(form) = form(alloc, option)? {
+            let count = count.trim().parse().unwrap_or(i16::MIN);
+            legs.push(Leg { count, form })?;
+        }
+    }
+    Ok(legs)
+}
+
+fn bundle(alloc: Global, text: &str) -> Result<Option<Bundle>, AllocError> {
+    let legs = legs(alloc, text)?;
+    Ok(if are_legs(&legs) {
+        Some(Bundle::from_legs(&legs))
+    } else {
+        None
     })
 }
 
-fn bundle(alloc: Global, text: &str) -> Result<Bundle> {
-    let mut legs = Vec::new(alloc);
-    for option in text.split(';') {
-        legs.push(leg(alloc, option)?)?;
+// What a bundle pays at a state, where its options have as many entries.
+fn bundle_pays(
+    bundle: Option<Bundle>,
+    state: Option<Result<State, Wide>>,
+) -> Option<Result<i128, Wide>> {
+    let (Some(bundle), Some(Ok(state))) = (bundle, state) else {
+        return None;
+    };
+    if bundle.is_on(state.count - 1) {
+        Some(bundle_payoff(&bundle, &state))
+    } else {
+        None
     }
-    ensure!(are_legs(legs.as_slice()), "the legs");
-    Ok(Bundle::from_legs(legs.as_slice()))
 }
 
 /// The text of what a bundle pays at a primitive state.
-pub fn bundle_text(alloc: Global, text: &str) -> Result<String> {
-    let (options, entries) = text.split_once('|').context("a state")?;
+pub fn bundle_text(alloc: Global, text: &str) -> Result<String, AllocError> {
+    let (options, entries) = text.split_once('|').unwrap_or((text, ""));
     let bundle = bundle(alloc, options)?;
-    let state = state(alloc, entries)?.ok().context("a state that fits")?;
-    let as_many = bundle.is_on(state.count - 1);
-    ensure!(as_many, "as many entries");
-    let mut answer = String::new(alloc);
-    match bundle_payoff(&bundle, &state) {
-        Ok(pays) => print_number(&mut answer, (pays, 1))?,
-        Err(wide) => print_wide(&mut answer, &wide)?,
-    }
-    Ok(answer)
+    let state = state(alloc, entries)?;
+    pays_text(alloc, bundle_pays(bundle, state))
 }
 
 // Whether the fill is 0 to 1,000,000.
@@ -120,23 +172,36 @@ fn is_held(fill: &Frac128) -> bool
     numerator >= 0 && numerator.unsigned_abs().div_ceil(1_000_000) <= denominator.unsigned_abs()
 }
 
-fn side(word: &str) -> Result<Side> {
+fn side_of(word: &str) -> Option<Side> {
     match word {
-        "buy" => Ok(Side::Buy),
-        "sell" => Ok(Side::Sell),
-        _ => bail!("a side"),
+        "buy" => Some(Side::Buy),
+        "sell" => Some(Side::Sell),
+        _ => None,
+    }
+}
+
+// The premium of a fill and a price within the limits.
+fn premium_of(side: &Side, fill: Parts, price: u64) -> Option<u64> {
+    let Ok(fill) = number::<Frac128>(fill) else {
+        return None;
+    };
+    if price <= MAX_PRICE && is_held(&fill) {
+        Some(premium(side, &fill, price))
+    } else {
+        None
     }
 }
 
 /// The text of the premium of a fill.
-pub fn premium_text(alloc: Global, text: &str) -> Result<String> {
-    let mut words = text.split_whitespace();
-    let side = side(words.next().context("a side")?)?;
-    let fill = number(words.next().context("a fill")?)?;
-    let price = words.next().context("a price")?.parse::<u64>()?;
-    let held = is_held(&fill);
-    ensure!(held, "a fill within the limits");
-    ensure!(price <= MAX_PRICE, "a price within the limits");
-    let ticks = premium(&side, &fill, price);
-    Ok(format!(in alloc; "{ticks}")?)
+pub fn premium_text(alloc: Global, text: &str) -> Result<String, AllocError> {
+    let (side, rest) = pair(text);
+    let (fill, price) = pair(rest);
+    let price = price.parse().unwrap_or(u64::MAX);
+    let Some(side) = side_of(side) else {
+        return Ok(String::new(alloc));
+    };
+    match premium_of(&side, parts(fill), price) {
+        Some(ticks) => format!(in alloc; "{ticks}"),
+        None => Ok(String::new(alloc)),
+    }
 }

@@ -1,10 +1,11 @@
-//! Numbers and misfits as texts, each after a space. The only error is want of memory.
+//! Numbers and misfits as texts. The only error is want of memory.
 
+use crate::reading::Parts;
 use exact_num::{Operator, Wide};
-use std::alloc::AllocError;
+use std::alloc::{AllocError, Global};
 
-/// Appends a fraction, given by its numerator and denominator.
-pub fn print_number(text: &mut String, (above, below): (i128, i128)) -> Result<(), AllocError> {
+/// Appends a fraction, after a space.
+pub fn print_number(text: &mut String, (above, below): Parts) -> Result<(), AllocError> {
     if below == 1 {
         write!(text, " {above}")
     } else {
@@ -12,7 +13,7 @@ pub fn print_number(text: &mut String, (above, below): (i128, i128)) -> Result<(
     }
 }
 
-/// Appends an operation that did not fit, and its operands.
+/// Appends an operation that did not fit, and its operands, each after a space.
 pub fn print_wide(text: &mut String, wide: &Wide) -> Result<(), AllocError> {
     let name = name_of(wide.operator);
     write!(text, " {name}")?;
@@ -27,4 +28,19 @@ fn name_of(operator: Operator) -> &'static str {
         Operator::Div => "div",
         Operator::Whole => "whole",
     }
+}
+
+// Appends a value, or the operation that did not fit.
+fn print_value(text: &mut String, value: Result<Parts, Wide>) -> Result<(), AllocError> {
+    match value {
+        Ok(parts) => print_number(text, parts),
+        Err(wide) => print_wide(text, &wide),
+    }
+}
+
+/// The text of a value, or of the operation that did not fit.
+pub fn value_text(alloc: Global, value: Result<Parts, Wide>) -> Result<String, AllocError> {
+    let mut text = String::new(alloc);
+    print_value(&mut text, value)?;
+    Ok(text)
 }

@@ -1,6 +1,5 @@
 //! Each case, from the text of its program to the text of its end.
-ghost use Rattle.std.specs.Prelude.{◌≡◌, ◌*◌, ◌≤◌, IfOk, true, vec_len};
-ghost use Rattle.std.specs.List.{All};
+ghost use Rattle.std.specs.Prelude.{◌≡◌, ◌*◌, ◌≤◌, IsTrue, true, vec_len};
 ghost use Rattle.exact_num.specs.Fraction.{IsNotBelowZero};
 ghost use Rattle.frac.specs.Narrow.{narrow_fraction};
 ghost use Rattle.frac.specs.Value.{fraction_of};
@@ -8,14 +7,14 @@ ghost use Rattle.compact_table.specs.declared.limits.TheConstants.{MAX_SIDE};
 
 use crate::printing::{print_number, print_wide};
 use crate::program_table::CASES;
-use crate::reading::numbers;
+use crate::reading::{number, numbers, pair};
 use crate::signs::is_none_below_zero;
-use anyhow::{Context, Result, ensure};
 use compact_table::MAX_SIDE;
 use exact_num::{Exact, Operator, Wide};
 use frac::{Frac64, Frac128};
 use simplex::{Budget, Program, RunStop, Solved, Space, Stop, choices, solve};
 use std::alloc::{AllocError, Global};
+use std::test::Fail;
 
 fn print_numbers(text: &mut String, numbers: &[Frac128]) -> Result<(), AllocError> {
     for x in numbers {
@@ -35,17 +34,15 @@ fn print_end(text: &mut String, end: &Result<Solved<Frac128>, Stop>) -> Result<(
             },
         ) => {
             text.push_str(" optimal")?;
-            print_numbers(text, x.as_slice())?;
-            text.push_str(" |")?;
-            print_numbers(text, y.as_slice())?;
-            text.push_str(" |")?;
-            print_numbers(text, reduced.as_slice())?;
-            text.push_str(" |")?;
+            for numbers in [x, y, reduced] {
+                print_numbers(text, numbers)?;
+                text.push_str(" |")?;
+            }
             print_number(text, value.parts())
         }
         Ok(Solved::Unbounded { direction }) => {
             text.push_str(" unbounded")?;
-            print_numbers(text, direction.as_slice())
+            print_numbers(text, direction)
         }
         Err(Stop::Wide { unit: _, wide }) => print_wide(text, wide),
         Err(Stop::Budget) => text.push_str(" budget"),
@@ -53,86 +50,81 @@ fn print_end(text: &mut String, end: &Result<Solved<Frac128>, Stop>) -> Result<(
     }
 }
 
-// The units, the variables and the rows of a text.
-fn sizes(text: &str) -> Result<(u32, usize, usize)> {
-    let mut words = text.split_whitespace();
-    Ok((
-        words.next().context("the units")?.parse()?,
-        words.next().context("the variables")?.parse()?,
-        words.next().context("the rows")?.parse()?,
-    ))
-}
-
-// The program of so many variables and rows, with its coefficients, right sides and costs.
-fn program(
-    n: usize,
-    m: usize,
-    a: Vec<Frac128>,
-    b: Vec<Frac128>,
-    c: Vec<Frac128>,
-) -> Result<Program<Frac128>>
-    ensures coefficients { IfOk result (λ program. vec_len program.a ≡ program.m * program.n) }
-    ensures right_sides { IfOk result (λ program. vec_len program.b ≡ program.m) }
-    ensures costs { IfOk result (λ program. vec_len program.c ≡ program.n) }
-    ensures variables { IfOk result (λ program. program.n ≤ MAX_SIDE) }
-    ensures rows { IfOk result (λ program. program.m ≤ MAX_SIDE) }
-    ensures not_below_zero { IfOk result
-        (λ program. All (λ b. IsNotBelowZero (fraction_of b)) program.b.items) }
+// Whether a program has as many numbers as its sizes say, which are small.
+fn has_its_sizes(program: &Program<Frac128>) -> bool
+    ensures coefficients { IsTrue result → vec_len program.now.a ≡ program.now.m * program.now.n }
+    ensures right_sides { IsTrue result → vec_len program.now.b ≡ program.now.m }
+    ensures costs { IsTrue result → vec_len program.now.c ≡ program.now.n }
+    ensures variables { IsTrue result → program.now.n ≤ MAX_SIDE }
+    ensures rows { IsTrue result → program.now.m ≤ MAX_SIDE }
 {
-    ensure!(n <= 1000 && m <= 1000, "too many numbers");
-    ensure!(a.len() == m * n, "the coefficients");
-    ensure!(b.len() == m, "the right sides");
-    ensure!(c.len() == n, "the costs");
-    let signs = is_none_below_zero(b.as_slice());
-    ensure!(signs, "a right side below 0");
-    Ok(Program { n, m, a, b, c })
+    let (n, m) = (program.n, program.m);
+    if n > 1000 || m > 1000 {
+        return false;
+    }
+    program.a.len() == m * n && program.b.len() == m && program.c.len() == n
 }
 
-// Solves the program, and prints the units spent and the end.
+// The units that were spent, and the end.
+fn end_text(
+    alloc: Global,
+    spent: u32,
+    end: &Result<Solved<Frac128>, Stop>,
+) -> Result<String, AllocError> {
+    let mut text = format!(in alloc; "{spent}")?;
+    print_end(&mut text, end)?;
+    Ok(text)
+}
+
+// Solves a program, and prints the units spent and the end; nothing where it is none.
 fn solution_text(
     alloc: Global,
     units: u32,
     program: &Program<Frac128>,
-) -> Result<String, AllocError>
-    requires coefficients { vec_len program.now.a ≡ program.now.m * program.now.n }
-    requires right_sides { vec_len program.now.b ≡ program.now.m }
-    requires costs { vec_len program.now.c ≡ program.now.n }
-    requires variables { program.now.n ≤ MAX_SIDE }
-    requires rows { program.now.m ≤ MAX_SIDE }
-    requires not_below_zero { All (λ b. IsNotBelowZero (fraction_of b)) program.now.b.items }
-{
+) -> Result<String, AllocError> {
+    if !has_its_sizes(program) || !is_none_below_zero(&program.b) {
+        return Ok(String::new(alloc));
+    }
     let mut budget = Budget::new(units);
     let end = solve(alloc, program, &mut budget);
-    let spent = budget.spent;
-    let mut answer = format!(in alloc; "{spent}")?;
-    print_end(&mut answer, &end)?;
-    Ok(answer)
+    end_text(alloc, budget.spent, &end)
 }
 
-// How the program of the text ends.
-fn end_of(alloc: Global, text: &str) -> Result<String> {
-    let mut parts = text.split('|');
-    let (units, n, m) = sizes(parts.next().context("the sizes")?)?;
-    let a = numbers(alloc, parts.next().context("the coefficients")?)?;
-    let b = numbers(alloc, parts.next().context("the right sides")?)?;
-    let c = numbers(alloc, parts.next().context("the costs")?)?;
-    let program = program(n, m, a, b, c)?;
-    Ok(solution_text(alloc, units, &program)?)
+// The units, the variables and the rows of a text.
+fn sizes(text: &str) -> (u32, usize, usize) {
+    let (units, rest) = pair(text);
+    let (n, m) = pair(rest);
+    (
+        units.parse().unwrap_or(0),
+        n.parse().unwrap_or(0),
+        m.parse().unwrap_or(0),
+    )
 }
 
-// Whether the program of a case ends as the case says.
-fn ends_so(alloc: Global, case: &str) -> Result<bool> {
-    let (input, end) = case.split_once("\n= ").context("an end")?;
-    let (_, program) = input.split_once('\n').context("a name")?;
+// How the program of a text ends: its sizes, coefficients, right sides and costs stand apart by
+// bars.
+fn end_of(alloc: Global, text: &str) -> Result<String, AllocError> {
+    let (start, rest) = text.split_once('|').unwrap_or((text, ""));
+    let (units, n, m) = sizes(start);
+    let (a, rest) = rest.split_once('|').unwrap_or((rest, ""));
+    let (b, c) = rest.split_once('|').unwrap_or((rest, ""));
+    let a = numbers(alloc, a)?;
+    let b = numbers(alloc, b)?;
+    let c = numbers(alloc, c)?;
+    solution_text(alloc, units, &Program { n, m, a, b, c })
+}
+
+// Whether the program of a case, behind its name, ends as the case says.
+fn ends_so(alloc: Global, case: &str) -> Result<bool, AllocError> {
+    let (input, end) = case.split_once("\n= ").unwrap_or((case, ""));
+    let (_, program) = input.split_once('\n').unwrap_or((input, ""));
     Ok(end_of(alloc, program)?.as_str() == end.trim())
 }
 
 #[test]
-fn each_case_ends_as_it_says(rt: HostRuntime) -> Result<()> {
-    let (_, cases) = CASES.split_once("== ").context("a case")?;
-    for case in cases.split("== ") {
-        let so = ends_so(rt.alloc(), case)?;
-        assert!(rt; so, "{case}");
+fn each_case_ends_as_it_says(rt: HostRuntime) -> Result<(), Fail> {
+    for case in CASES.split("== ").skip(1) {
+        assert!(rt; ends_so(rt.alloc(), case)?, "{case}");
     }
     Ok(())
 }
@@ -145,20 +137,19 @@ fn counted(variables: u32, rows: u32) -> Option<u64> {
     choices(variables, rows)
 }
 
+fn are_counted() -> bool {
+    counted(3, 5) == Some(56)
+        && counted(6, 10) == Some(8008)
+        && counted(0, 7) == Some(1)
+        && counted(7, 0) == Some(1)
+        && counted(33, 33) == Some(7219428434016265740)
+        && counted(34, 33).is_none()
+        && counted(MAX_SIDE, MAX_SIDE).is_none()
+}
+
 #[test]
 fn the_ways_to_choose_are_counted(rt: HostRuntime) {
-    let cases = [
-        (3, 5, Some(56)),
-        (6, 10, Some(8008)),
-        (0, 7, Some(1)),
-        (7, 0, Some(1)),
-        (33, 33, Some(7219428434016265740)),
-        (34, 33, None),
-        (MAX_SIDE, MAX_SIDE, None),
-    ];
-    for (variables, rows, number) in cases {
-        assert_eq!(rt; counted(variables, rows), number, "{variables} and {rows}");
-    }
+    assert!(rt; are_counted());
 }
 
 // The value of max x + y under x <= 1 and y <= 1, where the run ends with an optimum.
@@ -210,7 +201,7 @@ fn serves_three(space: &mut Space<Frac128>) -> bool
 }
 
 #[test]
-fn a_space_serves_one_program_after_another(rt: HostRuntime) -> Result<()> {
+fn a_space_serves_one_program_after_another(rt: HostRuntime) -> Result<(), Fail> {
     let mut space: Space<Frac128> = Space::new(rt.alloc(), 2, 2)?;
     assert!(rt; serves_three(&mut space));
     Ok(())
@@ -224,9 +215,13 @@ fn is_right_side(number: Frac64) -> bool
 }
 
 // Whether max a x under a x <= a ends at its optimum after a turn, over narrow numbers.
-fn ends_after_a_turn(alloc: Global, number: i128) -> Result<bool> {
-    let a = Frac64::from_whole(number).ok().context("a number")?;
-    ensure!(is_right_side(a), "a right side below 0");
+fn ends_after_a_turn(alloc: Global, whole: i128) -> Result<bool, AllocError> {
+    let Ok(a) = Frac64::from_whole(whole) else {
+        return Ok(false);
+    };
+    if !is_right_side(a) {
+        return Ok(false);
+    }
     let mut space: Space<Frac64> = Space::new(alloc, 1, 1)?;
     let mut budget = Budget::new(20000);
     space.begin(&[a]);
@@ -237,11 +232,12 @@ fn ends_after_a_turn(alloc: Global, number: i128) -> Result<bool> {
 
 // 2^31 - 1 is the bound of the rows of whole numbers behind narrow ones.
 #[test]
-fn narrow_rows_touch_their_bound(rt: HostRuntime) -> Result<()> {
-    let within = ends_after_a_turn(rt.alloc(), 2147483647)?;
-    assert!(rt; within, "at the bound");
-    let beyond = ends_after_a_turn(rt.alloc(), 2147483648)?;
-    assert!(rt; beyond, "beyond the bound");
+fn narrow_rows_touch_their_bound(rt: HostRuntime) -> Result<(), Fail> {
+    assert!(rt; ends_after_a_turn(rt.alloc(), 2147483647)?);
+    assert!(rt;
+        ends_after_a_turn(rt.alloc(), 2147483648)?,
+        "beyond the bound"
+    );
     Ok(())
 }
 
@@ -262,27 +258,30 @@ fn run_narrow(
     space.run(budget)
 }
 
-// max x under 2^62 x <= 1 and x <= 1 / (2^62 - 1): the step from one ratio to the other leaves 63
-// bits.
-#[test]
-fn narrow_numbers_stop_at_their_limit(rt: HostRuntime) -> Result<()> {
-    let great = Frac64::from_whole(4611686018427387904)
-        .ok()
-        .context("2^62")?;
-    let less = Frac64::from_whole(4611686018427387903)
-        .ok()
-        .context("2^62 - 1")?;
-    ensure!(less.sign() != 0, "a divisor of 0");
-    let part = Frac64::one().div(less).ok().context("the part of it")?;
-    ensure!(is_right_side(part), "a right side below 0");
-    let mut space: Space<Frac64> = Space::new(rt.alloc(), 2, 1)?;
-    let mut budget = Budget::new(20000);
-    let stopped = run_narrow(&mut space, great, part, &mut budget);
+// Whether max x under 2^62 x <= 1 and x <= 1 / (2^62 - 1) stops: the step from one ratio to the
+// other leaves 63 bits.
+fn stops_at_the_limit(alloc: Global) -> Result<bool, AllocError> {
+    let Ok(great) = Frac64::from_whole(4611686018427387904) else {
+        return Ok(false);
+    };
+    let Ok(part) = number::<Frac64>((1, 4611686018427387903)) else {
+        return Ok(false);
+    };
+    if !is_right_side(part) {
+        return Ok(false);
+    }
+    let mut space: Space<Frac64> = Space::new(alloc, 2, 1)?;
+    let stopped = run_narrow(&mut space, great, part, &mut Budget::new(20000));
     let wide = Wide {
         operator: Operator::Add,
         left: (1, 4611686018427387903),
         right: (-1, 4611686018427387904),
     };
-    assert_eq!(rt; stopped, Err(RunStop::Wide { unit: 1, wide }));
+    Ok(stopped == Err(RunStop::Wide { unit: 1, wide }))
+}
+
+#[test]
+fn narrow_numbers_stop_at_their_limit(rt: HostRuntime) -> Result<(), Fail> {
+    assert!(rt; stops_at_the_limit(rt.alloc())?);
     Ok(())
 }

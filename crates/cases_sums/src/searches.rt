@@ -6,7 +6,8 @@ use exact_num::Exact;
 use form::{Batch, Bundle, Form, Order, Orders, Side};
 use frac::Frac128;
 use pricing_oracle::{Found, search};
-use simplex::Budget;
+use simplex::{Budget, Stop};
+use std::alloc::{AllocError, Global};
 use std::test::Fail;
 
 // The call with strike 10 on the sum of two underlyings.
@@ -33,31 +34,38 @@ fn order(side: Side) -> Order
     }
 }
 
-// A call that is bought and sold is covered by both signs of it, and one that is only bought is not
-// covered.
-#[test]
-fn calls_are_covered_where_they_are_sold(rt: HostRuntime) -> Result<(), Fail> {
-    let alloc = rt.alloc();
-    let zero = Frac128::zero();
-    let one = Frac128::one();
+// Whether three nodes close a search.
+fn is_closed(found: &Result<Found, Stop>) -> bool {
+    match found {
+        Ok(Found::Closed(tree)) => tree.nodes.as_slice().len() == 3,
+        _ => false,
+    }
+}
+
+// Whether a search found a violated state whose first entry is 0.
+fn is_violated_at_zero(found: &Result<Found, Stop>) -> bool {
+    match found {
+        Ok(Found::Violated(state)) => state.entries[0] == 0,
+        _ => false,
+    }
+}
+
+// Whether a call that is bought and sold is covered by both signs of it, and one that is only
+// bought is not covered.
+fn is_covered_where_sold(alloc: Global) -> Result<bool, AllocError> {
+    let (zero, one) = (Frac128::zero(), Frac128::one());
     let orders = [order(Side::Buy), order(Side::Sell)];
     let batch = Batch {
         underlyings: 2,
         orders: Orders::from_vec(Vec::from_slice(alloc, &orders)?),
     };
-    let both = [one, one];
-    let mut budget = Budget::new(100);
-    let found = search(alloc, &batch, both.as_slice(), &zero, &mut budget);
-    let Ok(Found::Closed(tree)) = found else {
-        panic!(rt; "the fills cover each other");
-    };
-    assert_eq!(rt; tree.nodes.as_slice().len(), 3);
-    let first = [one, zero];
-    let mut budget = Budget::new(100);
-    let found = search(alloc, &batch, first.as_slice(), &one, &mut budget);
-    let Ok(Found::Violated(state)) = found else {
-        panic!(rt; "nothing covers the call");
-    };
-    assert!(rt; state.entries[0] == 0);
+    let both = search(alloc, &batch, &[one, one], &zero, &mut Budget::new(100));
+    let first = search(alloc, &batch, &[one, zero], &one, &mut Budget::new(100));
+    Ok(is_closed(&both) && is_violated_at_zero(&first))
+}
+
+#[test]
+fn calls_are_covered_where_they_are_sold(rt: HostRuntime) -> Result<(), Fail> {
+    assert!(rt; is_covered_where_sold(rt.alloc())?);
     Ok(())
 }
