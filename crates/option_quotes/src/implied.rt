@@ -1,15 +1,14 @@
 //! The price from which on a further order raises the surplus, found along lines in a few clears.
-ghost use Rattle.std.specs.Prelude.{◌≡◌, ◌≤◌, ◌+◌, IfOk, length, true};
-ghost use Rattle.std.specs.List.{All};
-ghost use Rattle.form.specs.declared.limits.TheConstants.{MAX_BUDGET, MAX_ORDER, MAX_QUANTITY};
-ghost use Rattle.form.specs.Limits.{IsListed, IsWithinLimits};
-ghost use Rattle.form.specs.Options.{option_of};
+ghost use Rattle.std.specs.Prelude.{◌≡◌, ◌≤◌, IfOk, true};
+ghost use Rattle.form.specs.declared.limits.TheConstants.{MAX_BUDGET, MAX_QUANTITY};
+ghost use Rattle.form.specs.Limits.{IsWithinLimits};
 ghost use Rattle.form.specs.declared.orders.Side.TheVariants as Side;
 ghost use Rattle.option_quotes.specs.Ends.{AreEnds, IsProbed};
 ghost use Rattle.option_quotes.specs.Implied.{asked, landed_at, prices_for, prices_of, side_price, walked_all};
 ghost use Rattle.option_quotes.specs.Probes.{is_raised, probe_outcome, with_order};
 ghost use Rattle.option_quotes.specs.Quotes.{IsShown};
 ghost use Rattle.option_quotes.specs.Shown.{IfMarked, IsImplied};
+ghost use Rattle.option_quotes.specs.Thresholds.{MayBeQuoted};
 
 use crate::along::{next_along, next_better};
 use crate::ends::{Ends, Probed};
@@ -187,11 +186,7 @@ pub fn implied_prices(
     quantity: u32,
     limit: u32,
 ) -> Result<MarketPrices, AllocError>
-    requires within { IsWithinLimits batch.now }
-    requires room { length batch.now.orders ≤ 255 }
-    requires ids { All (λ order. order.id ≤ MAX_ORDER) batch.now.orders }
-    requires listed { IsListed (option_of form.now) }
-    requires on { form.now.count ≡ batch.now.underlyings + 1 }
+    requires batch { MayBeQuoted batch.now form.now }
     requires quantity { (1 ≤ quantity) × (quantity ≤ MAX_QUANTITY) }
     requires limit { (1 ≤ limit) × (limit ≤ MAX_BUDGET) }
 

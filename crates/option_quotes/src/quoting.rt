@@ -1,13 +1,12 @@
 //! The quote, probe by probe.
-ghost use Rattle.std.specs.Prelude.{◌≡◌, ◌≤◌, ◌+◌, IfOk, length, true};
-ghost use Rattle.std.specs.List.{All};
-ghost use Rattle.form.specs.declared.limits.TheConstants.{MAX_BUDGET, MAX_ORDER};
-ghost use Rattle.form.specs.Limits.{IsListed, IsWithinLimits};
-ghost use Rattle.form.specs.Options.{option_of};
+ghost use Rattle.std.specs.Prelude.{◌≡◌, ◌≤◌, IfOk, true};
+ghost use Rattle.form.specs.declared.limits.TheConstants.{MAX_BUDGET};
+ghost use Rattle.form.specs.Limits.{IsWithinLimits};
 ghost use Rattle.option_quotes.specs.ByProbes.{quoted_of};
 ghost use Rattle.option_quotes.specs.Ends.{IsProbed};
 ghost use Rattle.option_quotes.specs.Probes.{best_price, first_unmarked, further, is_raised, probe_outcome, probes, probes_from_best, probes_from_worst, with_order};
 ghost use Rattle.option_quotes.specs.Quotes.{AreShown, IfAt, IfNever, IsNever, IsQuote, IsShown, RaisesFrom, unmarked_of};
+ghost use Rattle.option_quotes.specs.Thresholds.{MayBeQuoted};
 
 use crate::ends::{Ends, Probed, between};
 use crate::probes::{
@@ -134,11 +133,7 @@ pub fn quote(
     side: Side,
     limit: u32,
 ) -> Result<Quoted, AllocError>
-    requires within { IsWithinLimits batch.now }
-    requires room { length batch.now.orders ≤ 255 }
-    requires ids { All (λ order. order.id ≤ MAX_ORDER) batch.now.orders }
-    requires listed { IsListed (option_of form.now) }
-    requires on { form.now.count ≡ batch.now.underlyings + 1 }
+    requires batch { MayBeQuoted batch.now form.now }
     requires limit { (1 ≤ limit) × (limit ≤ MAX_BUDGET) }
 
     // The quote is the one that the definition gives by the probes.

@@ -1,11 +1,10 @@
 // What is quoted and priced of a market, or why nothing is.
-ghost use Rattle.std.specs.Prelude.{◌≡◌, ◌≤◌, ◌+◌, IfOk, IfSome, None, length};
-ghost use Rattle.std.specs.List.{All};
-ghost use Rattle.form.specs.Limits.{IsWithinLimits};
-ghost use Rattle.form.specs.declared.limits.TheConstants.{MAX_ORDER, MAX_QUANTITY, MAX_UNDERLYINGS};
+ghost use Rattle.std.specs.Prelude.{◌≡◌, ◌≤◌, IfOk, IfSome, None};
+ghost use Rattle.form.specs.declared.limits.TheConstants.{MAX_QUANTITY, MAX_UNDERLYINGS};
 ghost use Rattle.order_book.specs.Book.{info_in};
 ghost use Rattle.exchange_core.specs.Kept.{IsKept};
 ghost use Rattle.lists.specs.Refusals.{first_of};
+ghost use Rattle.option_quotes.specs.Thresholds.{MayBeQuoted};
 ghost use Rattle.quote_lines.specs.Within.{IsRequestWithin};
 ghost use Rattle.quote_lines.specs.Replies.{asked_reply, price_of, priced_for, prices_told, quoted_for, quoted_price, side_told, told_for};
 ghost use Rattle.quote_lines.specs.Refusals.{info_refusals};
@@ -38,10 +37,7 @@ fn quoted_price(
     side: Side,
 ) -> Result<QuotedPrice, AllocError>
     requires request { IsRequestWithin request.now }
-    requires batch { IsWithinLimits batch.now }
-    requires room { length batch.now.orders ≤ 255 }
-    requires ids { All (λ order. order.id ≤ MAX_ORDER) batch.now.orders }
-    requires on { request.now.form.count ≡ batch.now.underlyings + 1 }
+    requires batch { MayBeQuoted batch.now request.now.form }
     ensures { IfOk result (λ price. price ≡ quoted_price batch.now request.now side) }
 {
     let quoted = quote(alloc, batch, &request.form, side, request.budget)?;
@@ -55,10 +51,7 @@ fn quoted_for(
     request: &QuoteRequest,
 ) -> Result<QuotesReply, AllocError>
     requires request { IsRequestWithin request.now }
-    requires batch { IsWithinLimits batch.now }
-    requires room { length batch.now.orders ≤ 255 }
-    requires ids { All (λ order. order.id ≤ MAX_ORDER) batch.now.orders }
-    requires on { request.now.form.count ≡ batch.now.underlyings + 1 }
+    requires batch { MayBeQuoted batch.now request.now.form }
     ensures { IfOk result (λ reply. reply ≡ quoted_for batch.now request.now) }
 {
     Ok(QuotesReply::Quoted {
@@ -104,10 +97,7 @@ fn priced_for(
 ) -> Result<QuotesReply, AllocError>
     requires request { IsRequestWithin request.now }
     requires quantity { (1 ≤ quantity) × (quantity ≤ MAX_QUANTITY) }
-    requires batch { IsWithinLimits batch.now }
-    requires room { length batch.now.orders ≤ 255 }
-    requires ids { All (λ order. order.id ≤ MAX_ORDER) batch.now.orders }
-    requires on { request.now.form.count ≡ batch.now.underlyings + 1 }
+    requires batch { MayBeQuoted batch.now request.now.form }
     ensures { IfOk result (λ reply. reply ≡ priced_for batch.now request.now quantity) }
 {
     let prices = implied_prices(alloc, batch, &request.form, quantity, request.budget)?;
@@ -123,10 +113,7 @@ fn told_for(
 ) -> Result<QuotesReply, AllocError>
     requires request { IsRequestWithin request.now }
     requires quantity { IfSome quantity (λ q. (1 ≤ q) × (q ≤ MAX_QUANTITY)) }
-    requires batch { IsWithinLimits batch.now }
-    requires room { length batch.now.orders ≤ 255 }
-    requires ids { All (λ order. order.id ≤ MAX_ORDER) batch.now.orders }
-    requires on { request.now.form.count ≡ batch.now.underlyings + 1 }
+    requires batch { MayBeQuoted batch.now request.now.form }
     ensures { IfOk result (λ reply. reply ≡ told_for batch.now request.now quantity) }
 {
     match quantity {

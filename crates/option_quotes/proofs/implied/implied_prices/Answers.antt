@@ -1,6 +1,5 @@
 use Rattle.std.proofs.lemmas.Result.{IfOk-weaker}
 use Rattle.form.specs.declared.orders.Side.TheVariants.{Buy, Sell}
-use Rattle.option_quotes.specs.Thresholds.{MayBeQuoted}
 use Rattle.option_quotes.proofs.Found.{asked_prices, prices_are_implied}
 use Rattle.option_quotes.proofs.Raising.{asked_within, quantity_within}
 use Rattle.option_quotes.proofs.implied.implied_prices.Goals as goal
@@ -9,19 +8,19 @@ pub room_with-requires-clause-within : goal.room_with-requires-clause-within
 room_with-requires-clause-within c =
     let r = c.requires in
     quantity_within c.args.batch.now c.args.form.now Buy c.args.quantity _ c.asked-buy.ensures r.quantity.0 r.quantity.1
-    (asked_within c.args.batch.now c.args.form.now Buy r.within r.room r.ids r.listed r.on)
+    (asked_within c.args.batch.now c.args.form.now Buy r.batch.within r.batch.room r.batch.ids r.batch.listed r.batch.on)
 
 pub prices_in-requires-clause-buy : goal.prices_in-requires-clause-buy
 prices_in-requires-clause-buy c =
     let r = c.requires in
     quantity_within c.args.batch.now c.args.form.now Buy c.args.quantity _ c.asked-buy.ensures r.quantity.0 r.quantity.1
-    (asked_within c.args.batch.now c.args.form.now Buy r.within r.room r.ids r.listed r.on)
+    (asked_within c.args.batch.now c.args.form.now Buy r.batch.within r.batch.room r.batch.ids r.batch.listed r.batch.on)
 
 pub prices_in-requires-clause-sell : goal.prices_in-requires-clause-sell
 prices_in-requires-clause-sell c =
     let r = c.requires in
     quantity_within c.args.batch.now c.args.form.now Sell c.args.quantity _ c.asked-sell.ensures r.quantity.0 r.quantity.1
-    (asked_within c.args.batch.now c.args.form.now Sell r.within r.room r.ids r.listed r.on)
+    (asked_within c.args.batch.now c.args.form.now Sell r.batch.within r.batch.room r.batch.ids r.batch.listed r.batch.on)
 
 pub returns-clause-defined : goal.returns-clause-defined
 returns-clause-defined c =
@@ -34,10 +33,9 @@ pub returns-clause-ask : goal.returns-clause-ask
 returns-clause-ask c =
     let r = c.requires in
     let a = c.args in
-    let may : MayBeQuoted a.batch.now a.form.now = record { within = r.within; room = r.room; ids = r.ids; listed = r.listed; on = r.on } in
     IfOk-weaker c.prices_in.result _ _
     (λ prices is.
-    (prices_are_implied a.batch.now a.form.now a.quantity a.limit may r.quantity.0 r.quantity.1 prices
+    (prices_are_implied a.batch.now a.form.now a.quantity a.limit r.batch r.quantity.0 r.quantity.1 prices
     (asked_prices a.batch.now a.form.now a.quantity a.limit _ _ prices c.asked-buy.ensures c.asked-sell.ensures is)).0)
     c.prices_in.ensures
 
@@ -45,9 +43,8 @@ pub returns-clause-bid : goal.returns-clause-bid
 returns-clause-bid c =
     let r = c.requires in
     let a = c.args in
-    let may : MayBeQuoted a.batch.now a.form.now = record { within = r.within; room = r.room; ids = r.ids; listed = r.listed; on = r.on } in
     IfOk-weaker c.prices_in.result _ _
     (λ prices is.
-    (prices_are_implied a.batch.now a.form.now a.quantity a.limit may r.quantity.0 r.quantity.1 prices
+    (prices_are_implied a.batch.now a.form.now a.quantity a.limit r.batch r.quantity.0 r.quantity.1 prices
     (asked_prices a.batch.now a.form.now a.quantity a.limit _ _ prices c.asked-buy.ensures c.asked-sell.ensures is)).1)
     c.prices_in.ensures

@@ -2,18 +2,19 @@ use Rattle.std.proofs.Common.{ap, ◌∙◌}
 use Rattle.std.proofs.lemmas.Result.{IfOk-weaker}
 use Rattle.form.specs.declared.orders.Order.{Order}
 use Rattle.option_quotes.specs.ByProbes.{quoted_of}
-use Rattle.option_quotes.specs.Thresholds.{MayBeQuoted}
 use Rattle.option_quotes.proofs.Raising.{order_within}
 use Rattle.option_quotes.proofs.Thresholds.{defined_is_quote}
 use Rattle.option_quotes.proofs.quoting.quote.Goals as goal
 
 pub room_with-requires-clause-within : goal.room_with-requires-clause-within
 room_with-requires-clause-within c =
-    order_within c.args.batch.now c.args.form.now c.args.side c.further-order.result c.further-order.ensures c.requires.within c.requires.room c.requires.ids c.requires.listed c.requires.on
+    let may = c.requires.batch in
+    order_within c.args.batch.now c.args.form.now c.args.side c.further-order.result c.further-order.ensures may.within may.room may.ids may.listed may.on
 
 pub quote_in-requires-clause-within : goal.quote_in-requires-clause-within
 quote_in-requires-clause-within c =
-    order_within c.args.batch.now c.args.form.now c.args.side c.further-order.result c.further-order.ensures c.requires.within c.requires.room c.requires.ids c.requires.listed c.requires.on
+    let may = c.requires.batch in
+    order_within c.args.batch.now c.args.form.now c.args.side c.further-order.result c.further-order.ensures may.within may.room may.ids may.listed may.on
 
 pub returns-clause-defined : goal.returns-clause-defined
 returns-clause-defined c =
@@ -21,32 +22,24 @@ returns-clause-defined c =
 
 pub returns-clause-raises : goal.returns-clause-raises
 returns-clause-raises c =
-    let r = c.requires in
-    let may : MayBeQuoted c.args.batch.now c.args.form.now = record { within = r.within; room = r.room; ids = r.ids; listed = r.listed; on = r.on } in
     IfOk-weaker c.quote_in.result _ _
-    (λ quoted is. (defined_is_quote c.args.batch.now c.args.form.now c.args.side c.further-order.result c.args.limit quoted may c.further-order.ensures is).0.raises)
+    (λ quoted is. (defined_is_quote c.args.batch.now c.args.form.now c.args.side c.further-order.result c.args.limit quoted c.requires.batch c.further-order.ensures is).0.raises)
     c.quote_in.ensures
 
 pub returns-clause-shown : goal.returns-clause-shown
 returns-clause-shown c =
-    let r = c.requires in
-    let may : MayBeQuoted c.args.batch.now c.args.form.now = record { within = r.within; room = r.room; ids = r.ids; listed = r.listed; on = r.on } in
     IfOk-weaker c.quote_in.result _ _
-    (λ quoted is. (defined_is_quote c.args.batch.now c.args.form.now c.args.side c.further-order.result c.args.limit quoted may c.further-order.ensures is).0.shown)
+    (λ quoted is. (defined_is_quote c.args.batch.now c.args.form.now c.args.side c.further-order.result c.args.limit quoted c.requires.batch c.further-order.ensures is).0.shown)
     c.quote_in.ensures
 
 pub returns-clause-never : goal.returns-clause-never
 returns-clause-never c =
-    let r = c.requires in
-    let may : MayBeQuoted c.args.batch.now c.args.form.now = record { within = r.within; room = r.room; ids = r.ids; listed = r.listed; on = r.on } in
     IfOk-weaker c.quote_in.result _ _
-    (λ quoted is. (defined_is_quote c.args.batch.now c.args.form.now c.args.side c.further-order.result c.args.limit quoted may c.further-order.ensures is).0.never)
+    (λ quoted is. (defined_is_quote c.args.batch.now c.args.form.now c.args.side c.further-order.result c.args.limit quoted c.requires.batch c.further-order.ensures is).0.never)
     c.quote_in.ensures
 
 pub returns-clause-unmarked : goal.returns-clause-unmarked
 returns-clause-unmarked c =
-    let r = c.requires in
-    let may : MayBeQuoted c.args.batch.now c.args.form.now = record { within = r.within; room = r.room; ids = r.ids; listed = r.listed; on = r.on } in
     IfOk-weaker c.quote_in.result _ _
-    (λ quoted is. (defined_is_quote c.args.batch.now c.args.form.now c.args.side c.further-order.result c.args.limit quoted may c.further-order.ensures is).1)
+    (λ quoted is. (defined_is_quote c.args.batch.now c.args.form.now c.args.side c.further-order.result c.args.limit quoted c.requires.batch c.further-order.ensures is).1)
     c.quote_in.ensures

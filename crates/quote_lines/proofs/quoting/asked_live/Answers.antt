@@ -5,14 +5,8 @@ use Rattle.quote_lines.specs.declared.replies.QuotesReply.TheVariants.{Plain}
 use Rattle.quote_lines.proofs.MayQuote.{may_quote, reply_told, reply_too_many}
 use Rattle.quote_lines.proofs.quoting.asked_live.Goals as goal
 
-pub told_for-requires-clause-room : goal.told_for-requires-clause-room
-told_for-requires-clause-room c = (may_quote c.args.exchange.now c.args.request.now c.in-Ok.batch c.requires.kept c.requires.request.listed c.in-Ok.ensures.batch c.requires.told).room
-
-pub told_for-requires-clause-ids : goal.told_for-requires-clause-ids
-told_for-requires-clause-ids c = (may_quote c.args.exchange.now c.args.request.now c.in-Ok.batch c.requires.kept c.requires.request.listed c.in-Ok.ensures.batch c.requires.told).ids
-
-pub told_for-requires-clause-on : goal.told_for-requires-clause-on
-told_for-requires-clause-on c = (may_quote c.args.exchange.now c.args.request.now c.in-Ok.batch c.requires.kept c.requires.request.listed c.in-Ok.ensures.batch c.requires.told).on
+pub told_for-requires-clause-batch : goal.told_for-requires-clause-batch
+told_for-requires-clause-batch c = may_quote c.args.exchange.now c.args.request.now c.in-Ok.batch c.requires.kept c.requires.request.listed c.in-Ok.ensures.batch c.requires.told
 
 pub returns-in-Ok : goal.returns-in-Ok
 returns-in-Ok c =
