@@ -172,7 +172,7 @@ module _ (batch : Batch) (form : Form) (quantity limit : ℕ) (may : MayBeQuoted
   asked_is_implied side optimal =
       let order = asked form side quantity in
       side_is_implied batch order limit
-      (quantity_within batch form side quantity order refl some few (asked_within batch form side may.within may.room may.ids may.listed may.on))
+      (quantity_within batch form side quantity order refl some few (asked_within batch form side may))
       (shown batch limit (outcome_of batch limit) may.within refl optimal)
 
   -- the prices of both sides are implied

@@ -43,6 +43,7 @@ use Rattle.option_quotes.specs.Quotes.{IsBelow}
 use Rattle.option_quotes.specs.Implied.{asked}
 use Rattle.option_quotes.specs.Probes.{further, is_optimal, is_raised, with_order, best_price, worst_price, gap}
 use Rattle.option_quotes.specs.Quotes.{Raises, IsShown, IsShownAt, IsNextWorse, IsQuote}
+use Rattle.option_quotes.specs.Thresholds.{MayBeQuoted}
 use Rattle.option_quotes.specs.Ends.{IsProbed, IsBetter, AreEnds}
 use Rattle.market_laws.proofs.Limits.{better_limits_cover}
 
@@ -90,32 +91,29 @@ further_within form side listed =
       counted = subst (λ n. 1 * n ≤ MAX_OPTIONS) (sym (one_size form)) (omega arith);
     }
 
-pub asked_within : (batch : Batch) (form : Form) (side : Side) → IsWithinLimits batch → length batch.orders ≤ 255 → All (λ (order : Order). order.id ≤ 1000000) batch.orders
-    → IsListed (option_of form) → form.count ≡ batch.underlyings + 1
-    → IsWithinLimits (with_order batch (further form side))
-asked_within batch form side within room ids listed on =
+pub asked_within : (batch : Batch) (form : Form) (side : Side) → MayBeQuoted batch form → IsWithinLimits (with_order batch (further form side))
+asked_within batch form side may =
+    let within = may.within in
     let o = further form side in
     let id_of : Order → ℕ = λ order. order.id in
     let Q : Leg → Type 0 = λ leg. leg.form.count ≡ batch.underlyings + 1 in
-    let below = All-map (λ x. x < 1000001) id_of batch.orders (All-weaker (λ (order : Order). order.id ≤ 1000000) (λ (order : Order). order.id < 1000001) (λ order le. omega (arith, le)) batch.orders ids) in
+    let below = All-map (λ x. x < 1000001) id_of batch.orders (All-weaker (λ (order : Order). order.id ≤ 1000000) (λ (order : Order). order.id < 1000001) (λ order le. omega (arith, le)) batch.orders may.ids) in
     record {
       has_forms = record {
         some = within.has_forms.some;
         few = within.has_forms.few;
         forms = All-push (λ (order : Order). IsOnCount (batch.underlyings + 1) order.bundle) batch.orders o within.has_forms.forms
-            (subst (All Q) (sym (legs_in-bundle_one form)) (All-cons Q (record { count = pos 1; form = form }) [] on (All-nil Q)));
+            (subst (All Q) (sym (legs_in-bundle_one form)) (All-cons Q (record { count = pos 1; form = form }) [] may.on (All-nil Q)));
       };
-      orders_fit = omega (arith, length-append batch.orders (o ∷ []), room);
+      orders_fit = omega (arith, length-append batch.orders (o ∷ []), may.room);
       ids_rise = subst IsStrictlyIncreasing (sym (map-append id_of batch.orders (o ∷ []))) (rise_push (map id_of batch.orders) 1000001 within.ids_rise below);
-      orders_within = All-push IsOrderWithin batch.orders o within.orders_within (further_within form side listed);
+      orders_within = All-push IsOrderWithin batch.orders o within.orders_within (further_within form side may.listed);
     }
 
 -- and so is an order that is this one
-pub order_within : (batch : Batch) (form : Form) (side : Side) (order : Order) → order ≡ further form side → IsWithinLimits batch → length batch.orders ≤ 255
-    → All (λ (order : Order). order.id ≤ 1000000) batch.orders → IsListed (option_of form) → form.count ≡ batch.underlyings + 1
+pub order_within : (batch : Batch) (form : Form) (side : Side) (order : Order) → order ≡ further form side → MayBeQuoted batch form
     → IsWithinLimits (with_order batch order)
-order_within batch form side order is within room ids listed on =
-    subst (λ (order : Order). IsWithinLimits (with_order batch order)) (sym is) (asked_within batch form side within room ids listed on)
+order_within batch form side order is may = subst (λ (order : Order). IsWithinLimits (with_order batch order)) (sym is) (asked_within batch form side may)
 
 -- and with so many bundles
 pub quantity_within : (batch : Batch) (form : Form) (side : Side) (quantity : ℕ) (order : Order) → order ≡ asked form side quantity → 1 ≤ quantity → quantity ≤ 1000000

@@ -125,7 +125,7 @@ pub defined_is_quote : (batch : Batch) (form : Form) (side : Side) (order : Orde
     → IsQuote batch (further form side) limit quoted × (unmarked_of quoted ≡ first_unmarked (probes batch (further form side) limit))
 defined_is_quote batch form side order limit quoted may same is =
     let o = further form side in
-    let within = asked_within batch form side may.within may.room may.ids may.listed may.on in
+    let within = asked_within batch form side may in
     let quote = by_first batch o limit (first_unmarked (probes batch o limit)) may.within within refl in
     let here : quote.0 ≡ quoted = quote_is batch o limit quote.0 within quote.1 quote.2 ∙ sym (is ∙ ap (λ (it : Order). quoted_of batch it limit) same) in
     subst (λ (q : Quoted). IsQuote batch o limit q × (unmarked_of q ≡ first_unmarked (probes batch o limit))) here (quote.1, quote.2)

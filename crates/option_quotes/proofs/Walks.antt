@@ -17,7 +17,7 @@ use Rattle.option_quotes.specs.declared.ends.Probed.{Probed}
 use Rattle.option_quotes.specs.declared.prices.MarketPrices.TheVariants as market
 use Rattle.option_quotes.specs.declared.prices.SidePrice.{SidePrice}
 use Rattle.option_quotes.specs.declared.prices.SidePrice.TheVariants.{At, Never, Unmarked, Spent}
-use Rattle.option_quotes.specs.Ends.{IsProbed, IsBetter, AreEnds}
+use Rattle.option_quotes.specs.Ends.{IsProbed, IsBetter}
 use Rattle.option_quotes.specs.Implied.{above_of, landed_at, next_along, next_better, price_along, prices_for, side_price, walked_all, walked_from, most_walked}
 use Rattle.option_quotes.specs.Probes.{best_price, gap, is_optimal, is_raised, probe_outcome, worst_price}
 use Rattle.option_quotes.specs.Quotes.{IsShown}
@@ -115,12 +115,19 @@ module _ (batch : Batch) (order : Order) (limit : ℕ) (base : Outcome) (first l
     walks_unmarked not_optimal =
         sym (all ∙ else_of (is_optimal ((probe_outcome batch order limit) other.price)) _ _ (ap is_optimal (sym is) ∙ not_optimal) ∙ ap (λ (o : Outcome). Unmarked other.price o) (sym is))
 
-    other_fits : other.price ≤ MAX_PRICE
-    other_fits = subst (λ (p : ℕ). p ≤ MAX_PRICE) (sym at) (along_fits order.side raising.price _ walks.is.within)
+    pub other_probed : is_optimal other.outcome ≡ true → IsProbed batch order limit other
+    other_probed optimal = record {
+      within = subst (λ (p : ℕ). p ≤ MAX_PRICE) (sym at) (along_fits order.side raising.price _ walks.is.within);
+      is = is;
+      optimal = optimal;
+    }
+
+    pub other_is_worse : IsBetter order.side other.price raising.price
+    other_is_worse = subst (λ (p : ℕ). IsBetter order.side p raising.price) (sym at) (along_is_worse order.side raising.price _ walks.is.within off)
 
     pub walks_on : is_optimal other.outcome ≡ true → is_raised base other.outcome ≡ true → Walks batch order limit base first (left - 1) other
     walks_on optimal raised = record {
-      is = record { within = other_fits; is = is; optimal = optimal };
+      is = other_probed optimal;
       raised = raised;
       rest = sym (all ∙ then_of (is_optimal ((probe_outcome batch order limit) other.price)) _ _ (ap is_optimal (sym is) ∙ optimal) ∙ then_of (is_raised base ((probe_outcome batch order limit) other.price)) _ _ (ap (is_raised base) (sym is) ∙ raised));
     }
@@ -130,23 +137,15 @@ module _ (batch : Batch) (order : Order) (limit : ℕ) (base : Outcome) (first l
     walks_land optimal not_raised =
         sym (all ∙ then_of (is_optimal ((probe_outcome batch order limit) other.price)) _ _ (ap is_optimal (sym is) ∙ optimal) ∙ else_of (is_raised base ((probe_outcome batch order limit) other.price)) _ _ (ap (is_raised base) (sym is) ∙ not_raised))
 
-    pub ends_of : is_optimal other.outcome ≡ true → is_raised base other.outcome ≡ false → AreEnds batch order limit base (record { raising = raising; other = other })
-    ends_of optimal not_raised = record {
-      raising = walks.is;
-      other = record { within = other_fits; is = is; optimal = optimal };
-      raised = walks.raised;
-      not_raised = not_raised;
-      better = subst (λ (p : ℕ). IsBetter order.side p raising.price) (sym at) (along_is_worse order.side raising.price _ walks.is.within off);
-    }
-
 -- ---- where a walk ends between two prices
-module _ (batch : Batch) (order : Order) (limit : ℕ) (base : Outcome) (left : ℕ) (ends : Ends) (are : AreEnds batch order limit base ends) where
+module _ (batch : Batch) (order : Order) (limit left : ℕ) (ends : Ends)
+    (raises : IsProbed batch order limit ends.raising) (beside : IsProbed batch order limit ends.other) where
   pub lands_beside : (price : ℕ) → price ≡ next_better order.side ends.other.price → price ≡ ends.raising.price
       → At price ends.raising.outcome (Some ends.other.outcome) ≡ landed_at (probe_outcome batch order limit) order.side left ends.raising.price ends.other.price
   lands_beside price at same =
       sym (
       then_of (next_better order.side ends.other.price == ends.raising.price) _ _ (is_same (next_better order.side ends.other.price) ends.raising.price (sym at ∙ same))
-      ∙ (λ i. At (sym same i) (sym are.raising.is i) (Some (sym are.other.is i)))
+      ∙ (λ i. At (sym same i) (sym raises.is i) (Some (sym beside.is i)))
       )
 
   pub lands_spent : (price : ℕ) → price ≡ next_better order.side ends.other.price → left ≡ 0 → (price ≡ ends.raising.price → ⊥) → Spent ≡ landed_at (probe_outcome batch order limit) order.side left ends.raising.price ends.other.price
@@ -167,7 +166,7 @@ module _ (batch : Batch) (order : Order) (limit : ℕ) (base : Outcome) (left : 
     lands_at optimal =
         sym (
         found ∙ then_of (is_optimal ((probe_outcome batch order limit) above.price)) _ _ (ap is_optimal (sym is) ∙ optimal)
-        ∙ (λ i. At above.price (sym is i) (Some (sym are.other.is i)))
+        ∙ (λ i. At above.price (sym is i) (Some (sym beside.is i)))
         )
 
 -- ---- from the best price, and from the batch

@@ -4,11 +4,18 @@ use Rattle.form.specs.declared.orders.Side.{Side}
 use Rattle.form.specs.declared.orders.Side.TheVariants.{Buy, Sell}
 use Rattle.form.specs.declared.orders.Order.{Order}
 use Rattle.form.specs.declared.orders.Batch.{Batch}
-use Rattle.form.specs.declared.limits.TheConstants.{MAX_PRICE}
+use Rattle.form.specs.Limits.{IsWithinLimits}
+use Rattle.form.specs.declared.limits.TheConstants.{MAX_BUDGET, MAX_PRICE}
 use Rattle.cert_check.specs.declared.outcome.Outcome.{Outcome}
 use Rattle.option_quotes.specs.declared.ends.Probed.{Probed}
 use Rattle.option_quotes.specs.declared.ends.Ends.{Ends}
-use Rattle.option_quotes.specs.Probes.{is_optimal, is_raised, probe_outcome}
+use Rattle.option_quotes.specs.declared.probes.Probing.{Probing}
+use Rattle.option_quotes.specs.Probes.{is_optimal, is_raised, probe_outcome, with_order}
+
+-- the batch with the order is within the limits, and the work may be so much
+pub record IsProbing (p : Probing) : Type 0 where
+  pub within : IsWithinLimits (with_order p.batch.now p.order)
+  pub work : (1 ≤ p.limit) × (p.limit ≤ MAX_BUDGET)
 
 -- the outcome is that of the batch with the order at this price, and marked optimal
 pub record IsProbed (batch : Batch) (order : Order) (limit : ℕ) (p : Probed) : Type 0 where

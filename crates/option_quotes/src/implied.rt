@@ -3,7 +3,7 @@ ghost use Rattle.std.specs.Prelude.{◌≡◌, ◌≤◌, IfOk, true};
 ghost use Rattle.form.specs.declared.limits.TheConstants.{MAX_BUDGET, MAX_QUANTITY};
 ghost use Rattle.form.specs.Limits.{IsWithinLimits};
 ghost use Rattle.form.specs.declared.orders.Side.TheVariants as Side;
-ghost use Rattle.option_quotes.specs.Ends.{AreEnds, IsProbed};
+ghost use Rattle.option_quotes.specs.Ends.{IsBetter, IsProbed, IsProbing};
 ghost use Rattle.option_quotes.specs.Implied.{asked, landed_at, prices_for, prices_of, side_price, walked_all};
 ghost use Rattle.option_quotes.specs.Probes.{is_raised, probe_outcome, with_order};
 ghost use Rattle.option_quotes.specs.Quotes.{IsShown};
@@ -13,9 +13,7 @@ ghost use Rattle.option_quotes.specs.Thresholds.{MayBeQuoted};
 use crate::along::{next_along, next_better};
 use crate::ends::{Ends, Probed};
 use crate::prices::{MarketPrices, SidePrice};
-use crate::probes::{
-    best_price, further, is_optimal, is_raised, outcome_in, probe, room_with, worst_price,
-};
+use crate::probes::{Probing, best_price, further, is_optimal, is_raised, outcome_in, worst_price};
 use cert_check::Outcome;
 use clearing::ClearRoom;
 use form::{Batch, Form, Order, Side};
@@ -27,24 +25,21 @@ const MOST_WALKED: u32 = 59;
 /// The price where the first one along the line does not raise: the one beside it.
 fn landed(
     alloc: Global,
-    batch: &Batch,
-    order: Order,
-    limit: u32,
-    base: &Outcome,
+    probing: &Probing,
     ends: Ends,
     left: u32,
     room: &mut ClearRoom,
 ) -> Result<SidePrice, AllocError>
-    requires within { IsWithinLimits (with_order batch.now order) }
-    requires limit { (1 ≤ limit) × (limit ≤ MAX_BUDGET) }
-    requires base { IsShown batch.now limit base.now }
-    requires ends { AreEnds batch.now order limit base.now ends }
-    ensures { IfOk result (λ found. found
-        ≡ landed_at (probe_outcome batch.now order limit) order.side left
+    requires probing { IsProbing probing.now }
+    requires raising { let p = probing.now in IsProbed p.batch.now p.order p.limit ends.raising }
+    requires other { let p = probing.now in IsProbed p.batch.now p.order p.limit ends.other }
+    requires better { IsBetter probing.now.order.side ends.other.price ends.raising.price }
+    ensures { let p = probing.now in IfOk result (λ found. found
+        ≡ landed_at (probe_outcome p.batch.now p.order p.limit) p.order.side left
         ends.raising.price ends.other.price) }
 {
     let Ends { raising, other } = ends;
-    let price = next_better(order.side, other.price);
+    let price = next_better(probing.order.side, other.price);
     if price == raising.price {
         return Ok(SidePrice::At {
             price,
@@ -55,7 +50,7 @@ fn landed(
     if left == 0 {
         return Ok(SidePrice::Spent);
     }
-    let outcome = probe(alloc, batch, order, price, limit, room)?;
+    let outcome = probing.probe(alloc, price, room)?;
     if !is_optimal(&outcome) {
         return Ok(SidePrice::Unmarked { price, outcome });
     }
@@ -70,29 +65,27 @@ fn landed(
 /// does not raise.
 fn walked(
     alloc: Global,
-    batch: &Batch,
-    order: Order,
-    limit: u32,
+    probing: &Probing,
     base: &Outcome,
     mut raising: Probed,
     room: &mut ClearRoom,
 ) -> Result<SidePrice, AllocError>
-    requires within { IsWithinLimits (with_order batch.now order) }
-    requires limit { (1 ≤ limit) × (limit ≤ MAX_BUDGET) }
-    requires base { IsShown batch.now limit base.now }
-    requires raising { IsProbed batch.now order limit raising }
+    requires probing { IsProbing probing.now }
+    requires base { IsShown probing.now.batch.now probing.now.limit base.now }
+    requires raising { let p = probing.now in IsProbed p.batch.now p.order p.limit raising }
     requires raised { is_raised base.now raising.outcome ≡ true }
-    ensures { IfOk result (λ found. found
-        ≡ walked_all (probe_outcome batch.now order limit) base.now order.side raising.price) }
+    ensures { let p = probing.now in IfOk result (λ found. found
+        ≡ walked_all (probe_outcome p.batch.now p.order p.limit) base.now p.order.side
+        raising.price) }
 {
     let mut left = MOST_WALKED;
-    while raising.price != worst_price(order.side) {
+    while raising.price != worst_price(probing.order.side) {
         if left == 0 {
             return Ok(SidePrice::Spent);
         }
         left -= 1;
-        let price = next_along(base, order.side, &raising);
-        let outcome = probe(alloc, batch, order, price, limit, room)?;
+        let price = next_along(base, probing.order.side, &raising);
+        let outcome = probing.probe(alloc, price, room)?;
         if !is_optimal(&outcome) {
             return Ok(SidePrice::Unmarked { price, outcome });
         }
@@ -102,7 +95,7 @@ fn walked(
                 raising,
                 other: probed,
             };
-            return landed(alloc, batch, order, limit, base, ends, left, room);
+            return landed(alloc, probing, ends, left, room);
         }
         raising = probed;
     }
@@ -116,19 +109,17 @@ fn walked(
 /// The price of one side, where the outcome of the batch is marked optimal: from the best price on.
 fn side_price(
     alloc: Global,
-    batch: &Batch,
-    order: Order,
-    limit: u32,
+    probing: &Probing,
     base: &Outcome,
     room: &mut ClearRoom,
 ) -> Result<SidePrice, AllocError>
-    requires within { IsWithinLimits (with_order batch.now order) }
-    requires limit { (1 ≤ limit) × (limit ≤ MAX_BUDGET) }
-    requires base { IsShown batch.now limit base.now }
-    ensures { IfOk result (λ found. found ≡ side_price batch.now order limit) }
+    requires probing { IsProbing probing.now }
+    requires base { IsShown probing.now.batch.now probing.now.limit base.now }
+    ensures { let p = probing.now in
+        IfOk result (λ found. found ≡ side_price p.batch.now p.order p.limit) }
 {
-    let price = best_price(order.side);
-    let outcome = probe(alloc, batch, order, price, limit, room)?;
+    let price = best_price(probing.order.side);
+    let outcome = probing.probe(alloc, price, room)?;
     if !is_optimal(&outcome) {
         return Ok(SidePrice::Unmarked { price, outcome });
     }
@@ -136,7 +127,7 @@ fn side_price(
         return Ok(SidePrice::Never { extreme: outcome });
     }
     let best = Probed { price, outcome };
-    walked(alloc, batch, order, limit, base, best, room)
+    walked(alloc, probing, base, best, room)
 }
 
 /// The further order of so many bundles.
@@ -149,27 +140,30 @@ fn asked(form: &Form, side: Side, quantity: u32) -> Order
     }
 }
 
-/// The prices of two further orders, cleared in that room.
+/// The prices of the further buy, and of a further sell in its place, cleared in that room.
 fn prices_in(
     alloc: Global,
-    batch: &Batch,
-    buy: Order,
+    buying: &Probing,
     sell: Order,
-    limit: u32,
     room: &mut ClearRoom,
 ) -> Result<MarketPrices, AllocError>
-    requires batch { IsWithinLimits batch.now }
-    requires buy { IsWithinLimits (with_order batch.now buy) }
-    requires sell { IsWithinLimits (with_order batch.now sell) }
-    requires limit { (1 ≤ limit) × (limit ≤ MAX_BUDGET) }
-    ensures { IfOk result (λ prices. prices ≡ prices_for batch.now buy sell limit) }
+    requires batch { IsWithinLimits buying.now.batch.now }
+    requires buying { IsProbing buying.now }
+    requires sell { IsWithinLimits (with_order buying.now.batch.now sell) }
+    ensures { let p = buying.now in
+        IfOk result (λ prices. prices ≡ prices_for p.batch.now p.order sell p.limit) }
 {
-    let base = outcome_in(alloc, batch, limit, room)?;
+    let base = outcome_in(alloc, buying.batch, buying.limit, room)?;
     if !is_optimal(&base) {
         return Ok(MarketPrices::Unmarked { base });
     }
-    let ask = side_price(alloc, batch, buy, limit, &base, room)?;
-    let bid = side_price(alloc, batch, sell, limit, &base, room)?;
+    let selling = Probing {
+        batch: buying.batch,
+        order: sell,
+        limit: buying.limit,
+    };
+    let ask = side_price(alloc, buying, &base, room)?;
+    let bid = side_price(alloc, &selling, &base, room)?;
     Ok(MarketPrices::Marked { base, ask, bid })
 }
 
@@ -203,8 +197,12 @@ pub fn implied_prices(
     ensures bid { IfOk result (λ prices. IfMarked prices (λ base ask bid.
         IsImplied batch.now (asked form.now Side.Sell quantity) limit base bid)) }
 {
-    let buy = asked(form, Side::Buy, quantity);
+    let buying = Probing {
+        batch,
+        order: asked(form, Side::Buy, quantity),
+        limit,
+    };
     let sell = asked(form, Side::Sell, quantity);
-    let mut room = room_with(alloc, batch, buy, limit)?;
-    prices_in(alloc, batch, buy, sell, limit, &mut room)
+    let mut room = buying.room(alloc)?;
+    prices_in(alloc, &buying, sell, &mut room)
 }

@@ -5,6 +5,7 @@ ghost use Rattle.form.specs.Limits.{IsWithinLimits};
 ghost use Rattle.form.specs.declared.limits.TheConstants.{MAX_BUDGET, MAX_ORDERS};
 ghost use Rattle.clearing.specs.Outcome.{outcome_of};
 ghost use Rattle.clearing.specs.Rooms.{IsClearRoom};
+ghost use Rattle.option_quotes.specs.Ends.{IsProbing};
 ghost use Rattle.option_quotes.specs.Probes.{best_price, further, is_optimal, is_raised, probe_outcome, with_order, worst_price};
 
 use cert_check::{Mark, Outcome};
@@ -16,6 +17,15 @@ use std::alloc::{AllocError, Global};
 const ID: u64 = 1_000_001;
 
 const ACCOUNT: u32 = 999_999_999;
+
+/// What the probes of an order clear, each at a price of its own: the batch with the order at its
+/// end, with at most `limit` units of work.
+#[derive(Drop)]
+pub(crate) struct Probing<'a> {
+    pub(crate) batch: &'a Batch,
+    pub(crate) order: Order,
+    pub(crate) limit: u32,
+}
 
 /// The further order, at price 0.
 pub(crate) fn further(form: &Form, side: Side) -> Order
@@ -46,21 +56,6 @@ fn with_order(alloc: Global, batch: &Batch, order: Order) -> Result<Batch, Alloc
     })
 }
 
-/// The room of a quote, for the batch with the order.
-pub(crate) fn room_with(
-    alloc: Global,
-    batch: &Batch,
-    order: Order,
-    limit: u32,
-) -> Result<ClearRoom, AllocError>
-    requires within { IsWithinLimits (with_order batch.now order) }
-    requires limit { limit ≤ MAX_BUDGET }
-    ensures { IfOk result (IsClearRoom (with_order batch.now order) limit) }
-{
-    let extended = with_order(alloc, batch, order)?;
-    ClearRoom::new(alloc, &extended, limit)
-}
-
 /// The outcome of the batch, cleared in the room: its tables stay, and only the lists of this clear
 /// are taken before its first step.
 pub(crate) fn outcome_in(
@@ -77,22 +72,36 @@ pub(crate) fn outcome_in(
     Ok(room.clear(batch, limit))
 }
 
-/// The outcome of the batch with the order at the price.
-pub(crate) fn probe(
-    alloc: Global,
-    batch: &Batch,
-    order: Order,
-    price: u64,
-    limit: u32,
-    room: &mut ClearRoom,
-) -> Result<Outcome, AllocError>
-    requires within { IsWithinLimits (with_order batch.now order) }
-    requires price { price ≤ MAX_PRICE }
-    requires limit { (1 ≤ limit) × (limit ≤ MAX_BUDGET) }
-    ensures { IfOk result (λ outcome. outcome ≡ probe_outcome batch.now order limit price) }
-{
-    let extended = with_order(alloc, batch, Order { price, ..order })?;
-    outcome_in(alloc, &extended, limit, room)
+impl Probing<'_> {
+    /// A room for its probes.
+    pub(crate) fn room(&self, alloc: Global) -> Result<ClearRoom, AllocError>
+        requires { IsProbing self.now }
+        ensures { let p = self.now in
+            IfOk result (IsClearRoom (with_order p.batch.now p.order) p.limit) }
+    {
+        let extended = with_order(alloc, self.batch, self.order)?;
+        ClearRoom::new(alloc, &extended, self.limit)
+    }
+
+    /// The outcome of the batch with the order at the price.
+    pub(crate) fn probe(
+        &self,
+        alloc: Global,
+        price: u64,
+        room: &mut ClearRoom,
+    ) -> Result<Outcome, AllocError>
+        requires probing { IsProbing self.now }
+        requires price { price ≤ MAX_PRICE }
+        ensures { let p = self.now in
+            IfOk result (λ outcome. outcome ≡ probe_outcome p.batch.now p.order p.limit price) }
+    {
+        let order = Order {
+            price,
+            ..self.order
+        };
+        let extended = with_order(alloc, self.batch, order)?;
+        outcome_in(alloc, &extended, self.limit, room)
+    }
 }
 
 /// Whether the outcome is marked optimal.

@@ -3,44 +3,39 @@ ghost use Rattle.std.specs.Prelude.{◌≡◌, ◌≤◌, IfOk, true};
 ghost use Rattle.form.specs.declared.limits.TheConstants.{MAX_BUDGET};
 ghost use Rattle.form.specs.Limits.{IsWithinLimits};
 ghost use Rattle.option_quotes.specs.ByProbes.{quoted_of};
-ghost use Rattle.option_quotes.specs.Ends.{IsProbed};
-ghost use Rattle.option_quotes.specs.Probes.{best_price, first_unmarked, further, is_raised, probe_outcome, probes, probes_from_best, probes_from_worst, with_order};
+ghost use Rattle.option_quotes.specs.Ends.{IsProbed, IsProbing};
+ghost use Rattle.option_quotes.specs.Probes.{best_price, first_unmarked, further, is_raised, probe_outcome, probes, probes_from_best, probes_from_worst};
 ghost use Rattle.option_quotes.specs.Quotes.{AreShown, IfAt, IfNever, IsNever, IsQuote, IsShown, RaisesFrom, unmarked_of};
 ghost use Rattle.option_quotes.specs.Thresholds.{MayBeQuoted};
 
 use crate::ends::{Ends, Probed, between};
-use crate::probes::{
-    best_price, further, is_optimal, is_raised, outcome_in, probe, room_with, worst_price,
-};
+use crate::probes::{Probing, best_price, further, is_optimal, is_raised, outcome_in, worst_price};
 use crate::quotes::Quoted;
 use cert_check::Outcome;
 use clearing::ClearRoom;
-use form::{Batch, Form, Order, Side};
+use form::{Batch, Form, Side};
 use std::alloc::{AllocError, Global};
 
 /// The quote where the best price raises the surplus: from the worst price on.
 fn from_worst(
     alloc: Global,
-    batch: &Batch,
-    order: Order,
-    limit: u32,
+    probing: &Probing,
     base: Outcome,
     best: Probed,
     room: &mut ClearRoom,
 ) -> Result<Quoted, AllocError>
-    requires within { IsWithinLimits (with_order batch.now order) }
-    requires limit { (1 ≤ limit) × (limit ≤ MAX_BUDGET) }
-    requires base { IsShown batch.now limit base }
-    requires best { IsProbed batch.now order limit best }
-    requires price { best.price ≡ best_price order.side }
+    requires probing { IsProbing probing.now }
+    requires base { IsShown probing.now.batch.now probing.now.limit base }
+    requires best { let p = probing.now in IsProbed p.batch.now p.order p.limit best }
+    requires price { best.price ≡ best_price probing.now.order.side }
     requires raised { is_raised base best.outcome ≡ true }
-    ensures quote { IfOk result (IsQuote batch.now order limit) }
-    ensures unmarked { IfOk result (λ quoted.
+    ensures quote { let p = probing.now in IfOk result (IsQuote p.batch.now p.order p.limit) }
+    ensures unmarked { let p = probing.now in IfOk result (λ quoted.
         unmarked_of quoted ≡ first_unmarked
-        (probes_from_worst (probe_outcome batch.now order limit) base order.side)) }
+        (probes_from_worst (probe_outcome p.batch.now p.order p.limit) base p.order.side)) }
 {
-    let price = worst_price(order.side);
-    let outcome = probe(alloc, batch, order, price, limit, room)?;
+    let price = worst_price(probing.order.side);
+    let outcome = probing.probe(alloc, price, room)?;
     if !is_optimal(&outcome) {
         return Ok(Quoted::Unmarked {
             probe: Some(price),
@@ -59,28 +54,25 @@ fn from_worst(
         raising: best,
         other: Probed { price, outcome },
     };
-    between(alloc, batch, order, limit, base, ends, room)
+    between(alloc, probing, base, ends, room)
 }
 
 /// The quote where the base is marked optimal: from the best price on.
 fn from_best(
     alloc: Global,
-    batch: &Batch,
-    order: Order,
-    limit: u32,
+    probing: &Probing,
     base: Outcome,
     room: &mut ClearRoom,
 ) -> Result<Quoted, AllocError>
-    requires within { IsWithinLimits (with_order batch.now order) }
-    requires limit { (1 ≤ limit) × (limit ≤ MAX_BUDGET) }
-    requires base { IsShown batch.now limit base }
-    ensures quote { IfOk result (IsQuote batch.now order limit) }
-    ensures unmarked { IfOk result (λ quoted.
-        unmarked_of quoted
-        ≡ first_unmarked (probes_from_best (probe_outcome batch.now order limit) base order.side)) }
+    requires probing { IsProbing probing.now }
+    requires base { IsShown probing.now.batch.now probing.now.limit base }
+    ensures quote { let p = probing.now in IfOk result (IsQuote p.batch.now p.order p.limit) }
+    ensures unmarked { let p = probing.now in IfOk result (λ quoted.
+        unmarked_of quoted ≡ first_unmarked
+        (probes_from_best (probe_outcome p.batch.now p.order p.limit) base p.order.side)) }
 {
-    let price = best_price(order.side);
-    let outcome = probe(alloc, batch, order, price, limit, room)?;
+    let price = best_price(probing.order.side);
+    let outcome = probing.probe(alloc, price, room)?;
     if !is_optimal(&outcome) {
         return Ok(Quoted::Unmarked {
             probe: Some(price),
@@ -94,30 +86,24 @@ fn from_best(
         });
     }
     let best = Probed { price, outcome };
-    from_worst(alloc, batch, order, limit, base, best, room)
+    from_worst(alloc, probing, base, best, room)
 }
 
-/// The quote of that order, cleared in that room.
-fn quote_in(
-    alloc: Global,
-    batch: &Batch,
-    order: Order,
-    limit: u32,
-    room: &mut ClearRoom,
-) -> Result<Quoted, AllocError>
-    requires batch { IsWithinLimits batch.now }
-    requires within { IsWithinLimits (with_order batch.now order) }
-    requires limit { (1 ≤ limit) × (limit ≤ MAX_BUDGET) }
-    ensures { IfOk result (λ quoted. quoted ≡ quoted_of batch.now order limit) }
+/// The quote of the order, cleared in that room.
+fn quote_in(alloc: Global, probing: &Probing, room: &mut ClearRoom) -> Result<Quoted, AllocError>
+    requires batch { IsWithinLimits probing.now.batch.now }
+    requires probing { IsProbing probing.now }
+    ensures { let p = probing.now in
+        IfOk result (λ quoted. quoted ≡ quoted_of p.batch.now p.order p.limit) }
 {
-    let base = outcome_in(alloc, batch, limit, room)?;
+    let base = outcome_in(alloc, probing.batch, probing.limit, room)?;
     if !is_optimal(&base) {
         return Ok(Quoted::Unmarked {
             probe: None,
             outcome: base,
         });
     }
-    from_best(alloc, batch, order, limit, base, room)
+    from_best(alloc, probing, base, room)
 }
 
 /// The whole price at which a further buy or sell of one bundle of the option raises the greatest
@@ -158,7 +144,11 @@ pub fn quote(
     ensures unmarked { IfOk result (λ quoted.
         unmarked_of quoted ≡ first_unmarked (probes batch.now (further form.now side) limit)) }
 {
-    let order = further(form, side);
-    let mut room = room_with(alloc, batch, order, limit)?;
-    quote_in(alloc, batch, order, limit, &mut room)
+    let probing = Probing {
+        batch,
+        order: further(form, side),
+        limit,
+    };
+    let mut room = probing.room(alloc)?;
+    quote_in(alloc, &probing, &mut room)
 }

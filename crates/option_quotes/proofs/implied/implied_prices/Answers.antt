@@ -4,29 +4,35 @@ use Rattle.option_quotes.proofs.Found.{asked_prices, prices_are_implied}
 use Rattle.option_quotes.proofs.Raising.{asked_within, quantity_within}
 use Rattle.option_quotes.proofs.implied.implied_prices.Goals as goal
 
-pub room_with-requires-clause-within : goal.room_with-requires-clause-within
-room_with-requires-clause-within c =
+pub room-requires : goal.room-requires
+room-requires c =
     let r = c.requires in
-    quantity_within c.args.batch.now c.args.form.now Buy c.args.quantity _ c.asked-buy.ensures r.quantity.0 r.quantity.1
-    (asked_within c.args.batch.now c.args.form.now Buy r.batch.within r.batch.room r.batch.ids r.batch.listed r.batch.on)
+    let a = c.args in
+    record {
+      within = quantity_within a.batch.now a.form.now Buy a.quantity _ c.asked.ensures r.quantity.0 r.quantity.1 (asked_within a.batch.now a.form.now Buy r.batch);
+      work = r.limit;
+    }
 
-pub prices_in-requires-clause-buy : goal.prices_in-requires-clause-buy
-prices_in-requires-clause-buy c =
+pub prices_in-requires-clause-buying : goal.prices_in-requires-clause-buying
+prices_in-requires-clause-buying c =
     let r = c.requires in
-    quantity_within c.args.batch.now c.args.form.now Buy c.args.quantity _ c.asked-buy.ensures r.quantity.0 r.quantity.1
-    (asked_within c.args.batch.now c.args.form.now Buy r.batch.within r.batch.room r.batch.ids r.batch.listed r.batch.on)
+    let a = c.args in
+    record {
+      within = quantity_within a.batch.now a.form.now Buy a.quantity _ c.asked.ensures r.quantity.0 r.quantity.1 (asked_within a.batch.now a.form.now Buy r.batch);
+      work = r.limit;
+    }
 
 pub prices_in-requires-clause-sell : goal.prices_in-requires-clause-sell
 prices_in-requires-clause-sell c =
     let r = c.requires in
-    quantity_within c.args.batch.now c.args.form.now Sell c.args.quantity _ c.asked-sell.ensures r.quantity.0 r.quantity.1
-    (asked_within c.args.batch.now c.args.form.now Sell r.batch.within r.batch.room r.batch.ids r.batch.listed r.batch.on)
+    let a = c.args in
+    quantity_within a.batch.now a.form.now Sell a.quantity _ c.asked-sell.ensures r.quantity.0 r.quantity.1 (asked_within a.batch.now a.form.now Sell r.batch)
 
 pub returns-clause-defined : goal.returns-clause-defined
 returns-clause-defined c =
     let a = c.args in
     IfOk-weaker c.prices_in.result _ _
-    (λ prices is. asked_prices a.batch.now a.form.now a.quantity a.limit _ _ prices c.asked-buy.ensures c.asked-sell.ensures is)
+    (λ prices is. asked_prices a.batch.now a.form.now a.quantity a.limit _ _ prices c.asked.ensures c.asked-sell.ensures is)
     c.prices_in.ensures
 
 pub returns-clause-ask : goal.returns-clause-ask
@@ -36,7 +42,7 @@ returns-clause-ask c =
     IfOk-weaker c.prices_in.result _ _
     (λ prices is.
     (prices_are_implied a.batch.now a.form.now a.quantity a.limit r.batch r.quantity.0 r.quantity.1 prices
-    (asked_prices a.batch.now a.form.now a.quantity a.limit _ _ prices c.asked-buy.ensures c.asked-sell.ensures is)).0)
+    (asked_prices a.batch.now a.form.now a.quantity a.limit _ _ prices c.asked.ensures c.asked-sell.ensures is)).0)
     c.prices_in.ensures
 
 pub returns-clause-bid : goal.returns-clause-bid
@@ -46,5 +52,5 @@ returns-clause-bid c =
     IfOk-weaker c.prices_in.result _ _
     (λ prices is.
     (prices_are_implied a.batch.now a.form.now a.quantity a.limit r.batch r.quantity.0 r.quantity.1 prices
-    (asked_prices a.batch.now a.form.now a.quantity a.limit _ _ prices c.asked-buy.ensures c.asked-sell.ensures is)).1)
+    (asked_prices a.batch.now a.form.now a.quantity a.limit _ _ prices c.asked.ensures c.asked-sell.ensures is)).1)
     c.prices_in.ensures

@@ -7,21 +7,24 @@ use Rattle.option_quotes.proofs.implied.side_price.Goals as goal
 
 pub returns-then-not-is_optimal : goal.returns-then-not-is_optimal
 returns-then-not-is_optimal c =
+    let p = c.args.probing.now in
     let best : Probed = record { price = c.best_price-price.result; outcome = c.in_ok-outcome.outcome } in
     let not_optimal : is_optimal c.in_ok-outcome.outcome ≡ false = search rules in
-    best_unmarked c.args.batch.now c.args.order c.args.limit c.args.base.now best c.requires.base.is c.best_price-price.ensures c.in_ok-outcome.ensures not_optimal
+    best_unmarked p.batch.now p.order p.limit c.args.base.now best c.requires.base.is c.best_price-price.ensures c.in_ok-outcome.ensures not_optimal
 
 pub returns-then-not-is_raised : goal.returns-then-not-is_raised
 returns-then-not-is_raised c =
+    let p = c.args.probing.now in
     let best : Probed = record { price = c.best_price-price.result; outcome = c.in_ok-outcome.outcome } in
     let optimal : is_optimal c.in_ok-outcome.outcome ≡ true = search rules in
     let not_raised : is_raised c.args.base.now c.in_ok-outcome.outcome ≡ false = search rules in
-    best_never c.args.batch.now c.args.order c.args.limit c.args.base.now best c.requires.base.is c.best_price-price.ensures c.in_ok-outcome.ensures optimal not_raised
+    best_never p.batch.now p.order p.limit c.args.base.now best c.requires.base.is c.best_price-price.ensures c.in_ok-outcome.ensures optimal not_raised
 
 pub returns : goal.returns
 returns c =
+    let p = c.args.probing.now in
     let best : Probed = record { price = c.best_price-price.result; outcome = c.in_ok-outcome.outcome } in
     let optimal : is_optimal c.in_ok-outcome.outcome ≡ true = search rules in
     let raised : is_raised c.args.base.now c.in_ok-outcome.outcome ≡ true = search rules in
-    let on = best_on c.args.batch.now c.args.order c.args.limit c.args.base.now best c.requires.base.is c.best_price-price.ensures c.in_ok-outcome.ensures optimal raised in
+    let on = best_on p.batch.now p.order p.limit c.args.base.now best c.requires.base.is c.best_price-price.ensures c.in_ok-outcome.ensures optimal raised in
     IfOk-weaker c.walked.result _ _ (λ found is. is ∙ on) c.walked.ensures

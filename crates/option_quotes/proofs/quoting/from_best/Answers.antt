@@ -7,11 +7,12 @@ use Rattle.option_quotes.proofs.quoting.from_best.Goals as goal
 
 pub returns-then-not-is_raised-clause-quote : goal.returns-then-not-is_raised-clause-quote
 returns-then-not-is_raised-clause-quote c =
-    let order = c.args.order in
+    let p = c.args.probing.now in
+    let order = p.order in
     let at_best = c.best_price-price.ensures in
     let outcome = c.in_ok-outcome.outcome in
     let optimal : is_optimal outcome ≡ true = search rules in
     let not_raised : is_raised c.args.base outcome ≡ false = search rules in
-    quote_never c.args.batch.now order c.args.limit c.args.base (record { price = c.best_price-price.result; outcome = outcome }) c.requires.within c.requires.base at_best
+    quote_never p.batch.now order p.limit c.args.base (record { price = c.best_price-price.result; outcome = outcome }) c.requires.probing.within c.requires.base at_best
     (record { within = subst (λ p. p ≤ MAX_PRICE) (sym at_best) (best_fits order.side); is = c.in_ok-outcome.ensures; optimal = optimal })
     not_raised
