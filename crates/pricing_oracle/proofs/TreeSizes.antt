@@ -1,6 +1,6 @@
 -- The sizes of a tree by the units that are spent, and the room that is left for it.
 use Rattle.std.proofs.Common.{◌≡◌, ℕ, ◌+◌, ◌<◌, ◌≤◌, List, length, map, arith, refl, ap, subst, Ok, None}
-use Rattle.std.specs.Prelude.{vec_len}
+use Rattle.std.specs.Prelude.{vec_capacity, vec_len}
 use Rattle.std.proofs.lemmas.List.{length-append, length-map}
 use Rattle.clearing_model.specs.Tree.{Sign}
 use Rattle.clearing_model.specs.Written.{PlacedMultiplier, WrittenTree, nodes_of, multipliers_of}
@@ -12,7 +12,9 @@ use Rattle.search_laws.specs.Sizes.{IsNodePaid, IsPaid}
 use Rattle.search_laws.proofs.Sizes.{branches_are_paid, nodes_are_paid}
 use Rattle.pricing_oracle.specs.declared.node.Shown.TheVariants.{Splits}
 use Rattle.pricing_oracle.specs.declared.node.TreeParts.{TreeParts}
-use Rattle.pricing_oracle.specs.Rooms.{HasRoom, HasTreeRoom, KeepsRoom}
+use Rattle.pricing_oracle.specs.declared.node.NodeRoom.{NodeRoom}
+use Rattle.pricing_oracle.specs.Programs.{HasSameSize}
+use Rattle.pricing_oracle.specs.Rooms.{HasNodeRoom, HasRoom, HasTreeRoom, KeepsRoom}
 use Rattle.pricing_oracle.specs.Searches.{HasSearched, HasShown, WrittenParts, parts_of, with_tree}
 
 -- a leaf has spent a unit for its node and for each multiplier
@@ -72,3 +74,8 @@ room_after q depth signs before spent limit old new asked room kept (tree, parts
       multipliers = omega (arith, sized, now.1, were.1, length-append (map placed_of old.multipliers.items) (multipliers_of tree), room.multipliers);
       room = keeps_room old new limit kept room.room;
     }
+
+-- room for a node serves one with as many legs
+pub room_for : {A : Type 0} (underlyings legs more : ℕ) (old new : NodeRoom A) → more ≡ legs → HasNodeRoom underlyings legs old → HasSameSize old.space new.space → vec_capacity old.row ≤ vec_capacity new.row → HasNodeRoom underlyings more new
+room_for underlyings legs more old new same room size row =
+    record { rows = omega (arith, same, size.0, room.rows); columns = omega (arith, same, size.1, room.columns); row = omega (arith, same, row, room.row) }

@@ -6,3 +6,4 @@ pub mod Nodes
 pub mod Programs
 pub mod Rooms
 pub mod Searches
+pub mod Sizes

@@ -6,17 +6,16 @@ ghost use Rattle.clearing_model.specs.Written.{SplitNode};
 ghost use Rattle.sign_tree.specs.Read.{sign_of};
 ghost use Rattle.master_program.specs.Search.{search_from};
 ghost use Rattle.pricing_oracle.specs.Nodes.{MayBeAsked, legs_asked};
-ghost use Rattle.pricing_oracle.specs.Programs.{HasSameSize};
-ghost use Rattle.pricing_oracle.specs.Rooms.{HasRoom, KeepsRoom};
+ghost use Rattle.pricing_oracle.specs.Rooms.{HasNodeRoom, HasRoom, KeepsNodeRoom, KeepsRoom};
 ghost use Rattle.pricing_oracle.specs.Searches.{HasSearched, after_split, asked_within, parts_of, unsigned_in};
 
 use crate::legs::SearchQuestion;
-use crate::node::{Shown, TreeParts, open_node};
+use crate::node::{NodeRoom, Shown, TreeParts, open_node};
 use exact_num::Exact;
 use form::State;
 use lists::push_within;
 use sign_tree::Node;
-use simplex::{Budget, RunStop, Space};
+use simplex::{Budget, RunStop};
 
 // Adds the node of a split at the leg.
 fn add_split(tree: &mut TreeParts, place: usize)
@@ -38,35 +37,29 @@ fn add_split(tree: &mut TreeParts, place: usize)
 // before; else answers the state that it finds.
 #[cycle(branching)]
 pub(crate) fn branch<N: Exact>(
-    space: &mut Space<N>,
-    row: &mut Vec<N>,
+    room: &mut NodeRoom<N>,
     asked: SearchQuestion<N>,
     signs: &mut [i8],
     budget: &mut Budget,
-    tree: &mut TreeParts,
 ) -> Result<Option<State>, RunStop>
     requires asked { MayBeAsked asked }
     requires not_below_zero { All IsNotBelowZero (map N.fraction asked.fills.now) }
     requires few { length signs.old ≤ 1024 }
     requires count { length signs.old ≡ length (legs_asked N.fraction asked) }
-    requires rows { 1 + length signs.old ≤ space.old.rows }
-    requires columns { asked.underlyings + 1 + length signs.old ≤ space.old.columns }
-    requires row { asked.underlyings + 1 + length signs.old ≤ vec_capacity row.old }
-    requires tree { HasRoom tree.old budget.old.spent budget.old.limit }
+    requires room { HasNodeRoom asked.underlyings (length signs.old) room.old }
+    requires tree { HasRoom room.old.tree budget.old.spent budget.old.limit }
     ensures search { (depth : ℕ) → unsigned_in (map sign_of signs.old) ≤ depth
-        → HasSearched (parts_of tree.old) (parts_of tree.new) (search_from
+        → HasSearched (parts_of room.old.tree) (parts_of room.new.tree) (search_from
         (asked_within N.fraction (unsigned_abs N.LIMIT) budget.old.limit asked.entry)
         depth (map sign_of signs.old) budget.old.spent) result budget.new.spent }
     ensures signs { result ≡ Ok None → signs.new ≡ signs.old }
-    ensures size { HasSameSize space.old space.new }
-    ensures capacity { vec_capacity row.old ≤ vec_capacity row.new }
-    ensures room { KeepsRoom tree.old tree.new }
+    ensures room { KeepsNodeRoom room.old room.new }
     ensures limit { budget.new.limit ≡ budget.old.limit }
 {
-    match open_node(space, row, asked, signs, budget, tree)? {
+    match open_node(room, asked, signs, budget)? {
         Shown::Leaf => Ok(None),
         Shown::Violated(state) => Ok(Some(state)),
-        Shown::Splits(place) => sides(space, row, asked, signs, budget, tree, place),
+        Shown::Splits(place) => sides(room, asked, signs, budget, place),
     }
 }
 
@@ -74,42 +67,36 @@ pub(crate) fn branch<N: Exact>(
 // sign.
 #[cycle(branching)]
 fn sides<N: Exact>(
-    space: &mut Space<N>,
-    row: &mut Vec<N>,
+    room: &mut NodeRoom<N>,
     asked: SearchQuestion<N>,
     signs: &mut [i8],
     budget: &mut Budget,
-    tree: &mut TreeParts,
     place: usize,
 ) -> Result<Option<State>, RunStop>
     requires asked { MayBeAsked asked }
     requires not_below_zero { All IsNotBelowZero (map N.fraction asked.fills.now) }
     requires few { length signs.old ≤ 1024 }
     requires count { length signs.old ≡ length (legs_asked N.fraction asked) }
-    requires rows { 1 + length signs.old ≤ space.old.rows }
-    requires columns { asked.underlyings + 1 + length signs.old ≤ space.old.columns }
-    requires row { asked.underlyings + 1 + length signs.old ≤ vec_capacity row.old }
-    requires tree { HasRoom tree.old budget.old.spent budget.old.limit }
-    requires node { vec_len tree.old.nodes < budget.old.spent }
+    requires room { HasNodeRoom asked.underlyings (length signs.old) room.old }
+    requires tree { HasRoom room.old.tree budget.old.spent budget.old.limit }
+    requires node { vec_len room.old.tree.nodes < budget.old.spent }
     requires inside { place < length signs.old }
     requires unsigned { slice_index_or signs.old place (pos 0) ≡ pos 0 }
     ensures search { (depth : ℕ) → unsigned_in (map sign_of signs.old) ≤ depth
-        → HasSearched (parts_of tree.old) (parts_of tree.new) (after_split
+        → HasSearched (parts_of room.old.tree) (parts_of room.new.tree) (after_split
         (asked_within N.fraction (unsigned_abs N.LIMIT) budget.old.limit asked.entry)
         depth (map sign_of signs.old) place budget.old.spent) result budget.new.spent }
     ensures signs { result ≡ Ok None → signs.new ≡ signs.old }
-    ensures size { HasSameSize space.old space.new }
-    ensures capacity { vec_capacity row.old ≤ vec_capacity row.new }
-    ensures room { KeepsRoom tree.old tree.new }
+    ensures room { KeepsNodeRoom room.old room.new }
     ensures limit { budget.new.limit ≡ budget.old.limit }
 {
-    add_split(tree, place);
+    add_split(&mut room.tree, place);
     signs[place] = 1;
-    if let Some(plus) = branch(space, row, asked, signs, budget, tree)? {
+    if let Some(plus) = branch(room, asked, signs, budget)? {
         return Ok(Some(plus));
     }
     signs[place] = -1;
-    if let Some(minus) = branch(space, row, asked, signs, budget, tree)? {
+    if let Some(minus) = branch(room, asked, signs, budget)? {
         return Ok(Some(minus));
     }
     signs[place] = 0;

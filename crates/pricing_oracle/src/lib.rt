@@ -15,8 +15,10 @@ mod reading;
 pub mod room;
 mod rows;
 pub mod searching;
+pub mod sizes;
 mod splitting;
 
 pub use found::Found;
 pub use room::SearchRoom;
 pub use searching::{search, search_in};
+pub use sizes::SearchSizes;

@@ -10,8 +10,7 @@ ghost use Rattle.simplex.specs.Spaces.{IsFound, x_of, y_of};
 ghost use Rattle.master_program.specs.Search.{leaf_of, node_end};
 ghost use Rattle.table_run.specs.Ending.{unbounded};
 ghost use Rattle.pricing_oracle.specs.Nodes.{MayBeAsked, legs_asked};
-ghost use Rattle.pricing_oracle.specs.Programs.{HasSameSize};
-ghost use Rattle.pricing_oracle.specs.Rooms.{HasRoom, KeepsRoom};
+ghost use Rattle.pricing_oracle.specs.Rooms.{HasNodeRoom, HasRoom, KeepsNodeRoom, KeepsRoom};
 ghost use Rattle.pricing_oracle.specs.Searches.{HasRows, HasShown, WrittenParts, asked_within, node_of_asked, parts_of, state_end, with_tree};
 
 use crate::excess::excess;
@@ -19,6 +18,7 @@ use crate::giving::give_program;
 use crate::legs::SearchQuestion;
 use crate::reading::{add_multipliers, state_of};
 use crate::rows::cover_count;
+use crate::sizes::SearchSizes;
 use crate::splitting::split_place;
 use exact_num::Exact;
 use form::State;
@@ -64,6 +64,36 @@ impl TreeParts {
     {
         make_room(&mut self.nodes, units as usize)?;
         make_room(&mut self.multipliers, units as usize)
+    }
+}
+
+/// What the nodes of a search work in, one after another.
+#[derive(Drop)]
+pub struct NodeRoom<N: Exact> {
+    // the program of a node
+    pub space: Space<N>,
+    // the row that is given next, or the state that is read off
+    pub row: Vec<N>,
+    // the nodes and multipliers so far: no more than units are spent
+    pub tree: TreeParts,
+}
+
+impl<N: Exact> NodeRoom<N> {
+    ghost use Rattle.pricing_oracle.specs.Rooms.{HasTreeRoom};
+    ghost use Rattle.std.specs.Prelude.{IfOk};
+
+    /// Room for the nodes of searches within these sizes. The error is want of memory.
+    pub fn new(alloc: Global, sizes: SearchSizes) -> Result<NodeRoom<N>, AllocError>
+        requires { (sizes.underlyings ≤ 8) × (sizes.legs ≤ 1024) }
+        ensures node { IfOk result (HasNodeRoom sizes.underlyings sizes.legs) }
+        ensures tree { IfOk result (λ room. HasTreeRoom sizes.units room.tree) }
+    {
+        let columns = sizes.underlyings + 1 + sizes.legs;
+        Ok(NodeRoom {
+            row: Vec::with_capacity(alloc, columns)?,
+            tree: TreeParts::new(alloc, sizes.units)?,
+            space: Space::new(alloc, 1 + sizes.legs, columns)?,
+        })
     }
 }
 
@@ -147,44 +177,38 @@ fn look_at_state<N: Exact>(
 /// Opens the node with these signs, for a unit: runs its program, and says what it shows. A leaf is
 /// added to the tree.
 pub fn open_node<N: Exact>(
-    space: &mut Space<N>,
-    row: &mut Vec<N>,
+    room: &mut NodeRoom<N>,
     asked: SearchQuestion<N>,
     signs: &[i8],
     budget: &mut Budget,
-    tree: &mut TreeParts,
 ) -> Result<Shown, RunStop>
     requires asked { MayBeAsked asked }
     requires not_below_zero { All IsNotBelowZero (map N.fraction asked.fills.now) }
     requires signs { length signs.now ≤ 1024 }
     requires count { length signs.now ≡ length (legs_asked N.fraction asked) }
-    requires rows { 1 + length signs.now ≤ space.old.rows }
-    requires columns { asked.underlyings + 1 + length signs.now ≤ space.old.columns }
-    requires row { asked.underlyings + 1 + length signs.now ≤ vec_capacity row.old }
-    requires tree { HasRoom tree.old budget.old.spent budget.old.limit }
-    ensures shown { HasShown (parts_of tree.old) (parts_of tree.new)
+    requires room { HasNodeRoom asked.underlyings (length signs.now) room.old }
+    requires tree { HasRoom room.old.tree budget.old.spent budget.old.limit }
+    ensures shown { HasShown (parts_of room.old.tree) (parts_of room.new.tree)
         (node_end (asked_within N.fraction (unsigned_abs N.LIMIT) budget.old.limit asked.entry)
         (map sign_of signs.now) budget.old.spent) result budget.new.spent }
-    ensures size { HasSameSize space.old space.new }
-    ensures capacity { vec_capacity row.old ≤ vec_capacity row.new }
-    ensures room { KeepsRoom tree.old tree.new }
+    ensures room { KeepsNodeRoom room.old room.new }
     ensures limit { budget.new.limit ≡ budget.old.limit }
 {
     if !budget.spend() {
         return Err(RunStop::Budget);
     }
-    if let Err(wide) = give_program(space, row, asked, signs) {
+    if let Err(wide) = give_program(&mut room.space, &mut room.row, asked, signs) {
         return Err(RunStop::Wide {
             unit: budget.spent,
             wide,
         });
     }
-    if !space.run(budget)? {
+    if !room.space.run(budget)? {
         unreachable!()
     }
-    if is_above_zero(space.value()) {
-        return look_at_state(space, row, asked, signs, budget.spent);
+    if is_above_zero(room.space.value()) {
+        return look_at_state(&room.space, &mut room.row, asked, signs, budget.spent);
     }
-    add_leaf(tree, space, asked, signs);
+    add_leaf(&mut room.tree, &room.space, asked, signs);
     Ok(Shown::Leaf)
 }

@@ -6,48 +6,37 @@ ghost use Rattle.clearing_model.specs.Tree.{Unsigned};
 ghost use Rattle.sign_tree.specs.Read.{sign_of};
 ghost use Rattle.master_program.specs.Search.{search};
 ghost use Rattle.pricing_oracle.specs.Nodes.{MayBeAsked, legs_asked};
-ghost use Rattle.pricing_oracle.specs.Rooms.{HasSameRoom};
 ghost use Rattle.pricing_oracle.specs.Searches.{HasSearched, asked_within, no_parts, parts_in};
+ghost use Rattle.pricing_oracle.specs.Sizes.{AreWithin};
 
 use crate::branches::branch;
 use crate::legs::SearchQuestion;
-use crate::node::TreeParts;
+use crate::node::NodeRoom;
+use crate::sizes::SearchSizes;
 use exact_num::Exact;
 use form::State;
 use lists::{push_within, take_list};
 use sign_tree::{Multipliers, Nodes, SignTree};
-use simplex::{Budget, RunStop, Space};
+use simplex::{Budget, RunStop};
 use std::alloc::{AllocError, Global};
 use std::marker::Model;
 
-/// What searches over batches with at most so many underlyings and legs work in, one after another,
-/// with at most so many units each. Only `new` and `renew` take memory. Contracts see it as these
-/// sizes and the tree of the last search.
+/// What searches within these sizes work in, one after another. Only `new` and `renew` take memory.
+/// Contracts see it as the sizes and the tree of the last search.
 pub struct SearchRoom<N: Exact> {
-    underlyings: usize,
-    legs: usize,
-    units: u32,
-    // the programs of nodes, one after another
-    space: Space<N>,
+    sizes: SearchSizes,
+    nodes: NodeRoom<N>,
     // a sign for each leg: 0 for none
     signs: Vec<i8>,
-    // the row that is given next, or the state that is read off
-    row: Vec<N>,
-    // the nodes and multipliers so far: no more than units are spent
-    tree: TreeParts,
 }
 
 // Not derived: whoever owns a room lets it go by this one call, and not field by field.
 impl<N: Exact> Drop for SearchRoom<N> {
     fn drop(self) {
         let SearchRoom {
-            underlyings: _,
-            legs: _,
-            units: _,
-            space: _space,
+            sizes: _,
+            nodes: _nodes,
             signs: _signs,
-            row: _row,
-            tree: _tree,
         } = self;
     }
 }
@@ -58,10 +47,9 @@ impl<N: Exact> Model for SearchRoom<N> {
 
     ghost Value = { SearchSpace };
 
-    ghost view = { λ s. search_space s.underlyings s.legs s.units s.tree };
+    ghost view = { λ s. search_space s.sizes s.nodes.tree };
 
-    ghost invariant = { λ s. IsRoom s.underlyings s.legs s.units s.space
-        (vec_capacity s.signs) (vec_capacity s.row) s.tree };
+    ghost invariant = { λ s. IsRoom s.sizes s.nodes (vec_capacity s.signs) };
 }
 
 // Writes that so many legs have no sign.
@@ -77,58 +65,35 @@ fn write_unsigned(signs: &mut Vec<i8>, count: usize)
 }
 
 impl<N: Exact> SearchRoom<N> {
-    /// Room for searches over batches with at most so many underlyings and legs, with at most so
-    /// many units. The error is want of memory.
-    pub fn new(
-        alloc: Global,
-        underlyings: usize,
-        legs: usize,
-        units: u32,
-    ) -> Result<SearchRoom<N>, AllocError>
-        requires underlyings { underlyings ≤ 8 }
-        requires legs { legs ≤ 1024 }
-        ensures sizes { IfOk result (λ room. (room.underlyings ≡ underlyings)
-            × (room.legs ≡ legs) × (room.units ≡ units)) }
+    /// Room for searches within these sizes. The error is want of memory.
+    pub fn new(alloc: Global, sizes: SearchSizes) -> Result<SearchRoom<N>, AllocError>
+        requires { (sizes.underlyings ≤ 8) × (sizes.legs ≤ 1024) }
+        ensures sizes { IfOk result (λ room. room.sizes ≡ sizes) }
     {
-        let columns = underlyings + 1 + legs;
-        let signs = Vec::with_capacity(alloc, legs)?;
-        let row = Vec::with_capacity(alloc, columns)?;
-        let tree = TreeParts::new(alloc, units)?;
-        let space = Space::new(alloc, 1 + legs, columns)?;
+        let signs = Vec::with_capacity(alloc, sizes.legs)?;
+        let nodes = NodeRoom::new(alloc, sizes)?;
         Ok(SearchRoom {
-            underlyings,
-            legs,
-            units,
-            space,
+            sizes,
+            nodes,
             signs,
-            row,
-            tree,
         })
     }
 
-    /// Makes it room for searches over batches with at least so many underlyings and legs, with at
-    /// least so many units: the programs, signs and rows stay where they are large enough, and the
-    /// lists of the tree are taken where they are not there. The error is want of memory.
-    pub fn renew(
-        &mut self,
-        alloc: Global,
-        underlyings: usize,
-        legs: usize,
-        units: u32,
-    ) -> Result<(), AllocError>
-        requires underlyings { underlyings ≤ 8 }
-        requires legs { legs ≤ 1024 }
-        ensures sizes { OnOk result ((underlyings ≤ self.new.underlyings)
-            × (legs ≤ self.new.legs) × (units ≤ self.new.units)) }
+    /// Makes it room for searches within these sizes: the programs, signs and rows stay where they
+    /// are large enough, and the lists of the tree are taken where they are not there. The error is
+    /// want of memory.
+    pub fn renew(&mut self, alloc: Global, sizes: SearchSizes) -> Result<(), AllocError>
+        requires { (sizes.underlyings ≤ 8) × (sizes.legs ≤ 1024) }
+        ensures sizes { OnOk result (AreWithin sizes self.new.sizes) }
     {
-        if self.underlyings < underlyings || self.legs < legs {
-            *self = SearchRoom::new(alloc, underlyings, legs, units)?;
+        if self.sizes.underlyings < sizes.underlyings || self.sizes.legs < sizes.legs {
+            *self = SearchRoom::new(alloc, sizes)?;
             return Ok(());
         }
         // Until both lists are there, it is for no unit.
-        self.units = 0;
-        self.tree.renew(units)?;
-        self.units = units;
+        self.sizes.units = 0;
+        self.nodes.tree.renew(sizes.units)?;
+        self.sizes.units = sizes.units;
         Ok(())
     }
 
@@ -144,39 +109,31 @@ impl<N: Exact> SearchRoom<N> {
         requires not_below_zero { All IsNotBelowZero (map N.fraction asked.fills.now) }
         requires few { legs ≤ 1024 }
         requires count { legs ≡ length (legs_asked N.fraction asked) }
-        requires underlyings { asked.underlyings ≤ self.old.underlyings }
-        requires legs { legs ≤ self.old.legs }
-        requires units { budget.old.limit ≤ self.old.units }
+        requires underlyings { asked.underlyings ≤ self.old.sizes.underlyings }
+        requires legs { legs ≤ self.old.sizes.legs }
+        requires units { budget.old.limit ≤ self.old.sizes.units }
         ensures search { HasSearched no_parts (parts_in self.new.tree)
             (search (asked_within N.fraction (unsigned_abs N.LIMIT) budget.old.limit asked.entry)
             budget.old.spent) result budget.new.spent }
-        ensures room { HasSameRoom self.old self.new }
+        ensures sizes { self.new.sizes ≡ self.old.sizes }
         ensures limit { budget.new.limit ≡ budget.old.limit }
     {
-        self.tree.nodes.clear();
-        self.tree.multipliers.clear();
+        self.nodes.tree.nodes.clear();
+        self.nodes.tree.multipliers.clear();
         write_unsigned(&mut self.signs, legs);
-        branch(
-            &mut self.space,
-            &mut self.row,
-            asked,
-            self.signs.as_mut_slice(),
-            budget,
-            &mut self.tree,
-        )
+        branch(&mut self.nodes, asked, self.signs.as_mut_slice(), budget)
     }
 
     /// Takes the tree of the last search, which closed, and its memory: the room is for no unit
     /// then, until `renew`.
     pub fn take_tree(&mut self) -> SignTree
         ensures tree { result ≡ self.old.tree }
-        ensures sizes { (self.new.underlyings ≡ self.old.underlyings)
-            × (self.new.legs ≡ self.old.legs) × (self.new.units ≡ 0) }
+        ensures sizes { self.new.sizes ≡ record self.old.sizes { units = 0 } }
     {
-        self.units = 0;
+        self.sizes.units = 0;
         SignTree {
-            nodes: Nodes::from_vec(take_list(&mut self.tree.nodes)),
-            multipliers: Multipliers::from_vec(take_list(&mut self.tree.multipliers)),
+            nodes: Nodes::from_vec(take_list(&mut self.nodes.tree.nodes)),
+            multipliers: Multipliers::from_vec(take_list(&mut self.nodes.tree.multipliers)),
         }
     }
 }

@@ -4,14 +4,14 @@ ghost use Rattle.std.specs.List.{All};
 ghost use Rattle.exact_num.specs.Fraction.{IsNotBelowZero};
 ghost use Rattle.form.specs.Limits.{HasItsForms};
 ghost use Rattle.form.specs.declared.limits.TheConstants.{MAX_ORDERS};
-ghost use Rattle.sign_tree.specs.Legs.{leg_count};
 ghost use Rattle.master_program.specs.Search.{search as search_of};
 ghost use Rattle.pricing_oracle.specs.Answers.{IsSearchAnswer, IsTrueOf, found_in, question};
-ghost use Rattle.pricing_oracle.specs.Rooms.{HasSameRoom};
+ghost use Rattle.pricing_oracle.specs.Sizes.{AreWithin, sizes_for};
 
 use crate::found::Found;
 use crate::legs::SearchQuestion;
 use crate::room::SearchRoom;
+use crate::sizes::SearchSizes;
 use exact_num::Exact;
 use form::{Batch, State};
 use sign_tree::leg_count;
@@ -35,9 +35,7 @@ pub fn search_in<N: Exact>(
     requires few { length batch.now.orders ≤ MAX_ORDERS }
     requires fills { length fills.now ≡ length batch.now.orders }
     requires not_below_zero { All IsNotBelowZero (map N.fraction fills.now) }
-    requires underlyings { batch.now.underlyings ≤ room.old.underlyings }
-    requires legs { leg_count batch.now.orders ≤ room.old.legs }
-    requires units { budget.old.limit ≤ room.old.units }
+    requires sizes { AreWithin (sizes_for batch.now budget.old.limit) room.old.sizes }
     ensures search { IsSearchAnswer (search_of
         (question (unsigned_abs N.LIMIT) budget.old.limit batch.now (map N.fraction fills.now)
         (N.fraction liability.now)) budget.old.spent)
@@ -45,7 +43,7 @@ pub fn search_in<N: Exact>(
     ensures found { IfOk (found_in room.new.tree result) (IsTrueOf
         (question (unsigned_abs N.LIMIT) budget.old.limit batch.now (map N.fraction fills.now)
         (N.fraction liability.now))) }
-    ensures room { HasSameRoom room.old room.new }
+    ensures sizes { room.new.sizes ≡ room.old.sizes }
     ensures limit { budget.new.limit ≡ budget.old.limit }
 {
     let orders = batch.orders.as_slice();
@@ -70,9 +68,7 @@ fn found_by<N: Exact>(
     requires few { length batch.now.orders ≤ MAX_ORDERS }
     requires fills { length fills.now ≡ length batch.now.orders }
     requires not_below_zero { All IsNotBelowZero (map N.fraction fills.now) }
-    requires underlyings { batch.now.underlyings ≤ room.old.underlyings }
-    requires legs { leg_count batch.now.orders ≤ room.old.legs }
-    requires units { budget.old.limit ≤ room.old.units }
+    requires sizes { AreWithin (sizes_for batch.now budget.old.limit) room.old.sizes }
     ensures search { IsSearchAnswer (search_of
         (question (unsigned_abs N.LIMIT) budget.old.limit batch.now (map N.fraction fills.now)
         (N.fraction liability.now)) budget.old.spent) result budget.new.spent }
@@ -107,7 +103,6 @@ pub fn search<N: Exact>(
         (N.fraction liability.now))) }
     ensures limit { budget.new.limit ≡ budget.old.limit }
 {
-    let legs = leg_count(batch.orders.as_slice());
-    let mut room = SearchRoom::new(alloc, batch.underlyings as usize, legs, budget.limit)?;
+    let mut room = SearchRoom::new(alloc, SearchSizes::of(batch, budget.limit))?;
     found_by(batch, fills, liability, budget, &mut room)
 }

@@ -6,8 +6,8 @@ use Rattle.form.specs.declared.states.State.{State}
 use Rattle.form.specs.States.{vector_of}
 use Rattle.line_cover.specs.Breakpoints.{line_states}
 use Rattle.master_program.specs.Rounds.{axis_rays}
-use Rattle.sign_tree.specs.Legs.{leg_count}
 use Rattle.pricing_oracle.specs.Rooms.{SearchSpace}
+use Rattle.pricing_oracle.specs.Sizes.{AreWithin, sizes_for}
 use Rattle.exact_num.specs.Fraction.{Fraction}
 use Rattle.table_run.specs.Ending.{Ending, done}
 use Rattle.master_program.specs.Reading.{Reading}
@@ -62,9 +62,7 @@ pub record IsRoundsRoom {A : Type 0} (batch : Batch) (units : ℕ) (states : Lis
   pub state_room : states_within batch.underlyings units ≤ room_for + 1
   pub few : states_within batch.underlyings units ≤ MAX_STATES
   pub solve_room : IsSolveRoom (length batch.orders) (states_within batch.underlyings units) solve
-  pub underlyings : batch.underlyings ≤ search.underlyings
-  pub legs : leg_count batch.orders ≤ search.legs
-  pub unit_count : units ≤ search.units
+  pub search_room : AreWithin (sizes_for batch units) search.sizes
 
 abbrev pub IsRoomBy : {A : Type 0} → Batch → ℕ → List State → ℕ → SolveRoom A → Option SearchSpace → Type 0
 IsRoomBy batch units states room_for solve None = IsLineRoom batch states solve

@@ -1,7 +1,7 @@
 //! What a joint solve works in.
 ghost use Rattle.std.specs.Prelude.{ℕ, ◌≡◌, ◌≤◌, ◌<◌, ◌+◌, IfOk, OnOk};
 ghost use Rattle.form.specs.Limits.{IsWithinLimits};
-ghost use Rattle.sign_tree.specs.Legs.{leg_count};
+ghost use Rattle.pricing_oracle.specs.Sizes.{AreWithin, sizes_for};
 ghost use Rattle.rounds.specs.Rooms.{IsJointRoom};
 
 use crate::first_states::write_axis_rays;
@@ -10,8 +10,7 @@ use exact_num::Exact;
 use form::{Batch, State};
 use line_cover::breakpoints;
 use lists::make_room;
-use pricing_oracle::SearchRoom;
-use sign_tree::leg_count;
+use pricing_oracle::{SearchRoom, SearchSizes};
 use std::alloc::{AllocError, Global};
 
 /// The most units of a joint solve in given room.
@@ -70,8 +69,7 @@ fn rounds_room<N: Exact>(
     let mut states = Vec::with_capacity(alloc, more)?;
     write_axis_rays(&mut states, batch.underlyings);
     let solve = SolveRoom::new(alloc, orders.len(), 1 + more)?;
-    let legs = leg_count(orders);
-    let search = SearchRoom::new(alloc, usize::from(batch.underlyings), legs, units)?;
+    let search = SearchRoom::new(alloc, SearchSizes::of(batch, units))?;
     Ok(JointRoom {
         states,
         solve,
@@ -105,17 +103,15 @@ fn search_room<N: Exact>(
     units: u32,
 ) -> Result<SearchRoom<N>, AllocError>
     requires limits { IsWithinLimits batch.now }
-    ensures { IfOk result (λ search. (batch.now.underlyings ≤ search.underlyings)
-        × (leg_count batch.now.orders ≤ search.legs) × (units ≤ search.units)) }
+    ensures { IfOk result (λ search. AreWithin (sizes_for batch.now units) search.sizes) }
 {
-    let underlyings = usize::from(batch.underlyings);
-    let legs = leg_count(batch.orders.as_slice());
+    let sizes = SearchSizes::of(batch, units);
     match given {
         Some(mut search) => {
-            search.renew(alloc, underlyings, legs, units)?;
+            search.renew(alloc, sizes)?;
             Ok(search)
         }
-        None => SearchRoom::new(alloc, underlyings, legs, units),
+        None => SearchRoom::new(alloc, sizes),
     }
 }
 

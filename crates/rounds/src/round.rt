@@ -3,9 +3,8 @@ ghost use Rattle.std.specs.Prelude.{◌≡◌, ◌≤◌, ◌+◌, IfOk, length,
 ghost use Rattle.std.specs.List.{All};
 ghost use Rattle.form.specs.Limits.{IsWithinLimits};
 ghost use Rattle.form.specs.States.{vector_of};
-ghost use Rattle.sign_tree.specs.Legs.{leg_count};
 ghost use Rattle.search_laws.specs.Sizes.{one_round};
-ghost use Rattle.pricing_oracle.specs.Rooms.{HasSameRoom};
+ghost use Rattle.pricing_oracle.specs.Sizes.{AreWithin, sizes_for};
 ghost use Rattle.rounds.specs.Answers.{limits_of};
 ghost use Rattle.rounds.specs.Rooms.{IsSolveRoom, KeepsSolveRoom};
 ghost use Rattle.rounds.specs.Round.{IsOnForms, IsRoundAnswer};
@@ -41,9 +40,7 @@ pub(crate) fn round<N: Exact>(
     requires few_states { length states.now ≤ MAX_STATES }
     requires counts { All (λ state. state.count ≡ batch.now.underlyings + 1) states.now }
     requires room { IsSolveRoom (length batch.now.orders) (length states.now + 1) room.old }
-    requires underlyings { batch.now.underlyings ≤ search.old.underlyings }
-    requires legs { leg_count batch.now.orders ≤ search.old.legs }
-    requires units { budget.old.limit ≤ search.old.units }
+    requires sizes { AreWithin (sizes_for batch.now budget.old.limit) search.old.sizes }
     ensures run { IsRoundAnswer N.fraction (one_round
         (limits_of (unsigned_abs N.LIMIT) budget.old.limit) batch.now.underlyings
         batch.now.orders (map vector_of states.now) budget.old.spent) room.new search.new.tree
@@ -51,7 +48,7 @@ pub(crate) fn round<N: Exact>(
     ensures state { IfOk result (IsOnForms batch.now.underlyings) }
     ensures limit { budget.new.limit ≡ budget.old.limit }
     ensures room { KeepsSolveRoom room.old room.new }
-    ensures search { HasSameRoom search.old search.new }
+    ensures sizes { search.new.sizes ≡ search.old.sizes }
 {
     let read = solve_over(batch, states, budget, room)?;
     let fills = room.fills.as_slice();

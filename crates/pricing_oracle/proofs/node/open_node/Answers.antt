@@ -35,7 +35,7 @@ returns-in-Err-clause-shown g c =
     let before = c.args.budget.now.spent in
     let left : nat_lt before c.args.budget.now.limit ≡ true = sym c.spend.ensures.answer ∙ c.if-not-spend.false in
     let units : c.spend.new.self.spent ≡ before + 1 = c.spend.ensures.spent ∙ rw c.if-not-spend.false refl in
-    let parts = parts_of c.args.tree.now in
+    let parts = parts_of c.args.room.now.tree in
     program_stops q signs before c.spend.new.self.spent parts parts c.in-Err.wide c.give_program.new.space.contents left units c.in-Err.ensures.given
 
 pub returns-in_err-run-clause-shown : goal.returns-in_err-run-clause-shown
@@ -51,7 +51,7 @@ returns-in_err-run-clause-shown g c =
     let contents = c.give_program.new.space.contents in
     let e = run limit (program_given contents) (c.spend.new.self.limit - c.spend.new.self.spent) c.spend.new.self.spent in
     let is = run_here q signs before contents c.spend.new.self.limit c.spend.new.self.spent left c.in_default.ensures.given c.spend.ensures.limit units in
-    let parts = parts_of c.args.tree.now in
+    let parts = parts_of c.args.room.now.tree in
     rw (p.1, p.2) (run_stops e (on_optimum q (node_at q signs)) c.in_err-run.field-0.0 c.run.new.budget.spent parts parts _ is (sym c.run.ensures.answer ∙ c.in_err-run.was) c.run.ensures.units)
 
 pub unreachable-requires : goal.unreachable-requires
@@ -140,7 +140,7 @@ returns-then-is_above_zero-clause-shown g c =
     let there = optimum_there e now c.run.new.budget.spent (sym c.run.ensures.answer ∙ c.in_ok-run.was ∙ ap Ok c.if-not-branch.false) c.run.ensures.contents c.run.ensures.units in
     let above : is_above_zero (value_of now) ≡ true = ap is_above_zero (sym c.value.ensures) ∙ sym c.is_above_zero.ensures ∙ c.if-is_above_zero.true in
     let ends = above_zero q signs before c.run.new.budget.spent e (x_of now) (y_of now) (reduced_of now) (value_of now) is there.0 above in
-    let parts = parts_of c.args.tree.now in
+    let parts = parts_of c.args.room.now.tree in
     subst (λ ending. HasShown parts parts ending c.look_at_state.result c.run.new.budget.spent) (sym ends) (c.look_at_state.ensures.shown parts)
 
 pub add_leaf-requires-clause-rows : goal.add_leaf-requires-clause-rows

@@ -11,7 +11,5 @@ returns g c =
       state_room = omega (arith, c.write_axis_rays.ensures.capacity, c.in_ok-make_room.ensures.room);
       few = omega (arith, c.requires.units, c.requires.limits.has_forms.few);
       solve_room = room_as _ _ _ _ c.renew.new.self (ap length c.as_slice-orders.ensures) (omega arith) c.in_ok-renew.ensures;
-      underlyings = c.in_ok-search.ensures.0;
-      legs = c.in_ok-search.ensures.1;
-      unit_count = c.in_ok-search.ensures.2;
+      search_room = c.in_ok-search.ensures;
     }

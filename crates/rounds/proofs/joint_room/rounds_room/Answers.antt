@@ -1,5 +1,4 @@
-use Rattle.std.proofs.Common.{ap, arith, length}
-use Rattle.sign_tree.specs.Legs.{leg_count}
+use Rattle.std.proofs.Common.{rules, ap, arith, length}
 use Rattle.rounds.proofs.Rooms.{room_as}
 use Rattle.rounds.proofs.joint_room.rounds_room.Goals as goal
 
@@ -13,7 +12,5 @@ returns g c =
       state_room = omega (arith, c.write_axis_rays.ensures.capacity, c.in_ok-states.ensures.exact);
       few = omega (arith, c.requires.units, c.requires.limits.has_forms.few);
       solve_room = room_as _ _ _ _ c.in_ok-solve.solve (ap length orders) (omega arith) c.in_ok-solve.ensures;
-      underlyings = omega (arith, c.in_ok-search.ensures.sizes.0, c.from-2.ensures);
-      legs = omega (arith, c.in_ok-search.ensures.sizes.1, c.leg_count-legs.ensures.count, ap leg_count orders);
-      unit_count = omega (arith, c.in_ok-search.ensures.sizes.2);
+      search_room = search rules;
     }

@@ -4,6 +4,7 @@ use Rattle.std.proofs.lemmas.List.{length-map, map-append}
 use Rattle.std.proofs.lemmas.List.Elements.{All-append, All-cons, All-nil}
 use Rattle.form.specs.declared.states.State.{State}
 use Rattle.form.specs.States.{vector_of}
+use Rattle.pricing_oracle.specs.Sizes.{AreWithin, sizes_for}
 use Rattle.search_laws.specs.Sizes.{AreFewStates, one_round}
 use Rattle.search_laws.proofs.FewStates.{few_after, few_at_first}
 use Rattle.rounds.specs.Answers.{limits_of}
@@ -30,10 +31,13 @@ loop-round-init g c =
       limit = refl;
       state_room = room.state_room;
       solve = room.solve_room;
-      underlyings = room.underlyings;
-      legs = room.legs;
-      units = room.unit_count;
+      search = room.search_room;
     }
+
+pub round-requires-clause-sizes : goal.round-requires-clause-sizes
+round-requires-clause-sizes g c =
+    let l = c.loop-round in
+    subst (λ (units : ℕ). AreWithin (sizes_for c.args.batch.now units) l.search.sizes) (sym l.invariant.limit) l.invariant.search
 
 pub round-requires-clause-few_states : goal.round-requires-clause-few_states
 round-requires-clause-few_states g c =
@@ -100,9 +104,7 @@ loop-round-preserved g c =
       limit = c.round.ensures.limit ∙ l.invariant.limit;
       state_room = omega (arith, l.invariant.state_room, c.push_within.ensures.capacity);
       solve = kept_room (length orders) (states_within n budget.limit) l.room c.round.new.room c.round.ensures.room l.invariant.solve;
-      underlyings = omega (arith, c.round.ensures.search.0, l.invariant.underlyings);
-      legs = omega (arith, c.round.ensures.search.1, l.invariant.legs);
-      units = omega (arith, c.round.ensures.search.2, l.invariant.units);
+      search = subst (AreWithin (sizes_for c.args.batch.now budget.limit)) (sym c.round.ensures.sizes) l.invariant.search;
     }
 
 pub returns-in_err-read-clause-run : goal.returns-in_err-read-clause-run

@@ -3,7 +3,7 @@ use Rattle.std.proofs.Common.{◌≡◌, ◌+◌, ◌≤◌, length, map, unsign
 use Rattle.std.specs.List.{All}
 use Rattle.form.specs.declared.states.State.{State}
 use Rattle.form.specs.States.{vector_of}
-use Rattle.sign_tree.specs.Legs.{leg_count}
+use Rattle.pricing_oracle.specs.Sizes.{AreWithin, sizes_for}
 use Rattle.search_laws.specs.Sizes.{AreFewStates}
 use Rattle.rounds.specs.Answers.{limits_of}
 use Rattle.rounds.specs.Rooms.{IsSolveRoom, states_within}
@@ -20,7 +20,5 @@ invariant-loop-round g l = record {
   limit : l.budget.limit ≡ l.fn.budget.limit;
   state_room : states_within l.batch.underlyings l.fn.budget.limit ≤ vec_capacity l.states + 1;
   solve : IsSolveRoom (length l.batch.orders) (states_within l.batch.underlyings l.fn.budget.limit) l.room;
-  underlyings : l.batch.underlyings ≤ l.search.underlyings;
-  legs : leg_count l.batch.orders ≤ l.search.legs;
-  units : l.fn.budget.limit ≤ l.search.units;
+  search : AreWithin (sizes_for l.batch l.fn.budget.limit) l.search.sizes;
 }

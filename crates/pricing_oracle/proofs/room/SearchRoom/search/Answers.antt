@@ -14,5 +14,5 @@ returns-clause-search g c =
     ap (map sign_of) c.as_mut_slice.ensures.value ∙ c.write_unsigned.ensures.signs ∙ ap (λ k. replicate k Unsigned) c.requires.count in
     let cleared : parts_of (record { nodes = c.clear.new.self; multipliers = c.clear-2.new.self }) ≡ no_parts =
     λ i. record { nodes = map node_of (c.clear.ensures.items i); multipliers = map placed_of (c.clear-2.ensures.items i) } in
-    whole_search q signs c.args.budget.now.spent c.branch-self.new.budget.spent no_parts (parts_of c.branch-self.new.tree) c.branch-self.result none
-    (subst (λ old. BranchSays q signs c.args.budget.now.spent old (parts_of c.branch-self.new.tree) c.branch-self.result c.branch-self.new.budget.spent) cleared c.branch-self.ensures.search)
+    whole_search q signs c.args.budget.now.spent c.branch-self.new.budget.spent no_parts (parts_of c.branch-self.new.room.tree) c.branch-self.result none
+    (subst (λ old. BranchSays q signs c.args.budget.now.spent old (parts_of c.branch-self.new.room.tree) c.branch-self.result c.branch-self.new.budget.spent) cleared c.branch-self.ensures.search)
