@@ -1,6 +1,7 @@
 -- What an exchange keeps stays true at each command.
 use Rattle.std.proofs.Common.{◌≡◌, ℕ, ◌+◌, ◌*◌, ◌≤◌, ℤ, pos, unsigned_abs, map, List, [], ◌∷◌, ◌++◌, take, true, nat_eq, Option, None, Some, refl, sym, ap, subst, arith}
 use Rattle.std.specs.List.{All, sum}
+use Rattle.std.specs.Prelude.{unwrap_or}
 use Rattle.std.specs.Option.{option_map_or}
 use Rattle.std.proofs.lemmas.List.{length-take}
 use Rattle.std.proofs.lemmas.List.Elements.{All-cons, All-nil, All-push, All-take}
@@ -35,8 +36,8 @@ use Rattle.exchange_core.specs.ExchangeState.{ExchangeState, empty_exchange}
 use Rattle.exchange_core.specs.Kept.{AreOrdersKept, IsKept, IsOfOpen, IsPositionKept}
 use Rattle.exchange_core.specs.Laws.{ClearsKeep, StepKeeps}
 use Rattle.command_text.specs.Options.{option_by}
-use Rattle.exchange_core.specs.Orders.{order_by, order_for}
-use Rattle.exchange_core.specs.Refusals.{place_refusals, refusal_of}
+use Rattle.exchange_core.specs.Orders.{order_by, order_for, order_of}
+use Rattle.exchange_core.specs.Refusals.{place_refusals, refusal_of, refusals}
 use Rattle.exchange_core.specs.Step.{batch_in, place_effect, effect, refusal_effect}
 use Rattle.command_text.specs.Within.{IsWithin, IsOffer, IsBundleOf}
 use Rattle.form.specs.Between.{Between}
@@ -139,6 +140,29 @@ bundle_within side account market price quantity bundle low between is = record 
   quantity = between.1;
   counted = is.limited;
 }
+
+-- the order that a command places is within the limits, and its refusals and its effect are the
+-- command's
+pub record Places (state : ExchangeState) (command : Command) (order : NewOrder) : Type 0 where
+  pub within : IsNewOrderWithin order
+  pub refused : place_refusals state order ≡ refusals state command
+  pub done : place_effect state order ≡ effect state command
+
+pub places_of : (state : ExchangeState) (command : Command) (order : NewOrder) → IsWithin command → order_of command ≡ Some order → Places state command order
+places_of state (Trade side account market kind strike price quantity count weights) order within is =
+    subst (Places state (Trade side account market kind strike price quantity count weights)) (ap (λ (o : Option NewOrder). unwrap_or o order) is)
+    (record { within = order_within side account market kind strike price quantity count weights within.2; refused = refl; done = refl })
+places_of state (BundleOrder side account market price quantity bundle) order within is =
+    subst (Places state (BundleOrder side account market price quantity bundle)) (ap (λ (o : Option NewOrder). unwrap_or o order) is)
+    (record { within = bundle_within side account market price quantity bundle within.2 within.3 within.4; refused = refl; done = refl })
+places_of state (Open account) order within is = cc
+places_of state (Deposit account amount) order within is = cc
+places_of state (Withdraw account amount) order within is = cc
+places_of state (Market market underlyings) order within is = cc
+places_of state (Cancel account number) order within is = cc
+places_of state (Clear market budget) order within is = cc
+places_of state (Settle market count prices) order within is = cc
+places_of state (Balance account) order within is = cc
 
 -- ---- a batch that is cleared with these fills
 pub clears_keep : ClearsKeep

@@ -14,6 +14,5 @@ pub mod Refusals
 pub mod Reply
 pub mod Reserves
 pub mod Step
-pub mod Terms
 pub mod Worked
 pub mod RunSteps

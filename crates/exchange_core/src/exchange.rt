@@ -1,4 +1,4 @@
-ghost use Rattle.std.specs.Prelude.{◌≡◌, ◌+◌, ◌++◌, ◌≤◌, ◌<◌, ◌^◌, length, map, pos, IfOk, IfSome, OnErr, OnOk, Some, true};
+ghost use Rattle.std.specs.Prelude.{◌≡◌, ◌+◌, ◌++◌, ◌≤◌, ◌<◌, ◌^◌, length, map, pos, IfOk, IfSome, IsSome, OnErr, OnOk, Some, true};
 ghost use Rattle.std.specs.Option.{option_map};
 ghost use Rattle.cash_ledger.specs.Entries.{AreBounded};
 ghost use Rattle.cash_ledger.specs.Ledger.{balance_in, if_open};
@@ -21,7 +21,7 @@ ghost use Rattle.exchange_core.specs.Refusals.{by_book, by_ledger, refusals, pla
 ghost use Rattle.exchange_core.specs.Held.{markets_of, positions_of};
 ghost use Rattle.exchange_core.specs.Reserves.{reserve_in};
 ghost use Rattle.exchange_core.specs.Step.{step, effect, place_effect, clear_effect, cleared_with, Does};
-ghost use Rattle.exchange_core.specs.Terms.{bundle_on, trade_on};
+ghost use Rattle.exchange_core.specs.Orders.{order_of};
 ghost use Rattle.command_text.specs.Within.{IsWithin, IsAccount, IsAmount, IsBudget};
 ghost use Rattle.form.specs.Between.{Between};
 ghost use Rattle.form.specs.declared.limits.TheConstants.{MAX_ORDERS, MAX_UNDERLYINGS};
@@ -32,12 +32,11 @@ use crate::failure::Failure;
 use crate::held::in_order;
 use crate::place::{cancel, place};
 use crate::settle::settle;
-use crate::terms::Terms;
-use crate::trade::one_option;
+use crate::trade::order_of;
 use cash_ledger::{Ledger, LedgerRefusal};
 use cert_check::{Fills, Outcome};
-use command_text::{Command, Kind};
-use form::{Batch, Bundle};
+use command_text::Command;
+use form::Batch;
 use order_book::{Book, BookRefusal, MarketInfo, NewOrder};
 use settlement::{Position, Positions};
 use std::alloc::{AllocError, Global};
@@ -291,49 +290,17 @@ impl Exchange {
         Ok(Reply::Placed { order })
     }
 
-    // An order is large, and a function clears the places of its values when it is entered: so the
-    // order of a trade, and that for a bundle, are made in functions of their own, and no other
-    // command pays for them.
-    fn trade(
-        &mut self,
-        terms: &Terms,
-        kind: Kind,
-        strike: i64,
-        count: u8,
-        weights: &[i16; 8],
-    ) -> Result<Reply, Failure>
-        requires { IsWithin (trade_on terms.now kind strike count weights.now) }
-        ensures refused { TellsFirst unless_memory result
-            (refusals self.old (trade_on terms.now kind strike count weights.now)) }
-        ensures ok { Does result self.new
-            (effect self.old (trade_on terms.now kind strike count weights.now)) }
+    // Places the order of a trade, or that for a bundle. An order is large, and a function clears
+    // the places of its values when it is entered: here no other command pays for one.
+    fn order(&mut self, command: &Command) -> Result<Reply, Failure>
+        requires within { IsWithin command.now }
+        requires order { IsSome (order_of command.now) }
+        ensures refused { TellsFirst unless_memory result (refusals self.old command.now) }
+        ensures ok { Does result self.new (effect self.old command.now) }
         ensures err { OnErr result (self.new ≡ self.old) }
     {
-        self.place(&NewOrder {
-            account: terms.account,
-            market: terms.market,
-            side: terms.side,
-            bundle: one_option(kind, strike, count, weights),
-            price: terms.price,
-            quantity: terms.quantity,
-        })
-    }
-
-    fn bundle(&mut self, terms: &Terms, bundle: &Bundle) -> Result<Reply, Failure>
-        requires { IsWithin (bundle_on terms.now bundle.now) }
-        ensures refused { TellsFirst unless_memory result
-            (refusals self.old (bundle_on terms.now bundle.now)) }
-        ensures ok { Does result self.new (effect self.old (bundle_on terms.now bundle.now)) }
-        ensures err { OnErr result (self.new ≡ self.old) }
-    {
-        self.place(&NewOrder {
-            account: terms.account,
-            market: terms.market,
-            side: terms.side,
-            bundle: *bundle,
-            price: terms.price,
-            quantity: terms.quantity,
-        })
+        let order = order_of(command).unwrap();
+        self.place(&order)
     }
 
     fn cancel(&mut self, account: u32, order: u64) -> Result<Reply, Failure>
@@ -414,46 +381,7 @@ impl Exchange {
                 market,
                 underlyings,
             } => self.list(*market, *underlyings),
-            Command::Trade {
-                side,
-                account,
-                market,
-                kind,
-                strike,
-                price,
-                quantity,
-                count,
-                weights,
-            } => self.trade(
-                &Terms {
-                    account: *account,
-                    market: *market,
-                    side: *side,
-                    price: *price,
-                    quantity: *quantity,
-                },
-                *kind,
-                *strike,
-                *count,
-                weights,
-            ),
-            Command::Bundle {
-                side,
-                account,
-                market,
-                price,
-                quantity,
-                bundle,
-            } => self.bundle(
-                &Terms {
-                    account: *account,
-                    market: *market,
-                    side: *side,
-                    price: *price,
-                    quantity: *quantity,
-                },
-                bundle.get(),
-            ),
+            Command::Trade { .. } | Command::Bundle { .. } => self.order(command),
             Command::Cancel { account, order } => self.cancel(*account, *order),
             Command::Clear { market, budget } => self.clear(*market, *budget),
             Command::Balance { account } => self.tell_balance(*account),

@@ -16,7 +16,6 @@ mod refusal;
 mod reply;
 mod reserve;
 mod settle;
-mod terms;
 mod trade;
 
 pub use cash_ledger::{MAX_ACCOUNT, MAX_AMOUNT};
