@@ -7,6 +7,7 @@ use Rattle.std.proofs.lemmas.Bool.{leb-true}
 use Rattle.arithmetic.proofs.Tests.{int_le-yes}
 use Rattle.form.specs.declared.limits.TheConstants.{MAX_BUDGET, MAX_ORDER, MAX_ORDERS}
 use Rattle.frac.specs.declared.frac128.Frac128.{Frac128}
+use Rattle.cert_check.specs.declared.outcome.Claim.{Claim}
 use Rattle.cert_check.specs.declared.outcome.Mark.{Mark}
 use Rattle.cert_check.specs.declared.outcome.Mark.TheVariants as mark
 use Rattle.serde_json.specs.Data.{Data}
@@ -14,33 +15,32 @@ use Rattle.serde_json.specs.Find.{as_number, as_u64}
 use Rattle.reply_print.specs.declared.limits.TheConstants.{MAX_ACCOUNT, MAX_MARKET, MAX_BATCH}
 use Rattle.reply_print.specs.Within.{IsAccount, IsMarket, IsOrderNumber, IsBatchNumber, IsBatchWithin, IsMarkWithin}
 use Rattle.reply_text.specs.BatchValues.{fraction_from, side_at}
-use Rattle.reply_text.specs.OutcomeValues.{certificate_from}
-use Rattle.reply_text.specs.ReplyValues.{account_at, market_at, batch_from}
+use Rattle.reply_text.specs.OutcomeValues.{certificate_from, claim_from}
+use Rattle.reply_text.specs.ReplyValues.{account_at, market_at, batch_from, cleared_batch_from}
 use Rattle.reply_text.specs.Taking.{from_to, list_at, take_at}
 use Rattle.reply_text.proofs.Sound.{Sound, any, after, mapped, either, where_true, at_key, list_sound, natural_sound, from_sound}
-use Rattle.reply_text.proofs.SoundCleared.{IsBundleListed, batch_sound, bundle_sound, certificate_sound}
+use Rattle.reply_text.proofs.SoundCleared.{IsBundleListed, IsClearedWithin, batch_sound, bundle_sound, certificate_sound, cleared_batch_sound}
 use Rattle.form.specs.Between.{Between}
 use Rattle.proposal_text.specs.declared.replies.ProposalReply.{ProposalReply}
-use Rattle.proposal_text.specs.declared.replies.ProposalReply.TheVariants.{Book, Positions, Proposed, Bounded, Stale, Unproved}
-use Rattle.proposal_text.specs.ReplyValues.{book_from, filled, fill_at, position_of, position_from, positions_from, proposed_from, bounded_of, stop_by_word, outcome_from, bounded_from, failed_by_word, reply_by}
+use Rattle.proposal_text.specs.declared.replies.ProposalReply.TheVariants.{Book, Positions, Proposed, Stale, Unproved}
+use Rattle.proposal_text.specs.ReplyValues.{book_from, filled, fill_at, position_of, position_from, positions_from, proposed_from, bounded_of, bounded_with, stop_by_word, outcome_from, bounded_from, failed_by_word, reply_by}
 use Rattle.proposal_text.specs.Submissions.{proposal_of, proposal_from, order_number_from, few_numbers, order_numbers_at, submission_with, submission_from}
 use Rattle.proposal_text.specs.Within.{IsProposalWithin, IsSubmissionWithin, IsPositionWithin, IsBoundedWithin, IsProposalReplyWithin}
 use Rattle.reply_print.specs.Look.{number_at, word_at}
 
 -- ---- proposals
 
-under_sound : (fills : List Frac128) (liability surplus : Frac128) (m : Mark) → IsMarkWithin m → Sound IsProposalWithin (proposal_of fills liability surplus m)
-under_sound fills liability surplus (mark.Optimal cover measure) h = h
-under_sound fills liability surplus (mark.Wide w) h = tt
-under_sound fills liability surplus mark.Budget h = tt
+under_sound : (claim : Claim) (fills : List Frac128) (m : Mark) → IsMarkWithin m → Sound IsProposalWithin (proposal_of claim fills m)
+under_sound claim fills (mark.Optimal cover measure) h = h
+under_sound claim fills (mark.Wide w) h = tt
+under_sound claim fills mark.Budget h = tt
 
 pub proposal_sound : (d : Data) → Sound IsProposalWithin (proposal_from d)
 proposal_sound d =
-    after (λ x. ⊤) IsProposalWithin _ _ (any (list_at (codes "fills") fraction_from d))
-    (λ fills f. after (λ x. ⊤) IsProposalWithin _ _ (any (take_at (codes "liability") fraction_from d))
-    (λ liability l. after (λ x. ⊤) IsProposalWithin _ _ (any (take_at (codes "surplus") fraction_from d))
-    (λ surplus s. after IsMarkWithin IsProposalWithin _ _ (at_key IsMarkWithin (codes "certificate") certificate_from d certificate_sound)
-    (λ m k. under_sound fills liability surplus m k))))
+    after (λ x. ⊤) IsProposalWithin _ _ (any (claim_from d))
+    (λ claim c. after (λ x. ⊤) IsProposalWithin _ _ (any (list_at (codes "fills") fraction_from d))
+    (λ fills f. after IsMarkWithin IsProposalWithin _ _ (at_key IsMarkWithin (codes "certificate") certificate_from d certificate_sound)
+    (λ m k. under_sound claim fills m k)))
 
 number_sound : (d : Data) → Sound IsOrderNumber (order_number_from d)
 number_sound d = after (λ n. ⊤) IsOrderNumber (from_to 1 MAX_ORDER) (option_and_then as_u64 (as_number d)) (any _) (λ n t. from_sound 1 MAX_ORDER n)
@@ -105,16 +105,14 @@ proposed_sound d =
 
 outcome_sound : (d : Data) → Sound IsBoundedWithin (outcome_from d)
 outcome_sound d =
-    after IsProposalWithin IsBoundedWithin _ (proposal_from d) (proposal_sound d)
-    (λ proposal p. after (λ x. ⊤) IsBoundedWithin _ _ (any (take_at (codes "bound") fraction_from d))
-    (λ bound b. mapped (Between 0 MAX_BUDGET) IsBoundedWithin (bounded_of (stop_by_word (word_at (codes "run") d)) proposal bound) _ (natural_sound 0 MAX_BUDGET (codes "units") d) (λ units u. (u.1, p))))
+    after (λ x. ⊤) IsBoundedWithin _ _ (any (take_at (codes "bound") fraction_from d))
+    (λ bound b. after (Between 0 MAX_BUDGET) IsBoundedWithin _ _ (natural_sound 0 MAX_BUDGET (codes "units") d)
+    (λ units u. mapped IsProposalWithin IsBoundedWithin (bounded_of (stop_by_word (word_at (codes "run") d)) bound units) (proposal_from d) (proposal_sound d) (λ proposal p. (u.1, p))))
 
 bounded_sound : (d : Data) → IsSoundReply (bounded_from d)
 bounded_sound d =
-    after IsBatchNumber IsProposalReplyWithin _ _ (natural_sound 1 MAX_BATCH (codes "batch") d)
-    (λ number n. after IsMarket IsProposalReplyWithin _ (market_at d) (natural_sound 1 MAX_MARKET (codes "market") d)
-    (λ market m. after IsBatchWithin IsProposalReplyWithin _ (batch_from d) (batch_sound d)
-    (λ batch b. mapped IsBoundedWithin IsProposalReplyWithin (Bounded number market batch) (outcome_from d) (outcome_sound d) (λ outcome o. (n, m, b, o)))))
+    after IsClearedWithin IsProposalReplyWithin _ (cleared_batch_from d) (cleared_batch_sound d)
+    (λ cleared c. mapped IsBoundedWithin IsProposalReplyWithin (bounded_with cleared) (outcome_from d) (outcome_sound d) (λ outcome o. (c.0, c.1, c.2, o)))
 
 refused_sound : (b : Bool) (y : ProposalReply) → IsProposalReplyWithin y → (x : ProposalReply) → IsProposalReplyWithin x → IsProposalReplyWithin (if b then x else y)
 refused_sound true y k x h = h

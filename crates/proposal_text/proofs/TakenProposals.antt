@@ -20,13 +20,13 @@ use Rattle.reply_print.proofs.WrittenReplies.{IsLegWithin, legs_within}
 use Rattle.reply_print.specs.ClearedShape.{leg_shape, order_shape}
 use Rattle.reply_print.specs.Look.{items_all, is_whole}
 use Rattle.reply_text.specs.BatchValues.{fraction_from, leg_from, order_from}
-use Rattle.reply_text.specs.ReplyValues.{few_orders}
+use Rattle.reply_text.specs.ReplyValues.{few_orders, cleared_batch_of}
 use Rattle.reply_text.specs.Taking.{items_map, list_at, take_at}
 use Rattle.reply_text.specs.OutcomeValues.{certificate_from}
 use Rattle.reply_text.proofs.FiveTests.{IsTaken, paired}
 use Rattle.reply_text.proofs.Taken.{natural_taken, fraction_taken, fraction_number, items_pass, items_taken}
 use Rattle.reply_text.proofs.TakenBatches.{IsWrittenOrder, order_is_order, order_taken, leg_taken, leg_is_leg, bundle_made_of, legs_of, side_is, side_taken, len_within}
-use Rattle.reply_text.proofs.TakenCleared.{batch_of, fills_are_texts, fills_are_fractions, fills_taken}
+use Rattle.reply_text.proofs.TakenCleared.{batch_taken, claim_taken, cleared_batch_taken, fills_are_texts, fills_are_fractions, fills_taken}
 use Rattle.reply_text.proofs.TakenOutcomes.{certificate_taken, certificate_is, certificate_numbered}
 use Rattle.reply_text.proofs.TakenReplies.{then_taken, line_taken}
 use Rattle.proposal_text.specs.declared.submissions.Submission.{Submission}
@@ -50,7 +50,7 @@ use Rattle.proposal_text.specs.Within.{IsSubmissionWithin, IsPositionWithin, IsP
 pub parts_taken : (d : Data) (p : Proposal) → list_at (codes "fills") fraction_from d ≡ Some p.fills → take_at (codes "liability") fraction_from d ≡ Some p.claim.liability
     → take_at (codes "surplus") fraction_from d ≡ Some p.claim.surplus
     → take_at (codes "certificate") certificate_from d ≡ Some (mark.Optimal p.cover p.measure) → proposal_from d ≡ Some p
-parts_taken d p f l s c = then_taken _ _ p.fills _ f (then_taken _ _ p.claim.liability _ l (then_taken _ _ p.claim.surplus _ s (then_taken _ _ (mark.Optimal p.cover p.measure) _ c refl)))
+parts_taken d p f l s c = then_taken _ _ p.claim _ (claim_taken d p.claim l s) (then_taken _ _ p.fills _ f (then_taken _ _ (mark.Optimal p.cover p.measure) _ c refl))
 
 number_taken : (n : ℕ) → IsOrderNumber n → order_number_from (piece_data (natural n)) ≡ Some n
 number_taken n h = natural_taken 1 MAX_ORDER n h
@@ -164,13 +164,12 @@ abbrev IsTakenFrom : ℕ → ProposalReply → Type 0
 IsTakenFrom line reply = IsTaken proposal_tests (piece_data (proposal_piece line reply)) (line, reply)
 
 book_taken : (line market : ℕ) (batch : Batch) → IsProposalLineWithin line (Book market batch) → IsTakenFrom line (Book market batch)
-book_taken line market batch h = record {
+book_taken line market batch h = let d = piece_data (proposal_piece line (Book market batch)) in record {
   shape = and_from _ _ (orders_are batch.orders h.1.1.2) refl;
   numbers = refl;
   taken = paired _ _ line _ (line_taken line h.0)
       (then_taken _ _ market _ (natural_taken 1 MAX_MARKET market h.1.0)
-      (ap (option_map (Book market))
-      (then_taken _ _ batch.underlyings batch (natural_taken 1 8 batch.underlyings h.1.1.0) (ap (option_map (batch_of batch.underlyings)) (orders_taken batch.orders h.1.1.1 h.1.1.2)))));
+      (ap (option_map (Book market)) (batch_taken d batch (natural_taken 1 8 batch.underlyings h.1.1.0) (orders_taken batch.orders h.1.1.1 h.1.1.2))));
 }
 
 positions_taken : (line account market : ℕ) (positions : List Position) → IsProposalLineWithin line (Positions account market positions) → IsTakenFrom line (Positions account market positions)
@@ -209,15 +208,14 @@ bounded_taken line number market batch outcome h =
           (and_from _ _ (certificate_numbered p.cover p.measure c.0 c.1)
           (and_from _ _ (fills_are_fractions p.fills) (and_from _ _ (fraction_number p.claim.liability) (fraction_number p.claim.surplus))));
       taken = paired _ _ line _ (line_taken line h.0)
-          (then_taken _ _ number _ (natural_taken 1 MAX_BATCH number h.1.0)
-          (then_taken _ _ market _ (natural_taken 1 MAX_MARKET market h.1.1)
-          (then_taken _ _ batch _
-          (then_taken _ _ batch.underlyings batch (natural_taken 1 8 batch.underlyings b.0) (ap (option_map (batch_of batch.underlyings)) (orders_taken batch.orders b.1 b.2)))
+          (then_taken _ _ (cleared_batch_of number market batch) _
+          (cleared_batch_taken d number market batch (natural_taken 1 MAX_BATCH number h.1.0) (natural_taken 1 MAX_MARKET market h.1.1) (natural_taken 1 8 batch.underlyings b.0) (orders_taken batch.orders b.1 b.2))
           (ap (option_map (Bounded number market batch))
-          (then_taken _ _ p _ (parts_taken d p (fills_taken p.fills) (fraction_taken p.claim.liability) (fraction_taken p.claim.surplus) (certificate_taken p.cover p.measure c.0 c.1))
           (then_taken _ _ outcome.bound _ (fraction_taken outcome.bound)
-          (ap (option_map (bounded_of (stop_by_word (stop_word outcome.run)) p outcome.bound)) (natural_taken 0 MAX_BUDGET outcome.units (omega arith, h.1.3.0))
-          ∙ ap (λ run. Some (bounded_of run p outcome.bound outcome.units)) (stop_taken outcome.run))))))));
+          (then_taken _ _ outcome.units _ (natural_taken 0 MAX_BUDGET outcome.units (omega arith, h.1.3.0))
+          (ap (option_map (bounded_of (stop_by_word (stop_word outcome.run)) outcome.bound outcome.units))
+          (parts_taken d p (fills_taken p.fills) (fraction_taken p.claim.liability) (fraction_taken p.claim.surplus) (certificate_taken p.cover p.measure c.0 c.1))
+          ∙ ap (λ run. Some (bounded_of run outcome.bound outcome.units p)) (stop_taken outcome.run))))));
     }
 
 stale_taken : (line : ℕ) → IsProposalLineWithin line Stale → IsTakenFrom line Stale

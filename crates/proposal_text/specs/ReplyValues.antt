@@ -12,7 +12,8 @@ use Rattle.form.specs.declared.limits.TheConstants.{MAX_BUDGET, MAX_ORDER}
 use Rattle.reply_print.specs.declared.limits.TheConstants.{MAX_BATCH}
 use Rattle.reply_print.specs.Look.{word_at, number_at}
 use Rattle.reply_text.specs.BatchValues.{fraction_from, bundle_from, side_at}
-use Rattle.reply_text.specs.ReplyValues.{account_at, market_at, batch_from}
+use Rattle.reply_text.specs.declared.batch_values.ClearedBatch.{ClearedBatch}
+use Rattle.reply_text.specs.ReplyValues.{account_at, market_at, batch_from, cleared_batch_from}
 use Rattle.reply_text.specs.Taking.{natural_at, list_at, take_at}
 use Rattle.reply_text.specs.Tests.{ReplyTests, Tests, read_by, tests_of}
 use Rattle.reply_text.specs.declared.faults.LineFault.{LineFault}
@@ -81,21 +82,21 @@ proposed_from d =
 abbrev pub stop_by_word : List ℕ → RunStop
 stop_by_word word = if bytes_eq word (codes "wide") then stop.Wide else stop.Budget
 
-abbrev pub bounded_of : RunStop → Proposal → Frac128 → ℕ → BoundedOutcome
-bounded_of run proposal bound units = record { proposal = proposal; bound = bound; run = run; units = units }
+abbrev pub bounded_of : RunStop → Frac128 → ℕ → Proposal → BoundedOutcome
+bounded_of run bound units proposal = record { proposal = proposal; bound = bound; run = run; units = units }
 
 abbrev pub outcome_from : Data → Option BoundedOutcome
 outcome_from d =
-    option_and_then (λ proposal.
-    option_and_then (λ bound. option_map (bounded_of (stop_by_word (word_at (codes "run") d)) proposal bound) (natural_at 0 MAX_BUDGET (codes "units") d))
-    (take_at (codes "bound") fraction_from d))
-    (proposal_from d)
+    option_and_then (λ bound.
+    option_and_then (λ units. option_map (bounded_of (stop_by_word (word_at (codes "run") d)) bound units) (proposal_from d))
+    (natural_at 0 MAX_BUDGET (codes "units") d))
+    (take_at (codes "bound") fraction_from d)
+
+abbrev pub bounded_with : ClearedBatch → BoundedOutcome → ProposalReply
+bounded_with cleared outcome = Bounded cleared.number cleared.market cleared.batch outcome
 
 abbrev pub bounded_from : Data → Option ProposalReply
-bounded_from d =
-    option_and_then (λ number.
-    option_and_then (λ market. option_and_then (λ batch. option_map (Bounded number market batch) (outcome_from d)) (batch_from d)) (market_at d))
-    (natural_at 1 MAX_BATCH (codes "batch") d)
+bounded_from d = option_and_then (λ cleared. option_map (bounded_with cleared) (outcome_from d)) (cleared_batch_from d)
 
 -- ---- refusals
 

@@ -4,6 +4,7 @@ use Rattle.std.specs.Prelude.{ℕ, ◌≡◌, List, length, Bool, ◌&&◌, nat_
 use Rattle.std.specs.Result.{result_ok}
 use Rattle.frac.specs.declared.frac128.Frac128.{Frac128}
 use Rattle.form.specs.declared.limits.TheConstants.{MAX_ORDER, MAX_ORDERS}
+use Rattle.cert_check.specs.declared.outcome.Claim.{Claim}
 use Rattle.cert_check.specs.declared.outcome.Mark.{Mark}
 use Rattle.cert_check.specs.declared.outcome.Mark.TheVariants.{Optimal, Wide, Budget}
 use Rattle.cert_check.specs.declared.outcome.Proposal.{Proposal}
@@ -13,7 +14,7 @@ use Rattle.reply_print.specs.ClearedShape.{certificate_shape}
 use Rattle.reply_print.specs.Look.{has_members, has_at, is_whole, is_text, is_list}
 use Rattle.reply_print.specs.NumberTexts.{certificate_numbers, is_fraction}
 use Rattle.reply_text.specs.BatchValues.{fraction_from}
-use Rattle.reply_text.specs.OutcomeValues.{certificate_from}
+use Rattle.reply_text.specs.OutcomeValues.{certificate_from, claim_from}
 use Rattle.reply_text.specs.Taking.{from_to, list_at, take_at}
 use Rattle.reply_text.specs.Tests.{Tests, read_by}
 use Rattle.proposal_text.specs.declared.submissions.Submission.{Submission}
@@ -32,20 +33,17 @@ proposal_numbers d =
     && (has_at (codes "fills") (is_list is_fraction) d && (has_at (codes "liability") is_fraction d && has_at (codes "surplus") is_fraction d))
 
 -- the proposal of a certificate, which is that of the mark optimal
-abbrev pub proposal_of : List Frac128 → Frac128 → Frac128 → Mark → Option Proposal
-proposal_of fills liability surplus (Optimal cover measure) =
-    Some (record { fills = fills; claim = record { liability = liability; surplus = surplus }; cover = cover; measure = measure })
-proposal_of fills liability surplus (Wide w) = None
-proposal_of fills liability surplus Budget = None
+abbrev pub proposal_of : Claim → List Frac128 → Mark → Option Proposal
+proposal_of claim fills (Optimal cover measure) = Some (record { fills = fills; claim = claim; cover = cover; measure = measure })
+proposal_of claim fills (Wide w) = None
+proposal_of claim fills Budget = None
 
 abbrev pub proposal_from : Data → Option Proposal
 proposal_from d =
-    option_and_then (λ fills.
-    option_and_then (λ liability.
-    option_and_then (λ surplus. option_and_then (proposal_of fills liability surplus) (take_at (codes "certificate") certificate_from d))
-    (take_at (codes "surplus") fraction_from d))
-    (take_at (codes "liability") fraction_from d))
-    (list_at (codes "fills") fraction_from d)
+    option_and_then (λ claim.
+    option_and_then (λ fills. option_and_then (proposal_of claim fills) (take_at (codes "certificate") certificate_from d))
+    (list_at (codes "fills") fraction_from d))
+    (claim_from d)
 
 -- ---- the orders that it is for
 

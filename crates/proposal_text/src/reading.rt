@@ -7,8 +7,14 @@ ghost use Rattle.proposal_text.specs.ReplyValues.{IsProposalLineOf, proposal_rep
 
 use crate::printing::print_proposal_reply;
 use crate::replies::ProposalReply;
-use crate::reply_shapes::{has_numbers, has_shape};
-use crate::reply_values::reply_from;
+use crate::reply_shapes::{
+    are_numbered, book_shape, bounded_shape, positions_shape, proposed_numbers, proposed_shape,
+    refused_shape,
+};
+use crate::reply_values::{book_from, bounded_from, positions_from, proposed_from, refused_from};
+use crate::submission_text::proposal_numbers;
+use reply_print::cleared_numbers::has_fraction;
+use reply_print::look::{has_at, number_at};
 use reply_text::reading::json_value;
 use reply_text::tested::read_value;
 use reply_text::{LineFault, TestedReply};
@@ -19,15 +25,33 @@ impl TestedReply for ProposalReply {
     ghost tests = { proposal_replies };
 
     fn has_shape(value: &Value, word: &str) -> bool {
-        has_shape(value, word)
+        match word {
+            "book" => book_shape(value),
+            "positions" => positions_shape(value),
+            "proposed" => proposed_shape(value),
+            "cleared" => bounded_shape(value),
+            "refused" => refused_shape(value, number_at(value, "number")),
+            _ => false,
+        }
     }
 
     fn has_numbers(value: &Value, word: &str) -> bool {
-        has_numbers(value, word)
+        match word {
+            "positions" => has_at(value, "positions", are_numbered),
+            "proposed" => proposed_numbers(value),
+            "cleared" => has_fraction(value, "bound") && proposal_numbers(value),
+            _ => true,
+        }
     }
 
     fn reply_from(alloc: Global, value: &Value, word: &str) -> Result<Option<Self>, AllocError> {
-        reply_from(alloc, value, word)
+        match word {
+            "book" => book_from(alloc, value),
+            "positions" => positions_from(alloc, value),
+            "proposed" => Ok(proposed_from(value)),
+            "cleared" => bounded_from(alloc, value),
+            _ => Ok(Some(refused_from(value))),
+        }
     }
 
     fn print(&self, alloc: Global, line: u32) -> Result<Vec<u8>, AllocError> {

@@ -1,11 +1,10 @@
 // The shapes of the replies, and whether their texts are numbers.
-ghost use Rattle.std.specs.Prelude.{◌≡◌, false};
+ghost use Rattle.std.specs.Prelude.{◌≡◌};
 ghost use Rattle.serde_json.specs.View.{view};
-ghost use Rattle.reply_print.specs.ClearedShape.{order_shape};
 ghost use Rattle.reply_print.specs.Look.{is_list as list_passes};
-ghost use Rattle.proposal_text.specs.ReplyShapes.{are_orders as orders_are, book_shape as book_is, bounded_shape as bounded_is, counts_shape as counts_are, is_failed as failed_is, is_stop as stop_is, numbers_by as numbers_are, position_numbers as position_is_numbered, position_shape as position_is, positions_shape as positions_are, proposed_numbers as proposed_is_numbered, proposed_shape as proposed_is, refused_shape as refused_is, shape_by as shape_is, stale_shape as stale_is, unproved_shape as unproved_is};
+ghost use Rattle.proposal_text.specs.ReplyShapes.{are_orders as orders_are, book_shape as book_is, bounded_shape as bounded_is, counts_shape as counts_are, is_failed as failed_is, is_stop as stop_is, position_numbers as position_is_numbered, position_shape as position_is, positions_shape as positions_are, proposed_numbers as proposed_is_numbered, proposed_shape as proposed_is, refused_shape as refused_is, stale_shape as stale_is, unproved_shape as unproved_is};
 
-use crate::submission_text::{proposal_numbers, proposal_shape};
+use crate::submission_text::proposal_shape;
 use reply_print::cleared_numbers::has_fraction;
 use reply_print::cleared_shape::{are_legs, are_orders, is_side};
 use reply_print::look::{
@@ -13,19 +12,13 @@ use reply_print::look::{
 };
 use serde_json::Value;
 
-fn are_leg_orders(value: &Value) -> bool
-    ensures { result ≡ list_passes (order_shape false) (view value.now) }
-{
-    are_orders(value, false)
-}
-
 fn has_orders(value: &Value) -> bool
     ensures { result ≡ orders_are (view value.now) }
 {
-    has_at(value, "orders", are_leg_orders)
+    matches!(value.get("orders"), Some(orders) if are_orders(orders, false))
 }
 
-fn book_shape(value: &Value) -> bool
+pub(crate) fn book_shape(value: &Value) -> bool
     ensures { result ≡ book_is (view value.now) }
 {
     has_members(value, 5)
@@ -52,7 +45,7 @@ fn are_positions(value: &Value) -> bool
     is_list(value, position_shape)
 }
 
-fn positions_shape(value: &Value) -> bool
+pub(crate) fn positions_shape(value: &Value) -> bool
     ensures { result ≡ positions_are (view value.now) }
 {
     has_members(value, 5)
@@ -62,7 +55,7 @@ fn positions_shape(value: &Value) -> bool
         && has_at(value, "positions", are_positions)
 }
 
-fn proposed_shape(value: &Value) -> bool
+pub(crate) fn proposed_shape(value: &Value) -> bool
     ensures { result ≡ proposed_is (view value.now) }
 {
     has_members(value, 7)
@@ -90,7 +83,7 @@ fn counts_shape(value: &Value) -> bool
         && has_whole(value, "units")
 }
 
-fn bounded_shape(value: &Value) -> bool
+pub(crate) fn bounded_shape(value: &Value) -> bool
     ensures { result ≡ bounded_is (view value.now) }
 {
     number_at(value, "version") == 3
@@ -128,7 +121,7 @@ fn unproved_shape(value: &Value) -> bool
         && has_word(value, "reason", "Unproved")
 }
 
-fn refused_shape(value: &Value, number: u64) -> bool
+pub(crate) fn refused_shape(value: &Value, number: u64) -> bool
     ensures { result ≡ refused_is number (view value.now) }
 {
     if number == 20 {
@@ -138,56 +131,23 @@ fn refused_shape(value: &Value, number: u64) -> bool
     }
 }
 
-// Whether the value has the shape of the reply that this word names.
-pub(crate) fn has_shape(value: &Value, word: &str) -> bool
-    ensures { result ≡ shape_is word.now (view value.now) }
-{
-    if word == "book" {
-        book_shape(value)
-    } else if word == "positions" {
-        positions_shape(value)
-    } else if word == "proposed" {
-        proposed_shape(value)
-    } else if word == "cleared" {
-        bounded_shape(value)
-    } else {
-        word == "refused" && refused_shape(value, number_at(value, "number"))
-    }
-}
-
 fn position_numbers(value: &Value) -> bool
     ensures { result ≡ position_is_numbered (view value.now) }
 {
     has_fraction(value, "fill")
 }
 
-fn are_numbered(value: &Value) -> bool
+pub(crate) fn are_numbered(value: &Value) -> bool
     ensures { result ≡ list_passes position_is_numbered (view value.now) }
 {
     is_list(value, position_numbers)
 }
 
-fn proposed_numbers(value: &Value) -> bool
+pub(crate) fn proposed_numbers(value: &Value) -> bool
     ensures { result ≡ proposed_is_numbered (view value.now) }
 {
     has_fraction(value, "best_surplus")
         && has_fraction(value, "bound")
         && has_fraction(value, "least_bound")
         && has_fraction(value, "surplus")
-}
-
-// Whether the texts of the reply that this word names are numbers where they should be. The value
-// has its shape.
-pub(crate) fn has_numbers(value: &Value, word: &str) -> bool
-    ensures { result ≡ numbers_are word.now (view value.now) }
-{
-    if word == "positions" {
-        has_at(value, "positions", are_numbered)
-    } else if word == "proposed" {
-        proposed_numbers(value)
-    } else if word == "cleared" {
-        has_fraction(value, "bound") && proposal_numbers(value)
-    } else {
-        true
-    }
 }

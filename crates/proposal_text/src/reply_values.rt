@@ -1,8 +1,7 @@
 // The replies that are taken out of a line, where they are within their ranges.
-ghost use Rattle.std.specs.Prelude.{◌≡◌, IfOk, codes, option_map};
+ghost use Rattle.std.specs.Prelude.{◌≡◌, IfOk};
 ghost use Rattle.serde_json.specs.View.{view};
-ghost use Rattle.reply_text.specs.Taking.{list_at as list_found};
-ghost use Rattle.proposal_text.specs.ReplyValues.{book_from as book_is, bounded_from as bounded_is, failed_by_word as failed_named, fill_at as fill_found, outcome_from as outcome_is, position_from as position_is, positions_from as positions_are, proposed_from as proposed_is, refused_from as refused_is, reply_by as reply_is, stop_by_word as stop_named};
+ghost use Rattle.proposal_text.specs.ReplyValues.{book_from as book_is, bounded_from as bounded_is, failed_by_word as failed_named, fill_at as fill_found, outcome_from as outcome_is, position_from as position_is, positions_from as positions_are, proposed_from as proposed_is, refused_from as refused_is, stop_by_word as stop_named};
 
 use crate::replies::{BoundedOutcome, Failed, Positions, ProposalReply, RunStop};
 use crate::submission_text::proposal_from;
@@ -10,14 +9,16 @@ use exact_num::Exact;
 use form::MAX_BUDGET;
 use frac::Frac128;
 use reply_print::look::{number_at, word_at};
-use reply_text::batch_values::{batch_from, bundle_from, side_at};
+use reply_text::batch_values::{batch_from, bundle_from, cleared_batch_from, side_at};
 use reply_text::certificate_values::fraction_at;
-use reply_text::taking::{account_at, batch_at, list_at, market_at, natural_at, order_at};
+use reply_text::taking::{
+    ItemReader, account_at, batch_at, list_at, market_at, natural_at, order_at,
+};
 use serde_json::Value;
 use settlement::Position;
 use std::alloc::{AllocError, Global};
 
-fn book_from(alloc: Global, value: &Value) -> Result<Option<ProposalReply>, AllocError>
+pub(crate) fn book_from(alloc: Global, value: &Value) -> Result<Option<ProposalReply>, AllocError>
     ensures { IfOk result (λ o. o ≡ book_is (view value.now)) }
 {
     let Some(market) = market_at(value) else {
@@ -40,58 +41,50 @@ fn fill_at(value: &Value) -> Option<Frac128>
     Some(fill)
 }
 
-fn position_from(
-    alloc: Global,
-    value: &Value,
+// The positions of an account in a market.
+#[derive(Drop)]
+struct PositionReader {
     account: u32,
     market: u32,
-) -> Result<Option<Position>, AllocError>
-    ensures { IfOk result (λ o. o ≡ position_is account market (view value.now)) }
-{
-    let Some(batch) = batch_at(value) else {
-        return Ok(None);
-    };
-    let Some(fill) = fill_at(value) else {
-        return Ok(None);
-    };
-    let Some(bundle) = bundle_from(alloc, value, false)? else {
-        return Ok(None);
-    };
-    let Some(order) = order_at(value) else {
-        return Ok(None);
-    };
-    let Some(side) = side_at(value) else {
-        return Ok(None);
-    };
-    Ok(Some(Position {
-        market,
-        batch,
-        order,
-        account,
-        side,
-        bundle,
-        fill,
-    }))
 }
 
-fn positions_at(
+impl ItemReader for PositionReader {
+    type Item = Position;
+
+    ghost found = { λ reader. position_is reader.account reader.market };
+
+    fn item_from(&self, alloc: Global, value: &Value) -> Result<Option<Position>, AllocError> {
+        let Some(batch) = batch_at(value) else {
+            return Ok(None);
+        };
+        let Some(fill) = fill_at(value) else {
+            return Ok(None);
+        };
+        let Some(bundle) = bundle_from(alloc, value, false)? else {
+            return Ok(None);
+        };
+        let Some(order) = order_at(value) else {
+            return Ok(None);
+        };
+        let Some(side) = side_at(value) else {
+            return Ok(None);
+        };
+        Ok(Some(Position {
+            market: self.market,
+            batch,
+            order,
+            account: self.account,
+            side,
+            bundle,
+            fill,
+        }))
+    }
+}
+
+pub(crate) fn positions_from(
     alloc: Global,
     value: &Value,
-    account: u32,
-    market: u32,
-) -> Result<Option<Vec<Position>>, AllocError>
-    ensures { IfOk result (λ o. option_map (λ v. v.items) o
-        ≡ list_found (codes "positions") (position_is account market) (view value.now)) }
-{
-    list_at(
-        alloc,
-        value,
-        "positions",
-        |position| position_from(alloc, position, account, market),
-    )
-}
-
-fn positions_from(alloc: Global, value: &Value) -> Result<Option<ProposalReply>, AllocError>
+) -> Result<Option<ProposalReply>, AllocError>
     ensures { IfOk result (λ o. o ≡ positions_are (view value.now)) }
 {
     let Some(account) = account_at(value) else {
@@ -100,7 +93,8 @@ fn positions_from(alloc: Global, value: &Value) -> Result<Option<ProposalReply>,
     let Some(market) = market_at(value) else {
         return Ok(None);
     };
-    let Some(positions) = positions_at(alloc, value, account, market)? else {
+    let reader = PositionReader { account, market };
+    let Some(positions) = list_at(alloc, value, "positions", &reader)? else {
         return Ok(None);
     };
     Ok(Some(ProposalReply::Positions {
@@ -110,7 +104,7 @@ fn positions_from(alloc: Global, value: &Value) -> Result<Option<ProposalReply>,
     }))
 }
 
-fn proposed_from(value: &Value) -> Option<ProposalReply>
+pub(crate) fn proposed_from(value: &Value) -> Option<ProposalReply>
     ensures { result ≡ proposed_is (view value.now) }
 {
     let market = market_at(value)?;
@@ -140,13 +134,13 @@ fn run_stop(word: &str) -> RunStop
 fn outcome_from(alloc: Global, value: &Value) -> Result<Option<BoundedOutcome>, AllocError>
     ensures { IfOk result (λ o. o ≡ outcome_is (view value.now)) }
 {
-    let Some(proposal) = proposal_from(alloc, value)? else {
-        return Ok(None);
-    };
     let Some(bound) = fraction_at(value, "bound") else {
         return Ok(None);
     };
     let Some(units) = natural_at(value, 0, u64::from(MAX_BUDGET), "units") else {
+        return Ok(None);
+    };
+    let Some(proposal) = proposal_from(alloc, value)? else {
         return Ok(None);
     };
     Ok(Some(BoundedOutcome {
@@ -157,25 +151,22 @@ fn outcome_from(alloc: Global, value: &Value) -> Result<Option<BoundedOutcome>, 
     }))
 }
 
-fn bounded_from(alloc: Global, value: &Value) -> Result<Option<ProposalReply>, AllocError>
+pub(crate) fn bounded_from(
+    alloc: Global,
+    value: &Value,
+) -> Result<Option<ProposalReply>, AllocError>
     ensures { IfOk result (λ o. o ≡ bounded_is (view value.now)) }
 {
-    let Some(number) = batch_at(value) else {
-        return Ok(None);
-    };
-    let Some(market) = market_at(value) else {
-        return Ok(None);
-    };
-    let Some(batch) = batch_from(alloc, value)? else {
+    let Some(cleared) = cleared_batch_from(alloc, value)? else {
         return Ok(None);
     };
     let Some(outcome) = outcome_from(alloc, value)? else {
         return Ok(None);
     };
     Ok(Some(ProposalReply::Bounded {
-        number,
-        market,
-        batch,
+        number: cleared.number,
+        market: cleared.market,
+        batch: cleared.batch,
         outcome,
     }))
 }
@@ -196,7 +187,7 @@ fn failed(word: &str) -> Failed
     }
 }
 
-fn refused_from(value: &Value) -> ProposalReply
+pub(crate) fn refused_from(value: &Value) -> ProposalReply
     ensures { result ≡ refused_is (view value.now) }
 {
     if number_at(value, "number") == 20 {
@@ -205,26 +196,5 @@ fn refused_from(value: &Value) -> ProposalReply
         ProposalReply::Unproved {
             failed: failed(word_at(value, "failed")),
         }
-    }
-}
-
-// The reply that this word names.
-pub(crate) fn reply_from(
-    alloc: Global,
-    value: &Value,
-    word: &str,
-) -> Result<Option<ProposalReply>, AllocError>
-    ensures { IfOk result (λ o. o ≡ reply_is word.now (view value.now)) }
-{
-    if word == "book" {
-        book_from(alloc, value)
-    } else if word == "positions" {
-        positions_from(alloc, value)
-    } else if word == "proposed" {
-        Ok(proposed_from(value))
-    } else if word == "cleared" {
-        bounded_from(alloc, value)
-    } else {
-        Ok(Some(refused_from(value)))
     }
 }

@@ -1,11 +1,8 @@
 //! What a line proposes, both ways.
-ghost use Rattle.std.specs.Prelude.{◌≡◌, ◌⊎◌, ◌↔◌, ◌&&◌, ◌++◌, IfErr, IfOk, IfSome, IsTrue, OnOk, Err, Ok, Some, option_map, codes};
+ghost use Rattle.std.specs.Prelude.{◌≡◌, ◌⊎◌, ◌↔◌, ◌++◌, IfErr, IfOk, IfSome, IsTrue, OnOk, Err, Ok, Some};
 ghost use Rattle.serde_json.specs.View.{view};
 ghost use Rattle.reply_print.specs.Piece.{piece_text};
-ghost use Rattle.reply_print.specs.ClearedShape.{certificate_shape as certificate_is};
-ghost use Rattle.reply_print.specs.Look.{has_at as passes_at, is_list as list_passes, is_text as text_value, is_whole as whole_number};
-ghost use Rattle.reply_print.specs.NumberTexts.{certificate_numbers as certificate_is_numbered, is_fraction as fraction_text};
-ghost use Rattle.reply_text.specs.Taking.{list_at as list_found};
+ghost use Rattle.reply_print.specs.Look.{is_list as list_passes, is_whole as whole_number};
 ghost use Rattle.reply_text.specs.Tests.{read_by, value_by};
 ghost use Rattle.reply_text.specs.declared.faults.LineFault.TheVariants.{Memory};
 ghost use Rattle.proposal_text.specs.Pieces.{submission_piece, submission_text};
@@ -19,13 +16,13 @@ use frac::Frac128;
 use proposals::OrderNumbers;
 use reply_print::cleared_numbers::{are_fills, certificate_numbers, has_fraction};
 use reply_print::cleared_shape::{are_texts, certificate_shape};
-use reply_print::look::{has_at, has_members, has_text, is_list, is_whole};
+use reply_print::look::{has_members, has_text, is_list, is_whole};
 use reply_print::printed_outcomes::add_certificate;
 use reply_print::printing::{add_field, add_items, add_key, append};
 use reply_text::LineFault;
-use reply_text::certificate_values::{certificate_at, fills_at, fraction_at};
+use reply_text::certificate_values::{certificate_at, claim_at, fills_at};
 use reply_text::reading::json_value;
-use reply_text::taking::{from_to, list_at};
+use reply_text::taking::{ItemReader, from_to, list_at};
 use reply_text::tested::is_same;
 use serde_json::Value;
 use std::alloc::{AllocError, Global};
@@ -55,56 +52,24 @@ pub fn print_submission(alloc: Global, submission: &Submission) -> Result<Vec<u8
     Ok(text)
 }
 
-fn has_certificate(value: &Value) -> bool
-    ensures { result ≡ passes_at (codes "certificate") certificate_is (view value.now) }
-{
-    has_at(value, "certificate", certificate_shape)
-}
-
-fn has_fills(value: &Value) -> bool
-    ensures { result ≡ passes_at (codes "fills") (list_passes text_value) (view value.now) }
-{
-    has_at(value, "fills", are_texts)
-}
-
-fn claim_shape(value: &Value) -> bool
-    ensures { result ≡ (passes_at (codes "liability") text_value (view value.now)
-        && passes_at (codes "surplus") text_value (view value.now)) }
-{
-    has_text(value, "liability") && has_text(value, "surplus")
-}
-
 // Whether the parts of a proposal are of their kinds.
 pub(crate) fn proposal_shape(value: &Value) -> bool
     ensures { result ≡ shape_is (view value.now) }
 {
-    has_certificate(value) && has_fills(value) && claim_shape(value)
-}
-
-fn certificate_has_numbers(value: &Value) -> bool
-    ensures { result ≡ passes_at (codes "certificate") certificate_is_numbered (view value.now) }
-{
-    has_at(value, "certificate", certificate_numbers)
-}
-
-fn fills_are_numbers(value: &Value) -> bool
-    ensures { result ≡ passes_at (codes "fills") (list_passes fraction_text) (view value.now) }
-{
-    has_at(value, "fills", are_fills)
-}
-
-fn claim_has_numbers(value: &Value) -> bool
-    ensures { result ≡ (passes_at (codes "liability") fraction_text (view value.now)
-        && passes_at (codes "surplus") fraction_text (view value.now)) }
-{
-    has_fraction(value, "liability") && has_fraction(value, "surplus")
+    matches!(value.get("certificate"), Some(certificate) if certificate_shape(certificate))
+        && matches!(value.get("fills"), Some(fills) if are_texts(fills))
+        && has_text(value, "liability")
+        && has_text(value, "surplus")
 }
 
 // Whether its texts are numbers where they should be.
 pub(crate) fn proposal_numbers(value: &Value) -> bool
     ensures { result ≡ numbers_are (view value.now) }
 {
-    certificate_has_numbers(value) && fills_are_numbers(value) && claim_has_numbers(value)
+    matches!(value.get("certificate"), Some(certificate) if certificate_numbers(certificate))
+        && matches!(value.get("fills"), Some(fills) if are_fills(fills))
+        && has_fraction(value, "liability")
+        && has_fraction(value, "surplus")
 }
 
 fn are_wholes(value: &Value) -> bool
@@ -116,12 +81,14 @@ fn are_wholes(value: &Value) -> bool
 fn submission_shape(value: &Value) -> bool
     ensures { result ≡ submission_is (view value.now) }
 {
-    has_members(value, 5) && proposal_shape(value) && has_at(value, "orders", are_wholes)
+    has_members(value, 5)
+        && proposal_shape(value)
+        && matches!(value.get("orders"), Some(orders) if are_wholes(orders))
 }
 
-// The proposal of these fills and this claim under the certificate of a mark.
-fn proposal_under(fills: Vec<Frac128>, claim: Claim, mark: Mark) -> Option<Proposal>
-    ensures { result ≡ proposal_of fills.items claim.liability claim.surplus mark }
+// The proposal of this claim and these fills under the certificate of a mark.
+fn proposal_under(claim: Claim, fills: Vec<Frac128>, mark: Mark) -> Option<Proposal>
+    ensures { result ≡ proposal_of claim fills.items mark }
 {
     match mark {
         Mark::Optimal { cover, measure } => Some(Proposal {
@@ -139,39 +106,38 @@ fn proposal_under(fills: Vec<Frac128>, claim: Claim, mark: Mark) -> Option<Propo
 pub(crate) fn proposal_from(alloc: Global, value: &Value) -> Result<Option<Proposal>, AllocError>
     ensures { IfOk result (λ o. o ≡ proposal_found (view value.now)) }
 {
+    let Some(claim) = claim_at(value) else {
+        return Ok(None);
+    };
     let Some(fills) = fills_at(alloc, value)? else {
-        return Ok(None);
-    };
-    let Some(liability) = fraction_at(value, "liability") else {
-        return Ok(None);
-    };
-    let Some(surplus) = fraction_at(value, "surplus") else {
         return Ok(None);
     };
     let Some(mark) = certificate_at(alloc, value)? else {
         return Ok(None);
     };
-    Ok(proposal_under(fills, Claim { liability, surplus }, mark))
+    Ok(proposal_under(claim, fills, mark))
 }
 
-fn number_from(value: &Value) -> Option<u64>
-    ensures { result ≡ number_found (view value.now) }
-{
-    let number = value.as_u64()?;
-    from_to(1, MAX_ORDER, number)
-}
+// The numbers of orders.
+struct NumberReader;
 
-fn numbers_at(alloc: Global, value: &Value) -> Result<Option<Vec<u64>>, AllocError>
-    ensures { IfOk result (λ o. option_map (λ v. v.items) o
-        ≡ list_found (codes "orders") number_found (view value.now)) }
-{
-    list_at(alloc, value, "orders", |number| Ok(number_from(number)))
+impl ItemReader for NumberReader {
+    type Item = u64;
+
+    ghost found = { λ _. number_found };
+
+    fn item_from(&self, _alloc: Global, value: &Value) -> Result<Option<u64>, AllocError> {
+        let Some(number) = value.as_u64() else {
+            return Ok(None);
+        };
+        Ok(from_to(1, MAX_ORDER, number))
+    }
 }
 
 fn order_numbers(alloc: Global, value: &Value) -> Result<Option<OrderNumbers>, AllocError>
     ensures { IfOk result (λ o. o ≡ numbers_found (view value.now)) }
 {
-    let Some(numbers) = numbers_at(alloc, value)? else {
+    let Some(numbers) = list_at(alloc, value, "orders", &NumberReader)? else {
         return Ok(None);
     };
     if numbers.len() > MAX_ORDERS {

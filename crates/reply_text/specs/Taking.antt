@@ -1,15 +1,7 @@
 -- What is taken out of the value of a line.
-use Rattle.std.specs.Prelude.{◌≡◌, Result, IfOk, ℕ, List, [], ◌∷◌, ◌&&◌, nat_le, Option, Some, None, option_map, option_and_then, if◌then◌else◌}
+use Rattle.std.specs.Prelude.{ℕ, List, [], ◌∷◌, ◌&&◌, nat_le, Option, Some, None, option_map, option_and_then, if◌then◌else◌}
 use Rattle.serde_json.specs.Data.{Data, Items, no_items, item}
-use Rattle.std.specs.Fn.{Shared, FnReturnsAt}
-use Rattle.serde_json.specs.View.{view}
-use denote.Ref.{Bor}
-use Rattle.serde_json.specs.declared.value.Value.{Value}
 use Rattle.serde_json.specs.Find.{get, as_number, as_u64, as_array}
-
--- what the code takes out of a value is this definition's, where memory is not wanting
-abbrev pub TakesOut : {F A E : Type 0} → Shared F (Bor Value × Unit {0}) (Result (Option A) E) → F → (Data → Option A) → Type 0
-TakesOut {F} {A} {E} calls f take_out = (value : Value) (answer : Result (Option A) E) → FnReturnsAt calls f value answer → IfOk answer (λ o. o ≡ take_out (view value))
 
 -- the number, where it is from low to high
 abbrev pub from_to : ℕ → ℕ → ℕ → Option ℕ

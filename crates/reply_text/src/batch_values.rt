@@ -1,12 +1,13 @@
 //! The orders and the batch that are taken out of a line, where they are within their ranges.
-ghost use Rattle.std.specs.Prelude.{◌≡◌, IfOk, codes, option_map};
+ghost use Rattle.std.specs.Prelude.{◌≡◌, IfOk};
 ghost use Rattle.serde_json.specs.View.{view};
 ghost use Rattle.form.specs.BundleOf.{bundle_one};
 ghost use Rattle.reply_text.specs.BatchValues.{entry_from as entry_found, listed_form as form_listed, form_at as form_found, count_at as count_found, leg_from as leg_found, bundle_by, bundle_from as bundle_found, side_at as side_found, order_for as order_for_bundle, order_from as order_found};
-ghost use Rattle.reply_text.specs.ReplyValues.{batch_from as batch_found};
-ghost use Rattle.reply_text.specs.Taking.{list_at as list_found};
+ghost use Rattle.reply_text.specs.ReplyValues.{batch_from as batch_found, cleared_batch_from as cleared_batch_found};
 
-use crate::taking::{account_at, list_at, natural_at, order_at, size_at};
+use crate::taking::{
+    ItemReader, account_at, batch_at, list_at, market_at, natural_at, order_at, size_at,
+};
 use form::{
     Batch, Bundle, Form, Leg, MAX_COUNT, MAX_ORDERS, MAX_PRICE, MAX_QUANTITY, Order, Orders, Side,
     are_legs,
@@ -16,17 +17,17 @@ use reply_print::look::{is_word, number_at};
 use serde_json::Value;
 use std::alloc::{AllocError, Global};
 
-fn entry_from(value: &Value) -> Option<i64>
-    ensures { result ≡ entry_found (view value.now) }
-{
-    value.as_i64()
-}
+// The entries of a form.
+struct EntryReader;
 
-fn entries_at(alloc: Global, value: &Value) -> Result<Option<Vec<i64>>, AllocError>
-    ensures { IfOk result (λ o. option_map (λ v. v.items) o
-        ≡ list_found (codes "form") entry_found (view value.now)) }
-{
-    list_at(alloc, value, "form", |entry| Ok(entry_from(entry)))
+impl ItemReader for EntryReader {
+    type Item = i64;
+
+    ghost found = { λ _. entry_found };
+
+    fn item_from(&self, _alloc: Global, value: &Value) -> Result<Option<i64>, AllocError> {
+        Ok(value.as_i64())
+    }
 }
 
 fn listed_form(entries: &[i64]) -> Option<Form>
@@ -42,7 +43,7 @@ fn listed_form(entries: &[i64]) -> Option<Form>
 fn form_at(alloc: Global, value: &Value) -> Result<Option<Form>, AllocError>
     ensures { IfOk result (λ o. o ≡ form_found (view value.now)) }
 {
-    let Some(entries) = entries_at(alloc, value)? else {
+    let Some(entries) = list_at(alloc, value, "form", &EntryReader)? else {
         return Ok(None);
     };
     Ok(listed_form(entries.as_slice()))
@@ -60,23 +61,23 @@ fn count_at(value: &Value) -> Option<i16>
     }
 }
 
-fn leg_from(alloc: Global, value: &Value) -> Result<Option<Leg>, AllocError>
-    ensures { IfOk result (λ o. o ≡ leg_found (view value.now)) }
-{
-    let Some(count) = count_at(value) else {
-        return Ok(None);
-    };
-    let Some(form) = form_at(alloc, value)? else {
-        return Ok(None);
-    };
-    Ok(Some(Leg { count, form }))
-}
+// The legs of a bundle.
+struct LegReader;
 
-fn legs_at(alloc: Global, value: &Value) -> Result<Option<Vec<Leg>>, AllocError>
-    ensures { IfOk result (λ o. option_map (λ v. v.items) o
-        ≡ list_found (codes "legs") leg_found (view value.now)) }
-{
-    list_at(alloc, value, "legs", |leg| leg_from(alloc, leg))
+impl ItemReader for LegReader {
+    type Item = Leg;
+
+    ghost found = { λ _. leg_found };
+
+    fn item_from(&self, alloc: Global, value: &Value) -> Result<Option<Leg>, AllocError> {
+        let Some(count) = count_at(value) else {
+            return Ok(None);
+        };
+        let Some(form) = form_at(alloc, value)? else {
+            return Ok(None);
+        };
+        Ok(Some(Leg { count, form }))
+    }
 }
 
 fn bundle_by(legs: &[Leg]) -> Option<Bundle>
@@ -104,7 +105,7 @@ pub fn bundle_from(alloc: Global, value: &Value, single: bool) -> Result<Option<
     if single {
         Ok(form_at(alloc, value)?.map(one_option))
     } else {
-        let Some(legs) = legs_at(alloc, value)? else {
+        let Some(legs) = list_at(alloc, value, "legs", &LegReader)? else {
             return Ok(None);
         };
         Ok(bundle_by(legs.as_slice()))
@@ -121,18 +122,6 @@ pub fn side_at(value: &Value) -> Option<Side>
     } else {
         Side::Buy
     })
-}
-
-fn order_from(alloc: Global, value: &Value, single: bool) -> Result<Option<Order>, AllocError>
-    ensures { IfOk result (λ o. o ≡ order_found single (view value.now)) }
-{
-    let Some(account) = account_at(value) else {
-        return Ok(None);
-    };
-    let Some(bundle) = bundle_from(alloc, value, single)? else {
-        return Ok(None);
-    };
-    Ok(order_for(value, account, bundle))
 }
 
 // The order of an account for this bundle.
@@ -156,16 +145,26 @@ fn order_for(value: &Value, account: u32, bundle: Bundle) -> Option<Order>
     })
 }
 
-fn orders_at(alloc: Global, value: &Value, single: bool) -> Result<Option<Vec<Order>>, AllocError>
-    ensures { IfOk result (λ o. option_map (λ v. v.items) o
-        ≡ list_found (codes "orders") (order_found single) (view value.now)) }
-{
-    list_at(
-        alloc,
-        value,
-        "orders",
-        |order| order_from(alloc, order, single),
-    )
+// The orders of a batch: with the form of one option where `single`, and else with legs.
+#[derive(Drop)]
+struct OrderReader {
+    single: bool,
+}
+
+impl ItemReader for OrderReader {
+    type Item = Order;
+
+    ghost found = { λ reader. order_found reader.single };
+
+    fn item_from(&self, alloc: Global, value: &Value) -> Result<Option<Order>, AllocError> {
+        let Some(account) = account_at(value) else {
+            return Ok(None);
+        };
+        let Some(bundle) = bundle_from(alloc, value, self.single)? else {
+            return Ok(None);
+        };
+        Ok(order_for(value, account, bundle))
+    }
 }
 
 /// The batch of a line. The only error is want of memory.
@@ -175,7 +174,10 @@ pub fn batch_from(alloc: Global, value: &Value) -> Result<Option<Batch>, AllocEr
     let Some(underlyings) = size_at(value) else {
         return Ok(None);
     };
-    let Some(orders) = orders_at(alloc, value, number_at(value, "version") == 1)? else {
+    let reader = OrderReader {
+        single: number_at(value, "version") == 1,
+    };
+    let Some(orders) = list_at(alloc, value, "orders", &reader)? else {
         return Ok(None);
     };
     if orders.len() > MAX_ORDERS {
@@ -184,5 +186,33 @@ pub fn batch_from(alloc: Global, value: &Value) -> Result<Option<Batch>, AllocEr
     Ok(Some(Batch {
         underlyings,
         orders: Orders::from_vec(orders),
+    }))
+}
+
+/// A batch as a cleared line tells it: its number, its market and its orders.
+#[derive(Drop)]
+pub struct ClearedBatch {
+    pub number: u32,
+    pub market: u32,
+    pub batch: Batch,
+}
+
+/// The batch of a cleared line, with its number and its market. The only error is want of memory.
+pub fn cleared_batch_from(alloc: Global, value: &Value) -> Result<Option<ClearedBatch>, AllocError>
+    ensures { IfOk result (λ o. o ≡ cleared_batch_found (view value.now)) }
+{
+    let Some(number) = batch_at(value) else {
+        return Ok(None);
+    };
+    let Some(market) = market_at(value) else {
+        return Ok(None);
+    };
+    let Some(batch) = batch_from(alloc, value)? else {
+        return Ok(None);
+    };
+    Ok(Some(ClearedBatch {
+        number,
+        market,
+        batch,
     }))
 }

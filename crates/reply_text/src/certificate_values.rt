@@ -5,11 +5,11 @@ ghost use Rattle.serde_json.specs.View.{view, items_view};
 ghost use Rattle.reply_print.specs.NumberValues.{fraction_from as fraction_read};
 ghost use Rattle.frac.specs.ValueOf.{value_from};
 ghost use Rattle.reply_text.specs.BatchValues.{fraction_from as fraction_found, whole_from};
-ghost use Rattle.reply_text.specs.OutcomeValues.{state_at as state_found, point_from as point_found, multiplier_from as multiplier_found, leaf_from as leaf_found, node_from as node_found, nodes_from, signs_of, cover_from as cover_found, certificate_from as certificate_found, pair_from as pair_found, operator_of as operator_named, wide_from as wide_found};
+ghost use Rattle.reply_text.specs.OutcomeValues.{claim_from as claim_found, state_at as state_found, point_from as point_found, multiplier_from as multiplier_found, leaf_from as leaf_found, node_from as node_found, nodes_from, signs_of, cover_from as cover_found, certificate_from as certificate_found, pair_from as pair_found, operator_of as operator_named, wide_from as wide_found};
 ghost use Rattle.reply_text.specs.Taking.{list_at as list_found, take_at};
 
-use crate::taking::{list_at, natural_at, whole_within};
-use cert_check::{Cover, Mark, Measure, Points, Weighted};
+use crate::taking::{ItemReader, list_at, natural_at, whole_within};
+use cert_check::{Claim, Cover, Mark, Measure, Points, Weighted};
 use exact_num::{Exact, Operator, Wide};
 use form::State;
 use frac::Frac128;
@@ -45,6 +45,19 @@ fn fraction_from(value: &Value) -> Option<Frac128>
     fraction_of_parts(halves.above, halves.below)
 }
 
+// The fills of a batch.
+struct FractionReader;
+
+impl ItemReader for FractionReader {
+    type Item = Frac128;
+
+    ghost found = { λ _. fraction_found };
+
+    fn item_from(&self, _alloc: Global, value: &Value) -> Result<Option<Frac128>, AllocError> {
+        Ok(fraction_from(value))
+    }
+}
+
 /// The fraction at a key, where its parts are within their ranges.
 pub fn fraction_at(value: &Value, key: &str) -> Option<Frac128>
     ensures { result ≡ take_at key.now fraction_found (view value.now) }
@@ -53,75 +66,86 @@ pub fn fraction_at(value: &Value, key: &str) -> Option<Frac128>
     fraction_from(found)
 }
 
+/// The claim of a line: its liability and its surplus.
+pub fn claim_at(value: &Value) -> Option<Claim>
+    ensures { result ≡ claim_found (view value.now) }
+{
+    let liability = fraction_at(value, "liability")?;
+    let surplus = fraction_at(value, "surplus")?;
+    Some(Claim { liability, surplus })
+}
+
 /// The fills of a line. The only error is want of memory.
 pub fn fills_at(alloc: Global, value: &Value) -> Result<Option<Vec<Frac128>>, AllocError>
     ensures { IfOk result (λ o. option_map (λ v. v.items) o
         ≡ list_found (codes "fills") fraction_found (view value.now)) }
 {
-    list_at(alloc, value, "fills", |fill| Ok(fraction_from(fill)))
+    list_at(alloc, value, "fills", &FractionReader)
 }
 
-fn entry_from(value: &Value) -> Option<i128>
-    ensures { result ≡ whole_from limit (view value.now) }
-{
-    let text = value.as_str()?;
-    whole_within(text.as_bytes(), LIMIT)
-}
+// The entries of a state.
+struct EntryReader;
 
-fn entries_at(alloc: Global, value: &Value, key: &str) -> Result<Option<Vec<i128>>, AllocError>
-    ensures { IfOk result (λ o. option_map (λ v. v.items) o
-        ≡ list_found key.now (whole_from limit) (view value.now)) }
-{
-    list_at(alloc, value, key, |entry| Ok(entry_from(entry)))
+impl ItemReader for EntryReader {
+    type Item = i128;
+
+    ghost found = { λ _. whole_from limit };
+
+    fn item_from(&self, _alloc: Global, value: &Value) -> Result<Option<i128>, AllocError> {
+        let Some(text) = value.as_str() else {
+            return Ok(None);
+        };
+        Ok(whole_within(text.as_bytes(), LIMIT))
+    }
 }
 
 /// The state at a key, where its entries are within their ranges. The only error is want of memory.
 pub fn state_at(alloc: Global, value: &Value, key: &str) -> Result<Option<State>, AllocError>
     ensures { IfOk result (λ o. o ≡ state_found key.now (view value.now)) }
 {
-    let Some(entries) = entries_at(alloc, value, key)? else {
+    let Some(entries) = list_at(alloc, value, key, &EntryReader)? else {
         return Ok(None);
     };
     Ok(State::from_entries(entries.as_slice()))
 }
 
-fn point_from(alloc: Global, value: &Value) -> Result<Option<Weighted>, AllocError>
-    ensures { IfOk result (λ o. o ≡ point_found (view value.now)) }
-{
-    let Some(state) = state_at(alloc, value, "state")? else {
-        return Ok(None);
-    };
-    let Some(weight) = fraction_at(value, "weight") else {
-        return Ok(None);
-    };
-    Ok(Some(Weighted { state, weight }))
+// The points of a measure.
+struct PointReader;
+
+impl ItemReader for PointReader {
+    type Item = Weighted;
+
+    ghost found = { λ _. point_found };
+
+    fn item_from(&self, alloc: Global, value: &Value) -> Result<Option<Weighted>, AllocError> {
+        let Some(state) = state_at(alloc, value, "state")? else {
+            return Ok(None);
+        };
+        let Some(weight) = fraction_at(value, "weight") else {
+            return Ok(None);
+        };
+        Ok(Some(Weighted { state, weight }))
+    }
 }
 
-fn points_at(alloc: Global, value: &Value) -> Result<Option<Vec<Weighted>>, AllocError>
-    ensures { IfOk result (λ o. option_map (λ v. v.items) o
-        ≡ list_found (codes "measure") point_found (view value.now)) }
-{
-    list_at(alloc, value, "measure", |point| point_from(alloc, point))
-}
+// The multipliers of a leaf.
+struct MultiplierReader;
 
-fn multiplier_from(value: &Value) -> Option<Multiplier>
-    ensures { result ≡ multiplier_found (view value.now) }
-{
-    let place = natural_at(value, 1, MAX_PLACE, "at")? as u32;
-    let by = fraction_at(value, "by")?;
-    Some(Multiplier { place, by })
-}
+impl ItemReader for MultiplierReader {
+    type Item = Multiplier;
 
-fn multipliers_at(alloc: Global, value: &Value) -> Result<Option<Vec<Multiplier>>, AllocError>
-    ensures { IfOk result (λ o. option_map (λ v. v.items) o
-        ≡ list_found (codes "leaf") multiplier_found (view value.now)) }
-{
-    list_at(
-        alloc,
-        value,
-        "leaf",
-        |multiplier| Ok(multiplier_from(multiplier)),
-    )
+    ghost found = { λ _. multiplier_found };
+
+    fn item_from(&self, _alloc: Global, value: &Value) -> Result<Option<Multiplier>, AllocError> {
+        let Some(place) = natural_at(value, 1, MAX_PLACE, "at") else {
+            return Ok(None);
+        };
+        let Some(by) = fraction_at(value, "by") else {
+            return Ok(None);
+        };
+        let place = place as u32;
+        Ok(Some(Multiplier { place, by }))
+    }
 }
 
 // A leaf and its multipliers. More of them than its count can hold are want of memory.
@@ -129,7 +153,7 @@ fn leaf_from(alloc: Global, value: &Value) -> Result<Option<(Node, Vec<Multiplie
     ensures { IfOk result (λ o. option_map (λ p. (p.0, p.1.items)) o
         ≡ leaf_found (view value.now)) }
 {
-    let Some(multipliers) = multipliers_at(alloc, value)? else {
+    let Some(multipliers) = list_at(alloc, value, "leaf", &MultiplierReader)? else {
         return Ok(None);
     };
     if multipliers.len() > u32::MAX as usize {
@@ -203,7 +227,7 @@ fn certificate_from(alloc: Global, value: &Value) -> Result<Option<Mark>, AllocE
     let Some(cover) = cover_at(alloc, value)? else {
         return Ok(None);
     };
-    let Some(points) = points_at(alloc, value)? else {
+    let Some(points) = list_at(alloc, value, "measure", &PointReader)? else {
         return Ok(None);
     };
     let measure = Measure {

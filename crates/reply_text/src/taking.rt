@@ -9,7 +9,7 @@ ghost use Rattle.reply_print.specs.declared.limits.TheConstants.{MAX_BATCH};
 ghost use Rattle.form.specs.Naturals.{natural_value};
 ghost use Rattle.reply_text.specs.BatchValues.{size_within, whole_from};
 ghost use Rattle.reply_text.specs.ReplyValues.{account_at as account_found, market_at as market_found, size_at as size_found};
-ghost use Rattle.reply_text.specs.Taking.{natural_at as natural_found, take_at, from_to as number_from_to, items_at as items_found, items_map, list_at as list_found, TakesOut};
+ghost use Rattle.reply_text.specs.Taking.{natural_at as natural_found, take_at, from_to as number_from_to, items_at as items_found, items_map, list_at as list_found};
 
 use form::{MAX_ORDER, MAX_UNDERLYINGS};
 use reply_print::limits::{MAX_ACCOUNT, MAX_BATCH, MAX_MARKET};
@@ -115,21 +115,30 @@ fn items_at<'a>(value: &'a Value, key: &str) -> Option<&'a [Value]>
     Some(items.as_slice())
 }
 
-fn take_each<T, F>(
+/// What takes the items of a list out of their values.
+pub trait ItemReader {
+    /// What is taken out of a value.
+    type Item: Copy;
+
+    /// What is taken out of a value, where it is within its ranges.
+    ghost found: { Self → Data → Option Self.Item };
+
+    /// What is taken out of a value. The only error is want of memory.
+    fn item_from(&self, alloc: Global, value: &Value) -> Result<Option<Self::Item>, AllocError>
+        ensures { IfOk result (λ o. o ≡ found self.now (view value.now)) };
+}
+
+fn items_from<R: ItemReader>(
     alloc: Global,
     items: &[Value],
-    take_out: F,
-) -> Result<Option<Vec<T>>, AllocError>
-where
-    T: Copy,
-    F: Fn(&Value) -> Result<Option<T>, AllocError>,
-    requires { F.IsAlwaysCallable take_out }
-    ensures { (found : Data → Option T) → TakesOut F.Fn take_out found
-        → IfOk result (λ o. option_map (λ v. v.items) o ≡ items_map found (items_view items.now)) }
+    reader: &R,
+) -> Result<Option<Vec<R::Item>>, AllocError>
+    ensures { IfOk result (λ o. option_map (λ v. v.items) o
+        ≡ items_map (R.found reader.now) (items_view items.now)) }
 {
     let mut taken = Vec::new(alloc);
     for item in items {
-        let Some(one) = take_out(item)? else {
+        let Some(one) = reader.item_from(alloc, item)? else {
             return Ok(None);
         };
         taken.push(one)?;
@@ -137,24 +146,19 @@ where
     Ok(Some(taken))
 }
 
-/// What is taken out of each item of the list at a key; `None` where the key is not there, its
-/// value is no list, or nothing is taken out of an item. The only error is want of memory.
-pub fn list_at<T, F>(
+/// What a reader takes out of each item of the list at a key; `None` where the key is not there,
+/// its value is no list, or nothing is taken out of an item. The only error is want of memory.
+pub fn list_at<R: ItemReader>(
     alloc: Global,
     value: &Value,
     key: &str,
-    take_out: F,
-) -> Result<Option<Vec<T>>, AllocError>
-where
-    T: Copy,
-    F: Fn(&Value) -> Result<Option<T>, AllocError>,
-    requires { F.IsAlwaysCallable take_out }
-    ensures { (found : Data → Option T) → TakesOut F.Fn take_out found
-        → IfOk result (λ o. option_map (λ v. v.items) o
-        ≡ list_found key.now found (view value.now)) }
+    reader: &R,
+) -> Result<Option<Vec<R::Item>>, AllocError>
+    ensures { IfOk result (λ o. option_map (λ v. v.items) o
+        ≡ list_found key.now (R.found reader.now) (view value.now)) }
 {
     match items_at(value, key) {
-        Some(items) => take_each(alloc, items, take_out),
+        Some(items) => items_from(alloc, items, reader),
         None => Ok(None),
     }
 }

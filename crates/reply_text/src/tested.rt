@@ -1,5 +1,5 @@
 //! The five tests, over any kind of replies. The only error of a step is want of memory.
-ghost use Rattle.std.specs.Prelude.{◌≡◌, ◌⊎◌, ◌↔◌, IfErr, IfOk, IsTrue, Err, Ok, option_map};
+ghost use Rattle.std.specs.Prelude.{◌≡◌, ◌⊎◌, ◌↔◌, IfErr, IfOk, IfSome, IsTrue, Err, None, Ok, option_map};
 ghost use Rattle.serde_json.specs.View.{view};
 ghost use Rattle.reply_text.specs.Tests.{ReplyTests, pair_by, tests_of, value_by};
 ghost use Rattle.reply_text.specs.declared.faults.LineFault.TheVariants.{Memory};
@@ -58,17 +58,23 @@ pub fn is_same(spelled: &[u8], text: &[u8]) -> bool
     spelled == text
 }
 
-// Whether the line is the print of what was taken out of it.
-pub(crate) fn is_spelled<R: TestedReply>(
+// The number of a line and its reply, where the text is their print.
+pub(crate) fn if_spelled<R: TestedReply>(
     alloc: Global,
     line: u32,
-    reply: &R,
+    reply: R,
     text: &[u8],
-) -> Result<bool, AllocError>
-    ensures { IfOk result (λ same. IsTrue same ↔ (R.tests.line line reply.now ≡ text.now)) }
+) -> Result<Option<(u32, R)>, AllocError>
+    ensures spelled { IfOk result (λ o. IfSome o (λ p.
+        (p.0 ≡ line) × (p.1 ≡ reply) × (R.tests.line line reply ≡ text.now))) }
+    ensures other { IfOk result (λ o. o ≡ None → R.tests.line line reply ≡ text.now → ⊥) }
 {
     let spelled = reply.print(alloc, line)?;
-    Ok(is_same(spelled.as_slice(), text))
+    if is_same(spelled.as_slice(), text) {
+        Ok(Some((line, reply)))
+    } else {
+        Ok(None)
+    }
 }
 
 /// The tests on the value of a text: the number of the line and its reply. Ok exactly where the
@@ -94,9 +100,8 @@ pub fn read_value<R: TestedReply>(
     let Some((line, reply)) = pair_from::<R>(alloc, value, word)? else {
         return Err(LineFault::Range);
     };
-    if is_spelled(alloc, line, &reply, text)? {
-        Ok((line, reply))
-    } else {
-        Err(LineFault::Spelling)
-    }
+    let Some(pair) = if_spelled(alloc, line, reply, text)? else {
+        return Err(LineFault::Spelling);
+    };
+    Ok(pair)
 }

@@ -1,9 +1,10 @@
-use Rattle.std.proofs.Common.{rules, ◌≡◌, sym}
-use Rattle.reply_print.specs.ReplyPieces.{reply_line}
-use Rattle.reply_text.proofs.RoundTrip.{read_exactly}
+use Rattle.std.proofs.Common.{rules}
+use Rattle.std.proofs.lemmas.Option.{IfSome_then}
+use Rattle.std.proofs.lemmas.Result.{IfOk-weaker}
+use Rattle.reply_text.proofs.RoundTrip.{read_pair}
 use Rattle.reply_text.proofs.reading.read_quickly.Goals as goal
 
-pub returns-then-branch : goal.returns-then-branch
-returns-then-branch c =
-    let same : reply_line c.in-Some.line c.in-Some.reply ≡ c.args.text.now = search rules in
-    (read_exactly c.args.text.now c.in-Some.line c.in-Some.reply).1 (search rules, sym same)
+pub returns-in-Some : goal.returns-in-Some
+returns-in-Some c =
+    let read = read_pair c.args.text.now c.in-Some.line c.in-Some.reply (search rules) in
+    IfOk-weaker c.if_spelled.result _ _ (λ o spelled. IfSome_then o spelled read) c.if_spelled.ensures.spelled

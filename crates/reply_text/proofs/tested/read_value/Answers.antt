@@ -1,23 +1,24 @@
-use Rattle.std.proofs.Common.{rules, ◌≡◌, true, Some, None, sym, ap, ◌∙◌, inr}
+use Rattle.std.proofs.Common.{rules, ◌≡◌, true, Some, None, Ok, sym, ap, ap₂, ◌∙◌, inr}
 use Rattle.serde_json.specs.View.{view}
 use Rattle.reply_text.specs.Tests.{pair_by, tests_of}
 use Rattle.reply_text.proofs.FiveTests.{spelled, not_range, not_spelled}
 use Rattle.reply_text.proofs.tested.read_value.Goals as goal
 
-pub returns-then-branch-clause-ok : goal.returns-then-branch-clause-ok
-returns-then-branch-clause-ok g c =
+pub returns-clause-ok : goal.returns-clause-ok
+returns-clause-ok g c =
     let kind = g.R.TestedReply.tests in
     let d = view c.args.value.now in
     let word = sym c.word_at-word.ensures in
     let pair : pair_by d (kind.reply_by c.word_at-word.result.now d) ≡ Some (c.in-Some.line, c.in-Some.reply) = search rules in
     let shape : kind.shape_by c.word_at-word.result.now d ≡ true = search rules in
     let numbers : kind.numbers_by c.word_at-word.result.now d ≡ true = search rules in
-    let same : kind.line c.in-Some.line c.in-Some.reply ≡ c.args.text.now = search rules in
+    let same : (c.in-Some-2.pair.0 ≡ c.in-Some.line) × (c.in-Some-2.pair.1 ≡ c.in-Some.reply) × (kind.line c.in-Some.line c.in-Some.reply ≡ c.args.text.now) = search rules in
     spelled (tests_of kind) c.args.text.now d (c.in-Some.line, c.in-Some.reply) (ap (λ w. kind.shape_by w d) word ∙ shape) (ap (λ w. kind.numbers_by w d) word ∙ numbers)
-    (ap (λ w. pair_by d (kind.reply_by w d)) word ∙ pair) same
+    (ap (λ w. pair_by d (kind.reply_by w d)) word ∙ pair) same.2
+    ∙ ap₂ (λ l r. Ok (l, r)) (sym same.0) (sym same.1)
 
-pub returns-else-branch-clause-err : goal.returns-else-branch-clause-err
-returns-else-branch-clause-err g c =
+pub returns-in_default-2-clause-err : goal.returns-in_default-2-clause-err
+returns-in_default-2-clause-err g c =
     let kind = g.R.TestedReply.tests in
     let d = view c.args.value.now in
     let word = sym c.word_at-word.ensures in
