@@ -13,3 +13,4 @@ pub mod NumberValues
 pub mod ReplyShape
 pub mod ClearedShape
 pub mod NumberTexts
+pub mod LineParts

@@ -1,10 +1,12 @@
 //! The lines of replies without lists, each put together from its pieces: a value of the JSON
 //! library for each would cost a stream of commands more than reading and carrying them out.
-ghost use Rattle.std.specs.Prelude.{◌≡◌, ◌==◌, false, true, IfOk};
+ghost use Rattle.std.specs.Prelude.{◌≡◌, ◌==◌, ◌++◌, false, true, IfOk, OnOk};
 ghost use Rattle.std.specs.List.{flat_map};
+ghost use Rattle.reply_print.specs.LineParts.{part_text};
 ghost use Rattle.reply_print.specs.Piece.{piece_text};
 ghost use Rattle.reply_print.specs.ReplyPieces.{balance_piece, listed_piece, moved_piece, opened_piece, ordered_piece, refused_piece, refused_with};
 
+use crate::printing::append;
 use crate::words::reason;
 use itoa::Buffer;
 use std::alloc::{AllocError, Global};
@@ -12,13 +14,31 @@ use std::alloc::{AllocError, Global};
 // Each of these lines is shorter, so its text is taken at once.
 const ROOM: usize = 192;
 
-// These pieces one behind another.
-fn line_of(alloc: Global, pieces: &[&str]) -> Result<Vec<u8>, AllocError>
-    ensures { IfOk result (λ text. text.items ≡ flat_map (λ piece. piece.now) pieces.now) }
+// What stands in a line as it is, and the numbers between.
+#[derive(Drop)]
+enum Part<'a> {
+    Text(&'a str),
+    Natural(u64),
+    Whole(i128),
+}
+
+fn add_part(text: &mut Vec<u8>, part: &Part<'_>) -> Result<(), AllocError>
+    ensures { OnOk result (text.new.items ≡ text.old.items ++ part_text part.now) }
+{
+    match part {
+        Part::Text(words) => append(text, words),
+        Part::Natural(n) => append(text, Buffer::new().format(*n)),
+        Part::Whole(n) => append(text, Buffer::new().format(*n)),
+    }
+}
+
+// These parts one behind another.
+fn line_of(alloc: Global, parts: &[Part<'_>]) -> Result<Vec<u8>, AllocError>
+    ensures { IfOk result (λ text. text.items ≡ flat_map part_text parts.now) }
 {
     let mut text = Vec::with_capacity(alloc, ROOM)?;
-    for piece in pieces {
-        text.extend_from_slice(piece.as_bytes())?;
+    for part in parts {
+        add_part(&mut text, part)?;
     }
     Ok(text)
 }
@@ -26,15 +46,14 @@ fn line_of(alloc: Global, pieces: &[&str]) -> Result<Vec<u8>, AllocError>
 pub(crate) fn opened_line(alloc: Global, line: u32, account: u32) -> Result<Vec<u8>, AllocError>
     ensures { IfOk result (λ text. text.items ≡ piece_text (opened_piece line account)) }
 {
-    let (mut account_digits, mut line_digits) = (Buffer::new(), Buffer::new());
     line_of(
         alloc,
         &[
-            "{\"account\":",
-            account_digits.format(account),
-            ",\"line\":",
-            line_digits.format(line),
-            ",\"reply\":\"opened\"}",
+            Part::Text("{\"account\":"),
+            Part::Natural(u64::from(account)),
+            Part::Text(",\"line\":"),
+            Part::Natural(u64::from(line)),
+            Part::Text(",\"reply\":\"opened\"}"),
         ],
     )
 }
@@ -50,23 +69,18 @@ pub(crate) fn moved_line(
     ensures { IfOk result (λ text.
         text.items ≡ piece_text (moved_piece reply.now line account balance)) }
 {
-    let (mut account_digits, mut balance_digits, mut line_digits) = (
-        Buffer::new(),
-        Buffer::new(),
-        Buffer::new(),
-    );
     line_of(
         alloc,
         &[
-            "{\"account\":",
-            account_digits.format(account),
-            ",\"balance\":\"",
-            balance_digits.format(balance),
-            "\",\"line\":",
-            line_digits.format(line),
-            ",\"reply\":\"",
-            reply,
-            "\"}",
+            Part::Text("{\"account\":"),
+            Part::Natural(u64::from(account)),
+            Part::Text(",\"balance\":\""),
+            Part::Whole(balance),
+            Part::Text("\",\"line\":"),
+            Part::Natural(u64::from(line)),
+            Part::Text(",\"reply\":\""),
+            Part::Text(reply),
+            Part::Text("\"}"),
         ],
     )
 }
@@ -79,21 +93,16 @@ pub(crate) fn listed_line(
 ) -> Result<Vec<u8>, AllocError>
     ensures { IfOk result (λ text. text.items ≡ piece_text (listed_piece line market underlyings)) }
 {
-    let (mut line_digits, mut market_digits, mut count_digits) = (
-        Buffer::new(),
-        Buffer::new(),
-        Buffer::new(),
-    );
     line_of(
         alloc,
         &[
-            "{\"line\":",
-            line_digits.format(line),
-            ",\"market\":",
-            market_digits.format(market),
-            ",\"reply\":\"listed\",\"underlyings\":",
-            count_digits.format(underlyings),
-            "}",
+            Part::Text("{\"line\":"),
+            Part::Natural(u64::from(line)),
+            Part::Text(",\"market\":"),
+            Part::Natural(u64::from(market)),
+            Part::Text(",\"reply\":\"listed\",\"underlyings\":"),
+            Part::Natural(u64::from(underlyings)),
+            Part::Text("}"),
         ],
     )
 }
@@ -107,17 +116,16 @@ pub(crate) fn ordered_line(
 ) -> Result<Vec<u8>, AllocError>
     ensures { IfOk result (λ text. text.items ≡ piece_text (ordered_piece reply.now line order)) }
 {
-    let (mut line_digits, mut order_digits) = (Buffer::new(), Buffer::new());
     line_of(
         alloc,
         &[
-            "{\"line\":",
-            line_digits.format(line),
-            ",\"order\":",
-            order_digits.format(order),
-            ",\"reply\":\"",
-            reply,
-            "\"}",
+            Part::Text("{\"line\":"),
+            Part::Natural(u64::from(line)),
+            Part::Text(",\"order\":"),
+            Part::Natural(order),
+            Part::Text(",\"reply\":\""),
+            Part::Text(reply),
+            Part::Text("\"}"),
         ],
     )
 }
@@ -132,20 +140,18 @@ pub(crate) fn balance_line(
     ensures { IfOk result (λ text.
         text.items ≡ piece_text (balance_piece line account balance reserved)) }
 {
-    let (mut account_digits, mut balance_digits) = (Buffer::new(), Buffer::new());
-    let (mut line_digits, mut reserve_digits) = (Buffer::new(), Buffer::new());
     line_of(
         alloc,
         &[
-            "{\"account\":",
-            account_digits.format(account),
-            ",\"balance\":\"",
-            balance_digits.format(balance),
-            "\",\"line\":",
-            line_digits.format(line),
-            ",\"reply\":\"balance\",\"reserved\":\"",
-            reserve_digits.format(reserved),
-            "\"}",
+            Part::Text("{\"account\":"),
+            Part::Natural(u64::from(account)),
+            Part::Text(",\"balance\":\""),
+            Part::Whole(balance),
+            Part::Text("\",\"line\":"),
+            Part::Natural(u64::from(line)),
+            Part::Text(",\"reply\":\"balance\",\"reserved\":\""),
+            Part::Whole(reserved),
+            Part::Text("\"}"),
         ],
     )
 }
@@ -155,17 +161,16 @@ fn reasoned_line(alloc: Global, line: u32, number: u32, reason: &str) -> Result<
     ensures { IfOk result (λ text.
         text.items ≡ piece_text (refused_with false line number 0 reason.now)) }
 {
-    let (mut line_digits, mut number_digits) = (Buffer::new(), Buffer::new());
     line_of(
         alloc,
         &[
-            "{\"line\":",
-            line_digits.format(line),
-            ",\"number\":",
-            number_digits.format(number),
-            ",\"reason\":\"",
-            reason,
-            "\",\"reply\":\"refused\"}",
+            Part::Text("{\"line\":"),
+            Part::Natural(u64::from(line)),
+            Part::Text(",\"number\":"),
+            Part::Natural(u64::from(number)),
+            Part::Text(",\"reason\":\""),
+            Part::Text(reason),
+            Part::Text("\",\"reply\":\"refused\"}"),
         ],
     )
 }
@@ -181,23 +186,18 @@ fn ranged_line(
     ensures { IfOk result (λ text.
         text.items ≡ piece_text (refused_with true line number field reason.now)) }
 {
-    let (mut field_digits, mut line_digits, mut number_digits) = (
-        Buffer::new(),
-        Buffer::new(),
-        Buffer::new(),
-    );
     line_of(
         alloc,
         &[
-            "{\"field\":",
-            field_digits.format(field),
-            ",\"line\":",
-            line_digits.format(line),
-            ",\"number\":",
-            number_digits.format(number),
-            ",\"reason\":\"",
-            reason,
-            "\",\"reply\":\"refused\"}",
+            Part::Text("{\"field\":"),
+            Part::Natural(u64::from(field)),
+            Part::Text(",\"line\":"),
+            Part::Natural(u64::from(line)),
+            Part::Text(",\"number\":"),
+            Part::Natural(u64::from(number)),
+            Part::Text(",\"reason\":\""),
+            Part::Text(reason),
+            Part::Text("\",\"reply\":\"refused\"}"),
         ],
     )
 }

@@ -1,7 +1,6 @@
-use Rattle.std.proofs.Common.{rules, ap, ◌∙◌, FitsSigned}
+use Rattle.std.proofs.Common.{rules, FitsSigned, ◌∙◌}
 use Rattle.std.proofs.lemmas.Int.{to_z-of_z}
 use Rattle.std.proofs.lemmas.Result.{IfOk-weaker}
-use Rattle.std.specs.Fmt.{signed_decimal}
 use mir.Syntax.{w128}
 use Rattle.reply_print.proofs.SmallLines.{balance_joined}
 use Rattle.reply_print.proofs.small_lines.balance_line.Goals as goal
@@ -10,7 +9,5 @@ pub returns : goal.returns
 returns c =
     let fits : FitsSigned w128 c.args.balance = search rules in
     let fit : FitsSigned w128 c.args.reserved = search rules in
-    let balance = c.format-2.ensures.text ∙ ap signed_decimal (to_z-of_z w128 c.args.balance fits) in
-    let reserved = c.format-4.ensures.text ∙ ap signed_decimal (to_z-of_z w128 c.args.reserved fit) in
-    let joined = rw (c.format.ensures.text, balance, c.format-3.ensures.text, reserved) at c.line_of.ensures in
+    let joined = rw (c.from.ensures, c.from-2.ensures, to_z-of_z w128 c.args.balance fits, to_z-of_z w128 c.args.reserved fit) at c.line_of.ensures in
     IfOk-weaker c.line_of.result _ _ (λ text is. is ∙ balance_joined c.args.line c.args.account c.args.balance c.args.reserved) joined

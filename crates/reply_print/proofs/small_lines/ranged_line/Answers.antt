@@ -5,5 +5,5 @@ use Rattle.reply_print.proofs.small_lines.ranged_line.Goals as goal
 
 pub returns : goal.returns
 returns c =
-    let joined = rw (c.format.ensures.text, c.format-2.ensures.text, c.format-3.ensures.text) at c.line_of.ensures in
+    let joined = rw (c.from.ensures, c.from-2.ensures, c.from-3.ensures) at c.line_of.ensures in
     IfOk-weaker c.line_of.result _ _ (λ text is. is ∙ ranged_joined c.args.line c.args.number c.args.field c.args.reason.now) joined

@@ -5,5 +5,5 @@ use Rattle.reply_print.proofs.small_lines.reasoned_line.Goals as goal
 
 pub returns : goal.returns
 returns c =
-    let joined = rw (c.format.ensures.text, c.format-2.ensures.text) at c.line_of.ensures in
+    let joined = rw (c.from.ensures, c.from-2.ensures) at c.line_of.ensures in
     IfOk-weaker c.line_of.result _ _ (λ text is. is ∙ reasoned_joined c.args.line c.args.number 0 c.args.reason.now) joined
