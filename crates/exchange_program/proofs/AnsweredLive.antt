@@ -1,14 +1,16 @@
 -- What is written between two reads, and the status that it ends with.
-use Rattle.std.proofs.Common.{◌≡◌, ◌⊎◌, ℕ, List, [], true, false, Bool, Option, Some, None, IfSome, refl, sym, ap, ◌∙◌, subst, inl, inr}
+use Rattle.std.proofs.Common.{◌≡◌, ◌⊎◌, ◌≤◌, ◌+◌, IsSomeAnd, ℕ, List, [], true, false, Bool, Option, Some, None, IfSome, refl, sym, ap, ◌∙◌, subst, inl, inr}
 use Rattle.std.proofs.KnownBytes.{Consumes-nil}
 use Rattle.std.proofs.lemmas.Option.{IfSome_then}
 use Rattle.std.specs.Io.KnownBytes.{Appends}
+use Rattle.port_io.specs.Faults.{Rose, raised_by}
 use Rattle.port_io.specs.Writes.{AppendsFront}
 use Rattle.proposal_lines.specs.Output.{proposing_line}
 use Rattle.proposal_lines.specs.ProposingState.{empty_state}
 use Rattle.live_lines.specs.Answering.{Answering}
+use Rattle.live_lines.specs.Open.{line_limit}
 use Rattle.live_lines.specs.Output.{output_of}
-use Rattle.live_lines.specs.Serving.{AnsweredAll, AnsweredBefore, AnsweredLines, AnsweredSome, Known, WroteAll, WroteFirst, WroteSome}
+use Rattle.live_lines.specs.Serving.{AnsweredAll, AnsweredBefore, AnsweredLines, AnsweredSome, IsInputWithin, Known, WroteAll, WroteFirst, WroteSome}
 use Rattle.live_lines.specs.Serving as live
 use Rattle.live_lines.specs.Taken.{with_feeds}
 use Rattle.live_lines.specs.declared.ended.Ended.{Ended}
@@ -21,7 +23,7 @@ use Rattle.program_words.specs.declared.requests.Request.TheVariants.{Lines, Che
 use Rattle.program_words.specs.declared.requests.Served.{Served}
 use Rattle.program_words.specs.declared.requests.Served.TheVariants as served
 use Rattle.session_lines.specs.Sessions.{new_sessions, session_step}
-use Rattle.exchange_program.specs.Live.{ServedAt, ServedBy, served_output, status_at}
+use Rattle.exchange_program.specs.Live.{HasItsCause, ServedAt, ServedBy, served_output, status_at}
 use Rattle.exchange_program.specs.Requests.{OfSomeInput, Promised, PromisedFront, WhereServe}
 use Rattle.exchange_program.specs.Wrote.{Wrote, WroteFront}
 use Rattle.exchange_program.specs.declared.status.Status.{Status}
@@ -55,6 +57,25 @@ end_of_two end first second status p which = elim which [
   | inl is ↦ inl (end_is end first status p is)
   | inr is ↦ inr (end_is end second status p is)
 ]
+
+-- a status has the cause of its end
+pub cause_of : (skips : Bool) (left : Option (List ℕ)) (faults taken sink_faults : ℕ × ℕ) (end : Ended) (status : Status) → status ≡ status_at end
+    → (end ≡ ended.ReadFault → Rose faults.0 faults.1) → (end ≡ ended.WriteFault → Rose sink_faults.0 sink_faults.1)
+    → (end ≡ ended.TooLong → IfSome left (λ input. ¬ IsInputWithin skips input)) → (end ≡ ended.TooLong → faults.1 ≡ faults.0)
+    → (end ≡ ended.TooLong → raised_by taken.0 (line_limit + 1) ≤ taken.1)
+    → (IsSomeAnd left (IsInputWithin skips) → ¬ Rose faults.0 faults.1 → ¬ Rose sink_faults.0 sink_faults.1 → (end ≡ ended.Done) ⊎ (end ≡ ended.Memory))
+    → HasItsCause skips left faults taken sink_faults status
+cause_of skips left faults taken sink_faults end status p read write long calm many complete = record {
+  read_fault = λ is. read (end_is end ended.ReadFault status p is);
+  write_fault = λ is. write (end_is end ended.WriteFault status p is);
+  too_long = λ is. long (end_is end ended.TooLong status p is);
+  too_long_no_fault = λ is. calm (end_is end ended.TooLong status p is);
+  too_many = λ is. many (end_is end ended.TooLong status p is);
+  complete = λ within r w. elim (complete within r w) [
+    | inl is ↦ inl (p ∙ ap status_at is)
+    | inr is ↦ inr (p ∙ ap status_at is)
+  ];
+}
 
 -- ---- by one way of answering
 module _ {S : Type 0} (Answers : Answering S) (step : ℕ → S → List ℕ → List ℕ × S)

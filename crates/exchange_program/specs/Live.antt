@@ -1,7 +1,9 @@
 -- What was taken and written when lines or messages were answered between two reads.
-use Rattle.std.specs.Prelude.{◌≡◌, ℕ, Bool, true, false, List, ◌++◌}
+use Rattle.std.specs.Prelude.{◌≡◌, ◌⊎◌, ◌≤◌, ◌+◌, ℕ, Bool, true, false, List, ◌++◌, Option, IfSome, IsSomeAnd}
+use Rattle.port_io.specs.Faults.{Rose, raised_by}
 use Rattle.exchange_sessions.specs.AllLines.{TellAllOnce, all_sessions_output}
-use Rattle.live_lines.specs.Serving.{Known, WroteAll, WroteBefore, WroteFront, WroteLines}
+use Rattle.live_lines.specs.Open.{line_limit}
+use Rattle.live_lines.specs.Serving.{IsInputWithin, Known, WroteAll, WroteBefore, WroteFront, WroteLines}
 use Rattle.live_lines.specs.declared.ended.Ended.{Ended}
 use Rattle.live_lines.specs.declared.ended.Ended.TheVariants as ended
 use Rattle.book_proposals.specs.LiveAnswers.{AreAnswers, texts_in}
@@ -22,6 +24,18 @@ status_at ended.ReadFault = ReadFault
 status_at ended.WriteFault = WriteFault
 status_at ended.TooLong = TooLong
 status_at ended.Memory = Memory
+
+-- each status has its cause, where counts are given before and after: of the faults of the source,
+-- of the bytes that it gave, and of the faults of the sink. Within the limits and without a fault
+-- all is done, or memory was wanting
+pub record HasItsCause (skips : Bool) (left : Option (List ℕ)) (faults taken sink_faults : ℕ × ℕ) (status : Status) : Type 0 where
+  pub read_fault : status ≡ ReadFault → Rose faults.0 faults.1
+  pub write_fault : status ≡ WriteFault → Rose sink_faults.0 sink_faults.1
+  pub too_long : status ≡ TooLong → IfSome left (λ input. ¬ IsInputWithin skips input)
+  pub too_long_no_fault : status ≡ TooLong → faults.1 ≡ faults.0
+  pub too_many : status ≡ TooLong → raised_by taken.0 (line_limit + 1) ≤ taken.1
+  pub complete : IsSomeAnd left (IsInputWithin skips) → ¬ Rose faults.0 faults.1 → ¬ Rose sink_faults.0 sink_faults.1
+      → (status ≡ Done) ⊎ (status ≡ Memory)
 
 -- by one way of answering: at Done all was taken and its output is written; at a read fault that of
 -- the complete lines, and at a line too long or one too many that of the lines before it; at a

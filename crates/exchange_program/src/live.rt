@@ -1,11 +1,8 @@
 // The word `serve`: lines of every kind or messages in, each answered before the next read.
-ghost use Rattle.std.specs.Prelude.{◌≡◌, ◌⊎◌, ◌≤◌, ◌+◌, IfSome, IsSomeAnd};
-ghost use Rattle.port_io.specs.Faults.{Rose, raised_by};
+ghost use Rattle.std.specs.Prelude.{◌≡◌, ◌⊎◌, IfSome};
 ghost use Rattle.port_io.specs.Writes.{AppendsFront};
-ghost use Rattle.live_lines.specs.Open.{line_limit};
 ghost use Rattle.live_lines.specs.Output.{output_of};
-ghost use Rattle.live_lines.specs.Serving.{IsInputWithin};
-ghost use Rattle.exchange_program.specs.Live.{ServedAt, ServedBy, served_output, skips_mark, status_at};
+ghost use Rattle.exchange_program.specs.Live.{HasItsCause, ServedAt, ServedBy, served_output, skips_mark, status_at};
 
 use crate::status::Status;
 use live_lines::{Ended, LineSteps};
@@ -43,23 +40,12 @@ fn answer_by<A: LineSteps + Drop, S: Source, K: Sink>(
       written = K.written sink.old;
       writes = K.written sink.new;
     }) }
-    ensures read_fault { result ≡ Status.ReadFault →
-        Rose (S.faults source.old) (S.faults source.new) }
-    ensures write_fault { result ≡ Status.WriteFault →
-        Rose (K.faults sink.old) (K.faults sink.new) }
-    ensures too_long { result ≡ Status.TooLong →
-        IfSome (S.left source.old) (λ input. ¬ IsInputWithin skips input) }
-    ensures too_long_no_fault { result ≡ Status.TooLong →
-        S.faults source.new ≡ S.faults source.old }
-    ensures too_many { result ≡ Status.TooLong →
-        raised_by (S.taken source.old) (line_limit + 1) ≤ S.taken source.new }
+    ensures cause { HasItsCause skips (S.left source.old)
+        (S.faults source.old, S.faults source.new) (S.taken source.old, S.taken source.new)
+        (K.faults sink.old, K.faults sink.new) result }
     ensures front { (result ≡ Status.WriteFault) ⊎ (result ≡ Status.Memory) →
         IfSome (S.left source.old) (λ input. AppendsFront (K.written sink.old) (K.written sink.new)
         (output_of A.step skips answers input)) }
-    ensures complete { IsSomeAnd (S.left source.old) (IsInputWithin skips) →
-        ¬ Rose (S.faults source.old) (S.faults source.new) →
-        ¬ Rose (K.faults sink.old) (K.faults sink.new) →
-        (result ≡ Status.Done) ⊎ (result ≡ Status.Memory) }
 {
     let end = live_lines::serve(alloc, answers, skips, source, sink);
     status_at(end)
@@ -78,23 +64,12 @@ pub(crate) fn answer_live<S: Source, K: Sink>(
       written = K.written sink.old;
       writes = K.written sink.new;
     }) }
-    ensures read_fault { result ≡ Status.ReadFault →
-        Rose (S.faults source.old) (S.faults source.new) }
-    ensures write_fault { result ≡ Status.WriteFault →
-        Rose (K.faults sink.old) (K.faults sink.new) }
-    ensures too_long { result ≡ Status.TooLong →
-        IfSome (S.left source.old) (λ input. ¬ IsInputWithin (skips_mark served) input) }
-    ensures too_long_no_fault { result ≡ Status.TooLong →
-        S.faults source.new ≡ S.faults source.old }
-    ensures too_many { result ≡ Status.TooLong →
-        raised_by (S.taken source.old) (line_limit + 1) ≤ S.taken source.new }
+    ensures cause { HasItsCause (skips_mark served) (S.left source.old)
+        (S.faults source.old, S.faults source.new) (S.taken source.old, S.taken source.new)
+        (K.faults sink.old, K.faults sink.new) result }
     ensures front { (result ≡ Status.WriteFault) ⊎ (result ≡ Status.Memory) →
         IfSome (S.left source.old) (λ input. AppendsFront (K.written sink.old) (K.written sink.new)
         (served_output served input)) }
-    ensures complete { IsSomeAnd (S.left source.old) (IsInputWithin (skips_mark served)) →
-        ¬ Rose (S.faults source.old) (S.faults source.new) →
-        ¬ Rose (K.faults sink.old) (K.faults sink.new) →
-        (result ≡ Status.Done) ⊎ (result ≡ Status.Memory) }
 {
     let lines = ProposalLines::new(alloc);
     match served {

@@ -1,10 +1,7 @@
 // The word `propose`: reply lines in, a proposal out for each that tells a book.
-ghost use Rattle.std.specs.Prelude.{◌≡◌, ◌⊎◌, ◌≤◌, ◌+◌, IfSome, IsSomeAnd, true};
-ghost use Rattle.port_io.specs.Faults.{Rose, raised_by};
-ghost use Rattle.live_lines.specs.Open.{line_limit};
-ghost use Rattle.live_lines.specs.Serving.{IsInputWithin};
+ghost use Rattle.std.specs.Prelude.{◌≡◌, ◌⊎◌, IfSome, true};
 ghost use Rattle.book_proposals.specs.Proposing.{WroteFrontOf};
-ghost use Rattle.exchange_program.specs.Live.{ProposedAt};
+ghost use Rattle.exchange_program.specs.Live.{HasItsCause, ProposedAt};
 
 use crate::live::status_at;
 use crate::status::Status;
@@ -20,16 +17,9 @@ pub(crate) fn propose<S: Source, K: Sink>(alloc: Global, source: &mut S, sink: &
       written = K.written sink.old;
       writes = K.written sink.new;
     }) }
-    ensures read_fault { result ≡ Status.ReadFault →
-        Rose (S.faults source.old) (S.faults source.new) }
-    ensures write_fault { result ≡ Status.WriteFault →
-        Rose (K.faults sink.old) (K.faults sink.new) }
-    ensures too_long { result ≡ Status.TooLong →
-        IfSome (S.left source.old) (λ input. ¬ IsInputWithin true input) }
-    ensures too_long_no_fault { result ≡ Status.TooLong →
-        S.faults source.new ≡ S.faults source.old }
-    ensures too_many { result ≡ Status.TooLong →
-        raised_by (S.taken source.old) (line_limit + 1) ≤ S.taken source.new }
+    ensures cause { HasItsCause true (S.left source.old)
+        (S.faults source.old, S.faults source.new) (S.taken source.old, S.taken source.new)
+        (K.faults sink.old, K.faults sink.new) result }
     ensures front { (result ≡ Status.WriteFault) ⊎ (result ≡ Status.Memory) →
         IfSome (S.left source.old) (WroteFrontOf (record {
           left = S.left source.old;
@@ -37,10 +27,6 @@ pub(crate) fn propose<S: Source, K: Sink>(alloc: Global, source: &mut S, sink: &
           written = K.written sink.old;
           writes = K.written sink.new;
         })) }
-    ensures complete { IsSomeAnd (S.left source.old) (IsInputWithin true) →
-        ¬ Rose (S.faults source.old) (S.faults source.new) →
-        ¬ Rose (K.faults sink.old) (K.faults sink.new) →
-        (result ≡ Status.Done) ⊎ (result ≡ Status.Memory) }
 {
     let end = propose_live(alloc, source, sink);
     status_at(end)

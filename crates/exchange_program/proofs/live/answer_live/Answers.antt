@@ -6,7 +6,7 @@ use Rattle.program_words.specs.declared.requests.Served.{Served}
 use Rattle.proposal_lines.specs.Output.{proposing_line}
 use Rattle.proposal_lines.specs.ProposingState.{ProposingState}
 use Rattle.session_lines.specs.Sessions.{SessionsState, new_sessions, session_step}
-use Rattle.exchange_program.specs.Live.{served_output}
+use Rattle.exchange_program.specs.Live.{HasItsCause, served_output, skips_mark}
 use Rattle.exchange_program.proofs.live.answer_live.Goals as goal
 
 pub answer_by-requires-in-Sessions : goal.answer_by-requires-in-Sessions
@@ -27,3 +27,16 @@ returns-in-Sessions-clause-front g c = λ which.
     let By : SessionsState ProposingState → Type 0 = λ start. IfSome left (λ input. Wrote (output_of (session_step proposing_line) false start input)) in
     let Of : Served → Type 0 = λ kind. IfSome left (λ input. Wrote (served_output kind input)) in
     subst Of (sym c.in-Sessions.is) (subst By (c.new-messages.ensures ∙ ap new_sessions c.new-lines.ensures) (c.answer_by-in-Sessions.ensures.front which))
+
+pub returns-in-Lines-clause-cause : goal.returns-in-Lines-clause-cause
+returns-in-Lines-clause-cause g c =
+    let Of : Served → Type 0 = λ kind. HasItsCause (skips_mark kind) (g.S.Source.left c.args.source.now) (g.S.Source.faults c.args.source.now, g.S.Source.faults c.answer_by.new.source)
+    (g.S.Source.taken c.args.source.now, g.S.Source.taken c.answer_by.new.source) (g.K.Sink.faults c.args.sink.now, g.K.Sink.faults c.answer_by.new.sink) c.answer_by.result in
+    subst Of (sym c.in-Lines.is) c.answer_by.ensures.cause
+
+pub returns-in-Sessions-clause-cause : goal.returns-in-Sessions-clause-cause
+returns-in-Sessions-clause-cause g c =
+    let answered = c.answer_by-in-Sessions in
+    let Of : Served → Type 0 = λ kind. HasItsCause (skips_mark kind) (g.S.Source.left c.args.source.now) (g.S.Source.faults c.args.source.now, g.S.Source.faults answered.new.source)
+    (g.S.Source.taken c.args.source.now, g.S.Source.taken answered.new.source) (g.K.Sink.faults c.args.sink.now, g.K.Sink.faults answered.new.sink) answered.result in
+    subst Of (sym c.in-Sessions.is) answered.ensures.cause
