@@ -5,10 +5,15 @@ ghost use Rattle.reply_text.specs.Tests.{value_by};
 ghost use Rattle.reply_text.specs.declared.faults.LineFault.TheVariants.{Memory};
 ghost use Rattle.journal_audit.specs.AskedValues.{asked_replies, asked_tests};
 
-use crate::asked_printing::print;
 use crate::asked_replies::AskedReply;
-use crate::asked_shapes::{has_numbers, has_shape};
-use crate::asked_values::asked_from;
+use crate::asked_shapes::{
+    is_need, margin_numbers, margin_shape, priced_shape, prices_numbers, prices_shape,
+    uncovered_shape,
+};
+use crate::asked_values::{margin_from, priced_from, quoted_from, uncovered_from};
+use guarded_lines::{MarginRequest, print_margin, print_uncovered};
+use quote_lines::{print_priced, print_quoted};
+use reply_print::look::has_at;
 use reply_text::tested::read_value;
 use reply_text::{LineFault, TestedReply};
 use serde_json::Value;
@@ -18,19 +23,57 @@ impl TestedReply for AskedReply {
     ghost tests = { asked_replies };
 
     fn has_shape(value: &Value, word: &str) -> bool {
-        has_shape(value, word)
+        match word {
+            "quoted" => prices_shape(value, 5),
+            "priced" => priced_shape(value),
+            "margin" => margin_shape(value),
+            "refused" => uncovered_shape(value),
+            _ => false,
+        }
     }
 
     fn has_numbers(value: &Value, word: &str) -> bool {
-        has_numbers(value, word)
+        match word {
+            "quoted" | "priced" => prices_numbers(value),
+            "margin" => margin_numbers(value),
+            _ => has_at(value, "need", is_need),
+        }
     }
 
     fn reply_from(alloc: Global, value: &Value, word: &str) -> Result<Option<Self>, AllocError> {
-        asked_from(alloc, value, word)
+        match word {
+            "quoted" => Ok(quoted_from(value)),
+            "priced" => Ok(priced_from(value)),
+            "margin" => margin_from(alloc, value),
+            _ => Ok(uncovered_from(value)),
+        }
     }
 
     fn print(&self, alloc: Global, line: u32) -> Result<Vec<u8>, AllocError> {
-        print(alloc, line, self)
+        match self {
+            AskedReply::Quoted { market, bid, ask } => {
+                print_quoted(alloc, line, *market, *bid, *ask)
+            }
+            AskedReply::Priced {
+                market,
+                quantity,
+                ask,
+                bid,
+            } => print_priced(alloc, line, *market, *quantity, *ask, *bid),
+            AskedReply::Margin {
+                account,
+                market,
+                margin,
+            } => {
+                let request = MarginRequest {
+                    account: *account,
+                    market: *market,
+                    budget: 1,
+                };
+                print_margin(alloc, line, &request, margin)
+            }
+            AskedReply::Uncovered { need } => print_uncovered(alloc, line, *need),
+        }
     }
 }
 

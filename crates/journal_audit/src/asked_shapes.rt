@@ -1,7 +1,7 @@
 // The shapes of lines, and whether their texts are numbers or words.
 ghost use Rattle.std.specs.Prelude.{◌≡◌};
 ghost use Rattle.serde_json.specs.View.{view};
-ghost use Rattle.journal_audit.specs.AskedShapes.{has_its_state as state_is, is_bare as bare_is, is_margin as margin_is, is_need as need_is, is_price as price_is, margin_numbers as margin_numbered, margin_shape as margin_shaped, numbers_by as numbers_are, priced_shape as priced_shaped, prices_numbers as prices_numbered, prices_shape as prices_shaped, shape_by as shape_is, uncovered_shape as uncovered_shaped};
+ghost use Rattle.journal_audit.specs.AskedShapes.{has_its_state as state_is, is_bare as bare_is, is_margin as margin_is, is_need as need_is, is_price as price_is, margin_numbers as margin_numbered, margin_shape as margin_shaped, priced_shape as priced_shaped, prices_numbers as prices_numbered, prices_shape as prices_shaped, uncovered_shape as uncovered_shaped};
 
 use reply_print::cleared_numbers::{are_entries, is_fraction_text};
 use reply_print::cleared_shape::is_state;
@@ -11,7 +11,7 @@ use reply_print::look::{
 use serde_json::Value;
 
 // Two prices of a market, among so many members.
-fn prices_shape(value: &Value, members: usize) -> bool
+pub(crate) fn prices_shape(value: &Value, members: usize) -> bool
     ensures { result ≡ prices_shaped members (view value.now) }
 {
     has_members(value, members)
@@ -21,7 +21,7 @@ fn prices_shape(value: &Value, members: usize) -> bool
         && has_whole(value, "market")
 }
 
-fn priced_shape(value: &Value) -> bool
+pub(crate) fn priced_shape(value: &Value) -> bool
     ensures { result ≡ priced_shaped (view value.now) }
 {
     prices_shape(value, 6) && has_whole(value, "quantity")
@@ -44,7 +44,7 @@ fn has_its_state(value: &Value, word: &str) -> bool
     }
 }
 
-fn margin_shape(value: &Value) -> bool
+pub(crate) fn margin_shape(value: &Value) -> bool
     ensures { result ≡ margin_shaped (view value.now) }
 {
     has_text(value, "margin")
@@ -54,7 +54,7 @@ fn margin_shape(value: &Value) -> bool
         && has_whole(value, "market")
 }
 
-fn uncovered_shape(value: &Value) -> bool
+pub(crate) fn uncovered_shape(value: &Value) -> bool
     ensures { result ≡ uncovered_shaped (view value.now) }
 {
     number_at(value, "number") == 14
@@ -64,28 +64,13 @@ fn uncovered_shape(value: &Value) -> bool
         && has_word(value, "reason", "Margin")
 }
 
-// Whether the value has the shape of the reply that this word names.
-pub(crate) fn has_shape(value: &Value, word: &str) -> bool
-    ensures { result ≡ shape_is word.now (view value.now) }
-{
-    if word == "quoted" {
-        prices_shape(value, 5)
-    } else if word == "priced" {
-        priced_shape(value)
-    } else if word == "margin" {
-        margin_shape(value)
-    } else {
-        word == "refused" && uncovered_shape(value)
-    }
-}
-
 fn is_price(value: &Value) -> bool
     ensures { result ≡ price_is (view value.now) }
 {
     is_word(value, "never") || is_word(value, "unmarked") || is_whole_text(value)
 }
 
-fn prices_numbers(value: &Value) -> bool
+pub(crate) fn prices_numbers(value: &Value) -> bool
     ensures { result ≡ prices_numbered (view value.now) }
 {
     has_at(value, "ask", is_price) && has_at(value, "bid", is_price)
@@ -100,14 +85,14 @@ fn is_margin(value: &Value) -> bool
         || is_fraction_text(value)
 }
 
-fn margin_numbers(value: &Value) -> bool
+pub(crate) fn margin_numbers(value: &Value) -> bool
     ensures { result ≡ margin_numbered (view value.now) }
 {
     has_at(value, "margin", is_margin)
         && (is_bare(word_at(value, "margin")) || has_at(value, "at", are_entries))
 }
 
-fn is_need(value: &Value) -> bool
+pub(crate) fn is_need(value: &Value) -> bool
     ensures { result ≡ need_is (view value.now) }
 {
     is_word(value, "positions")
@@ -116,18 +101,4 @@ fn is_need(value: &Value) -> bool
         || is_word(value, "budget")
         || is_word(value, "sum")
         || is_whole_text(value)
-}
-
-// Whether the texts of the reply that this word names are numbers or words where they should be.
-// The value has its shape.
-pub(crate) fn has_numbers(value: &Value, word: &str) -> bool
-    ensures { result ≡ numbers_are word.now (view value.now) }
-{
-    if word == "quoted" || word == "priced" {
-        prices_numbers(value)
-    } else if word == "margin" {
-        margin_numbers(value)
-    } else {
-        has_at(value, "need", is_need)
-    }
 }

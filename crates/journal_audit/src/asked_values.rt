@@ -4,7 +4,7 @@ ghost use Rattle.frac.specs.Range.{limit};
 ghost use Rattle.serde_json.specs.View.{view};
 ghost use Rattle.guarded_lines.specs.declared.told.ToldMargin.TheVariants as told;
 ghost use Rattle.reply_text.specs.OutcomeValues.{state_at as state_found};
-ghost use Rattle.journal_audit.specs.AskedValues.{asked_by as asked_found, least_from as least_found, margin_from as margin_found, need_by as need_found, price_at as price_found, price_by as price_named, priced_from as priced_found, quoted_from as quoted_found, size_at as size_found, told_by as told_found, uncovered_from as uncovered_found};
+ghost use Rattle.journal_audit.specs.AskedValues.{least_from as least_found, margin_from as margin_found, need_by as need_found, price_at as price_found, price_by as price_named, priced_from as priced_found, quoted_from as quoted_found, size_at as size_found, told_by as told_found, uncovered_from as uncovered_found};
 
 use crate::asked_replies::AskedReply;
 use form::{MAX_PRICE, MAX_QUANTITY};
@@ -51,7 +51,7 @@ fn price_at(value: &Value, key: &str) -> Option<QuotedPrice>
     price_by(value, key, word_at(value, key))
 }
 
-fn quoted_from(value: &Value) -> Option<AskedReply>
+pub(crate) fn quoted_from(value: &Value) -> Option<AskedReply>
     ensures { result ≡ quoted_found (view value.now) }
 {
     let market = market_at(value)?;
@@ -60,7 +60,7 @@ fn quoted_from(value: &Value) -> Option<AskedReply>
     Some(AskedReply::Quoted { market, bid, ask })
 }
 
-fn priced_from(value: &Value) -> Option<AskedReply>
+pub(crate) fn priced_from(value: &Value) -> Option<AskedReply>
     ensures { result ≡ priced_found (view value.now) }
 {
     let market = market_at(value)?;
@@ -111,7 +111,7 @@ fn told_by(alloc: Global, value: &Value, word: &str) -> Result<Option<ToldMargin
     }
 }
 
-fn margin_from(alloc: Global, value: &Value) -> Result<Option<AskedReply>, AllocError>
+pub(crate) fn margin_from(alloc: Global, value: &Value) -> Result<Option<AskedReply>, AllocError>
     ensures { IfOk result (λ o. o ≡ margin_found (view value.now)) }
 {
     let Some(account) = account_at(value) else {
@@ -149,28 +149,9 @@ fn need_by(value: &Value, word: &str) -> Option<Need>
     }
 }
 
-fn uncovered_from(value: &Value) -> Option<AskedReply>
+pub(crate) fn uncovered_from(value: &Value) -> Option<AskedReply>
     ensures { result ≡ uncovered_found (view value.now) }
 {
     let need = need_by(value, word_at(value, "need"))?;
     Some(AskedReply::Uncovered { need })
-}
-
-// What this word names.
-pub(crate) fn asked_from(
-    alloc: Global,
-    value: &Value,
-    word: &str,
-) -> Result<Option<AskedReply>, AllocError>
-    ensures { IfOk result (λ o. o ≡ asked_found word.now (view value.now)) }
-{
-    if word == "quoted" {
-        Ok(quoted_from(value))
-    } else if word == "priced" {
-        Ok(priced_from(value))
-    } else if word == "margin" {
-        margin_from(alloc, value)
-    } else {
-        Ok(uncovered_from(value))
-    }
 }

@@ -4,7 +4,6 @@
 
 mod accepted;
 pub mod asked_laws;
-mod asked_printing;
 pub mod asked_reading;
 pub mod asked_replies;
 mod asked_shapes;
