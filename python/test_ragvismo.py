@@ -2,6 +2,7 @@
 
 from __future__ import annotations
 
+import functools
 import importlib.util
 import json
 import os
@@ -9,18 +10,39 @@ import pathlib
 import random
 import re
 import subprocess
+import sys
 import tempfile
-import time
 import unittest
+from collections.abc import Callable
 from fractions import Fraction
-from typing import Any
+from typing import Any, TypeVar, get_args
 
+sys.path.append(str(pathlib.Path(__file__).resolve().parent))
 import ragvismo
-from ragvismo import Batch, Exchange, bundle, buy, call, clear, clear_many, journals, pictures, program, put, sell
+from ragvismo import (
+    Batch,
+    Cleared,
+    Exchange,
+    Option,
+    Order,
+    Proposal,
+    bundle,
+    buy,
+    call,
+    clear,
+    clear_many,
+    cleared,
+    program,
+    put,
+    sell,
+)
+from ragvismo.clearing import Mechanism
+from ragvismo.orders import Side
 
 TOP = pathlib.Path(__file__).resolve().parent.parent
 PYTHON = "/usr/bin/python3"
 JOURNALS = sorted((TOP / "examples").glob("*.replies"))
+Tested = TypeVar("Tested", bound="Callable[..., Any]")
 
 
 def has_program() -> bool:
@@ -30,37 +52,119 @@ def has_program() -> bool:
         return False
 
 
-def wants(module: str) -> Any:
+def wants(module: str) -> Callable[[Tested], Tested]:
     found = importlib.util.find_spec(module)
     return unittest.skipUnless(found, f"python3-{module} is missing; tools/setup installs it")
 
 
-wants_program = unittest.skipUnless(has_program(), "the program is not built")
+def wants_program(tested: Tested) -> Tested:
+    skip: Callable[[Tested], Tested] = unittest.skipUnless(has_program(), "no program is built")
+    return skip(tested)
+
+
+def example(name: str, number: int | None = None) -> Cleared:
+    """A cleared batch of the examples."""
+    return ragvismo.read_batch(TOP / f"examples/{name}.replies", number)
+
+
+def butterfly() -> Batch:
+    return example("butterfly").to_batch()
 
 
 def options(draw: random.Random, orders: int) -> Batch:
     """Orders for few options at few prices, so that many meet."""
     kinds = [call(draw.randint(0, 4)), put(draw.randint(0, 4)), call(9)]
-    made = [draw.choice((buy, sell))(draw.choice(kinds), draw.randint(0, 9), draw.randint(1, 4)) for _ in range(orders)]
+    sides: tuple[Side, ...] = get_args(Side)
+    made: list[Order] = [
+        draw.choice((buy, sell))(draw.choice(kinds), draw.randint(0, 9), draw.randint(1, 4))
+        for _ in range(orders)
+    ]
     spread = [(1, call(2)), (-1, call(7))]
-    return Batch([*made, *(bundle(draw.choice(("buy", "sell")), spread, draw.randint(0, 5), 2) for _ in range(3))])
+    made += (bundle(draw.choice(sides), spread, draw.randint(0, 5), 2) for _ in range(3))
+    return Batch(made)
+
+
+def basket(draw: random.Random, underlyings: int, orders: int) -> Batch:
+    """Orders on weighted sums of prices around 10."""
+    made: list[Order] = []
+    while len(made) < orders:
+        weights = [draw.choice((0, 0, -1, 1, 2)) for _ in range(underlyings)]
+        if any(weights):
+            strike = draw.randint(0, 20) * sum(weights) // 2
+            option = draw.choice((call, put))(strike, *weights)
+            side = draw.choice((buy, sell))
+            made.append(side(option, draw.randint(0, 9), draw.randint(1, 5)))
+    return Batch(made)
+
+
+def slow(batch: Batch) -> Proposal | None:
+    """A solver that finds nothing in time."""
+    raise ValueError(f"{len(batch.orders)} orders are too many")
 
 
 class Models(unittest.TestCase):
     def test_options_and_their_payoffs(self) -> None:
-        for option, words, prices, paid in (
+        cases: tuple[tuple[Option, str, tuple[int | Fraction, ...], int | Fraction], ...] = (
             (call(10), "call 10", (12,), 2),
             (put(10), "put 10", (Fraction(7, 2),), Fraction(13, 2)),
             (call(10, 2), "call 10 with weight 2", (4,), 0),
             (put(-5, 1, -1), "put -5 on (1, -1)", (1, 8), 2),
             (call(0, -1, 2), "put 0 on (1, -2)", (1, 3), 5),
-        ):
+        )
+        for option, words, prices, paid in cases:
             self.assertEqual((str(option), option.payoff(*prices)), (words, paid))
             again = (call if option.kind == "call" else put)(option.strike, *option.weights)
             self.assertEqual(again, option)
 
+    def test_bundles_in_words_are_read_back(self) -> None:
+        legs = [(1, call(10, 1, -1)), (-2, put(-12, 0, 3)), (1000, call(0, 1, 0))]
+        for order in (bundle("buy", legs, 3), sell(put(5), 1), buy(call(7, 2), 1)):
+            self.assertEqual(ragvismo.orders.legs_of(order.options()), order.legs)
+        for words in (
+            "",
+            "call",
+            "call x",
+            "2 of",
+            "call 5 on 1",
+            "call 5 and",
+            "call 5 on (0, 0)",
+        ):
+            with self.assertRaises(ValueError):
+                ragvismo.orders.legs_of(words)
+
+    def test_what_is_no_option_and_no_order(self) -> None:
+        """What is wrong is told where it is made, and not as a StopIteration of a clear."""
+        wrong: tuple[tuple[type[Exception], Callable[[], object]], ...] = (
+            (TypeError, lambda: call(5.5)),  # type: ignore[arg-type]
+            (TypeError, lambda: call(5, 0.5)),  # type: ignore[arg-type]
+            (ValueError, lambda: call(5, 0)),
+            (ValueError, lambda: put(5, 0, 0)),
+            (TypeError, lambda: buy("call", 3)),  # type: ignore[arg-type]
+            (TypeError, lambda: buy(call(5), 2.5)),  # type: ignore[arg-type]
+            (TypeError, lambda: sell(call(5), 2, 1.0)),  # type: ignore[arg-type]
+            (ValueError, lambda: bundle("bid", [(1, call(5))], 2)),  # type: ignore[arg-type]
+            (ValueError, lambda: bundle("buy", [], 2)),
+            (ValueError, lambda: bundle("buy", [(1, call(5)), (1, call(5, 1, 1))], 2)),
+            (ValueError, lambda: Batch([buy(call(5), 2), buy(call(5, 1, 1), 2)])),
+        )
+        for fault, make in wrong:
+            with self.assertRaises(fault):
+                make()
+        self.assertEqual(ragvismo.Option((5, 0)).kind, "call")
+
+    @wants("numpy")
+    def test_whole_numbers_of_other_kinds(self) -> None:
+        import numpy
+
+        of: Any = numpy.int64
+        self.assertEqual(buy(call(of(5), of(1)), of(3), of(2)), buy(call(5), 3, 2))
+        self.assertEqual(
+            ragvismo.exchange.command_of(buy(call(True), True), 1), "buy,1,1,call,1,1,1,1"
+        )
+
     def test_each_bundle_alone(self) -> None:
-        """The first of two equal buys is filled first, equal prices do not trade, and legs in another order are another bundle."""
+        """The first of two equal buys is filled first, equal prices do not trade, and legs in
+        another order are another bundle."""
         one, other = [(1, call(2)), (-1, call(7))], [(-1, call(7)), (1, call(2))]
         orders = [
             *(buy(call(5), 7, 2), buy(call(5), 7, 2), sell(call(5), 6, 3), sell(call(5), 7, 1)),
@@ -68,179 +172,71 @@ class Models(unittest.TestCase):
         ]
         self.assertEqual(ragvismo.double_auction(orders), [2, 1, 3, 0, 1, 0, 1])
 
-    @wants("pandas")
-    def test_a_batch_from_a_frame(self) -> None:
-        import pandas
-
-        rows = {
-            "side": ["buy", "sell"],
-            "kind": ["call", "put"],
-            "strike": [10, 12.0],
-            "price": [6, 4],
-            "quantity": [1, 2],
-        }
-        batch = Batch.from_frame(pandas.DataFrame(rows))
-        self.assertEqual(batch.orders, (buy(call(10), 6), sell(put(12), 4, 2)))
-        self.assertEqual(Batch.from_frame(batch.to_frame()), batch)
-        for name, wrong in (("strike", 10.5), ("kind", "C"), ("side", "bid")):
-            with self.assertRaises(ValueError):
-                Batch.from_frame(pandas.DataFrame({**rows, name: [wrong, wrong]}))
+    def test_marks_bounds_and_gaps(self) -> None:
+        for name, about in (
+            ("butterfly", ("optimal", "optimal", Fraction(6, 7), 0)),
+            ("proposals", ("bounded", "budget", Fraction(6, 7), Fraction(3, 7))),
+            ("joint", ("budget", "budget", None, None)),
+        ):
+            it = example(name)
+            self.assertEqual((it.mark, it.run, it.bound, it.gap), about)
+            self.assertEqual(sum(of.premium for of in it.orders), it.premium)
 
     def test_a_program_that_is_not_there(self) -> None:
-        for path in ("none", TOP):
+        for path in ("none", str(TOP)):
             with self.assertRaises(ragvismo.NoProgram):
                 Exchange(path)
 
-
-@wants("pandas")
-class Frames(unittest.TestCase):
-    def test_sums_are_those_of_the_journal(self) -> None:
-        for path in JOURNALS:
-            read, journal = ragvismo.read_journal(path), journals.read(path)
-            orders = [order for batch in journal.batches for order in batch.orders]
-            states = [state for batch in journal.batches for state in batch.certificate.measure]
-            self.assertEqual(list(read.batches.surplus), [batch.surplus for batch in journal.batches])
-            self.assertEqual(list(read.batches.premium), [batch.premium for batch in journal.batches])
-            self.assertEqual(list(read.orders.fill), [order.fill for order in orders])
-            self.assertEqual(sum(read.orders.premium), sum(order.premium() for order in orders))
-            self.assertEqual(list(read.legs["count"]), [leg.count for order in orders for leg in order.legs])
-            self.assertEqual(list(read.measure.mass), [state.mass for state in states])
-            self.assertEqual(list(read.payouts.amount), [paid.amount for paid in journal.payouts])
-            refused = path.read_text().count('"reply":"refused"')
-            self.assertEqual(len(read.refusals), refused, path.name)
-
-    def test_a_long_journal_is_read_in_time(self) -> None:
-        """A tenth of a million lines, and orders, in a tenth of ten seconds; thrice that where the machine is busy."""
-        order = '{"account":1,"form":[-10,1],"order":%d,"price":6,"quantity":1,"side":"buy"}'
-        placed, line = '{"line":%d,"order":%d,"reply":"placed"}\n', 0
-        with tempfile.TemporaryDirectory() as folder:
-            path = pathlib.Path(folder) / "long"
-            with open(path, "w") as journal:
-                for batch in range(1, 401):
-                    numbers = range(250 * batch - 249, 250 * batch + 1)
-                    journal.writelines(placed % (line + at, number) for at, number in enumerate(numbers, 1))
-                    line += 251
-                    about = f'"fills":[{",".join(["{}1/{}{}".format(chr(34), 2 + it % 7, chr(34)) for it in numbers])}],"liability":"0","line":{line}'
-                    listed = ",".join(order % number for number in numbers)
-                    rest = (
-                        '"mark":"budget","market":1,"orders":[%s],"reply":"cleared","surplus":"0","underlyings":1,"units":1,"version":1'
-                        % listed
-                    )
-                    journal.write(f'{{"batch":{batch},{about},{rest}}}\n')
-            importlib.import_module("pandas")
-            start = time.process_time()
-            read = ragvismo.read_journal(path)
-            self.assertLess(time.process_time() - start, 3)
-        self.assertEqual((len(read.batches), len(read.orders), line), (400, 100_000, 100_400))
-
-    def test_what_is_no_journal(self) -> None:
-        for text in (
-            '{"line":1}',
-            "[]",
-            "é",
-            '{"line":1,"reply":"cleared"}',
-            '{"account":1,"line":0,"reply":"opened"}',
-        ):
-            with tempfile.NamedTemporaryFile("w", encoding="utf-8") as journal:
-                journal.write(text)
-                journal.flush()
-                with self.assertRaises(ragvismo.BadJournal):
-                    ragvismo.read_journal(journal.name)
-
-
-@wants("pandas")
-class Prices(unittest.TestCase):
-    def test_the_butterfly(self) -> None:
-        cleared = ragvismo.read_batch(TOP / "examples/butterfly.replies")
-        implied = ragvismo.implied_distribution(cleared)
-        self.assertEqual((sum(implied.masses.values()), implied.slope), (1, 4))
+    def test_faults_are_told_in_one_line(self) -> None:
+        fault = ragvismo.Refused("propose,1," + 1000 * "x", "Unproved", 21, None, None, "Cover")
+        fault.batch = 3
         self.assertEqual(
-            (implied.price(call(10)), implied.below(12), implied.mean()),
-            (Fraction(36, 7), Fraction(3, 7), Fraction(76, 7)),
+            str(fault)[:57], "batch 3: Unproved (21, failed Cover): propose,1,xxxxxxxxx"
         )
-        for strike, of_call, of_put in implied.options([0, 5, 10, 12, 20]).itertuples(index=False):
-            self.assertEqual(of_call - of_put, implied.mean() - strike)
-            self.assertEqual(cleared.certificate.price(put(strike)), of_put)
-        self.assertEqual(sum(ragvismo.state_prices(cleared).mass), 1)
-
-    def test_gains_come_to_the_surplus(self) -> None:
-        for name in ("butterfly", "spread", "basket", "basket_of_three"):
-            cleared = ragvismo.read_batch(TOP / f"examples/{name}.replies")
-            gains = [
-                it.quantity * max(0, it.sign * (it.price - cleared.certificate.price(it))) for it in cleared.orders
-            ]
-            self.assertEqual(sum(gains), cleared.surplus, name)
-
-    def test_without_a_measure(self) -> None:
-        with self.assertRaises(ragvismo.NoMeasure):
-            ragvismo.state_prices(ragvismo.read_batch(TOP / "examples/joint.replies"))
-        with self.assertRaises(ValueError):
-            ragvismo.implied_distribution(ragvismo.read_batch(TOP / "examples/basket.replies"))
-
-
-@wants("matplotlib")
-class Figures(unittest.TestCase):
-    def test_cells_on_which_nothing_bends(self) -> None:
-        """Cut along random lines, the triangles fill the square, and each lies on one side of each line."""
-        draw = random.Random(1)
-        lines = [pictures.Bend(*(draw.randint(-9, 9) for _ in range(3))) for _ in range(12)]
-        bends = [it for it in lines if it.b or it.c]
-        found = pictures._triangles(bends, 2.0)
-        corners = list(zip(found.x, found.y))
-        whole = 0.0
-        for triangle in found.triangles:
-            (a, b), (c, d), (e, f) = points = [corners[it] for it in triangle]
-            whole += abs((c - a) * (f - b) - (e - a) * (d - b)) / 2
-            for bend in bends:
-                heights = [bend.at(point) for point in points]
-                self.assertTrue(min(heights) > -1e-6 or max(heights) < 1e-6)
-        self.assertAlmostEqual(whole, 4.0, 6)
-
-    def test_the_orders_that_are_shown(self) -> None:
-        cleared = ragvismo.read_batch(TOP / "examples/demo.replies", 2)
-        table = pictures._orders(cleared)
-        self.assertEqual((len(table.rows), table.below), (7, "14 of 20 orders did not trade"))
-
-    def test_every_size_and_kind_of_file(self) -> None:
-        cleared = ragvismo.read_batch(TOP / "examples/spread.replies")
-        with tempfile.TemporaryDirectory() as folder:
-            for ending in pictures.ENDINGS:
-                ragvismo.save(cleared, pathlib.Path(folder) / f"drawn{ending}", "column")
-            self.assertIn("-1 of call 12", (pathlib.Path(folder) / "drawn.svg").read_text())
-            self.assertIn(b"/Type0", (pathlib.Path(folder) / "drawn.pdf").read_bytes())
-            with self.assertRaises(ValueError):
-                ragvismo.save(cleared, "drawn.txt")
+        self.assertLess(len(str(fault)), 260)
 
 
 @wants_program
 class Clearing(unittest.TestCase):
     def test_each_answer_has_its_type(self) -> None:
         with Exchange() as exchange:
-            exchange.open(account=1), exchange.open(account=2)
+            exchange.open(account=1)
+            exchange.open(account=2)
             self.assertEqual(exchange.deposit(account=1, amount=100), 100)
             self.assertEqual(exchange.withdraw(account=1, amount=10), 90)
             exchange.market(market=1)
             self.assertEqual(exchange.sell(account=2, market=1, option=put(12), price=4), 1)
-            self.assertEqual(exchange.quote(market=1, option=put(12)), (5, "never"))
-            self.assertEqual(exchange.price(market=1, option=put(12)), ("never", 5))
+            quoted = exchange.quote(market=1, option=put(12))
+            self.assertEqual((quoted.bid, quoted.ask), ("never", 5))
+            self.assertEqual(exchange.price(market=1, option=put(12)), quoted)
             spread = [(1, call(10)), (-1, call(12))]
             number = exchange.bundle(account=1, market=1, side="buy", legs=spread, price=2)
             self.assertEqual(exchange.balance(account=1), (90, 2))
             exchange.cancel(account=1, order=number)
             exchange.buy(account=1, market=1, option=put(12), price=5)
-            cleared = exchange.clear(market=1)
-            self.assertEqual((cleared.fills, cleared.surplus, cleared.mark), ([1, 1], 1, "optimal"))
+            book = exchange.book(market=1)
+            self.assertEqual([it.number for it in book.orders], [1, 3])
+            self.assertEqual(book.batch.orders[0].legs, sell(put(12), 4).legs)
+            found = exchange.clear(market=1)
+            self.assertEqual((found.fills, found.surplus, found.mark), ([1, 1], 1, "optimal"))
+            [position] = exchange.positions(account=2, market=1)
+            about = position.batch, position.order, position.side, position.fill
+            self.assertEqual(about, (1, 1, "sell", 1))
             self.assertEqual(exchange.margin(account=2, market=1), (12, (1, 0)))
-            refusals = {
+            refusals: dict[tuple[Any, ...], Callable[[], object]] = {
                 ("Margin", 14, None, "13"): lambda: exchange.withdraw(account=2, amount=1),
                 ("Range", 8, 2, None): lambda: exchange.open(account=0),
-                ("Funds", 9, None, None): lambda: exchange.buy(account=1, market=1, option=call(1), price=500),
+                ("Funds", 9, None, None): lambda: exchange.buy(
+                    account=1, market=1, option=call(1), price=500
+                ),
             }
             for told, asked in refusals.items():
                 with self.assertRaises(ragvismo.Refused) as caught:
                     asked()
                 refused = caught.exception
-                self.assertEqual((refused.reason, refused.number, refused.field, refused.need), told)
+                self.assertEqual(
+                    (refused.reason, refused.number, refused.field, refused.need), told
+                )
             with self.assertRaises(TypeError):
                 exchange.deposit(account=1, amount=0.5)  # type: ignore[arg-type]
             settled = exchange.settle(market=1, prices=[11])
@@ -249,6 +245,62 @@ class Clearing(unittest.TestCase):
         self.assertEqual(again.splitlines(), exchange.replies)
         with self.assertRaises(ragvismo.Ended):
             exchange.open(account=3)
+
+    def live(self, exchange: Exchange) -> None:
+        """The butterfly as live orders of market 1."""
+        exchange.open(account=1)
+        exchange.open(account=2)
+        exchange.deposit(account=1, amount=100)
+        exchange.market(market=1)
+        for order in butterfly().orders:
+            exchange.place(order, market=1)
+
+    def test_proposals_to_a_live_exchange(self) -> None:
+        measure = example("butterfly").certificate.measure
+        half = [Fraction(1, 2), Fraction(1, 7), Fraction(5, 14)]
+        with Exchange() as exchange:
+            self.live(exchange)
+            given = ragvismo.solvers.certify(butterfly(), half, measure)
+            proposed = exchange.propose(market=1, solver=given)
+            self.assertEqual(
+                proposed, (Fraction(3, 7), Fraction(6, 7), Fraction(3, 7), Fraction(6, 7))
+            )
+            proposed = exchange.propose(market=1)
+            assert proposed
+            self.assertLess(proposed.least_bound - proposed.best_surplus, Fraction(1, 10**6))
+            self.assertIsNone(exchange.propose(market=1, solver=lambda batch: None))
+            wrong = Proposal(given.fills, Fraction(-1), "line", given.measure)
+            with self.assertRaises(ragvismo.Refused) as caught:
+                exchange.propose(market=1, solver=wrong)
+            self.assertEqual((caught.exception.number, caught.exception.failed), (21, "Cover"))
+            found = exchange.clear(market=1, budget=1)
+        self.assertEqual((found.mark, found.run, found.units), ("bounded", "budget", 1))
+        self.assertEqual((found.surplus, found.bound), proposed[2:])
+        found.certificate.check()
+
+    def test_solvers_where_the_run_gives_up(self) -> None:
+        """Each solver's fills hold for audit, and none is above another's bound."""
+        draw = random.Random(5)
+        batches = [butterfly(), *(basket(draw, 2, 12) for _ in range(2)), options(draw, 20)]
+        solvers: list[Any] = ["exchange"]
+        if importlib.util.find_spec("scipy"):
+            solvers.append(ragvismo.solvers.highs)
+        for batch in batches:
+            best = clear(batch)
+            for solver in solvers:
+                found = clear(batch, solver=solver, budget=1)
+                found.certificate.check()
+                if found.mark == "bounded":
+                    assert found.bound is not None and found.gap is not None
+                    self.assertLess(found.gap, Fraction(1, 10**3))
+                    self.assertLessEqual(best.surplus, found.bound)
+                    if best.mark == "optimal":
+                        self.assertLessEqual(found.surplus, best.surplus)
+        self.assertEqual(clear(butterfly(), solver=lambda batch: None, budget=1).mark, "budget")
+        with self.assertRaises(ValueError):
+            clear(butterfly(), "each", solver="exchange")
+        with self.assertRaises(ValueError):
+            clear(butterfly(), solver="other")  # type: ignore[arg-type]
 
     def test_a_program_that_ends(self) -> None:
         with Exchange() as exchange:
@@ -261,7 +313,8 @@ class Clearing(unittest.TestCase):
                     exchange.ask(command)
 
     def test_each_bundle_alone_is_the_exchanges_match(self) -> None:
-        """The auction of this package fills as the exchange does with a budget of one unit, where it falls back to a match."""
+        """The auction of this package fills as the exchange does with a budget of one unit, where
+        it falls back to a match."""
         draw = random.Random(2)
         fell_back = 0
         for _ in range(6):
@@ -275,8 +328,13 @@ class Clearing(unittest.TestCase):
         self.assertGreater(fell_back, 3)
 
     def test_a_joint_run_that_ends_within_a_unit(self) -> None:
-        """A put that never pays is bid for: jointly the buy is filled, and alone it waits for a sell."""
-        for orders, fills in (([], []), ([buy(put(0), 6)], [0]), ([buy(put(0), 6), sell(put(0), 4)], [1, 1])):
+        """A put that never pays is bid for: jointly the buy is filled, and alone it waits."""
+        cases: tuple[tuple[list[Order], list[int]], ...] = (
+            ([], []),
+            ([buy(put(0), 6)], [0]),
+            ([buy(put(0), 6), sell(put(0), 4)], [1, 1]),
+        )
+        for orders, fills in cases:
             batch = Batch(orders)
             self.assertEqual(clear(batch, budget=1).mark, "optimal")
             each = clear(batch, "each")
@@ -284,9 +342,9 @@ class Clearing(unittest.TestCase):
             each.certificate.check()
 
     def test_a_changed_line_fails_the_check(self) -> None:
-        text = ragvismo.read_batch(TOP / "examples/butterfly.replies").text
+        text = example("butterfly").text
         with self.assertRaises(ragvismo.CheckFailed) as caught:
-            journals.cleared.read(json.loads(text.replace('"2/7"', '"3/7"'))).certificate.check()
+            cleared.read(json.loads(text.replace('"2/7"', '"3/7"'))).certificate.check()
         self.assertEqual((caught.exception.reason, caught.exception.line), ("Cover", 1))
 
     @wants("pandas")
@@ -299,62 +357,155 @@ class Clearing(unittest.TestCase):
             *(("buy", "call", 10, 7, 3), ("sell", "call", 10, 6, 1)),
             *(("sell", "call", 5, 8, 2), ("sell", "call", 12, 4, 2)),
         ]
-        names: dict[str, Any] = {
-            "orders": pandas.DataFrame(rows, columns=["side", "kind", "strike", "price", "quantity"])
-        }
+        columns = ["side", "kind", "strike", "price", "quantity"]
+        names: dict[str, Any] = {"orders": pandas.DataFrame(rows, columns=columns)}
         with tempfile.TemporaryDirectory() as folder:
             for text in shown:
                 exec(text.replace("batch.pdf", f"{folder}/batch.pdf"), names)
             self.assertGreater(os.path.getsize(f"{folder}/batch.pdf"), 0)
         self.assertGreater(names["joint"].surplus, names["each"].surplus)
 
-    def test_batches_in_one_exchange(self) -> None:
-        """Cleared one after another, batches end as each does by itself, jointly and each bundle alone."""
+    def test_many_batches_are_answered_as_each_is(self) -> None:
+        """By one process and by several, jointly and each bundle alone, line for line."""
         draw = random.Random(3)
         batches = [options(draw, 8), Batch([buy(put(0), 6, account=2)]), options(draw, 8)]
-        for mechanism in ("joint", "each"):
-            for batch, found in zip(batches, clear_many(batches, mechanism), strict=True):
-                alone = clear(batch, mechanism)
-                self.assertEqual((found.fills, found.surplus, found.mark), (alone.fills, alone.surplus, alone.mark))
-                found.certificate.check()
-        self.assertEqual(clear_many([]), [])
+        for mechanism in get_args(Mechanism):
+            alone = [clear(it, mechanism).text for it in batches]
+            for workers in (1, 2):
+                found = clear_many(iter(batches), mechanism, workers=workers)
+                self.assertEqual([it.text for it in found], alone)
+        self.assertEqual(list(clear_many([])), [])
+
+    def test_many_batches_come_one_by_one(self) -> None:
+        """The iterator takes no more than it must, and what is wrong names its batch."""
+        taken: list[int] = []
+
+        def made() -> Any:
+            for number in range(100):
+                taken.append(number)
+                yield butterfly()
+
+        found = clear_many(made())
+        next(found), next(found)
+        self.assertEqual(len(taken), 2)
+        found = clear_many(made(), workers=2)
+        next(found)
+        found.close()  # type: ignore[attr-defined]
+        self.assertLess(len(taken), 10)
+        wrong = [butterfly(), Batch([buy(call(5), 3), buy(call(5), 3, account=0)])]
+        for workers in (1, 2):
+            with self.assertRaises(ragvismo.Refused) as caught:
+                list(clear_many(wrong, workers=workers))
+            self.assertEqual((caught.exception.batch, caught.exception.field), (1, 2))
+            self.assertIn("batch 1: Range", str(caught.exception))
+            with self.assertRaises(ValueError) as raised:
+                list(clear_many(wrong, solver=slow, workers=workers))
+            self.assertEqual(raised.exception.__notes__, ["batch 0"])
+
+    def test_time_limits(self) -> None:
+        """What takes longer is told; a live exchange goes on, and answers the next call."""
+        with tempfile.TemporaryDirectory() as folder:
+            waits = pathlib.Path(folder) / "waits"
+            waits.write_text(
+                "#!/bin/sh\n"
+                f'while ! [ -e "{folder}/go" ]; do sleep 0.02; done\n'
+                f'exec "{program.find()}" "$@"\n'
+            )
+            waits.chmod(0o700)
+            with self.assertRaises(ragvismo.TimedOut) as caught:
+                list(clear_many([butterfly(), butterfly()], timeout=0.05, path=waits))
+            self.assertEqual(caught.exception.batch, 0)
+            with Exchange(waits, timeout=0.05) as exchange:
+                with self.assertRaises(ragvismo.TimedOut):
+                    exchange.open(account=3)
+                (pathlib.Path(folder) / "go").touch()
+                exchange.timeout = None
+                self.live(exchange)
+                self.assertEqual(exchange.balance(account=2).reserved, 0)
+                self.assertEqual(len(exchange.commands), len(exchange.replies))
+
+    @wants("pandas")
+    def test_exact_bids_and_asks(self) -> None:
+        """On both sides of a bound one clear trades and one does not, at any quantity; the whole
+        ticks are those that price tells."""
+        draw = random.Random(9)
+        batch = Batch(butterfly().orders[1:])
+        bounds = ragvismo.price_bounds(batch, call(10))
+        self.assertEqual((bounds.bid, bounds.ask), ("never", Fraction(36, 7)))
+        books = [(options(draw, 9), call(3)), (basket(draw, 2, 6), call(5, 1, 1))]
+        for book, option in [(batch, call(10)), *books]:
+            bounds = ragvismo.price_bounds(book, option)
+            base = clear(book).surplus
+            with Exchange() as exchange:
+                exchange.open(account=1)
+                exchange.open(account=2)
+                exchange.deposit(account=1, amount=10**9)
+                exchange.market(market=1, underlyings=book.underlyings)
+                for order in book.orders:
+                    exchange.place(order, market=1)
+                for quantity in (1, 7):
+                    price = exchange.price(market=1, option=option, quantity=quantity)
+                    self.assertEqual(price, (bounds.whole_bid, bounds.whole_ask))
+            for side, bound in (("buy", bounds.ask), ("sell", bounds.bid)):
+                if isinstance(bound, str):
+                    continue
+                for step in (-1, 0, 1):
+                    at = 7 * bound.numerator + step
+                    legs = [(7 * bound.denominator, option)]
+                    more = bundle("buy" if side == "buy" else "sell", legs, at)
+                    raised = clear(Batch([*book.orders, more])).surplus > base
+                    self.assertEqual(raised, step == (1 if side == "buy" else -1), (side, step))
 
     def test_the_readme_and_the_tour(self) -> None:
         text = (TOP / "python/README.md").read_text()
-        session, printed = re.search(r"```python\n(.*?)```\n\n```\n(.*?)```", text, re.S).groups()
+        shown = re.search(r"```python\n(.*?)```\n\n```\n(.*?)```", text, re.S)
+        assert shown
+        session, printed = shown.groups()
         tour = json.loads((TOP / "python/tour.ipynb").read_text())
         cells = ["".join(it["source"]) for it in tour["cells"] if it["cell_type"] == "code"]
         self.assertEqual(len(session.splitlines()), 10)
         for given, said in ((session, printed), ("\n\n".join(cells), None)):
-            if said is None and not (importlib.util.find_spec("pandas") and importlib.util.find_spec("matplotlib")):
-                self.skipTest("python3-pandas is missing; tools/setup installs it")
+            if said is None and not all(
+                map(importlib.util.find_spec, ("pandas", "matplotlib", "scipy"))
+            ):
+                self.skipTest("a package is missing; tools/setup installs it")
             environment = {
                 **os.environ,
                 "PYTHONPATH": str(TOP / "python"),
                 "MPLBACKEND": "Agg",
                 "PYTHONDONTWRITEBYTECODE": "1",
             }
-            ran = subprocess.run([PYTHON, "-c", given], capture_output=True, env=environment, text=True)
+            command = [PYTHON, "-c", given]
+            ran = subprocess.run(command, capture_output=True, env=environment, text=True)
             self.assertEqual(ran.returncode, 0, ran.stderr)
             self.assertIn(said or "", ran.stdout)
 
 
 class Style(unittest.TestCase):
+    """All Python that the one configuration at the top holds."""
+
+    @functools.cached_property
+    def files(self) -> list[str]:
+        found = [*TOP.glob("python/**/*.py"), *TOP.glob("studies/*.py"), TOP / "tools/picture"]
+        return [str(it) for it in sorted(found) if "build" not in it.parts]
+
     @wants("mypy")
     def test_types(self) -> None:
-        studies = sorted(it for it in (TOP / "studies").glob("*.py") if it.stem != "test_studies")
         with tempfile.TemporaryDirectory() as kept:
-            words = [PYTHON, "-m", "mypy", "--cache-dir", kept, "ragvismo", *studies]
-            ran = subprocess.run(words, cwd=TOP / "python", capture_output=True, text=True)
+            words = [PYTHON, "-m", "mypy", "--cache-dir", kept, *self.files]
+            ran = subprocess.run(words, cwd=TOP, capture_output=True, text=True)
         self.assertEqual(ran.returncode, 0, ran.stdout)
 
     @wants("black")
     def test_format(self) -> None:
-        words = [PYTHON, "-m", "black", "--quiet", "--check", "--config"]
-        for folder in (TOP / "python", TOP / "studies"):
-            files = [it for it in folder.rglob("*.py") if "build" not in it.parts]
-            ran = subprocess.run([*words, folder / "pyproject.toml", *files], capture_output=True)
-            self.assertEqual((ran.returncode, ran.stderr), (0, b""), folder)
+        words = [PYTHON, "-m", "black", "--quiet", "--check", "--config", "pyproject.toml"]
+        ran = subprocess.run([*words, *self.files], cwd=TOP, capture_output=True)
+        self.assertEqual((ran.returncode, ran.stderr), (0, b""))
+
+    def test_width(self) -> None:
+        for file in self.files:
+            for number, line in enumerate(pathlib.Path(file).read_text().splitlines(), 1):
+                self.assertLessEqual(len(line), 100, f"{file}:{number}")
 
 
 if __name__ == "__main__":

@@ -1,9 +1,12 @@
-#!/usr/bin/python3
+#!/usr/bin/python3 -B
 """A session with an exchange behind its service.
 
-    service/client.py SESSION [--at HOST:PORT/NAME]
+    service/client.py SESSION [--at HOST:PORT/NAME] [--numbered] [--patience SECONDS]
 
-sends each line of standard input as a message of the session and prints its answer. For programs:
+sends each line of standard input as a message of the session and prints its answer. With --numbered the first line is
+message 1, the second message 2 and so on, so a file that is sent once more, whole or from where it was left, counts once; the
+status is 1 where the session turns out to have other messages. Other statuses: 2 bad use, 3 Redis refuses, or is away for
+longer than --patience (for ever, if not given), 9 what answers is no sequencer. For programs:
 
     from client import Session
     session = Session("127.0.0.1:6380", 7)
@@ -13,25 +16,36 @@ A message is sent under the same number until it is answered, so it counts once 
 """
 from __future__ import annotations
 
-import argparse
 import json
-import os
-import re
+import logging
 import sys
 import time
+from collections.abc import Iterator
 from typing import Any
+
+from ragvismo_service.messages import before, fault_of
+from ragvismo_service.places import Keys, Place
+from ragvismo_service.statuses import BadUse, Ended, Status
+from ragvismo_service.store import client_name
+from ragvismo_service.words import Words, status_of
 
 import redis
 
 HIGHEST_NUMBER = 1_000_000
+# After so many seconds without an answer it is said that it waits.
+SILENCE = 5
 
 
 class Refused(Exception):
     """The gate or the service refused a message, which changed nothing; the answer is its one argument."""
 
 
-class Unanswered(Exception):
+class Unanswered(Ended):
     """No answer came in time. The message may count yet: ask the same again."""
+
+
+class Broken(Ended):
+    """What stands among the answers is no sequencer's, or Redis takes no message. Sending the same again does not help."""
 
 
 class Session:
@@ -41,87 +55,141 @@ class Session:
     the number and the body of its last message, and begins again with both: then the message counts once all the same.
     """
 
-    def __init__(self, at: str, session: int, number: int | None = None, patience: float | None = None) -> None:
-        place, _, name = at.partition("/")
-        host, _, port = place.rpartition(":")
-        self.taken, self.answers = (f"{name or 'ragvismo'}:{stream}" for stream in ("in", "out"))
-        self.redis = redis.Redis(host or "127.0.0.1", int(port), socket_timeout=30, client_name="ragvismo-client")
-        self.session, self.patience = session, patience
+    def __init__(self, at: str | Place, session: int, number: int | None = None, patience: float | None = None) -> None:
+        place = Place.of(at) if isinstance(at, str) else at
+        self.place, self.keys, self.session, self.patience = place, Keys.of(place.name), session, patience
+        name = client_name("client", place.name)
+        self.redis = redis.Redis(place.host, place.port, socket_timeout=30, client_name=name)
         self.number = number or self.next_number()
 
     def ask(self, body: str | bytes) -> dict[str, Any]:
         """The reply to a body.
 
-        Refused where the message is none, or its number is not the next one; Unanswered after `patience` seconds.
+        Refused where the message is none, or its number is not the next one; Unanswered after `patience` seconds; Broken.
         """
         answer = self.answer(self.number, body)
         if "of" not in answer:
             raise Refused(answer)
         self.number += 1
-        return answer["of"]
+        return dict(answer["of"])
 
     def next_number(self) -> int:
         """The number of the next message, told by the refusal of one that is ahead of all."""
-        return self.answer(HIGHEST_NUMBER, "balance,0").get("expected", 1)
+        return int(self.answer(HIGHEST_NUMBER, "balance,0").get("expected", 1))
 
     def answer(self, number: int, body: str | bytes) -> dict[str, Any]:
-        """The answer to a message, sent again where Redis went away before it was seen."""
-        until = time.monotonic() + self.patience if self.patience else float("inf")
+        """The answer to a message, sent again where Redis went away before it was seen; what is no message, or too long, is
+        answered as the service would, and not sent."""
+        body = body.encode() if isinstance(body, str) else body
+        if fault := fault_of(b"%d" % self.session, b"%d" % number, body):
+            return {"reason": str(fault), "reply": "service"}
+        since, is_told = time.monotonic(), False
         while True:
             try:
-                entry = self.redis.xadd(self.taken, {"session": self.session, "number": number, "body": body})
-                return json.loads(self.answer_under(entry, until))
-            except (redis.ConnectionError, redis.TimeoutError):
-                if time.monotonic() > until:
-                    raise Unanswered(f"message {number} of session {self.session}: no Redis") from None
+                return self.answer_under(self.append(number, body), since)
+            except (redis.ConnectionError, redis.TimeoutError) as fault:
+                self.end_late(since)
+                if not is_told:
+                    logging.info("message %s is sent again until it is answered: %s", number, fault)
+                is_told = True
                 time.sleep(0.1)
+            except redis.RedisError as fault:
+                raise Broken(Status.NO_REDIS, f"Redis refuses: {fault}") from None
 
-    def answer_under(self, entry: bytes, until: float) -> bytes:
+    def append(self, number: int, body: bytes) -> bytes:
+        """Appends a message, and tells its id."""
+        id: bytes = self.redis.xadd(self.keys.taken, {"session": self.session, "number": number, "body": body})
+        return id
+
+    def answer_under(self, entry: bytes, since: float) -> dict[str, Any]:
         """The answer to the entry of an id, waited for."""
-        since = before(entry)
-        while time.monotonic() < until:
-            found = self.redis.xread({self.answers: since}, count=1, block=1000)
-            if found:
+        last, is_told = before(entry), False
+        while True:
+            if found := self.redis.xread({self.keys.answers: last}, count=1, block=1000):
                 [(_, [(id, fields)])] = found
-                if id != entry:
-                    raise redis.ConnectionError(f"entry {entry.decode()} was lost before it was answered")
-                return fields[b"answer"]
-        raise Unanswered(f"entry {entry.decode()} of session {self.session}")
+                return self.read(entry, id, fields)
+            self.end_late(since)
+            if not is_told and time.monotonic() > since + SILENCE:
+                logging.info("entry %s waits for its answer", entry.decode())
+                is_told = True
+
+    def read(self, entry: bytes, id: bytes, fields: dict[bytes, bytes]) -> dict[str, Any]:
+        """The answer that stands first at an entry's id or after it."""
+        if id != entry:
+            if self.redis.xrange(self.keys.taken, entry, entry, 1):
+                raise Broken(
+                    Status.FORGED,
+                    f"an answer stands under {id.decode()}, and none to the entry {entry.decode()} before it",
+                )
+            raise redis.ConnectionError(f"entry {entry.decode()} was lost before it was answered")
+        try:
+            answer = json.loads(fields[b"answer"])
+            if isinstance(answer.get("of", answer)["reply"], str):
+                return dict(answer)
+        except (KeyError, ValueError, TypeError, AttributeError, RecursionError):
+            pass
+        raise Broken(Status.FORGED, f"what stands as the answer to entry {entry.decode()} is none")
+
+    def end_late(self, since: float) -> None:
+        if self.patience and time.monotonic() > since + self.patience:
+            raise Unanswered(
+                Status.NO_REDIS,
+                f"session {self.session} got no answer for {self.patience:g} s; the message may count yet",
+            )
 
 
-def before(id: bytes) -> bytes:
-    """The greatest id below."""
-    time_part, number = map(int, id.split(b"-"))
-    return b"%d-%d" % ((time_part, number - 1) if number else (time_part - 1, 2**64 - 1))
-
-
-def place(text: str) -> str:
-    """The text, where it is a place."""
-    if not re.fullmatch(r"([^:/]*:)?[0-9]+(/.+)?", text):
-        raise argparse.ArgumentTypeError(f"{text} is no place: HOST:PORT/NAME")
-    return text
-
-
-def main() -> None:
-    words = argparse.ArgumentParser(description=__doc__, formatter_class=argparse.RawDescriptionHelpFormatter)
-    words.add_argument("session", type=int, metavar="SESSION")
-    words.add_argument("--at", type=place, default="6380", metavar="HOST:PORT/NAME")
-    given = words.parse_args()
-    session = Session(given.at, given.session)
+def bodies() -> Iterator[bytes]:
+    """The lines of standard input that are not empty."""
     for line in sys.stdin.buffer:
         if body := line.rstrip(b"\r\n"):
-            try:
-                answer = session.ask(body)
-            except Refused as refusal:
-                answer = refusal.args[0]
-            print(json.dumps(answer, separators=(",", ":")), flush=True)
+            yield body
+
+
+def say(answer: dict[str, Any]) -> None:
+    print(json.dumps(answer, separators=(",", ":")), flush=True)
+
+
+def talk(session: Session) -> None:
+    """Sends each line as the next message."""
+    for body in bodies():
+        try:
+            say(session.ask(body))
+        except Refused as refusal:
+            say(refusal.args[0])
+
+
+def send_numbered(session: Session) -> Status:
+    """Sends each line under its own number, and says whether the session has just these messages."""
+    answer: dict[str, Any] = {"of": {}}
+    for number, body in enumerate(bodies(), 1):
+        answer = session.answer(number, body)
+        say(answer.get("of", answer))
+        if answer.get("reason") not in (None, "Old"):
+            break
+    # The last message of a session may be repeated and is answered as it was; all before it are Old.
+    if "of" in answer:
+        return Status.DONE
+    raise Ended(Status.NO, f"session {session.session} has other messages than these; use one that nobody else uses")
+
+
+def session_of(text: str) -> int:
+    """The number of a session; raises BadUse."""
+    if not text.isdecimal() or not 0 < int(text) < 1_000_000_000:
+        raise BadUse(f"{text} is no session: 1 to 999999999")
+    return int(text)
+
+
+def run() -> Status | None:
+    words = Words(__doc__, patience=None)
+    words.add_argument("session", type=session_of, metavar="SESSION")
+    words.add_argument("--numbered", action="store_true")
+    given = words.parse_args()
+    session = Session(given.at, given.session, 1 if given.numbered else None, given.patience)
+    if given.numbered:
+        return send_numbered(session)
+    talk(session)
+    return None
 
 
 if __name__ == "__main__":
-    try:
-        main()
-    except BrokenPipeError:
-        # Nobody reads on.
-        os.dup2(os.open(os.devnull, os.O_WRONLY), 1)
-    except KeyboardInterrupt:
-        sys.exit(130)
+    sys.exit(status_of(run))

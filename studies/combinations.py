@@ -125,7 +125,7 @@ def case(underlyings: int, orders: int, given: Given) -> Case:
 
 def count(of: Batch, given: Given) -> tuple[int, int, float]:
     """Rounds, nodes of all searches, and millions of instructions of a run for a batch alone."""
-    text = "".join(f"{line}\n" for line in commands_of([of], common.BUDGET))
+    text = "".join(f"{line}\n" for line in commands_of(of, common.BUDGET))
     found = counted.counted(program.find(given.program), ["run"], text)
     rounds, searched = found.calls((ROUND, NODE))
     return rounds, searched, found.instructions

@@ -73,8 +73,8 @@ class Report(NamedTuple):
 
 def clear_both(batches: Sequence[Batch], given: Given, name: str) -> list[Pair]:
     """Clears each batch jointly and each bundle alone, every line rechecked."""
-    joint = clear_many(batches, budget=BUDGET, path=given.program)
-    each = clear_many(batches, "each", path=given.program)
+    joint = list(clear_many(batches, budget=BUDGET, path=given.program))
+    each = list(clear_many(batches, "each", path=given.program))
     recheck(joint, given, f"{name}-joint")
     recheck(each, given, f"{name}-each")
     return [Pair(*it) for it in zip(joint, each, strict=True)]

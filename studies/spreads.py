@@ -91,7 +91,7 @@ def quote_chains(batches: Sequence[Batch], given: Given, name: str) -> list[Chai
     surplus = [0.0] * len(batches)
     left = [list(it.orders) for it in batches]
     for turn in itertools.count():
-        found = clear_many(list(map(Batch, left)), path=given.program)
+        found = list(clear_many(map(Batch, left), path=given.program))
         common.recheck(found, given, f"{name}-clear-{turn}")
         if not any(fill for it in found for fill in it.fills):
             break
@@ -137,7 +137,7 @@ def confirm(
             if it.implied_bid > it.bid:
                 tests.append((sell(it.option, it.implied_bid + short), short, orders))
     batches = [Batch([*orders, order]) for order, _, orders in tests]
-    found = clear_many(batches, path=given.program)
+    found = list(clear_many(batches, path=given.program))
     common.recheck(found, given, name)
     for (order, short, _), cleared in zip(tests, found, strict=True):
         if cleared.mark != "optimal" or (cleared.surplus > 0) == bool(short):

@@ -43,7 +43,7 @@ class Studies(unittest.TestCase):
         """Two batches of each case, with all that a study writes."""
         with tempfile.TemporaryDirectory() as given:
             folder = pathlib.Path(given)
-            words = ["--batches", "2", "--out", folder, "--journals", folder]
+            words = ["--batches", "2", "--out", given, "--journals", given]
             ran = subprocess.run([HERE / f"{name}.py", *words], capture_output=True, text=True)
             self.assertEqual((ran.returncode, ran.stderr), (0, ""))
             self.assertEqual(ran.stdout, (folder / f"{name}.md").read_text())
@@ -120,54 +120,45 @@ class ChainData(unittest.TestCase):
         rows = [f"2019-01-18,{row}" for row in BUTTERFLY] + [f"2019-02-15,{row}" for row in WIDE]
         ran = self.ran("\n".join([f"exdate,{HEAD}", *rows]))
         self.assertEqual((ran.returncode, ran.stderr), (0, ""))
-        lines = ran.stdout.splitlines()
-        filled = [
-            "2019-01-18",
-            3,
-            "3.0",
-            "0.0",
-            "85.7",
-            "0.0",
-            "85.7 ± 0.0",
-            "66.7",
-            "0.0",
-            "1 optimal",
-        ]
-        self.assertIn(row_of(filled).rstrip(), lines)
-        self.assertIn(
-            row_of(["2019-02-15", "0 of 1", "0.0", 1, "400.0", "15.0", "96 ± 0", 100]).rstrip(),
-            lines,
-        )
+        lines = ran.stdout.splitlines(keepends=True)
+        surplus = ["3.0", "0.0", "85.7", "0.0", "85.7 ± 0.0", "66.7", "0.0", "1 optimal"]
+        self.assertIn(row_of(["2019-01-18", *surplus]), lines)
+        spreads = ["0 of 1", "0.0", 1, "400.0", "15.0", "96 ± 0", 100]
+        self.assertIn(row_of(["2019-02-15", *spreads]), lines)
+        taken = [3, "500 to 1200", "not said", "not said", "none"]
+        self.assertIn(row_of(["2019-01-18", *taken]), lines)
 
     @wants_program
-    def test_other_columns(self) -> None:
-        """Strikes in thousandths, no sizes, a tick of one, and a strike that is left out."""
-        rows = ("C,5000,,8", "C,10000,6,", "C,12000,0,4", "P,900000,1,")
-        ran = self.ran(
-            "\n".join(["cp_flag,strike_price,best_bid,best_offer", *rows]),
-            "--tick",
-            "1",
-            "--between",
-            "5",
-            "12",
+    def test_contracts_are_no_chains(self) -> None:
+        """Contracts by their symbols, in thousandths, of one underlying are one chain."""
+        rows = (
+            "A 190118C5000,A,C,5000,,8",
+            "A 190118C10000,A,C,10000,6,",
+            "A 190118C12000,A,C,12000,0,4",
+            "A 190118P9000000,A,P,9000000,1,",
         )
+        head = "symbol,exercise_style,cp_flag,strike_price,best_bid,best_offer"
+        ran = self.ran("\n".join([head, *rows]), "--tick", "1", "--between", "5", "12")
         self.assertEqual((ran.returncode, ran.stderr), (0, ""))
-        self.assertIn("| made | 3 | 3.0 | 0.0 | 0.9 | 0.0 |", ran.stdout)
+        left = "1 rows with other strikes"
+        taken = ["A", 3, "5 to 12", "American, as European", "not said", left]
+        self.assertIn(row_of(list(taken)), ran.stdout)
+        self.assertIn("| A | 3.0 | 0.0 | 0.9 | 0.0 |", ran.stdout)
 
     def test_bad_input(self) -> None:
-        for text, said in (
-            ("cp_flag,strike,best_bid\nC,5,6", "has no column best_offer"),
-            ("cp_flag,best_bid,best_offer\nC,5,6", "has no column strike"),
-            (f"{HEAD}\nC,5,6", "line 2: it has not as many fields"),
-            (f"{HEAD}\nX,5,6,7,1,1", "cp_flag 'X' is neither C nor P"),
-            (f"{HEAD}\nC,5,6.001,7,1,1", "best_bid 6.001 is no whole number of ticks"),
-            (f"{HEAD}\nC,5,-6,7,1,1", "best_bid '-6' is no number from 0 on"),
-            ("\n".join([HEAD, *["C,5,6,7,1,1"] * 128]), "has more than 255 orders"),
-        ):
-            ran = self.ran(text)
-            self.assertEqual(
-                (ran.returncode, ran.stdout, ran.stderr.count("\n")), (2, "", 1), ran.stderr
-            )
+        uses: tuple[tuple[str, tuple[str, ...], str], ...] = (
+            ("cp_flag,strike,best_bid\nC,5,6", (), "no column best_offer"),
+            ("cp_flag,best_bid,best_offer\nC,5,6", (), "no column strike"),
+            (f"{HEAD}\nC,5,6,7,1,1", ("--tick", "0"), "a tick is above 0"),
+            (f"{HEAD}\nC,5,6,7,1,1", ("--discount", "x"), "'x' is no number"),
+            (f"{HEAD}\nC,5,6,7,1,1", ("--discount", "0"), "is not above 0"),
+            (f"{HEAD}\nC,5,6,7,1,1", ("--between", "a", "5"), "'a' is no number"),
+            (f"{HEAD}\nC,5,6,7,1,1", ("--at", "noon"), "invalid choice"),
+        )
+        for text, words, said in uses:
+            ran = self.ran(text, *words)
+            found = ran.returncode, ran.stdout, ran.stderr.count("\n")
+            self.assertEqual(found, (2, "", 1), ran.stderr)
             self.assertIn(said, ran.stderr)
         missing = subprocess.run([HERE / "chain.py", "none.csv"], capture_output=True, text=True)
         self.assertEqual((missing.returncode, missing.stderr.count("\n")), (2, 1))

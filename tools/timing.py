@@ -1,8 +1,12 @@
 """Runs of a program and what they take, and the tables that tell it: tools/bench is over these."""
 import os
+import pathlib
+import platform
+import re
 import subprocess
 import sys
 import tempfile
+import time
 from collections.abc import Iterable, Sequence
 
 # A time is the least of so many runs.
@@ -39,8 +43,16 @@ def least(program: object, words: Sequence[str], text: str | bytes, ends: Sequen
     return min(run([program], words, text, ends=ends)[0] for _ in range(RUNS)), held(program, words, text, ends)
 
 
+def taken() -> str:
+    """The day, the machine, and how many processes of it run or wait, which head each table."""
+    about = pathlib.Path("/proc/cpuinfo")
+    model = re.search(r"(?m)^model name\s*: (.*)$", about.read_text()) if about.exists() else None
+    name = model[1] if model else platform.machine()
+    return f"{time.strftime('%Y-%m-%d', time.gmtime())}; {os.cpu_count()} x {name}; load {os.getloadavg()[0]:.1f}"
+
+
 def table(title: str, head: Sequence[str], rows: Iterable[Sequence[object]]) -> None:
-    print(f"\n## {title}\n\n| {' | '.join(head)} |\n|{'---|' * len(head)}")
+    print(f"\n## {title}\n\n{taken()}\n\n| {' | '.join(head)} |\n|{'---|' * len(head)}")
     for row in rows:
         print(f"| {' | '.join(str(it) for it in row)} |")
     sys.stdout.flush()

@@ -3,74 +3,134 @@
 from __future__ import annotations
 
 import json
-import os
-from collections import defaultdict
-from collections.abc import Iterator, Sequence
-from typing import Literal
+from collections import defaultdict, deque
+from collections.abc import Callable, Iterable, Iterator, Sequence
+from concurrent.futures import Future, ProcessPoolExecutor
+from functools import partial
+from itertools import islice
+from typing import Literal, get_args
 
 from ragvismo import cleared, program
 from ragvismo.cleared import Cleared
-from ragvismo.exchange import BUDGET, GREATEST_DEPOSIT, command_of
+from ragvismo.exchange import BUDGET, GREATEST_DEPOSIT, book_line, command_of, refused
+from ragvismo.faults import RagvismoError
 from ragvismo.orders import Batch, Leg, Order
-from ragvismo.faults import Refused
+from ragvismo.proposals import Proposal
 
 Mechanism = Literal["joint", "each"]
+# What answers a batch by a proposal: the program's own word propose, or a function.
+Solver = Literal["exchange"] | Callable[[Batch], Proposal | None]
 
 
 def clear(
-    batch: Batch, mechanism: Mechanism = "joint", *, budget: int = BUDGET, path: str | os.PathLike[str] | None = None
+    batch: Batch,
+    mechanism: Mechanism = "joint",
+    *,
+    solver: Solver | None = None,
+    budget: int = BUDGET,
+    timeout: float | None = None,
+    path: program.Path | None = None,
 ) -> Cleared:
-    """Clears a batch in an exchange of its own, in which each account has what its buys need. Orders are numbered from 1.
+    """Clears a batch in an exchange of its own, in which each account has what its buys need.
+    Orders are numbered from 1.
 
-    `joint` lets options of all strikes, kinds and weights cover one another, within a budget of 1 to 20,000 units. `each`
-    matches the orders of equal bundles alone, by a double auction: the exchange does so where its budget of one unit is
-    too small for the joint run. Where that run ends within one unit, the auction is computed here; its line, in which the
-    exchange stands for the cover alone, has the mark `budget` too. `path` names the program, as in `program.find`.
-    Raises `Refused` where an order is none of the exchange's, `NoProgram` and `Ended`.
+    `joint` lets options of all strikes, kinds and weights cover one another, within a budget of 1
+    to 20,000 units. Where that run gives up, the clear takes what a `solver` proposes, if it
+    leaves more than the match of equal bundles; the mark is then `bounded`. `exchange` is the
+    program's own solver, a function is given the batch and answers with a `Proposal` or None
+    (`solvers.highs` is one). A solver is asked of every batch, before the run.
+
+    `each` matches the orders of equal bundles alone, by a double auction: the exchange does so
+    where its budget of one unit is too small for the joint run. Where that run ends within one
+    unit, the auction is computed here; its line, in which the exchange stands for the cover alone,
+    has the mark `budget` too.
+
+    `timeout` is in seconds, for all that the program does; a function keeps its own time. `path`
+    names the program, as in `program.find`. Raises `Refused` where an order is none of the
+    exchange's, or a proposal does not hold, `NoProgram`, `Ended` and `TimedOut`.
     """
-    return clear_many([batch], mechanism, budget=budget, path=path)[0]
+    if mechanism not in get_args(Mechanism):
+        raise ValueError(f"a mechanism is joint or each, not {mechanism!r}")
+    if solver is not None and mechanism == "each":
+        raise ValueError("a solver is asked where a batch is cleared jointly")
+    deadline = program.Deadline(timeout)
+    commands = list(commands_of(batch, budget if mechanism == "joint" else 1))
+    if solver is not None and (line := _proposed(batch, solver, deadline, path)):
+        commands.insert(-1, line)
+    text = "".join(f"{line}\n" for line in commands)
+    lines = program.run(text, "serve", path, deadline.left()).splitlines()
+    for command, line in zip(commands, lines, strict=True):
+        if '"reply":"refused"' in line:
+            raise refused(command, json.loads(line))
+    found = cleared.read(json.loads(lines[-1]), lines[-1], path)
+    return _alone(found) if mechanism == "each" and found.mark == "optimal" else found
 
 
 def clear_many(
-    batches: Sequence[Batch],
+    batches: Iterable[Batch],
     mechanism: Mechanism = "joint",
     *,
+    solver: Solver | None = None,
     budget: int = BUDGET,
-    path: str | os.PathLike[str] | None = None,
-) -> list[Cleared]:
-    """Clears batches one after another in one exchange, each as `clear` does by itself, so that batches and orders are
-    numbered on. All are on as many underlyings as the first; their commands have at most 16,777,216 bytes together.
-    Raises as `clear` does."""
-    if mechanism not in ("joint", "each"):
-        raise ValueError(f"a mechanism is joint or each, not {mechanism!r}")
-    commands = list(commands_of(batches, budget if mechanism == "joint" else 1))
-    lines = program.run("".join(f"{line}\n" for line in commands), path=path).splitlines()
-    found = []
-    for command, line in zip(commands, lines, strict=True):
-        if '"reply":"refused"' in line:
-            reply = json.loads(line)
-            raise Refused(command, reply["reason"], reply["number"], reply.get("field"))
-        if '"reply":"cleared"' in line:
-            found.append(cleared.read(json.loads(line), line, path))
-    return [_alone(it) if mechanism == "each" and it.mark == "optimal" else it for it in found]
+    workers: int = 1,
+    timeout: float | None = None,
+    path: program.Path | None = None,
+) -> Iterator[Cleared]:
+    """Clears batches one by one, each as `clear` does and with its time, in the order in which
+    they come; no more are held at once than are being cleared.
+
+    With several `workers` so many processes clear at once, and the answers are the same; a solver
+    that is a function must then be one of a module, not a lambda. What a batch raises ends the
+    iterator and names the batch: `fault.batch` is its place, from 0.
+    """
+    words = {"solver": solver, "budget": budget, "timeout": timeout, "path": path}
+    one = partial(clear, mechanism=mechanism, **words)
+    if workers < 1:
+        raise ValueError("there is at least one worker")
+    return _named(map(one, batches) if workers == 1 else _by_workers(one, batches, workers))
 
 
-def commands_of(batches: Sequence[Batch], budget: int = BUDGET) -> Iterator[str]:
-    """The command lines by which batches are cleared: the market, and of each batch the accounts that are new, what its buys
-    need in ticks, its orders, and the clear."""
-    opened: set[int] = set()
-    for number, batch in enumerate(batches):
-        if number == 0:
-            yield f"market,1,{batch.underlyings}"
-        for account, need in _needs(batch).items():
-            if account not in opened:
-                opened.add(account)
-                yield f"open,{account}"
-            for start in range(0, need, GREATEST_DEPOSIT):
-                yield f"deposit,{account},{min(GREATEST_DEPOSIT, need - start)}"
-        for order in batch.orders:
-            yield command_of(order, 1)
-        yield f"clear,1,{budget}"
+def _named(found: Iterator[Cleared]) -> Iterator[Cleared]:
+    """The answers; a fault says of which batch it is."""
+    place = 0
+    try:
+        for place, it in enumerate(found, 1):
+            yield it
+    except RagvismoError as fault:
+        fault.batch = place
+        raise
+    except Exception as fault:
+        fault.add_note(f"batch {place}")
+        raise
+
+
+def _by_workers(
+    one: Callable[[Batch], Cleared], batches: Iterable[Batch], workers: int
+) -> Iterator[Cleared]:
+    ahead = iter(batches)
+    with ProcessPoolExecutor(workers) as pool:
+        waiting: deque[Future[Cleared]] = deque()
+        try:
+            waiting.extend(pool.submit(one, it) for it in islice(ahead, 2 * workers))
+            while waiting:
+                yield waiting.popleft().result()
+                waiting.extend(pool.submit(one, it) for it in islice(ahead, 1))
+        finally:
+            for each in waiting:
+                each.cancel()
+
+
+def commands_of(batch: Batch, budget: int = BUDGET) -> Iterator[str]:
+    """The command lines by which a batch is cleared: the market, its accounts, what their buys need
+    in ticks, the orders, and the clear."""
+    yield f"market,1,{batch.underlyings}"
+    for account, need in _needs(batch).items():
+        yield f"open,{account}"
+        for start in range(0, need, GREATEST_DEPOSIT):
+            yield f"deposit,{account},{min(GREATEST_DEPOSIT, need - start)}"
+    for order in batch.orders:
+        yield command_of(order, 1)
+    yield f"clear,1,{budget}"
 
 
 def _needs(batch: Batch) -> dict[int, int]:
@@ -81,13 +141,29 @@ def _needs(batch: Batch) -> dict[int, int]:
     return needs
 
 
+def _proposed(
+    batch: Batch, solver: Solver, deadline: program.Deadline, path: program.Path | None
+) -> str:
+    """The line that proposes what a solver found, empty where it found nothing."""
+    if solver == "exchange":
+        book = book_line(batch) + "\n"
+        return program.run(book, "propose", path, deadline.left()).rstrip("\n")
+    if not callable(solver):
+        raise ValueError(f"a solver is exchange or a function, not {solver!r}")
+    proposal = solver(batch)
+    return proposal.line(1, batch, range(1, len(batch.orders) + 1)) if proposal else ""
+
+
 def double_auction(orders: Sequence[Order]) -> list[int]:
     """The fill of each order where the orders of each bundle are matched alone, in bundles.
 
-    The buys of a bundle stand by falling, the sells by rising price, at one price by their places. While the first buy's
-    price is above the first sell's, the smaller of what is left of the two is filled in both.
+    The buys of a bundle stand by falling, the sells by rising price, at one price by their places.
+    While the first buy's price is above the first sell's, the smaller of what is left of the two is
+    filled in both.
     """
-    queues: dict[tuple[Leg, ...], dict[str, list[int]]] = defaultdict(lambda: {"buy": [], "sell": []})
+    queues: dict[tuple[Leg, ...], dict[str, list[int]]] = defaultdict(
+        lambda: {"buy": [], "sell": []}
+    )
     for place, order in enumerate(orders):
         queues[order.legs][order.side].append(place)
     fills = [0] * len(orders)
@@ -109,5 +185,7 @@ def _alone(joint: Cleared) -> Cleared:
     surplus = sum(it.sign * fill * it.price for it, fill in zip(joint.orders, fills))
     reply = json.loads(joint.text)
     del reply["certificate"]
-    reply |= {"fills": list(map(str, fills)), "liability": "0", "surplus": str(surplus), "mark": "budget", "units": 1}
-    return cleared.read(reply, path=joint.certificate.path)
+    told = {"fills": list(map(str, fills)), "liability": "0", "surplus": str(surplus)}
+    return cleared.read(
+        {**reply, **told, "mark": "budget", "units": 1}, path=joint.certificate.path
+    )

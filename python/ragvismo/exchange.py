@@ -5,21 +5,25 @@ from __future__ import annotations
 import json
 import operator
 import os
+import select
 import subprocess
 import tempfile
-from collections.abc import Sequence
+from collections.abc import Callable, Iterable, Sequence
+from dataclasses import dataclass
 from fractions import Fraction
 from types import TracebackType
-from typing import Any, Literal, NamedTuple
+from typing import Any, Literal, NamedTuple, SupportsIndex
 
 from ragvismo import cleared, program
 from ragvismo.cleared import Cleared
 from ragvismo.faults import Ended, Refused
-from ragvismo.orders import Option, Order, Side, buy, sell, bundle
+from ragvismo.orders import Batch, Leg, Option, Order, PlacedOrder, Side, buy, bundle, sell
+from ragvismo.proposals import Proposal
 
 BUDGET = 20_000
 MARGIN_BUDGET = 2_000
 GREATEST_DEPOSIT = 10**15
+PIECE = 65_536
 
 
 class Balance(NamedTuple):
@@ -45,22 +49,12 @@ class Settled(NamedTuple):
     lapsed: int
 
 
-class Quote(NamedTuple):
-    """From which price on one further order for one option would raise the greatest surplus, in ticks.
-
-    `bid` is the least price at which one further buy would, which a trader calls the ask, and `ask` the greatest at which
-    one further sell would. `never` where no price would do, `unmarked` where a clear that would tell it is not optimal.
-    """
-
-    bid: int | Literal["never", "unmarked"]
-    ask: int | Literal["never", "unmarked"]
-
-
 class Price(NamedTuple):
-    """From which price on a further order for so many options would raise the greatest surplus, in ticks, in a trader's words.
+    """What the market bids and asks for an option, in whole ticks.
 
-    `ask` is the least price at which a further buy would, and `bid` the greatest at which a further sell would. `never` where
-    no price would do, `unmarked` where a clear that would tell it is not optimal, or more than 60 of them are wanted.
+    `ask` is the least price at which a further buy would raise the greatest surplus, `bid` the
+    greatest at which a further sell would. `never` where no price would do, `unmarked` where a
+    clear that would tell it is not marked optimal, or too many clears are wanted.
     """
 
     bid: int | Literal["never", "unmarked"]
@@ -68,79 +62,137 @@ class Price(NamedTuple):
 
 
 class Margin(NamedTuple):
-    """The least liability, in ticks, that covers what an account's positions in a market owe, and the state (t, s) at which
-    they owe it; or `unbounded` with its ray, or `wide` or `budget` without a state."""
+    """The least liability, in ticks, that covers what an account's positions in a market owe, and
+    the state (t, s) at which they owe it; or `unbounded` with its ray, or `wide` or `budget`
+    without a state."""
 
     amount: Fraction | Literal["unbounded", "wide", "budget"]
     at: tuple[int, ...] | None
 
 
-class Exchange:
-    """Holds a running `exchange serve`, which answers each call before it returns. Amounts, prices and strikes are whole
-    ticks. Use it in a `with`, or call `close`.
+class Position(NamedTuple):
+    """What an account holds (a buy) or owes (a sell) of a batch: so many bundles of an order."""
 
-    Each call raises `Refused` where the exchange refuses it, which changes nothing, `Ended` where the program has ended, and
-    TypeError for a number that is not whole. `commands` and `replies` are the lines so far: the same commands would be answered
-    by the same replies.
+    batch: int
+    order: int
+    side: Side
+    fill: Fraction
+    legs: tuple[Leg, ...]
+
+
+@dataclass(frozen=True)
+class Book:
+    """The live orders of a market, by rising number."""
+
+    market: int
+    underlyings: int
+    orders: tuple[PlacedOrder, ...]
+
+    @property
+    def batch(self) -> Batch:
+        """The orders as a batch, to be cleared or priced by itself."""
+        return Batch(self.orders)
+
+
+class Proposed(NamedTuple):
+    """A proposal that holds: its surplus and bound, and the greatest surplus and the least bound
+    that are kept for these orders after it, in ticks."""
+
+    surplus: Fraction
+    bound: Fraction
+    best_surplus: Fraction
+    least_bound: Fraction
+
+
+class Exchange:
+    """Holds a running `exchange serve`, which answers each call before it returns. Amounts, prices
+    and strikes are whole ticks. Use it in a `with`, or call `close`.
+
+    Each call raises `Refused` where the exchange refuses it, which changes nothing, `Ended` where
+    the program has ended, and TypeError for a number that is not whole. With a `timeout` in seconds
+    a call that is not answered by then raises `TimedOut`; the program goes on with it, and the next
+    call waits for both answers. `commands` and `replies` are the lines so far: `exchange serve`
+    answers the same commands by the same replies.
     """
 
-    def __init__(self, path: str | os.PathLike[str] | None = None) -> None:
+    def __init__(self, path: program.Path | None = None, *, timeout: float | None = None) -> None:
         """Starts the program that `program.find` finds; raises `NoProgram` where there is none."""
         self.path = program.find(path)
+        self.timeout = timeout
         self.commands: list[str] = []
         self.replies: list[str] = []
+        self._unsent, self._received = b"", b""
         self._errors = tempfile.TemporaryFile()
-        ends: dict[str, Any] = {"stdin": subprocess.PIPE, "stdout": subprocess.PIPE, "stderr": self._errors}
-        self._process = subprocess.Popen([self.path, "serve"], **ends)
+        ends: dict[str, Any] = {"stdin": subprocess.PIPE, "stdout": subprocess.PIPE}
+        self._process = subprocess.Popen(
+            [self.path, "serve"], bufsize=0, stderr=self._errors, **ends
+        )
+        assert self._process.stdin and self._process.stdout
+        self._to, self._from = self._process.stdin, self._process.stdout
+        os.set_blocking(self._to.fileno(), False)
 
     def __enter__(self) -> Exchange:
         return self
 
     def __exit__(
-        self, kind: type[BaseException] | None, fault: BaseException | None, trace: TracebackType | None
+        self,
+        kind: type[BaseException] | None,
+        fault: BaseException | None,
+        trace: TracebackType | None,
     ) -> None:
         self.close()
 
     def close(self) -> None:
         """Ends the program. What it held is gone, but `commands` can be run again."""
-        assert self._process.stdin and self._process.stdout
-        try:
-            self._process.stdin.close()
-        except BrokenPipeError:
-            pass
-        self._process.stdout.close()
+        for end in (self._to, self._from):
+            try:
+                end.close()
+            except BrokenPipeError:
+                pass
+        self._process.kill()  # it may be busy with a call that was not waited for
         self._process.wait()
         self._errors.close()
 
     def ask(self, command: str) -> dict[str, Any]:
-        """The reply to one command line of docs/FORMATS.md, as an object; raises `Refused` and `Ended`."""
-        assert self._process.stdin and self._process.stdout
+        """The reply to one command line of docs/FORMATS.md, as an object; raises as said above."""
         if not command or not command.isprintable():
             raise ValueError("a command is one line of letters that can be seen")
-        try:
-            self._process.stdin.write(command.encode() + b"\n")
-            self._process.stdin.flush()
-        except (BrokenPipeError, ValueError):
-            raise self._ended() from None
+        if self._errors.closed:
+            raise Ended("the exchange is closed")
         self.commands.append(command)
-        while len(self.replies) < len(self.commands):  # more than one where a wait before was interrupted
-            text = self._process.stdout.readline().decode()
-            if not text.endswith("\n"):
-                raise self._ended()
-            self.replies.append(text.rstrip("\n"))
+        self._unsent += command.encode() + b"\n"
+        deadline = program.Deadline(self.timeout)
+        while len(self.replies) < len(self.commands):  # more than one after a wait that was ended
+            self._go_on(deadline)
         reply: dict[str, Any] = json.loads(self.replies[-1])
         if reply["reply"] == "refused":
-            raise Refused(command, reply["reason"], reply["number"], reply.get("field"), reply.get("need"))
+            raise refused(command, reply)
         return reply
 
+    def _go_on(self, deadline: program.Deadline) -> None:
+        """Sends or receives a piece of what is to be sent and received."""
+        poll, left = select.poll(), deadline.left()
+        poll.register(self._from, select.POLLIN)
+        if self._unsent:
+            poll.register(self._to, select.POLLOUT)
+        ready = dict(poll.poll(None if left is None else left * 1000))
+        if self._to.fileno() in ready:
+            try:
+                self._unsent = self._unsent[self._to.write(self._unsent[:PIECE]) or 0 :]
+            except BrokenPipeError:
+                raise self._ended() from None
+        if self._from.fileno() in ready:
+            piece = self._from.read(PIECE)
+            if not piece:
+                raise self._ended()
+            *lines, self._received = (self._received + piece).split(b"\n")
+            self.replies += [it.decode() for it in lines]
+
     def _ended(self) -> Ended:
-        if self._errors.closed:
-            return Ended("the exchange is closed")
+        del self.commands[len(self.replies) :]
         status = self._process.wait()
         self._errors.seek(0)
-        return Ended(
-            f"exchange serve ended with {status}: {self._errors.read().decode(errors='replace').strip()[-200:]}"
-        )
+        return program.ended("serve", status, self._errors.read())
 
     def open(self, *, account: int) -> None:
         """Opens an account, 1 to 999,999,999."""
@@ -151,7 +203,7 @@ class Exchange:
         return int(self.ask(_line("deposit", account, amount))["balance"])
 
     def withdraw(self, *, account: int, amount: int) -> int:
-        """Withdraws ticks that neither its live buys nor its positions need; what the account then has."""
+        """Withdraws ticks that neither its live buys nor its positions need; what it then has."""
         return int(self.ask(_line("withdraw", account, amount))["balance"])
 
     def balance(self, *, account: int) -> Balance:
@@ -167,11 +219,15 @@ class Exchange:
         """Places an order of its account; its number."""
         return int(self.ask(command_of(order, market))["order"])
 
-    def buy(self, *, account: int, market: int, option: Option, price: int, quantity: int = 1) -> int:
+    def buy(
+        self, *, account: int, market: int, option: Option, price: int, quantity: int = 1
+    ) -> int:
         """Bids `price` ticks each for so many of an option; the order's number."""
         return self.place(buy(option, price, quantity, account=account), market=market)
 
-    def sell(self, *, account: int, market: int, option: Option, price: int, quantity: int = 1) -> int:
+    def sell(
+        self, *, account: int, market: int, option: Option, price: int, quantity: int = 1
+    ) -> int:
         """Asks `price` ticks each for so many of an option; the order's number."""
         return self.place(sell(option, price, quantity, account=account), market=market)
 
@@ -181,42 +237,92 @@ class Exchange:
         account: int,
         market: int,
         side: Side,
-        legs: Sequence[tuple[int, Option]],
+        legs: Iterable[tuple[int, Option]],
         price: int,
         quantity: int = 1,
     ) -> int:
-        """Bids or asks `price` ticks each for so many bundles of 1 to 4 legs, counts with options; the order's number."""
+        """Bids or asks `price` ticks each for so many bundles of 1 to 4 legs, counts with options;
+        the order's number."""
         return self.place(bundle(side, legs, price, quantity, account=account), market=market)
 
     def cancel(self, *, account: int, order: int) -> None:
         """Cancels a live order of an account."""
         self.ask(_line("cancel", account, order))
 
+    def book(self, *, market: int) -> Book:
+        """The live orders of a market."""
+        reply = self.ask(_line("book", market))
+        orders = tuple(map(_placed, reply["orders"]))
+        return Book(reply["market"], reply["underlyings"], orders)
+
+    def positions(self, *, account: int, market: int) -> list[Position]:
+        """The positions of an account in a market, in the order in which they were added."""
+        reply = self.ask(_line("positions", account, market))
+        return [
+            Position(
+                it["batch"], it["order"], it["side"], Fraction(it["fill"]), cleared.legs_of(it)
+            )
+            for it in reply["positions"]
+        ]
+
+    def propose(
+        self,
+        *,
+        market: int,
+        solver: Literal["exchange"] | Callable[[Batch], Proposal | None] | Proposal = "exchange",
+    ) -> Proposed | None:
+        """Proposes how the live orders of a market be filled, as they stand: a `Proposal`, or what
+        the program's own solver or a function finds, None where that finds nothing. The next clear
+        of just these orders takes the best of what was proposed where its own run gives up.
+        """
+        book = self.book(market=market)
+        if solver == "exchange":
+            told = self.replies[-1] + "\n"
+            line = program.run(told, "propose", self.path, self.timeout).rstrip("\n")
+        else:
+            found = solver(book.batch) if callable(solver) else solver
+            numbers = [it.number for it in book.orders]
+            line = found.line(market, book.batch, numbers) if found else ""
+        if not line:
+            return None
+        reply = self.ask(line)
+        return Proposed(*(Fraction(reply[name]) for name in Proposed._fields))
+
     def clear(self, *, market: int, budget: int = BUDGET) -> Cleared:
-        """Clears all live orders of a market within a budget of 1 to 20,000 units, turns of the solver."""
+        """Clears all live orders of a market within a budget of 1 to 20,000 units, turns of the
+        solver."""
         reply = self.ask(_line("clear", market, budget))
         return cleared.read(reply, self.replies[-1], self.path)
 
     def settle(self, *, market: int, prices: Sequence[int]) -> Settled:
         """Settles a market for good at whole prices of its underlyings, 0 to 10^9."""
         reply = self.ask(_line("settle", market, *prices))
-        paid = [Payout(it["batch"], it["order"], it["account"], int(it["amount"])) for it in reply["payouts"]]
+        paid = [
+            Payout(it["batch"], it["order"], it["account"], int(it["amount"]))
+            for it in reply["payouts"]
+        ]
         return Settled(paid, reply["lapsed"])
 
-    def quote(self, *, market: int, option: Option, budget: int = BUDGET) -> Quote:
-        """What one further order for one option would have to bid or ask to raise the greatest surplus.
+    def quote(self, *, market: int, option: Option, budget: int = BUDGET) -> Price:
+        """What the market bids and asks for one option, by the line `quote`: at most 43 clears a
+        side, each with `budget` units.
 
-        Each of its at most 43 clears a side has `budget` units."""
-        reply = self.ask(_line("quote", market, budget, option.kind, option.strike, *option.weights))
-        return Quote(*_prices(reply))
+        That line tells what a buyer must bid as its bid; here it is the ask, as of `price`.
+        """
+        reply = self.ask(_line("quote", market, budget, *_about(option)))
+        return Price(bid=_told(reply["ask"]), ask=_told(reply["bid"]))
 
-    def price(self, *, market: int, option: Option, quantity: int = 1, budget: int = BUDGET) -> Price:
-        """What the market asks and bids for `quantity` of one option, in a few clears of `budget` units each."""
-        reply = self.ask(_line("price", market, budget, quantity, option.kind, option.strike, *option.weights))
-        return Price(*_prices(reply))
+    def price(
+        self, *, market: int, option: Option, quantity: int = 1, budget: int = BUDGET
+    ) -> Price:
+        """What the market bids and asks for `quantity` of one option, by the line `price`: in a few
+        clears of `budget` units each, at most 60 a side."""
+        reply = self.ask(_line("price", market, budget, quantity, *_about(option)))
+        return Price(bid=_told(reply["bid"]), ask=_told(reply["ask"]))
 
     def margin(self, *, account: int, market: int, budget: int = MARGIN_BUDGET) -> Margin:
-        """What the positions of an account in a market may owe, within a budget of 1 to 20,000 units."""
+        """What the positions of an account in a market may owe, within a budget of 1 to 20,000
+        units."""
         reply = self.ask(_line("margin", account, market, budget))
         word = reply["margin"]
         amount = word if word in ("unbounded", "wide", "budget") else Fraction(word)
@@ -228,18 +334,50 @@ def command_of(order: Order, market: int) -> str:
     about = order.price, order.quantity
     if len(order.legs) == 1 and order.legs[0].count == 1:
         option = order.legs[0].option
-        return _line(order.side, order.account, market, option.kind, option.strike, *about, *option.weights)
-    legs = [(leg.count, leg.option.kind, leg.option.strike, *leg.option.weights) for leg in order.legs]
-    fields = [field for leg in legs for field in leg]
-    return _line("bundle", order.account, market, order.side, *about, len(legs), *fields)
+        kind, strike, *weights = _about(option)
+        return _line(order.side, order.account, market, kind, strike, *about, *weights)
+    legs = [field for leg in order.legs for field in (leg.count, *_about(leg.option))]
+    return _line("bundle", order.account, market, order.side, *about, len(order.legs), *legs)
 
 
-def _prices(reply: dict[str, Any]) -> tuple[Any, Any]:
-    """The bid and the ask of a reply, each a whole price or a word."""
-    bid, ask = (word if word in ("never", "unmarked") else int(word) for word in (reply["bid"], reply["ask"]))
-    return bid, ask
+def book_line(batch: Batch) -> str:
+    """The reply `book` of a market that holds the orders of a batch alone, numbered from 1."""
+    orders = [
+        {
+            "account": it.account,
+            "legs": [{"count": leg.count, "form": leg.option.form} for leg in it.legs],
+            "order": number,
+            "price": it.price,
+            "quantity": it.quantity,
+            "side": it.side,
+        }
+        for number, it in enumerate(batch.orders, 1)
+    ]
+    about = {"line": 1, "market": 1, "underlyings": batch.underlyings}
+    return cleared.spelled({**about, "orders": orders, "reply": "book"})
 
 
-def _line(word: str, *fields: int | str) -> str:
+def refused(command: str, reply: dict[str, Any]) -> Refused:
+    """The exception that tells a refusal of a command."""
+    names = ("field", "need", "failed")
+    return Refused(command, reply["reason"], reply["number"], *map(reply.get, names))
+
+
+def _placed(order: dict[str, Any]) -> PlacedOrder:
+    about = {name: order[name] for name in ("account", "side", "price", "quantity")}
+    return PlacedOrder(number=order["order"], legs=cleared.legs_of(order), **about)
+
+
+def _about(option: Option) -> tuple[int | str, ...]:
+    return option.kind, option.strike, *option.weights
+
+
+def _told(word: str) -> Any:
+    """A whole price of a reply, or a word."""
+    return word if word in ("never", "unmarked") else int(word)
+
+
+def _line(word: str, *fields: SupportsIndex | str) -> str:
     """A command line; a number that is not whole is a TypeError."""
-    return ",".join([word, *(it if isinstance(it, str) else str(operator.index(it)) for it in fields)])
+    whole = (it if isinstance(it, str) else str(int(operator.index(it))) for it in fields)
+    return ",".join([word, *whole])

@@ -1,7 +1,8 @@
 """Reads whole journals: the batches, payouts and orders of a run, and the balances that follow.
 
-Balances need no trust in a solver: an account begins with 0, deposits and withdrawals tell its balance, a batch moves the
-premiums of its filled orders, in whole ticks, rounded for the house, and a settlement moves its payouts.
+Balances need no trust in a solver: an account begins with 0, deposits and withdrawals tell its
+balance, a batch moves the cash of its filled orders, in whole ticks, rounded for the house, and a
+settlement moves its payouts.
 """
 
 from __future__ import annotations
@@ -20,7 +21,16 @@ HOUSE = 0
 # Replies that move nothing.
 BESIDE = ("refused", "quoted", "priced", "margin", "book", "positions", "proposed")
 Path = str | os.PathLike[str]
-FAULTS = (KeyError, TypeError, ValueError, ZeroDivisionError, StopIteration, AttributeError, IndexError, RecursionError)
+FAULTS = (
+    KeyError,
+    TypeError,
+    ValueError,
+    ZeroDivisionError,
+    StopIteration,
+    AttributeError,
+    IndexError,
+    RecursionError,
+)
 
 
 class Payout(NamedTuple):
@@ -33,7 +43,8 @@ class Payout(NamedTuple):
 
 
 class Balance(NamedTuple):
-    """What an account has, or None where the lines do not tell it, and the line that moved or told it last."""
+    """What an account has, or None where the lines do not tell it, and the line that moved or told
+    it last."""
 
     amount: int | None
     line: int
@@ -60,7 +71,12 @@ class Journal:
         if word == "opened":
             self.balances[reply["account"]] = Balance(0, line)
         elif word in ("deposited", "withdrawn"):
-            self.tell(reply["account"], int(reply["balance"]), line, {"deposited": 1, "withdrawn": -1}[word])
+            self.tell(
+                reply["account"],
+                int(reply["balance"]),
+                line,
+                {"deposited": 1, "withdrawn": -1}[word],
+            )
         elif word == "balance":
             self.tell(reply["account"], int(reply["balance"]), line, 0)
         elif word == "listed":
@@ -85,21 +101,22 @@ class Journal:
             self.begins_late()
         moved = 0 if known is None else amount - known
         if known is not None and (moved > 0) - (moved < 0) != turn:
-            raise BadJournal(
-                f"line {line} tells a balance of account {account} that does not follow: lines are missing or changed"
-            )
+            told = f"line {line} tells a balance of account {account} that does not follow"
+            raise BadJournal(f"{told}: lines are missing or changed")
         self.house_is_told |= account == HOUSE
         self.balances[account] = Balance(amount, line)
 
     def follows(self, number: int, last: int, line: int) -> None:
         """Orders and batches are numbered one by one."""
         if last and number != last + 1:
-            raise BadJournal(f"line {line} has the number {number} after {last}: lines are missing or changed")
+            raise BadJournal(
+                f"line {line} has the number {number} after {last}: lines are missing or changed"
+            )
         if not last and number != 1:
             self.begins_late()
 
     def begins_late(self) -> None:
-        """The lines begin within a run, so nobody knows what the house has until a line tells it."""
+        """The lines begin within a run: nobody knows what the house has until a line tells it."""
         if not self.house_is_told:
             self.balances[HOUSE] = Balance(None, self.balances[HOUSE].line)
 
@@ -115,7 +132,7 @@ class Journal:
         self.follows(batch.number, self.batches[-1].number if self.batches else 0, batch.line)
         for order in batch.orders:
             if order.fill:
-                self.move(order.account, order.premium(), batch.line)
+                self.move(order.account, order.cash, batch.line)
         self.batches.append(batch)
 
     def settle(self, reply: dict[str, Any]) -> None:
@@ -123,7 +140,12 @@ class Journal:
         self.lapsed += reply["lapsed"]
         for each in reply["payouts"]:
             paid = Payout(
-                reply["line"], reply["market"], each["batch"], each["order"], each["account"], int(each["amount"])
+                reply["line"],
+                reply["market"],
+                each["batch"],
+                each["order"],
+                each["account"],
+                int(each["amount"]),
             )
             self.move(paid.account, paid.amount, paid.line)
             self.payouts.append(paid)
@@ -138,8 +160,10 @@ def lines(path: Path) -> Iterator[str]:
 
 
 def take_all(path: Path, take: Callable[[dict[str, Any], str], None]) -> None:
-    """Takes the replies of a journal one by one, each with its line. Replies of messages are taken out of their answers, each
-    once. Raises `BadJournal` where the file cannot be read, or a line is no reply, or its number does not follow."""
+    """Takes the replies of a journal one by one, each with its line. Replies of messages are taken
+    out of their answers, each once. Raises `BadJournal` where the file cannot be read, or a line is
+    no reply, or its number does not follow.
+    """
     place, last, decode = 0, 0, json.JSONDecoder().raw_decode
     try:
         for place, text in enumerate(lines(path), 1):
@@ -150,9 +174,8 @@ def take_all(path: Path, take: Callable[[dict[str, Any], str], None]) -> None:
             if reply["reply"] == "gate" or (reply is not answer and reply["line"] <= last):
                 continue
             if reply["line"] <= last:
-                raise BadJournal(
-                    f"line {place} of {path} has the number {reply['line']} after {last}: it is no journal of one run"
-                )
+                told = f"line {place} of {path} has the number {reply['line']} after {last}"
+                raise BadJournal(f"{told}: it is no journal of one run")
             last = reply["line"]
             take(reply, text[:end] if reply is answer else "")
     except UnicodeDecodeError:
@@ -164,14 +187,14 @@ def take_all(path: Path, take: Callable[[dict[str, Any], str], None]) -> None:
 
 
 def read(path: Path) -> Journal:
-    """All that a journal tells, or that of standard input where the path is a minus; raises `BadJournal`."""
+    """All that a journal tells, or standard input where the path is a minus; `BadJournal`."""
     journal = Journal()
     take_all(path, journal.take)
     return journal
 
 
 def read_batch(path: Path, number: int | None = None) -> Cleared:
-    """The batch of a journal with a number, or its last; raises `BadJournal`, also where there is none."""
+    """The batch of a journal with a number, or its last; `BadJournal`, also where there is none."""
     found: list[Cleared] = []
 
     def take(reply: dict[str, Any], text: str) -> None:

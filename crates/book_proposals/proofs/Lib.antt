@@ -2,7 +2,6 @@ pub mod FoundBooks
 pub mod LiveOrders
 pub mod ProposalsWithin
 pub mod ReadAsHandedIn
-pub mod RisingNumbers
 pub mod ShortLines
 pub mod TakenProposals
 pub mod Texts

@@ -1,6 +1,5 @@
 -- Orders that are read, as the live orders of a market.
 use Rattle.std.proofs.Common.{◌≡◌, ◌+◌, Bool, get_or, true}
-use Rattle.std.specs.List.Sorted.{IsStrictlyIncreasing}
 use Rattle.std.proofs.lemmas.List.Elements.{All-from_recursion, All-weaker}
 use Rattle.std.proofs.lemmas.List.Sums.{AllPass-from_list_all, list_all-from_AllPass}
 use Rattle.form.specs.declared.orders.Batch.{Batch}
@@ -10,13 +9,13 @@ use Rattle.form.specs.Limits as limits
 use Rattle.form.proofs.BundleLegs.{on_count-from, on_count-true}
 use Rattle.cert_check.specs.Shape.{forms_have}
 use Rattle.reply_print.specs.Within.{IsBatchWithin, IsOrderWithin}
-use Rattle.book_proposals.proofs.RisingNumbers.{ids}
+use Rattle.proposal_text.specs.Within.{AreRising}
 
 module _ (batch : Batch) where
   abbrev on_it : Order → Bool
   on_it order = is_on_count (batch.underlyings + 1) order.bundle
 
-  pub live : IsBatchWithin batch → forms_have (batch.underlyings + 1) batch.orders ≡ true → IsStrictlyIncreasing (ids batch.orders)
+  pub live : IsBatchWithin batch → forms_have (batch.underlyings + 1) batch.orders ≡ true → AreRising batch.orders
       → limits.IsWithinLimits batch
   live ranges on rise = record {
     has_forms = record {

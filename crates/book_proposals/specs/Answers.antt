@@ -13,11 +13,9 @@ use Rattle.proposal_text.specs.Pieces.{submission_text}
 use Rattle.proposal_text.specs.ReplyValues.{IsProposalLineOf}
 use Rattle.proposal_text.specs.Within.{IsSubmissionWithin}
 
--- The line is the print of a reply that tells the live orders of a market, and they are such: at
--- most 256, for options on its underlyings, by rising number. A line that tells other orders is no
--- reply to `book`: for options on other underlyings no proposal is judged a bound, and orders whose
--- numbers do not rise are never the live ones, so that what is proposed for them would always be
--- stale. Nothing is written for it. That there are no orders is told too, and something is proposed
+-- The line is the print of a reply that tells the live orders of a market, and they are such: each
+-- is for options on its underlyings. For options on others no proposal is judged a bound, and
+-- nothing is written for the line. That there are no orders is told too, and something is proposed
 -- for them.
 pub record IsBookOf (line : List ℕ) (market : ℕ) (batch : Batch) : Type 0 where
   pub number : ℕ

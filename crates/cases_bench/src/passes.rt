@@ -7,7 +7,7 @@ use command_text::{Body, Command, MAX_INPUT, commands};
 use exchange_core::{Exchange, Reply};
 use frac::Frac64;
 use narrow_clearing::{Pass, clear_first};
-use port_io::{StdSource, read_all};
+use port_io::{StdSource, SureSink, read_all};
 use std::alloc::Global;
 
 // Takes the exchange one line further, or tells the pass in which the line's batch is cleared.
@@ -39,7 +39,7 @@ fn word_of(pass: &Pass) -> &'static str {
 pub fn print_passes(rt: &HostRuntime) -> Result<()> {
     let alloc = rt.alloc();
     let mut source = StdSource::new(rt.reader());
-    let input = read_all(alloc, &mut source, MAX_INPUT)
+    let input = read_all(alloc, &mut source, &SureSink::new(), MAX_INPUT)
         .ok()
         .context("an input")?;
     let mut exchange = Exchange::new(alloc);

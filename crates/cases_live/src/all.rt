@@ -1,4 +1,4 @@
-use live_lines::{Ended, serve};
+use live_lines::serve;
 use port_io::{MemSink, MemSource};
 use proposal_lines::ProposalLines;
 use std::alloc::{AllocError, Global};
@@ -60,7 +60,7 @@ pub(crate) fn ends_with(
         &mut source,
         &mut sink,
     );
-    Ok(end == Ended::Done && sink.written().ends_with(replies.as_bytes()))
+    Ok(end == Ok(()) && sink.written().ends_with(replies.as_bytes()))
 }
 
 #[test]

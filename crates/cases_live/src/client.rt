@@ -51,6 +51,8 @@ impl<'a> Client<'a> {
 impl Source for Client<'_> {
     ghost left = { λ _. None };
 
+    ghost last_read = { λ _. None };
+
     ghost taken = { λ s. as_count s.taken };
 
     ghost faults = { λ _. 0 };
@@ -59,7 +61,7 @@ impl Source for Client<'_> {
 
     ghost faults_stop = { λ _. lit≤ tt };
 
-    fn read(&mut self, buf: &mut [u8]) -> ReadAnswer {
+    fn read<K: Sink>(&mut self, _sink: &K, buf: &mut [u8]) -> ReadAnswer {
         if self.replied.get() != self.awaits {
             self.was_early = true;
         }

@@ -1,7 +1,6 @@
 // Books proposed for, each between two reads.
 use crate::client::{Client, Replies, Sent};
 use book_proposals::propose_live;
-use live_lines::Ended;
 use port_io::{MemSink, MemSource};
 use std::alloc::{AllocError, Global};
 use std::cell::Cell;
@@ -24,8 +23,8 @@ fn written_for(alloc: Global, book: &[u8], piece: usize) -> Result<Vec<u8>, Allo
     let mut source = MemSource::new(bytes, piece.max(1), Vec::new(alloc));
     let mut sink = MemSink::new(alloc, 10_000, 10_000, Vec::new(alloc))?;
     match propose_live(alloc, &mut source, &mut sink) {
-        Ended::Done => sink.written().to_vec(alloc),
-        _ => Ok(Vec::new(alloc)),
+        Ok(()) => sink.written().to_vec(alloc),
+        Err(_) => Ok(Vec::new(alloc)),
     }
 }
 
@@ -61,7 +60,7 @@ fn is_proposed_in_turn(alloc: Global, sends: &[Sent]) -> bool {
     let mut client = Client::new(sends, &replied);
     let mut replies = Replies { replied: &replied };
     let end = propose_live(alloc, &mut client, &mut replies);
-    end == Ended::Done && !client.was_early()
+    end == Ok(()) && !client.was_early()
 }
 
 #[test]

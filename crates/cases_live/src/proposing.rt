@@ -1,4 +1,5 @@
 use crate::all::ends_with;
+use std::alloc::{AllocError, Global};
 use std::test::Fail;
 
 // One trader bids for a call whose payoff two calls that are asked cover.
@@ -97,6 +98,37 @@ clear,1,1
 {"batch":1,"bound":"6/7","certificate":{"cover":"line","measure":[{"state":["1","0"],"weight":"3/7"},{"state":["1","12"],"weight":"4/7"},{"state":["0","1"],"weight":"4"}]},"fills":["1/2","1/7","5/14"],"liability":"0","line":11,"mark":"bounded","market":1,"orders":[{"account":1,"legs":[{"count":1,"form":[-10,1]}],"order":1,"price":6,"quantity":1,"side":"buy"},{"account":2,"legs":[{"count":1,"form":[-5,1]}],"order":2,"price":8,"quantity":1,"side":"sell"},{"account":2,"legs":[{"count":1,"form":[-12,1]}],"order":3,"price":4,"quantity":1,"side":"sell"}],"reply":"cleared","run":"budget","surplus":"3/7","underlyings":1,"units":1,"version":3}
 "#,
 ];
+
+// The point 1, 0 of a measure, 1,023 of the weights of a measure of 1,024 points, and the last.
+static POINT: &str = r#"{"state":["1","0"],"weight":"1125899906842623/1152921504606846976"},"#;
+
+static LAST_POINT: &str = r#"{"state":["1","0"],"weight":"1125899906843647/1152921504606846976"}"#;
+
+// A proposal of 69,813 bytes: as long as its measure makes it, which is the point 1, 0 in all.
+fn long_proposal(alloc: Global) -> Result<String, AllocError> {
+    let mut line = String::new(alloc);
+    line.push_str(r#"propose,1,{"certificate":{"cover":"line","measure":["#)?;
+    for _ in 0..1_023 {
+        line.push_str(POINT)?;
+    }
+    line.push_str(LAST_POINT)?;
+    line.push_str(r#"]},"fills":["1/2","1/7","5/14"],"liability":"0","orders":[1,2,3],"#)?;
+    line.push_str("\"surplus\":\"3/7\"}\n")?;
+    Ok(line)
+}
+
+// That a line is answered by want of memory alone no clause can rule out.
+#[test]
+fn long_proposals_are_judged(rt: HostRuntime) -> Result<(), Fail> {
+    let alloc = rt.alloc();
+    let line = long_proposal(alloc)?;
+    assert!(rt; 65_536 < line.len());
+    let told =
+        r#"{"best_surplus":"3/7","bound":"6","least_bound":"6","line":8,"market":1,"reply":"proposed","surplus":"3/7"}
+"#;
+    assert!(rt; ends_with(alloc, BUTTERFLY, &line, told)?);
+    Ok(())
+}
 
 #[test]
 fn proposals_are_judged_and_charged(rt: HostRuntime) -> Result<(), Fail> {

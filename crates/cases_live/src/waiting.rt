@@ -1,6 +1,6 @@
 use crate::client::{Client, Replies, Sent};
 use crate::told::Told;
-use live_lines::{Ended, serve};
+use live_lines::serve;
 use std::alloc::Global;
 use std::cell::Cell;
 use std::test::Fail;
@@ -12,7 +12,7 @@ fn is_answered_in_turn(alloc: Global, sends: &[Sent], bytes: usize) -> bool {
     let mut client = Client::new(sends, &replied);
     let mut replies = Replies { replied: &replied };
     let end = serve(alloc, Told, true, &mut client, &mut replies);
-    end == Ended::Done && !client.was_early() && replied.get() == bytes
+    end == Ok(()) && !client.was_early() && replied.get() == bytes
 }
 
 #[test]

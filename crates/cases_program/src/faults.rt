@@ -18,17 +18,18 @@ fn a_failed_read_writes_nothing(rt: HostRuntime) -> Result<(), Fail> {
     Ok(())
 }
 
+// The replies to the lines that have a line feed are one write, and that to the last line another.
 #[test]
-fn a_failed_write_leaves_the_lines_before_it(rt: HostRuntime) -> Result<(), Fail> {
+fn a_failed_write_leaves_what_was_written(rt: HostRuntime) -> Result<(), Fail> {
     let alloc = rt.alloc();
-    let mut before = String::new(alloc);
-    for (write, line) in (1..9u32).zip(MATCHED_REPLIES.split_inclusive('\n')) {
+    let (first, _) = MATCHED_REPLIES
+        .split_once("{\"account\":0,")
+        .unwrap_or(("", ""));
+    for (write, before) in [(1u32, ""), (2, first)] {
         let (status, sink) = run(alloc, "run", MATCHED.as_bytes(), 0, write)?;
         assert_eq!(rt; status, Status::WriteFault, "at write {write}");
-        assert_lines(&rt, sink.written(), &before);
-        before.push_str(line)?;
+        assert_lines(&rt, sink.written(), before);
     }
-    assert_eq!(rt; before.as_str(), MATCHED_REPLIES);
     Ok(())
 }
 

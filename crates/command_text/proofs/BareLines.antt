@@ -1,12 +1,12 @@
--- A line of bare bytes is one without quotes.
-use Rattle.std.proofs.Common.{◌≡◌, ℕ, ◌<◌, List, [], ◌∷◌, true, false, ◌==◌, ◌||◌, inl, inr, refl, sym, ap, ◌∙◌, arith}
+-- A line of bare bytes is to be read, and has no quotation mark.
+use Rattle.std.proofs.Common.{◌≡◌, ℕ, ◌<◌, List, [], ◌∷◌, true, false, ◌==◌, refl, arith}
 use Rattle.std.specs.List.{list_all, list_any}
 use Rattle.std.specs.Str.{IsAscii}
-use Rattle.std.proofs.lemmas.Bool.{and_parts, cases_Bool}
+use Rattle.std.proofs.lemmas.Bool.{and_parts}
 use Rattle.std.proofs.lemmas.Bool.Decides.{nat_tests}
 use Rattle.std.proofs.lemmas.Str.{IsUtf8-from_ascii, is_utf8-from_IsUtf8}
 use Rattle.std.proofs.lemmas.Str.Ascii.{IsAscii-nil, IsAscii-cons}
-use Rattle.command_text.specs.Fields.{begins_with_mark, is_bare, is_without_quotes}
+use Rattle.command_text.specs.Fields.{begins_with_mark, is_bare, is_readable}
 
 no_return : (line : List ℕ) → list_all is_bare line ≡ true → list_any (λ b. b == 13) line ≡ false
 no_return [] bare = refl
@@ -15,7 +15,7 @@ no_return (b ∷ line) bare =
     let first : (b == 13) ≡ false = grind (arith, nat_tests, parts.0) in
     rw first (no_return line parts.1)
 
-no_quote : (line : List ℕ) → list_all is_bare line ≡ true → list_any (λ b. b == 34) line ≡ false
+pub no_quote : (line : List ℕ) → list_all is_bare line ≡ true → list_any (λ b. b == 34) line ≡ false
 no_quote [] bare = refl
 no_quote (b ∷ line) bare =
     let parts = and_parts (is_bare b) (list_all is_bare line) bare in
@@ -38,14 +38,7 @@ ascii (b ∷ line) bare =
     let low : b < 128 = grind (arith, nat_tests, parts.0) in
     IsAscii-cons b line low (ascii line parts.1)
 
-bare_line : (line : List ℕ) → list_all is_bare line ≡ true → is_without_quotes line ≡ true
-bare_line line bare =
+pub bare_is_readable : (line : List ℕ) → list_all is_bare line ≡ true → is_readable line ≡ true
+bare_is_readable line bare =
     let text = is_utf8-from_IsUtf8 line (IsUtf8-from_ascii line (ascii line bare)) in
-    rw (no_return line bare, no_mark line bare, text, no_quote line bare) refl
-
--- a line of bare bytes, or any line without quotes, is a line without quotes
-pub either_bare : (line : List ℕ) → (list_all is_bare line || is_without_quotes line) ≡ is_without_quotes line
-either_bare line = elim (cases_Bool (list_all is_bare line)) [
-  | inl bare ↦ ap (λ b. b || is_without_quotes line) bare ∙ sym (bare_line line bare)
-  | inr other ↦ ap (λ b. b || is_without_quotes line) other
-]
+    rw (no_return line bare, no_mark line bare, text) refl

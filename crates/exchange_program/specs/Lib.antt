@@ -1,8 +1,6 @@
-pub mod Failures
 pub mod Live
 pub mod Modes
 pub mod Journals
-pub mod Progress
 pub mod Requests
 pub mod Status
 pub mod Wrote

@@ -1,5 +1,6 @@
 -- What each mode of answering command lines writes and tells.
 use Rattle.std.specs.Prelude.{ℕ, List}
+use Rattle.exchange_core.specs.ExchangeState.{ExchangeState}
 use Rattle.exchange_lines.specs.LineSteps.{LineStep, output_of}
 use Rattle.exchange_lines.specs.Output.{line_output, output}
 use Rattle.exchange_lines.specs.Promises.{IsNoText}
@@ -13,6 +14,14 @@ abbrev pub step_in : Mode → LineStep
 step_in Run = line_output
 step_in Quotes = quotes_line
 step_in Guarded = guarded_line
+
+-- a mode, and the exchange
+abbrev pub ModeState : Type 0
+ModeState = Mode × ExchangeState
+
+-- what is written for a line with its number, and the state after it
+abbrev pub mode_step : ℕ → ModeState → List ℕ → List ℕ × ModeState
+mode_step number state line = let now = step_in state.0 number state.1 line in (now.0, (state.0, now.1))
 
 -- what is written for an input
 abbrev pub mode_output : Mode → List ℕ → List ℕ

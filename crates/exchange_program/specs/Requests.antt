@@ -10,18 +10,19 @@ use Rattle.journal_check.specs.declared.reports.Report.TheVariants.{Sound, Fault
 use Rattle.live_lines.specs.Open.{line_limit}
 use Rattle.live_lines.specs.Serving as live_input
 use Rattle.book_proposals.specs.LiveAnswers.{IsWrittenFor}
+use Rattle.port_io.specs.Reads.{LastRead}
 use Rattle.program_words.specs.declared.requests.Journal.{Journal}
 use Rattle.program_words.specs.declared.requests.Request.{Request}
 use Rattle.program_words.specs.declared.requests.Request.TheVariants.{Lines, Check, Sessions, Serve, Propose, Demo}
 use Rattle.program_words.specs.declared.requests.Served.{Served}
 use Rattle.program_words.specs.Requests.{request_of}
 use Rattle.exchange_program.specs.Journals.{report_in, report_line}
-use Rattle.exchange_program.specs.Live.{AnswerFirst, ServedTell, served_output, skips_mark}
+use Rattle.exchange_program.specs.Live.{AnswerFirst, ProposedAt, ServedAt, ServedTell, known_at, served_output, skips_mark}
 use Rattle.exchange_program.specs.Modes.{IsBesideIn, mode_output, step_in}
 use Rattle.command_text.specs.declared.limits.TheConstants.{MAX_INPUT}
 use Rattle.exchange_program.specs.declared.check.TheConstants.{MAX_JOURNAL}
 use Rattle.exchange_program.specs.declared.status.Status.{Status}
-use Rattle.exchange_program.specs.declared.status.Status.TheVariants.{Done, CheckNo}
+use Rattle.exchange_program.specs.declared.status.Status.TheVariants.{Done, ReadFault, CheckNo}
 
 -- ---- the input
 -- how many bytes are read at most, all of them before anything is written: none for a demo. There
@@ -176,6 +177,16 @@ WherePropose Sessions P = Unit {0}
 WherePropose (Serve served) P = Unit {0}
 WherePropose Propose P = P
 WherePropose (Demo seed count) P = Unit {0}
+
+-- what had been written when the source was last read: nothing where all is read first, and else
+-- the answers to the lines that were complete by then
+abbrev pub HadWritten : Request → Option (List ℕ) → Option (List ℕ) → LastRead → Type 0
+HadWritten (Lines mode) left written last = last.written ≡ written
+HadWritten (Check journal) left written last = last.written ≡ written
+HadWritten Sessions left written last = last.written ≡ written
+HadWritten (Serve served) left written last = ServedAt served ReadFault (known_at left written last)
+HadWritten Propose left written last = ProposedAt ReadFault (known_at left written last)
+HadWritten (Demo seed count) left written last = last.written ≡ written
 
 -- a fact of what the words ask for
 abbrev pub WithRequest : List (List ℕ) → (Request → Type 0) → Type 0

@@ -1,16 +1,15 @@
 // The words `check` and `audit`: reply lines in, a report out.
-ghost use Rattle.std.specs.Prelude.{◌≡◌, ◌≤◌, IfOk, OnOk, OnErr, IsErrOf, string_bytes};
+ghost use Rattle.std.specs.Prelude.{◌≡◌, ◌≢◌, Err, IfOk, OnOk, OnErr, IsErrOf, string_bytes};
 ghost use Rattle.std.specs.Io.KnownBytes.{Appends};
 ghost use Rattle.port_io.specs.Faults.{Rose};
 ghost use Rattle.port_io.specs.Writes.{AppendsFront};
 ghost use Rattle.exchange_program.specs.Journals.{report_in as report_is, report_line, report_text_in};
 ghost use Rattle.exchange_program.specs.Requests.{status_by};
 
-use crate::failure::AnswerFailure;
 use crate::status::Status;
 use journal_audit::audit_journal;
 use journal_check::{Report, audit_text, check_journal, text};
-use port_io::{Sink, write_all};
+use port_io::{Sink, Stop, write_all};
 use program_words::Journal;
 use std::alloc::{AllocError, Global};
 
@@ -52,15 +51,16 @@ pub(crate) fn report_on<K: Sink>(
     journal: Journal,
     input: &[u8],
     sink: &mut K,
-) -> Result<Status, AnswerFailure>
+) -> Result<Status, Stop>
     ensures status { IfOk result (λ status. status ≡ status_by (report_is journal input.now)) }
     ensures ok { OnOk result
         (Appends (K.written sink.old) (K.written sink.new) (report_line journal input.now)) }
     ensures front { OnErr result
         (AppendsFront (K.written sink.old) (K.written sink.new) (report_line journal input.now)) }
-    ensures fault { IsErrOf result AnswerFailure.SinkFailed →
+    ensures fault { IsErrOf result Stop.WriteFault →
         Rose (K.faults sink.old) (K.faults sink.new) }
-    ensures later { K.faults sink.old ≤ K.faults sink.new }
+    ensures no_read_fault { result ≢ Err Stop.ReadFault }
+    ensures not_too_long { result ≢ Err Stop.TooLong }
 {
     let report = report_in(alloc, journal, input)?;
     let mut line = text_in(alloc, journal, &report)?;

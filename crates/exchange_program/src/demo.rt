@@ -1,14 +1,13 @@
 // The word `demo`: a made text is run, and its summary written.
-ghost use Rattle.std.specs.Prelude.{◌≤◌, OnOk, OnErr, IsErrOf};
+ghost use Rattle.std.specs.Prelude.{◌≢◌, ◌≤◌, Err, OnOk, OnErr, IsErrOf};
 ghost use Rattle.std.specs.Io.KnownBytes.{Appends};
 ghost use Rattle.demo_run.specs.Demo.{demo_output};
 ghost use Rattle.port_io.specs.Faults.{Rose};
 ghost use Rattle.port_io.specs.Writes.{AppendsFront};
 ghost use Rattle.program_words.specs.declared.requests.TheConstants.{MAX_DEMO_ORDERS};
 
-use crate::failure::AnswerFailure;
 use demo_run::demo;
-use port_io::{Sink, write_all};
+use port_io::{Sink, Stop, write_all};
 use std::alloc::Global;
 
 // Writes the summary of the demo of a seed and a number of orders.
@@ -17,15 +16,16 @@ pub(crate) fn write_demo<K: Sink>(
     seed: u32,
     count: u32,
     sink: &mut K,
-) -> Result<(), AnswerFailure>
+) -> Result<(), Stop>
     requires { (1 ≤ count) × (count ≤ MAX_DEMO_ORDERS) }
     ensures ok { OnOk result
         (Appends (K.written sink.old) (K.written sink.new) (demo_output seed count)) }
     ensures front { OnErr result
         (AppendsFront (K.written sink.old) (K.written sink.new) (demo_output seed count)) }
-    ensures fault { IsErrOf result AnswerFailure.SinkFailed →
+    ensures fault { IsErrOf result Stop.WriteFault →
         Rose (K.faults sink.old) (K.faults sink.new) }
-    ensures later { K.faults sink.old ≤ K.faults sink.new }
+    ensures no_read_fault { result ≢ Err Stop.ReadFault }
+    ensures not_too_long { result ≢ Err Stop.TooLong }
 {
     let summary = demo(alloc, seed, count)?;
     write_all(sink, summary.as_bytes())?;

@@ -3,10 +3,8 @@
 
 mod check;
 mod demo;
-mod failure;
-mod lines;
 mod live;
-mod modes;
+mod mode_lines;
 mod program;
 mod proposing;
 mod serving;

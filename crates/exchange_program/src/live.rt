@@ -2,26 +2,26 @@
 ghost use Rattle.std.specs.Prelude.{◌≡◌, ◌⊎◌, IfSome};
 ghost use Rattle.port_io.specs.Writes.{AppendsFront};
 ghost use Rattle.live_lines.specs.Output.{output_of};
-ghost use Rattle.exchange_program.specs.Live.{HasItsCause, ServedAt, ServedBy, served_output, skips_mark, status_at};
+ghost use Rattle.exchange_program.specs.Live.{HasItsCause, ServedAt, ServedBy, known_at, served_output, skips_mark, status_at};
 
 use crate::status::Status;
-use live_lines::{Ended, LineSteps};
-use port_io::{Sink, Source};
+use live_lines::LineSteps;
+use port_io::{Sink, Source, Stop};
 use program_words::Served;
 use proposal_lines::ProposalLines;
 use session_lines::SessionLines;
 use std::alloc::Global;
 
 // How the answers ended, as a status.
-pub(crate) fn status_at(end: Ended) -> Status
-    ensures { result ≡ status_at end }
+pub(crate) fn status_at(ended: Result<(), Stop>) -> Status
+    ensures { result ≡ status_at ended }
 {
-    match end {
-        Ended::Done => Status::Done,
-        Ended::ReadFault => Status::ReadFault,
-        Ended::WriteFault => Status::WriteFault,
-        Ended::TooLong => Status::TooLong,
-        Ended::Memory => Status::Memory,
+    match ended {
+        Ok(()) => Status::Done,
+        Err(Stop::ReadFault) => Status::ReadFault,
+        Err(Stop::WriteFault) => Status::WriteFault,
+        Err(Stop::TooLong) => Status::TooLong,
+        Err(Stop::Memory) => Status::Memory,
     }
 }
 
@@ -40,6 +40,9 @@ fn answer_by<A: LineSteps + Drop, S: Source, K: Sink>(
       written = K.written sink.old;
       writes = K.written sink.new;
     }) }
+    ensures in_time { IfSome (S.last_read source.new) (λ last.
+        ServedBy A.step skips answers Status.ReadFault
+        (known_at (S.left source.old) (K.written sink.old) last)) }
     ensures cause { HasItsCause skips (S.left source.old)
         (S.faults source.old, S.faults source.new) (S.taken source.old, S.taken source.new)
         (K.faults sink.old, K.faults sink.new) result }
@@ -47,8 +50,7 @@ fn answer_by<A: LineSteps + Drop, S: Source, K: Sink>(
         IfSome (S.left source.old) (λ input. AppendsFront (K.written sink.old) (K.written sink.new)
         (output_of A.step skips answers input)) }
 {
-    let end = live_lines::serve(alloc, answers, skips, source, sink);
-    status_at(end)
+    status_at(live_lines::serve(alloc, answers, skips, source, sink))
 }
 
 // Answers all lines or messages that are left. At the start of messages no byte is skipped.
@@ -64,6 +66,9 @@ pub(crate) fn answer_live<S: Source, K: Sink>(
       written = K.written sink.old;
       writes = K.written sink.new;
     }) }
+    ensures in_time { IfSome (S.last_read source.new) (λ last.
+        ServedAt served Status.ReadFault
+        (known_at (S.left source.old) (K.written sink.old) last)) }
     ensures cause { HasItsCause (skips_mark served) (S.left source.old)
         (S.faults source.old, S.faults source.new) (S.taken source.old, S.taken source.new)
         (K.faults sink.old, K.faults sink.new) result }

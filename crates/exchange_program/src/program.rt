@@ -7,14 +7,14 @@ ghost use Rattle.port_io.specs.Reads.{TakesUpTo};
 ghost use Rattle.port_io.specs.Writes.{AppendsFront};
 ghost use Rattle.journal_check.specs.JournalLines.{lines_of};
 ghost use Rattle.program_words.specs.Requests.{request_of};
-ghost use Rattle.exchange_program.specs.Live.{ProposedAt, ServedAt};
+ghost use Rattle.exchange_program.specs.Live.{ProposedAt, ServedAt, ToldAt};
 ghost use Rattle.exchange_program.specs.Journals.{IsSoundIn, NamesFault};
-ghost use Rattle.exchange_program.specs.Requests.{WithRequest, HasEnded, IsCheck, IsInputWithin, IsPastLimit, IsReadFirst, IsReadWhole, OfInput, OfOutput, OfSomeInput, Promised, PromisedFront, WhereCheck, WhereDemo, WherePropose, WhereServe, WithLimit, past_size, status_for};
+ghost use Rattle.exchange_program.specs.Requests.{WithRequest, HadWritten, HasEnded, IsCheck, IsInputWithin, IsPastLimit, IsReadFirst, IsReadWhole, OfInput, OfOutput, OfSomeInput, Promised, PromisedFront, WhereCheck, WhereDemo, WherePropose, WhereServe, WithLimit, past_size, status_for};
 ghost use Rattle.exchange_program.specs.Wrote.{Wrote, WroteFront};
 
 use crate::live::answer_live;
 use crate::proposing::propose;
-use crate::serving::serve;
+use crate::serving::answer_whole_input;
 use crate::status::Status;
 use port_io::{Sink, Source};
 use program_words::{Request, WordsFault, request};
@@ -22,7 +22,7 @@ use std::alloc::Global;
 
 /// Runs the program on the words after its name.
 ///
-/// `run` reads commands to their end and writes a reply line for each, by one `write_all`. `quotes`
+/// `run` reads commands to their end and writes a reply line for each. `quotes`
 /// does the same and also answers at which prices a further order raises the greatest surplus.
 /// `guarded` does the same as `run` and also answers which liability covers an account's positions,
 /// and it refuses a withdrawal below what the account needs. `check` reads reply lines to their end
@@ -119,8 +119,14 @@ pub fn exchange<S: Source, K: Sink>(
         OfInput request (S.left source.old) (λ input.
         WithLimit request (λ limit. length input ≤ limit))) }
 
-    // Between two reads the output of the complete lines was written, so it is at each status what
-    // it was then.
+    // When the source was last read nothing had been written, or, by `serve` and `propose`, the
+    // answers to the lines that were complete by then. Which read is the last is not known before
+    // it, so this is so at each.
+    ensures in_time { S.last_read source.old ≡ None →
+        WithRequest (map string_bytes words.now) (λ request. IfSome (S.last_read source.new)
+        (HadWritten request (S.left source.old) (K.written sink.old))) }
+
+    // At each status the output of the lines that were answered is written.
     ensures served { WithRequest (map string_bytes words.now) (λ request.
         WhereServe request (λ served. ServedAt served result (record {
           left = S.left source.old;
@@ -129,9 +135,16 @@ pub fn exchange<S: Source, K: Sink>(
           writes = K.written sink.new;
         }))) }
 
-    // Each proposal is judged a bound for the book that a line tells. What is written at the end is
-    // said here; that it is written before the next read is said of `turn`, which follows each
-    // read.
+    // And it keeps what is promised of these lines.
+    ensures served_told { WithRequest (map string_bytes words.now) (λ request.
+        WhereServe request (λ served. ToldAt served result (record {
+          left = S.left source.old;
+          still = S.left source.new;
+          written = K.written sink.old;
+          writes = K.written sink.new;
+        }))) }
+
+    // Each proposal is judged a bound for the book that a line tells.
     ensures proposed { WithRequest (map string_bytes words.now) (λ request.
         WherePropose request (ProposedAt result (record {
           left = S.left source.old;
@@ -150,7 +163,7 @@ pub fn exchange<S: Source, K: Sink>(
     match request(alloc, words) {
         Ok(Request::Serve(served)) => answer_live(alloc, served, source, sink),
         Ok(Request::Propose) => propose(alloc, source, sink),
-        Ok(request) => serve(alloc, request, source, sink),
+        Ok(request) => answer_whole_input(alloc, request, source, sink),
         Err(WordsFault::Usage) => Status::Usage,
         Err(WordsFault::Memory) => Status::Memory,
     }

@@ -1,7 +1,7 @@
 // The word `propose`: reply lines in, a proposal out for each that tells a book.
 ghost use Rattle.std.specs.Prelude.{◌≡◌, ◌⊎◌, IfSome, true};
 ghost use Rattle.book_proposals.specs.Proposing.{WroteFrontOf};
-ghost use Rattle.exchange_program.specs.Live.{HasItsCause, ProposedAt};
+ghost use Rattle.exchange_program.specs.Live.{HasItsCause, ProposedAt, known_at};
 
 use crate::live::status_at;
 use crate::status::Status;
@@ -17,6 +17,8 @@ pub(crate) fn propose<S: Source, K: Sink>(alloc: Global, source: &mut S, sink: &
       written = K.written sink.old;
       writes = K.written sink.new;
     }) }
+    ensures in_time { IfSome (S.last_read source.new) (λ last. ProposedAt Status.ReadFault
+        (known_at (S.left source.old) (K.written sink.old) last)) }
     ensures cause { HasItsCause true (S.left source.old)
         (S.faults source.old, S.faults source.new) (S.taken source.old, S.taken source.new)
         (K.faults sink.old, K.faults sink.new) result }
@@ -28,6 +30,5 @@ pub(crate) fn propose<S: Source, K: Sink>(alloc: Global, source: &mut S, sink: &
           writes = K.written sink.new;
         })) }
 {
-    let end = propose_live(alloc, source, sink);
-    status_at(end)
+    status_at(propose_live(alloc, source, sink))
 }

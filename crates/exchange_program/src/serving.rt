@@ -1,5 +1,5 @@
 // What the program does for a request.
-ghost use Rattle.std.specs.Prelude.{◌≡◌, ◌≢◌, ◌⊎◌, ◌≤◌, ◌<◌, ◌+◌, IfOk, IfSome, IsErrOf, OnErr, OnOk, length};
+ghost use Rattle.std.specs.Prelude.{◌≡◌, ◌≢◌, ◌⊎◌, ◌≤◌, ◌<◌, ◌+◌, Err, None, IfOk, IfSome, IsErrOf, OnErr, OnOk, length};
 ghost use Rattle.std.specs.List.{All};
 ghost use Rattle.std.specs.Io.KnownBytes.{Appends};
 ghost use Rattle.port_io.specs.Faults.{Rose, raised_by};
@@ -13,17 +13,22 @@ ghost use Rattle.exchange_program.specs.Wrote.{Wrote, WroteFront};
 
 use crate::check::{MAX_JOURNAL, report_on};
 use crate::demo::write_demo;
-use crate::failure::AnswerFailure;
-use crate::lines::answer_lines;
+use crate::mode_lines::ModeLines;
 use crate::status::Status;
 use command_text::MAX_INPUT;
 use exchange_sessions::answer_messages;
-use port_io::{ReadStop, Sink, Source, read_all};
+use live_lines::answer_whole;
+use port_io::{Sink, Source, Stop, read_all};
 use program_words::Request;
 use std::alloc::Global;
 
 // The bytes that the request is about: those that were left, or none.
-fn input_of<S: Source>(alloc: Global, request: Request, source: &mut S) -> Result<Vec<u8>, ReadStop>
+fn input_of<S: Source, K: Sink>(
+    alloc: Global,
+    request: Request,
+    source: &mut S,
+    sink: &K,
+) -> Result<Vec<u8>, Stop>
     requires { IsReadFirst request }
     ensures all { IfOk result (λ bytes.
         OfInput request (S.left source.old) (λ input. bytes.items ≡ input)) }
@@ -32,22 +37,25 @@ fn input_of<S: Source>(alloc: Global, request: Request, source: &mut S) -> Resul
         WithLimit request (λ limit. length bytes.items ≤ limit)) }
     ensures calm { OnOk result (S.faults source.new ≡ S.faults source.old) }
     ensures unread { WhereDemo request (source.new ≡ source.old) }
-    ensures no_fault { IsErrOf result ReadStop.ReadFault → WhereDemo request ⊥ }
-    ensures fault { IsErrOf result ReadStop.ReadFault →
+    ensures no_fault { IsErrOf result Stop.ReadFault → WhereDemo request ⊥ }
+    ensures fault { IsErrOf result Stop.ReadFault →
         Rose (S.faults source.old) (S.faults source.new) }
-    ensures in_time { IsErrOf result ReadStop.ReadFault → WithLimit request (λ limit.
+    ensures in_time { IsErrOf result Stop.ReadFault → WithLimit request (λ limit.
         (S.taken source.new ≤ S.taken source.old + limit)
         × TakesUpTo (S.left source.old) (S.left source.new) limit) }
-    ensures too_long { IsErrOf result ReadStop.TooLong →
+    ensures too_long { IsErrOf result Stop.TooLong →
         OfInput request (S.left source.old) (IsPastLimit request) }
-    ensures no_fault_before { IsErrOf result ReadStop.TooLong →
+    ensures no_fault_before { IsErrOf result Stop.TooLong →
         S.faults source.new ≡ S.faults source.old }
-    ensures too_many { IsErrOf result ReadStop.TooLong →
+    ensures too_many { IsErrOf result Stop.TooLong →
         raised_by (S.taken source.old) (past_size request) ≤ S.taken source.new }
+    ensures no_write_fault { result ≢ Err Stop.WriteFault }
+    ensures silent { S.last_read source.old ≡ None → IfSome (S.last_read source.new) (λ last.
+        last.written ≡ K.written sink.now) }
 {
     match request {
-        Request::Lines(_) | Request::Sessions => read_all(alloc, source, MAX_INPUT),
-        Request::Check(_) => read_all(alloc, source, MAX_JOURNAL),
+        Request::Lines(_) | Request::Sessions => read_all(alloc, source, sink, MAX_INPUT),
+        Request::Check(_) => read_all(alloc, source, sink, MAX_JOURNAL),
         Request::Demo { .. } => Ok(Vec::new(alloc)),
         Request::Serve(_) | Request::Propose => unreachable!(),
     }
@@ -59,7 +67,7 @@ fn respond<K: Sink>(
     request: Request,
     input: &[u8],
     sink: &mut K,
-) -> Result<Status, AnswerFailure>
+) -> Result<Status, Stop>
     requires asked { IsRequestWithin request }
     requires first { IsReadFirst request }
     requires within { WithLimit request (λ limit. length input.now ≤ limit) }
@@ -68,12 +76,14 @@ fn respond<K: Sink>(
         (OfOutput request input.now (Appends (K.written sink.old) (K.written sink.new))) }
     ensures front { OnErr result
         (OfOutput request input.now (AppendsFront (K.written sink.old) (K.written sink.new))) }
-    ensures fault { IsErrOf result AnswerFailure.SinkFailed →
+    ensures fault { IsErrOf result Stop.WriteFault →
         Rose (K.faults sink.old) (K.faults sink.new) }
+    ensures no_read_fault { result ≢ Err Stop.ReadFault }
+    ensures not_too_long { result ≢ Err Stop.TooLong }
 {
     match request {
         Request::Lines(mode) => {
-            answer_lines(alloc, mode, input, sink)?;
+            answer_whole(alloc, ModeLines::new(alloc, mode), true, input, sink)?;
             Ok(Status::Done)
         }
         Request::Check(journal) => report_on(alloc, journal, input, sink),
@@ -90,7 +100,7 @@ fn respond<K: Sink>(
 }
 
 // Reads the input of a request, and then writes what it asks for.
-pub(crate) fn serve<S: Source, K: Sink>(
+pub(crate) fn answer_whole_input<S: Source, K: Sink>(
     alloc: Global,
     request: Request,
     source: &mut S,
@@ -129,6 +139,10 @@ pub(crate) fn serve<S: Source, K: Sink>(
     ensures check_alone { result ≡ Status.CheckNo →
         IsCheck request }
 
+    // When the source was last read nothing had been written.
+    ensures in_time { S.last_read source.old ≡ None → IfSome (S.last_read source.new) (λ last.
+        last.written ≡ K.written sink.old) }
+
     // A demo reads nothing, so no read of it fails.
     ensures unread { WhereDemo request (source.new ≡ source.old) }
     ensures no_read_fault { result ≡ Status.ReadFault →
@@ -159,15 +173,17 @@ pub(crate) fn serve<S: Source, K: Sink>(
         ¬ Rose (K.faults sink.old) (K.faults sink.new) →
         HasEnded result ⊎ (result ≡ Status.Memory) }
 {
-    let input = match input_of(alloc, request, source) {
+    let input = match input_of(alloc, request, source, sink) {
         Ok(input) => input,
-        Err(ReadStop::ReadFault) => return Status::ReadFault,
-        Err(ReadStop::TooLong) => return Status::TooLong,
-        Err(ReadStop::Memory) => return Status::Memory,
+        Err(Stop::ReadFault) => return Status::ReadFault,
+        Err(Stop::WriteFault) => unreachable!(),
+        Err(Stop::TooLong) => return Status::TooLong,
+        Err(Stop::Memory) => return Status::Memory,
     };
     match respond(alloc, request, &input, sink) {
         Ok(status) => status,
-        Err(AnswerFailure::SinkFailed) => Status::WriteFault,
-        Err(AnswerFailure::OutOfMemory) => Status::Memory,
+        Err(Stop::WriteFault) => Status::WriteFault,
+        Err(Stop::ReadFault | Stop::TooLong) => unreachable!(),
+        Err(Stop::Memory) => Status::Memory,
     }
 }

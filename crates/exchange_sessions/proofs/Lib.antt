@@ -1,2 +1,1 @@
 pub mod TellLaws
-pub mod Written

@@ -1,5 +1,5 @@
 //! The answers to the messages of an input.
-ghost use Rattle.std.specs.Prelude.{◌≡◌, ◌≢◌, ◌≤◌, length, OnOk, OnErr, IsErrOf};
+ghost use Rattle.std.specs.Prelude.{◌≡◌, ◌≢◌, ◌≤◌, Err, length, OnOk, OnErr, IsErrOf};
 ghost use Rattle.std.specs.Io.KnownBytes.{Appends};
 ghost use Rattle.port_io.specs.Faults.{Rose};
 ghost use Rattle.port_io.specs.Writes.{AppendsFront};
@@ -7,23 +7,10 @@ ghost use Rattle.exchange_sessions.specs.Answers.{sessions_output};
 ghost use Rattle.command_text.specs.declared.limits.TheConstants.{MAX_INPUT};
 
 use crate::run_lines::RunLines;
-use crate::stop::AnswerStop;
-use live_lines::{Live, LiveStop};
-use port_io::Sink;
+use live_lines::answer_whole;
+use port_io::{Sink, Stop};
 use session_lines::SessionLines;
 use std::alloc::Global;
-
-// Why the answers ended, where no line was too long.
-fn stop_of(stop: LiveStop) -> AnswerStop
-    requires { stop ≢ LiveStop.TooLong }
-    ensures { result ≡ AnswerStop.WriteFault → stop ≡ LiveStop.WriteFault }
-{
-    match stop {
-        LiveStop::WriteFault => AnswerStop::WriteFault,
-        LiveStop::TooLong => unreachable!(),
-        LiveStop::Memory => AnswerStop::Memory,
-    }
-}
 
 /// Answers the messages of an input to one new exchange.
 ///
@@ -34,23 +21,17 @@ fn stop_of(stop: LiveStop) -> AnswerStop
 ///
 /// `WriteFault` at the first fault of the sink, and `Memory` where there was none. A front of the
 /// output was then written.
-pub fn answer_messages<K: Sink>(alloc: Global, input: &[u8], sink: &mut K) -> Result<(), AnswerStop>
+pub fn answer_messages<K: Sink>(alloc: Global, input: &[u8], sink: &mut K) -> Result<(), Stop>
     requires { length input.now ≤ MAX_INPUT }
     ensures ok { OnOk result
         (Appends (K.written sink.old) (K.written sink.new) (sessions_output input.now)) }
-    ensures calm { OnOk result (K.faults sink.new ≡ K.faults sink.old) }
     ensures front { OnErr result
         (AppendsFront (K.written sink.old) (K.written sink.new) (sessions_output input.now)) }
-    ensures fault { IsErrOf result AnswerStop.WriteFault →
+    ensures fault { IsErrOf result Stop.WriteFault →
         Rose (K.faults sink.old) (K.faults sink.new) }
+    ensures no_read_fault { result ≢ Err Stop.ReadFault }
+    ensures not_too_long { result ≢ Err Stop.TooLong }
 {
-    let sessions = SessionLines::new(alloc, RunLines::new(alloc));
-    let mut live = Live::new(alloc, sessions, false);
-    if let Err(stop) = live.take(alloc, input, sink) {
-        return Err(stop_of(stop));
-    }
-    match live.finish(alloc, sink) {
-        Ok(()) => Ok(()),
-        Err(stop) => Err(stop_of(stop)),
-    }
+    let messages = SessionLines::new(alloc, RunLines::new(alloc));
+    answer_whole(alloc, messages, false, input, sink)
 }

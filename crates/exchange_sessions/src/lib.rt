@@ -5,7 +5,5 @@
 mod answers;
 pub mod laws;
 mod run_lines;
-mod stop;
 
 pub use answers::answer_messages;
-pub use stop::AnswerStop;

@@ -52,7 +52,7 @@ fn request_or_syntax(alloc: Global, line: &[u8]) -> Result<GuardedBody, AllocErr
     ensures { IfOk result (λ body. body ≡ guarded_body_of line.now) }
 {
     match line_fields(alloc, line)? {
-        Some(fields) => Ok(said(&fields.first(alloc)?)),
+        Some(fields) => Ok(said(&fields)),
         None => Ok(GuardedBody::Plain(Body::Syntax)),
     }
 }

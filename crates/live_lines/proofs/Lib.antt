@@ -2,6 +2,7 @@ pub mod Cuts
 pub mod FirstByte
 pub mod Fronts
 pub mod OneLine
+pub mod OnePiece
 pub mod Outputs
 pub mod Pieces
 pub mod Places

@@ -1,18 +1,20 @@
 -- How the answers to an input go on, and how they end.
-use Rattle.std.proofs.Common.{◌≡◌, ◌≤◌, ◌<◌, ◌⊎◌, ℕ, zero, suc, ◌+◌, ◌-◌, ◌*◌, List, [], ◌∷◌, ◌++◌, Bool, true, false, ◌==◌, length, drop, refl, sym, ap, ◌∙◌, subst, inl, inr, arith, append-nil, append_assoc, length-append, length-drop, Option, Some, None, IfSome, if◌then◌else◌}
+use Rattle.std.proofs.Common.{◌≡◌, ◌≤◌, ◌<◌, ◌⊎◌, ℕ, zero, suc, ◌+◌, ◌-◌, ◌*◌, List, [], ◌∷◌, ◌++◌, Bool, true, false, ◌==◌, length, drop, refl, sym, ap, ◌∙◌, subst, inl, inr, arith, append-nil, append_assoc, length-append, length-drop, Option, Some, None, IfSome, Result, Ok, Err, IsOk, OnErr, OnOk, if◌then◌else◌}
 use Rattle.std.proofs.KnownBytes.{Appends-nil, Appends-trans, Consumes-kept, Consumes-nil, Consumes-trans}
 use Rattle.std.specs.Io.KnownBytes.{Appends, Consumes, IsAtEnd, Keeps}
 use Rattle.std.specs.Prelude.{IsSomeAnd}
+use Rattle.std.proofs.lemmas.Option.{IfSome_then}
 use Rattle.port_io.specs.Faults.{Rose, last_count, raised_by}
+use Rattle.port_io.specs.Reads.{LastRead, WasReadAt}
 use Rattle.command_text.specs.Fields.{begins_with_mark}
 use Rattle.command_text.specs.Lines.{mark_size}
 use Rattle.command_text.proofs.LineParts.{cut}
 use Rattle.live_lines.specs.Answering.{Answering, IsLastAnswer, IsOutput}
 use Rattle.live_lines.specs.Open.{Open, count_limit, line_limit, new_open, unmarked}
-use Rattle.live_lines.specs.Serving.{AnsweredBefore, AnsweredLines, AnsweredSome, Counts, Ends, IsInputWithin, Known, OfAll, OfBefore, OfLines, OfSome, TookAll, Wrote, WroteFirst, piece_limit}
+use Rattle.live_lines.specs.Serving.{AnsweredAll, AnsweredBefore, AnsweredInTime, AnsweredLines, AnsweredSome, Counts, Ends, IsInputWithin, Known, OfAll, OfBefore, OfLines, OfSome, TookAll, Wrote, WroteFirst, piece_limit}
 use Rattle.live_lines.specs.Taken.{AreWithin, IsOpenWithin, Took, with_feeds}
-use Rattle.live_lines.specs.declared.ended.Ended.{Ended}
-use Rattle.live_lines.specs.declared.ended.Ended.TheVariants as ended
+use Rattle.port_io.specs.declared.stop.Stop.{Stop}
+use Rattle.port_io.specs.declared.stop.Stop.TheVariants.{ReadFault, WriteFault, TooLong, Memory}
 use Rattle.live_lines.proofs.Cuts.{cut_lines}
 use Rattle.live_lines.proofs.Fronts.{front_behind, whole_front}
 use Rattle.live_lines.proofs.Outputs.{alone_lines, lines_alone, lines_written, whole_output}
@@ -77,7 +79,7 @@ module _ {S : Type 0} (Answers : Answering S) where
   module _ (old state : S) (first line : Open) (left still written writes : Option (List ℕ)) (read reads write writers taken takes : ℕ)
       (came : Came Answers old first state line (known_of left still written writes) (counts_of read reads write writers taken takes)) where
     pub came_more : (after : S) (next : Open) (stays adds : Option (List ℕ)) (r w t limit : ℕ)
-        → ReadsTo Answers state line after next limit (known_of still stays writes adds) (counts_of reads r writers w takes t) None
+        → ReadsTo Answers state line after next limit (known_of still stays writes adds) (counts_of reads r writers w takes t) (Ok true)
         → Came Answers old first after next (known_of left stays written adds) (counts_of read r write w taken t)
     came_more after next stays adds r w t limit on = let more = on.0 in record {
       bytes = came.bytes ++ more.bytes;
@@ -163,21 +165,37 @@ module _ {S : Type 0} (Answers : Answering S) (skips : Bool) (start state : S) (
     ]
   ]
 
-  pub ends_after : (after : S) (next : Open) (stays adds : Option (List ℕ)) (r w t limit : ℕ) (e : Ended) → limit ≤ piece_limit
-      → ReadsTo Answers state line after next limit (known_of still stays writes adds) (counts_of reads r writers w takes t) (Some e)
-      → Ends Answers skips start (known_of left stays written adds) (counts_of read r write w taken t) e
-  ends_after after next stays adds r w t limit ended.Done low turn =
+  pub ends_after : (after : S) (next : Open) (stays adds : Option (List ℕ)) (r w t limit : ℕ)
+      → ReadsTo Answers state line after next limit (known_of still stays writes adds) (counts_of reads r writers w takes t) (Ok false)
+      → Ends Answers skips start (known_of left stays written adds) (counts_of read r write w taken t) (Ok tt)
+  ends_after after next stays adds r w t limit turn =
       let last = turn.1 in (
         came.bytes,
         all_taken stays adds turn.0,
         took_within Answers skips start state line came.bytes came.text came.took,
         (came.text ++ last.0, whole last.0 last.1, Appends-trans written writes adds came.text last.0 came.wrote last.2),
       )
-  ends_after after next stays adds r w t limit ended.ReadFault low turn = (lines_after stays adds turn.0 turn.1, subst (λ n. Rose n r) came.read_calm turn.2)
-  ends_after after next stays adds r w t limit ended.WriteFault low turn = (front_after stays adds turn.0, subst (λ n. Rose n w) came.write_calm turn.1)
-  ends_after after next stays adds r w t limit ended.TooLong low turn =
+
+  pub stops_after : (after : S) (next : Open) (stays adds : Option (List ℕ)) (r w t limit : ℕ) (e : Stop) → limit ≤ piece_limit
+      → ReadsTo Answers state line after next limit (known_of still stays writes adds) (counts_of reads r writers w takes t) (Err e)
+      → Ends Answers skips start (known_of left stays written adds) (counts_of read r write w taken t) (Err e)
+  stops_after after next stays adds r w t limit ReadFault low turn = (lines_after stays adds turn.0 turn.1, subst (λ n. Rose n r) came.read_calm turn.2)
+  stops_after after next stays adds r w t limit WriteFault low turn = (front_after stays adds turn.0, subst (λ n. Rose n w) came.write_calm turn.1)
+  stops_after after next stays adds r w t limit TooLong low turn =
       let long = long_after stays adds r w t limit low turn.0 in (long.0, turn.1 ∙ came.read_calm, long.1)
-  ends_after after next stays adds r w t limit ended.Memory low turn = front_after stays adds turn
+  stops_after after next stays adds r w t limit Memory low turn = front_after stays adds turn
+
+  -- and how it stood before the read
+  pub in_time : (last : Option LastRead) → WasReadAt last still writes → AnsweredInTime Answers skips start left written last
+  in_time last was = IfSome_then last was (λ now is.
+      subst (λ (n : LastRead). AnsweredLines Answers skips start (known_of left n.left written n.written)) (sym is) (
+        came.took.lines,
+        line.rest,
+        subst (Consumes left still) came.took.split came.gave,
+        came.took.within,
+        came.took.open_within.0,
+        (came.text, lines_written Answers skips start state line came.bytes came.text came.took, came.wrote),
+      ))
 
 -- ---- each piece makes the rest smaller
 size_if : (b : Bool) (n : ℕ) (line : List ℕ) → n ≤ 3 → length line ≤ length (if b then drop n line else line) + 3
@@ -232,6 +250,14 @@ not_within None P none some = some
 not_within (Some input) P none some = none some
 
 -- ---- what is said of the bytes
+pub ok_then : {T E : Type 0} (r : Result T E) {P Q : Type 0} → OnOk r P → (P → Q) → OnOk r Q
+ok_then (Ok _) h so = so h
+ok_then (Err _) h so = tt
+
+pub err_then : {T E : Type 0} (r : Result T E) {P Q : Type 0} → OnErr r P → (P → Q) → OnErr r Q
+err_then (Ok _) h so = tt
+err_then (Err _) h so = so h
+
 -- by what it implies
 module _ (skips : Bool) (known : Known) (P Q : List ℕ → Type 0) (implies : (bytes : List ℕ) → P bytes → Q bytes) where
   pub all_so : OfAll skips known P → OfAll skips known Q
@@ -256,22 +282,34 @@ said_of_all skips known P h = of_whole known.left h.0 (known.still ≡ Some []) 
 -- ---- what the ends say
 module _ {S : Type 0} (Answers : Answering S) (skips : Bool) (start : S) (known : Known) (counts : Counts) where
   -- from the line and the answers that stand at the start
-  pub ends_from : (line : Open) (answers : S) (e : Ended) → line ≡ new_open skips → answers ≡ start
+  pub ends_from : (line : Open) (answers : S) (e : Result (Unit {0}) Stop) → line ≡ new_open skips → answers ≡ start
       → Ends Answers line.skips answers known counts e → Ends Answers skips start known counts e
   ends_from line answers e is same h = subst (λ a. Ends Answers skips a known counts e) same (subst (λ (l : Open). Ends Answers l.skips answers known counts e) is h)
 
-  module _ (e : Ended) (h : Ends Answers skips start known counts e) where
-    pub all : e ≡ ended.Done → IfSome known.left (λ input. (known.still ≡ Some []) × Wrote Answers skips start known input)
-    all is = said_of_all skips known (Wrote Answers skips start known) (subst (Ends Answers skips start known counts) is h)
+  pub in_time_from : (line : Open) (answers : S) (last : Option LastRead) → line ≡ new_open skips → answers ≡ start
+      → AnsweredInTime Answers line.skips answers known.left known.written last → AnsweredInTime Answers skips start known.left known.written last
+  in_time_from line answers last is same h =
+      subst (λ a. AnsweredInTime Answers skips a known.left known.written last) same
+      (subst (λ (l : Open). AnsweredInTime Answers l.skips answers known.left known.written last) is h)
 
-    pub front : (e ≡ ended.WriteFault) ⊎ (e ≡ ended.Memory) → AnsweredSome Answers skips start known
+  pub done : (e : Result (Unit {0}) Stop) → Ends Answers skips start known counts e → OnOk e (AnsweredAll Answers skips start known)
+  done (Ok _) h = h
+  done (Err _) h = tt
+
+  pub all : (e : Result (Unit {0}) Stop) → Ends Answers skips start known counts e
+      → OnOk e (IfSome known.left (λ input. (known.still ≡ Some []) × Wrote Answers skips start known input))
+  all (Ok _) h = said_of_all skips known (Wrote Answers skips start known) h
+  all (Err _) h = tt
+
+  module _ (e : Result (Unit {0}) Stop) (h : Ends Answers skips start known counts e) where
+    pub front : (e ≡ Err WriteFault) ⊎ (e ≡ Err Memory) → AnsweredSome Answers skips start known
     front which = elim which [
       | inl is ↦ (subst (Ends Answers skips start known counts) is h).0
       | inr is ↦ subst (Ends Answers skips start known counts) is h
     ]
 
     -- it is a front of what is written for the first lines of all bytes that were left
-    pub front_of_all : (e ≡ ended.WriteFault) ⊎ (e ≡ ended.Memory) → IfSome known.left (WroteFirst Answers skips start known)
+    pub front_of_all : (e ≡ Err WriteFault) ⊎ (e ≡ Err Memory) → IfSome known.left (WroteFirst Answers skips start known)
     front_of_all which = elim (front which) [
       | inl some ↦ of_more known.left known.still (with_feeds some.0 ++ some.1) (WroteFirst Answers skips start known) some.2 (λ more.
           let wrote = some.4 in
@@ -282,15 +320,15 @@ module _ {S : Type 0} (Answers : Answering S) (skips : Bool) (start : S) (known 
           (λ none. (all.2.0, (cut all.0, [], all.2.1.0, sym (append-nil (cut all.0)), all.2.1.1), all.2.2))
     ]
 
-    pub past : e ≡ ended.TooLong → IfSome known.left (λ input. ¬ (IsInputWithin skips input))
+    pub past : e ≡ Err TooLong → IfSome known.left (λ input. ¬ (IsInputWithin skips input))
     past is = past_limits skips known.left known.still known.written known.writes (Wrote Answers skips start known) (subst (Ends Answers skips start known counts) is h).0
 
   -- within the limits, and without a fault
-  pub complete : (e : Ended) → Ends Answers skips start known counts e → IsSomeAnd known.left (IsInputWithin skips) → ¬ (Rose counts.read counts.reads)
-      → ¬ (Rose counts.write counts.writes) → (e ≡ ended.Done) ⊎ (e ≡ ended.Memory)
-  complete ended.Done h within r w = inl refl
-  complete ended.ReadFault h within r w = absurd (r h.1)
-  complete ended.WriteFault h within r w = absurd (w h.1)
-  complete ended.TooLong h within r w =
+  pub complete : (e : Result (Unit {0}) Stop) → Ends Answers skips start known counts e → IsSomeAnd known.left (IsInputWithin skips)
+      → ¬ (Rose counts.read counts.reads) → ¬ (Rose counts.write counts.writes) → IsOk e ⊎ (e ≡ Err Memory)
+  complete (Ok _) h within r w = inl refl
+  complete (Err ReadFault) h within r w = absurd (r h.1)
+  complete (Err WriteFault) h within r w = absurd (w h.1)
+  complete (Err TooLong) h within r w =
       absurd (not_within known.left (IsInputWithin skips) (past_limits skips known.left known.still known.written known.writes (Wrote Answers skips start known) h.0) within)
-  complete ended.Memory h within r w = inr refl
+  complete (Err Memory) h within r w = inr refl

@@ -1,5 +1,5 @@
 -- One turn, of which also the read is known: how it leaves what is left to be read.
-use Rattle.std.proofs.Common.{◌≡◌, ◌≤◌, ◌⊎◌, ℕ, List, length, take, refl, sym, ap, ◌∙◌, subst, inl, inr, arith, length-take-le, Option, None, Some}
+use Rattle.std.proofs.Common.{◌≡◌, ◌≤◌, ◌⊎◌, ℕ, List, length, take, refl, sym, ap, ◌∙◌, subst, inl, inr, arith, length-take-le, Option, Result, Ok, Err, Bool, true, false}
 use Rattle.std.specs.Io.KnownBytes.{Appends, Consumes, IsAtEnd, Keeps}
 use Rattle.port_io.specs.Faults.{Rose, raised_by}
 use Rattle.port_io.specs.Reads.{GotWithin, ReadCause, Takes, taken_after}
@@ -7,15 +7,12 @@ use Rattle.port_io.specs.Writes.{AppendsFront}
 use Rattle.port_io.specs.declared.source.ReadAnswer.{ReadAnswer}
 use Rattle.port_io.specs.declared.source.ReadAnswer.TheVariants.{Got, End, Failed}
 use Rattle.live_lines.specs.Answering.{Answering}
-use Rattle.live_lines.specs.Ended.{ended_by}
 use Rattle.live_lines.specs.Open.{Open}
 use Rattle.live_lines.specs.Serving.{Counts, Known}
 use Rattle.live_lines.specs.Taken.{Completes, Stops, Took}
 use Rattle.live_lines.specs.Turns.{BeganLast, BeganLines, TurnsBy, TurnsLast, TurnsTo, WroteLast}
-use Rattle.live_lines.specs.declared.ended.Ended.{Ended}
-use Rattle.live_lines.specs.declared.ended.Ended.TheVariants.{Done, ReadFault, WriteFault, TooLong, Memory}
-use Rattle.live_lines.specs.declared.stop.LiveStop.{LiveStop}
-use Rattle.live_lines.specs.declared.stop.LiveStop.TheVariants as stop
+use Rattle.port_io.specs.declared.stop.Stop.{Stop}
+use Rattle.port_io.specs.declared.stop.Stop.TheVariants.{ReadFault, WriteFault, TooLong, Memory}
 
 -- these bytes came and were counted, what they complete is answered and written, and no call failed
 pub record Came {S : Type 0} (Answers : Answering S) (old : S) (line : Open) (new : S) (next : Open) (known : Known) (counts : Counts) : Type 0 where
@@ -48,39 +45,41 @@ BeganSome Answers old line known =
 
 -- what the read and the turn did together, where at most so many bytes were read: the input goes
 -- on, or ends so
-abbrev pub ReadsTo : {S : Type 0} → Answering S → S → Open → S → Open → ℕ → Known → Counts → Option Ended → Type 0
-ReadsTo Answers old line new next limit known counts None =
+abbrev pub ReadsTo : {S : Type 0} → Answering S → S → Open → S → Open → ℕ → Known → Counts → Result Bool Stop → Type 0
+ReadsTo Answers old line new next limit known counts (Ok true) =
     (came : Came Answers old line new next known counts) × (1 ≤ length came.bytes) × (length came.bytes ≤ limit)
-ReadsTo Answers old line new next limit known counts (Some Done) = IsOver known × WroteLast Answers old line known.written known.writes
-ReadsTo Answers old line new next limit known counts (Some ReadFault) =
+ReadsTo Answers old line new next limit known counts (Ok false) = IsOver known × WroteLast Answers old line known.written known.writes
+ReadsTo Answers old line new next limit known counts (Err ReadFault) =
     Keeps known.left known.still × (known.writes ≡ known.written) × Rose counts.read counts.reads
-ReadsTo Answers old line new next limit known counts (Some WriteFault) = BeganSome Answers old line known × Rose counts.write counts.writes
-ReadsTo Answers old line new next limit known counts (Some TooLong) = TellsTooLong Answers old line limit known counts × (counts.reads ≡ counts.read)
-ReadsTo Answers old line new next limit known counts (Some Memory) = BeganSome Answers old line known
+ReadsTo Answers old line new next limit known counts (Err WriteFault) = BeganSome Answers old line known × Rose counts.write counts.writes
+ReadsTo Answers old line new next limit known counts (Err TooLong) = TellsTooLong Answers old line limit known counts × (counts.reads ≡ counts.read)
+ReadsTo Answers old line new next limit known counts (Err Memory) = BeganSome Answers old line known
 
 module _ {S : Type 0} (Answers : Answering S) (old : S) (line : Open) (new : S) (next : Open) where
-  -- which end a stop makes
-  pub take_stops : (bytes : List ℕ) (written writes : Option (List ℕ)) (fault faults : ℕ) (e : LiveStop)
-      → BeganLines Answers old line bytes written writes → (e ≡ stop.WriteFault → Rose fault faults)
-      → (e ≡ stop.TooLong → (text : List ℕ) × Appends written writes text × Stops Answers old line bytes text)
-      → TurnsBy Answers old line new next bytes written writes fault faults (Some (ended_by e))
-  take_stops bytes written writes fault faults stop.WriteFault began rose long = (rose refl, began)
-  take_stops bytes written writes fault faults stop.TooLong began rose long = long refl
-  take_stops bytes written writes fault faults stop.Memory began rose long = began
+  -- a stop ends it
+  pub take_stops : (bytes : List ℕ) (written writes : Option (List ℕ)) (fault faults : ℕ) (e : Stop)
+      → BeganLines Answers old line bytes written writes → (e ≡ ReadFault → ⊥) → (e ≡ WriteFault → Rose fault faults)
+      → (e ≡ TooLong → (text : List ℕ) × Appends written writes text × Stops Answers old line bytes text)
+      → TurnsBy Answers old line new next bytes written writes fault faults (Err e)
+  take_stops bytes written writes fault faults ReadFault began none rose long = none refl
+  take_stops bytes written writes fault faults WriteFault began none rose long = (rose refl, began)
+  take_stops bytes written writes fault faults TooLong began none rose long = long refl
+  take_stops bytes written writes fault faults Memory began none rose long = began
 
-  pub last_stops : (written writes : Option (List ℕ)) (fault faults : ℕ) (e : LiveStop)
-      → BeganLast Answers old line written writes → (e ≡ stop.WriteFault → Rose fault faults) → (e ≡ stop.TooLong → ⊥)
-      → TurnsLast Answers old line written writes fault faults (Some (ended_by e))
-  last_stops written writes fault faults stop.WriteFault began rose none = (rose refl, began)
-  last_stops written writes fault faults stop.TooLong began rose none = none refl
-  last_stops written writes fault faults stop.Memory began rose none = began
+  pub last_stops : (written writes : Option (List ℕ)) (fault faults : ℕ) (e : Stop)
+      → BeganLast Answers old line written writes → (e ≡ ReadFault → ⊥) → (e ≡ WriteFault → Rose fault faults) → (e ≡ TooLong → ⊥)
+      → TurnsLast Answers old line written writes fault faults (Err e)
+  last_stops written writes fault faults ReadFault began read rose none = read refl
+  last_stops written writes fault faults WriteFault began read rose none = (rose refl, began)
+  last_stops written writes fault faults TooLong began read rose none = none refl
+  last_stops written writes fault faults Memory began read rose none = began
 
   module _ (known : Known) (counts : Counts) where
-    by_bytes : (limit : ℕ) (bytes : List ℕ) (end : Option Ended) → Consumes known.left known.still bytes → 1 ≤ length bytes → length bytes ≤ limit
+    by_bytes : (limit : ℕ) (bytes : List ℕ) (end : Result Bool Stop) → Consumes known.left known.still bytes → 1 ≤ length bytes → length bytes ≤ limit
         → counts.takes ≡ raised_by counts.taken (length bytes) → counts.reads ≡ counts.read
         → TurnsBy Answers old line new next bytes known.written known.writes counts.write counts.writes end
         → ReadsTo Answers old line new next limit known counts end
-    by_bytes limit bytes None gave some low counted calm h = (
+    by_bytes limit bytes (Ok true) gave some low counted calm h = (
       record {
         bytes = bytes;
         text = h.1;
@@ -94,23 +93,23 @@ module _ {S : Type 0} (Answers : Answering S) (old : S) (line : Open) (new : S) 
       some,
       low,
     )
-    by_bytes limit bytes (Some TooLong) gave some low counted calm h = ((bytes, h.0, gave, low, counted, h.1, h.2), calm)
-    by_bytes limit bytes (Some WriteFault) gave some low counted calm h = (inl (bytes, h.1.0, gave, h.1.1, h.1.2), h.0)
-    by_bytes limit bytes (Some Memory) gave some low counted calm h = inl (bytes, h.0, gave, h.1, h.2)
-    by_bytes limit bytes (Some Done) gave some low counted calm h = absurd h
-    by_bytes limit bytes (Some ReadFault) gave some low counted calm h = absurd h
+    by_bytes limit bytes (Err TooLong) gave some low counted calm h = ((bytes, h.0, gave, low, counted, h.1, h.2), calm)
+    by_bytes limit bytes (Err WriteFault) gave some low counted calm h = (inl (bytes, h.1.0, gave, h.1.1, h.1.2), h.0)
+    by_bytes limit bytes (Err Memory) gave some low counted calm h = inl (bytes, h.0, gave, h.1, h.2)
+    by_bytes limit bytes (Ok false) gave some low counted calm h = absurd h
+    by_bytes limit bytes (Err ReadFault) gave some low counted calm h = absurd h
 
-    at_end : (limit : ℕ) (end : Option Ended) → IsOver known → TurnsLast Answers old line known.written known.writes counts.write counts.writes end
+    at_end : (limit : ℕ) (end : Result Bool Stop) → IsOver known → TurnsLast Answers old line known.written known.writes counts.write counts.writes end
         → ReadsTo Answers old line new next limit known counts end
-    at_end limit None over h = absurd h
-    at_end limit (Some Done) over h = (over, h)
-    at_end limit (Some WriteFault) over h = (inr (over, h.1), h.0)
-    at_end limit (Some Memory) over h = inr (over, h)
-    at_end limit (Some TooLong) over h = absurd h
-    at_end limit (Some ReadFault) over h = absurd h
+    at_end limit (Ok true) over h = absurd h
+    at_end limit (Ok false) over h = (over, h)
+    at_end limit (Err WriteFault) over h = (inr (over, h.1), h.0)
+    at_end limit (Err Memory) over h = inr (over, h)
+    at_end limit (Err TooLong) over h = absurd h
+    at_end limit (Err ReadFault) over h = absurd h
 
     -- the read, and the turn by what it told
-    pub reads_to : (buf : List ℕ) (answer : ReadAnswer) (end : Option Ended) → GotWithin answer (length buf) → Takes known.left known.still answer buf
+    pub reads_to : (buf : List ℕ) (answer : ReadAnswer) (end : Result Bool Stop) → GotWithin answer (length buf) → Takes known.left known.still answer buf
         → counts.takes ≡ taken_after counts.taken answer → ReadCause counts.read counts.reads answer
         → TurnsTo Answers old line new next answer buf known.written known.writes counts.write counts.writes end
         → ReadsTo Answers old line new next (length buf) known counts end

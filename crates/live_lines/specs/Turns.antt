@@ -1,15 +1,15 @@
 -- What became of the bytes of a piece, and of what a read told.
-use Rattle.std.specs.Prelude.{◌≡◌, ◌≤◌, ◌⊎◌, ℕ, List, [], ◌++◌, length, take, Option, None, Some}
+use Rattle.std.specs.Prelude.{◌≡◌, ◌≤◌, ◌⊎◌, ℕ, List, [], ◌++◌, length, take, Option, None, Some, Result, Ok, Err, Bool, true, false}
 use Rattle.std.specs.Io.KnownBytes.{Appends}
 use Rattle.port_io.specs.Faults.{Rose}
 use Rattle.port_io.specs.Writes.{AppendsFront}
+use Rattle.port_io.specs.declared.stop.Stop.{Stop}
+use Rattle.port_io.specs.declared.stop.Stop.TheVariants.{ReadFault, WriteFault, TooLong, Memory}
 use Rattle.port_io.specs.declared.source.ReadAnswer.{ReadAnswer}
 use Rattle.port_io.specs.declared.source.ReadAnswer.TheVariants.{Got, End, Failed}
 use Rattle.live_lines.specs.Answering.{Answering, AnswersLine, IsLastAnswer}
 use Rattle.live_lines.specs.Open.{Open, line_text}
 use Rattle.live_lines.specs.Taken.{Completes, Stops, Took}
-use Rattle.live_lines.specs.declared.ended.Ended.{Ended}
-use Rattle.live_lines.specs.declared.ended.Ended.TheVariants.{Done, ReadFault, WriteFault, TooLong, Memory}
 
 -- so many of the bytes were taken, and what is written for them was added to a text; none where
 -- they tell a line that is too long
@@ -44,31 +44,31 @@ BeganLines Answers old line bytes written writes = (text : List ℕ) × AppendsF
 
 -- bytes came: all lines that they complete are answered and the answers written, and the input goes
 -- on; or it ends so
-abbrev pub TurnsBy : {S : Type 0} → Answering S → S → Open → S → Open → List ℕ → Option (List ℕ) → Option (List ℕ) → ℕ → ℕ → Option Ended → Type 0
-TurnsBy Answers old line new next bytes written writes fault faults None =
+abbrev pub TurnsBy : {S : Type 0} → Answering S → S → Open → S → Open → List ℕ → Option (List ℕ) → Option (List ℕ) → ℕ → ℕ → Result Bool Stop → Type 0
+TurnsBy Answers old line new next bytes written writes fault faults (Ok true) =
     (faults ≡ fault) × (text : List ℕ) × Appends written writes text × Took Answers old line new next bytes text
-TurnsBy Answers old line new next bytes written writes fault faults (Some TooLong) =
+TurnsBy Answers old line new next bytes written writes fault faults (Err TooLong) =
     (text : List ℕ) × Appends written writes text × Stops Answers old line bytes text
-TurnsBy Answers old line new next bytes written writes fault faults (Some WriteFault) =
+TurnsBy Answers old line new next bytes written writes fault faults (Err WriteFault) =
     Rose fault faults × BeganLines Answers old line bytes written writes
-TurnsBy Answers old line new next bytes written writes fault faults (Some Memory) = BeganLines Answers old line bytes written writes
-TurnsBy Answers old line new next bytes written writes fault faults (Some Done) = ⊥
-TurnsBy Answers old line new next bytes written writes fault faults (Some ReadFault) = ⊥
+TurnsBy Answers old line new next bytes written writes fault faults (Err Memory) = BeganLines Answers old line bytes written writes
+TurnsBy Answers old line new next bytes written writes fault faults (Ok false) = ⊥
+TurnsBy Answers old line new next bytes written writes fault faults (Err ReadFault) = ⊥
 
 -- no byte is left: the line that is left is answered
-abbrev pub TurnsLast : {S : Type 0} → Answering S → S → Open → Option (List ℕ) → Option (List ℕ) → ℕ → ℕ → Option Ended → Type 0
-TurnsLast Answers old line written writes fault faults None = ⊥
-TurnsLast Answers old line written writes fault faults (Some Done) = WroteLast Answers old line written writes
-TurnsLast Answers old line written writes fault faults (Some WriteFault) = Rose fault faults × BeganLast Answers old line written writes
-TurnsLast Answers old line written writes fault faults (Some Memory) = BeganLast Answers old line written writes
-TurnsLast Answers old line written writes fault faults (Some TooLong) = ⊥
-TurnsLast Answers old line written writes fault faults (Some ReadFault) = ⊥
+abbrev pub TurnsLast : {S : Type 0} → Answering S → S → Open → Option (List ℕ) → Option (List ℕ) → ℕ → ℕ → Result Bool Stop → Type 0
+TurnsLast Answers old line written writes fault faults (Ok true) = ⊥
+TurnsLast Answers old line written writes fault faults (Ok false) = WroteLast Answers old line written writes
+TurnsLast Answers old line written writes fault faults (Err WriteFault) = Rose fault faults × BeganLast Answers old line written writes
+TurnsLast Answers old line written writes fault faults (Err Memory) = BeganLast Answers old line written writes
+TurnsLast Answers old line written writes fault faults (Err TooLong) = ⊥
+TurnsLast Answers old line written writes fault faults (Err ReadFault) = ⊥
 
 -- so many bytes of the buffer, or none: where the read failed, nothing is answered and nothing
 -- written
-abbrev pub TurnsTo : {S : Type 0} → Answering S → S → Open → S → Open → ReadAnswer → List ℕ → Option (List ℕ) → Option (List ℕ) → ℕ → ℕ → Option Ended → Type 0
+abbrev pub TurnsTo : {S : Type 0} → Answering S → S → Open → S → Open → ReadAnswer → List ℕ → Option (List ℕ) → Option (List ℕ) → ℕ → ℕ → Result Bool Stop → Type 0
 TurnsTo Answers old line new next (Got count) buf written writes fault faults end =
     TurnsBy Answers old line new next (take count buf) written writes fault faults end
 TurnsTo Answers old line new next End buf written writes fault faults end = TurnsLast Answers old line written writes fault faults end
 TurnsTo Answers old line new next Failed buf written writes fault faults end =
-    (end ≡ Some ReadFault) × (writes ≡ written) × (new ≡ old) × (next ≡ line)
+    (end ≡ Err ReadFault) × (writes ≡ written) × (new ≡ old) × (next ≡ line)

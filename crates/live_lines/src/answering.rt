@@ -1,5 +1,5 @@
 // The answers to the lines that bytes complete.
-ghost use Rattle.std.specs.Prelude.{◌≡◌, ◌≤◌, ◌<◌, ◌++◌, ℕ, List, length, IfOk, OnErr, OnOk};
+ghost use Rattle.std.specs.Prelude.{◌≡◌, ◌≤◌, ◌<◌, ◌++◌, ℕ, List, length, IfErr, IfOk, OnErr, OnOk};
 ghost use Rattle.std.specs.Io.KnownBytes.{Appends};
 ghost use Rattle.port_io.specs.Faults.{Rose};
 ghost use Rattle.port_io.specs.Writes.{AppendsFront};
@@ -10,7 +10,7 @@ use crate::answers::LineAnswers;
 use crate::limits::MAX_LINES;
 use crate::open_line::OpenLine;
 use memchr::memchr;
-use port_io::{Sink, WriteStop, write_all};
+use port_io::{Sink, Stop, write_all};
 use std::alloc::{AllocError, Global};
 
 // Replies that are so many bytes, or more, are written.
@@ -75,10 +75,11 @@ pub(crate) fn take_line<A: LineAnswers>(
 }
 
 // Writes the replies where they fill a buffer, and takes them out.
-pub(crate) fn write_full<K: Sink>(replies: &mut Vec<u8>, sink: &mut K) -> Result<(), WriteStop>
+pub(crate) fn write_full<K: Sink>(replies: &mut Vec<u8>, sink: &mut K) -> Result<(), Stop>
     ensures ok { OnOk result ((text : List ℕ) × (replies.old.items ≡ text ++ replies.new.items)
         × Appends (K.written sink.old) (K.written sink.new) text) }
     ensures calm { OnOk result (K.faults sink.new ≡ K.faults sink.old) }
+    ensures only { IfErr result (λ stop. stop ≡ Stop.WriteFault) }
     ensures fault { OnErr result (Rose (K.faults sink.old) (K.faults sink.new)) }
     ensures front { OnErr result
         (AppendsFront (K.written sink.old) (K.written sink.new) replies.old.items) }

@@ -24,10 +24,11 @@ use Rattle.option_quotes.specs.Implied.{above_of, asked, landed_at, next_along, 
 use Rattle.option_quotes.specs.Probes.{best_price, gap, is_optimal, is_raised, probe_outcome, with_order, worst_price}
 use Rattle.option_quotes.specs.Quotes.{IsQuote, IsShown}
 use Rattle.option_quotes.specs.Laws.{ImpliedPricesAreThresholds}
-use Rattle.option_quotes.specs.Shown.{IfMarked, IsImplied}
+use Rattle.option_quotes.specs.Shown.{EndsAsProbed, IfMarked, IsImplied}
 use Rattle.option_quotes.specs.Thresholds.{MayBeQuoted, TellPrices, TellsSide}
 use Rattle.option_quotes.proofs.Answered.{best_fits}
 use Rattle.option_quotes.proofs.Beside.{raised_beside}
+use Rattle.option_quotes.proofs.ProbesAlong.{side_ends}
 use Rattle.option_quotes.proofs.Raising.{asked_within, proved, quantity_within, quote_between, quote_never, quote_worst, shown}
 use Rattle.option_quotes.proofs.Walks.{along_fits, along_is_worse, better_fits, better_is_better, better_is_near, then_of, else_of}
 
@@ -188,13 +189,27 @@ module _ (batch : Batch) (form : Form) (quantity limit : ℕ) (may : MayBeQuoted
         | inr not ↦ subst AreImplied (sym (else_of (is_optimal base) _ _ not)) (tt, tt)
       ])
 
+-- the probes of both sides end as they say
+pub prices_are_probed : (batch : Batch) (form : Form) (quantity limit : ℕ) (prices : MarketPrices) → prices ≡ prices_of batch form quantity limit
+    → IfMarked prices (λ base ask bid. EndsAsProbed batch (asked form Buy quantity) limit ask × EndsAsProbed batch (asked form Sell quantity) limit bid)
+unfolding prices_of
+prices_are_probed batch form quantity limit prices is =
+    let base = outcome_of batch limit in
+    let AreProbed : MarketPrices → Type 0 =
+    λ prices. IfMarked prices (λ base ask bid. EndsAsProbed batch (asked form Buy quantity) limit ask × EndsAsProbed batch (asked form Sell quantity) limit bid) in
+    subst AreProbed (sym is) (elim (cases_Bool (is_optimal base)) [
+      | inl optimal ↦
+          subst AreProbed (sym (then_of (is_optimal base) _ _ optimal)) (side_ends batch (asked form Buy quantity) limit, side_ends batch (asked form Sell quantity) limit)
+      | inr not ↦ subst AreProbed (sym (else_of (is_optimal base) _ _ not)) tt
+    ])
+
 -- ---- what is told
 tells : (batch : Batch) (order : Order) (limit : ℕ) (base : Outcome) (found : SidePrice) → IsGreatest batch.underlyings batch.orders (fraction_of base.claim.surplus)
-    → IsImplied batch order limit base found → side_price batch order limit ≡ found → TellsSide batch order limit found
-tells batch order limit base (At price raising beside) greatest is found = (is.1.price_within, fraction_of base.claim.surplus, greatest, is.0)
-tells batch order limit base (Never extreme) greatest is found = (fraction_of base.claim.surplus, greatest, is.none)
-tells batch order limit base (Unmarked price outcome) greatest is found = is
-tells batch order limit base Spent greatest is found = found
+    → IsImplied batch order limit base found → EndsAsProbed batch order limit found → side_price batch order limit ≡ found → TellsSide batch order limit found
+tells batch order limit base (At price raising beside) greatest is probed found = ((is.1.price_within, fraction_of base.claim.surplus, greatest, is.0), probed.ends)
+tells batch order limit base (Never extreme) greatest is probed found = ((fraction_of base.claim.surplus, greatest, is.none), probed.ends)
+tells batch order limit base (Unmarked price outcome) greatest is probed found = probed.ends
+tells batch order limit base Spent greatest is probed found = record { marked = probed.ends.0; all = probed.ends.1; wanted = found }
 
 pub implied_prices_are_thresholds : ImpliedPricesAreThresholds
 unfolding prices_of
@@ -204,7 +219,7 @@ implied_prices_are_thresholds batch form quantity limit may some few =
     λ side optimal.
     let order = asked form side quantity in
     tells batch order limit base (side_price batch order limit) (proved batch limit base may.within refl optimal).greatest
-    (asked_is_implied batch form quantity limit may some few side optimal) refl in
+    (asked_is_implied batch form quantity limit may some few side optimal) (side_ends batch order limit) refl in
     elim (cases_Bool (is_optimal base)) [
       | inl optimal ↦ subst (TellPrices batch form quantity limit) (sym (then_of (is_optimal base) _ _ optimal)) (side_tells Buy optimal, side_tells Sell optimal)
       | inr not ↦ subst (TellPrices batch form quantity limit) (sym (else_of (is_optimal base) _ _ not)) (refl, not)

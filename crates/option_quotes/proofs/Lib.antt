@@ -6,4 +6,5 @@ pub mod Thresholds
 pub mod Few
 pub mod Walks
 pub mod Beside
+pub mod ProbesAlong
 pub mod Found

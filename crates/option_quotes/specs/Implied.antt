@@ -1,6 +1,6 @@
 -- The price from which on a further order raises the greatest surplus, found along lines: each
 -- probe that raises it tells the next.
-use Rattle.std.specs.Prelude.{ℕ, suc, zero, ◌+◌, ◌-◌, ◌==◌, max, min, Some, None, slice_get, length, if◌then◌else◌}
+use Rattle.std.specs.Prelude.{ℕ, suc, zero, ◌+◌, ◌-◌, ◌==◌, max, min, List, [], ◌∷◌, Some, None, slice_get, length, if◌then◌else◌}
 use Rattle.std.specs.Option.{option_map_or}
 use Rattle.frac.specs.Value.{fraction_of}
 use Rattle.frac.specs.declared.frac128.Frac128.{Frac128}
@@ -17,7 +17,7 @@ use Rattle.option_quotes.specs.declared.prices.MarketPrices.{MarketPrices}
 use Rattle.option_quotes.specs.declared.prices.MarketPrices.TheVariants as market
 use Rattle.option_quotes.specs.declared.prices.SidePrice.{SidePrice}
 use Rattle.option_quotes.specs.declared.prices.SidePrice.TheVariants.{At, Never, Unmarked, Spent}
-use Rattle.option_quotes.specs.Probes.{best_price, further, is_optimal, is_raised, probe_outcome, worst_price}
+use Rattle.option_quotes.specs.Probes.{Probe, best_price, further, is_optimal, is_raised, probe_at, probe_outcome, worst_price}
 
 -- the further order of so many bundles, at price 0
 abbrev pub asked : Form → Side → ℕ → Order
@@ -89,6 +89,33 @@ price_from_best f base side =
     then if is_raised base (f best) then walked_all f base side best else Never (f best)
     else Unmarked best (f best)
 
+-- ---- the probes of a side, as they are made where each is marked optimal
+abbrev pub above_probes : (ℕ → Outcome) → ℕ → ℕ → List Probe
+above_probes f zero above = []
+above_probes f (suc left) above = probe_at f above ∷ []
+
+abbrev pub landed_probes : (ℕ → Outcome) → Side → ℕ → ℕ → ℕ → List Probe
+landed_probes f side left price other = if next_better side other == price then [] else above_probes f left (next_better side other)
+
+-- from a price that raises, with so many left
+unfoldable pub walked_probes : (ℕ → Outcome) → Outcome → Side → ℕ → ℕ → List Probe
+walked_probes f base side zero price = []
+walked_probes f base side (suc left) price =
+    if price == worst_price side
+    then []
+    else
+    let other = next_along base side price (f price) in
+    probe_at f other ∷ (if is_raised base (f other) then walked_probes f base side left other else landed_probes f side left price other)
+
+unfoldable pub probes_along : (ℕ → Outcome) → Outcome → Side → List Probe
+probes_along f base side =
+    let best = best_price side in
+    probe_at f best ∷ (if is_raised base (f best) then walked_probes f base side most_walked best else [])
+
+abbrev pub side_probes : Batch → Order → ℕ → List Probe
+side_probes batch order limit = probes_along (probe_outcome batch order limit) (outcome_of batch limit) order.side
+
+-- ---- the prices
 -- the price of one side, where the outcome of the batch itself is marked optimal
 unfoldable pub side_price : Batch → Order → ℕ → SidePrice
 side_price batch order limit = price_from_best (probe_outcome batch order limit) (outcome_of batch limit) order.side

@@ -19,10 +19,9 @@ use Rattle.option_quotes.specs.declared.prices.SidePrice.{SidePrice}
 use Rattle.option_quotes.specs.declared.prices.SidePrice.TheVariants as side
 use Rattle.option_quotes.specs.declared.quotes.Quoted.{Quoted}
 use Rattle.option_quotes.specs.declared.quotes.Quoted.TheVariants.{At, Never, Unmarked}
-use Rattle.option_quotes.specs.Implied.{asked, side_price}
-use Rattle.option_quotes.specs.Probes.{first_unmarked, is_optimal, probes}
+use Rattle.option_quotes.specs.Implied.{asked, side_price, side_probes}
+use Rattle.option_quotes.specs.Probes.{Probe, first_unmarked, is_optimal, probes}
 use Rattle.option_quotes.specs.Quotes.{RaisesAbove}
-use Rattle.option_quotes.specs.Shown.{IsStopped}
 
 -- a batch within the limits with room for one order more, and an option on its underlyings that may
 -- be listed
@@ -54,12 +53,21 @@ Tells batch order limit (Never extreme base) =
     NeverRaisesGreatest batch order × (first_unmarked (probes batch order limit) ≡ None)
 Tells batch order limit (Unmarked probe outcome) = first_unmarked (probes batch order limit) ≡ Some (probe, outcome)
 
--- what the price of a side tells, where the outcome of the batch itself is marked optimal
+-- all 60 probes that a side may have are marked optimal, and one more was wanted
+pub record IsSpent (batch : Batch) (order : Order) (limit : ℕ) : Type 0 where
+  pub marked : first_unmarked (side_probes batch order limit) ≡ None
+  pub all : length (side_probes batch order limit) ≡ 60
+  pub wanted : side_price batch order limit ≡ side.Spent
+
+-- what the price of a side tells, where the outcome of the batch itself is marked optimal: each of
+-- its probes is marked optimal, or the first that is not; or all 60 are, and one more was wanted
 abbrev pub TellsSide : Batch → Order → ℕ → SidePrice → Type 0
-TellsSide batch order limit (side.At price raising beside) = RaisesGreatestFrom batch order price
-TellsSide batch order limit (side.Never extreme) = NeverRaisesGreatest batch order
-TellsSide batch order limit (side.Unmarked price outcome) = IsStopped batch order limit price outcome
-TellsSide batch order limit side.Spent = side_price batch order limit ≡ side.Spent
+TellsSide batch order limit (side.At price raising beside) =
+    RaisesGreatestFrom batch order price × (first_unmarked (side_probes batch order limit) ≡ None)
+TellsSide batch order limit (side.Never extreme) =
+    NeverRaisesGreatest batch order × (first_unmarked (side_probes batch order limit) ≡ None)
+TellsSide batch order limit (side.Unmarked price outcome) = first_unmarked (side_probes batch order limit) ≡ Some (Some price, outcome)
+TellsSide batch order limit side.Spent = IsSpent batch order limit
 
 -- the outcome is that of the batch itself, and it is not marked optimal
 abbrev pub IsUnmarked : Batch → ℕ → Outcome → Type 0
@@ -71,10 +79,10 @@ TellPrices batch form quantity limit (market.Marked base ask bid) =
     TellsSide batch (asked form Buy quantity) limit ask × TellsSide batch (asked form Sell quantity) limit bid
 TellPrices batch form quantity limit (market.Unmarked base) = IsUnmarked batch limit base
 
--- why no price of the order is found: the clear of the batch, or one of the batch with the order at
--- some price, is not marked optimal, or one more was wanted than a side may have
+-- why no price of the order is found: the clear of the batch is not marked optimal; or this is the
+-- first of those of the batch with the order that is not; or all 60 are, and one more was wanted
 abbrev pub IsUnfound : Batch → Order → ℕ → Type 0
 IsUnfound batch order limit =
     ((base : Outcome) × IsUnmarked batch limit base)
-    ⊎ ((price : ℕ) × (outcome : Outcome) × IsStopped batch order limit price outcome)
-    ⊎ (side_price batch order limit ≡ side.Spent)
+    ⊎ ((probe : Probe) × (first_unmarked (side_probes batch order limit) ≡ Some probe))
+    ⊎ IsSpent batch order limit

@@ -7,7 +7,7 @@ ghost use Rattle.option_quotes.specs.Ends.{IsBetter, IsProbed, IsProbing};
 ghost use Rattle.option_quotes.specs.Implied.{asked, landed_at, prices_for, prices_of, side_price, walked_all};
 ghost use Rattle.option_quotes.specs.Probes.{is_raised, probe_outcome, with_order};
 ghost use Rattle.option_quotes.specs.Quotes.{IsShown};
-ghost use Rattle.option_quotes.specs.Shown.{IfMarked, IsImplied};
+ghost use Rattle.option_quotes.specs.Shown.{EndsAsProbed, IfMarked, IsImplied};
 ghost use Rattle.option_quotes.specs.Thresholds.{MayBeQuoted};
 
 use crate::along::{next_along, next_better};
@@ -196,6 +196,12 @@ pub fn implied_prices(
     // So does a sell where its price is at most `bid`.
     ensures bid { IfOk result (λ prices. IfMarked prices (λ base ask bid.
         IsImplied batch.now (asked form.now Side.Sell quantity) limit base bid)) }
+
+    // The batch is cleared with the order at most 60 times a side: each outcome is marked optimal,
+    // or the first that is not is told, or all 60 are and one more was wanted.
+    ensures probed { IfOk result (λ prices. IfMarked prices (λ base ask bid.
+        EndsAsProbed batch.now (asked form.now Side.Buy quantity) limit ask
+        × EndsAsProbed batch.now (asked form.now Side.Sell quantity) limit bid)) }
 {
     let buying = Probing {
         batch,

@@ -1,5 +1,5 @@
 -- What a read does to the bytes left, to the count of bytes taken and to the count of faults.
-use Rattle.std.specs.Prelude.{◌≡◌, ℕ, ◌≤◌, min, List, [], ◌∷◌, length, take, Option}
+use Rattle.std.specs.Prelude.{◌≡◌, ℕ, ◌≤◌, min, List, [], ◌∷◌, length, take, Option, IfSome}
 use Rattle.std.specs.Io.KnownBytes.{Consumes, Keeps, IsAtEnd}
 use Rattle.port_io.specs.declared.source.ReadAnswer.{ReadAnswer}
 use Rattle.port_io.specs.declared.source.ReadAnswer.TheVariants.{Got, End, Failed}
@@ -37,3 +37,12 @@ ReadCause before now Failed = Rose before now
 -- at most so many of the bytes left were taken
 abbrev pub TakesUpTo : Option (List ℕ) → Option (List ℕ) → ℕ → Type 0
 TakesUpTo old new limit = (bytes : List ℕ) × (length bytes ≤ limit) × Consumes old new bytes
+
+-- how a source and a sink stood before a read: the bytes left, and those written
+pub record LastRead : Type 0 where
+  pub left : Option (List ℕ)
+  pub written : Option (List ℕ)
+
+-- it was last read when they stood so, where that is told
+abbrev pub WasReadAt : Option LastRead → Option (List ℕ) → Option (List ℕ) → Type 0
+WasReadAt last left written = IfSome last (λ now. now ≡ record { left = left; written = written })

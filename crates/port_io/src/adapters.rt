@@ -1,5 +1,5 @@
 // The real source and sink, over any reader and writer.
-ghost use Rattle.std.specs.Prelude.{◌≡◌};
+ghost use Rattle.std.specs.Prelude.{◌≡◌, None};
 ghost use Rattle.std.proofs.Math.Nat.{min-le_right};
 ghost use Rattle.port_io.specs.Faults.{as_count, last_count};
 
@@ -34,6 +34,8 @@ impl<R: Read> StdSource<R> {
 impl<R: Read> Source for StdSource<R> {
     ghost left = { λ s. R.remaining s.inner };
 
+    ghost last_read = { λ _. None };
+
     ghost taken = { λ s. as_count s.taken };
 
     ghost faults = { λ s. as_count s.faults };
@@ -42,7 +44,7 @@ impl<R: Read> Source for StdSource<R> {
 
     ghost faults_stop = { λ s. min-le_right s.faults last_count };
 
-    fn read(&mut self, buf: &mut [u8]) -> ReadAnswer {
+    fn read<K: Sink>(&mut self, _sink: &K, buf: &mut [u8]) -> ReadAnswer {
         match self.inner.read(buf) {
             Ok(0) => ReadAnswer::End,
             Ok(count) => {

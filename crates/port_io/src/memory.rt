@@ -1,9 +1,9 @@
 // A source and a sink in memory, whose calls fail by a list.
-ghost use Rattle.std.specs.Prelude.{◌≡◌, ◌-◌, ◌≤◌, ◌<◌, ◌↔◌, ◌⊎◌, Some, [], length, take, drop, min, IfOk, Contains, IsTrue, vec_capacity};
+ghost use Rattle.std.specs.Prelude.{◌≡◌, ◌-◌, ◌≤◌, ◌<◌, ◌↔◌, ◌⊎◌, Some, None, [], length, take, drop, min, IfOk, Contains, IsTrue, vec_capacity};
 ghost use Rattle.std.proofs.Math.Nat.{min-le_right};
 ghost use Rattle.port_io.specs.Faults.{as_count, last_count, raised_by};
 ghost use Rattle.port_io.specs.InMemory.{SourceInMemory, SinkInMemory};
-ghost use Rattle.port_io.specs.Reads.{GotWithin, Takes, taken_after, ReadCause};
+ghost use Rattle.port_io.specs.Reads.{GotWithin, Takes, taken_after, ReadCause, WasReadAt};
 ghost use Rattle.port_io.specs.Writes.{TookWithin, Writes, WriteCause};
 
 use crate::{ReadAnswer, Sink, Source, WriteAnswer};
@@ -81,6 +81,8 @@ impl MemSource {
 impl Source for MemSource {
     ghost left = { λ s. Some s.left };
 
+    ghost last_read = { λ _. None };
+
     ghost taken = { λ s. as_count s.taken };
 
     ghost faults = { λ s. as_count s.faults };
@@ -89,12 +91,13 @@ impl Source for MemSource {
 
     ghost faults_stop = { λ s. min-le_right s.faults last_count };
 
-    fn read(&mut self, buf: &mut [u8]) -> ReadAnswer
+    fn read<K: Sink>(&mut self, _sink: &K, buf: &mut [u8]) -> ReadAnswer
         requires { 0 < length buf.old }
         ensures fits { GotWithin result (length buf.new) }
         ensures bytes { Takes (Some self.old.left) (Some self.new.left) result buf.new }
         ensures count { as_count self.new.taken ≡ taken_after (as_count self.old.taken) result }
         ensures cause { ReadCause (as_count self.old.faults) (as_count self.new.faults) result }
+        ensures last { WasReadAt None (Some self.old.left) (K.written _sink.now) }
 
         ensures piece { GotWithin result self.old.piece }
         ensures call { self.new.calls ≡ raised_by self.old.calls 1 }

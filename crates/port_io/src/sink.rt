@@ -1,10 +1,10 @@
 // Where bytes go.
-ghost use Rattle.std.specs.Prelude.{◌≡◌, ◌≤◌, ◌<◌, List, ℕ, Option, length, OnOk, OnErr};
+ghost use Rattle.std.specs.Prelude.{◌≡◌, ◌≤◌, ◌<◌, List, ℕ, Option, length, IfErr, OnOk, OnErr};
 ghost use Rattle.std.specs.Io.KnownBytes.{Appends};
 ghost use Rattle.port_io.specs.Faults.{Rose, last_count};
 ghost use Rattle.port_io.specs.Writes.{TookWithin, Writes, WriteCause, AppendsFront};
 
-use thiserror::Error;
+use crate::stop::Stop;
 
 /// What one write to a sink answers.
 #[derive(Clone, Copy, Debug, PartialEq, Eq)]
@@ -34,18 +34,12 @@ pub trait Sink {
     ghost faults_stop: { (s : Self) → faults s ≤ last_count };
 }
 
-/// Why a piece was not written whole.
-#[derive(Clone, Copy, Debug, PartialEq, Eq, Error)]
-pub enum WriteStop {
-    #[error("write fault")]
-    WriteFault,
-}
-
 /// Appends the whole piece, or stops at the first fault, where a front of it was appended.
-pub fn write_all<K: Sink>(sink: &mut K, piece: &[u8]) -> Result<(), WriteStop>
+pub fn write_all<K: Sink>(sink: &mut K, piece: &[u8]) -> Result<(), Stop>
     ensures ok { OnOk result (Appends (K.written sink.old) (K.written sink.new) piece.now) }
     ensures calm { OnOk result (K.faults sink.new ≡ K.faults sink.old) }
 
+    ensures only { IfErr result (λ stop. stop ≡ Stop.WriteFault) }
     ensures fault { OnErr result (Rose (K.faults sink.old) (K.faults sink.new)) }
     ensures front { OnErr result
         (AppendsFront (K.written sink.old) (K.written sink.new) piece.now) }
@@ -56,7 +50,7 @@ pub fn write_all<K: Sink>(sink: &mut K, piece: &[u8]) -> Result<(), WriteStop>
     while sent < piece.len() {
         match sink.write(&piece[sent..]) {
             WriteAnswer::Took(count) => sent += count,
-            WriteAnswer::Failed => return Err(WriteStop::WriteFault),
+            WriteAnswer::Failed => return Err(Stop::WriteFault),
         }
     }
     Ok(())

@@ -3,7 +3,7 @@ ghost use Rattle.std.specs.Prelude.{◌≡◌, ◌≤◌, ◌<◌, Some, None, I
 ghost use Rattle.std.proofs.Common.{lit≤};
 ghost use Rattle.std.proofs.Math.Nat.{min-le_right};
 ghost use Rattle.port_io.specs.Faults.{as_count, last_count};
-ghost use Rattle.port_io.specs.Reads.{GotWithin, Takes, taken_after, ReadCause, as_many_as_fit};
+ghost use Rattle.port_io.specs.Reads.{GotWithin, Takes, taken_after, ReadCause, WasReadAt, as_many_as_fit};
 ghost use Rattle.port_io.specs.Writes.{TookWithin, Writes, WriteCause};
 
 use crate::memory::copy_front;
@@ -35,6 +35,8 @@ impl SureSource {
 impl Source for SureSource {
     ghost left = { λ s. Some (drop s.given s.bytes.items) };
 
+    ghost last_read = { λ _. None };
+
     ghost taken = { λ s. as_count s.taken };
 
     ghost faults = { λ _. 0 };
@@ -43,7 +45,7 @@ impl Source for SureSource {
 
     ghost faults_stop = { λ _. lit≤ tt };
 
-    fn read(&mut self, buf: &mut [u8]) -> ReadAnswer
+    fn read<K: Sink>(&mut self, _sink: &K, buf: &mut [u8]) -> ReadAnswer
         requires { 0 < length buf.old }
         ensures fits { GotWithin result (length buf.new) }
         ensures bytes { Takes
@@ -52,6 +54,7 @@ impl Source for SureSource {
         ensures count { ⟦<SureSource as Source>⟧.taken self.new
             ≡ taken_after (⟦<SureSource as Source>⟧.taken self.old) result }
         ensures cause { ReadCause 0 0 result }
+        ensures last { WasReadAt None (⟦<SureSource as Source>⟧.left self.old) (K.written _sink.now) }
 
         ensures whole { IfSome (⟦<SureSource as Source>⟧.left self.old) (λ left.
             result ≡ as_many_as_fit (length buf.old) left) }

@@ -1,13 +1,24 @@
 -- The first field of a line.
-use Rattle.std.proofs.Common.{◌≡◌, ℕ, List, [], ◌∷◌, ◌==◌, ◌||◌, Bool, true, false, Option, Some, None, if◌then◌else◌, refl, inl, inr}
+use Rattle.std.proofs.Common.{◌≡◌, ℕ, List, [], ◌∷◌, ◌++◌, ◌==◌, ◌||◌, Bool, true, false, true≢false, take, drop, codes, Option, Some, None, if◌then◌else◌, refl, sym, ap, ◌∙◌, inl, inr}
+use Rattle.std.proofs.lemmas.List.{take-append-drop}
+use Rattle.std.proofs.lemmas.Slice.Eq.{bytes_eq-Decides}
 use Rattle.std.proofs.lemmas.Bool.{cases_Bool, or_parts}
 use Rattle.std.specs.List.{slice_split}
 use Rattle.std.specs.Option.{option_map, option_map_or}
 use Rattle.std.specs.Str.{bytes_eq}
-use Rattle.command_text.specs.Fields.{fields_of_pieces, first_of_many, has_quote, is_readable}
+use Rattle.command_text.specs.Asked.{text_of}
+use Rattle.command_text.specs.Commands.{body_of_fields, body_of_line, body_of_result, command_of_fields}
+use Rattle.command_text.specs.Fields.{fields_of_line, fields_of_pieces, first_of_many, has_quote, is_readable}
+use Rattle.command_text.specs.declared.command.Body.{Body}
+use Rattle.command_text.specs.declared.command.Body.TheVariants.{Syntax}
 use Rattle.quote_lines.specs.declared.bodies.AskingWord.{AskingWord}
 use Rattle.quote_lines.specs.declared.bodies.AskingWord.TheVariants.{Quote, Price}
-use Rattle.quote_lines.specs.Bodies.{word_text}
+use Rattle.quote_lines.specs.declared.bodies.QuotesBody.{QuotesBody}
+use Rattle.quote_lines.specs.declared.bodies.QuotesBody.TheVariants.{Plain}
+use Rattle.quote_lines.specs.Bodies.{body_by, requested, said_by, word_text}
+use Rattle.quote_lines.proofs.Words.{asking_is_no_command}
+use Rattle.proposal_lines.specs.Proposed.{after_word, propose_word}
+use Rattle.proposal_lines.specs.Reads.{read_of, read_of_line}
 use Rattle.proposal_lines.specs.AllKinds.{asking_word, may_ask, word_in}
 
 abbrev is_comma : ℕ → Bool
@@ -65,3 +76,58 @@ other_line (b ∷ bs) other =
 pub first_read : (fields : List (List ℕ)) → word_in (first_of_many fields) ≡ word_in fields
 first_read [] = refl
 first_read (field ∷ fields) = refl
+
+-- a line that proposes begins with a word that asks nothing
+proposes : (rest : List ℕ) → asking_word (propose_word ++ rest) ≡ None
+proposes rest =
+    readable_or_none (is_readable (propose_word ++ rest)) (fields_of_pieces (slice_split is_comma (propose_word ++ rest)))
+    (first_tells (codes "propose") (fields_of_pieces (slice_split is_comma rest)) (refl, refl))
+
+pub proposing_asks_none : (line text : List ℕ) → after_word line ≡ Some text → asking_word line ≡ None
+proposing_asks_none line text is = by (bytes_eq (take 8 line) propose_word) refl is
+  where
+    by : (begins : Bool) → bytes_eq (take 8 line) propose_word ≡ begins → (if begins then Some (drop 8 line) else None) ≡ Some text → asking_word line ≡ None
+    by true e same =
+        let whole = ap (λ front. front ++ drop 8 line) (sym ((bytes_eq-Decides (take 8 line) propose_word).0 e)) ∙ take-append-drop 8 line in
+        ap asking_word (sym whole) ∙ proposes (drop 8 line)
+    by false e same = absurd (cc)
+
+-- ---- the word by which a line asks is that of no command and of no read
+pub record Asks (word : AskingWord) (line : List ℕ) : Type 0 where
+  pub fields : List (List ℕ)
+  pub are : fields_of_line line ≡ Some fields
+  pub first : bytes_eq (text_of fields 1) (word_text word) ≡ true
+
+no_read : (word : AskingWord) (fields : List (List ℕ)) → bytes_eq (text_of fields 1) (word_text word) ≡ true → read_of fields ≡ None
+no_read word [] e = refl
+no_read Quote (first ∷ rest) e = ap (λ w. read_of (w ∷ rest)) ((bytes_eq-Decides first (word_text Quote)).0 e)
+no_read Price (first ∷ rest) e = ap (λ w. read_of (w ∷ rest)) ((bytes_eq-Decides first (word_text Price)).0 e)
+
+pub reads_nothing : (word : AskingWord) (line : List ℕ) → Asks word line → read_of_line line ≡ None
+reads_nothing word line asks = ap (λ o. option_map_or read_of o None) asks.are ∙ no_read word asks.fields asks.first
+
+pub commands_nothing : (word : AskingWord) (line : List ℕ) → Asks word line → body_of_line line ≡ Syntax
+commands_nothing word line asks = ap body_of_fields asks.are ∙ ap body_of_result (asking_is_no_command word asks.fields asks.first)
+
+its_word : (word : AskingWord) (fields : List (List ℕ)) → bytes_eq (text_of fields 1) (word_text word) ≡ true → word_in fields ≡ Some word
+its_word Quote [] e = absurd (true≢false (sym e))
+its_word Price [] e = absurd (true≢false (sym e))
+its_word Quote (first ∷ rest) e = ap (λ w. word_in (w ∷ rest)) ((bytes_eq-Decides first (word_text Quote)).0 e)
+its_word Price (first ∷ rest) e = ap (λ w. word_in (w ∷ rest)) ((bytes_eq-Decides first (word_text Price)).0 e)
+
+pub asks_by : (word : AskingWord) (line : List ℕ) → Asks word line → asking_word line ≡ Some word
+asks_by word line asks = ap word_of asks.are ∙ its_word word asks.fields asks.first
+
+-- a line that says what is no run's line asks by the word
+says_more : (word : AskingWord) (line : List ℕ) (o : Option (List (List ℕ))) (said : QuotesBody) → fields_of_line line ≡ o → option_map_or (said_by word) o (Plain Syntax) ≡ said
+    → ((run : Body) → said ≡ Plain run → ⊥) → Asks word line
+says_more word line None said are is other = absurd (other Syntax (sym is))
+says_more word line (Some fields) said are is other = by (bytes_eq (text_of fields 1) (word_text word)) refl is
+  where
+    by : (same : Bool) → bytes_eq (text_of fields 1) (word_text word) ≡ same
+        → (if same then requested word fields else Plain (body_of_result (command_of_fields fields))) ≡ said → Asks word line
+    by true e says = record { fields = fields; are = are; first = e }
+    by false e says = absurd (other (body_of_result (command_of_fields fields)) (sym says))
+
+pub says_by_word : (word : AskingWord) (line : List ℕ) (said : QuotesBody) → body_by word line ≡ said → ((run : Body) → said ≡ Plain run → ⊥) → Asks word line
+says_by_word word line said is other = says_more word line (fields_of_line line) said refl is other

@@ -8,6 +8,8 @@ pub mod Others
 pub mod Clearing
 pub mod Sound
 pub mod Beside
+pub mod Taking
+pub mod AskedLines
 pub mod Telling
 pub mod ByMarket
 pub mod Lowering

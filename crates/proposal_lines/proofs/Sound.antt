@@ -1,4 +1,4 @@
--- What is kept stays proved, and the exchange stays as it is, as a proposal comes.
+-- What is kept stays proved as a proposal comes.
 use Rattle.std.proofs.Common.{◌≡◌, ◌&&◌, Bool, true, false, if◌then◌else◌, Option, Some, None, Result, Ok, Err, refl, sym, ap, ◌∙◌, subst}
 use Rattle.std.specs.Option.{option_map_or}
 use Rattle.cert_check.specs.Proposals.{proposal_bound}
@@ -64,15 +64,6 @@ offer_proved book is_kept kept are proposed m found batch is =
     by false same = are
 
 -- a line that proposes
-pub proposed_kept : (state : ProposingState) (said : Result Proposed Fault) → (proposed_reply state said).1.exchange ≡ state.exchange
-proposed_kept state (Err fault) = refl
-proposed_kept state (Ok proposed) =
-    elim (first_of (by_book (live_refusals state.exchange.book proposed.market))) as (λ (r : Option Refusal).
-    (option_map_or (λ first. (refused_by first, state)) r (proposed_by state proposed)).1.exchange ≡ state.exchange) [
-      | None ↦ refl
-      | Some first ↦ refl
-    ]
-
 pub proposed_proved : (state : ProposingState) → IsSound state → (said : Result Proposed Fault) → AreProvedIn state.exchange.book (proposed_reply state said).1.kept
 proposed_proved state sound (Err fault) = sound.proved
 proposed_proved state sound (Ok proposed) = by (first_of (by_book (live_refusals state.exchange.book proposed.market))) refl

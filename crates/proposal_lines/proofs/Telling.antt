@@ -1,10 +1,23 @@
 -- What is written for an input is told line by line, and keeps what is promised.
-use Rattle.std.proofs.Common.{◌≡◌, ℕ, ◌+◌, List, [], ◌∷◌, ◌++◌, All, map, Option, Some, None, inl, inr, refl, sym, ap, ◌∙◌, subst}
+use Rattle.std.proofs.Common.{◌≡◌, ℕ, ◌+◌, List, [], ◌∷◌, ◌++◌, All, map, Option, Some, None, Result, Ok, Err, option_map, inl, inr, refl, sym, ap, ◌∙◌, subst}
 use Rattle.std.specs.Option.{option_map_or}
 use Rattle.std.proofs.lemmas.List.Elements.{All-nil, All-cons}
 use Rattle.proposal_lines.proofs.AsRun.{all_answer_as_run}
 use Rattle.cert_check.specs.Laws.{IsCovered}
-use Rattle.cert_check.specs.Proposals.{as_optimal}
+use Rattle.cert_check.specs.Proposals.{as_optimal, proposal_bound}
+use Rattle.cert_check.proofs.Proposals.{proposals_are_decided}
+use Rattle.command_text.specs.declared.asked.Fault.{Fault}
+use Rattle.exchange_core.specs.Refusals.{by_book}
+use Rattle.frac.specs.Range.{limit}
+use Rattle.frac.specs.Value.{fraction_of}
+use Rattle.frac.specs.declared.frac128.Frac128.{Frac128}
+use Rattle.lists.specs.Refusals.{first_of}
+use Rattle.order_book.specs.Numbers.{numbers_of}
+use Rattle.order_book.specs.Refusals.{live_refusals}
+use Rattle.proposal_text.specs.declared.replies.ProposalReply.{ProposalReply}
+use Rattle.proposals.specs.Laws.{as_proposal}
+use Rattle.proposal_lines.specs.declared.proposed.Proposed.{Proposed}
+use Rattle.proposal_lines.specs.declared.replies.ProposingReply.TheVariants as reply_of
 use Rattle.command_text.specs.declared.command.Body.{Body}
 use Rattle.command_text.specs.declared.command.Body.TheVariants as body
 use Rattle.command_text.specs.declared.command.Command.{Command}
@@ -32,19 +45,21 @@ use Rattle.proposal_text.specs.declared.replies.BoundedOutcome.{BoundedOutcome}
 use Rattle.reply_print.specs.ReplyPieces.{reply_line}
 use Rattle.reply_print.specs.declared.replies.Reply.{Reply}
 use Rattle.proposal_lines.specs.Clears.{better_in, bounded_effect, clear_reply, cleared_by, reference_in}
-use Rattle.proposal_lines.specs.KeptByMarket.{without_kept}
+use Rattle.proposal_lines.specs.KeptByMarket.{KeptProposals, without_kept}
 use Rattle.proposal_lines.specs.Laws.{IsBetter, IsClearedAs, IsSound, NoneIsAbove}
 use Rattle.proposal_lines.specs.Output.{body_line, other_line, proposing_line, unproposed_line, written_reply}
-use Rattle.proposal_lines.specs.Promises.{AreToldFor, IsBesideProposals, IsToldFor, KeepsProposalPromises, OutputsTellProposals, ProposalAnswer, beside, bounded, charged, replied, replies_in, state_by_lines, told_text, told_texts}
-use Rattle.proposal_lines.specs.Proposed.{after_word, proposed_of, proposed_reply}
+use Rattle.proposal_lines.specs.Promises.{AreToldFor, IsBesideProposals, IsToldFor, KeepsProposalPromises, OutputsTellProposals, ProposalAnswer, TellsAsked, beside, bounded, charged, replied, replies_in, state_by_lines, taken, told_text, told_texts}
+use Rattle.proposal_lines.specs.Proposed.{after_proposed, after_word, kept_by, offered, proposed_by, proposed_of, proposed_reply}
 use Rattle.proposal_lines.specs.ProposingState.{ProposingState, empty_state}
 use Rattle.proposal_lines.specs.Proved.{AreProvedIn, IsEntryProved}
-use Rattle.proposal_lines.specs.Reads.{read_of_line, read_reply, refused_by}
-use Rattle.proposal_lines.proofs.Beside.{beside_text, proposed_beside, read_beside}
+use Rattle.proposal_lines.specs.Reads.{read_of_line, read_reply, refused_by, refused_by_fault}
+use Rattle.proposal_lines.proofs.AskedLines.{asked_told}
+use Rattle.proposal_lines.proofs.Beside.{beside_text, fault_beside, read_beside, refusal_beside}
 use Rattle.proposal_lines.proofs.Clearing.{clears_are_proved}
 use Rattle.proposal_lines.proofs.Kept.{without_proved}
 use Rattle.proposal_lines.proofs.Moving.{after_batch_proved, entries_moved, reply_proved}
-use Rattle.proposal_lines.proofs.Sound.{proposed_kept, proposed_proved}
+use Rattle.proposal_lines.proofs.Sound.{proposed_proved}
+use Rattle.proposal_lines.proofs.Taking.{offer_becomes, taken_is_proved}
 
 module _ (state : ProposingState) (line : InputLine) where
   -- what a line is told and the moves of the exchange, none or one
@@ -77,22 +92,71 @@ module _ (state : ProposingState) (line : InputLine) (sound : IsSound state) whe
   abbrev pub Told : List ℕ × ProposingState → Type 0
   Told = IsTold state line
 
-  beside_told : (now : List ℕ × ProposingState) → IsBesideProposals line.number now.0 → now.1.exchange ≡ state.exchange → (after_word line.bytes ≡ None → now.1.kept ≡ state.kept)
-      → AreProvedIn state.exchange.book now.1.kept → Told now
-  beside_told now text same kept are = record {
+  beside_told : (now : List ℕ × ProposingState) → IsBesideProposals line.number now.0 → now.1.exchange ≡ state.exchange → now.1.kept ≡ state.kept → Told now
+  beside_told now text same kept = record {
     answer = beside line.number now.0;
     told = record { of_line = refl; of_kind = text; exchange = same; kept = kept };
     text = refl;
     promise = tt;
     sound = record {
       kept = subst IsKept (sym same) sound.kept;
-      proved = subst (λ (e : ExchangeState). AreProvedIn e.book now.1.kept) (sym same) are;
+      proved = subst (λ (e : ExchangeState). AreProvedIn e.book now.1.kept) (sym same) (subst (AreProvedIn state.exchange.book) (sym kept) sound.proved);
     };
     moves = [];
     may = tt;
     replies = λ more. refl;
     end = same;
   }
+
+  -- ---- a proposal
+  module _ (proposed : Proposed) (says_it : option_map proposed_of (after_word line.bytes) ≡ Some (Ok proposed))
+      (none : first_of (by_book (live_refusals state.exchange.book proposed.market)) ≡ None) where
+    abbrev live : Batch
+    live = batch_in state.exchange proposed.market
+
+    abbrev by_offer : ProposalReply × KeptProposals → List ℕ × ProposingState
+    by_offer now = written_reply line.number (reply_of.Told now.0, record state { kept = now.1 })
+
+    taken_told : (bound : Frac128) → proposed.submission.orders ≡ numbers_of live.orders → proposal_bound limit live proposed.submission.proposal ≡ Ok (fraction_of bound)
+        → AreProvedIn state.exchange.book (kept_by state.kept proposed bound).1 → Told (by_offer (kept_by state.kept proposed bound))
+    taken_told bound orders judged are =
+        let best = after_proposed state.kept proposed bound in
+        record {
+          answer = taken (record { line = line.number; proposed = proposed; batch = live; bound = bound; best = best });
+          told = record { of_line = refl; says = says_it; batch = refl; orders = orders; judged = judged; best = refl; exchange = refl; kept = refl };
+          text = refl;
+          promise = record {
+            proposed = (proposals_are_decided live proposed.submission.proposal).proved (fraction_of bound) judged;
+            kept = (proposals_are_decided live (as_proposal best)).proved (fraction_of best.bounded.bound) (taken_is_proved state sound proposed none bound orders judged);
+          };
+          sound = record { kept = sound.kept; proved = are };
+          moves = [];
+          may = tt;
+          replies = λ more. refl;
+          end = refl;
+        }
+
+    offered_proved : AreProvedIn state.exchange.book (offered state.kept proposed live).1
+    offered_proved =
+        subst (λ (r : Option Refusal). AreProvedIn state.exchange.book (option_map_or (λ first. (refused_by first, state)) r (proposed_by state proposed)).1.kept) none
+        (proposed_proved state sound (Ok proposed))
+
+    offer_told : Told (by_offer (offered state.kept proposed live))
+    offer_told = elim (offer_becomes state.kept proposed live) [
+      | inl nothing ↦ beside_told (by_offer (offered state.kept proposed live)) (beside_text line.number (reply_of.Told (offered state.kept proposed live).0) nothing.0) refl nothing.1
+      | inr took ↦
+          subst (λ (now : ProposalReply × KeptProposals). Told (by_offer now)) (sym took.is)
+          (taken_told took.bound took.orders took.judged (subst (λ (now : ProposalReply × KeptProposals). AreProvedIn state.exchange.book now.1) took.is offered_proved))
+    ]
+
+  proposal_told : (said : Result Proposed Fault) → option_map proposed_of (after_word line.bytes) ≡ Some said → Told (written_reply line.number (proposed_reply state said))
+  proposal_told (Err fault) is = beside_told (written_reply line.number (refused_by_fault fault, state)) (beside_text line.number (refused_by_fault fault) (fault_beside fault)) refl refl
+  proposal_told (Ok proposed) is = by (first_of (by_book (live_refusals state.exchange.book proposed.market))) refl
+    where
+      by : (r : Option Refusal) → first_of (by_book (live_refusals state.exchange.book proposed.market)) ≡ r
+          → Told (written_reply line.number (option_map_or (λ first. (refused_by first, state)) r (proposed_by state proposed)))
+      by (Some first) none = beside_told (written_reply line.number (refused_by first, state)) (beside_text line.number (refused_by first) (refusal_beside first)) refl refl
+      by None none = offer_told proposed is none
 
   abbrev run_reply : Reply × ExchangeState
   run_reply = reply_to state.exchange (body_of_line line.bytes)
@@ -159,7 +223,7 @@ module _ (state : ProposingState) (line : InputLine) (sound : IsSound state) whe
         | inl is ↦
             replied_told now (ap (λ (r : List ℕ × ExchangeState). r.0) is) (ap (λ (r : List ℕ × ExchangeState). r.1) is) refl
             (subst (λ (b : Body). IsUnbeaten state (reply_to state.exchange b).0) (sym same) unbeaten)
-        | inr is ↦ beside_told now (inl is.0) is.1 (λ none. refl) sound.proved
+        | inr is ↦ beside_told now (inl is.0) is.1 refl
       ]
 
   clear_told : (market budget : ℕ) → body_of_line line.bytes ≡ body.Command (Clear market budget) → Told (written_reply line.number (clear_reply state market budget))
@@ -211,26 +275,20 @@ module _ (state : ProposingState) (line : InputLine) (sound : IsSound state) whe
   pub line_told : Told (proposing_line line.number state line.bytes)
   line_told = by (after_word line.bytes) refl
     where
-      some : (text : List ℕ) → Some text ≡ None → ⊥
-      some text e = cc
-
       unproposed_told : Told (unproposed_line line.number state line.bytes)
       unproposed_told =
           elim (read_of_line line.bytes) as (λ o.
           Told (option_map_or (λ asked. written_reply line.number (read_reply state.exchange asked, state)) o (body_line line.number state line.bytes (body_of_line line.bytes)))) [
             | Some asked ↦
                 beside_told (written_reply line.number (read_reply state.exchange asked, state))
-                (beside_text line.number (read_reply state.exchange asked) (read_beside state.exchange asked)) refl (λ none. refl) sound.proved
+                (beside_text line.number (read_reply state.exchange asked) (read_beside state.exchange asked)) refl refl
             | None ↦ body_told (body_of_line line.bytes) refl
           ]
 
       by : (o : Option (List ℕ)) → after_word line.bytes ≡ o
           → Told (option_map_or (λ text. written_reply line.number (proposed_reply state (proposed_of text))) o (unproposed_line line.number state line.bytes))
       by None is = unproposed_told
-      by (Some text) is =
-          let said = proposed_of text in
-          beside_told (written_reply line.number (proposed_reply state said)) (beside_text line.number (proposed_reply state said).0 (proposed_beside state said))
-          (proposed_kept state said) (λ none. absurd (some text (sym is ∙ none))) (proposed_proved state sound said)
+      by (Some text) is = proposal_told (proposed_of text) (ap (option_map proposed_of) is)
 
 -- ---- all lines
 record AreTold (state : ProposingState) (lines : List InputLine) : Type 0 where
@@ -265,7 +323,7 @@ all_told (line ∷ lines) state sound =
     let next : ExchangeState = state_by move state.exchange one.moves in
     record {
       answers = one.answer ∷ later.answers;
-      to_lines = (one.told, one.text, later.to_lines);
+      to_lines = (one.told, one.text, subst (λ (text : List ℕ). TellsAsked state line (text, now.1.exchange)) one.text (asked_told state line sound), later.to_lines);
       promises = All-cons KeepsProposalPromises one.answer later.answers one.promise later.promises;
       moves = one.moves ++ later.moves;
       may = moves_join one.moves later.moves state.exchange one.may (subst (λ e. AreMoves e later.moves) one.end later.may);
@@ -283,7 +341,7 @@ texts_told input (place ∷ places) state [] are = absurd are
 texts_told input (place ∷ places) state (answer ∷ answers) are =
     let line = input_line input place in
     let now = proposing_line line.number state line.bytes in
-    ap (λ l. l ++ places_output proposing_line input now.1 places) are.1 ∙ ap (λ l. told_text answer ++ l) (texts_told input places now.1 answers are.2)
+    ap (λ l. l ++ places_output proposing_line input now.1 places) are.1 ∙ ap (λ l. told_text answer ++ l) (texts_told input places now.1 answers are.3)
 
 pub empty_is_sound : IsSound empty_state
 empty_is_sound = record { kept = empty_is_kept; proved = All-nil (IsEntryProved empty_exchange.book) }

@@ -10,3 +10,4 @@ pub mod Proved
 pub mod Laws
 pub mod Promises
 pub mod LaterClears
+pub mod Worked

@@ -1,7 +1,23 @@
 -- What is promised of the bytes that are written where proposals are taken.
-use Rattle.std.specs.Prelude.{ℕ, ◌≡◌, ◌+◌, ◌⊎◌, ⊤, List, [], ◌∷◌, ◌++◌, true, Some, None}
+use Rattle.std.specs.Prelude.{ℕ, ◌≡◌, ◌+◌, ◌⊎◌, ⊤, List, [], ◌∷◌, ◌++◌, true, Some, None, Ok, option_map}
 use Rattle.std.specs.List.{All}
 use Rattle.std.specs.Option.{option_map_or}
+use Rattle.cert_check.specs.ProposalLaws.{Proves}
+use Rattle.cert_check.specs.Proposals.{proposal_bound}
+use Rattle.frac.specs.Range.{limit}
+use Rattle.frac.specs.Value.{fraction_of}
+use Rattle.frac.specs.declared.frac128.Frac128.{Frac128}
+use Rattle.lists.specs.Refusals.{first_of}
+use Rattle.order_book.specs.Numbers.{numbers_of}
+use Rattle.proposals.specs.Laws.{as_proposal}
+use Rattle.proposals.specs.declared.best.Best.{Best}
+use Rattle.quote_lines.specs.Bodies.{body_by}
+use Rattle.quote_lines.specs.Laws.{TellsPrices, TellsQuote}
+use Rattle.quote_lines.specs.Refusals.{quote_refusals}
+use Rattle.quote_lines.specs.declared.bodies.AskingWord.TheVariants as asks
+use Rattle.quote_lines.specs.declared.bodies.QuotesBody.TheVariants as says
+use Rattle.quote_lines.specs.declared.requests.PriceRequest.{PriceRequest}
+use Rattle.quote_lines.specs.declared.requests.QuoteRequest.{QuoteRequest}
 use Rattle.proposal_lines.specs.AllKinds.{IsBesideText, all_line}
 use Rattle.cert_check.specs.declared.outcome.Mark.TheVariants.{Budget}
 use Rattle.cert_check.specs.declared.outcome.Outcome.{Outcome}
@@ -27,10 +43,11 @@ use Rattle.reply_print.specs.ReplyPieces.{reply_line}
 use Rattle.reply_print.specs.declared.replies.Reply.{Reply}
 use Rattle.reply_print.specs.declared.replies.Reply.TheVariants.{Cleared}
 use Rattle.proposal_lines.specs.Clears.{better_in}
-use Rattle.proposal_lines.specs.KeptByMarket.{without_kept}
+use Rattle.proposal_lines.specs.KeptByMarket.{with_kept, without_kept}
 use Rattle.proposal_lines.specs.Laws.{IsBetter, IsSound, NoneIsAbove}
 use Rattle.proposal_lines.specs.Output.{proposing_line, proposing_reply_line}
-use Rattle.proposal_lines.specs.Proposed.{after_word}
+use Rattle.proposal_lines.specs.declared.proposed.Proposed.{Proposed}
+use Rattle.proposal_lines.specs.Proposed.{after_proposed, after_word, proposed_of, told_bound}
 use Rattle.proposal_lines.specs.Reads.{read_of_line, read_reply}
 use Rattle.proposal_lines.specs.ProposingState.{ProposingState, empty_state}
 
@@ -45,16 +62,26 @@ pub record BoundedAnswer : Type 0 where
   pub batch : Batch
   pub better : BoundedOutcome
 
--- what is told for a line: a run's answer, such a batch, or a text by which the exchange stays as
--- it is
+-- a proposal that was judged a bound for a batch, and what is kept for its market after it
+pub record TakenAnswer : Type 0 where
+  pub line : ℕ
+  pub proposed : Proposed
+  pub batch : Batch
+  pub bound : Frac128
+  pub best : Best
+
+-- what is told for a line: a run's answer, such a batch, such a proposal, or a text by which all
+-- stays as it is
 pub data ProposalAnswer : Type 0 where
   replied : Answer → ProposalAnswer
   bounded : BoundedAnswer → ProposalAnswer
+  taken : TakenAnswer → ProposalAnswer
   beside : (line : ℕ) (text : List ℕ) → ProposalAnswer
 
 abbrev pub told_text : ProposalAnswer → List ℕ
 told_text (replied answer) = reply_line answer.line answer.reply ++ 10 ∷ []
 told_text (bounded answer) = proposal_line answer.line (told.Bounded answer.number answer.market answer.batch answer.better) ++ 10 ∷ []
+told_text (taken answer) = proposal_line answer.line (told_bound answer.proposed answer.bound answer.best) ++ 10 ∷ []
 told_text (beside line text) = text
 
 abbrev pub told_texts : List ProposalAnswer → List ℕ
@@ -70,28 +97,37 @@ abbrev pub replies_in : List ProposalAnswer → List Reply
 replies_in [] = []
 replies_in (replied answer ∷ more) = answer.reply ∷ replies_in more
 replies_in (bounded answer ∷ more) = Cleared answer.number answer.market answer.batch (charged answer.better) ∷ replies_in more
+replies_in (taken answer ∷ more) = replies_in more
 replies_in (beside line text ∷ more) = replies_in more
 
+-- the proposal proves the bound that is told for the batch: its fills cover the surplus that is told
+-- at every settlement, and no fractional fills cover more than the bound. So do the fills and the
+-- measure that are kept after it, of the surplus and the bound that are told of them
+pub record ProvesTaken (answer : TakenAnswer) : Type 0 where
+  pub proposed : Proves answer.batch answer.proposed.submission.proposal (fraction_of answer.bound)
+  pub kept : Proves answer.batch (as_proposal answer.best) (fraction_of answer.best.bounded.bound)
+
 -- a run's keeps what is promised of a run; a batch that was cleared as proposals had it is better
--- than what the reference run answers within the budget
+-- than what the reference run answers within the budget; a proposal that was taken proves its bound
 abbrev pub KeepsProposalPromises : ProposalAnswer → Type 0
 KeepsProposalPromises (replied answer) = KeepsPromises answer
 KeepsProposalPromises (bounded answer) = IsBetter answer.batch (outcome_of answer.batch answer.budget) answer.better
+KeepsProposalPromises (taken answer) = ProvesTaken answer
 KeepsProposalPromises (beside line text) = ⊤
 
 -- ---- texts beside these
--- a reply that tells of no batch that is cleared
-abbrev pub ClearsNothing : ProposalReply → Type 0
-ClearsNothing (told.Book market batch) = ⊤
-ClearsNothing (told.Positions account market positions) = ⊤
-ClearsNothing (told.Proposed market surplus bound best_surplus least_bound) = ⊤
-ClearsNothing (told.Bounded number market batch outcome) = ⊥
-ClearsNothing told.Stale = ⊤
-ClearsNothing (told.Unproved failed) = ⊤
+-- a reply that tells what is read, or that a proposal is not taken
+abbrev pub TakesNothing : ProposalReply → Type 0
+TakesNothing (told.Book market batch) = ⊤
+TakesNothing (told.Positions account market positions) = ⊤
+TakesNothing (told.Proposed market surplus bound best_surplus least_bound) = ⊥
+TakesNothing (told.Bounded number market batch outcome) = ⊥
+TakesNothing told.Stale = ⊤
+TakesNothing (told.Unproved failed) = ⊤
 
 -- a text is the line of such a reply, with its line feed
 abbrev pub IsToldText : ℕ → List ℕ → Type 0
-IsToldText number text = (reply : ProposalReply) × ClearsNothing reply × (text ≡ proposal_line number reply ++ 10 ∷ [])
+IsToldText number text = (reply : ProposalReply) × TakesNothing reply × (text ≡ proposal_line number reply ++ 10 ∷ [])
 
 -- or one that is written where no proposals are taken: of a quote, of prices, of a margin or of a
 -- refusal
@@ -119,19 +155,39 @@ pub record IsBoundedFor (state : ProposingState) (line : InputLine) (answer : Bo
   pub exchange : after.exchange ≡ cleared_with state.exchange answer.market answer.better.proposal.fills
   pub kept : after.kept ≡ without_kept answer.market state.kept
 
--- the text moves nothing of the exchange, and a line that does not propose changes nothing of what
--- is kept
+-- the line proposes this for just the live orders of the market, it is judged by the sums of the
+-- verdict and proves this bound, and what is kept of it and of what was kept before is told
+pub record IsTakenFor (state : ProposingState) (line : InputLine) (answer : TakenAnswer) (after : ProposingState) : Type 0 where
+  pub of_line : answer.line ≡ line.number
+  pub says : option_map proposed_of (after_word line.bytes) ≡ Some (Ok answer.proposed)
+  pub batch : answer.batch ≡ batch_in state.exchange answer.proposed.market
+  pub orders : answer.proposed.submission.orders ≡ numbers_of answer.batch.orders
+  pub judged : proposal_bound limit answer.batch answer.proposed.submission.proposal ≡ Ok (fraction_of answer.bound)
+  pub best : answer.best ≡ after_proposed state.kept answer.proposed answer.bound
+  pub exchange : after.exchange ≡ state.exchange
+  pub kept : after.kept ≡ with_kept answer.proposed.market answer.best state.kept
+
+-- the text is none of a batch that is cleared or of a proposal that is taken, and all stays as it is
 pub record IsBesideFor (state : ProposingState) (line : InputLine) (number : ℕ) (text : List ℕ) (after : ProposingState) : Type 0 where
   pub of_line : number ≡ line.number
   pub of_kind : IsBesideProposals number text
   pub exchange : after.exchange ≡ state.exchange
-  pub kept : after_word line.bytes ≡ None → after.kept ≡ state.kept
+  pub kept : after.kept ≡ state.kept
 
 -- what a line is told in a state, and the state after it
 abbrev pub IsToldFor : ProposingState → InputLine → ProposalAnswer → ProposingState → Type 0
 IsToldFor state line (replied answer) after = IsRepliedFor state line answer after
 IsToldFor state line (bounded answer) after = IsBoundedFor state line answer after
+IsToldFor state line (taken answer) after = IsTakenFor state line answer after
 IsToldFor state line (beside number text) after = IsBesideFor state line number text after
+
+-- a line that asks for a quote, or for prices, and meets no refusal is told prices from which on a
+-- further order raises the greatest surplus of the live orders
+pub record TellsAsked (state : ProposingState) (line : InputLine) (written : List ℕ × ExchangeState) : Type 0 where
+  pub quote : (request : QuoteRequest) → body_by asks.Quote line.bytes ≡ says.Quote request → first_of (quote_refusals state.exchange.book request) ≡ None
+      → TellsQuote line.number state.exchange request written
+  pub prices : (request : PriceRequest) → body_by asks.Price line.bytes ≡ says.Price request → first_of (quote_refusals state.exchange.book request.quote) ≡ None
+      → TellsPrices line.number state.exchange request written
 
 -- one for each line, in order, each in the state that the lines before it left
 abbrev pub AreToldFor : ProposingState → List InputLine → List ProposalAnswer → Type 0
@@ -139,7 +195,7 @@ AreToldFor state [] answers = answers ≡ []
 AreToldFor state (line ∷ lines) [] = ⊥
 AreToldFor state (line ∷ lines) (answer ∷ answers) =
     let now = proposing_line line.number state line.bytes in
-    IsToldFor state line answer now.1 × (now.0 ≡ told_text answer) × AreToldFor now.1 lines answers
+    IsToldFor state line answer now.1 × (now.0 ≡ told_text answer) × TellsAsked state line (told_text answer, now.1.exchange) × AreToldFor now.1 lines answers
 
 -- the state after lines, from one on
 abbrev pub state_by_lines : ProposingState → List InputLine → ProposingState

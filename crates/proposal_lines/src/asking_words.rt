@@ -44,7 +44,7 @@ pub(crate) fn asking_word(alloc: Global, line: &[u8]) -> Result<Option<AskingWor
         return Ok(None);
     }
     match line_fields(alloc, line)? {
-        Some(fields) => Ok(word_in(&fields.first(alloc)?)),
+        Some(fields) => Ok(word_in(&fields)),
         None => Ok(None),
     }
 }

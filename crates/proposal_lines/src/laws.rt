@@ -2,6 +2,7 @@
 ghost use Rattle.proposal_lines.specs.LaterClears.{ProposalsLowerNothing};
 ghost use Rattle.proposal_lines.specs.Laws.{ClearsAreAtLeast, ClearsAreProved, RefusedChangeNothing};
 ghost use Rattle.proposal_lines.specs.Promises.{OutputsTellProposals, WithoutProposals};
+ghost use Rattle.proposal_lines.specs.Worked.{ReadsAsWorked};
 
 /// In each state that an exchange which takes proposals may be in: what is charged in place of the
 /// reference run's outcome proves its bound for the batch, so its fills cover its surplus at every
@@ -31,11 +32,12 @@ pub fn refused_change_nothing()
 {}
 
 /// What is written for an input is the text of the answers to its lines, each of which keeps what
-/// is promised: a run's, batches that were cleared as proposals had it, and texts beside them that
-/// change nothing in the exchange. A batch that is not marked optimal nor cleared as proposals had
-/// it is matched where nothing that counts covers more. The answers leave the house its gains: of
-/// each batch at least the surplus that is told, batches that were cleared as proposals had it
-/// among them.
+/// is promised: a run's, batches that were cleared as proposals had it, proposals that were judged
+/// a bound with just the numbers that are told, and texts beside them that change nothing. A batch
+/// that is not marked optimal nor cleared as proposals had it is matched where nothing that counts
+/// covers more. Quotes and prices are those from which on a further order raises the greatest
+/// surplus. The answers leave the house its gains: of each batch at least the surplus that is told,
+/// batches that were cleared as proposals had it among them.
 pub fn outputs_tell_proposals()
     ensures { OutputsTellProposals }
 {}
@@ -44,4 +46,9 @@ pub fn outputs_tell_proposals()
 /// line that reads a book or positions is told what it asks for.
 pub fn without_proposals()
     ensures { WithoutProposals }
+{}
+
+/// What lines ask to read, at the limits of their numbers and beyond: worked rows.
+pub fn reads_as_worked()
+    ensures { ReadsAsWorked }
 {}

@@ -91,7 +91,7 @@ pub(crate) fn read_of_line(
     ensures { IfOk result (λ asked. asked ≡ read_of_line line.now) }
 {
     match line_fields(alloc, line)? {
-        Some(fields) => Ok(read_request(&fields.first(alloc)?)),
+        Some(fields) => Ok(read_request(&fields)),
         None => Ok(None),
     }
 }

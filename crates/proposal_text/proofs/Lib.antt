@@ -3,3 +3,5 @@ pub mod WrittenProposals
 mod SoundProposals
 mod TakenProposals
 pub mod ReadExactly
+mod RisingNumbers
+mod Signs

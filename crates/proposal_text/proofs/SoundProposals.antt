@@ -1,11 +1,13 @@
 -- What is taken out of a text or a line is within its ranges.
-use Rattle.std.proofs.Common.{ℕ, ◌≤◌, ◌≤ℤ◌, ℤ, pos, int_le, List, length, true, false, Bool, ◌==◌, nat_le, Option, option_and_then, codes, refl, if◌then◌else◌}
+use Rattle.std.proofs.Common.{◌≡◌, ℕ, ◌≤◌, ◌≤ℤ◌, ℤ, pos, int_le, List, length, true, false, Bool, ◌==◌, nat_le, Option, option_and_then, codes, refl, if◌then◌else◌}
 use Rattle.std.specs.Prelude.{⊤}
 use Rattle.std.specs.List.{AllByRecursion}
 use Rattle.std.specs.Str.{bytes_eq}
-use Rattle.std.proofs.lemmas.Bool.{leb-true}
+use Rattle.std.proofs.lemmas.Bool.{and_parts, leb-true}
 use Rattle.arithmetic.proofs.Tests.{int_le-yes}
 use Rattle.form.specs.declared.limits.TheConstants.{MAX_BUDGET, MAX_ORDER, MAX_ORDERS}
+use Rattle.form.specs.declared.orders.Batch.{Batch}
+use Rattle.frac.specs.Value.{fraction_of}
 use Rattle.frac.specs.declared.frac128.Frac128.{Frac128}
 use Rattle.cert_check.specs.declared.outcome.Claim.{Claim}
 use Rattle.cert_check.specs.declared.outcome.Mark.{Mark}
@@ -23,9 +25,10 @@ use Rattle.reply_text.proofs.SoundCleared.{IsBundleListed, IsClearedWithin, batc
 use Rattle.form.specs.Between.{Between}
 use Rattle.proposal_text.specs.declared.replies.ProposalReply.{ProposalReply}
 use Rattle.proposal_text.specs.declared.replies.ProposalReply.TheVariants.{Book, Positions, Proposed, Stale, Unproved}
-use Rattle.proposal_text.specs.ReplyValues.{book_from, filled, fill_at, position_of, position_from, positions_from, proposed_from, bounded_of, bounded_with, stop_by_word, outcome_from, bounded_from, failed_by_word, reply_by}
+use Rattle.proposal_text.specs.ReplyValues.{are_bounds, are_in_order, are_surpluses, book_from, do_rise, filled, fill_at, position_of, position_from, positions_from, proposed_from, bounded_of, bounded_with, stop_by_word, outcome_from, bounded_from, failed_by_word, reply_by, rising}
 use Rattle.proposal_text.specs.Submissions.{proposal_of, proposal_from, order_number_from, few_numbers, order_numbers_at, submission_with, submission_from}
-use Rattle.proposal_text.specs.Within.{IsProposalWithin, IsSubmissionWithin, IsPositionWithin, IsBoundedWithin, IsProposalReplyWithin}
+use Rattle.proposal_text.specs.Within.{AreInOrder, AreRising, IsProposalWithin, IsSubmissionWithin, IsPositionWithin, IsBoundedWithin, IsProposalReplyWithin}
+use Rattle.proposal_text.proofs.RisingNumbers.{rise_are}
 use Rattle.reply_print.specs.Look.{number_at, word_at}
 
 -- ---- proposals
@@ -65,10 +68,15 @@ submission_sound d =
 abbrev IsSoundReply : Option ProposalReply → Type 0
 IsSoundReply = Sound IsProposalReplyWithin
 
+abbrev IsRisingBatch : Batch → Type 0
+IsRisingBatch batch = IsBatchWithin batch × AreRising batch.orders
+
 book_sound : (d : Data) → IsSoundReply (book_from d)
 book_sound d =
     after IsMarket IsProposalReplyWithin _ (market_at d) (natural_sound 1 MAX_MARKET (codes "market") d)
-    (λ market m. mapped IsBatchWithin IsProposalReplyWithin (Book market) (batch_from d) (batch_sound d) (λ batch b. (m, b)))
+    (λ market m. mapped IsRisingBatch IsProposalReplyWithin (Book market) (option_and_then rising (batch_from d))
+    (after IsBatchWithin IsRisingBatch rising (batch_from d) (batch_sound d) (λ batch b. where_true IsRisingBatch (do_rise batch.orders) batch (λ e. (b, rise_are batch.orders e))))
+    (λ batch b. (m, b.0, b.1)))
 
 abbrev IsFilled : Frac128 → Type 0
 IsFilled x = pos 1 ≤ℤ x.numerator
@@ -95,13 +103,24 @@ positions_sound d =
     (λ market m. mapped (AllByRecursion (IsPositionWithin account market)) IsProposalReplyWithin (λ positions. Positions account market positions) _
     (list_sound (IsPositionWithin account market) (codes "positions") (position_from account market) d (position_sound account market)) (λ positions p. (a, m, p))))
 
+-- numbers that pass the test do not fall
+order_is : (surplus best_surplus least_bound bound : Frac128) → are_in_order (fraction_of surplus) (fraction_of best_surplus) (fraction_of least_bound) (fraction_of bound) ≡ true
+    → AreInOrder surplus best_surplus least_bound bound
+order_is surplus best_surplus least_bound bound e =
+    let parts = and_parts (are_surpluses (fraction_of surplus) (fraction_of best_surplus)) (are_bounds (fraction_of best_surplus) (fraction_of least_bound) (fraction_of bound)) e in
+    let surpluses = and_parts _ _ parts.0 in
+    let bounds = and_parts _ _ parts.1 in
+    record { not_below_zero = int_le-yes _ _ surpluses.0; best = int_le-yes _ _ surpluses.1; bounded = int_le-yes _ _ bounds.0; least = int_le-yes _ _ bounds.1 }
+
 proposed_sound : (d : Data) → IsSoundReply (proposed_from d)
 proposed_sound d =
     after IsMarket IsProposalReplyWithin _ (market_at d) (natural_sound 1 MAX_MARKET (codes "market") d)
     (λ market m. after (λ x. ⊤) IsProposalReplyWithin _ _ (any (take_at (codes "surplus") fraction_from d))
     (λ surplus s. after (λ x. ⊤) IsProposalReplyWithin _ _ (any (take_at (codes "bound") fraction_from d))
     (λ bound b. after (λ x. ⊤) IsProposalReplyWithin _ _ (any (take_at (codes "best_surplus") fraction_from d))
-    (λ best_surplus g. mapped (λ x. ⊤) IsProposalReplyWithin (Proposed market surplus bound best_surplus) _ (any (take_at (codes "least_bound") fraction_from d)) (λ least_bound k. m)))))
+    (λ best_surplus g. after (λ x. ⊤) IsProposalReplyWithin _ _ (any (take_at (codes "least_bound") fraction_from d))
+    (λ least_bound k. where_true IsProposalReplyWithin (are_in_order (fraction_of surplus) (fraction_of best_surplus) (fraction_of least_bound) (fraction_of bound)) (Proposed market surplus bound best_surplus least_bound)
+    (λ e. (m, order_is surplus best_surplus least_bound bound e)))))))
 
 outcome_sound : (d : Data) → Sound IsBoundedWithin (outcome_from d)
 outcome_sound d =

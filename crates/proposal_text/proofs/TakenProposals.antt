@@ -1,12 +1,14 @@
 -- What is written of proposals and of the replies about them is taken out again.
-use Rattle.std.proofs.Common.{◌≡◌, ℕ, ◌≤◌, ◌≤ℤ◌, ℤ, pos, negsuc, int_le, List, [], ◌∷◌, length, true, false, Some, option_map, option_and_then, codes, refl, sym, ap, ◌∙◌, arith, true≢false}
+use Rattle.std.proofs.Common.{◌≡◌, ℕ, ◌≤◌, ◌≤ℤ◌, ℤ, pos, negsuc, int_le, List, [], ◌∷◌, length, true, false, if◌then◌else◌, Some, None, option_map, option_and_then, codes, refl, sym, ap, ◌∙◌, arith, true≢false}
 use Rattle.std.specs.List.{AllByRecursion}
 use Rattle.std.proofs.lemmas.Bool.{and_from, le-leb}
 use Rattle.std.proofs.lemmas.Int.{ints}
+use Rattle.arithmetic.proofs.Tests.{int_le-true}
 use Rattle.form.specs.declared.limits.TheConstants.{MAX_BUDGET, MAX_ORDER, MAX_ORDERS}
 use Rattle.form.specs.declared.orders.Batch.{Batch}
 use Rattle.form.specs.declared.orders.Order.{Order}
 use Rattle.form.specs.Bundles.{legs_in}
+use Rattle.frac.specs.Value.{fraction_of}
 use Rattle.frac.specs.declared.frac128.Frac128.{Frac128}
 use Rattle.settlement.specs.declared.position.Position.{Position}
 use Rattle.cert_check.specs.declared.outcome.Mark.TheVariants as mark
@@ -20,7 +22,7 @@ use Rattle.reply_print.proofs.WrittenReplies.{IsLegWithin, legs_within}
 use Rattle.reply_print.specs.ClearedShape.{leg_shape, order_shape}
 use Rattle.reply_print.specs.Look.{items_all, is_whole}
 use Rattle.reply_text.specs.BatchValues.{fraction_from, leg_from, order_from}
-use Rattle.reply_text.specs.ReplyValues.{few_orders, cleared_batch_of}
+use Rattle.reply_text.specs.ReplyValues.{batch_from, few_orders, cleared_batch_of}
 use Rattle.reply_text.specs.Taking.{items_map, list_at, take_at}
 use Rattle.reply_text.specs.OutcomeValues.{certificate_from}
 use Rattle.reply_text.proofs.FiveTests.{IsTaken, paired}
@@ -40,9 +42,10 @@ use Rattle.proposal_text.specs.declared.replies.ProposalReply.TheVariants.{Book,
 use Rattle.reply_print.specs.ReplyPieces.{position_piece}
 use Rattle.proposal_text.specs.Pieces.{submission_piece, stop_word, failed_word, proposal_piece}
 use Rattle.proposal_text.specs.ReplyShapes.{position_shape, position_numbers, is_stop, is_failed}
-use Rattle.proposal_text.specs.ReplyValues.{filled, position_of, position_from, stop_by_word, bounded_of, failed_by_word, proposal_tests}
+use Rattle.proposal_text.specs.ReplyValues.{are_in_order, filled, position_of, position_from, rising, stop_by_word, bounded_of, failed_by_word, proposal_tests}
 use Rattle.proposal_text.specs.Submissions.{proposal_from, order_number_from, few_numbers, submission_with, submission_shape, proposal_numbers, submission_from}
-use Rattle.proposal_text.specs.Within.{IsSubmissionWithin, IsPositionWithin, IsProposalLineWithin}
+use Rattle.proposal_text.specs.Within.{AreInOrder, AreRising, IsSubmissionWithin, IsPositionWithin, IsProposalLineWithin}
+use Rattle.proposal_text.proofs.RisingNumbers.{are_rise}
 
 -- ---- proposals
 
@@ -163,13 +166,17 @@ failed_taken failed.Wide = refl
 abbrev IsTakenFrom : ℕ → ProposalReply → Type 0
 IsTakenFrom line reply = IsTaken proposal_tests (piece_data (proposal_piece line reply)) (line, reply)
 
+rising_taken : (d : Data) (batch : Batch) → batch_from d ≡ Some batch → AreRising batch.orders → option_and_then rising (batch_from d) ≡ Some batch
+rising_taken d batch e h = ap (option_and_then rising) e ∙ ap (λ b. if b then Some batch else None) (are_rise batch.orders h)
+
 book_taken : (line market : ℕ) (batch : Batch) → IsProposalLineWithin line (Book market batch) → IsTakenFrom line (Book market batch)
 book_taken line market batch h = let d = piece_data (proposal_piece line (Book market batch)) in record {
   shape = and_from _ _ (orders_are batch.orders h.1.1.2) refl;
   numbers = refl;
   taken = paired _ _ line _ (line_taken line h.0)
       (then_taken _ _ market _ (natural_taken 1 MAX_MARKET market h.1.0)
-      (ap (option_map (Book market)) (batch_taken d batch (natural_taken 1 8 batch.underlyings h.1.1.0) (orders_taken batch.orders h.1.1.1 h.1.1.2))));
+      (ap (option_map (Book market))
+      (rising_taken d batch (batch_taken d batch (natural_taken 1 8 batch.underlyings h.1.1.0) (orders_taken batch.orders h.1.1.1 h.1.1.2)) h.1.2)));
 }
 
 positions_taken : (line account market : ℕ) (positions : List Position) → IsProposalLineWithin line (Positions account market positions) → IsTakenFrom line (Positions account market positions)
@@ -182,16 +189,24 @@ positions_taken line account market positions h = record {
       (ap (option_map (λ ps. Positions account market ps)) (items_taken (IsPositionWithin account market) position_piece (position_from account market) (position_taken account market) positions h.1.2))));
 }
 
+-- numbers that do not fall pass the test
+order_passes : (surplus best_surplus least_bound bound : Frac128) → AreInOrder surplus best_surplus least_bound bound
+    → are_in_order (fraction_of surplus) (fraction_of best_surplus) (fraction_of least_bound) (fraction_of bound) ≡ true
+order_passes surplus best_surplus least_bound bound h =
+    and_from _ _ (and_from _ _ (int_le-true _ _ h.not_below_zero) (int_le-true _ _ h.best)) (and_from _ _ (int_le-true _ _ h.bounded) (int_le-true _ _ h.least))
+
 proposed_taken : (line market : ℕ) (surplus bound best_surplus least_bound : Frac128) → IsProposalLineWithin line (Proposed market surplus bound best_surplus least_bound)
     → IsTakenFrom line (Proposed market surplus bound best_surplus least_bound)
 proposed_taken line market surplus bound best_surplus least_bound h = record {
   shape = refl;
   numbers = and_from _ _ (fraction_number best_surplus) (and_from _ _ (fraction_number bound) (and_from _ _ (fraction_number least_bound) (fraction_number surplus)));
   taken = paired _ _ line _ (line_taken line h.0)
-      (then_taken _ _ market _ (natural_taken 1 MAX_MARKET market h.1)
+      (then_taken _ _ market _ (natural_taken 1 MAX_MARKET market h.1.0)
       (then_taken _ _ surplus _ (fraction_taken surplus)
       (then_taken _ _ bound _ (fraction_taken bound)
-      (then_taken _ _ best_surplus _ (fraction_taken best_surplus) (ap (option_map (Proposed market surplus bound best_surplus)) (fraction_taken least_bound))))));
+      (then_taken _ _ best_surplus _ (fraction_taken best_surplus)
+      (then_taken _ _ least_bound _ (fraction_taken least_bound)
+      (ap (λ b. if b then Some (Proposed market surplus bound best_surplus least_bound) else None) (order_passes surplus best_surplus least_bound bound h.1.1)))))));
 }
 
 bounded_taken : (line number market : ℕ) (batch : Batch) (outcome : BoundedOutcome) → IsProposalLineWithin line (Bounded number market batch outcome) → IsTakenFrom line (Bounded number market batch outcome)

@@ -1,9 +1,14 @@
 -- The replies about proposals as they are taken out of a line, where they are within their ranges,
 -- and their reading.
-use Rattle.std.specs.Prelude.{ℕ, ◌≡◌, pos, int_le, List, false, ◌==◌, Option, Some, None, Result, option_map, option_and_then, codes, if◌then◌else◌}
+use Rattle.std.specs.Prelude.{ℕ, ◌≡◌, pos, int_le, List, [], ◌∷◌, Bool, true, false, ◌&&◌, ◌==◌, nat_lt, Option, Some, None, Result, option_map, option_and_then, codes, if◌then◌else◌}
 use Rattle.std.specs.Str.{bytes_eq}
+use Rattle.exact_num.specs.Fraction.{Fraction}
+use Rattle.exact_num.specs.Tests.{is_at_most, is_not_below_zero}
+use Rattle.form.specs.declared.orders.Batch.{Batch}
+use Rattle.form.specs.declared.orders.Order.{Order}
 use Rattle.form.specs.declared.orders.Side.{Side}
 use Rattle.form.specs.declared.bundles.Bundle.{Bundle}
+use Rattle.frac.specs.Value.{fraction_of}
 use Rattle.frac.specs.declared.frac128.Frac128.{Frac128}
 use Rattle.settlement.specs.declared.position.Position.{Position}
 use Rattle.serde_json.specs.Data.{Data}
@@ -29,8 +34,19 @@ use Rattle.proposal_text.specs.ReplyShapes.{numbers_by, shape_by}
 use Rattle.proposal_text.specs.Submissions.{proposal_from}
 use Rattle.proposal_text.specs.Within.{IsProposalLineWithin}
 
+-- ---- live orders
+
+-- each order's number is below the next one's
+abbrev pub do_rise : List Order → Bool
+do_rise [] = true
+do_rise (order ∷ []) = true
+do_rise (order ∷ next ∷ orders) = nat_lt order.id next.id && do_rise (next ∷ orders)
+
+abbrev pub rising : Batch → Option Batch
+rising batch = if do_rise batch.orders then Some batch else None
+
 abbrev pub book_from : Data → Option ProposalReply
-book_from d = option_and_then (λ market. option_map (Book market) (batch_from d)) (market_at d)
+book_from d = option_and_then (λ market. option_map (Book market) (option_and_then rising (batch_from d))) (market_at d)
 
 -- ---- positions
 
@@ -66,12 +82,28 @@ positions_from d =
 
 -- ---- proposals that are judged a bound
 
+-- whether 0 and these do not fall, in this order
+abbrev pub are_surpluses : Fraction → Fraction → Bool
+are_surpluses surplus best_surplus = is_not_below_zero surplus && is_at_most surplus best_surplus
+
+abbrev pub are_bounds : Fraction → Fraction → Fraction → Bool
+are_bounds best_surplus least_bound bound = is_at_most best_surplus least_bound && is_at_most least_bound bound
+
+abbrev pub are_in_order : Fraction → Fraction → Fraction → Fraction → Bool
+are_in_order surplus best_surplus least_bound bound = are_surpluses surplus best_surplus && are_bounds best_surplus least_bound bound
+
+abbrev pub proposed_by : ℕ → Frac128 → Frac128 → Frac128 → Frac128 → Option ProposalReply
+proposed_by market surplus bound best_surplus least_bound =
+    if are_in_order (fraction_of surplus) (fraction_of best_surplus) (fraction_of least_bound) (fraction_of bound)
+    then Some (Proposed market surplus bound best_surplus least_bound)
+    else None
+
 abbrev pub proposed_from : Data → Option ProposalReply
 proposed_from d =
     option_and_then (λ market.
     option_and_then (λ surplus.
     option_and_then (λ bound.
-    option_and_then (λ best_surplus. option_map (Proposed market surplus bound best_surplus) (take_at (codes "least_bound") fraction_from d))
+    option_and_then (λ best_surplus. option_and_then (proposed_by market surplus bound best_surplus) (take_at (codes "least_bound") fraction_from d))
     (take_at (codes "best_surplus") fraction_from d))
     (take_at (codes "bound") fraction_from d))
     (take_at (codes "surplus") fraction_from d))

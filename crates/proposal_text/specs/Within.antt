@@ -1,8 +1,13 @@
 -- Proposals and the replies about them within their ranges.
-use Rattle.std.specs.Prelude.{ℕ, ◌≡◌, ◌≤◌, pos, ◌≤ℤ◌, ⊤, length}
+use Rattle.std.specs.Prelude.{ℕ, List, ◌≡◌, ◌≤◌, pos, ◌≤ℤ◌, ⊤, length, map}
 use Rattle.std.specs.List.{All, AllByRecursion}
+use Rattle.std.specs.List.Sorted.{IsStrictlyIncreasing}
+use Rattle.exact_num.specs.Fraction.{AtMost, IsNotBelowZero}
 use Rattle.form.specs.declared.legs.Leg.{Leg}
 use Rattle.form.specs.declared.limits.TheConstants.{MAX_BUDGET, MAX_ORDERS}
+use Rattle.form.specs.declared.orders.Order.{Order}
+use Rattle.frac.specs.Value.{fraction_of}
+use Rattle.frac.specs.declared.frac128.Frac128.{Frac128}
 use Rattle.form.specs.Bundles.{legs_in}
 use Rattle.form.specs.Limits.{IsListed}
 use Rattle.form.specs.Payoff.{option_of}
@@ -34,10 +39,21 @@ pub record IsPositionWithin (account market : ℕ) (p : Position) : Type 0 where
 abbrev pub IsBoundedWithin : BoundedOutcome → Type 0
 IsBoundedWithin outcome = (outcome.units ≤ MAX_BUDGET) × IsProposalWithin outcome.proposal
 
+-- the numbers of the orders rise
+abbrev pub AreRising : List Order → Type 0
+AreRising orders = IsStrictlyIncreasing (map (λ (order : Order). order.id) orders)
+
+-- 0 and these do not fall, in this order
+pub record AreInOrder (surplus best_surplus least_bound bound : Frac128) : Type 0 where
+  pub not_below_zero : IsNotBelowZero (fraction_of surplus)
+  pub best : AtMost (fraction_of surplus) (fraction_of best_surplus)
+  pub bounded : AtMost (fraction_of best_surplus) (fraction_of least_bound)
+  pub least : AtMost (fraction_of least_bound) (fraction_of bound)
+
 abbrev pub IsProposalReplyWithin : ProposalReply → Type 0
-IsProposalReplyWithin (Book market batch) = IsMarket market × IsBatchWithin batch
+IsProposalReplyWithin (Book market batch) = IsMarket market × IsBatchWithin batch × AreRising batch.orders
 IsProposalReplyWithin (Positions account market positions) = IsAccount account × IsMarket market × AllByRecursion (IsPositionWithin account market) positions
-IsProposalReplyWithin (Proposed market surplus bound best_surplus least_bound) = IsMarket market
+IsProposalReplyWithin (Proposed market surplus bound best_surplus least_bound) = IsMarket market × AreInOrder surplus best_surplus least_bound bound
 IsProposalReplyWithin (Bounded number market batch outcome) = IsBatchNumber number × IsMarket market × IsBatchWithin batch × IsBoundedWithin outcome
 IsProposalReplyWithin Stale = ⊤
 IsProposalReplyWithin (Unproved f) = ⊤

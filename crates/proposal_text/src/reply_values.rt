@@ -1,12 +1,14 @@
 // The replies that are taken out of a line, where they are within their ranges.
 ghost use Rattle.std.specs.Prelude.{◌≡◌, IfOk};
+ghost use Rattle.exact_num.specs.Tests.{is_not_below_zero};
+ghost use Rattle.frac.specs.Value.{fraction_of};
 ghost use Rattle.serde_json.specs.View.{view};
-ghost use Rattle.proposal_text.specs.ReplyValues.{book_from as book_is, bounded_from as bounded_is, failed_by_word as failed_named, fill_at as fill_found, outcome_from as outcome_is, position_from as position_is, positions_from as positions_are, proposed_from as proposed_is, refused_from as refused_is, stop_by_word as stop_named};
+ghost use Rattle.proposal_text.specs.ReplyValues.{are_bounds as bounds_are, are_in_order as is_ordered, are_surpluses as surpluses_are, book_from as book_is, bounded_from as bounded_is, do_rise, failed_by_word as failed_named, fill_at as fill_found, outcome_from as outcome_is, position_from as position_is, positions_from as positions_are, proposed_from as proposed_is, refused_from as refused_is, stop_by_word as stop_named};
 
 use crate::replies::{BoundedOutcome, Failed, Positions, ProposalReply, RunStop};
 use crate::submission_text::proposal_from;
 use exact_num::Exact;
-use form::MAX_BUDGET;
+use form::{MAX_BUDGET, Order};
 use frac::Frac128;
 use reply_print::look::{number_at, word_at};
 use reply_text::batch_values::{batch_from, bundle_from, cleared_batch_from, side_at};
@@ -18,6 +20,13 @@ use serde_json::Value;
 use settlement::Position;
 use std::alloc::{AllocError, Global};
 
+// Whether the numbers of the orders rise.
+fn are_rising(orders: &[Order]) -> bool
+    ensures { result ≡ do_rise orders.now }
+{
+    orders.is_sorted_by(|order, next| order.id < next.id)
+}
+
 pub(crate) fn book_from(alloc: Global, value: &Value) -> Result<Option<ProposalReply>, AllocError>
     ensures { IfOk result (λ o. o ≡ book_is (view value.now)) }
 {
@@ -27,6 +36,9 @@ pub(crate) fn book_from(alloc: Global, value: &Value) -> Result<Option<ProposalR
     let Some(batch) = batch_from(alloc, value)? else {
         return Ok(None);
     };
+    if !are_rising(batch.orders.as_slice()) {
+        return Ok(None);
+    }
     Ok(Some(ProposalReply::Book { market, batch }))
 }
 
@@ -104,6 +116,38 @@ pub(crate) fn positions_from(
     }))
 }
 
+fn is_not_negative(x: Frac128) -> bool
+    ensures { result ≡ is_not_below_zero (fraction_of x) }
+{
+    x.sign() >= 0
+}
+
+// Whether 0 and these do not fall, in this order.
+fn are_surpluses(surplus: Frac128, best_surplus: Frac128) -> bool
+    ensures { result ≡ surpluses_are (fraction_of surplus) (fraction_of best_surplus) }
+{
+    is_not_negative(surplus) && surplus <= best_surplus
+}
+
+fn are_bounds(best_surplus: Frac128, least_bound: Frac128, bound: Frac128) -> bool
+    ensures { result
+        ≡ bounds_are (fraction_of best_surplus) (fraction_of least_bound) (fraction_of bound) }
+{
+    best_surplus <= least_bound && least_bound <= bound
+}
+
+fn are_in_order(
+    surplus: Frac128,
+    best_surplus: Frac128,
+    least_bound: Frac128,
+    bound: Frac128,
+) -> bool
+    ensures { result ≡ is_ordered (fraction_of surplus) (fraction_of best_surplus)
+        (fraction_of least_bound) (fraction_of bound) }
+{
+    are_surpluses(surplus, best_surplus) && are_bounds(best_surplus, least_bound, bound)
+}
+
 pub(crate) fn proposed_from(value: &Value) -> Option<ProposalReply>
     ensures { result ≡ proposed_is (view value.now) }
 {
@@ -112,6 +156,9 @@ pub(crate) fn proposed_from(value: &Value) -> Option<ProposalReply>
     let bound = fraction_at(value, "bound")?;
     let best_surplus = fraction_at(value, "best_surplus")?;
     let least_bound = fraction_at(value, "least_bound")?;
+    if !are_in_order(surplus, best_surplus, least_bound, bound) {
+        return None;
+    }
     Some(ProposalReply::Proposed {
         market,
         surplus,

@@ -1,5 +1,5 @@
 -- What quoted and priced lines tell of the greatest surplus.
-use Rattle.std.proofs.Common.{◌≡◌, ℕ, Option, refl, ap, subst, ◌∙◌, inl, inr}
+use Rattle.std.proofs.Common.{◌≡◌, ℕ, Option, Some, refl, ap, subst, ◌∙◌, inl, inr}
 use Rattle.std.specs.Option.{option_map_or}
 use Rattle.form.specs.declared.orders.Batch.{Batch}
 use Rattle.form.specs.declared.orders.Order.{Order}
@@ -62,9 +62,9 @@ quoted_lines_are_thresholds number state line request kept asked allowed =
 
 -- ---- prices
 side_tells : (batch : Batch) (order : Order) (budget : ℕ) (found : SidePrice) → TellsSide batch order budget found → TellsImplied batch order budget (side_told found)
-side_tells batch order budget (side.At price raising beside) tells = tells
-side_tells batch order budget (side.Never extreme) tells = tells
-side_tells batch order budget (side.Unmarked price outcome) tells = inr (inl (price, outcome, tells))
+side_tells batch order budget (side.At price raising beside) tells = tells.0
+side_tells batch order budget (side.Never extreme) tells = tells.0
+side_tells batch order budget (side.Unmarked price outcome) tells = inr (inl ((Some price, outcome), tells))
 side_tells batch order budget side.Spent tells = inr (inr tells)
 
 -- what both sides tell

@@ -53,19 +53,23 @@ TellsPrice batch order budget Unmarked = (probe : Probe) × (first_unmarked (pro
 abbrev pub TellsOf : ExchangeState → QuoteRequest → Side → QuotedPrice → Type 0
 TellsOf state request side price = TellsPrice (batch_in state request.market) (further request.form side) request.budget price
 
--- a line that asks for a quote and meets no refusal is answered by a quoted line, whose bid tells
--- this of a further buy and whose ask of a further sell, and the exchange is as it was
+-- what is written is a quoted line, whose bid tells this of a further buy and whose ask of a further
+-- sell, and the exchange is as it was
+abbrev pub TellsQuote : ℕ → ExchangeState → QuoteRequest → List ℕ × ExchangeState → Type 0
+TellsQuote number state request written =
+    (bid : QuotedPrice) × (ask : QuotedPrice) × (written ≡ (quoted_line number request.market bid ask ++ 10 ∷ [], state))
+    × TellsOf state request Buy bid × TellsOf state request Sell ask
+
+-- so it is for a line that asks for a quote and meets no refusal
 abbrev pub QuotedLinesAreThresholds : Type 0
 QuotedLinesAreThresholds =
     (number : ℕ) (state : ExchangeState) (line : List ℕ) (request : QuoteRequest) → IsKept state
     → quotes_body_of line ≡ Quote request → first_of (quote_refusals state.book request) ≡ None
-    → (bid : QuotedPrice) × (ask : QuotedPrice)
-    × (quotes_line number state line ≡ (quoted_line number request.market bid ask ++ 10 ∷ [], state))
-    × TellsOf state request Buy bid × TellsOf state request Sell ask
+    → TellsQuote number state request (quotes_line number state line)
 
 -- ---- what a priced line tells
--- a price, or `never`, as above; `unmarked`: no price is found, for want of a mark or of one probe
--- more
+-- a price, or `never`, as above; `unmarked`: the first clear that is not marked optimal, of the
+-- batch or of the batch with the order at a price, or the want of a clear more than 60 of a side
 abbrev pub TellsImplied : Batch → Order → ℕ → QuotedPrice → Type 0
 TellsImplied batch order budget (At price) = RaisesGreatestFrom batch order price
 TellsImplied batch order budget Never = NeverRaisesGreatest batch order
@@ -75,12 +79,16 @@ abbrev pub TellsImpliedOf : ExchangeState → PriceRequest → Side → QuotedPr
 TellsImpliedOf state request side price =
     TellsImplied (batch_in state request.quote.market) (asked request.quote.form side request.quantity) request.quote.budget price
 
--- a line that asks for prices and meets no refusal is answered by a priced line, whose ask tells
--- this of a further buy and whose bid of a further sell, and the exchange is as it was
+-- what is written is a priced line, whose ask tells this of a further buy and whose bid of a further
+-- sell, and the exchange is as it was
+abbrev pub TellsPrices : ℕ → ExchangeState → PriceRequest → List ℕ × ExchangeState → Type 0
+TellsPrices number state request written =
+    (ask : QuotedPrice) × (bid : QuotedPrice) × (written ≡ (priced_line number request.quote.market request.quantity ask bid ++ 10 ∷ [], state))
+    × TellsImpliedOf state request Buy ask × TellsImpliedOf state request Sell bid
+
+-- so it is for a line that asks for prices and meets no refusal
 abbrev pub PricedLinesAreThresholds : Type 0
 PricedLinesAreThresholds =
     (number : ℕ) (state : ExchangeState) (line : List ℕ) (request : PriceRequest) → IsKept state
     → body_by asks.Price line ≡ Price request → first_of (quote_refusals state.book request.quote) ≡ None
-    → (ask : QuotedPrice) × (bid : QuotedPrice)
-    × (line_by asks.Price number state line ≡ (priced_line number request.quote.market request.quantity ask bid ++ 10 ∷ [], state))
-    × TellsImpliedOf state request Buy ask × TellsImpliedOf state request Sell bid
+    → TellsPrices number state request (line_by asks.Price number state line)

@@ -43,6 +43,8 @@ pub record WorkedRequests : Type 0 where
   pub weightless : quotes_body_of (codes "quote,1,1,call,0,0,0") ≡ Plain (body.Range 6)
   pub prices : body_by asks.Price (codes "price,1,20000,7,call,10,1")
       ≡ Price (record { quote = record { market = 1; budget = 20000; form = form_of (negsuc 9 ∷ pos 1 ∷ []) }; quantity = 7 })
+  pub last_quantity : body_by asks.Price (codes "price,1,1,1000000,put,0,1")
+      ≡ Price (record { quote = record { market = 1; budget = 1; form = form_of (pos 0 ∷ negsuc 0 ∷ []) }; quantity = 1000000 })
   pub price_of_run : quotes_body_of (codes "price,1,20000,7,call,10,1") ≡ Plain body.Syntax
   pub quote_by_price : body_by asks.Price (codes "quote,1,20000,call,10,1") ≡ Plain body.Syntax
   pub no_weight_of_price : body_by asks.Price (codes "price,1,1,1,call,0") ≡ Plain body.Syntax

@@ -90,7 +90,7 @@ fn request_or_syntax(alloc: Global, word: AskingWord, line: &[u8]) -> Result<Quo
     ensures { IfOk result (λ body. body ≡ body_by word line.now) }
 {
     match line_fields(alloc, line)? {
-        Some(fields) => Ok(said(word, &fields.first(alloc)?)),
+        Some(fields) => Ok(said(word, &fields)),
         None => Ok(QuotesBody::Plain(Body::Syntax)),
     }
 }

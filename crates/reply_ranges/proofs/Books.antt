@@ -87,7 +87,7 @@ module _ (number : ℕ) (state : ProposingState) (few : number ≤ count_limit) 
       let batch = live_ranged stands.lines state.exchange stands.exchange.running stands.exchange.ranged market tells in
       let reply = told.Book market live in
       let some = stands.counted in
-      let within : IsProposalLineWithin number reply = ((omega (arith, some), few), (listed, batch_is_within state.exchange.book.accepted live batch)) in (
+      let within : IsProposalLineWithin number reply = ((omega (arith, some), few), (listed, batch_is_within state.exchange.book.accepted live batch, batch.within.ids_rise)) in (
         list_any_none (λ b. b == 10) (proposal_line number reply) (piece_has_no_feed 6 (proposal_piece number reply) (reply_written number reply within)),
         book_is_whole number market live,
         record { number = number; told = (within, refl); within = batch.within },

@@ -16,6 +16,7 @@ pub mod Margins
 pub mod Texts
 pub mod ServedFields
 pub mod Others
+pub mod InOrder
 pub mod Kept
 pub mod Proposals
 pub mod ServedLines

@@ -94,7 +94,7 @@ quote_price batch order budget (quoted.Never extreme base) tells = tt
 quote_price batch order budget (quoted.Unmarked probe outcome) tells = tt
 
 side_price : (batch : Batch) (order : Order) (budget : ℕ) (told : SidePrice) → TellsSide batch order budget told → IsPriceWithin (side_told told)
-side_price batch order budget (side.At price raising beside) tells = tells.0
+side_price batch order budget (side.At price raising beside) tells = tells.0.0
 side_price batch order budget (side.Never extreme) tells = tt
 side_price batch order budget (side.Unmarked price outcome) tells = tt
 side_price batch order budget side.Spent tells = tt

@@ -1,5 +1,5 @@
 -- The lines of proposals, of what is read, and of clears are sound.
-use Rattle.std.proofs.Common.{◌≡◌, ℕ, ◌+◌, ◌≤◌, List, [], ◌∷◌, ◌++◌, Bool, true, false, ◌==◌, nat_eq, length, take, drop, position, if◌then◌else◌, Option, Some, None, Result, Ok, Err, IfOk, codes, refl, sym, ap, ◌∙◌, subst, arith}
+use Rattle.std.proofs.Common.{◌≡◌, ℕ, ◌+◌, ◌≤◌, List, [], ◌∷◌, ◌++◌, Bool, true, false, ◌&&◌, ◌==◌, nat_eq, length, take, drop, position, if◌then◌else◌, Option, Some, None, Result, Ok, Err, IfOk, codes, refl, sym, ap, ◌∙◌, subst, arith}
 use Rattle.std.specs.Prelude.{IfSome}
 use Rattle.std.specs.List.{All}
 use Rattle.std.specs.Option.{option_map_or}
@@ -9,6 +9,7 @@ use Rattle.std.proofs.lemmas.Int.{ints}
 use Rattle.std.proofs.lemmas.List.Elements.{All-nil, All-cons, All-head, All-tail, All-append, recursion_from_All}
 use Rattle.cash_ledger.specs.Refusals.{account_refusals}
 use Rattle.cert_check.specs.Proposals.{bounded_verdict_of, compared, proposal_bound}
+use Rattle.clearing.proofs.Values.{fraction_is}
 use Rattle.cert_check.specs.declared.outcome.Judgement.TheVariants as judgement
 use Rattle.cert_check.specs.declared.outcome.Outcome.{Outcome}
 use Rattle.cert_check.specs.declared.outcome.Unproved.{Unproved as Reason}
@@ -23,6 +24,7 @@ use Rattle.command_text.specs.Trades.{unless, with_some}
 use Rattle.command_text.specs.Within.{IsBudget, IsMarket}
 use Rattle.command_text.proofs.Bounds.{either, natural_between, ok_some, ok_unless, one_asked}
 use Rattle.exact_num.specs.Fraction.{Fraction}
+use Rattle.exact_num.specs.Tests.{is_lowest}
 use Rattle.exact_num.proofs.Tested.{same_passes}
 use Rattle.exchange_core.specs.declared.refusal.Refusal.{Refusal}
 use Rattle.exchange_core.specs.declared.refusal.Refusal.TheVariants as refusal
@@ -31,18 +33,17 @@ use Rattle.exchange_core.specs.Held.{is_held_by, positions_of}
 use Rattle.exchange_core.specs.Kept.{IsPositionKept}
 use Rattle.exchange_core.specs.Refusals.{by_book, by_ledger, refusal_of}
 use Rattle.exchange_core.specs.Step.{batch_in, clear_effect, refusal_effect}
-use Rattle.exchange_core.proofs.FirstRefusal.{batch_none}
+use Rattle.exchange_core.proofs.FirstRefusal.{batch_none, live_none}
 use Rattle.form.specs.Between.{Between}
 use Rattle.form.specs.declared.orders.Batch.{Batch}
 use Rattle.frac.specs.Range.{limit}
 use Rattle.frac.specs.Value.{fraction_of}
-use Rattle.frac.specs.ValueOf.{value_from}
-use Rattle.frac.specs.declared.frac128.Frac128.{Frac128}
-use Rattle.order_book.specs.Book.{market_of}
+use Rattle.frac.specs.ValueOf.{has_128_bits, value_of}
+use Rattle.order_book.specs.Book.{batch_of, market_of}
 use Rattle.order_book.specs.Markets.{MarketState}
 use Rattle.order_book.specs.Numbers.{numbers_of}
 use Rattle.order_book.specs.Refusals.{live_refusals}
-use Rattle.order_book.proofs.Accepting.{finishable}
+use Rattle.order_book.proofs.Accepting.{finishable, listing_live}
 use Rattle.order_book.proofs.MarketLists.{same_number}
 use Rattle.order_book.specs.declared.limits.TheConstants.{MAX_ACCEPTED, MAX_BATCHES}
 use Rattle.lists.specs.Refusals.{first_of}
@@ -56,13 +57,13 @@ use Rattle.proposal_text.specs.declared.replies.Failed.TheVariants as failed
 use Rattle.proposal_text.specs.declared.replies.ProposalReply.TheVariants as told
 use Rattle.proposal_text.specs.declared.submissions.Submission.{Submission}
 use Rattle.proposal_text.specs.Submissions.{IsTextOf, submission_of}
-use Rattle.proposal_text.specs.Within.{IsPositionWithin, IsProposalWithin}
+use Rattle.proposal_text.specs.Within.{AreRising, IsPositionWithin, IsProposalWithin}
 use Rattle.proposal_text.proofs.ReadExactly.{some_text}
 use Rattle.proposals.specs.Best.{are_same_orders}
 use Rattle.proposals.specs.Laws.{IsProvedBest, as_proposal}
 use Rattle.proposals.specs.declared.best.Best.{Best}
 use Rattle.proposal_lines.specs.Clears.{better_in, bounded_effect, charge_effect, clear_reply, cleared_by, reference_in}
-use Rattle.proposal_lines.specs.KeptByMarket.{best_in, bounded_by, bounded_in, stop_of}
+use Rattle.proposal_lines.specs.KeptByMarket.{best_in, bounded_by, bounded_in, kept_in, stop_of}
 use Rattle.proposal_lines.specs.Laws.{IsClearedAs, IsSound}
 use Rattle.proposal_lines.specs.Output.{proposing_reply_line}
 use Rattle.proposal_lines.specs.Proposed.{judged_effect, kept_by, offered, proposed_at, proposed_by, proposed_of, proposed_reply, stale_effect, unproved_effect}
@@ -74,11 +75,12 @@ use Rattle.proposal_lines.specs.declared.reads.ReadRequest.TheVariants.{Book, Po
 use Rattle.proposal_lines.specs.declared.replies.ProposingReply.{ProposingReply}
 use Rattle.proposal_lines.specs.declared.replies.ProposingReply.TheVariants.{Told}
 use Rattle.proposal_lines.proofs.Clearing.{batch_is, chosen, clears_are_proved}
-use Rattle.proposal_lines.proofs.Kept.{best_proved, without_has}
+use Rattle.proposal_lines.proofs.Kept.{best_proved, offered_proved, without_has}
 use Rattle.reply_ranges.proofs.Outcomes.{outcomes_are_ranged}
 use Rattle.reply_ranges.proofs.Refusals.{IsOne, IsTold, of_book, of_ledger, refusal_is_told}
 use Rattle.reply_ranges.proofs.States.{IsNumbered, batch_is_within, batch_ranged, live_ranged}
 use Rattle.reply_ranges.proofs.ServedFields.{IsPlaced, IsPlacedIn, number_at, positions_fields}
+use Rattle.reply_ranges.proofs.InOrder.{told_in_order}
 use Rattle.reply_ranges.proofs.Kept.{AreKeptWithin, IsBestWithin, best_within, offer_within}
 use Rattle.reply_ranges.proofs.Others.{IsStanding, first_served, refusal_served, run_served}
 use Rattle.reply_ranges.proofs.Texts.{IsServedText, proposal_text}
@@ -215,9 +217,11 @@ module _ (lines number : ℕ) (few : lines + 1 ≤ MAX_LINE) (is_line : IsLine n
   one_served = first_served lines number few is_line exchange stands
 
   -- the live orders of a market that is there
-  live_within : (market : ℕ) → first_of (by_book (live_refusals exchange.book market)) ≡ None → reply.IsBatchWithin (batch_in exchange market)
+  live_within : (market : ℕ) → first_of (by_book (live_refusals exchange.book market)) ≡ None
+      → reply.IsBatchWithin (batch_in exchange market) × AreRising (batch_in exchange market).orders
   live_within market none =
-      batch_is_within exchange.book.accepted (batch_in exchange market) (live_ranged lines exchange stands.running stands.ranged market none)
+      let live = live_ranged lines exchange stands.running stands.ranged market none in
+      (batch_is_within exchange.book.accepted (batch_in exchange market) live, live.within.ids_rise)
 
   held_all : (account market : ℕ) → All (IsPositionWithin account market) (positions_of account market exchange.positions)
   held_all account market =
@@ -226,7 +230,9 @@ module _ (lines number : ℕ) (few : lines + 1 ≤ MAX_LINE) (is_line : IsLine n
 
   -- what is read
   told_served : (request : ReadRequest) → IsReadWithin request → first_of (read_refusals exchange request) ≡ None → IsServedReply (Told (told_by exchange request))
-  told_served (Book market) within none = proposal_text number (told.Book market (batch_in exchange market)) (is_line, (within, live_within market none)) tt
+  told_served (Book market) within none =
+      let live = live_within market none in
+      proposal_text number (told.Book market (batch_in exchange market)) (is_line, (within, live.0, live.1)) tt
   told_served (Positions account market) within none =
       proposal_text number (told.Positions account market (positions_of account market exchange.positions))
       (is_line, (within.0, within.1, recursion_from_All (IsPositionWithin account market) (positions_of account market exchange.positions) (held_all account market))) tt
@@ -250,22 +256,33 @@ module _ (lines number : ℕ) (few : lines + 1 ≤ MAX_LINE) (is_line : IsLine n
       by None none = told_served request within none
 
   -- what is proposed
-  module _ (proposed : Proposed) (within : IsProposedWithin proposed) where
-    value_served : (bound : Option Frac128) → IsServedReply (Told (option_map_or (kept_by state.kept proposed) bound (unproved_effect state.kept failed.Wide)).0)
-    value_served None = proposal_text number (told.Unproved failed.Wide) (is_line, tt) tt
-    value_served (Some bound) = proposal_text number (kept_by state.kept proposed bound).0 (is_line, within.0) tt
+  module _ (proposed : Proposed) (within : IsProposedWithin proposed) (m : MarketState) (found : market_of exchange.book proposed.market ≡ Some m) where
+    abbrev bound : Result Fraction Reason
+    bound = proposal_bound limit (batch_of m) proposed.submission.proposal
 
-    judged_served : (bound : Result Fraction Reason) → IsServedReply (Told (judged_effect state.kept proposed bound).0)
-    judged_served (Err reason) = proposal_text number (judged_effect state.kept proposed (Err reason)).0 (is_line, tt) tt
-    judged_served (Ok B) = value_served (value_from B)
+    abbrev AreSame : Bool → Type 0
+    AreSame b = are_same_orders proposed.submission.orders (numbers_of m.live) ≡ b
 
-    offered_served : (batch : Batch) → IsServedReply (Told (offered state.kept proposed batch).0)
-    offered_served batch =
-        elim (are_same_orders proposed.submission.orders (numbers_of batch.orders)) as (λ b.
-        IsServedReply (Told (if b then judged_effect state.kept proposed (proposal_bound limit batch proposed.submission.proposal) else stale_effect state.kept).0)) [
-          | true ↦ judged_served (proposal_bound limit batch proposed.submission.proposal)
-          | false ↦ proposal_text number told.Stale (is_line, tt) tt
-        ]
+    value_served : AreSame true → (B : Fraction) → bound ≡ Ok B → (b : Bool) → (is_lowest B && has_128_bits B) ≡ b
+        → IsServedReply (Told (option_map_or (kept_by state.kept proposed) (if b then Some (value_of B) else None) (unproved_effect state.kept failed.Wide)).0)
+    value_served same B judged true is =
+        let proves = judged ∙ ap Ok (sym (fraction_is B is)) in
+        let stays = offered_proved exchange.book proposed.market m found sound.kept.orders.book proposed.submission.orders same proposed.submission.proposal (value_of B) proves state.kept sound.proved in
+        let ordered = told_in_order (batch_of m) (kept_in proposed.market state.kept) proposed.submission.orders proposed.submission.proposal (value_of B) proves stays.batch stays.proved in
+        proposal_text number (kept_by state.kept proposed (value_of B)).0 (is_line, (within.0, ordered)) tt
+    value_served same B judged false is = proposal_text number (told.Unproved failed.Wide) (is_line, tt) tt
+
+    judged_served : AreSame true → (r : Result Fraction Reason) → bound ≡ r → IsServedReply (Told (judged_effect state.kept proposed r).0)
+    judged_served same (Err reason) is = proposal_text number (judged_effect state.kept proposed (Err reason)).0 (is_line, tt) tt
+    judged_served same (Ok B) is = value_served same B is (is_lowest B && has_128_bits B) refl
+
+    offered_served : (batch : Batch) → batch ≡ batch_of m → IsServedReply (Told (offered state.kept proposed batch).0)
+    offered_served batch is =
+        subst (λ (b : Batch). IsServedReply (Told (offered state.kept proposed b).0)) (sym is) (by (are_same_orders proposed.submission.orders (numbers_of m.live)) refl)
+      where
+        by : (t : Bool) → AreSame t → IsServedReply (Told (if t then judged_effect state.kept proposed bound else stale_effect state.kept).0)
+        by true same = judged_served same bound refl
+        by false same = proposal_text number told.Stale (is_line, tt) tt
 
   -- a sound line, and what is kept is within its ranges
   abbrev IsServedNow : ProposingReply × ProposingState → Type 0
@@ -282,7 +299,8 @@ module _ (lines number : ℕ) (few : lines + 1 ≤ MAX_LINE) (is_line : IsLine n
       by (Some first) is = (one_served refusals first (of_book (live_refusals exchange.book proposed.market)) is, are)
       by None none =
           let batch = batch_in exchange proposed.market in
-          (offered_served proposed within batch, offer_within state.kept are proposed within.1 batch)
+          let (m, found, unsettled) = listing_live exchange.book proposed.market (live_none exchange.book proposed.market none) in
+          (offered_served proposed within m found batch (batch_is state proposed.market m found), offer_within state.kept are proposed within.1 batch)
 
   -- a clear
   module _ (market budget : ℕ) (listed : IsMarket market) (units : IsBudget budget) (accepted : refusal_of exchange (Clear market budget) ≡ None) where

@@ -32,7 +32,7 @@ use Rattle.reply_print.specs.Within.{IsLine}
 use Rattle.reply_print.specs.declared.limits.TheConstants.{MAX_LINE}
 use Rattle.proposal_lines.specs.Laws.{IsSound}
 use Rattle.proposal_lines.specs.Output.{body_line, other_line, proposing_line, unproposed_line, written_reply}
-use Rattle.proposal_lines.specs.Promises.{IsToldFor, KeepsProposalPromises, ProposalAnswer, beside, bounded, charged, replied}
+use Rattle.proposal_lines.specs.Promises.{IsToldFor, KeepsProposalPromises, ProposalAnswer, beside, bounded, charged, replied, taken}
 use Rattle.proposal_lines.specs.Proposed.{after_word, proposed_of, proposed_reply}
 use Rattle.proposal_lines.specs.ProposingState.{ProposingState, empty_state}
 use Rattle.proposal_lines.specs.Reads.{read_of_line, read_reply}
@@ -120,6 +120,7 @@ module _ (lines : ℕ) (state : ProposingState) (line : InputLine) (sound : IsSo
       let covered : IsCovered (batch_in exchange answer.market) (as_optimal answer.better.proposal)
       = subst (λ (b : Batch). IsCovered b (as_optimal answer.better.proposal)) told.batch promise.proves.covered in
       subst (IsStanding (lines + 1)) (sym told.exchange) (charged_stands answer.market answer.budget answer.better told.accepted covered)
+  told_stands (taken answer) after told promise = subst (IsStanding (lines + 1)) (sym told.exchange) (later_exchange lines (lines + 1) exchange (omega arith) stands)
   told_stands (beside number text) after told promise = subst (IsStanding (lines + 1)) (sym told.exchange) (later_exchange lines (lines + 1) exchange (omega arith) stands)
 
 -- ---- what is written for a line

@@ -1,34 +1,27 @@
-use Rattle.std.proofs.Common.{Err, ap, ◌∙◌}
-use Rattle.session_lines.specs.Sessions.{new_sessions}
-use Rattle.exchange_sessions.proofs.Written.{all_written, last_cut, lines_cut, none_too_long, stands}
+use Rattle.std.proofs.Common.{◌≡◌, ℕ, List, false, ap, ◌∙◌, arith, subst, OnErr, OnOk}
+use Rattle.std.specs.Io.KnownBytes.{Appends}
+use Rattle.port_io.specs.Writes.{AppendsFront}
+use Rattle.exchange_core.specs.ExchangeState.{ExchangeState, empty_exchange}
+use Rattle.exchange_lines.specs.Output.{line_output}
+use Rattle.live_lines.specs.Output.{output_of}
+use Rattle.session_lines.specs.Sessions.{SessionsState, new_sessions, session_step}
+use Rattle.session_lines.proofs.SessionOutputs.{outputs_are_answers}
+use Rattle.exchange_sessions.specs.Answers.{sessions_output}
 use Rattle.exchange_sessions.proofs.answers.answer_messages.Goals as goal
 
-pub stop_of-requires : goal.stop_of-requires
-stop_of-requires g c = λ is.
-    let new = c.new-live.ensures.answers ∙ c.new-sessions.ensures ∙ ap new_sessions c.new.ensures in
-    let told = c.in-Err.ensures.too_long (ap Err is) in
-    none_too_long c.new-live.result.answers c.new-live.result.line new c.new-live.ensures.line c.args.input.now told.0 c.requires told.2
+output_is : (start : SessionsState ExchangeState) (input : List ℕ) → start ≡ new_sessions empty_exchange
+    → output_of (session_step line_output) false start input ≡ sessions_output input
+output_is start input is = ap (λ s. output_of (session_step line_output) false s input) is ∙ outputs_are_answers line_output empty_exchange input
 
-pub returns-in-Err-clause-front : goal.returns-in-Err-clause-front
-returns-in-Err-clause-front g c =
-    let new = c.new-live.ensures.answers ∙ c.new-sessions.ensures ∙ ap new_sessions c.new.ensures in
-    let cut = c.in-Err.ensures.front in
-    lines_cut c.new-live.result.answers c.new-live.result.line new c.new-live.ensures.line c.args.input.now _ _ cut.0 cut.1 cut.2
+pub answer_whole-requires-clause-first : goal.answer_whole-requires-clause-first
+answer_whole-requires-clause-first g c = (omega (arith, ap (λ (s : SessionsState ExchangeState). s.0.served) c.new-messages.ensures), tt)
 
-pub finish-requires-clause-next : goal.finish-requires-clause-next
-finish-requires-clause-next g c =
-    let new = c.new-live.ensures.answers ∙ c.new-sessions.ensures ∙ ap new_sessions c.new.ensures in
-    let told = c.in_default.ensures.ok in
-    stands c.new-live.result.answers c.new-live.result.line new c.new-live.ensures.line c.args.input.now _ _ told.0 told.2
-
-pub returns-in-Ok-clause-ok : goal.returns-in-Ok-clause-ok
-returns-in-Ok-clause-ok g c =
-    let new = c.new-live.ensures.answers ∙ c.new-sessions.ensures ∙ ap new_sessions c.new.ensures in
-    let told = c.in_default.ensures.ok in
-    all_written c.new-live.result.answers c.new-live.result.line new c.new-live.ensures.line c.args.input.now _ _ told.0 told.2 _ _ _ told.1 c.in-Ok.ensures.ok
+pub returns-clause-ok : goal.returns-clause-ok
+returns-clause-ok g c =
+    subst (λ output. OnOk c.answer_whole.result (Appends (g.K.Sink.written c.args.sink.now) (g.K.Sink.written c.answer_whole.new.sink) output))
+    (output_is c.new-messages.result c.args.input.now (c.new-messages.ensures ∙ ap new_sessions c.new.ensures)) c.answer_whole.ensures.ok
 
 pub returns-clause-front : goal.returns-clause-front
 returns-clause-front g c =
-    let new = c.new-live.ensures.answers ∙ c.new-sessions.ensures ∙ ap new_sessions c.new.ensures in
-    let told = c.in_default.ensures.ok in
-    last_cut c.new-live.result.answers c.new-live.result.line new c.new-live.ensures.line c.args.input.now _ _ told.0 told.2 _ _ _ told.1 c.in-Err-finish.ensures.front
+    subst (λ output. OnErr c.answer_whole.result (AppendsFront (g.K.Sink.written c.args.sink.now) (g.K.Sink.written c.answer_whole.new.sink) output))
+    (output_is c.new-messages.result c.args.input.now (c.new-messages.ensures ∙ ap new_sessions c.new.ensures)) c.answer_whole.ensures.front

@@ -1,6 +1,6 @@
 use Rattle.std.proofs.lemmas.Result.{IfOk-weaker}
 use Rattle.form.specs.declared.orders.Side.TheVariants.{Buy, Sell}
-use Rattle.option_quotes.proofs.Found.{asked_prices, prices_are_implied}
+use Rattle.option_quotes.proofs.Found.{asked_prices, prices_are_implied, prices_are_probed}
 use Rattle.option_quotes.proofs.Raising.{asked_within, quantity_within}
 use Rattle.option_quotes.proofs.implied.implied_prices.Goals as goal
 
@@ -53,4 +53,12 @@ returns-clause-bid c =
     (λ prices is.
     (prices_are_implied a.batch.now a.form.now a.quantity a.limit r.batch r.quantity.0 r.quantity.1 prices
     (asked_prices a.batch.now a.form.now a.quantity a.limit _ _ prices c.asked.ensures c.asked-sell.ensures is)).1)
+    c.prices_in.ensures
+
+pub returns-clause-probed : goal.returns-clause-probed
+returns-clause-probed c =
+    let a = c.args in
+    IfOk-weaker c.prices_in.result _ _
+    (λ prices is.
+    prices_are_probed a.batch.now a.form.now a.quantity a.limit prices (asked_prices a.batch.now a.form.now a.quantity a.limit _ _ prices c.asked.ensures c.asked-sell.ensures is))
     c.prices_in.ensures

@@ -1,4 +1,4 @@
-use Rattle.std.proofs.Common.{◌≡◌, ◌+◌, ◌-◌, ◌≤◌, length}
+use Rattle.std.proofs.Common.{◌≡◌, ◌+◌, ◌-◌, ◌≤◌, ◌<◌, length, IfSome}
 use Rattle.std.specs.Io.KnownBytes.{Consumes}
 use Rattle.port_io.specs.Faults.{raised_by}
 use Rattle.port_io.proofs.source.read_all.Given as goal
@@ -11,6 +11,7 @@ invariant-loop-buf g l =
       calm : S.faults l.source ≡ S.faults l.fn.source;
       taken : raised_by (S.taken l.fn.source) (length l.bytes.items) ≤ S.taken l.source;
       few : S.taken l.source ≤ S.taken l.fn.source + length l.bytes.items;
+      silent : 0 < length l.bytes.items → IfSome (S.last_read l.source) (λ last. last.written ≡ g.K.Sink.written l.sink);
     }
 
 abbrev pub decreases-loop-buf : goal.decreases-loop-buf

@@ -1,6 +1,6 @@
 use Rattle.std.proofs.Common.{Some, map, option_map, sym, ap, ◌∙◌}
 use Rattle.command_text.specs.Commands.{body_of_fields}
-use Rattle.command_text.specs.Fields.{fields_in, fields_of_line, first_of_many}
+use Rattle.command_text.specs.Fields.{fields_of_line}
 use Rattle.command_text.specs.declared.command.Body.TheVariants.{Syntax}
 use Rattle.command_text.proofs.LongLines.{read_by_first, read_by_none, same_body}
 use Rattle.quote_lines.specs.declared.bodies.QuotesBody.TheVariants.{Plain}
@@ -11,15 +11,15 @@ use Rattle.quote_lines.proofs.bodies.request_or_syntax.Goals as goal
 pub said-requires : goal.said-requires
 said-requires c =
     ap (λ fields. body_of_fields (Some (map (λ f. f.now) fields))) c.deref.ensures.value
-    ∙ ap body_of_fields (ap Some c.in_ok-first-in-Some.ensures ∙ ap (option_map first_of_many) (sym (ap (option_map fields_in) c.in-Some.is) ∙ c.in_ok-fields.ensures))
+    ∙ ap body_of_fields (sym (ap (option_map (λ v. map (λ f. f.now) v.items)) c.in-Some.is) ∙ c.in_ok-fields.ensures)
     ∙ same_body (fields_of_line c.args.line.now)
     ∙ c.requires.syntax
 
-pub returns-in_ok-first-in-Some : goal.returns-in_ok-first-in-Some
-returns-in_ok-first-in-Some c =
+pub returns-in-Some : goal.returns-in-Some
+returns-in-Some c =
     read_by_first (said_by c.args.word) (Plain Syntax) (same_said_by c.args.word) _ _ _ (c.said.ensures ∙ ap (λ fields. said_by c.args.word (map (λ f. f.now) fields)) c.deref.ensures.value)
-    (ap Some c.in_ok-first-in-Some.ensures ∙ ap (option_map first_of_many) (sym (ap (option_map fields_in) c.in-Some.is) ∙ c.in_ok-fields.ensures))
+    (sym (ap (option_map (λ v. map (λ f. f.now) v.items)) c.in-Some.is) ∙ c.in_ok-fields.ensures)
 
 pub returns-in-None : goal.returns-in-None
 returns-in-None c =
-    read_by_none (said_by c.args.word) (Plain Syntax) _ (ap (option_map first_of_many) (sym (ap (option_map fields_in) c.in-None.is) ∙ c.in_ok-fields.ensures))
+    read_by_none (said_by c.args.word) (Plain Syntax) _ (sym (ap (option_map (λ v. map (λ f. f.now) v.items)) c.in-None.is) ∙ c.in_ok-fields.ensures)

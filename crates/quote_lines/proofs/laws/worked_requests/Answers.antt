@@ -29,6 +29,7 @@ returns c = record {
   price_budget = refl;
   no_quantity = refl;
   most_quantity = refl;
+  last_quantity = refl;
   price_strike = refl;
   price_weight = refl;
   weightless_price = refl;

@@ -1,0 +1,15 @@
+pub mod Secured
+pub mod Portfolios
+pub mod Losses
+pub mod Clears
+pub mod Settles
+pub mod Rounding
+pub mod WorkedNeeds
+pub mod Narrow
+pub mod Greatest
+pub mod Convex
+pub mod Reached
+pub mod OnLine
+pub mod LineBounds
+pub mod LineBits
+pub mod LineFits

@@ -1,0 +1,248 @@
+-- On one underlying, what holds at the two ends of the box and wherever a payoff bends holds of two
+-- states between which a given state lies and no payoff bends: the two are moved together, option by
+-- option.
+use Rattle.std.proofs.Common.{◌≡◌, ℕ, zero, suc, ◌+◌, ◌-◌, ◌*◌, ◌≤◌, ◌⊎◌, inl, inr, List, [], ◌∷◌, nat_abs, arith, ℤ, pos, negsuc, neg_ℤ, ◌+ℤ◌, ◌*ℤ◌, ◌≤ℤ◌, ◌<ℤ◌, refl, ap, sym, subst, ◌∙◌}
+use Rattle.std.proofs.lemmas.Int.{ints}
+use Rattle.std.proofs.lemmas.Bool.{cases_lt}
+use native.Mathlib.Nat.{mul-le-mul_left, le_of_mul-le-mul_left}
+use Rattle.arithmetic.proofs.Integers.{*ℤ_mono, neg_ℤ-*ℤ}
+use Rattle.arithmetic.proofs.Products.{products}
+use Rattle.form.specs.Vector.{dot, strike_entry}
+use Rattle.clearing_model.specs.Line.{weight_entry}
+use Rattle.settlement.specs.declared.limits.TheConstants.{MAX_SETTLEMENT_PRICE}
+
+-- the scalar product of (a, b) and (t, s)
+abbrev pub at : ℤ → ℤ → ℕ → ℕ → ℤ
+at a b t s = (a *ℤ pos t) +ℤ (b *ℤ pos s)
+
+at_combined : (a b : ℤ) (i j t s t' s' : ℕ) → at a b (i * t + j * t') (i * s + j * s') ≡ (at a b t s *ℤ pos i) +ℤ (at a b t' s' *ℤ pos j)
+at_combined a b i j t s t' s' = omega (arith, ints, products)
+
+pub dot-pair : (v : List ℤ) (t s : ℕ) → dot v (t ∷ s ∷ []) ≡ at (strike_entry v) (weight_entry v) t s
+dot-pair [] t s = omega (arith, ints)
+dot-pair (a ∷ []) t s = omega (arith, ints)
+dot-pair (a ∷ b ∷ []) t s = omega (arith, ints)
+dot-pair (a ∷ b ∷ c ∷ v) t s = omega (arith, ints)
+
+-- both values on one side of 0
+abbrev pub Agree : ℤ → ℤ → Type 0
+Agree x y = ((pos 0 ≤ℤ x) × (pos 0 ≤ℤ y)) ⊎ ((x ≤ℤ pos 0) × (y ≤ℤ pos 0))
+
+agree_swap : {x y : ℤ} → Agree x y → Agree y x
+agree_swap (inl h) = inl (h.1, h.0)
+agree_swap (inr h) = inr (h.1, h.0)
+
+agree_left : (x y : ℤ) (i j : ℕ) → Agree x y → Agree x ((y *ℤ pos i) +ℤ (x *ℤ pos j))
+agree_left x y i j (inl h) = inl (h.0, omega (arith, ints, *ℤ_mono i (pos 0) y h.1, *ℤ_mono j (pos 0) x h.0))
+agree_left x y i j (inr h) = inr (h.0, omega (arith, ints, *ℤ_mono i y (pos 0) h.1, *ℤ_mono j x (pos 0) h.0))
+
+agree_right : (x y : ℤ) (i j : ℕ) → Agree x y → Agree ((y *ℤ pos i) +ℤ (x *ℤ pos j)) y
+agree_right x y i j (inl h) = inl (omega (arith, ints, *ℤ_mono i (pos 0) y h.1, *ℤ_mono j (pos 0) x h.0), h.1)
+agree_right x y i j (inr h) = inr (omega (arith, ints, *ℤ_mono i y (pos 0) h.1, *ℤ_mono j x (pos 0) h.0), h.1)
+
+-- an option with a value above 0 and one below has entries of opposite signs
+opposite : (a b : ℤ) (t s t' s' : ℕ) → pos 0 <ℤ at a b t s → at a b t' s' <ℤ pos 0 → (a *ℤ b) <ℤ pos 0
+opposite (pos a) (pos b) t s t' s' h k = absurd (omega (arith, ints))
+opposite (negsuc a) (negsuc b) t s t' s' h k = absurd (omega (arith, ints))
+opposite (pos zero) (negsuc b) t s t' s' h k = absurd (omega (arith, ints))
+opposite (pos (suc a)) (negsuc b) t s t' s' h k = omega (arith, ints)
+opposite (negsuc a) (pos zero) t s t' s' h k = absurd (omega (arith, ints))
+opposite (negsuc a) (pos (suc b)) t s t' s' h k = omega (arith, ints)
+
+-- where it is 0, the state is on the ray of the bend
+on_bend : (a b : ℤ) (t s : ℕ) → (a *ℤ b) <ℤ pos 0 → at a b t s ≡ pos 0 → (1 ≤ nat_abs b) × (nat_abs b * s ≡ t * nat_abs a)
+on_bend (pos a) (pos b) t s h e = absurd (omega (arith, ints))
+on_bend (negsuc a) (negsuc b) t s h e = absurd (omega (arith, ints))
+on_bend (pos a) (negsuc b) t s h e = omega (arith, ints)
+on_bend (negsuc a) (pos zero) t s h e = absurd (omega (arith, ints))
+on_bend (negsuc a) (pos (suc b)) t s h e = omega (arith, ints)
+
+-- the state x * (p', q') + y * (p, q), at which the option's value is 0, parts two others
+middle_is : (a b : ℤ) (p q p' q' x y : ℕ) → at a b p q ≡ pos x → at a b p' q' ≡ neg_ℤ (pos y) → at a b (x * p' + y * p) (x * q' + y * q) ≡ pos 0
+middle_is a b p q p' q' x y e e' =
+    at_combined a b x y p' q' p q ∙ subst (λ (w : ℤ). (at a b p' q' *ℤ pos x) +ℤ (w *ℤ pos y) ≡ pos 0) (sym e)
+    (subst (λ (w : ℤ). (w *ℤ pos x) +ℤ (pos x *ℤ pos y) ≡ pos 0) (sym e') (omega (arith, ints, neg_ℤ-*ℤ (pos y) (pos x))))
+
+abbrev pub AgreesAt : ℕ → ℕ → ℕ → ℕ → List ℤ → Type 0
+AgreesAt t s t' s' v = Agree (at (strike_entry v) (weight_entry v) t s) (at (strike_entry v) (weight_entry v) t' s')
+
+-- P of each item, by recursion
+abbrev pub Each : {A : Type 0} → (A → Type 0) → List A → Type 0
+Each P [] = Unit {0}
+Each P (x ∷ xs) = P x × Each P xs
+
+each_then : {A : Type 0} (P Q : A → Type 0) (xs : List A) → ((x : A) → P x → Q x) → Each P xs → Each Q xs
+each_then P Q [] f h = tt
+each_then P Q (x ∷ xs) f h = (f x h.0, each_then P Q xs f h.1)
+
+-- ---- a fact about states that goes by their directions
+pub record IsOfDirections (P : ℕ → ℕ → Type 0) : Type 0 where
+  pub up : (k t s : ℕ) → 1 ≤ k → P t s → P (k * t) (k * s)
+  pub down : (k t s : ℕ) → 1 ≤ k → P (k * t) (k * s) → P t s
+
+-- it holds where the option's payoff bends, if that is in the box
+abbrev pub HoldsAtBend : (ℕ → ℕ → Type 0) → List ℤ → Type 0
+HoldsAtBend P v =
+    (strike_entry v *ℤ weight_entry v) <ℤ pos 0 → nat_abs (strike_entry v) ≤ MAX_SETTLEMENT_PRICE * nat_abs (weight_entry v)
+    → P (nat_abs (weight_entry v)) (nat_abs (strike_entry v))
+
+-- a state between two of the box at which it holds
+pub record Between (P : ℕ → ℕ → Type 0) (t s : ℕ) : Type 0 where
+  pub p : ℕ
+  pub q : ℕ
+  pub p' : ℕ
+  pub q' : ℕ
+  pub k : ℕ
+  pub i : ℕ
+  pub j : ℕ
+  pub one : 1 ≤ k
+  pub first : k * t ≡ i * p + j * p'
+  pub second : k * s ≡ i * q + j * q'
+  pub some : 1 ≤ p
+  pub some' : 1 ≤ p'
+  pub low : q ≤ MAX_SETTLEMENT_PRICE * p
+  pub low' : q' ≤ MAX_SETTLEMENT_PRICE * p'
+  pub holds : P p q
+  pub holds' : P p' q'
+
+module _ (P : ℕ → ℕ → Type 0) (of_directions : IsOfDirections P) (t s : ℕ) where
+  swapped : Between P t s → Between P t s
+  swapped c = record {
+    p = c.p';
+    q = c.q';
+    p' = c.p;
+    q' = c.q;
+    k = c.k;
+    i = c.j;
+    j = c.i;
+    one = c.one;
+    first = omega (arith, c.first);
+    second = omega (arith, c.second);
+    some = c.some';
+    some' = c.some;
+    low = c.low';
+    low' = c.low;
+    holds = c.holds';
+    holds' = c.holds;
+  }
+
+  -- where an option's value is 0 it holds
+  holds_on_bend : (v : List ℤ) (m n : ℕ) → HoldsAtBend P v → (strike_entry v *ℤ weight_entry v) <ℤ pos 0 → at (strike_entry v) (weight_entry v) m n ≡ pos 0
+      → 1 ≤ m → n ≤ MAX_SETTLEMENT_PRICE * m → P m n
+  holds_on_bend v m n bends signs e some low =
+      let a = nat_abs (strike_entry v) in
+      let b = nat_abs (weight_entry v) in
+      let on = on_bend (strike_entry v) (weight_entry v) m n signs e in
+      let times = mul-le-mul_left b low in
+      let inside : m * a ≤ m * (MAX_SETTLEMENT_PRICE * b) = omega (arith, times, on.1) in
+      let there = of_directions.up m b a some (bends signs (le_of_mul-le-mul_left inside some)) in
+      let turned : m * b ≡ b * m = omega arith in
+      of_directions.down b m n on.0 (subst (λ (w : ℕ). P w (b * n)) turned (subst (λ (w : ℕ). P (m * b) w) (sym on.1) there))
+
+  -- two states that are closer, at which the option agrees, and each option that agreed before
+  record Closer (old : Between P t s) (v : List ℤ) : Type 0 where
+    new : Between P t s
+    here : AgreesAt new.p new.q new.p' new.q' v
+    kept : (o : List ℤ) → AgreesAt old.p old.q old.p' old.q' o → AgreesAt new.p new.q new.p' new.q' o
+
+  kept_left : (p q p' q' x y : ℕ) (o : List ℤ) → AgreesAt p q p' q' o → AgreesAt p q (x * p' + y * p) (x * q' + y * q) o
+  kept_left p q p' q' x y o h =
+      let a = strike_entry o in
+      let b = weight_entry o in
+      subst (λ (w : ℤ). Agree (at a b p q) w) (sym (at_combined a b x y p' q' p q)) (agree_left (at a b p q) (at a b p' q') x y h)
+
+  kept_right : (p q p' q' x y : ℕ) (o : List ℤ) → AgreesAt p q p' q' o → AgreesAt (x * p' + y * p) (x * q' + y * q) p' q' o
+  kept_right p q p' q' x y o h =
+      let a = strike_entry o in
+      let b = weight_entry o in
+      subst (λ (w : ℤ). Agree w (at a b p' q')) (sym (at_combined a b x y p' q' p q)) (agree_right (at a b p q) (at a b p' q') x y h)
+
+  closer_down : (c : Between P t s) (v : List ℤ) → HoldsAtBend P v → (x y : ℕ) → 1 ≤ x → 1 ≤ y
+      → at (strike_entry v) (weight_entry v) c.p c.q ≡ pos x → at (strike_entry v) (weight_entry v) c.p' c.q' ≡ neg_ℤ (pos y) → Closer c v
+  closer_down c v bends x y x1 y1 ex ey =
+      let a = strike_entry v in
+      let b = weight_entry v in
+      let m : ℕ = x * c.p' + y * c.p in
+      let n : ℕ = x * c.q' + y * c.q in
+      let some : 1 ≤ m = omega (arith, mul-le-mul_left x c.some') in
+      let low : n ≤ MAX_SETTLEMENT_PRICE * m = omega (arith, mul-le-mul_left x c.low', mul-le-mul_left y c.low) in
+      let at_middle : at a b m n ≡ pos 0 = middle_is a b c.p c.q c.p' c.q' x y ex ey in
+      let middle : P m n = holds_on_bend v m n bends (opposite a b c.p c.q c.p' c.q' (omega (arith, ints, ex)) (omega (arith, ints, ey))) at_middle some low in
+      elim (cases_lt (c.i * x) (c.j * y)) [
+        | inl lt ↦
+            let d : ℕ = c.j * y - c.i * x in
+            let e : c.j * y ≡ c.i * x + d = omega arith in
+            record {
+              new = record {
+                p = m;
+                q = n;
+                p' = c.p';
+                q' = c.q';
+                k = y * c.k;
+                i = c.i;
+                j = d;
+                one = omega (arith, mul-le-mul_left y c.one);
+                first = omega (arith, ap (λ w. y * w) c.first, ap (λ w. w * c.p') e);
+                second = omega (arith, ap (λ w. y * w) c.second, ap (λ w. w * c.q') e);
+                some = some;
+                some' = c.some';
+                low = low;
+                low' = c.low';
+                holds = middle;
+                holds' = c.holds';
+              };
+              here = inr (omega (arith, ints, at_middle), omega (arith, ints, ey));
+              kept = λ o h. kept_right c.p c.q c.p' c.q' x y o h;
+            }
+        | inr le ↦
+            let d : ℕ = c.i * x - c.j * y in
+            let e : c.i * x ≡ c.j * y + d = omega arith in
+            record {
+              new = record {
+                p = c.p;
+                q = c.q;
+                p' = m;
+                q' = n;
+                k = x * c.k;
+                i = d;
+                j = c.j;
+                one = omega (arith, mul-le-mul_left x c.one);
+                first = omega (arith, ap (λ w. x * w) c.first, ap (λ w. w * c.p) e);
+                second = omega (arith, ap (λ w. x * w) c.second, ap (λ w. w * c.q) e);
+                some = c.some;
+                some' = some;
+                low = c.low;
+                low' = low;
+                holds = c.holds;
+                holds' = middle;
+              };
+              here = inl (omega (arith, ints, ex), omega (arith, ints, at_middle));
+              kept = λ o h. kept_left c.p c.q c.p' c.q' x y o h;
+            }
+      ]
+
+  closer : (c : Between P t s) (v : List ℤ) → HoldsAtBend P v → Closer c v
+  unfolding swapped
+  closer c v bends = go (at (strike_entry v) (weight_entry v) c.p c.q) (at (strike_entry v) (weight_entry v) c.p' c.q') refl refl
+    where
+      stays : Agree (at (strike_entry v) (weight_entry v) c.p c.q) (at (strike_entry v) (weight_entry v) c.p' c.q') → Closer c v
+      stays h = record { new = c; here = h; kept = λ o k. k }
+
+      go : (x y : ℤ) → at (strike_entry v) (weight_entry v) c.p c.q ≡ x → at (strike_entry v) (weight_entry v) c.p' c.q' ≡ y → Closer c v
+      go (pos x) (pos y) e e' = stays (inl (omega (arith, ints, e), omega (arith, ints, e')))
+      go (negsuc x) (negsuc y) e e' = stays (inr (omega (arith, ints, e), omega (arith, ints, e')))
+      go (pos zero) (negsuc y) e e' = stays (inr (omega (arith, ints, e), omega (arith, ints, e')))
+      go (negsuc x) (pos zero) e e' = stays (inr (omega (arith, ints, e), omega (arith, ints, e')))
+      go (pos (suc x)) (negsuc y) e e' = closer_down c v bends (suc x) (suc y) (omega arith) (omega arith) e e'
+      go (negsuc x) (pos (suc y)) e e' =
+          let r = closer_down (swapped c) v bends (suc y) (suc x) (omega arith) (omega arith) e' e in
+          record { new = r.new; here = r.here; kept = λ o k. r.kept o (agree_swap k) }
+
+  -- all options agree at two states that are close enough
+  pub agree_all : (options : List (List ℤ)) → Each (HoldsAtBend P) options → Between P t s
+      → (c : Between P t s) × Each (AgreesAt c.p c.q c.p' c.q') options
+  agree_all [] bends c = (c, tt)
+  agree_all (v ∷ options) bends c =
+      let r = agree_all options bends.1 c in
+      let n = closer r.0 v bends.0 in
+      (n.new, (n.here, each_then (AgreesAt r.0.p r.0.q r.0.p' r.0.q') (AgreesAt n.new.p n.new.q n.new.p' n.new.q') options n.kept r.1))

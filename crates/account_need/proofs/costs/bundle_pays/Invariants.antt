@@ -1,0 +1,12 @@
+use Rattle.std.proofs.Common.{◌≡◌, ◌+◌, ◌*◌, ◌≤◌, drop, [], ◌∷◌, pos, ◌+ℤ◌, ◌-ℤ◌}
+use Rattle.form.specs.Payoff.{bundle_legs, bundle_payoff}
+use Rattle.account_need.proofs.costs.bundle_pays.Given as goal
+
+-- what is paid so far, and what the legs that are left pay
+abbrev pub invariant-loop-leg : goal.invariant-loop-leg
+invariant-loop-leg l =
+    let z = l.at.t ∷ l.at.s ∷ [] in
+    record {
+      paid : bundle_payoff (bundle_legs l.bundle) z ≡ (pos l.above -ℤ pos l.below) +ℤ bundle_payoff (drop l.leg-index (bundle_legs l.bundle)) z;
+      small : l.above + l.below ≤ l.leg-index * 2000000000000000;
+    }

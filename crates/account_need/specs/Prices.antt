@@ -1,0 +1,63 @@
+-- What the code holds on one underlying: prices, sums and orders, and the greatest exposure as it
+-- goes from bend to bend.
+use Rattle.std.specs.Prelude.{◌≡◌, ◌≤◌, ◌*◌, ℕ, List, [], ◌∷◌, length, map, ℤ, Option, Some, None, unsigned_abs, if◌then◌else◌}
+use Rattle.std.specs.Int.{int_max}
+use Rattle.std.specs.List.{All}
+use Rattle.form.specs.declared.bundles.Bundle.{Bundle}
+use Rattle.form.specs.declared.legs.Leg.{Leg}
+use Rattle.form.specs.declared.orders.Order.{Order}
+use Rattle.form.specs.declared.limits.TheConstants.{MAX_ORDERS}
+use Rattle.form.specs.Limits.{IsListed, IsOrderWithin}
+use Rattle.form.specs.Payoff.{IsOnCount, legs_in, option_of, scale_of}
+use Rattle.portfolio_margin.specs.Need.{ceil_of}
+use Rattle.account_need.specs.declared.price.Price.{Price}
+use Rattle.account_need.specs.declared.sums.FormSum.{FormSum}
+use Rattle.account_need.specs.Rounded.{OptionSum, Summed, rounded_exposure, unit}
+use Rattle.account_need.specs.Line.{bend_of, bends}
+
+-- ---- what the code is given
+-- a bundle of options within the limits on one underlying, and such an order
+pub record IsLineBundle (bundle : Bundle) : Type 0 where
+  pub options : All (λ (leg : Leg). IsListed (option_of leg.form)) (legs_in bundle)
+  pub on : IsOnCount 2 bundle
+
+pub record IsLineOrder (order : Order) : Type 0 where
+  pub within : IsOrderWithin order
+  pub on : IsOnCount 2 order.bundle
+
+-- a sum of such an option, as 2^24 positions have it at most
+pub record IsLineSum (s : FormSum) : Type 0 where
+  pub option : IsListed (option_of s.form)
+  pub on : s.form.count ≡ 2
+  pub small : unsigned_abs s.sum ≤ 72057594037927936000000
+
+abbrev pub option_sum : FormSum → OptionSum
+option_sum s = record { option = option_of s.form; sum = s.sum }
+
+abbrev pub in_code : List FormSum → ℕ → List Order → Summed
+in_code sums positions live = record { sums = map option_sum sums; positions = positions; live = live }
+
+-- ---- prices
+abbrev pub price_vector : Price → List ℕ
+price_vector price = price.t ∷ price.s ∷ []
+
+abbrev pub bend_within : List ℤ → Option (List ℕ)
+bend_within v = if bends v then Some (bend_of v) else None
+
+-- the exposure at a state, rounded up to whole ticks, and the greatest of those where options bend
+abbrev pub bound_at : Summed → List ℕ → ℤ
+bound_at p z = ceil_of (rounded_exposure p z) (unit * scale_of z)
+
+abbrev pub with_bend : Summed → ℤ → List ℤ → ℤ
+with_bend p best v = if bends v then int_max best (bound_at p (bend_of v)) else best
+
+abbrev pub with_bends : Summed → ℤ → List (List ℤ) → ℤ
+with_bends p best [] = best
+with_bends p best (v ∷ options) = with_bends p (with_bend p best v) options
+
+-- so many of them as a market has at most
+pub record AreExposed (sums : List FormSum) (live : List Order) : Type 0 where
+  pub of_sums : All IsLineSum sums
+  pub few_sums : length sums ≤ MAX_ORDERS
+  pub of_orders : All IsLineOrder live
+  pub few_orders : length live ≤ MAX_ORDERS

@@ -1,0 +1,79 @@
+//! The exposure at a price.
+ghost use Rattle.std.specs.Prelude.{◌≡◌, ◌≤◌, ◌+◌, ◌*◌, ◌^◌, ℕ, length, map, pos, ◌-ℤ◌, unsigned_abs};
+ghost use Rattle.std.specs.List.{All};
+ghost use Rattle.form.specs.declared.limits.TheConstants.{MAX_ORDERS};
+ghost use Rattle.account_need.specs.Prices.{IsLineOrder, IsLineSum, bound_at, in_code, option_sum, price_vector};
+ghost use Rattle.form.specs.Payoff.{option_of, payoff};
+ghost use Rattle.portfolio_margin.specs.Need.{ceil_of};
+ghost use Rattle.account_need.specs.Rounded.{owed_of};
+
+use crate::costs::losses;
+use crate::options::pays;
+use crate::price::Price;
+use crate::sums::FormSum;
+use form::Order;
+
+// What is owed of the sums above 0, and what is to come of those below, in 2^-32 of a tick.
+#[derive(Clone, Copy)]
+struct Owing {
+    above: u128,
+    below: u128,
+}
+
+fn owed(sums: &[FormSum], at: &Price) -> Owing
+    requires within { All IsLineSum sums.now }
+    requires few { length sums.now ≤ MAX_ORDERS }
+    ensures owed { owed_of (price_vector at.now) (map option_sum sums.now)
+        ≡ pos result.above -ℤ pos result.below }
+    ensures small { result.above + result.below
+        ≤ length sums.now * 144115188075855872000000000000000000 }
+{
+    let (mut above, mut below): (u128, u128) = (0, 0);
+    for item in sums {
+        let amount = amount_of(item, at);
+        if item.sum > 0 {
+            above += amount;
+        } else {
+            below += amount;
+        }
+    }
+    Owing { above, below }
+}
+
+// What one sum comes to, whatever its sign.
+fn amount_of(item: &FormSum, at: &Price) -> u128
+    requires { IsLineSum item.now }
+    ensures amount { result ≡ unsigned_abs item.now.sum * payoff (option_of item.now.form) (price_vector at.now) }
+    ensures small { result ≤ 144115188075855872000000000000000000 }
+{
+    item.sum.unsigned_abs() * u128::from(pays(&item.form, at))
+}
+
+// The difference by the unit, rounded up.
+fn rounded_up(above: u128, below: u128, unit: u128) -> i128
+    requires some { 1 ≤ unit }
+    requires small { above + below ≤ 2 ^ 126 }
+    ensures bound { result ≡ ceil_of (pos above -ℤ pos below) unit }
+    ensures small { unsigned_abs result ≤ 2 ^ 126 }
+{
+    if above > below {
+        (above - below).div_ceil(unit) as i128
+    } else {
+        -(((below - above) / unit) as i128)
+    }
+}
+
+// The exposure, rounded up to whole ticks.
+pub(crate) fn bound(sums: &[FormSum], live: &[Order], at: &Price) -> i128
+    requires sums { All IsLineSum sums.now }
+    requires few_sums { length sums.now ≤ MAX_ORDERS }
+    requires live { All IsLineOrder live.now }
+    requires few { length live.now ≤ MAX_ORDERS }
+    ensures bound { (positions : ℕ) → result
+        ≡ bound_at (in_code sums.now positions live.now) (price_vector at.now) }
+    ensures small { unsigned_abs result ≤ 2 ^ 126 }
+{
+    let owed = owed(sums, at);
+    let above = owed.above + losses(live, at) * 4_294_967_296;
+    rounded_up(above, owed.below, u128::from(at.t) * 4_294_967_296)
+}

@@ -1,0 +1,14 @@
+pub mod Ordered
+pub mod AlongStates
+pub mod OneWay
+pub mod Options
+pub mod Distinct
+pub mod Held
+pub mod Regrouped
+pub mod Stands
+pub mod KeptSums
+pub mod LeafStands
+pub mod Decided
+pub mod WorkedCells
+pub mod Certificate
+pub mod Primitive

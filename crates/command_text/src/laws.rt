@@ -1,0 +1,13 @@
+//! Laws over the definitions: each is the contract of a function that does nothing.
+ghost use Rattle.command_text.specs.Worked.{LimitsAsWorked, LinesAsWorked};
+
+/// What lines say, and how an input is cut into lines: worked rows.
+pub fn lines_as_worked()
+    ensures { LinesAsWorked }
+{}
+
+/// Each limit of a number of a command, by a line at it and one beyond it, and the most bytes of an
+/// input that is read whole.
+pub fn limits_as_worked()
+    ensures { LimitsAsWorked }
+{}

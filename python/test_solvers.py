@@ -1,0 +1,240 @@
+"""Tests solvers and certificates by exact fractions, without the program."""
+
+from __future__ import annotations
+
+import json
+import pathlib
+import random
+import sys
+import unittest
+from fractions import Fraction
+from unittest import mock
+
+sys.path.append(str(pathlib.Path(__file__).resolve().parent))
+import ragvismo
+from ragvismo import (
+    Batch,
+    NoCover,
+    Proposal,
+    State,
+    Unproved,
+    buy,
+    bundle,
+    call,
+    put,
+    sell,
+    solvers,
+)
+from ragvismo.proposals import net_of, premium_of
+from test_ragvismo import basket, butterfly, example, options, wants
+
+EXAMPLES = (
+    *(("butterfly", None), ("spread", None), ("one_option", None), ("basket", None)),
+    *(("basket_of_three", None), ("demo", 1), ("demo", 2), ("demo", 3), ("book", 2)),
+)
+ORIGIN = State((1, 0), Fraction(1))
+
+
+def drawn_states(draw: random.Random, underlyings: int) -> "list[tuple[int, ...]]":
+    """Settlements and rays."""
+    return [
+        (draw.choice((0, 1, 1, 3)), *(draw.randint(0, 60) for _ in range(underlyings)))
+        for _ in range(200)
+    ]
+
+
+class Rechecks(unittest.TestCase):
+    """`Proposal.check` says of each fault which condition fails."""
+
+    def given(self) -> Proposal:
+        it = example("butterfly")
+        return Proposal(tuple(it.fills), it.liability, "line", tuple(it.certificate.measure))
+
+    def failed(self, batch: Batch, proposal: Proposal) -> str:
+        with self.assertRaises(Unproved) as caught:
+            proposal.check(batch)
+        return caught.exception.failed
+
+    def test_what_lines_tell_holds(self) -> None:
+        for name, number in [*EXAMPLES, ("hundred", None), ("proposals", None)]:
+            it = example(name, number)
+            told = it.certificate
+            proposal = Proposal(tuple(it.fills), it.liability, told.cover, tuple(told.measure))
+            proposal.check(it.to_batch())
+            self.assertEqual(proposal.surplus(it.to_batch()), it.surplus)
+            self.assertEqual(proposal.bound(it.to_batch()), it.bound)
+
+    def test_a_line_is_spelled_as_the_exchange_does(self) -> None:
+        it = example("proposals")
+        told = (pathlib.Path(__file__).parent.parent / "examples/proposals.commands").read_text()
+        line = next(line for line in told.splitlines() if line.startswith("propose"))
+        proposal = Proposal(tuple(it.fills), it.liability, "line", tuple(it.certificate.measure))
+        self.assertEqual(proposal.line(1, it.to_batch(), [1, 2, 3]), line)
+
+    def test_faults_on_one_underlying(self) -> None:
+        batch, given = butterfly(), self.given()
+        one, two, three = given.fills
+        first, *rest = given.measure
+        for other, condition in (
+            (Proposal((one, two), Fraction(0), "line", given.measure), "BatchShape"),
+            (Proposal((2 * one, two, three), Fraction(0), "line", given.measure), "Fill"),
+            (Proposal((one, -two, three), Fraction(0), "line", given.measure), "Fill"),
+            (Proposal(given.fills, Fraction(-1), "line", given.measure), "Cover"),
+            (Proposal((one, two, Fraction(0)), Fraction(0), "line", given.measure), "Cover"),
+            (Proposal(given.fills, Fraction(1), "line", given.measure), "Cover"),
+            (Proposal(given.fills, Fraction(0), "cells", given.measure), "BatchShape"),
+            (Proposal(given.fills, Fraction(0), "line", tuple(rest)), "Measure"),
+            (
+                Proposal(
+                    given.fills,
+                    Fraction(0),
+                    "line",
+                    (*given.measure, State((0, 1), Fraction(-1))),
+                ),
+                "Measure",
+            ),
+        ):
+            self.assertEqual(self.failed(batch, other), condition, other)
+
+    def test_faults_of_trees(self) -> None:
+        it = example("demo", 2)
+        batch, measure = it.to_batch(), tuple(it.certificate.measure)
+        text = json.dumps(it.certificate.cover)
+        nodes = json.loads(text)
+        leaf = next(at for at, node in enumerate(nodes) if node.get("leaf"))
+        place = nodes[leaf]["leaf"][0]["at"]
+        changed = {
+            "BatchShape": [nodes[:-1], [*nodes, {"leaf": []}]],
+            "Cover": [
+                [{"split": 0}, *nodes[1:]],
+                [{"split": nodes[0]["split"]}, {"split": nodes[0]["split"]}, *nodes[1:]],
+                [{"leaf": []} if at == leaf else node for at, node in enumerate(nodes)],
+                json.loads(text.replace(f'{{"at": {place}, "by": "', f'{{"at": {place}, "by": "-')),
+                json.loads(text.replace(f'{{"at": {place}, "by": "', f'{{"at": {place}, "by": "9')),
+            ],
+        }
+        for condition, covers in changed.items():
+            for cover in covers:
+                proposal = Proposal(tuple(it.fills), it.liability, cover, measure)
+                self.assertEqual(self.failed(batch, proposal), condition, cover)
+        long = [{"split": 1}] * 2_000
+        proposal = Proposal(tuple(it.fills), it.liability, long, measure)
+        self.assertEqual(self.failed(batch, proposal), "Cover")
+
+
+@wants("scipy")
+class Certificates(unittest.TestCase):
+    def test_optimal_fills_need_no_more_than_they_did(self) -> None:
+        for name, number in EXAMPLES:
+            it = example(name, number)
+            found = solvers.certify(it.to_batch(), it.fills, it.certificate.measure)
+            self.assertEqual(found.surplus(it.to_batch()), it.surplus, name)
+            self.assertEqual(found.bound(it.to_batch()), it.bound, name)
+
+    def test_a_cover_holds_at_drawn_states(self) -> None:
+        """The liability is enough wherever one looks, and at most a grain above the worst."""
+        draw = random.Random(4)
+        for underlyings in (1, 2, 3):
+            batch = basket(draw, underlyings, 14)
+            sells = [Fraction(it.quantity if it.side == "sell" else 0) for it in batch.orders]
+            measure = [State((1, *[0] * underlyings), Fraction(1))]
+            try:
+                found = solvers.certify(batch, sells, measure)
+            except NoCover:
+                found = solvers.certify(batch, [0] * 14, measure)
+            for state in drawn_states(draw, underlyings):
+                owed = net_of(batch.orders, found.fills, state)
+                self.assertLessEqual(owed, found.liability * state[0])
+
+    def test_what_has_no_cover(self) -> None:
+        """Where it cannot: a slope, a ray, a loss, a tree that is too large."""
+        two = State((1, 0, 0), Fraction(1))
+        spread = bundle("sell", [(1, call(5, 1, 0)), (-1, call(5, 0, 1))], 1)
+        cases: tuple[tuple[Batch, list[int], State, str], ...] = (
+            (Batch([buy(call(5), 9)]), [1], ORIGIN, "1 more for each tick"),
+            (Batch([buy(put(5), 4)]), [1], ORIGIN, "leave -1 at the worst price"),
+            (Batch([buy(call(5, 1, 0), 9)]), [1], two, "along the ray"),
+            (Batch([spread]), [1], two, "along the ray"),
+        )
+        for batch, fills, state, why in cases:
+            with self.assertRaises(NoCover) as caught:
+                solvers.certify(batch, fills, [state])
+            self.assertIn(why, str(caught.exception))
+        it = example("demo", 3)
+        with self.assertRaises(NoCover) as caught:
+            solvers.certify(it.to_batch(), it.fills, it.certificate.measure, nodes=5)
+        self.assertIn("more than 5 nodes", str(caught.exception))
+        with self.assertRaises(ragvismo.TimedOut):
+            solvers.certify(it.to_batch(), it.fills, it.certificate.measure, timeout=0)
+
+    def test_what_is_no_fill_and_no_measure(self) -> None:
+        batch = butterfly()
+        cases: tuple[tuple[list[int], list[State], str], ...] = (
+            ([1, 1], [ORIGIN], "BatchShape"),
+            ([2, 0, 0], [ORIGIN], "Fill"),
+            ([0, 0, 0], [], "Measure"),
+            ([0, 0, 0], [State((2, 0), Fraction(1))], "Measure"),
+        )
+        for fills, measure, condition in cases:
+            with self.assertRaises(Unproved) as caught:
+                solvers.certify(batch, fills, measure)
+            self.assertEqual(caught.exception.failed, condition)
+
+    def test_measures_from_floats(self) -> None:
+        states = [(1, 0), (2, 5), (0, 1)]
+        found = solvers.measure_of(states, [0.3333333, 0.33333335, 4.1])
+        self.assertEqual(sum(it.mass for it in found), 1)
+        self.assertAlmostEqual(float(found[2].weight), 4.1)
+
+
+@wants("scipy")
+class Highs(unittest.TestCase):
+    def test_the_examples_are_solved(self) -> None:
+        """To the last fraction, as the exchange does."""
+        for name, number in EXAMPLES:
+            it = example(name, number)
+            found = solvers.highs(it.to_batch())
+            self.assertEqual(found.surplus(it.to_batch()), it.surplus, name)
+            self.assertEqual(found.bound(it.to_batch()), it.bound, name)
+
+    def test_drawn_batches_are_near(self) -> None:
+        draw = random.Random(6)
+        batches = [options(draw, 40), *(basket(draw, it, 16) for it in (1, 2, 3, 8))]
+        for batch in batches:
+            found = solvers.highs(batch)
+            found.check(batch)
+            gap = found.bound(batch) - found.surplus(batch)
+            self.assertLessEqual(float(gap), 1e-6 * float(found.bound(batch) + 1))
+
+    def test_what_a_run_gave_up(self) -> None:
+        """100 orders on three underlyings: at least the fills that were proposed then, and near."""
+        it = example("hundred")
+        found = solvers.highs(it.to_batch())
+        self.assertGreater(found.surplus(it.to_batch()), it.surplus - Fraction(1, 10**6))
+        gap = found.bound(it.to_batch()) - found.surplus(it.to_batch())
+        self.assertLess(gap, Fraction(1, 10**6))
+
+    def test_a_time_that_is_too_short(self) -> None:
+        """Nothing is filled, and the bound holds."""
+        it = example("demo", 3)
+        found = solvers.highs(it.to_batch(), timeout=0)
+        found.check(it.to_batch())
+        self.assertEqual((sum(found.fills), found.surplus(it.to_batch())), (0, 0))
+        self.assertGreaterEqual(found.bound(it.to_batch()), it.surplus)
+
+    def test_batches_with_nothing_to_do(self) -> None:
+        for batch in (Batch([]), Batch([buy(call(5), 0)]), Batch([sell(call(5, 1, 1), 3)])):
+            found = solvers.highs(batch)
+            found.check(batch)
+            self.assertEqual(premium_of(batch, found.fills), 0)
+
+    def test_climbing_alone_is_not_the_end(self) -> None:
+        """The mixed-integer program finds what climbing does not."""
+        it = example("demo", 3)
+        with mock.patch.object(solvers, "STARTS", 0):
+            found = solvers.highs(it.to_batch())
+        self.assertEqual(found.surplus(it.to_batch()), it.surplus)
+
+
+if __name__ == "__main__":
+    unittest.main()

@@ -1,0 +1,74 @@
+"""What was answered: the entries of a log beside their answers, the chain of sums checked."""
+
+from __future__ import annotations
+
+from collections.abc import Iterator
+
+from ragvismo_service.chain import FIRST_HEAD, Answered, head_after
+from ragvismo_service.messages import GREATEST_ID, START_ID, Entry, Told
+from ragvismo_service.places import Keys
+from ragvismo_service.statuses import Ended, Status
+from ragvismo_service.store import Store
+from ragvismo_service.streams import Pages, counts
+
+
+class History:
+    """Reads what was answered after an id, under which a head of the chain stands, to another one."""
+
+    def __init__(
+        self, store: Store, since: bytes = START_ID, head: bytes = FIRST_HEAD, until: bytes = GREATEST_ID
+    ) -> None:
+        self.store, self.since, self.head, self.count = store, since, head, 0
+        self.keys = keys = Keys.of(store.place.name)
+        # The answers are read first: their entries are there then.
+        self.streams = Pages(store, keys.answers, since, until), Pages(store, keys.taken, since, until)
+        # What was read and is not paired yet.
+        self.told: list[Told] = []
+        self.entries: list[Entry] = []
+
+    def begin(self) -> None:
+        """Ended where entries or answers were taken out, or the answer to begin after is not there."""
+        counts(self.store, self.keys)
+        if self.since == START_ID:
+            return
+        place, found = self.store.place, self.store.say(b"XRANGE", self.keys.answers, self.since, self.since)
+        if not found:
+            said = f"{place} has no answer under {self.since.decode()}: it is another exchange, or lost its end"
+            raise Ended(Status.LOST, said)
+        if Told.of(found[0]).head != self.head:
+            said = f"{place} has another sum under {self.since.decode()}: it is another exchange, or was changed"
+            raise Ended(Status.CHANGED, said)
+
+    def pages(self) -> Iterator[list[Answered]]:
+        """What was answered, page by page, to the last answer that there is; Ended where the chain does not hold."""
+        while self._read_on():
+            many = min(len(self.entries), len(self.told))
+            page = [self._next(entry, told) for entry, told in zip(self.entries[:many], self.told)]
+            del self.entries[:many], self.told[:many]
+            self.since = page[-1].entry.id
+            yield page
+            self.count += many
+
+    def _read_on(self) -> bool:
+        """Reads from the streams of which nothing is left, and says whether there are more answers."""
+        empty = [stream for stream, left in zip(self.streams, (self.told, self.entries)) if not left]
+        pages = self.store.ask(lambda: [stream.command() for stream in empty])
+        for stream, page in zip(empty, pages):
+            stream.take(page)
+            if stream.key == self.keys.taken:
+                self.entries = [Entry.of(raw) for raw in page]
+            else:
+                self.told = [Told.of(raw) for raw in page]
+        if self.told and not self.entries:
+            raise Ended(Status.FORGED, f"NO ENTRY has the id {self.told[0].id.decode()}, under which an answer stands")
+        return bool(self.told)
+
+    def _next(self, entry: Entry, told: Told) -> Answered:
+        """The next entry with its answer; the head follows from both, or it is Ended."""
+        if entry.id != told.id:
+            said = f"AN ANSWER STANDS under {told.id.decode()}, and the next entry is {entry.id.decode()}"
+            raise Ended(Status.FORGED, said)
+        self.head = head_after(self.head, entry.line(), told.answer)
+        if self.head != told.head:
+            raise Ended(Status.CHANGED, f"THE LOG WAS CHANGED at {told.id.decode()}, or the sum beside its answer")
+        return Answered(entry, told.answer, self.head)

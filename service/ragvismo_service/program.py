@@ -1,0 +1,122 @@
+"""The program behind pipes, and what it answers to the entries of a log."""
+
+from __future__ import annotations
+
+import hashlib
+import itertools
+import os
+import pathlib
+import select
+import subprocess
+from collections.abc import Iterator
+from io import BufferedReader
+
+from ragvismo_service.chain import FIRST_HEAD, Answered, chained
+from ragvismo_service.messages import Entry, malformed
+from ragvismo_service.statuses import BadUse, Ended, Status
+
+PIECE, PIPE = 1 << 16, 1 << 20
+
+
+def opened(path: pathlib.Path) -> BufferedReader:
+    """The file of a program that can be run; raises BadUse."""
+    try:
+        file = open(path, "rb")
+    except OSError as fault:
+        raise BadUse(f"there is no program {path}, which ./build makes: {fault.strerror}") from None
+    if not path.is_file() or not os.access(path, os.X_OK):
+        raise BadUse(f"{path} cannot be run")
+    return file
+
+
+class Program:
+    """The program `exchange serve sessions`, which answers each line with one; just the file whose sum is `digest` is run.
+
+    It ends with HANGS where for `patience` seconds it neither takes a byte nor answers.
+    """
+
+    def __init__(self, path: pathlib.Path, patience: float) -> None:
+        self.patience = patience
+        # The pieces of an answer that has not ended.
+        self.begun: list[bytes] = []
+        with opened(path) as file:
+            self.digest = hashlib.file_digest(file, "sha256").hexdigest()
+            self.process = subprocess.Popen(
+                [path, "serve", "sessions"],
+                executable=f"/proc/self/fd/{file.fileno()}",
+                pass_fds=[file.fileno()],
+                stdin=subprocess.PIPE,
+                stdout=subprocess.PIPE,
+                bufsize=0,
+                pipesize=PIPE,
+            )
+        assert self.process.stdin and self.process.stdout
+        self.stdin, self.stdout = self.process.stdin, self.process.stdout
+        os.set_blocking(self.stdin.fileno(), False)
+
+    def check(self) -> None:
+        """Ended where the program ended while it was asked nothing."""
+        if (status := self.process.poll()) is not None:
+            raise Ended(Status.PROGRAM_ENDED, f"the program ended with status {status}")
+
+    def answers(self, lines: list[bytes]) -> Iterator[list[bytes]]:
+        """The answers to lines, in order, in groups as they come."""
+        left, given = len(lines), memoryview(b"".join(lines))
+        while left:
+            ready, room, _ = select.select([self.stdout], [self.stdin] if given else [], [], self.patience)
+            if not ready and not room:
+                self.process.kill()
+                raise Ended(Status.HANGS, f"the program answered nothing for {self.patience:g} s")
+            if room:
+                given = self._give(given)
+            group = self._read() if ready else []
+            left -= len(group)
+            if left < 0:
+                raise Ended(Status.PROGRAM_ENDED, "the program answered more than it was asked")
+            if group:
+                yield group
+
+    def _give(self, text: memoryview) -> memoryview:
+        """Writes what the pipe has room for, and tells what is left; nothing is left for a program that ended."""
+        try:
+            return text[self.stdin.write(text) or 0 :]
+        except BrokenPipeError:
+            return text[:0]
+
+    def _read(self) -> list[bytes]:
+        """The answers that one piece of output ends."""
+        if not (piece := os.read(self.stdout.fileno(), PIECE)):
+            raise Ended(Status.PROGRAM_ENDED, f"the program ended with status {self.process.wait()}")
+        if b"\n" not in piece:
+            self.begun.append(piece)
+            return []
+        *answers, rest = b"".join((*self.begun, piece)).split(b"\n")
+        self.begun = [rest]
+        return answers
+
+    def end(self) -> None:
+        self.stdin.close()
+        self.process.wait()
+
+
+class Replay:
+    """A program that is given the entries of a log from the first on, and the chain over its answers."""
+
+    def __init__(self, program: Program) -> None:
+        self.program, self.head = program, FIRST_HEAD
+
+    def answers(self, entries: list[Entry]) -> Iterator[list[Answered]]:
+        """The next entries with their answers, in order, in groups as they come."""
+        for fault, alike in itertools.groupby(entries, lambda entry: entry.fault):
+            run = list(alike)
+            if fault is not None:
+                yield self._chained([(entry, malformed(entry.id, fault)) for entry in run])
+                continue
+            left = iter(run)
+            for answers in self.program.answers([entry.text + b"\n" for entry in run]):
+                yield self._chained([(next(left), answer) for answer in answers])
+
+    def _chained(self, answers: list[tuple[Entry, bytes]]) -> list[Answered]:
+        group = list(chained(self.head, answers))
+        self.head = group[-1].head
+        return group

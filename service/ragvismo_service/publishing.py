@@ -1,0 +1,62 @@
+"""Publishing answers: nothing that is wrong, and each once, however many publish."""
+
+from __future__ import annotations
+
+from ragvismo_service.chain import Answered
+from ragvismo_service.messages import START_ID
+from ragvismo_service.places import Keys
+from ragvismo_service.statuses import Ended, Status
+from ragvismo_service.store import Command
+
+# KEYS: in, out, program; ARGV: the sum of the program, how many answers come before, the id of the last of them, then ids,
+# answers and heads in turn. Another sequencer may have appended the first of them; the script appends the rest, all or
+# nothing, and nothing where the log has lost the last of the entries.
+SCRIPT = b"""
+if redis.call('GET', KEYS[3]) ~= ARGV[1] then return {'program', ''} end
+local last, many = ARGV[#ARGV - 2], (#ARGV - 3) / 3
+if #redis.call('XRANGE', KEYS[1], last, last) == 0 then return {'lost', last} end
+local there = redis.call('XRANGE', KEYS[2], '(' .. ARGV[3], '+', 'COUNT', many)
+for at, found in ipairs(there) do
+    local id, of = ARGV[3 * at + 1], found[2]
+    if found[1] ~= id or #of ~= 4 or of[1] ~= 'answer' or of[3] ~= 'chain' then return {'forged', found[1]} end
+    if of[2] ~= ARGV[3 * at + 2] then return {'differs', id} end
+    if of[4] ~= ARGV[3 * at + 3] then return {'changed', id} end
+end
+if #there == many then return {'published', last} end
+if redis.call('XLEN', KEYS[2]) ~= ARGV[2] + #there then return {'cut', last} end
+for at = 3 * #there + 4, #ARGV, 3 do
+    redis.call('XADD', KEYS[2], ARGV[at], 'answer', ARGV[at + 1], 'chain', ARGV[at + 2])
+end
+return {'published', last}
+"""
+FAULTS = {
+    b"program": (Status.OTHER_PROGRAM, "the exchange was handed over to another program"),
+    b"forged": (Status.FORGED, "NO SEQUENCER WROTE what stands under {id} among the answers"),
+    b"differs": (Status.DIFFERS, "ANOTHER ANSWER than this machine's stands under {id}: one machine is broken"),
+    b"changed": (Status.CHANGED, "THE LOG WAS CHANGED at {id}, or the sum beside its answer"),
+    b"cut": (Status.CUT, "ANSWERS WERE TAKEN OUT before that to {id}"),
+}
+
+
+class Publisher:
+    """Publishes the answers of one program, from the first on."""
+
+    def __init__(self, keys: Keys, digest: str) -> None:
+        self.keys, self.digest = keys, digest.encode()
+        self.count, self.last = 0, START_ID
+
+    def command(self, group: list[Answered]) -> Command:
+        """What publishes answers, as often as it is said."""
+        words = [word for entry, answer, head in group for word in (entry.id, answer, head)]
+        return [b"EVAL", SCRIPT, b"3", *self.keys, self.digest, b"%d" % self.count, self.last, *words]
+
+    def take(self, group: list[Answered], told: list[bytes]) -> Status:
+        """Takes what Redis said to the command: DONE, or LOST where the log has no such entry; else it is Ended."""
+        if told[0] == b"lost":
+            return Status.LOST
+        if told[0] in FAULTS:
+            status, said = FAULTS[told[0]]
+            raise Ended(status, said.format(id=told[1].decode()))
+        self.count += len(group)
+        self.last = group[-1].entry.id
+        return Status.DONE

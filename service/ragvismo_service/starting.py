@@ -1,0 +1,135 @@
+"""Starts an exchange on this machine, for a first try: a Redis and a sequencer, until Ctrl-C.
+
+    service/up [FOLDER] [--port N] [--program FILE]
+
+The log stands in FOLDER (ragvismo-log, if not given), so the next call with it goes on where this one ended. Redis listens on
+the loopback address alone, at port 6380 if not given, and writes each append to the disk before it tells of it. Redis and
+the sequencer end when this call does, whatever ended it; Redis holds the lock on FOLDER, so no other one writes there.
+
+It ends when Redis ends, or when the sequencer does with a status at which a person has to look, which is told; or with
+"""
+
+from __future__ import annotations
+
+import ctypes
+import logging
+import os
+import pathlib
+import shutil
+import signal
+import subprocess
+import sys
+import time
+from collections.abc import Sequence
+from typing import BinaryIO
+
+from ragvismo_service import files
+from ragvismo_service.places import Place
+from ragvismo_service.statuses import NOT_AGAIN, BadUse, Ended, Status, table
+from ragvismo_service.store import Store
+from ragvismo_service.words import Words, status_of, tool
+
+SEQUENCER = pathlib.Path(__file__).resolve().parents[1] / "sequencer"
+STATUSES = Status.BAD_USE, Status.NO_REDIS, Status.HELD, Status.FILE_FAULT
+# Of Linux: the signal that a process gets when the one that started it ends.
+PR_SET_PDEATHSIG = 1
+# How long a Redis of a call before may take to end.
+ENDING = 5.0
+# The greatest answer, the greatest command, and the greatest reply of Redis: two answers and a page.
+ANSWER, COMMAND, REPLY = (megabytes << 20 for megabytes in (128, 136, 288))
+
+
+def redis_words(folder: pathlib.Path, port: int) -> list[str]:
+    """The Redis of an exchange: all in one log, nothing thrown away."""
+    settings = {
+        "port": port,
+        "bind": "127.0.0.1",
+        "dir": folder,
+        "appendonly": "yes",
+        "appendfsync": "always",
+        "save": "",
+        "maxmemory-policy": "noeviction",
+        "proto-max-bulk-len": ANSWER,
+        "client-query-buffer-limit": COMMAND,
+        "client-output-buffer-limit": f"normal {REPLY} 0 0",
+        "loglevel": "warning",
+        "logfile": "redis.log",
+    }
+    return ["redis-server", *(word for key, value in settings.items() for word in (f"--{key}", str(value)))]
+
+
+def started(words: Sequence[str | pathlib.Path], handed_on: Sequence[BinaryIO] = ()) -> subprocess.Popen[bytes]:
+    """A process that ends when this one does."""
+    parent, system = os.getpid(), ctypes.CDLL(None)
+
+    def end_with_parent() -> None:
+        system.prctl(PR_SET_PDEATHSIG, signal.SIGTERM)
+        if os.getppid() != parent:
+            os._exit(Status.NO_REDIS)
+
+    return subprocess.Popen(words, pass_fds=[it.fileno() for it in handed_on], preexec_fn=end_with_parent)
+
+
+def ended(server: subprocess.Popen[bytes], folder: pathlib.Path) -> Ended:
+    return Ended(Status.NO_REDIS, f"Redis ended with status {server.returncode}; {folder / 'redis.log'} may say why")
+
+
+def wait_for(server: subprocess.Popen[bytes], store: Store, folder: pathlib.Path) -> None:
+    """Waits until a Redis answers, which has to be the one that was started."""
+    while not store.answers():
+        if server.poll() is not None:
+            raise ended(server, folder)
+        time.sleep(0.05)
+    if f"process_id:{server.pid}\r" not in store.say(b"INFO", b"server").decode():
+        raise Ended(Status.NO_REDIS, f"at {store.place} is another Redis")
+
+
+def keep_up(server: subprocess.Popen[bytes], sequencer: list[str | pathlib.Path], folder: pathlib.Path) -> int:
+    """Starts the sequencer again whenever it ends, until that does not help, or Redis ends."""
+    running = started(sequencer)
+    try:
+        while server.poll() is None:
+            if running.poll() in NOT_AGAIN:
+                return running.returncode
+            if running.returncode is not None:
+                logging.info("the sequencer ended with status %s and is started again", running.returncode)
+                time.sleep(1)
+                running = started(sequencer)
+            time.sleep(0.1)
+    finally:
+        running.terminate()
+        running.wait()
+    raise ended(server, folder)
+
+
+def port(text: str) -> Place:
+    """The place at a port of this machine; raises BadUse."""
+    if not text.isdecimal():
+        raise BadUse(f"{text} is no port")
+    return Place.of(text)
+
+
+def run() -> int:
+    words = Words(f"{__doc__}{table(*STATUSES)}", is_placed=False)
+    words.add_argument("folder", metavar="FOLDER", type=pathlib.Path, nargs="?", default=pathlib.Path("ragvismo-log"))
+    words.add_argument("--port", type=port, default="6380", metavar="N")
+    words.add_program()
+    given = words.parse_args()
+    if not shutil.which("redis-server"):
+        raise BadUse("redis-server is missing; tools/setup installs it")
+    store = Store(given.port, given.patience, tool())
+    signal.signal(signal.SIGTERM, lambda *_: sys.exit(128 + signal.SIGTERM))
+    with files.lock(given.folder, ENDING) as lock:
+        server = started(redis_words(given.folder.resolve(), store.place.port), [lock])
+    try:
+        wait_for(server, store, given.folder)
+        print(f"the exchange is up: service/client.py 1 --at 127.0.0.1:{store.place.port}", flush=True)
+        settings = {"--at": str(store.place.port), "--program": given.program, "--patience": str(given.patience)}
+        return keep_up(server, [SEQUENCER, *(word for each in settings.items() for word in each)], given.folder)
+    finally:
+        server.terminate()
+        server.wait()
+
+
+def main() -> int:
+    return status_of(run)

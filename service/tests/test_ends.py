@@ -1,0 +1,231 @@
+"""Each fault has its end, and nothing wrong is published."""
+
+from __future__ import annotations
+
+import json
+import os
+import pathlib
+import re
+import signal
+import socket
+import subprocess
+import sys
+
+import redis
+
+from client import Broken, Session
+from ragvismo_service.statuses import NOT_AGAIN, Status
+from tests.standing import HERE, STAND_IN, Service
+
+
+class Ends(Service):
+    def test_entries_that_are_no_messages(self) -> None:
+        self.append(session=7, number=1, body="open,1")
+        faults = {
+            self.append(body="open,1"): "Fields",
+            self.append(session=7, number=1, body="x", more=1): "Fields",
+            self.redis.execute_command(
+                "XADD", "ragvismo:in", "*", *("session", 7, "number", 1, "body", "open,5", "body", "open,6")
+            ): "Fields",
+            self.append(session=7, number=1, body="open,1\nopen,2"): "Form",
+            self.append(session="7,1", number=1, body="x"): "Form",
+            self.append(session=7, number=1, body=b"x" * (1 << 24)): "Long",
+        }
+        self.append(session="x", number=1, body="open,1")
+        self.append(session=7, number=2, body="open,2")
+        self.start_sequencer()
+        self.until(self.all_answered)
+        published = dict(self.published())
+        for id, reason in faults.items():
+            self.assertEqual(published[id], b'{"entry":"%b","reason":"%b","reply":"service"}' % (id, reason.encode()))
+        kinds = [json.loads(answer) for answer in published.values()]
+        self.assertEqual((kinds[-2]["reason"], kinds[-1]["of"]["line"]), ("Malformed", 2))
+        self.assertRegex(self.tool("verify").stdout, "^9 answers hold, to ")
+        self.assertEqual(self.tool("journal", self.folder / "journal").returncode, 0)
+        [messages] = (self.folder / "journal").glob("*.messages")
+        self.assertLess(messages.stat().st_size, 1000)
+        self.assertRegex(self.tool("journal", self.folder / "journal", "--verify").stdout, "^1 segments stand: ")
+
+    def test_another_answer(self) -> None:
+        id = self.append(session=7, number=1, body="open,1")
+        self.redis.xadd("ragvismo:out", {"answer": "{}", "chain": "0" * 64}, id=id)
+        said = f"ANOTHER ANSWER than this machine's stands under {id.decode()}"
+        self.ends(self.start_sequencer(), Status.DIFFERS, said)
+        self.assertEqual(self.published(), [(id, b"{}")])
+
+    def test_another_program(self) -> None:
+        first = self.start_sequencer()
+        self.session(7).ask("open,1")
+        other = self.script("other", STAND_IN.replace('b"one"', 'b"two"'))
+        self.ends(self.start_sequencer(other), Status.OTHER_PROGRAM, "another program")
+        ran = self.tool("rehearse", other, "--switch")
+        self.assertEqual((ran.returncode, ran.stdout.splitlines()[0]), (1, "0 answers are the same"), ran.stderr)
+        same = self.script("same", f"#!/bin/sh\nexec {self.program} serve sessions\n")
+        ran = self.tool("rehearse", same, "--switch")
+        handed_over = "1 answers are the same\nthe exchange is answered by this program now\n"
+        self.assertEqual((ran.returncode, ran.stdout), (0, handed_over), ran.stderr)
+        self.append(session=7, number=2, body="open,2")
+        self.ends(first, Status.OTHER_PROGRAM, "handed over")
+        self.start_sequencer(same)
+        self.session(7, 3).ask("open,3")
+        self.assertEqual(self.published(), self.computed())
+
+    def test_handing_over_while_answers_come(self) -> None:
+        """An answer that comes while the last is compared is compared too, before the exchange is handed over."""
+        self.start_sequencer()
+        self.session(7).ask("open,1")
+        waits = self.script(
+            "waits", f"#!/bin/sh\ntouch {self.folder}/asked\nsleep 2\nexec {self.program} serve sessions\n"
+        )
+        words = [str(HERE / "rehearse"), str(waits), "--at", str(self.port), "--switch"]
+        with subprocess.Popen(words, stdout=subprocess.PIPE, text=True) as rehearsal:
+            self.until((self.folder / "asked").exists)
+            self.session(7, 2).ask("open,2")
+            told = rehearsal.communicate(timeout=60)[0]
+        self.assertEqual(told, "2 answers are the same\nthe exchange is answered by this program now\n")
+
+    def test_the_program_that_is_named_is_run(self) -> None:
+        """`--program x` is the one here, though another x stands first on the path; and it is the file that is summed."""
+        elsewhere = self.folder / "elsewhere"
+        elsewhere.mkdir()
+        (elsewhere / "x").write_text("#!/bin/sh\nexit 9\n")
+        (elsewhere / "x").chmod(0o755)
+        self.script(
+            "x", self.program.read_text() if not self.is_real else f"#!/bin/sh\nexec {self.program} serve sessions\n"
+        )
+        for number, name in enumerate(("x", "./x"), 1):
+            command = [str(HERE / "sequencer"), "--at", f"{self.port}/{number}", "--program", name]
+            path = {**os.environ, "PATH": f"{elsewhere}:{os.environ['PATH']}"}
+            self.sequencers.append(
+                subprocess.Popen(command, cwd=self.folder, env=path, stderr=subprocess.PIPE, text=True)
+            )
+            Session(f"{self.port}/{number}", 7, 1).ask("open,1")
+
+    def test_the_program_ends(self) -> None:
+        self.append(session=7, number=1, body="open,1")
+        self.append(session=7, number=2, body="open,2")
+        answer = '{"number":1,"of":{},"session":7}'
+        cut = self.script("cut", f"#!/bin/sh\nread line\necho '{answer}'\nprintf '{{\"numb'\nexit 70\n")
+        self.ends(self.start_sequencer(cut), Status.PROGRAM_ENDED, "the program ended with status 70")
+        self.assertEqual(len(self.published()), 1)
+
+    def test_the_program_answers_too_much(self) -> None:
+        self.append(session=7, number=1, body="open,1")
+        two = self.script("two", "#!/bin/sh\nread line\nprintf '{}\\n{}\\n'\nexec cat\n")
+        self.ends(self.start_sequencer(two), Status.PROGRAM_ENDED, "more than it was asked")
+        self.assertEqual(self.published(), [])
+
+    def test_the_program_hangs(self) -> None:
+        sequencer = self.start_sequencer(None, "--patience", "1")
+        self.session(7).ask("open,1")
+        program = self.program_of(sequencer)
+        os.kill(program, signal.SIGSTOP)
+        self.append(session=7, number=2, body="open,2")
+        self.ends(sequencer, Status.HANGS, "the program answered nothing for 1 s")
+        self.until(lambda: not pathlib.Path(f"/proc/{program}").exists())
+        self.start_sequencer()
+        self.until(self.all_answered)
+        self.assertEqual(self.published(), self.computed())
+
+    def test_a_log_that_lost_its_end(self) -> None:
+        """The log is cut in the middle of an append that was answered, as at a crash without fsync."""
+        sequencer = self.start_sequencer()
+        self.session(7).ask("open,1")
+        os.kill(sequencer.pid, signal.SIGSTOP)
+        self.append(session=7, number=2, body="open,2")
+        os.kill(sequencer.pid, signal.SIGCONT)
+        self.until(self.all_answered)
+        os.kill(sequencer.pid, signal.SIGSTOP)
+        self.stop_redis()
+        [log] = (self.folder / "appendonlydir").glob("*.incr.aof")
+        text = log.read_bytes()
+        os.truncate(log, text.rindex(b"open,2") + 3)
+        self.start_redis()
+        self.assertEqual((self.redis.xlen("ragvismo:in"), self.redis.xlen("ragvismo:out")), (1, 1))
+        self.append(session=7, number=2, body="open,3")
+        os.kill(sequencer.pid, signal.SIGCONT)
+        self.ends(sequencer, Status.LOST, "start again")
+        self.start_sequencer()
+        self.until(self.all_answered)
+        self.assertEqual(self.published(), self.computed())
+
+    def test_a_cut_append(self) -> None:
+        with socket.create_connection(("127.0.0.1", self.port)) as cut:
+            cut.sendall(b"*9\r\n$4\r\nXADD\r\n$11\r\nragvismo:in\r\n$1\r\n*\r\n$7\r\nsess")
+        self.start_sequencer()
+        self.session(7).ask("open,1")
+        self.assertEqual(self.redis.xlen("ragvismo:in"), 1)
+        self.assertEqual(self.published(), self.computed())
+
+    def test_a_full_disk(self) -> None:
+        """Redis ends where it cannot write, and nothing that it did not write is told or answered."""
+        self.stop_redis()
+        room = "import resource, os, sys; resource.setrlimit(resource.RLIMIT_FSIZE, (20000, 20000)); os.execvp(sys.argv[1], sys.argv[1:])"
+        self.server = subprocess.Popen([sys.executable, "-c", room, *self.redis_words()], restore_signals=False)
+        self.until(self.answers)
+        sequencer, told = self.start_sequencer(None, "--patience", "1"), []
+        try:
+            for number in range(1, 1000):
+                told.append(self.append(session=7, number=number, body="open,1"))
+        except redis.ConnectionError:
+            pass
+        self.ends(sequencer, Status.NO_REDIS, "no Redis answers")
+        self.server.wait()
+        self.start_redis()
+        taken = [id for id, _ in self.redis.xrange("ragvismo:in")]
+        self.assertEqual(taken[: len(told)], told)
+        self.start_sequencer()
+        self.until(self.all_answered)
+        self.assertEqual(self.published(), self.computed())
+
+    def test_memory_that_is_full(self) -> None:
+        self.append(session=7, number=1, body="open,1")
+        self.redis.config_set("maxmemory", 1)
+        self.ends(self.start_sequencer(), Status.NO_REDIS, "Redis refuses")
+        self.assertEqual(self.published(), [])
+        with self.assertRaisesRegex(Broken, "Redis refuses"):
+            self.session(7).ask("open,1")
+
+    def test_long_messages_come_page_by_page(self) -> None:
+        """Many long messages take the memory of a few, though short ones came before."""
+        self.append(session=7, number=1, body=b"x" * (10 << 20))
+        for number in range(2, 1001):
+            self.append(session=7, number=number, body="x")
+        for number in range(1001, 1031):
+            self.append(session=7, number=number, body=b"x" * (3 << 20))
+        self.redis.config_set("client-output-buffer-limit", f"normal {24 << 20} 0 0")
+        sequencer = self.start_sequencer()
+        self.until(self.all_answered)
+        status = pathlib.Path(f"/proc/{sequencer.pid}/status").read_text()
+        [most] = [int(line.split()[1]) for line in status.splitlines() if line.startswith("VmHWM")]
+        self.assertLess(most, 120_000)
+        self.redis.config_set("client-output-buffer-limit", "normal 0 0 0")
+        self.assertEqual(self.published(), self.computed())
+
+    def test_what_is_logged(self) -> None:
+        self.append(session=7, number=1, body="open,1")
+        sequencer = self.start_sequencer()
+        self.until(self.all_answered)
+        self.stop_redis()
+        self.start_redis()
+        self.session(7, 2).ask("open,2")
+        sequencer.terminate()
+        told = sequencer.communicate()[1]
+        for said in (
+            "started at",
+            "1 entries, 0 of them answered",
+            "entries are read, after",
+            "no Redis answers at",
+            "answers again",
+        ):
+            self.assertIn(said, told)
+
+    def test_statuses(self) -> None:
+        """The units and the documents know the statuses."""
+        unit = (HERE / "systemd/ragvismo-sequencer@.service").read_text()
+        [told] = [line.partition("=")[2] for line in unit.splitlines() if line.startswith("RestartPreventExitStatus")]
+        self.assertEqual({int(it) for it in told.split()}, set(NOT_AGAIN))
+        document = (HERE.parent / "docs/OPERATING.md").read_text()
+        known = {int(number): bold for bold, number in re.findall(r"(?m)^\| (\**)status (\d+)", document)}
+        self.assertEqual(set(known), set(Status) - {Status.DONE, Status.NO})
+        self.assertEqual({number for number, bold in known.items() if bold}, set(NOT_AGAIN))
