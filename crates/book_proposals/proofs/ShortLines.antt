@@ -1,5 +1,5 @@
 -- Lines that hand proposals in are one line each, and one that proposes nothing is short.
-use Rattle.std.proofs.Common.{◌≡◌, ℕ, suc, ◌+◌, ◌*◌, ◌<◌, ◌≤◌, ◌^◌, ◌==◌, ℤ, pos, negsuc, List, [], ◌∷◌, ◌++◌, Bool, true, false, if◌then◌else◌, length, map, codes, refl, ap, sym, subst, arith, length-append}
+use Rattle.std.proofs.Common.{◌≡◌, ℕ, suc, ◌+◌, ◌*◌, ◌<◌, ◌≤◌, ◌^◌, ◌==◌, ℤ, pos, negsuc, List, [], ◌∷◌, ◌++◌, Bool, true, false, if◌then◌else◌, length, codes, refl, ap, sym, subst, arith, length-append}
 use Rattle.std.specs.Fmt.{decimal, signed_decimal}
 use Rattle.std.specs.List.{All, AllByRecursion}
 use Rattle.std.proofs.lemmas.Bool.{lt-ltb}
@@ -9,7 +9,6 @@ use Rattle.std.proofs.lemmas.List.Folds.{list_any_none}
 use Rattle.itoa.proofs.Decimal.{length_wide}
 use Rattle.exact_num.specs.Fraction.{whole as whole_fraction}
 use Rattle.form.specs.declared.orders.Batch.{Batch}
-use Rattle.form.specs.declared.orders.Order.{Order}
 use Rattle.frac.specs.declared.frac128.Frac128.{Frac128}
 use Rattle.frac.specs.Value.{fraction_of}
 use Rattle.cert_check.specs.declared.measures.Weighted.{Weighted}

@@ -24,7 +24,6 @@ use Rattle.form.specs.declared.orders.Batch.{Batch}
 use Rattle.form.specs.declared.orders.Order.{Order}
 use Rattle.form.specs.Payoff.{bundle_of}
 use Rattle.frac.specs.Range.{limit}
-use Rattle.frac.specs.Value.{fraction_of}
 use Rattle.frac.specs.ValueOf.{value_from}
 use Rattle.frac.specs.declared.frac128.Frac128.{Frac128}
 use Rattle.frac.proofs.PartSteps.{value_from-fraction_of}

@@ -1,12 +1,13 @@
 -- The texts of lines and their answers, in their order.
-use Rattle.std.proofs.Common.{◌≡◌, ℕ, suc, ◌+◌, List, [], ◌∷◌, ◌++◌, Bool, true, false, ◌==◌, length, if◌then◌else◌, refl, sym, ap, subst, ◌∙◌, arith, append_assoc}
+use Rattle.std.proofs.Common.{◌≡◌, ℕ, suc, ◌+◌, List, [], ◌∷◌, ◌++◌, Bool, true, false, ◌==◌, length, if◌then◌else◌, refl, sym, ap, subst, ◌∙◌, arith, append_assoc, Option}
 use Rattle.std.proofs.lemmas.Bool.Decides.{nat_tests}
+use Rattle.port_io.specs.Reads.{LastRead}
 use Rattle.live_lines.specs.Answering.{AnswersLine, AnswersLines}
 use Rattle.live_lines.specs.Open.{line_text}
-use Rattle.live_lines.specs.Serving.{AnsweredAll, AnsweredBefore, AnsweredLines, AnsweredSome, Known, Wrote, WroteFirst, WroteSome}
-use Rattle.live_lines.proofs.Serves.{all_so, before_so, lines_so, some_so}
+use Rattle.live_lines.specs.Serving.{IsServedInTime, Known, Wrote, WroteFirst, WroteSome}
+use Rattle.live_lines.proofs.Serves.{in_time_so}
 use Rattle.book_proposals.specs.LiveAnswers.{AreAnswers, proposes, texts_from, unless_empty}
-use Rattle.book_proposals.specs.Proposing.{WroteAll, WroteBefore, WroteFor, WroteFront, WroteFrontFor, WroteFrontOf, WroteLines}
+use Rattle.book_proposals.specs.Proposing.{WroteFor, WroteFrontFor, WroteFrontOf}
 
 unless_append : (text : List ℕ) (texts : List (List ℕ)) → unless_empty text [] ++ texts ≡ unless_empty text texts
 unless_append text texts = by_test (length text == 0)
@@ -59,15 +60,6 @@ module _ {S : Type 0} where
           h.2,
         )
 
-  module _ (start : S) (known : Known) where
-    pub all_for : AnsweredAll {S = S} proposes true start known → WroteAll known
-    all_for h = all_so true known (Wrote {S = S} proposes true start known) (WroteFor known) (wrote_for start known) h
-
-    pub lines_for : AnsweredLines {S = S} proposes true start known → WroteLines known
-    lines_for h = lines_so true known (Wrote {S = S} proposes true start known) (WroteFor known) (wrote_for start known) h
-
-    pub before_for : AnsweredBefore {S = S} proposes true start known → WroteBefore known
-    before_for h = before_so true known (Wrote {S = S} proposes true start known) (WroteFor known) (wrote_for start known) h
-
-    pub front_for : AnsweredSome {S = S} proposes true start known → WroteFront known
-    front_for h = some_so true known (WroteSome {S = S} proposes true start known) (WroteFrontFor known) (wrote_front start known) h
+  pub in_time_for : (start : S) (left written : Option (List ℕ)) (last : Option LastRead)
+      → IsServedInTime (Wrote {S = S} proposes true start) true left written last → IsServedInTime WroteFor true left written last
+  in_time_for start left written last h = in_time_so {P = Wrote {S = S} proposes true start} {Q = WroteFor} true left written last (wrote_for start) h

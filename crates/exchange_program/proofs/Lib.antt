@@ -1,4 +1,4 @@
 pub mod AnsweredLive
+pub mod KeptLive
 pub mod ModeOutputs
-pub mod ProposedLive
 pub mod Served

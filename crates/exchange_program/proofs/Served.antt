@@ -99,10 +99,6 @@ nothing_told request left old =
     let told = some_promised request some.0 in
     (some.0, some.1, (told.0, told.1, no_front old old told.0 refl))
 
-pub nothing_told_yet : (asked : Option Request) (left old : Option (List ℕ)) → IfSome asked (λ request. OfSomeInput request left (λ input. WroteFront old old (PromisedFront request input)))
-nothing_told_yet None left old = tt
-nothing_told_yet (Some request) left old = nothing_told request left old
-
 -- ---- what a report found
 says_in : (journal : Journal) (input : List ℕ) → SaysIn journal (lines_of input) (report_in journal input)
 says_in writer.Run input = reports_say input

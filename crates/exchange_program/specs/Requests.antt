@@ -9,7 +9,9 @@ use Rattle.journal_check.specs.declared.reports.Report.{Report}
 use Rattle.journal_check.specs.declared.reports.Report.TheVariants.{Sound, Faulty}
 use Rattle.live_lines.specs.Open.{line_limit}
 use Rattle.live_lines.specs.Serving as live_input
+use Rattle.live_lines.specs.Serving.{IsServedInTime}
 use Rattle.book_proposals.specs.LiveAnswers.{IsWrittenFor}
+use Rattle.book_proposals.specs.Proposing.{WroteFor}
 use Rattle.port_io.specs.Reads.{LastRead}
 use Rattle.program_words.specs.declared.requests.Journal.{Journal}
 use Rattle.program_words.specs.declared.requests.Request.{Request}
@@ -17,12 +19,12 @@ use Rattle.program_words.specs.declared.requests.Request.TheVariants.{Lines, Che
 use Rattle.program_words.specs.declared.requests.Served.{Served}
 use Rattle.program_words.specs.Requests.{request_of}
 use Rattle.exchange_program.specs.Journals.{report_in, report_line}
-use Rattle.exchange_program.specs.Live.{AnswerFirst, ProposedAt, ServedAt, ServedTell, known_at, served_output, skips_mark}
+use Rattle.exchange_program.specs.Live.{AnswerFirst, ServedTell, WroteAnswers, served_output, skips_mark}
 use Rattle.exchange_program.specs.Modes.{IsBesideIn, mode_output, step_in}
 use Rattle.command_text.specs.declared.limits.TheConstants.{MAX_INPUT}
 use Rattle.exchange_program.specs.declared.check.TheConstants.{MAX_JOURNAL}
 use Rattle.exchange_program.specs.declared.status.Status.{Status}
-use Rattle.exchange_program.specs.declared.status.Status.TheVariants.{Done, ReadFault, CheckNo}
+use Rattle.exchange_program.specs.declared.status.Status.TheVariants.{Done, CheckNo}
 
 -- ---- the input
 -- how many bytes are read at most, all of them before anything is written: none for a demo. There
@@ -42,12 +44,8 @@ skips_of other = true
 
 -- what is read, as far as it is told: the bytes that were left, and none for a demo
 abbrev pub input_of : Request → Option (List ℕ) → Option (List ℕ)
-input_of (Lines mode) left = left
-input_of (Check journal) left = left
-input_of Sessions left = left
-input_of (Serve served) left = left
-input_of Propose left = left
 input_of (Demo seed count) left = Some []
+input_of other left = left
 
 -- whether all is read before anything is written
 abbrev pub IsReadFirst : Request → Type 0
@@ -67,12 +65,8 @@ OfSomeInput request left P = (input : List ℕ) × OfInput request left (λ told
 
 -- all that was left is read, where the input is read
 abbrev pub IsReadWhole : Request → Option (List ℕ) → Option (List ℕ) → Type 0
-IsReadWhole (Lines mode) old new = IfSome old (λ input. new ≡ Some [])
-IsReadWhole (Check journal) old new = IfSome old (λ input. new ≡ Some [])
-IsReadWhole Sessions old new = IfSome old (λ input. new ≡ Some [])
-IsReadWhole (Serve served) old new = IfSome old (λ input. new ≡ Some [])
-IsReadWhole Propose old new = IfSome old (λ input. new ≡ Some [])
 IsReadWhole (Demo seed count) old new = Unit {0}
+IsReadWhole other old new = IfSome old (λ input. new ≡ Some [])
 
 -- what is read is told, and is within the limit, or has lines within theirs
 abbrev pub IsInputWithin : Request → Option (List ℕ) → Type 0
@@ -105,12 +99,8 @@ status_by (Faulty line reason) = CheckNo
 
 -- the status once all is written
 abbrev pub status_for : Request → List ℕ → Status
-status_for (Lines mode) input = Done
 status_for (Check journal) input = status_by (report_in journal input)
-status_for Sessions input = Done
-status_for (Serve served) input = Done
-status_for Propose input = Done
-status_for (Demo seed count) input = Done
+status_for other input = Done
 
 -- all was written
 abbrev pub HasEnded : Status → Type 0
@@ -130,63 +120,36 @@ Promised (Demo seed count) input bytes = Unit {0}
 -- and of those of which a front is written: the same, but that proposals may be for the books among
 -- its first lines
 abbrev pub PromisedFront : Request → List ℕ → List ℕ → Type 0
-PromisedFront (Lines mode) input bytes = Promised (Lines mode) input bytes
-PromisedFront (Check journal) input bytes = Promised (Check journal) input bytes
-PromisedFront Sessions input bytes = Promised Sessions input bytes
-PromisedFront (Serve served) input bytes = Promised (Serve served) input bytes
 PromisedFront Propose input bytes = AnswerFirst input bytes
-PromisedFront (Demo seed count) input bytes = Promised (Demo seed count) input bytes
+PromisedFront other input bytes = Promised other input bytes
 
 abbrev pub WhereCheck : Request → (Journal → Type 0) → Type 0
-WhereCheck (Lines mode) P = Unit {0}
 WhereCheck (Check journal) P = P journal
-WhereCheck Sessions P = Unit {0}
-WhereCheck (Serve served) P = Unit {0}
-WhereCheck Propose P = Unit {0}
-WhereCheck (Demo seed count) P = Unit {0}
+WhereCheck other P = Unit {0}
 
 -- whether it is a report on a journal
 abbrev pub IsCheck : Request → Type 0
-IsCheck (Lines mode) = ⊥
 IsCheck (Check journal) = Unit {0}
-IsCheck Sessions = ⊥
-IsCheck (Serve served) = ⊥
-IsCheck Propose = ⊥
-IsCheck (Demo seed count) = ⊥
+IsCheck other = ⊥
 
 abbrev pub WhereDemo : Request → Type 0 → Type 0
-WhereDemo (Lines mode) P = Unit {0}
-WhereDemo (Check journal) P = Unit {0}
-WhereDemo Sessions P = Unit {0}
-WhereDemo (Serve served) P = Unit {0}
-WhereDemo Propose P = Unit {0}
 WhereDemo (Demo seed count) P = P
+WhereDemo other P = Unit {0}
 
 abbrev pub WhereServe : Request → (Served → Type 0) → Type 0
-WhereServe (Lines mode) P = Unit {0}
-WhereServe (Check journal) P = Unit {0}
-WhereServe Sessions P = Unit {0}
 WhereServe (Serve served) P = P served
-WhereServe Propose P = Unit {0}
-WhereServe (Demo seed count) P = Unit {0}
+WhereServe other P = Unit {0}
 
 abbrev pub WherePropose : Request → Type 0 → Type 0
-WherePropose (Lines mode) P = Unit {0}
-WherePropose (Check journal) P = Unit {0}
-WherePropose Sessions P = Unit {0}
-WherePropose (Serve served) P = Unit {0}
 WherePropose Propose P = P
-WherePropose (Demo seed count) P = Unit {0}
+WherePropose other P = Unit {0}
 
 -- what had been written when the source was last read: nothing where all is read first, and else
 -- the answers to the lines that were complete by then
-abbrev pub HadWritten : Request → Option (List ℕ) → Option (List ℕ) → LastRead → Type 0
-HadWritten (Lines mode) left written last = last.written ≡ written
-HadWritten (Check journal) left written last = last.written ≡ written
-HadWritten Sessions left written last = last.written ≡ written
-HadWritten (Serve served) left written last = ServedAt served ReadFault (known_at left written last)
-HadWritten Propose left written last = ProposedAt ReadFault (known_at left written last)
-HadWritten (Demo seed count) left written last = last.written ≡ written
+abbrev pub HadWritten : Request → Option (List ℕ) → Option (List ℕ) → Option LastRead → Type 0
+HadWritten (Serve served) left written last = IsServedInTime (WroteAnswers served) (skips_mark served) left written last
+HadWritten Propose left written last = IsServedInTime WroteFor true left written last
+HadWritten other left written last = IfSome last (λ now. now.written ≡ written)
 
 -- a fact of what the words ask for
 abbrev pub WithRequest : List (List ℕ) → (Request → Type 0) → Type 0

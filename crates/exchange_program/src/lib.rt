@@ -6,7 +6,6 @@ mod demo;
 mod live;
 mod mode_lines;
 mod program;
-mod proposing;
 mod serving;
 mod status;
 

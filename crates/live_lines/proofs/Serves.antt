@@ -11,7 +11,7 @@ use Rattle.command_text.specs.Lines.{mark_size}
 use Rattle.command_text.proofs.LineParts.{cut}
 use Rattle.live_lines.specs.Answering.{Answering, IsLastAnswer, IsOutput}
 use Rattle.live_lines.specs.Open.{Open, count_limit, line_limit, new_open, unmarked}
-use Rattle.live_lines.specs.Serving.{AnsweredAll, AnsweredBefore, AnsweredInTime, AnsweredLines, AnsweredSome, Counts, Ends, IsInputWithin, Known, OfAll, OfBefore, OfLines, OfSome, TookAll, Wrote, WroteFirst, piece_limit}
+use Rattle.live_lines.specs.Serving.{AnsweredAll, AnsweredBefore, AnsweredLines, AnsweredSome, Counts, Ends, IsInputWithin, IsServed, IsServedInTime, Known, OfAll, OfBefore, OfLines, OfSome, TookAll, Wrote, WroteFirst, WroteSome, piece_limit}
 use Rattle.live_lines.specs.Taken.{AreWithin, IsOpenWithin, Took, with_feeds}
 use Rattle.port_io.specs.declared.stop.Stop.{Stop}
 use Rattle.port_io.specs.declared.stop.Stop.TheVariants.{ReadFault, WriteFault, TooLong, Memory}
@@ -186,7 +186,7 @@ module _ {S : Type 0} (Answers : Answering S) (skips : Bool) (start state : S) (
   stops_after after next stays adds r w t limit Memory low turn = front_after stays adds turn
 
   -- and how it stood before the read
-  pub in_time : (last : Option LastRead) → WasReadAt last still writes → AnsweredInTime Answers skips start left written last
+  pub in_time : (last : Option LastRead) → WasReadAt last still writes → IsServedInTime (Wrote Answers skips start) skips left written last
   in_time last was = IfSome_then last was (λ now is.
       subst (λ (n : LastRead). AnsweredLines Answers skips start (known_of left n.left written n.written)) (sym is) (
         came.took.lines,
@@ -245,10 +245,6 @@ module _ (skips : Bool) where
   past_limits (Some xs) (Some ys) written writes Said h =
       λ within. tells_none skips h.0 h.1 ys h.3 h.4 (subst (IsInputWithin skips) (h.2 ∙ append_assoc (with_feeds h.0) h.1 ys) within)
 
-not_within : (left : Option (List ℕ)) (P : List ℕ → Type 0) → IfSome left (λ input. ¬ (P input)) → IsSomeAnd left P → ⊥
-not_within None P none some = some
-not_within (Some input) P none some = none some
-
 -- ---- what is said of the bytes
 pub ok_then : {T E : Type 0} (r : Result T E) {P Q : Type 0} → OnOk r P → (P → Q) → OnOk r Q
 ok_then (Ok _) h so = so h
@@ -260,75 +256,117 @@ err_then (Err _) h so = so h
 
 -- by what it implies
 module _ (skips : Bool) (known : Known) (P Q : List ℕ → Type 0) (implies : (bytes : List ℕ) → P bytes → Q bytes) where
-  pub all_so : OfAll skips known P → OfAll skips known Q
+  all_so : OfAll skips known P → OfAll skips known Q
   all_so h = (h.0, h.1, h.2, implies h.0 h.3)
 
-  pub lines_so : OfLines skips known P → OfLines skips known Q
+  lines_so : OfLines skips known P → OfLines skips known Q
   lines_so h = (h.0, h.1, h.2, h.3, h.4, implies (with_feeds h.0) h.5)
 
-  pub before_so : OfBefore skips known P → OfBefore skips known Q
+  before_so : OfBefore skips known P → OfBefore skips known Q
   before_so h = (h.0, h.1, h.2, h.3, h.4, implies (with_feeds h.0) h.5, h.6)
 
-  pub some_so : OfSome skips known P → OfSome skips known Q
+  some_so : OfSome skips known P → OfSome skips known Q
   some_so h = elim h [
     | inl lines ↦ inl (lines.0, lines.1, lines.2, lines.3, implies (with_feeds lines.0) lines.4)
     | inr all ↦ inr (all.0, all.1, implies all.0 all.2)
   ]
 
 -- of all that was left
-pub said_of_all : (skips : Bool) (known : Known) (P : List ℕ → Type 0) → OfAll skips known P → IfSome known.left (λ input. (known.still ≡ Some []) × P input)
+said_of_all : (skips : Bool) (known : Known) (P : List ℕ → Type 0) → OfAll skips known P → IfSome known.left (λ input. (known.still ≡ Some []) × P input)
 said_of_all skips known P h = of_whole known.left h.0 (known.still ≡ Some []) (λ input. (known.still ≡ Some []) × P input) h.1.1 (λ none. (none, h.3))
 
 -- ---- what the ends say
+not_within : (left : Option (List ℕ)) (P : List ℕ → Type 0) → IfSome left (λ input. ¬ (P input)) → IsSomeAnd left P → ⊥
+not_within None P none some = some
+not_within (Some input) P none some = none some
+
+abbrev End : Type 0
+End = Result (Unit {0}) Stop
+
 module _ {S : Type 0} (Answers : Answering S) (skips : Bool) (start : S) (known : Known) (counts : Counts) where
-  -- from the line and the answers that stand at the start
-  pub ends_from : (line : Open) (answers : S) (e : Result (Unit {0}) Stop) → line ≡ new_open skips → answers ≡ start
-      → Ends Answers line.skips answers known counts e → Ends Answers skips start known counts e
-  ends_from line answers e is same h = subst (λ a. Ends Answers skips a known counts e) same (subst (λ (l : Open). Ends Answers l.skips answers known counts e) is h)
-
-  pub in_time_from : (line : Open) (answers : S) (last : Option LastRead) → line ≡ new_open skips → answers ≡ start
-      → AnsweredInTime Answers line.skips answers known.left known.written last → AnsweredInTime Answers skips start known.left known.written last
-  in_time_from line answers last is same h =
-      subst (λ a. AnsweredInTime Answers skips a known.left known.written last) same
-      (subst (λ (l : Open). AnsweredInTime Answers l.skips answers known.left known.written last) is h)
-
-  pub done : (e : Result (Unit {0}) Stop) → Ends Answers skips start known counts e → OnOk e (AnsweredAll Answers skips start known)
+  done : (e : End) → Ends Answers skips start known counts e → OnOk e (AnsweredAll Answers skips start known)
   done (Ok _) h = h
   done (Err _) h = tt
 
-  pub all : (e : Result (Unit {0}) Stop) → Ends Answers skips start known counts e
-      → OnOk e (IfSome known.left (λ input. (known.still ≡ Some []) × Wrote Answers skips start known input))
-  all (Ok _) h = said_of_all skips known (Wrote Answers skips start known) h
-  all (Err _) h = tt
+  -- it is a front of what is written for the first lines of all bytes that were left
+  front_of_all : AnsweredSome Answers skips start known → IfSome known.left (WroteFirst Answers skips start known)
+  front_of_all front = elim front [
+    | inl some ↦ of_more known.left known.still (with_feeds some.0 ++ some.1) (WroteFirst Answers skips start known) some.2 (λ more.
+        let wrote = some.4 in
+        let lines = alone_lines Answers skips start some.0 wrote.0 some.3 wrote.1 in
+        let parts = ap cut (append_assoc (with_feeds some.0) some.1 more) ∙ cut_lines skips 1 some.0 (some.1 ++ more) some.3 in
+        (wrote.0, (some.0, cut (some.1 ++ more), lines.0, parts, lines.1), wrote.2))
+    | inr all ↦ of_whole known.left all.0 (known.still ≡ Some []) (WroteFirst Answers skips start known) all.1.1
+        (λ none. (all.2.0, (cut all.0, [], all.2.1.0, sym (append-nil (cut all.0)), all.2.1.1), all.2.2))
+  ]
 
-  module _ (e : Result (Unit {0}) Stop) (h : Ends Answers skips start known counts e) where
-    pub front : (e ≡ Err WriteFault) ⊎ (e ≡ Err Memory) → AnsweredSome Answers skips start known
-    front which = elim which [
-      | inl is ↦ (subst (Ends Answers skips start known counts) is h).0
-      | inr is ↦ subst (Ends Answers skips start known counts) is h
-    ]
-
-    -- it is a front of what is written for the first lines of all bytes that were left
-    pub front_of_all : (e ≡ Err WriteFault) ⊎ (e ≡ Err Memory) → IfSome known.left (WroteFirst Answers skips start known)
-    front_of_all which = elim (front which) [
-      | inl some ↦ of_more known.left known.still (with_feeds some.0 ++ some.1) (WroteFirst Answers skips start known) some.2 (λ more.
-          let wrote = some.4 in
-          let lines = alone_lines Answers skips start some.0 wrote.0 some.3 wrote.1 in
-          let parts = ap cut (append_assoc (with_feeds some.0) some.1 more) ∙ cut_lines skips 1 some.0 (some.1 ++ more) some.3 in
-          (wrote.0, (some.0, cut (some.1 ++ more), lines.0, parts, lines.1), wrote.2))
-      | inr all ↦ of_whole known.left all.0 (known.still ≡ Some []) (WroteFirst Answers skips start known) all.1.1
-          (λ none. (all.2.0, (cut all.0, [], all.2.1.0, sym (append-nil (cut all.0)), all.2.1.1), all.2.2))
-    ]
-
-    pub past : e ≡ Err TooLong → IfSome known.left (λ input. ¬ (IsInputWithin skips input))
-    past is = past_limits skips known.left known.still known.written known.writes (Wrote Answers skips start known) (subst (Ends Answers skips start known counts) is h).0
+  past : OfBefore skips known (Wrote Answers skips start known) → IfSome known.left (λ input. ¬ (IsInputWithin skips input))
+  past h = past_limits skips known.left known.still known.written known.writes (Wrote Answers skips start known) h
 
   -- within the limits, and without a fault
-  pub complete : (e : Result (Unit {0}) Stop) → Ends Answers skips start known counts e → IsSomeAnd known.left (IsInputWithin skips)
+  complete : (e : End) → Ends Answers skips start known counts e → IsSomeAnd known.left (IsInputWithin skips)
       → ¬ (Rose counts.read counts.reads) → ¬ (Rose counts.write counts.writes) → IsOk e ⊎ (e ≡ Err Memory)
   complete (Ok _) h within r w = inl refl
   complete (Err ReadFault) h within r w = absurd (r h.1)
   complete (Err WriteFault) h within r w = absurd (w h.1)
-  complete (Err TooLong) h within r w =
-      absurd (not_within known.left (IsInputWithin skips) (past_limits skips known.left known.still known.written known.writes (Wrote Answers skips start known) h.0) within)
+  complete (Err TooLong) h within r w = absurd (not_within known.left (IsInputWithin skips) (past h.0) within)
   complete (Err Memory) h within r w = inr refl
+
+  ends_served : (e : End) → Ends Answers skips start known counts e
+      → IsServed (Wrote Answers skips start) (WroteSome Answers skips start) (WroteFirst Answers skips start) skips known counts e
+  ends_served e h =
+      let At : End → Type 0 = Ends Answers skips start known counts in
+      let front : (e ≡ Err WriteFault) ⊎ (e ≡ Err Memory) → AnsweredSome Answers skips start known =
+      elim [ inl is ↦ (subst At is h).0 | inr is ↦ subst At is h ] in
+      record {
+        done = done e h;
+        whole = ok_then e (done e h) (said_of_all skips known (Wrote Answers skips start known));
+        read_fault = λ is. (subst At is h).0;
+        too_long = λ is. (subst At is h).0;
+        too_long_input = λ is. past (subst At is h).0;
+        too_long_no_fault = λ is. (subst At is h).1;
+        too_many = λ is. (subst At is h).2;
+        front = front;
+        front_of_all = λ which. front_of_all (front which);
+        read_cause = λ is. (subst At is h).1;
+        write_cause = λ is. (subst At is h).1;
+        complete = complete e h;
+      }
+
+  -- from the line and the answers that stand at the start
+  pub served_from : (line : Open) (answers : S) (e : End) → line ≡ new_open skips → answers ≡ start → Ends Answers line.skips answers known counts e
+      → IsServed (Wrote Answers skips start) (WroteSome Answers skips start) (WroteFirst Answers skips start) skips known counts e
+  served_from line answers e is same h =
+      ends_served e (subst (λ a. Ends Answers skips a known counts e) same (subst (λ (l : Open). Ends Answers l.skips answers known counts e) is h))
+
+pub in_time_from : {S : Type 0} (Answers : Answering S) (skips : Bool) (start : S) (left written : Option (List ℕ)) (line : Open) (answers : S) (last : Option LastRead)
+    → line ≡ new_open skips → answers ≡ start → IsServedInTime (Wrote Answers line.skips answers) line.skips left written last
+    → IsServedInTime (Wrote Answers skips start) skips left written last
+in_time_from Answers skips start left written line answers last is same h =
+    subst (λ a. IsServedInTime (Wrote Answers skips a) skips left written last) same
+    (subst (λ (l : Open). IsServedInTime (Wrote Answers l.skips answers) l.skips left written last) is h)
+
+-- what the facts of what is written imply
+pub served_so : {P F G Q H I : Known → List ℕ → Type 0} (skips : Bool) (known : Known) (counts : Counts) (e : Result (Unit {0}) Stop)
+    → ((known : Known) (bytes : List ℕ) → P known bytes → Q known bytes) → ((known : Known) (bytes : List ℕ) → F known bytes → H known bytes)
+    → ((known : Known) (bytes : List ℕ) → G known bytes → I known bytes) → IsServed P F G skips known counts e → IsServed Q H I skips known counts e
+served_so {P} {F} {G} {Q} {H} {I} skips known counts e so front first h =
+    record {
+      done = ok_then e h.done (all_so skips known (P known) (Q known) (so known));
+      whole = ok_then e h.whole (λ all. IfSome_then known.left all (λ input w. (w.0, so known input w.1)));
+      read_fault = λ is. lines_so skips known (P known) (Q known) (so known) (h.read_fault is);
+      too_long = λ is. before_so skips known (P known) (Q known) (so known) (h.too_long is);
+      too_long_input = h.too_long_input;
+      too_long_no_fault = h.too_long_no_fault;
+      too_many = h.too_many;
+      front = λ which. some_so skips known (F known) (H known) (front known) (h.front which);
+      front_of_all = λ which. IfSome_then known.left (h.front_of_all which) (first known);
+      read_cause = h.read_cause;
+      write_cause = h.write_cause;
+      complete = h.complete;
+    }
+
+pub in_time_so : {P Q : Known → List ℕ → Type 0} (skips : Bool) (left written : Option (List ℕ)) (last : Option LastRead)
+    → ((known : Known) (bytes : List ℕ) → P known bytes → Q known bytes) → IsServedInTime P skips left written last → IsServedInTime Q skips left written last
+in_time_so {P} {Q} skips left written last so h =
+    IfSome_then last h (λ now told. let known = known_of left now.left written now.written in lines_so skips known (P known) (Q known) (so known) told)
