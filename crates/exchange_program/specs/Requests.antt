@@ -14,6 +14,7 @@ use Rattle.book_proposals.specs.LiveAnswers.{IsWrittenFor}
 use Rattle.book_proposals.specs.Proposing.{WroteFor}
 use Rattle.port_io.specs.Reads.{LastRead}
 use Rattle.program_words.specs.declared.requests.Journal.{Journal}
+use Rattle.program_words.specs.declared.requests.Mode.{Mode}
 use Rattle.program_words.specs.declared.requests.Request.{Request}
 use Rattle.program_words.specs.declared.requests.Request.TheVariants.{Lines, Check, Sessions, Serve, Propose, Demo}
 use Rattle.program_words.specs.declared.requests.Served.{Served}
@@ -36,6 +37,13 @@ limit_of Sessions = Some MAX_INPUT
 limit_of (Serve served) = None
 limit_of Propose = None
 limit_of (Demo seed count) = Some 0
+
+-- in numbers
+pub record LimitsAreAsStated : Type 0 where
+  pub lines : (mode : Mode) → limit_of (Lines mode) ≡ Some 16777216
+  pub journals : (journal : Journal) → limit_of (Check journal) ≡ Some 268435456
+  pub sessions : limit_of Sessions ≡ Some 16777216
+  pub demo : (seed count : ℕ) → limit_of (Demo seed count) ≡ Some 0
 
 -- whether the mark in front of an input without such a limit is skipped
 abbrev pub skips_of : Request → Bool

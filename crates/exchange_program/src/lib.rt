@@ -3,6 +3,7 @@
 
 mod check;
 mod demo;
+pub mod laws;
 mod live;
 mod mode_lines;
 mod program;

@@ -1,0 +1,8 @@
+//! Laws over what the program does: each is the contract of a function that does nothing.
+ghost use Rattle.exchange_program.specs.Requests.{LimitsAreAsStated};
+
+/// `run`, `quotes`, `guarded` and `sessions` read at most 16,777,216 bytes, `check` and `audit` at
+/// most 268,435,456, and a demo none.
+pub fn limits_are_as_stated()
+    ensures { LimitsAreAsStated }
+{}
