@@ -26,7 +26,8 @@ use Rattle.account_need.specs.Rounded.{OptionSum, Summed, option_in, options_of,
 use Rattle.account_need.specs.Line.{bend_of, bends, bends_in, exposure_at, greatest_exposure, highest_state, lowest_state, options_in}
 use Rattle.account_need.specs.Laws.{GreatestBounds}
 use Rattle.account_need.proofs.Greatest.{none_above}
-use Rattle.account_need.proofs.Narrow.{Agree, AgreesAt, Between, Each, HoldsAtBend, IsOfDirections, agree_all, at, dot-pair}
+use Rattle.market_laws.proofs.Line.{Agree, Each, at}
+use Rattle.account_need.proofs.Narrow.{AgreesAt, Between, HoldsAtBend, IsOfDirections, agree_all, dot-pair}
 
 -- ---- multiples of a state
 payoff-scale : (k : ℕ) (v : List ℤ) (z : List ℕ) → payoff v (map (λ x. k * x) z) ≡ k * payoff v z

@@ -8,7 +8,7 @@ use Rattle.arithmetic.proofs.Tests.{int_le-true, int_le-yes, int_lt-yes, int_lt-
 use Rattle.exact_num.specs.Fraction.{Fraction, AtMost, IsDefined}
 use Rattle.exact_num.specs.Tests.{is_at_most}
 use Rattle.account_need.specs.Line.{greatest, larger}
-use Rattle.account_need.proofs.Narrow.{Each}
+use Rattle.market_laws.proofs.Line.{Each}
 
 pub at_most_then : (x y z : Fraction) → IsDefined y → AtMost x y → AtMost y z → AtMost x z
 at_most_then x y z some first second =

@@ -1,24 +1,23 @@
 -- The greatest exposure rounded up, as the greatest of rounded ones from bend to bend.
-use Rattle.std.proofs.Common.{◌≡◌, ℕ, ◌+◌, ◌*◌, ◌<◌, ◌≤◌, Bool, true, false, cond, List, [], ◌∷◌, ◌++◌, length, get_or, drop, map, filter, arith, Option, Some, None, ℤ, pos, ◌*ℤ◌, ◌≤ℤ◌, refl, ap, sym, subst, ◌∙◌}
-use Rattle.std.specs.Prelude.{int_le, if◌then◌else◌}
+use Rattle.std.proofs.Common.{◌≡◌, ℕ, ◌+◌, ◌<◌, ◌≤◌, Bool, true, false, cond, List, [], ◌∷◌, ◌++◌, length, get_or, drop, map, filter, arith, Option, Some, None, ℤ, ◌≤ℤ◌, refl, ap, sym, subst, ◌∙◌}
+use Rattle.std.specs.Prelude.{if◌then◌else◌}
 use Rattle.std.specs.Int.{int_max}
 use Rattle.std.specs.Option.{option_map}
 use Rattle.std.proofs.lemmas.Int.{ints, int_max_is}
 use Rattle.std.proofs.lemmas.List.{length-map}
 use Rattle.arithmetic.proofs.Lists.{drop_map, item_of}
-use Rattle.arithmetic.proofs.Tests.{int_le-yes}
 use Rattle.exact_num.specs.Fraction.{AtMost, Fraction, IsDefined, whole}
 use Rattle.exact_num.specs.Tests.{is_at_most}
 use Rattle.form.specs.Payoff.{scale_of}
 use Rattle.portfolio_margin.specs.Need.{ceil_of}
 use Rattle.portfolio_margin.proofs.Rounded.{liabilities_are_rounded_up}
 use Rattle.account_need.specs.Rounded.{Summed}
-use Rattle.account_need.specs.Line.{bend_of, bends, bends_in, exposure_at, greatest, greatest_exposure, highest_state, larger, line_bound, lowest_state, options_in}
+use Rattle.account_need.specs.Line.{bend_of, bends, bends_in, exposure_at, greatest, highest_state, larger, line_bound, lowest_state, options_in}
 use Rattle.account_need.specs.declared.price.Price.{Price}
 use Rattle.account_need.specs.Prices.{bend_within, bound_at, price_vector, with_bend, with_bends}
 use Rattle.account_need.proofs.Convex.{bends_scale}
 use Rattle.account_need.proofs.Greatest.{above_both, at_most_then, greatest_has}
-use Rattle.account_need.proofs.Narrow.{Each}
+use Rattle.market_laws.proofs.Line.{Each}
 
 -- ---- rounding up keeps an order
 ceil : Fraction → ℤ

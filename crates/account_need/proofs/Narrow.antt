@@ -1,7 +1,7 @@
 -- On one underlying, what holds at the two ends of the box and wherever a payoff bends holds of two
 -- states between which a given state lies and no payoff bends: the two are moved together, option by
 -- option.
-use Rattle.std.proofs.Common.{◌≡◌, ℕ, zero, suc, ◌+◌, ◌-◌, ◌*◌, ◌≤◌, ◌⊎◌, inl, inr, List, [], ◌∷◌, nat_abs, arith, ℤ, pos, negsuc, neg_ℤ, ◌+ℤ◌, ◌*ℤ◌, ◌≤ℤ◌, ◌<ℤ◌, refl, ap, sym, subst, ◌∙◌}
+use Rattle.std.proofs.Common.{◌≡◌, ℕ, zero, suc, ◌+◌, ◌-◌, ◌*◌, ◌≤◌, inl, inr, List, [], ◌∷◌, nat_abs, arith, ℤ, pos, negsuc, neg_ℤ, ◌+ℤ◌, ◌*ℤ◌, ◌<ℤ◌, refl, ap, sym, subst, ◌∙◌}
 use Rattle.std.proofs.lemmas.Int.{ints}
 use Rattle.std.proofs.lemmas.Bool.{cases_lt}
 use native.Mathlib.Nat.{mul-le-mul_left, le_of_mul-le-mul_left}
@@ -9,11 +9,8 @@ use Rattle.arithmetic.proofs.Integers.{*ℤ_mono, neg_ℤ-*ℤ}
 use Rattle.arithmetic.proofs.Products.{products}
 use Rattle.form.specs.Vector.{dot, strike_entry}
 use Rattle.clearing_model.specs.Line.{weight_entry}
+use Rattle.market_laws.proofs.Line.{Agree, Each, at}
 use Rattle.settlement.specs.declared.limits.TheConstants.{MAX_SETTLEMENT_PRICE}
-
--- the scalar product of (a, b) and (t, s)
-abbrev pub at : ℤ → ℤ → ℕ → ℕ → ℤ
-at a b t s = (a *ℤ pos t) +ℤ (b *ℤ pos s)
 
 at_combined : (a b : ℤ) (i j t s t' s' : ℕ) → at a b (i * t + j * t') (i * s + j * s') ≡ (at a b t s *ℤ pos i) +ℤ (at a b t' s' *ℤ pos j)
 at_combined a b i j t s t' s' = omega (arith, ints, products)
@@ -23,10 +20,6 @@ dot-pair [] t s = omega (arith, ints)
 dot-pair (a ∷ []) t s = omega (arith, ints)
 dot-pair (a ∷ b ∷ []) t s = omega (arith, ints)
 dot-pair (a ∷ b ∷ c ∷ v) t s = omega (arith, ints)
-
--- both values on one side of 0
-abbrev pub Agree : ℤ → ℤ → Type 0
-Agree x y = ((pos 0 ≤ℤ x) × (pos 0 ≤ℤ y)) ⊎ ((x ≤ℤ pos 0) × (y ≤ℤ pos 0))
 
 agree_swap : {x y : ℤ} → Agree x y → Agree y x
 agree_swap (inl h) = inl (h.1, h.0)
@@ -65,11 +58,6 @@ middle_is a b p q p' q' x y e e' =
 
 abbrev pub AgreesAt : ℕ → ℕ → ℕ → ℕ → List ℤ → Type 0
 AgreesAt t s t' s' v = Agree (at (strike_entry v) (weight_entry v) t s) (at (strike_entry v) (weight_entry v) t' s')
-
--- P of each item, by recursion
-abbrev pub Each : {A : Type 0} → (A → Type 0) → List A → Type 0
-Each P [] = Unit {0}
-Each P (x ∷ xs) = P x × Each P xs
 
 each_then : {A : Type 0} (P Q : A → Type 0) (xs : List A) → ((x : A) → P x → Q x) → Each P xs → Each Q xs
 each_then P Q [] f h = tt

@@ -20,11 +20,11 @@ use Rattle.clearing_model.specs.Line.{weight_entry}
 use Rattle.portfolio_margin.specs.Owed.{owed_over}
 use Rattle.portfolio_margin.proofs.Rounded.{liabilities_are_rounded_up}
 use Rattle.settlement.specs.declared.limits.TheConstants.{MAX_SETTLEMENT_PRICE}
-use Rattle.account_need.specs.Exposure.{Portfolio, IsInBox, cost_at, losses_at}
+use Rattle.account_need.specs.Exposure.{Covers, Portfolio, IsInBox, cost_at, losses_at}
 use Rattle.account_need.specs.Rounded.{Summed, owed_of, rounded_exposure, summed, unit}
 use Rattle.account_need.specs.Line.{bend_of, bends, bends_in, exposure_at, greatest, greatest_exposure, highest_state, line_bound, lowest_state, options_in}
 use Rattle.account_need.specs.Laws.{EnoughIsAboveTrue, GreatestIsReached, LineNeedIsEnough, amount_of, cost_of}
-use Rattle.account_need.proofs.Narrow.{Each}
+use Rattle.market_laws.proofs.Line.{Each}
 use Rattle.account_need.proofs.Convex.{bends_parts, bends_scale, greatest_bounds}
 use Rattle.account_need.proofs.Rounding.{rounded_owes_more}
 
@@ -151,18 +151,17 @@ as_filled o r c D t L owes most =
     let times = *ℤ_mono D (r +ℤ pos (unit * L)) (c *ℤ pos (unit * t)) most in
     *ℤ_cancel_le unit (o +ℤ pos (D * L)) (c *ℤ pos (D * t)) (omega arith) (omega (arith, ints, products, owes, times))
 
+pub line_covers : (p : Portfolio) → p.underlyings ≡ 1 → Covers p (line_bound (summed p))
+line_covers p one t s box D den =
+    let m = summed p in
+    let S = greatest_exposure m in
+    let up = (liabilities_are_rounded_up S (greatest_defined m)).not_below in
+    let on_one : IsInBox 1 t s = subst (λ (n : ℕ). IsInBox n t s) one box in
+    let most = rounded_up (rounded_exposure m (t ∷ s)) S.numerator (line_bound m) S.denominator t (greatest_defined m) (greatest_bounds m t s on_one) up in
+    as_filled (owed_over D p.positions (t ∷ s)) (owed_of (t ∷ s) m.sums) (line_bound m) D t (losses_at (t ∷ s) p.live) (rounded_owes_more p.positions (t ∷ s) D den) most
+
 pub line_need_is_enough : LineNeedIsEnough
-line_need_is_enough p one = record {
-  bound = line_bound (summed p);
-  covers = λ t s box D den.
-      let m = summed p in
-      let S = greatest_exposure m in
-      let up = (liabilities_are_rounded_up S (greatest_defined m)).not_below in
-      let on_one : IsInBox 1 t s = subst (λ (n : ℕ). IsInBox n t s) one box in
-      let most = rounded_up (rounded_exposure m (t ∷ s)) S.numerator (line_bound m) S.denominator t (greatest_defined m) (greatest_bounds m t s on_one) up in
-      as_filled (owed_over D p.positions (t ∷ s)) (owed_of (t ∷ s) m.sums) (line_bound m) D t (losses_at (t ∷ s) p.live) (rounded_owes_more p.positions (t ∷ s) D den) most;
-  asked = omega (arith, ints);
-}
+line_need_is_enough p one = record { bound = line_bound (summed p); covers = line_covers p one; asked = omega (arith, ints) }
 
 pub enough_is_above_true : EnoughIsAboveTrue
 enough_is_above_true p need amount true_need enough = omega (arith, ints, true_need.least (pos amount) enough)

@@ -1,7 +1,6 @@
 -- What is owed of rounded sums is at least what positions owe: option by option, and for each
 -- position.
 use Rattle.std.proofs.Common.{◌≡◌, ℕ, ◌*◌, ◌/◌, Bool, true, false, cond, ◌⊎◌, inl, inr, List, [], ◌∷◌, ◌++◌, map, filter, All, arith, ℤ, pos, ◌+ℤ◌, ◌*ℤ◌, ◌≤ℤ◌, refl, ap, sym, subst, ◌∙◌}
-use Rattle.std.specs.Int.{◌∣◌}
 use Rattle.std.specs.List.{flat_map}
 use Rattle.std.specs.Ordering.{int_eq}
 use mathlib.Core.Bool.{not}
@@ -12,7 +11,7 @@ use Rattle.arithmetic.specs.Sums.{total}
 use Rattle.arithmetic.proofs.Integers.{*ℤ_mono}
 use Rattle.arithmetic.proofs.Products.{products}
 use Rattle.arithmetic.proofs.Sums.{All-head, All-tail}
-use Rattle.exact_num.specs.Fraction.{Fraction, over}
+use Rattle.exact_num.specs.Fraction.{over}
 use Rattle.exact_num.specs.CommonDenominator.{amount_over}
 use Rattle.form.specs.declared.orders.Side.{Side}
 use Rattle.form.specs.declared.orders.Side.TheVariants.{Buy, Sell}
@@ -21,6 +20,7 @@ use Rattle.form.specs.Vector.{is_same_option}
 use Rattle.form.proofs.SameOption.{same_option_is, option_is_same}
 use Rattle.settlement.specs.declared.position.Position.{Position}
 use Rattle.portfolio_margin.specs.Owed.{fill_of, fills_of, owed_by, owed_over}
+use Rattle.portfolio_margin.proofs.Owing.{Divides}
 use Rattle.portfolio_margin.proofs.Rounded.{liabilities_are_rounded_up}
 use Rattle.account_need.specs.Rounded.{OptionSum, count_if, count_of, each_once, is_some_sum, options_held, options_of, owed_of, part_owed, sum_of, sums_held, unit}
 use Rattle.account_need.specs.Laws.{RoundedOwesMore}
@@ -167,9 +167,6 @@ bundle_pays f options (leg ∷ legs) once =
     omega (arith, ints, parts, first, one, bundle_pays f options legs once.1)
 
 -- ---- one position
-abbrev Divides : ℕ → Fraction → Type 0
-Divides D f = f.denominator ∣ D
-
 turned : (side : Side) (c n : ℤ) (q : ℕ) → owed_by side (c *ℤ (n *ℤ pos q)) *ℤ pos unit ≡ (owed_by side (c *ℤ n) *ℤ pos unit) *ℤ pos q
 turned Buy c n q = omega (arith, ints, products)
 turned Sell c n q = omega (arith, ints, products)

@@ -1,9 +1,7 @@
 -- A settlement: the positions lose at most what they owe there, and a tick more for each.
 use Rattle.std.proofs.Common.{◌≡◌, ℕ, suc, ◌+◌, ◌*◌, ◌/◌, ◌≤◌, Bool, true, false, List, [], ◌∷◌, length, All, arith, ℤ, pos, neg_ℤ, ◌+ℤ◌, ◌*ℤ◌, ◌≤ℤ◌, refl, ap, sym, subst, ◌∙◌}
 use Rattle.std.specs.Prelude.{int_lt}
-use Rattle.std.specs.Int.{◌∣◌}
 use Rattle.std.proofs.lemmas.Int.{ints}
-use Rattle.std.proofs.lemmas.List.Elements.{All-cons, All-nil}
 use native.Mathlib.Nat.{mul-div_cancel'}
 use Rattle.arithmetic.specs.Sums.{positive_part, total}
 use Rattle.arithmetic.proofs.Integers.{*ℤ_cancel_le, *ℤ_mono}
@@ -12,7 +10,6 @@ use Rattle.arithmetic.proofs.Products.{products}
 use Rattle.arithmetic.proofs.Signed.{factor_out}
 use Rattle.arithmetic.proofs.Sums.{All-head, All-tail}
 use Rattle.arithmetic.proofs.Tests.{int_lt-yes, int_lt-no}
-use Rattle.exact_num.specs.Fraction.{Fraction, IsDefined}
 use Rattle.exact_num.specs.CommonDenominator.{amount_over, common_denominator}
 use Rattle.exact_num.proofs.Fractions.{common_positive, divides}
 use Rattle.form.specs.declared.orders.Side.{Side}
@@ -25,12 +22,10 @@ use Rattle.settlement.specs.Payout.{worth_at}
 use Rattle.settlement.specs.Positions.{gain_at}
 use Rattle.settlement.proofs.Gains.{gains_are_rounded_down}
 use Rattle.portfolio_margin.specs.Owed.{fill_of, fills_of, owed_by, owed_over}
+use Rattle.portfolio_margin.proofs.Owing.{Divides, fills_defined}
 use Rattle.account_need.specs.Exposure.{Portfolio, IsEnough, losses_at, reserve_of}
 use Rattle.account_need.specs.Moves.{SettlementsKeep}
 use Rattle.account_need.proofs.Portfolios.{portfolio, portfolio_is}
-
-abbrev Divides : ℕ → Fraction → Type 0
-Divides D f = f.denominator ∣ D
 
 -- ---- one position loses less than a tick more than what it owes
 side_owes : (side : Side) (w n : ℤ) (q : ℕ) → neg_ℤ (owed_by side (w *ℤ (n *ℤ pos q))) ≡ (n *ℤ for_side side w) *ℤ pos q
@@ -87,10 +82,6 @@ gained o S G D L k some most lost = *ℤ_cancel_le D (neg_ℤ S) (G +ℤ pos k) 
 
 left : (R m k : ℕ) (S G balance : ℤ) → pos (R + positive_part (S +ℤ pos (k + 2 * m))) ≤ℤ balance → neg_ℤ S ≤ℤ (G +ℤ pos k) → pos 0 ≤ℤ (balance +ℤ G)
 left R m k S G balance enough gains = omega (arith, ints, enough, gains, positive_part_above (S +ℤ pos (k + 2 * m)))
-
-fills_defined : (ps : List Position) → All IsDefined (fills_of ps)
-fills_defined [] = All-nil IsDefined
-fills_defined (p ∷ ps) = All-cons IsDefined (fill_of p) (fills_of ps) p.fill.lowest.positive (fills_defined ps)
 
 not_below : (p : Portfolio) (prices : List ℕ) (balance : ℤ) → length prices ≡ p.underlyings → All (λ price. price ≤ MAX_SETTLEMENT_PRICE) prices
     → IsEnough p balance → pos 0 ≤ℤ (balance +ℤ total (gain_at prices) p.positions)

@@ -9,7 +9,7 @@ use Rattle.form.specs.declared.orders.Side.TheVariants.{Buy, Sell}
 use Rattle.form.specs.FormOf.{form_of}
 use Rattle.form.specs.BundleOf.{bundle_one, bundle_made}
 use Rattle.settlement.specs.declared.position.Position.{Position}
-use Rattle.account_need.specs.Rounded.{OptionSum, Summed, summed, sums_of}
+use Rattle.account_need.specs.Rounded.{Summed, summed, sums_of}
 use Rattle.account_need.specs.Line.{line_need}
 
 abbrev pub held : Side → Bundle → Fraction → Position

@@ -1,4 +1,4 @@
-use Rattle.std.proofs.Common.{◌≡◌, ◌+◌, ℤ, [], ◌∷◌, drop, map, pos, ◌+ℤ◌, ◌-ℤ◌, arith, ap, rules, ◌∙◌}
+use Rattle.std.proofs.Common.{◌+◌, ℤ, [], ◌∷◌, drop, map, pos, ◌+ℤ◌, ◌-ℤ◌, arith, ap, rules, ◌∙◌}
 use Rattle.arithmetic.proofs.Lists.{drop_map}
 use Rattle.form.specs.Payoff.{option_of, payoff}
 use Rattle.account_need.specs.Prices.{option_sum}

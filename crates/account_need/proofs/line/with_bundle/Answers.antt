@@ -1,8 +1,6 @@
-use Rattle.std.proofs.Common.{to_z, ◌+◌, ℤ, List, drop, map, ap, sym, rules, ◌∙◌}
+use Rattle.std.proofs.Common.{to_z, ◌+◌, ℤ, drop, ap, sym, rules, ◌∙◌}
 use Rattle.std.proofs.lemmas.Int.{to_z-of_z}
 use mir.Syntax.{w128}
-use Rattle.arithmetic.proofs.Lists.{drop_map, item_of}
-use Rattle.std.proofs.lemmas.List.{length-map}
 use Rattle.form.specs.Payoff.{BundleLeg, bundle_legs, leg_of, legs_in}
 use Rattle.account_need.specs.Prices.{in_code, with_bends}
 use Rattle.account_need.specs.Rounded.{options_of}

@@ -1,4 +1,4 @@
-use Rattle.std.proofs.Common.{◌≡◌, ◌^◌, ◌≤◌, ℕ, drop, map, unsigned_abs}
+use Rattle.std.proofs.Common.{◌≡◌, ◌^◌, ◌≤◌, ℕ, drop, unsigned_abs}
 use Rattle.form.specs.Payoff.{bundle_legs}
 use Rattle.account_need.specs.Rounded.{options_of}
 use Rattle.account_need.specs.Prices.{in_code, with_bends}

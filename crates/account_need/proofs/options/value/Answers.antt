@@ -1,4 +1,4 @@
-use Rattle.std.proofs.Common.{◌≤◌, ℕ, ℤ, unsigned_abs, sym, subst}
+use Rattle.std.proofs.Common.{◌≤◌, ℤ, unsigned_abs, sym, subst}
 use Rattle.account_need.proofs.LineBits.{sum_small, value_bits}
 use Rattle.account_need.proofs.options.value.Goals as goal
 
