@@ -13,3 +13,9 @@ pub mod OnLine
 pub mod LineBounds
 pub mod LineBits
 pub mod LineFits
+pub mod EachOnce
+pub mod Parts
+pub mod Listed
+pub mod HeldSums
+pub mod WorkedRules
+pub mod Accounts

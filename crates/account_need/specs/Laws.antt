@@ -1,12 +1,13 @@
--- What rounded sums and the bound of a market on one underlying imply.
-use Rattle.std.specs.Prelude.{ℕ, ◌*◌, ◌≡◌, ◌≤◌, List, ◌∷◌, ℤ, pos, ◌+ℤ◌, ◌*ℤ◌, ◌≤ℤ◌}
+-- What rounded sums, the bound of a market on one underlying and the need of an account imply.
+use Rattle.std.specs.Prelude.{ℕ, ◌*◌, ◌≡◌, ◌≤◌, List, [], ◌∷◌, true, ℤ, pos, ◌+ℤ◌, ◌*ℤ◌, ◌≤ℤ◌, Ok}
 use Rattle.std.specs.List.{zip}
 use Rattle.arithmetic.specs.Sums.{weigh_ℤ}
 use Rattle.exact_num.specs.Fraction.{Fraction}
 use Rattle.clearing_model.specs.Clearing.{Filled, AreFills}
 use Rattle.settlement.specs.declared.position.Position.{Position}
 use Rattle.portfolio_margin.specs.Owed.{IsDenominator, fills_of, owed_over}
-use Rattle.account_need.specs.Exposure.{Portfolio, IsEnough, IsInBox, IsTrueNeed, cost_at}
+use Rattle.account_need.specs.Account.{bound_of, can_pay, need_of}
+use Rattle.account_need.specs.Exposure.{Portfolio, Covers, IsEnough, IsInBox, IsSecured, IsTrueNeed, cost_at}
 use Rattle.account_need.specs.Rounded.{Summed, owed_of, rounded_exposure, summed, sums_of, unit}
 use Rattle.account_need.specs.Line.{greatest_exposure, line_need}
 
@@ -49,3 +50,20 @@ LineNeedIsEnough = (p : Portfolio) → p.underlyings ≡ 1 → IsEnough p (pos (
 
 abbrev pub EnoughIsAboveTrue : Type 0
 EnoughIsAboveTrue = (p : Portfolio) (need amount : ℕ) → IsTrueNeed p need → IsEnough p (pos amount) → need ≤ amount
+
+-- ---- accounts
+-- a bound that is found for the market covers its exposure
+abbrev pub IsBounded : Portfolio → Type 0
+IsBounded p = (spent later : ℕ) (S : ℤ) → bound_of p.underlyings spent (summed p) ≡ Ok (S, later) → Covers p S
+
+abbrev pub AreBounded : List Portfolio → Type 0
+AreBounded [] = Unit {0}
+AreBounded (p ∷ markets) = IsBounded p × AreBounded markets
+
+-- on one underlying it does
+abbrev pub LinesAreBounded : Type 0
+LinesAreBounded = (p : Portfolio) → p.underlyings ≡ 1 → IsBounded p
+
+-- and then a balance that can pay the need secures the account
+abbrev pub PayingSecures : Type 0
+PayingSecures = (markets : List Portfolio) (balance : ℤ) → AreBounded markets → can_pay balance (need_of markets) ≡ true → IsSecured markets balance

@@ -4,4 +4,7 @@ pub mod Line
 pub mod Moves
 pub mod Prices
 pub mod Laws
+pub mod Several
+pub mod Account
 pub mod Worked
+pub mod WorkedAccounts

@@ -9,6 +9,7 @@ use Rattle.form.specs.declared.orders.Order.{Order}
 use Rattle.form.specs.declared.limits.TheConstants.{MAX_ORDERS}
 use Rattle.form.specs.Limits.{IsListed, IsOrderWithin}
 use Rattle.form.specs.Payoff.{IsOnCount, legs_in, option_of, scale_of}
+use Rattle.settlement.specs.declared.position.Position.{Position}
 use Rattle.portfolio_margin.specs.Need.{ceil_of}
 use Rattle.account_need.specs.declared.price.Price.{Price}
 use Rattle.account_need.specs.declared.sums.FormSum.{FormSum}
@@ -24,6 +25,9 @@ pub record IsLineBundle (bundle : Bundle) : Type 0 where
 pub record IsLineOrder (order : Order) : Type 0 where
   pub within : IsOrderWithin order
   pub on : IsOnCount 2 order.bundle
+
+abbrev pub IsLinePosition : Position → Type 0
+IsLinePosition p = IsLineBundle p.bundle
 
 -- a sum of such an option, as 2^24 positions have it at most
 pub record IsLineSum (s : FormSum) : Type 0 where

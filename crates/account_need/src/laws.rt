@@ -1,7 +1,8 @@
 //! Laws over the definitions: each is the contract of a function that does nothing.
-ghost use Rattle.account_need.specs.Laws.{EnoughIsAboveTrue, GreatestBounds, GreatestIsReached, LineNeedIsEnough, RoundedOwesMore};
+ghost use Rattle.account_need.specs.Laws.{EnoughIsAboveTrue, GreatestBounds, GreatestIsReached, LineNeedIsEnough, LinesAreBounded, PayingSecures, RoundedOwesMore};
 ghost use Rattle.account_need.specs.Moves.{CancelsKeep, ClearsKeep, MoreIsSecured, MovesKeepSecured, SecuredCanPay, SettlementsKeep};
 ghost use Rattle.account_need.specs.Worked.{NeedsByHand, SumsByHand};
+ghost use Rattle.account_need.specs.WorkedAccounts.{BasketsByHand, RulesByHand};
 
 /// What is owed of the rounded sums is at least what the positions owe.
 pub fn rounded_owes_more()
@@ -58,8 +59,25 @@ pub fn more_is_secured()
     ensures { MoreIsSecured }
 {}
 
+/// The bound of a market on one underlying covers its exposure.
+pub fn lines_are_bounded()
+    ensures { LinesAreBounded }
+{}
+
+/// Where the bounds of all markets cover their exposures, a balance that can pay the need of an
+/// account secures it.
+pub fn paying_secures()
+    ensures { PayingSecures }
+{}
+
 /// The definitions compute needs and sums that are worked by hand.
 pub fn needs_by_hand()
     ensures needs { NeedsByHand }
     ensures sums { SumsByHand }
+{}
+
+/// And what accounts may do, on one underlying and on several.
+pub fn accounts_by_hand()
+    ensures rules { RulesByHand }
+    ensures baskets { BasketsByHand }
 {}

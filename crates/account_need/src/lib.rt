@@ -4,11 +4,16 @@
 
 mod costs;
 mod exposure;
+pub mod held;
 pub mod laws;
 mod line;
+pub mod need;
 mod options;
 mod price;
+mod shares;
 pub mod sums;
 
+pub use held::form_sums;
 pub use line::line_need;
+pub use need::NoNeed;
 pub use sums::FormSum;
