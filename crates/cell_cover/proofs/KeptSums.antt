@@ -1,8 +1,8 @@
 -- The sums that a walk keeps are those of the definition, at each node.
 use Rattle.std.proofs.Common.{◌≡◌, ℕ, zero, suc, ◌+◌, ◌-◌, ◌<◌, Bool, true, false, ◌&&◌, List, [], ◌∷◌, length, map, get_or, set, replicate, arith, pos, Result, Ok, Option, Some, None, refl, ap, sym, ◌∙◌, subst, All}
-use Rattle.std.specs.Prelude.{if◌then◌else◌}
+use Rattle.std.specs.Prelude.{if◌then◌else◌, nat_lt}
 use Rattle.std.specs.List.{list_all}
-use Rattle.std.proofs.lemmas.Bool.{and_left, and_right, and_from}
+use Rattle.std.proofs.lemmas.Bool.{and_left, and_right, and_from, lt-ltb}
 use Rattle.arithmetic.proofs.Sums.{All-head, All-tail}
 use Rattle.exact_num.specs.declared.misfit.Wide.{Wide}
 use Rattle.exact_num.specs.Fraction.{Fraction, IsLowest, whole}
@@ -36,6 +36,15 @@ class_stands n [] (c ∷ cs) j all lt = absurd all
 class_stands n (w ∷ ws) [] j all lt = absurd all
 class_stands n (w ∷ ws) (c ∷ cs) zero all lt = all.0
 class_stands n (w ∷ ws) (c ∷ cs) (suc j) all lt = class_stands n ws cs j all.1 (omega arith)
+
+as_many : (n : ℕ) (ws : List WalkClass) (cs : List Class) → AllStand n ws cs → length ws ≡ length cs
+as_many n [] [] all = refl
+as_many n [] (c ∷ cs) all = absurd all
+as_many n (w ∷ ws) [] all = absurd all
+as_many n (w ∷ ws) (c ∷ cs) all = ap suc (as_many n ws cs all.1)
+
+among : (n : ℕ) (ws : List WalkClass) (cs : List Class) (j : ℕ) → AllStand n ws cs → j < length cs → nat_lt j (length ws) ≡ true
+among n ws cs j all lt = lt-ltb j (length ws) (omega (arith, as_many n ws cs all))
 
 abbrev pub KnownStands : ℕ → Known (List Fraction) → Known Entries → Type 0
 KnownStands n Plus Plus = Unit {0}
@@ -297,12 +306,14 @@ mixed_stands limit n ws cs ks known totals t [] made all kn are st h =
     let is : Some totals ≡ made = cc in
     subst (MixStands n cs known [] t) is (refl, vector_as n totals t (λ i. t i +Q 0Q) (λ i. sym (add_0 (t i))) st)
 mixed_stands limit n ws cs ks known totals t (m ∷ ms) made all kn are st h =
-    by_test (may_mix ks m) refl h (λ next t2 st2 h2. mixed_stands limit n ws cs ks known next t2 ms made all kn (are_rest (length cs) m ms are) st2 h2)
+    by_test (nat_lt (m.class - 1) (length ws) && may_mix ks m) refl h (λ next t2 st2 h2. mixed_stands limit n ws cs ks known next t2 ms made all kn (are_rest (length cs) m ms are) st2 h2)
   where
-    test_is : plain_may_mix known m ≡ may_mix ks m
-    test_is = may_mix_same n ks known m kn (All-head (λ (m : ClassMultiplier). IsLowest m.by) m ms are.lowest)
+    test_is : plain_may_mix known m ≡ (nat_lt (m.class - 1) (length ws) && may_mix ks m)
+    test_is =
+        may_mix_same n ks known m kn (All-head (λ (m : ClassMultiplier). IsLowest m.by) m ms are.lowest)
+        ∙ ap (λ b. b && may_mix ks m) (sym (among n ws cs (m.class - 1) all (All-head (λ (m : ClassMultiplier). m.class - 1 < length cs) m ms are.within)))
 
-    by_test : (b : Bool) → may_mix ks m ≡ b → (if b then after (add_each limit (known_at ks m.class) totals m.by (walk_class_at ws m.class).entries) (λ next. mixed limit ws ks next ms) else Ok None) ≡ Ok made
+    by_test : (b : Bool) → (nat_lt (m.class - 1) (length ws) && may_mix ks m) ≡ b → (if b then after (add_each limit (known_at ks m.class) totals m.by (walk_class_at ws m.class).entries) (λ next. mixed limit ws ks next ms) else Ok None) ≡ Ok made
         → ((next : List Fraction) (t2 : Entries) → Vector n next t2 → mixed limit ws ks next ms ≡ Ok made → MixStands n cs known ms t2 made)
         → MixStands n cs known (m ∷ ms) t made
     by_test false e h go =

@@ -4,3 +4,12 @@ pub mod Closed
 pub mod Walk
 pub mod Laws
 pub mod Worked
+pub mod Rows
+pub mod Read
+pub mod Formed
+pub mod NodeWalk
+pub mod Kept
+pub mod Kinked
+pub mod Mixed
+pub mod Rowed
+pub mod Verdicts

@@ -1,6 +1,6 @@
 -- The walk over a cover by cells, each step with a limit: sums of what is due are kept along the
 -- tree. A cover is closed where the walk ends, and open where it fails before a step does not fit.
-use Rattle.std.specs.Prelude.{ℕ, zero, suc, ◌+◌, ◌-◌, ◌*◌, Bool, true, false, not, ◌&&◌, ◌||◌, if◌then◌else◌, List, [], ◌∷◌, map, zip, get_or, slice_set, replicate, length, ℤ, pos, Option, Some, None, Result, Ok}
+use Rattle.std.specs.Prelude.{ℕ, zero, suc, ◌+◌, ◌-◌, ◌*◌, Bool, true, false, not, ◌&&◌, ◌||◌, if◌then◌else◌, List, [], ◌∷◌, map, zip, get_or, slice_set, replicate, length, nat_lt, ℤ, pos, Option, Some, None, Result, Ok}
 use Rattle.std.specs.List.{list_all}
 use Rattle.exact_num.specs.declared.misfit.Wide.{Wide}
 use Rattle.exact_num.specs.Fraction.{Fraction, whole, negated}
@@ -64,16 +64,18 @@ signed_amount Short x = negated x
 abbrev pub slope_step : ℕ → Bool → List Fraction → Fraction → List Fraction → Result (List Fraction) Wide
 slope_step limit turned slope x u = if turned then less_each limit slope x u else Ok slope
 
--- what a leg adds to the kink of its class, and to the slope
-abbrev pub leg_step : ℕ → List (List ℤ) → KinksAndSlope → FractionLeg → Result KinksAndSlope Wide
-leg_step limit classes so_far leg =
+-- what a leg adds to the kink of its class, which is at j, and to the slope
+abbrev pub leg_step_at : ℕ → ℕ → KinksAndSlope → FractionLeg → Result KinksAndSlope Wide
+leg_step_at limit j so_far leg =
     let u = class_of leg.option in
-    let j = index_of u classes in
     after (mul_of limit leg.fill (whole (pos (leg.size * divisor_of leg.option))))
     (λ p. let x = signed_amount leg.exposure p in
     after (add_of limit (get_or so_far.kinks j (whole (pos 0))) x)
     (λ K. after (slope_step limit (is_turned leg.option) so_far.slope x (map whole u))
     (λ slope. Ok (record { kinks = slice_set so_far.kinks j K; slope = slope }))))
+
+abbrev pub leg_step : ℕ → List (List ℤ) → KinksAndSlope → FractionLeg → Result KinksAndSlope Wide
+leg_step limit classes so_far leg = leg_step_at limit (index_of (class_of leg.option) classes) so_far leg
 
 abbrev pub kinks_and_slope : ℕ → ℕ → List (List ℤ) → List FractionLeg → Result KinksAndSlope Wide
 kinks_and_slope limit n classes legs =
@@ -140,12 +142,12 @@ bound_cell limit classes cell k w next =
 abbrev pub may_mix : List (Known (List Fraction)) → ClassMultiplier → Bool
 may_mix known m = has_sign (known_at known m.class) && is_not_below_zero m.by
 
--- the totals and the mixture, where only such multipliers are mixed: each is tested before its
--- steps
+-- the totals and the mixture, where only such multipliers of these classes are mixed: each is tested
+-- before its steps
 abbrev pub mixed : ℕ → List WalkClass → List (Known (List Fraction)) → List Fraction → List ClassMultiplier → Result (Option (List Fraction)) Wide
 mixed limit classes known totals [] = Ok (Some totals)
 mixed limit classes known totals (m ∷ ms) =
-    if may_mix known m
+    if nat_lt (m.class - 1) (length classes) && may_mix known m
     then after (add_each limit (known_at known m.class) totals m.by (walk_class_at classes m.class).entries) (λ next. mixed limit classes known next ms)
     else Ok None
 
