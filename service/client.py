@@ -1,7 +1,7 @@
 #!/usr/bin/python3 -B
 """A session with an exchange behind its service.
 
-    service/client.py SESSION [--at HOST:PORT/NAME] [--numbered] [--patience SECONDS]
+    service/client.py SESSION [--at PLACE] [--password FILE] [--numbered] [--patience SECONDS]
 
 sends each line of standard input as a message of the session and prints its answer. With --numbered the first line is
 message 1, the second message 2 and so on, so a file that is sent once more, whole or from where it was left, counts once; the
@@ -23,11 +23,11 @@ import time
 from collections.abc import Iterator
 from typing import Any
 
+from ragvismo_service.connecting import is_away, pool_of
 from ragvismo_service.messages import before, fault_of
 from ragvismo_service.places import Keys, Place
 from ragvismo_service.statuses import BadUse, Ended, Status
-from ragvismo_service.store import client_name
-from ragvismo_service.words import Words, status_of
+from ragvismo_service.words import Words, place_of, status_of
 
 import redis
 
@@ -58,8 +58,7 @@ class Session:
     def __init__(self, at: str | Place, session: int, number: int | None = None, patience: float | None = None) -> None:
         place = Place.of(at) if isinstance(at, str) else at
         self.place, self.keys, self.session, self.patience = place, Keys.of(place.name), session, patience
-        name = client_name("client", place.name)
-        self.redis = redis.Redis(place.host, place.port, socket_timeout=30, client_name=name)
+        self.redis = redis.Redis(connection_pool=pool_of(place, "client"))
         self.number = number or self.next_number()
 
     def ask(self, body: str | bytes) -> dict[str, Any]:
@@ -87,14 +86,14 @@ class Session:
         while True:
             try:
                 return self.answer_under(self.append(number, body), since)
-            except (redis.ConnectionError, redis.TimeoutError) as fault:
+            except redis.RedisError as fault:
+                if not is_away(fault):
+                    raise Broken(Status.NO_REDIS, f"Redis refuses: {fault}") from None
                 self.end_late(since)
                 if not is_told:
                     logging.info("message %s is sent again until it is answered: %s", number, fault)
                 is_told = True
                 time.sleep(0.1)
-            except redis.RedisError as fault:
-                raise Broken(Status.NO_REDIS, f"Redis refuses: {fault}") from None
 
     def append(self, number: int, body: bytes) -> bytes:
         """Appends a message, and tells its id."""
@@ -115,15 +114,19 @@ class Session:
 
     def read(self, entry: bytes, id: bytes, fields: dict[bytes, bytes]) -> dict[str, Any]:
         """The answer that stands first at an entry's id or after it."""
+        lost = redis.ConnectionError(f"entry {entry.decode()} was lost before it was answered")
         if id != entry:
             if self.redis.xrange(self.keys.taken, entry, entry, 1):
                 raise Broken(
                     Status.FORGED,
                     f"an answer stands under {id.decode()}, and none to the entry {entry.decode()} before it",
                 )
-            raise redis.ConnectionError(f"entry {entry.decode()} was lost before it was answered")
+            raise lost
         try:
             answer = json.loads(fields[b"answer"])
+            # Another Redis that took the place of one may have given the id to a message of another session.
+            if answer.get("session", self.session) != self.session:
+                raise lost
             if isinstance(answer.get("of", answer)["reply"], str):
                 return dict(answer)
         except (KeyError, ValueError, TypeError, AttributeError, RecursionError):
@@ -184,7 +187,7 @@ def run() -> Status | None:
     words.add_argument("session", type=session_of, metavar="SESSION")
     words.add_argument("--numbered", action="store_true")
     given = words.parse_args()
-    session = Session(given.at, given.session, 1 if given.numbered else None, given.patience)
+    session = Session(place_of(given), given.session, 1 if given.numbered else None, given.patience)
     if given.numbered:
         return send_numbered(session)
     talk(session)

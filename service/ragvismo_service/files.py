@@ -43,10 +43,11 @@ def append(path: pathlib.Path, line: bytes) -> None:
     sync(path.parent)
 
 
-def write(path: pathlib.Path, text: bytes) -> None:
+def write(path: pathlib.Path, text: bytes, mode: int = 0o666) -> None:
     """Has a file be a text, whole: it is the old one or the new one at any moment."""
     new = path.with_name(f"{path.name}.new")
-    file = open(new, "wb")
+    new.unlink(missing_ok=True)
+    file = open(new, "wb", opener=lambda name, flags: os.open(name, flags, mode))
     file.write(text)
     close(file)
     new.replace(path)

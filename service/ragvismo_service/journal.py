@@ -1,6 +1,6 @@
 """Writes the messages and answers of an exchange to files, checked by the chain of sums.
 
-    service/journal FOLDER [--at HOST:PORT/NAME] [--size BYTES]
+    service/journal FOLDER [--at PLACE] [--size BYTES]
     service/journal FOLDER --verify
 
 A call writes what was answered since the last one as segments, each of one day (UTC, by the ids) and of --size bytes
@@ -30,7 +30,7 @@ from ragvismo_service.messages import time_of
 from ragvismo_service.segments import DAY, OpenSegment, Segment, chain_through, list_of, segments
 from ragvismo_service.statuses import BadUse, Status, table
 from ragvismo_service.store import Store
-from ragvismo_service.words import Words, status_of, tool
+from ragvismo_service.words import Words, status_of, store_of
 
 SIZE = 64 * 1024 * 1024
 STATUSES = (
@@ -107,7 +107,7 @@ def run() -> None:
     if given.verify:
         verify(given.folder)
     else:
-        write_new(given.folder, Store(given.at, given.patience, tool()), given.size)
+        write_new(given.folder, store_of(given), given.size)
 
 
 def main() -> int:

@@ -2,40 +2,69 @@
 
 from __future__ import annotations
 
+import dataclasses
 import re
-from typing import NamedTuple
 
 from ragvismo_service.statuses import BadUse
 
-PLACE = re.compile(r"(?:(?P<host>[^:/]*):)?(?P<port>\d{1,5})(?:/(?P<name>.+))?")
+HOST = r"(?P<host>\[[0-9A-Fa-f:.]+\]|[^:/@#\[\]]*)"
+USER = r"(?:(?P<user>[^:/@#]+)@)?"
+FORMS = (
+    re.compile(rf"(?:{HOST}:)?(?P<port>\d{{1,5}})(?:/(?P<name>.+))?"),
+    re.compile(rf"(?P<scheme>rediss?)://{USER}{HOST}(?::(?P<port>\d{{1,5}}))?(?:/(?P<name>.+))?"),
+    re.compile(rf"(?P<scheme>unix)://{USER}(?P<socket>/[^#]+)(?:#(?P<name>.+))?"),
+)
+FORM = "HOST:PORT/NAME, redis(s)://USER@HOST:PORT/NAME or unix://USER@SOCKET#NAME"
+# Where an address tells no port.
+URL_PORT = 6379
 
 
-class Place(NamedTuple):
-    """A Redis, and the name of one of the exchanges in it."""
+@dataclasses.dataclass(frozen=True)
+class Place:
+    """A Redis, who speaks to it, and the name of one of the exchanges in it. Where there are sentinels, the host is the name
+    of the group of Redis that they watch."""
 
-    host: str
-    port: int
-    name: str
+    host: str = "127.0.0.1"
+    port: int = URL_PORT
+    name: str = "ragvismo"
+    user: str = ""
+    is_secure: bool = False
+    socket: str = ""
+    password: str = dataclasses.field(default="", repr=False)
+    sentinels: tuple[Place, ...] = ()
 
     @staticmethod
     def of(text: str) -> Place:
-        """The place that HOST:PORT/NAME tells, host and name being left away as one likes; raises BadUse."""
-        parts = PLACE.fullmatch(text)
-        if not parts or not 0 < int(parts["port"]) < 65536:
-            raise BadUse(f"{text} is no place: HOST:PORT/NAME, with a port from 1 to 65535")
-        return Place(parts["host"] or "127.0.0.1", int(parts["port"]), parts["name"] or "ragvismo")
+        """The place that a text tells, which leaves away what it likes of host, port and name; raises BadUse."""
+        parts = next((found for form in FORMS if (found := form.fullmatch(text))), None)
+        if not parts:
+            raise BadUse(f"{text} is no place: {FORM}; a password comes by --password FILE")
+        told = {part: value for part, value in parts.groupdict().items() if value}
+        host, port = told.get("host", Place.host).strip("[]"), int(told.get("port", URL_PORT))
+        if not 0 < port < 65536:
+            raise BadUse(f"{text} is no place: a port is 1 to 65535")
+        is_secure, socket = told.get("scheme") == "rediss", told.get("socket", "")
+        return Place(host, port, told.get("name", Place.name), told.get("user", ""), is_secure, socket)
 
     def __str__(self) -> str:
-        return f"{self.host}:{self.port}/{self.name}"
+        user = f"{self.user}@" if self.user else ""
+        if self.socket:
+            return f"unix://{user}{self.socket}#{self.name}"
+        scheme = f"redis{'s' * self.is_secure}://" if user or self.is_secure or self.sentinels else ""
+        host = f"[{self.host}]" if ":" in self.host else self.host
+        return f"{scheme}{user}{host}:{self.port}/{self.name}"
 
 
-class Keys(NamedTuple):
-    """The keys of an exchange: the stream of messages, that of answers, and the sum of its program's file."""
+@dataclasses.dataclass(frozen=True)
+class Keys:
+    """The keys of an exchange: the stream of messages, that of answers, the sum of its program's file, and what is written
+    to see that another Redis has all."""
 
     taken: bytes
     answers: bytes
     program: bytes
+    copied: bytes
 
     @staticmethod
     def of(name: str) -> Keys:
-        return Keys(*(f"{name}:{key}".encode() for key in ("in", "out", "program")))
+        return Keys(*(f"{name}:{key}".encode() for key in ("in", "out", "program", "copied")))

@@ -1,6 +1,6 @@
 """Answers the log of an exchange with another program, and compares with what was answered.
 
-    service/rehearse PROGRAM [--at HOST:PORT/NAME] [--switch]
+    service/rehearse PROGRAM [--at PLACE] [--switch]
 
 It publishes nothing, and checks the chain of sums. Where all answers are the same it says how many; at the first that is not
 it prints both. With --switch and no difference the exchange is then answered by PROGRAM: sequencers of any other end with
@@ -16,15 +16,15 @@ from ragvismo_service.history import History
 from ragvismo_service.program import Program, Replay
 from ragvismo_service.statuses import Status, table
 from ragvismo_service.store import Store
-from ragvismo_service.words import Words, runnable, status_of, tool
+from ragvismo_service.words import Words, runnable, status_of, store_of
 
 OTHERS = Status.DONE, Status.DIFFERS, Status.OTHER_PROGRAM, Status.HELD, Status.LAGS, Status.FILE_FAULT
 STATUSES = [status for status in Status if status not in OTHERS]
-# KEYS: out, program; ARGV: the id of the last answer that was compared, or nothing, and the sum of the program.
+# KEYS: program; ARGV: the stream of answers, the id of the last answer that was compared, or nothing, and the sum of the program.
 SWITCH = b"""
-local last = redis.call('XREVRANGE', KEYS[1], '+', '-', 'COUNT', 1)
-if (last[1] and last[1][1] or '0-0') ~= ARGV[1] then return 0 end
-redis.call('SET', KEYS[2], ARGV[2])
+local last = redis.call('XREVRANGE', ARGV[1], '+', '-', 'COUNT', 1)
+if (last[1] and last[1][1] or '0-0') ~= ARGV[2] then return 0 end
+redis.call('SET', KEYS[1], ARGV[3])
 return 1
 """
 
@@ -49,7 +49,8 @@ class Rehearsal:
     def switch(self, digest: str) -> bool:
         """Hands the exchange over, where no answer came since the last one that was compared."""
         keys, since = self.history.keys, self.history.since
-        told = self.history.store.say(b"EVAL", SWITCH, b"2", keys.answers, keys.program, since, digest.encode())
+        words = b"EVAL", SWITCH, b"1", keys.program, keys.answers, since, digest.encode()
+        told = self.history.store.say(*words, kept=True)
         return bool(told == 1)
 
 
@@ -59,7 +60,7 @@ def run() -> Status:
     words.add_argument("--switch", action="store_true")
     given = words.parse_args()
     program = Program(given.program, given.patience)
-    rehearsal = Rehearsal(Store(given.at, given.patience, tool()), program)
+    rehearsal = Rehearsal(store_of(given), program)
     rehearsal.history.begin()
     other = rehearsal.difference()
     while given.switch and not other and not rehearsal.switch(program.digest):

@@ -1,13 +1,14 @@
 """Answers the messages of an exchange, in the order of its log in Redis, each once.
 
-    service/sequencer [--at HOST:PORT/NAME] [--program FILE] [--patience SECONDS]
+    service/sequencer [--at PLACE] [--program FILE] [--patience SECONDS]
 
 It reads the stream NAME:in from its first entry, gives each message to `exchange serve sessions`, and appends the answer to
 NAME:out under the id of the entry that it answers, with the head of the chain of sums. An entry that is no message never
 reaches the program; its answer is {"entry":ID,"reason":R,"reply":"service"}, R being Fields (other fields than session,
 number and body), Form (a line feed, or a comma in session or number) or Long (over 16,777,216 bytes as a line). Any number
 may run at once on any machines: each computes the same answers, and whoever is first publishes. It may be killed at any
-moment, and starts by reading again.
+moment, and starts by reading again. With --sentinel it takes and answers just what another Redis has as well, so that one
+of them may be lost.
 
 It runs until it is stopped, or ends with one line on standard error and status
 """
@@ -26,7 +27,8 @@ from ragvismo_service.publishing import Publisher
 from ragvismo_service.statuses import NOT_AGAIN, Ended, Status, table
 from ragvismo_service.store import Command, Store
 from ragvismo_service.streams import Counts, PageSize, counts
-from ragvismo_service.words import Words, status_of, tool
+from ragvismo_service.watchdog import alive, ready
+from ragvismo_service.words import Words, status_of, store_of
 
 WAIT = b"1000"
 OTHERS = Status.DONE, Status.NO, Status.HELD, Status.LAGS, Status.FILE_FAULT
@@ -48,13 +50,13 @@ class Sequencer:
     def claim(self) -> None:
         """The first program that comes is the exchange's."""
         key, digest = self.keys.program, self.program.digest.encode()
-        _, claimed = self.store.ask(lambda: [[b"SET", key, digest, b"NX"], [b"GET", key]])
+        _, claimed = self.store.ask(lambda: [[b"SET", key, digest, b"NX"], [b"GET", key]], kept=True)
         if claimed != digest:
             said = "the exchange is answered by another program; service/rehearse compares the two"
             raise Ended(Status.OTHER_PROGRAM, said)
 
     def publish(self, group: list[Answered]) -> None:
-        [told] = self.store.ask(lambda: [self.publisher.command(group)])
+        [told] = self.store.ask(lambda: [self.publisher.command(group)], kept=True)
         self.take_told(group, told)
 
     def take_told(self, group: list[Answered], told: list[bytes]) -> None:
@@ -85,17 +87,17 @@ class Sequencer:
     def told(self, group: list[Answered]) -> list[Any]:
         """What Redis says to these commands; one by one where its limit for all replies might be met."""
         if self.size.entries() > 1:
-            return self.store.ask(lambda: self.commands(group))
-        return [self.store.say(*command) for command in self.commands(group)]
+            return self.store.ask(lambda: self.commands(group), kept=True)
+        return [self.store.say(*command, kept=True) for command in self.commands(group)]
 
     def read_on(self, group: list[Answered]) -> list[Entry]:
         """The entries after the last one read, when answers are published."""
         *told, info, found = self.told(group)
         if group:
             self.take_told(group, told[0])
-        Counts.of(info).whole(self.keys.taken, self.count)
         if self.last and found[:1] != [self.last]:
             self.end_lost(self.last[0], "read")
+        Counts.of(info).whole(self.keys.taken, self.count)
         new = found[1:] if self.last else found
         if new and not self.count:
             self.first = new[0][0]
@@ -112,6 +114,7 @@ class Sequencer:
             self.program.check()
         left, group = len(entries), []
         for group in self.replay.answers(entries):
+            alive()
             left -= len(group)
             if left:
                 self.publish(group)
@@ -125,6 +128,7 @@ class Sequencer:
         while self.reads_on:
             group = self.take_page(group)
         logging.info("%s entries are read, after %.1f s", self.count, time.monotonic() - since)
+        ready()
         while True:
             group = self.take_page(group)
 
@@ -137,7 +141,7 @@ def run() -> None:
     words = Words(f"{__doc__}{table(*STATUSES)}\n\n{AGAIN}")
     words.add_program()
     given = words.parse_args()
-    store = Store(given.at, given.patience, tool())
+    store = store_of(given)
     program = Program(given.program, given.patience)
-    logging.info("started at %s, with %s of sum %s", given.at, given.program, program.digest)
+    logging.info("started at %s, with %s of sum %s", store.place, given.program, program.digest)
     Sequencer(store, program).run()

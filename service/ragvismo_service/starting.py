@@ -3,8 +3,9 @@
     service/up [FOLDER] [--port N] [--program FILE]
 
 The log stands in FOLDER (ragvismo-log, if not given), so the next call with it goes on where this one ended. Redis listens on
-the loopback address alone, at port 6380 if not given, and writes each append to the disk before it tells of it. Redis and
-the sequencer end when this call does, whatever ended it; Redis holds the lock on FOLDER, so no other one writes there.
+the loopback address alone, at port 6380 if not given, and writes each append to the disk before it tells of it. Its users
+are those of service/users, with their passwords in FOLDER. Redis and the sequencer end when this call does, whatever ended
+it; Redis holds the lock on FOLDER, so no other one writes there.
 
 It ends when Redis ends, or when the sequencer does with a status at which a person has to look, which is told; or with
 """
@@ -12,6 +13,7 @@ It ends when Redis ends, or when the sequencer does with a status at which a per
 from __future__ import annotations
 
 import ctypes
+import dataclasses
 import logging
 import os
 import pathlib
@@ -23,11 +25,11 @@ import time
 from collections.abc import Sequence
 from typing import BinaryIO
 
-from ragvismo_service import files
+from ragvismo_service import files, users
 from ragvismo_service.places import Place
 from ragvismo_service.statuses import NOT_AGAIN, BadUse, Ended, Status, table
 from ragvismo_service.store import Store
-from ragvismo_service.words import Words, status_of, tool
+from ragvismo_service.words import Words, password, status_of, tool
 
 SEQUENCER = pathlib.Path(__file__).resolve().parents[1] / "sequencer"
 STATUSES = Status.BAD_USE, Status.NO_REDIS, Status.HELD, Status.FILE_FAULT
@@ -39,10 +41,9 @@ ENDING = 5.0
 ANSWER, COMMAND, REPLY = (megabytes << 20 for megabytes in (128, 136, 288))
 
 
-def redis_words(folder: pathlib.Path, port: int) -> list[str]:
+def redis_words(folder: pathlib.Path, **more: object) -> list[str]:
     """The Redis of an exchange: all in one log, nothing thrown away."""
     settings = {
-        "port": port,
         "bind": "127.0.0.1",
         "dir": folder,
         "appendonly": "yes",
@@ -54,6 +55,7 @@ def redis_words(folder: pathlib.Path, port: int) -> list[str]:
         "client-output-buffer-limit": f"normal {REPLY} 0 0",
         "loglevel": "warning",
         "logfile": "redis.log",
+        **more,
     }
     return ["redis-server", *(word for key, value in settings.items() for word in (f"--{key}", str(value)))]
 
@@ -102,6 +104,11 @@ def keep_up(server: subprocess.Popen[bytes], sequencer: list[str | pathlib.Path]
     raise ended(server, folder)
 
 
+def words_of(user: str, place: Place, folder: pathlib.Path) -> list[str]:
+    """The words with which a tool is a user of the exchange at a port."""
+    return ["--at", f"redis://{user}@127.0.0.1:{place.port}", "--password", f"{folder / user}.password"]
+
+
 def port(text: str) -> Place:
     """The place at a port of this machine; raises BadUse."""
     if not text.isdecimal():
@@ -117,15 +124,17 @@ def run() -> int:
     given = words.parse_args()
     if not shutil.which("redis-server"):
         raise BadUse("redis-server is missing; tools/setup installs it")
-    store = Store(given.port, given.patience, tool())
+    folder: pathlib.Path = given.folder.resolve()
     signal.signal(signal.SIGTERM, lambda *_: sys.exit(128 + signal.SIGTERM))
-    with files.lock(given.folder, ENDING) as lock:
-        server = started(redis_words(given.folder.resolve(), store.place.port), [lock])
+    with files.lock(folder, ENDING) as lock:
+        settings = {"port": given.port.port, "aclfile": users.write(folder)}
+        server = started(redis_words(folder, **settings), [lock])
     try:
-        wait_for(server, store, given.folder)
-        print(f"the exchange is up: service/client.py 1 --at 127.0.0.1:{store.place.port}", flush=True)
-        settings = {"--at": str(store.place.port), "--program": given.program, "--patience": str(given.patience)}
-        return keep_up(server, [SEQUENCER, *(word for each in settings.items() for word in each)], given.folder)
+        place = dataclasses.replace(given.port, user="watch", password=password(f"{folder}/watch.password"))
+        wait_for(server, Store(place, given.patience, tool()), folder)
+        print("the exchange is up: service/client.py 1", *words_of("gateway", given.port, given.folder), flush=True)
+        more = ["--program", given.program, "--patience", str(given.patience)]
+        return keep_up(server, [SEQUENCER, *words_of("sequencer", given.port, folder), *more], folder)
     finally:
         server.terminate()
         server.wait()

@@ -3,22 +3,21 @@
 from __future__ import annotations
 
 import logging
-import sys
 import time
-import urllib.parse
 from collections.abc import Callable
 from typing import Any
 
-from ragvismo_service.places import Place
-from ragvismo_service.statuses import Ended, Status
+import redis
 
-try:
-    import redis
-except ImportError:
-    sys.exit("python3-redis is missing; tools/setup installs it")
+from ragvismo_service.connecting import is_away, pool_of
+from ragvismo_service.places import Keys, Place
+from ragvismo_service.statuses import Ended, Status
+from ragvismo_service.watchdog import alive
 
 Command = list[bytes]
 PAUSE = 0.1
+# How long to wait until another Redis has what was written, in milliseconds, before all is asked again.
+COPY = b"1000"
 
 
 def packed(words: Command) -> bytes:
@@ -26,44 +25,52 @@ def packed(words: Command) -> bytes:
     return b"*%d\r\n" % len(words) + b"".join([b"$%d\r\n%b\r\n" % (len(word), word) for word in words])
 
 
-def client_name(tool: str, name: str) -> str:
-    """What a tool of the exchange of a name is called among the clients of Redis."""
-    return f"ragvismo-{tool}/{urllib.parse.quote(name, safe='')}"
-
-
 class Store:
     """A connection to Redis, made anew where it is lost."""
 
     def __init__(self, place: Place, patience: float, tool: str) -> None:
         self.place, self.patience, self.losses = place, patience, 0
-        name = client_name(tool, place.name)
-        self.pool = redis.ConnectionPool(host=place.host, port=place.port, socket_timeout=30, client_name=name)
+        self.pool = pool_of(place, tool)
+        # What has a Redis write, and tell how many others have all that it had then.
+        copied = Keys.of(place.name).copied
+        self.copy: list[Command] = [[b"SET", copied, b"1"], [b"WAIT", b"1", COPY]] if place.sentinels else []
         self.connection: Any = None
 
-    def ask(self, commands: Callable[[], list[Command]]) -> list[Any]:
+    def ask(self, commands: Callable[[], list[Command]], kept: bool = False) -> list[Any]:
         """What Redis says to commands that are sent together; they are made and sent anew while it is away, for as long as
-        patience lasts, so they must do no harm twice. What is said of a key that is not there is None."""
+        patience lasts, so they must do no harm twice. What is said of a key that is not there is None. Where sentinels watch
+        and it is to be `kept`, another Redis has all that they read and wrote, and so it outlasts the one that was asked.
+        """
         since: float | None = None
         while True:
             try:
-                told = self._ask_once(commands())
+                told = self._ask_kept(commands()) if kept and self.copy else self._ask_once(commands())
                 if since is not None:
                     logging.info("Redis answers again after %.1f s", time.monotonic() - since)
+                alive()
                 return told
-            except (redis.ConnectionError, redis.TimeoutError) as fault:
-                self.losses += 1
-                if since is None:
-                    since = time.monotonic()
-                    logging.info("no Redis answers at %s, asked again for %g s: %s", self.place, self.patience, fault)
-                if time.monotonic() - since > self.patience:
-                    raise Ended(Status.NO_REDIS, f"no Redis answers: {fault}") from None
-                time.sleep(PAUSE)
             except redis.RedisError as fault:
-                raise Ended(Status.NO_REDIS, f"Redis refuses: {fault}") from None
+                if not is_away(fault):
+                    raise Ended(Status.NO_REDIS, f"Redis refuses: {fault}") from None
+                since = self._lost(fault, since)
 
-    def say(self, *words: bytes) -> Any:
+    def _lost(self, fault: redis.RedisError, since: float | None) -> float:
+        """Takes that Redis is away; tells since when, or it is Ended where that is too long."""
+        self.losses += 1
+        if self.connection:
+            self.connection.disconnect()
+        if since is None:
+            since = time.monotonic()
+            logging.info("no Redis answers at %s, asked again for %g s: %s", self.place, self.patience, fault)
+        if time.monotonic() - since > self.patience:
+            raise Ended(Status.NO_REDIS, f"no Redis answers: {fault}")
+        alive()
+        time.sleep(PAUSE)
+        return since
+
+    def say(self, *words: bytes, kept: bool = False) -> Any:
         """What Redis says to one command."""
-        return self.ask(lambda: [list(words)])[0]
+        return self.ask(lambda: [list(words)], kept)[0]
 
     def answers(self) -> bool:
         """Whether a Redis answers now."""
@@ -71,6 +78,12 @@ class Store:
             return bool(self._ask_once([[b"PING"]]) == [b"PONG"])
         except redis.RedisError:
             return False
+
+    def _ask_kept(self, commands: list[Command]) -> list[Any]:
+        *told, _, copies = self._ask_once([*commands, *self.copy])
+        if not copies:
+            raise redis.ConnectionError("no other Redis takes what this one has")
+        return told
 
     def _ask_once(self, commands: list[Command]) -> list[Any]:
         self.connection = self.connection or self.pool.get_connection("")

@@ -1,6 +1,6 @@
 """Checks the log of an exchange by its chain of sums, without the program.
 
-    service/verify [--at HOST:PORT/NAME] [--head SUM] [--jobs N]
+    service/verify [--at PLACE] [--head SUM] [--jobs N]
 
 Each answer has a SHA-256 beside it, over the sum before, its entry and itself; so one that was changed, put in or taken out
 breaks the chain there. It says how many answers hold, and the last sum. Who can write to Redis can make the whole chain
@@ -25,7 +25,7 @@ from ragvismo_service.places import Keys, Place
 from ragvismo_service.statuses import BadUse, Ended, Status, table
 from ragvismo_service.store import Store
 from ragvismo_service.streams import counts
-from ragvismo_service.words import Words, status_of, tool
+from ragvismo_service.words import Words, status_of, store_of
 
 # A part has about so many answers, where as many come at all times.
 LEAST = 10_000
@@ -88,11 +88,11 @@ def run() -> None:
     words.add_argument("--head", type=head_of, metavar="SUM")
     words.add_argument("--jobs", type=int, default=len(os.sched_getaffinity(0)), metavar="N")
     given = words.parse_args()
-    store, keys = Store(given.at, given.patience, tool()), Keys.of(given.at.name)
+    store, keys = store_of(given), Keys.of(given.at.name)
     _, answered = counts(store, keys)
     cut = parts(store, keys, answered.length // LEAST) if answered.length >= 2 * LEAST else [WHOLE]
     with concurrent.futures.ProcessPoolExecutor(max(1, given.jobs)) as pool:
-        held = list(pool.map(functools.partial(check, given.at, given.patience, kept=given.head), cut))
+        held = list(pool.map(functools.partial(check, store.place, given.patience, kept=given.head), cut))
     count, last = sum(it.answers for it in held), held[-1]
     if given.head and not any(it.is_there for it in held):
         kept = given.head.decode()

@@ -1,6 +1,6 @@
 """Prints how an exchange is doing, every few seconds.
 
-    service/watch [--at HOST:PORT/NAME] [--every SECONDS] [--once] [--place FILE] [--most N] [--longest SECONDS]
+    service/watch [--at PLACE] [--every SECONDS] [--once] [--place FILE] [--most N] [--longest SECONDS]
 
 Of the whole log: entries, how many are not answered (the lag) and how long the oldest of them has waited, sequencers of this
 exchange that are connected, answers by kind, refusals by reason, and marks. Of the answers that came since it runs: the
@@ -23,12 +23,13 @@ from typing import Any
 
 from ragvismo_service import files
 from ragvismo_service.chain import FIRST_HEAD, Answered
+from ragvismo_service.connecting import client_name
 from ragvismo_service.history import History
 from ragvismo_service.messages import START_ID, reply_of, time_of
 from ragvismo_service.statuses import BadUse, Ended, Status, table
-from ragvismo_service.store import Store, client_name
+from ragvismo_service.store import Store
 from ragvismo_service.streams import counts
-from ragvismo_service.words import Words, seconds, status_of, tool
+from ragvismo_service.words import Words, seconds, status_of, store_of
 
 STATUSES = (
     Status.BAD_USE,
@@ -140,7 +141,7 @@ def run() -> None:
     words.add_argument("--longest", type=seconds, default=float("inf"), metavar="SECONDS")
     given = words.parse_args()
     seen = Seen.of(given.place) if given.place else Seen()
-    watch = Watch(Store(given.at, given.patience, tool()), seen, given.most, given.longest)
+    watch = Watch(store_of(given), seen, given.most, given.longest)
     watch.history.begin()
     watch.read_on(False)
     said = watch.told_state()

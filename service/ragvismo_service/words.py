@@ -3,6 +3,7 @@
 from __future__ import annotations
 
 import argparse
+import dataclasses
 import logging
 import os
 import pathlib
@@ -10,8 +11,9 @@ import sys
 from collections.abc import Callable
 from typing import NoReturn
 
-from ragvismo_service.places import Place
+from ragvismo_service.places import FORM, Place
 from ragvismo_service.statuses import BadUse, Ended, Status
+from ragvismo_service.store import Store
 
 PROGRAM = pathlib.Path(__file__).resolve().parents[2] / "crates/exchange_cli/out/exchange_cli"
 
@@ -38,14 +40,38 @@ def seconds(text: str) -> float:
     raise BadUse(f"{text} is no number of seconds above 0")
 
 
+def password(path: str) -> str:
+    """The password on the first line of a file; raises BadUse."""
+    try:
+        return pathlib.Path(path).read_text().partition("\n")[0]
+    except (OSError, ValueError) as fault:
+        raise BadUse(f"{path} tells no password: {fault}") from None
+
+
+def place_of(given: argparse.Namespace) -> Place:
+    """The place that a call names, with its sentinels and the password of its user."""
+    secret = given.password or ""
+    sentinels = tuple(dataclasses.replace(it, password=secret) for it in given.sentinel)
+    at: Place = given.at
+    return dataclasses.replace(at, password=secret, sentinels=sentinels)
+
+
+def store_of(given: argparse.Namespace) -> Store:
+    """The Redis that a call names."""
+    return Store(place_of(given), given.patience, tool())
+
+
 class Words(argparse.ArgumentParser):
     """The words of a tool."""
 
     def __init__(self, description: str | None, is_placed: bool = True, patience: float | None = 60) -> None:
         super().__init__(description=description, formatter_class=argparse.RawDescriptionHelpFormatter)
         if is_placed:
-            place = "127.0.0.1:6380/ragvismo, if not given"
-            self.add_argument("--at", type=Place.of, default="6380", metavar="HOST:PORT/NAME", help=place)
+            self.add_argument("--at", type=Place.of, default="6380", metavar="PLACE", help=f"{FORM} (6380)")
+            secret = "a file, the first line of which is the password of USER"
+            self.add_argument("--password", type=password, metavar="FILE", help=secret)
+            watched = "one that knows which Redis of the group HOST is the master; once for each"
+            self.add_argument("--sentinel", type=Place.of, action="append", default=[], metavar="PLACE", help=watched)
         how_long = f"how long Redis may be away, and the program may say nothing ({patience or 'for ever'})"
         self.add_argument("--patience", type=seconds, default=patience, metavar="SECONDS", help=how_long)
 

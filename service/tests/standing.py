@@ -2,6 +2,7 @@
 
 from __future__ import annotations
 
+import json
 import os
 import pathlib
 import random
@@ -21,6 +22,7 @@ HERE = pathlib.Path(__file__).resolve().parents[1]
 sys.path.insert(0, str(HERE))
 from client import Session
 from ragvismo_service.messages import Entry, malformed
+from ragvismo_service.places import Place
 from ragvismo_service.statuses import Status
 from ragvismo_service.words import PROGRAM
 
@@ -86,7 +88,8 @@ class Service(unittest.TestCase):
             self.program = self.script("stand-in", STAND_IN)
         self.port, self.random = free_port(), random.Random(44)
         self.sequencers: list[subprocess.Popen[str]] = []
-        self.redis = redis.Redis(port=self.port)
+        self.redis, self.place = redis.Redis(port=self.port), Place.of(str(self.port))
+        self.at = ["--at", str(self.port)]
         self.addCleanup(self.stop)
         self.start_redis()
 
@@ -104,8 +107,8 @@ class Service(unittest.TestCase):
         path.chmod(0o755)
         return path
 
-    def redis_words(self) -> list[str]:
-        settings = {
+    def redis_settings(self) -> dict[str, object]:
+        return {
             "port": self.port,
             "bind": "127.0.0.1",
             "dir": self.folder,
@@ -115,7 +118,10 @@ class Service(unittest.TestCase):
             "loglevel": "warning",
             "logfile": "redis.log",
         }
-        return ["redis-server", *(word for key, value in settings.items() for word in (f"--{key}", str(value)))]
+
+    def redis_words(self) -> list[str]:
+        words = [word for key, value in self.redis_settings().items() for word in (f"--{key}", *str(value).split())]
+        return ["redis-server", *words]
 
     def start_redis(self) -> None:
         self.server = subprocess.Popen(self.redis_words())
@@ -138,7 +144,7 @@ class Service(unittest.TestCase):
             time.sleep(0.01)
 
     def start_sequencer(self, program: pathlib.Path | None = None, *words: str) -> subprocess.Popen[str]:
-        command = [str(HERE / "sequencer"), "--at", str(self.port), "--program", str(program or self.program), *words]
+        command = [str(HERE / "sequencer"), *self.at, "--program", str(program or self.program), *words]
         self.sequencers.append(subprocess.Popen(command, stderr=subprocess.PIPE, text=True))
         return self.sequencers[-1]
 
@@ -154,7 +160,7 @@ class Service(unittest.TestCase):
         return int(children.read_text().split()[0])
 
     def session(self, number: int, first: int = 1) -> Session:
-        return Session(str(self.port), number, first)
+        return Session(self.place, number, first)
 
     def append(self, **fields: Any) -> bytes:
         id: bytes = self.redis.xadd("ragvismo:in", fields)
@@ -178,6 +184,23 @@ class Service(unittest.TestCase):
     def all_answered(self) -> bool:
         return bool(self.redis.xlen("ragvismo:out") == self.redis.xlen("ragvismo:in"))
 
+    def check(self, traders: list[Trader]) -> None:
+        """Each message counted once, each trader was told what stands in the log, and that is what one run answers."""
+        self.until(self.all_answered)
+        published = self.published()
+        self.assertEqual(published, self.computed())
+        first: dict[tuple[int, int], dict[str, object]] = {}
+        for _, answer in published:
+            told = json.loads(answer)
+            if "of" in told:
+                self.assertEqual(first.setdefault((told["session"], told["number"]), told["of"]), told["of"])
+        for trader in traders:
+            told = [first[trader.session.session, number] for number, _ in trader.told]
+            self.assertEqual(told, [of for _, of in trader.told])
+        self.assertEqual(len(first), sum(len(trader.told) for trader in traders))
+        self.assertEqual(len({reply["line"] for reply in first.values()}), len(first))
+        self.assertRegex(self.tool("verify").stdout, f"^{len(published)} answers hold, to ")
+
     def ends(self, sequencer: subprocess.Popen[str], status: Status, said: str) -> None:
         """A sequencer ends with a status, and its last line says why."""
         told = sequencer.communicate(timeout=60)[1]
@@ -187,7 +210,8 @@ class Service(unittest.TestCase):
         self.assertIn(said, told.splitlines()[-1])
 
     def tool(self, name: str, *words: object, **more: Any) -> subprocess.CompletedProcess[str]:
-        command = [str(HERE / name), "--at", str(self.port), *map(str, words)]
+        at = [] if "--at" in words else self.at
+        command = [str(HERE / name), *at, *map(str, words)]
         return subprocess.run(command, capture_output=True, text=True, timeout=120, **more)
 
     def tool_ends(self, status: Status, said: str, name: str, *words: object) -> None:
@@ -204,6 +228,7 @@ class Trader(threading.Thread):
         super().__init__(daemon=True)
         self.session, self.messages, self.random = session, messages, random.Random(seed)
         self.told: list[tuple[int, dict[str, Any]]] = []
+        self.is_stopped = False
         self.fault: Exception | None = None
 
     def body(self) -> str:
@@ -219,6 +244,8 @@ class Trader(threading.Thread):
     def run(self) -> None:
         try:
             for number in range(1, self.messages + 1):
+                if self.is_stopped:
+                    break
                 body = self.body()
                 self.told.append((number, self.session.ask(body)))
                 if self.random.random() < 0.1:

@@ -2,7 +2,6 @@
 
 from __future__ import annotations
 
-import json
 import os
 import signal
 import time
@@ -49,22 +48,6 @@ class Kills(Service):
         self.assertEqual(victim.wait(60), 7)
         self.kill(victim)
         self.start_sequencer()
-
-    def check(self, traders: list[Trader]) -> None:
-        self.until(self.all_answered)
-        published = self.published()
-        self.assertEqual(published, self.computed())
-        first: dict[tuple[int, int], dict[str, object]] = {}
-        for _, answer in published:
-            told = json.loads(answer)
-            if "of" in told:
-                self.assertEqual(first.setdefault((told["session"], told["number"]), told["of"]), told["of"])
-        for trader in traders:
-            told = [first[trader.session.session, number] for number, _ in trader.told]
-            self.assertEqual(told, [of for _, of in trader.told])
-        self.assertEqual(len(first), sum(len(trader.told) for trader in traders))
-        self.assertEqual(len({reply["line"] for reply in first.values()}), len(first))
-        self.assertRegex(self.tool("verify").stdout, f"^{len(published)} answers hold, to ")
 
     def test_one_sequencer(self) -> None:
         self.trade(20, self.messages, 1, [])

@@ -85,7 +85,7 @@ class Log(Service):
         sequencer = self.start_sequencer()
         self.fill()
         self.redis.flushall()
-        self.ends(sequencer, Status.CUT, "TAKEN OUT")
+        self.ends(sequencer, Status.CUT, "THE LOG WAS TAKEN AWAY")
 
     def test_another_log_in_its_place(self) -> None:
         sequencer = self.start_sequencer()

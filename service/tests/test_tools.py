@@ -19,7 +19,9 @@ import redis
 
 from client import Refused, Session
 from ragvismo_service.messages import LONGEST_LINE
+from ragvismo_service.places import Place
 from ragvismo_service.statuses import Status
+from ragvismo_service.words import password
 from tests.standing import HERE, Service, free_port
 
 
@@ -244,35 +246,43 @@ class Up(unittest.TestCase):
         self.addCleanup(self.held.doCleanups)
         self.folder, self.program = self.held.folder / "log", self.held.program
 
-    def start(self, port: int | None = None) -> tuple[subprocess.Popen[str], str]:
-        """A call, and the place that it tells."""
-        words = self.words(port or free_port())
+    def start(self) -> subprocess.Popen[str]:
+        """A call, which tells how it is spoken to."""
+        words = self.words(free_port())
         up = subprocess.Popen(
             words, stdout=subprocess.PIPE, stderr=subprocess.DEVNULL, text=True, start_new_session=True
         )
         self.addCleanup(up.communicate)
         self.addCleanup(up.kill)
         assert up.stdout
-        return up, up.stdout.readline().split()[-1]
+        said, _, words = up.stdout.readline().partition(": ")
+        self.assertEqual(said, "the exchange is up")
+        self.client_words = words.split()
+        return up
 
     def words(self, port: int) -> list[str]:
         return [str(HERE / "up"), str(self.folder), "--port", str(port), "--program", str(self.program)]
 
-    def client(self, at: str, line: str) -> dict[str, Any]:
-        ran = subprocess.run([HERE / "client.py", "7", "--at", at], input=line, capture_output=True, text=True)
+    def client(self, line: str) -> dict[str, Any]:
+        ran = subprocess.run(self.client_words, input=line, capture_output=True, text=True, cwd=HERE.parent)
         return dict(json.loads(ran.stdout))
+
+    def redis(self, user: str) -> redis.Redis:
+        """The Redis of the call, as one of its users."""
+        port = Place.of(self.client_words[self.client_words.index("--at") + 1]).port
+        return redis.Redis(port=port, username=user, password=password(f"{self.folder / user}.password"))
 
     def test_up(self) -> None:
         for line in (1, 2):
-            up, at = self.start()
-            self.assertEqual(self.client(at, "open,1\n")["line"], line)
+            up = self.start()
+            self.assertEqual(self.client("open,1\n")["line"], line)
             up.terminate()
             self.assertEqual(up.wait(), 128 + signal.SIGTERM)
 
     def test_two_in_one_folder(self) -> None:
         """The second is refused; and a call that is killed takes its Redis with it, so that the next goes on alone."""
-        up, at = self.start()
-        self.client(at, "open,1\n")
+        up = self.start()
+        self.client("open,1\n")
         words = self.words(free_port())
         ran = subprocess.run(words, capture_output=True, text=True)
         self.assertEqual((ran.returncode, ran.stdout), (Status.HELD, ""), ran.stderr)
@@ -280,13 +290,12 @@ class Up(unittest.TestCase):
         for line in (2, 3):
             up.kill()
             up.wait()
-            up, at = self.start()
-            self.assertEqual(self.client(at, "open,1\n")["line"], line)
+            up = self.start()
+            self.assertEqual(self.client("open,1\n")["line"], line)
 
     def test_redis_ends(self) -> None:
-        up, at = self.start()
-        store = redis.Redis(port=int(at.rpartition(":")[2]))
-        os.kill(store.info("server")["process_id"], signal.SIGKILL)
+        up = self.start()
+        os.kill(self.redis("watch").info("server")["process_id"], signal.SIGKILL)
         self.assertEqual(up.wait(30), Status.NO_REDIS)
 
     def test_another_redis_at_the_port(self) -> None:
@@ -295,9 +304,9 @@ class Up(unittest.TestCase):
         self.assertEqual((ran.returncode, ran.stdout), (Status.NO_REDIS, ""), ran.stderr)
 
     def test_a_log_that_was_cut(self) -> None:
-        up, at = self.start()
-        self.client(at, "open,1\n")
-        redis.Redis(port=int(at.rpartition(":")[2])).xtrim("ragvismo:in", 0, approximate=False)
+        up = self.start()
+        self.client("open,1\n")
+        self.redis("gateway").xadd("ragvismo:in", {"x": 1}, maxlen=1, approximate=False)
         self.assertEqual(up.wait(30), Status.CUT)
 
 

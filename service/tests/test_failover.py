@@ -1,0 +1,147 @@
+"""Two Redis that sentinels watch: one takes the place of the other, and nothing that was answered is lost."""
+
+from __future__ import annotations
+
+import dataclasses
+import os
+import pathlib
+import signal
+import subprocess
+import time
+
+import redis
+
+from ragvismo_service import users
+from ragvismo_service.connecting import pool_at, pool_of
+from ragvismo_service.places import Place
+from ragvismo_service.words import password
+from tests.standing import Given, Service, Trader, free_port
+
+GROUP = "group"
+# What the sentinel does every few seconds it does ten times a second here.
+SOON = "INFO-PERIOD 100 PING-PERIOD 100 PUBLISH-PERIOD 100 ASK-PERIOD 100 MIN-LINK-RECONNECT-PERIOD 100".split()
+
+
+class Failover(Service):
+    """An exchange in a group of two Redis."""
+
+    def start_redis(self) -> None:
+        self.users = self.folder / "users"
+        users.write(self.users)
+        self.servers: dict[int, subprocess.Popen[bytes]] = {}
+        self.ports, self.sentinel_port = [free_port(), free_port()], free_port()
+        for port in self.ports:
+            self.write_settings(port)
+            self.start_one(port, *(["--replicaof", "127.0.0.1", str(self.ports[0])] if port != self.ports[0] else []))
+        self.until(lambda: self.is_whole(self.ports[0]))
+        self.start_sentinel()
+        sentinels = (Place(port=self.sentinel_port),)
+        self.place = dataclasses.replace(self.user("gateway"), host=GROUP, sentinels=sentinels)
+        reader = dataclasses.replace(self.user("sequencer"), host=GROUP, sentinels=sentinels)
+        self.redis = redis.Redis(connection_pool=pool_of(reader, "test"))
+        self.at = ["--at", f"redis://sequencer@{GROUP}", "--sentinel", str(self.sentinel_port)]
+        self.at += ["--password", f"{self.users}/sequencer.password"]
+
+    def user(self, name: str, port: int = 0) -> Place:
+        return Place(port=port or self.port, user=name, password=password(f"{self.users / name}.password"))
+
+    def write_settings(self, port: int) -> None:
+        """The file of one Redis, in which a sentinel writes too."""
+        own = self.folder / str(port)
+        own.mkdir()
+        settings = {
+            **self.redis_settings(),
+            "port": port,
+            "dir": own,
+            "aclfile": self.users / "users.acl",
+            "masteruser": "replica",
+            "masterauth": password(str(self.users / "replica.password")),
+            "min-replicas-to-write": 1,
+            "repl-diskless-sync-delay": 0,
+        }
+        (own / "redis.conf").write_text(
+            "".join(f'{key} {chr(34) * 2 if value == "" else value}\n' for key, value in settings.items())
+        )
+
+    def start_one(self, port: int, *words: str) -> None:
+        own = self.folder / str(port)
+        self.servers[port] = subprocess.Popen(["redis-server", own / "redis.conf", *words])
+
+    def start_sentinel(self) -> None:
+        path = self.folder / "sentinel.conf"
+        path.write_text(
+            f"port {self.sentinel_port}\ndir {self.folder}\nlogfile sentinel.log\n"
+            f"sentinel monitor {GROUP} 127.0.0.1 {self.ports[0]} 1\n"
+            f"sentinel auth-user {GROUP} sentinel\n"
+            f"sentinel auth-pass {GROUP} {password(str(self.users / 'sentinel.password'))}\n"
+            f"sentinel down-after-milliseconds {GROUP} 500\nsentinel failover-timeout {GROUP} 1000\n"
+        )
+        self.servers[self.sentinel_port] = subprocess.Popen(["redis-server", path, "--sentinel"])
+        self.sentinel = redis.Redis(port=self.sentinel_port)
+        self.until(self.sentinel_answers)
+        self.sentinel.execute_command("SENTINEL DEBUG", *SOON)
+
+    def sentinel_answers(self) -> bool:
+        try:
+            return bool(self.sentinel.ping())
+        except redis.ConnectionError:
+            return False
+
+    def stop_redis(self) -> None:
+        for server in self.servers.values():
+            server.kill()
+            server.wait()
+
+    def master(self) -> int:
+        return int(self.sentinel.sentinel_get_master_addr_by_name(GROUP)[1])
+
+    def other(self, port: int) -> int:
+        return self.ports[1 - self.ports.index(port)]
+
+    def is_whole(self, port: int) -> bool:
+        """Whether the Redis at a port is a master with a copy that has caught up."""
+        try:
+            told = redis.Redis(connection_pool=pool_at(self.user("watch", port))).info("replication")
+        except redis.RedisError:
+            return False
+        return bool(told["role"] == "master" and told.get("min_slaves_good_slaves") == 1)
+
+    def test_an_answer_comes_when_another_redis_has_the_message(self) -> None:
+        self.start_sequencer()
+        session = self.session(7, 1)
+        session.ask("open,1")
+        copy = self.servers[self.other(self.master())].pid
+        os.kill(copy, signal.SIGSTOP)
+        session.append(2, b"open,2")
+        time.sleep(2)
+        self.assertEqual((self.redis.xlen("ragvismo:in"), self.redis.xlen("ragvismo:out")), (2, 1))
+        os.kill(copy, signal.SIGCONT)
+        self.until(self.all_answered)
+        self.assertEqual(self.published(), self.computed())
+
+    def replace_master(self) -> None:
+        """Kills the master; the other takes its place, and it comes again, now and then as the master that it was."""
+        old = self.master()
+        self.until(lambda: self.is_whole(old))
+        time.sleep(self.random.uniform(0, 1))
+        self.servers[old].kill()
+        self.servers[old].wait()
+        self.until(lambda: self.master() == self.other(old))
+        as_copy = ["--replicaof", "127.0.0.1", str(self.other(old))]
+        self.start_one(old, *(as_copy if self.random.random() < 0.7 else []))
+        self.until(lambda: self.is_whole(self.other(old)))
+
+    def test_masters_are_killed(self) -> None:
+        for _ in range(2):
+            self.start_sequencer()
+        traders = [Trader(self.session(at), 1_000_000, at) for at in range(1, 11)]
+        for trader in traders:
+            trader.start()
+        for _ in range(20 if Given.is_long else 1):
+            self.replace_master()
+        for trader in traders:
+            trader.is_stopped = True
+            trader.join(60)
+            self.assertFalse(trader.is_alive() or trader.fault, repr(trader.fault))
+        self.assertEqual([it.poll() for it in self.sequencers], [None, None])
+        self.check(traders)
