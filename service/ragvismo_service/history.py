@@ -5,7 +5,8 @@ from __future__ import annotations
 from collections.abc import Iterator
 
 from ragvismo_service.chain import FIRST_HEAD, Answered, head_after
-from ragvismo_service.messages import GREATEST_ID, START_ID, Entry, Told
+from ragvismo_service.columns import heads_of
+from ragvismo_service.messages import GREATEST_ID, START_ID, Entry, RawEntry, Told
 from ragvismo_service.places import Keys
 from ragvismo_service.statuses import Ended, Status
 from ragvismo_service.store import Store
@@ -23,8 +24,8 @@ class History:
         # The answers are read first: their entries are there then.
         self.streams = Pages(store, keys.answers, since, until), Pages(store, keys.taken, since, until)
         # What was read and is not paired yet.
-        self.told: list[Told] = []
-        self.entries: list[Entry] = []
+        self.told: list[RawEntry] = []
+        self.entries: list[RawEntry] = []
 
     def begin(self) -> None:
         """Ended where entries or answers were taken out, or the answer to begin after is not there."""
@@ -42,12 +43,15 @@ class History:
     def pages(self) -> Iterator[list[Answered]]:
         """What was answered, page by page, to the last answer that there is; Ended where the chain does not hold."""
         while self._read_on():
-            many = min(len(self.entries), len(self.told))
-            page = [self._next(entry, told) for entry, told in zip(self.entries[:many], self.told)]
-            del self.entries[:many], self.told[:many]
-            self.since = page[-1].entry.id
-            yield page
-            self.count += many
+            yield self._answered(*self._taken())
+
+    def heads(self) -> Iterator[list[bytes]]:
+        """The heads beside the answers, page by page, likewise; it takes half the time."""
+        while self._read_on():
+            entries, told = self._taken()
+            heads = heads_of(self.head, entries, told) or [it.head for it in self._answered(entries, told)]
+            self.head = heads[-1]
+            yield heads
 
     def _read_on(self) -> bool:
         """Reads from the streams of which nothing is left, and says whether there are more answers."""
@@ -56,12 +60,24 @@ class History:
         for stream, page in zip(empty, pages):
             stream.take(page)
             if stream.key == self.keys.taken:
-                self.entries = [Entry.of(raw) for raw in page]
+                self.entries = page
             else:
-                self.told = [Told.of(raw) for raw in page]
+                self.told = page
         if self.told and not self.entries:
-            raise Ended(Status.FORGED, f"NO ENTRY has the id {self.told[0].id.decode()}, under which an answer stands")
+            said = f"NO ENTRY has the id {Told.of(self.told[0]).id.decode()}, under which an answer stands"
+            raise Ended(Status.FORGED, said)
         return bool(self.told)
+
+    def _taken(self) -> tuple[list[RawEntry], list[RawEntry]]:
+        """Takes as many of the entries and the answers that were read as there are of both."""
+        many = min(len(self.entries), len(self.told))
+        taken = self.entries[:many], self.told[:many]
+        del self.entries[:many], self.told[:many]
+        self.since, self.count = taken[1][-1][0], self.count + many
+        return taken
+
+    def _answered(self, entries: list[RawEntry], told: list[RawEntry]) -> list[Answered]:
+        return [self._next(Entry.of(entry), Told.of(answer)) for entry, answer in zip(entries, told)]
 
     def _next(self, entry: Entry, told: Told) -> Answered:
         """The next entry with its answer; the head follows from both, or it is Ended."""

@@ -69,8 +69,8 @@ class Journal:
             self.last, self.open = self.open.close(), None
 
 
-def write_new(folder: pathlib.Path, store: Store, size: int) -> None:
-    """Writes the segments of all that was answered since the last of them."""
+def write_new(folder: pathlib.Path, store: Store, size: int) -> Segment:
+    """Writes the segments of all that was answered since the last of them, and tells the last one."""
     with files.lock(folder):
         journal = Journal(folder, size)
         history = History(store, journal.last.last.encode(), journal.last.head.encode())
@@ -79,16 +79,17 @@ def write_new(folder: pathlib.Path, store: Store, size: int) -> None:
             for answered in page:
                 journal.take(answered)
         journal.close()
+        return journal.last
 
 
-def verify(folder: pathlib.Path) -> None:
-    """Says how many segments stand as their lines tell."""
+def verify(folder: pathlib.Path) -> str:
+    """How many segments stand as their lines tell; Ended where one does not."""
     if not folder.is_dir():
         raise BadUse(f"there is no folder {folder}")
     number, head = 0, FIRST_HEAD
     for segment in segments(folder):
         number, head = segment.number, chain_through(segment, folder, head)
-    print(f"{number} segments stand: {head.decode()}")
+    return f"{number} segments stand: {head.decode()}"
 
 
 def size(text: str) -> int:
@@ -105,7 +106,7 @@ def run() -> None:
     words.add_argument("--verify", action="store_true")
     given = words.parse_args()
     if given.verify:
-        verify(given.folder)
+        print(verify(given.folder))
     else:
         write_new(given.folder, store_of(given), given.size)
 

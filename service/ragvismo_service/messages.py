@@ -16,6 +16,7 @@ from ragvismo_service.statuses import Ended, Status
 LONGEST_LINE = 16 * 1024 * 1024
 START_ID, GREATEST_ID = b"0-0", b"%d-%d" % (2**64 - 1, 2**64 - 1)
 FIELDS = [b"session", b"number", b"body"]
+TOLD = [b"answer", b"chain"]
 # An entry as Redis tells it: its id, and its fields with their values in turn.
 RawEntry = list[Any]
 
@@ -88,21 +89,26 @@ class Told(NamedTuple):
     def of(raw: RawEntry) -> Told:
         """The answer that an entry tells; Ended where no sequencer writes such an entry."""
         id, fields = raw
-        if len(fields) != 4 or fields[0] != b"answer" or fields[2] != b"chain" or b"\n" in fields[1]:
+        if fields[::2] != TOLD or len(fields) != 4 or b"\n" in fields[1]:
             raise Ended(Status.FORGED, f"NO SEQUENCER WROTE what stands under {id.decode()} among the answers")
         return Told(id, fields[1], fields[3])
 
 
-def reply_of(id: bytes, answer: bytes) -> dict[str, Any]:
-    """The reply in an answer; Ended where it has none."""
+def answer_of(id: bytes, answer: bytes) -> dict[str, Any]:
+    """An answer as an object; Ended where it has no reply."""
     try:
-        told = json.loads(answer)
-        told = told.get("of", told)
-        if isinstance(told["reply"], str):
-            return dict(told)
+        told: dict[str, Any] = json.loads(answer)
+        if isinstance(told.get("of", told)["reply"], str):
+            return told
     except (ValueError, KeyError, TypeError, AttributeError, RecursionError):
         pass
     raise Ended(Status.FORGED, f"NO SEQUENCER WROTE the answer under {id.decode()}: it has no reply")
+
+
+def reply_of(id: bytes, answer: bytes) -> dict[str, Any]:
+    """The reply in an answer; Ended where it has none."""
+    told = answer_of(id, answer)
+    return dict(told.get("of", told))
 
 
 def time_of(id: bytes) -> int:

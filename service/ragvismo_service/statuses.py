@@ -17,7 +17,7 @@ class Status(enum.IntEnum):
         return status
 
     DONE = 0, "all was done"
-    NO = 1, "what was compared is not the same"
+    NO = 1, "what was compared is not the same, or what was judged does not hold"
     BAD_USE = 2, "bad use"
     NO_REDIS = 3, "no Redis answered for --patience seconds, or it refused, as when its memory is full"
     LOST = 4, "the log no longer has what was read from it: Redis lost its last entries, or is another one"

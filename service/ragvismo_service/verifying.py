@@ -29,6 +29,7 @@ from ragvismo_service.words import Words, status_of, store_of
 
 # A part has about so many answers, where as many come at all times.
 LEAST = 10_000
+PROCESSORS = len(os.sched_getaffinity(0))
 ENDS = (b"XRANGE", b"-", b"+"), (b"XREVRANGE", b"+", b"-")
 STATUSES = Status.BAD_USE, Status.NO_REDIS, Status.CUT, Status.FORGED, Status.CHANGED
 
@@ -76,28 +77,44 @@ def parts(store: Store, keys: Keys, many: int) -> list[Part]:
 def check(place: Place, patience: float, part: Part, kept: bytes | None) -> Holds:
     """What holds of a part; Ended where it does not."""
     history, is_there = History(Store(place, patience, "verify"), *part), False
-    for page in history.pages():
-        is_there = is_there or any(answered.head == kept for answered in page)
+    for heads in history.heads():
+        is_there = is_there or kept in heads
     if history.entries and part.until != GREATEST_ID:
-        raise Ended(Status.CUT, f"THE ANSWER to {history.entries[0].id.decode()} was taken out")
+        raise Ended(Status.CUT, f"THE ANSWER to {history.entries[0][0].decode()} was taken out")
     return Holds(history.count, history.since, history.head, is_there)
+
+
+class Verified(NamedTuple):
+    """How many answers of a log hold, to an id and a sum."""
+
+    answers: int
+    last: bytes
+    head: bytes
+
+    def __str__(self) -> str:
+        return f"{self.answers} answers hold, to {self.last.decode()}: {self.head.decode()}"
+
+
+def verified(store: Store, kept: bytes | None, jobs: int) -> Verified:
+    """What holds of a log, its parts being checked at once by so many; Ended where it does not, or a sum is not in it."""
+    keys, place = Keys.of(store.place.name), store.place
+    _, answered = counts(store, keys)
+    cut = parts(store, keys, answered.length // LEAST) if answered.length >= 2 * LEAST else [WHOLE]
+    with concurrent.futures.ProcessPoolExecutor(max(1, jobs)) as pool:
+        held = list(pool.map(functools.partial(check, place, store.patience, kept=kept), cut))
+    count = sum(it.answers for it in held)
+    if kept and kept != FIRST_HEAD and not any(it.is_there for it in held):
+        said = f"THE LOG WAS CHANGED: the sum {kept.decode()} is not in its chain of {count} answers"
+        raise Ended(Status.CHANGED, said)
+    return Verified(count, held[-1].last, held[-1].head)
 
 
 def run() -> None:
     words = Words(f"{__doc__}{table(*STATUSES)}")
     words.add_argument("--head", type=head_of, metavar="SUM")
-    words.add_argument("--jobs", type=int, default=len(os.sched_getaffinity(0)), metavar="N")
+    words.add_argument("--jobs", type=int, default=PROCESSORS, metavar="N")
     given = words.parse_args()
-    store, keys = store_of(given), Keys.of(given.at.name)
-    _, answered = counts(store, keys)
-    cut = parts(store, keys, answered.length // LEAST) if answered.length >= 2 * LEAST else [WHOLE]
-    with concurrent.futures.ProcessPoolExecutor(max(1, given.jobs)) as pool:
-        held = list(pool.map(functools.partial(check, store.place, given.patience, kept=given.head), cut))
-    count, last = sum(it.answers for it in held), held[-1]
-    if given.head and not any(it.is_there for it in held):
-        kept = given.head.decode()
-        raise Ended(Status.CHANGED, f"THE LOG WAS CHANGED: the sum {kept} is not in its chain of {count} answers")
-    print(f"{count} answers hold, to {last.last.decode()}: {last.head.decode()}")
+    print(verified(store_of(given), given.head, given.jobs))
 
 
 def main() -> int:

@@ -18,17 +18,14 @@ import collections
 import json
 import pathlib
 import statistics
-import time
 from typing import Any
 
 from ragvismo_service import files
 from ragvismo_service.chain import FIRST_HEAD, Answered
-from ragvismo_service.connecting import client_name
-from ragvismo_service.history import History
-from ragvismo_service.messages import START_ID, reply_of, time_of
+from ragvismo_service.following import Follower, since_append
+from ragvismo_service.messages import START_ID, reply_of
 from ragvismo_service.statuses import BadUse, Ended, Status, table
 from ragvismo_service.store import Store
-from ragvismo_service.streams import counts
 from ragvismo_service.words import Words, seconds, status_of, store_of
 
 STATUSES = (
@@ -56,7 +53,7 @@ class Seen:
         self.last, self.head, self.count = answered.entry.id, answered.head, self.count + 1
         self.kinds[str(reply.get("mark") or reply.get("reason") or reply["reply"])] += 1
         if is_new:
-            waited = time.time() * 1000 - time_of(self.last)
+            waited = 1000 * since_append(answered)
             self.times["all"].append(waited)
             if "mark" in reply:
                 self.times["clears"].append(waited)
@@ -92,44 +89,19 @@ class Seen:
 
 
 class Watch:
-    """Reads the answers, and tells how an exchange is doing."""
+    """Tells how an exchange is doing."""
 
     def __init__(self, store: Store, seen: Seen, most: float, longest: float) -> None:
-        self.store, self.seen, self.most, self.longest = store, seen, most, longest
-        self.history, self.lags = History(store, seen.last, seen.head), False
-
-    def read_on(self, is_new: bool) -> None:
-        for page in self.history.pages():
-            for answered in page:
-                self.seen.take(answered, is_new)
-
-    def wait(self, seconds: float) -> None:
-        """Reads what comes in some seconds."""
-        until, answers = time.monotonic() + seconds, self.history.keys.answers
-        while (left := until - time.monotonic()) > 0:
-            block = b"%d" % max(1, min(1000, int(left * 1000)))
-            self.store.say(b"XREAD", b"COUNT", b"1", b"BLOCK", block, b"STREAMS", answers, self.seen.last)
-            self.read_on(True)
+        self.seen, self.most, self.longest = seen, most, longest
+        self.follower, self.lags = Follower(store, seen.take, seen.last, seen.head), False
 
     def told_state(self) -> str:
         """How the log is; Ended where entries were taken out."""
-        appended, answered = counts(self.store, self.history.keys)
-        lag, waited = appended.length - answered.length, self.waited()
-        waits = f", the oldest for {waited:.1f} s" if lag and waited else ""
+        state = self.follower.state()
+        waits = f", the oldest for {state.waited:.1f} s" if state.lag and state.waited else ""
         kinds = ", ".join(f"{count} {kind}" for kind, count in sorted(self.seen.kinds.items()))
-        self.lags = lag > self.most or waited > self.longest
-        return f"{appended.length} entries, {lag} not answered{waits}; {self.sequencers()} sequencers; {kinds}"
-
-    def waited(self) -> float:
-        """How long the oldest entry that is not answered has waited, in seconds."""
-        waiting = self.history.entries
-        return max(0.0, time.time() - time_of(waiting[0].id) / 1000) if waiting else 0.0
-
-    def sequencers(self) -> int:
-        """How many sequencers of this exchange are connected."""
-        clients = self.store.say(b"CLIENT", b"LIST").decode().splitlines()
-        name = f"name={client_name('sequencer', self.store.place.name)}"
-        return sum(name in client.split() for client in clients)
+        self.lags = state.lag > self.most or state.waited > self.longest
+        return f"{state.entries} entries, {state.lag} not answered{waits}; {state.sequencers} sequencers; {kinds}"
 
 
 def run() -> None:
@@ -142,8 +114,7 @@ def run() -> None:
     given = words.parse_args()
     seen = Seen.of(given.place) if given.place else Seen()
     watch = Watch(store_of(given), seen, given.most, given.longest)
-    watch.history.begin()
-    watch.read_on(False)
+    watch.follower.begin()
     said = watch.told_state()
     while True:
         print(said, flush=True)
@@ -153,7 +124,7 @@ def run() -> None:
             raise Ended(Status.LAGS, "more waits, or waits longer, than the call allows")
         if given.once:
             return
-        watch.wait(given.every)
+        watch.follower.wait(given.every)
         said = f"{watch.told_state()}; {seen.told_times()}"
 
 

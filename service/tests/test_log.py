@@ -6,9 +6,12 @@ import json
 import os
 import signal
 import subprocess
+import unittest
 
 from client import Broken
 from ragvismo_service.chain import FIRST_HEAD, head_after
+from ragvismo_service.columns import heads_of
+from ragvismo_service.messages import LONGEST_LINE, Entry, RawEntry
 from ragvismo_service.places import Keys, Place
 from ragvismo_service.statuses import Ended, Status
 from ragvismo_service.store import Store
@@ -17,6 +20,49 @@ from tests.standing import HERE, Service
 
 IN, OUT = "ragvismo:in", "ragvismo:out"
 READERS = (("verify",), ("watch", "--once"), ("journal", "journal"), ("rehearse", ""))
+
+
+class Sums(unittest.TestCase):
+    """The chain over a page, column by column, beside the chain entry by entry."""
+
+    def page(self) -> tuple[list[RawEntry], list[RawEntry]]:
+        entries: list[RawEntry] = []
+        answers: list[RawEntry] = []
+        head = FIRST_HEAD
+        for number in range(1, 4):
+            id, answer = b"%d-0" % number, b'{"line":%d}' % number
+            entries.append([id, [b"session", b"7", b"number", b"%d" % number, b"body", b"open,%d" % number]])
+            head = head_after(head, Entry.of(entries[-1]).line(), answer)
+            answers.append([id, [b"answer", answer, b"chain", head]])
+        return entries, answers
+
+    def test_a_page_of_messages(self) -> None:
+        entries, answers = self.page()
+        self.assertEqual(heads_of(FIRST_HEAD, entries, answers), [fields[3] for _, fields in answers])
+
+    def test_what_is_looked_at_one_by_one(self) -> None:
+        """Another head, an entry that is no message, an answer of two lines, another id, a sum that does not follow."""
+        self.assertIsNone(heads_of(b"1" * 64, *self.page()))
+        for stream, place, value in (
+            (0, 1, b"7,7"),
+            (0, 3, b"2\n"),
+            (0, 5, b"a\nb"),
+            (0, 4, b"other"),
+            (0, 5, b"x" * LONGEST_LINE),
+            (1, 1, b"{}\n"),
+            (1, 3, b"0" * 64),
+            (1, 2, b"other"),
+        ):
+            page = self.page()
+            page[stream][1][1][place] = value
+            self.assertIsNone(heads_of(FIRST_HEAD, *page), (stream, place, value))
+        for stream in (0, 1):
+            page = self.page()
+            page[stream][2][0] = b"9-9"
+            self.assertIsNone(heads_of(FIRST_HEAD, *page))
+            page = self.page()
+            page[stream][2][1] += [b"more", b"1"]
+            self.assertIsNone(heads_of(FIRST_HEAD, *page))
 
 
 class Log(Service):

@@ -65,15 +65,15 @@ class Users(Service):
 
     def certificate(self) -> dict[str, object]:
         """A certificate of this machine, by itself."""
-        files = {"tls-key-file": self.folder / "key", "tls-cert-file": self.folder / "certificate"}
+        files: dict[str, object] = {"tls-key-file": self.folder / "key", "tls-cert-file": self.folder / "certificate"}
         words = (
             "openssl req -x509 -nodes -newkey rsa:2048 -subj /CN=localhost -addext subjectAltName=DNS:localhost".split()
         )
-        out = ["-keyout", files["tls-key-file"], "-out", files["tls-cert-file"]]
+        out = ["-keyout", str(files["tls-key-file"]), "-out", str(files["tls-cert-file"])]
         subprocess.run([*words, *out], check=True, capture_output=True)
         return {**files, "tls-ca-cert-file": files["tls-cert-file"]}
 
-    def place(self, user: str) -> Place:
+    def as_user(self, user: str) -> Place:
         return Place(socket=str(self.socket), user=user, password=password(str(self.users / f"{user}.password")))
 
     def answers(self) -> bool:
@@ -81,14 +81,14 @@ class Users(Service):
         return super().answers()
 
     def of(self, user: str) -> redis.Redis:
-        return redis.Redis(connection_pool=pool_at(self.place(user)))
+        return redis.Redis(connection_pool=pool_at(self.as_user(user)))
 
     def words(self, user: str, at: str) -> list[str]:
         return ["--at", at.replace("USER", user), "--password", f"{self.users / user}.password"]
 
     def ran(self, name: str, user: str, at: str, *words: object) -> str:
         """What a tool prints as a user at a place."""
-        given = [HERE / name, *self.words(user, at), *map(str, words)]
+        given = [str(HERE / name), *self.words(user, at), *map(str, words)]
         environment = {"SSL_CERT_FILE": str(self.folder / "certificate"), "PATH": "/usr/bin:/bin"}
         ran = subprocess.run(given, capture_output=True, text=True, timeout=60, env=environment)
         self.assertEqual(ran.returncode, 0, ran.stderr)
@@ -98,9 +98,9 @@ class Users(Service):
         by_socket, by_port = f"unix://USER@{self.socket}", f"redis://USER@127.0.0.1:{self.port}"
         by_tls = f"rediss://USER@localhost:{self.tls}" if shutil.which("openssl") else by_port
         by_6 = f"redis://USER@[::1]:{self.port}" if pathlib.Path("/proc/net/if_inet6").exists() else by_port
-        words = [HERE / "sequencer", "--program", self.program, *self.words("sequencer", by_socket)]
+        words = [str(HERE / "sequencer"), "--program", str(self.program), *self.words("sequencer", by_socket)]
         self.sequencers.append(subprocess.Popen(words, stderr=subprocess.PIPE, text=True))
-        session = Session(self.place("gateway"), 7, 1)
+        session = Session(self.as_user("gateway"), 7, 1)
         session.ask("open,1")
         self.assertIn("1 answers hold", self.ran("verify", "journal", by_6))
         self.ran("journal", "journal", by_tls, self.folder / "journal")

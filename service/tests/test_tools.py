@@ -7,7 +7,6 @@ import json
 import os
 import pathlib
 import shlex
-import shutil
 import signal
 import subprocess
 import tempfile
@@ -103,33 +102,6 @@ class Tools(Service):
         for call, told in zip(calls, said):
             self.assertIn(call.returncode, (0, Status.HELD), told)
         self.assertRegex(self.tool("journal", self.folder / "journal", "--verify").stdout, "^300 segments stand: ")
-
-    def nightly(self, folder: pathlib.Path) -> None:
-        """What the unit of the night runs, each line ending with 0."""
-        unit = (HERE / "systemd/ragvismo-journal.service").read_text()
-        for line in unit.splitlines():
-            if line.startswith("ExecStart="):
-                command = line.removeprefix("ExecStart=").replace("$$", "$").replace("/opt/ragvismo", str(HERE.parent))
-                command = command.replace("check-many", f"check-many --program {self.program}")
-                words = shlex.split(command.replace("/var/lib/ragvismo/journal", str(folder)))
-                more = ["--at", str(self.port)] if "--verify" not in words and words[0].endswith("journal") else []
-                ran = subprocess.run([*words, *more], capture_output=True, text=True)
-                self.assertEqual(ran.returncode, 0, (line, ran.stdout, ran.stderr))
-
-    def test_the_night(self) -> None:
-        if not self.is_real or not shutil.which("parallel"):
-            self.skipTest("the program or GNU parallel is missing")
-        self.nightly(self.folder / "journal")
-        self.start_sequencer()
-        session = self.session(7)
-        self.nightly(self.folder / "journal")
-        for line in (HERE.parent / "examples/proposals.commands").read_text().splitlines():
-            session.ask(line)
-        session.answer(1, "open,1")
-        self.append(session="7,7", number=1, body="x")
-        self.until(self.all_answered)
-        self.nightly(self.folder / "journal")
-        self.run_again(self.folder / "journal")
 
     def test_watch(self) -> None:
         sequencer = self.start_sequencer()
@@ -255,9 +227,9 @@ class Up(unittest.TestCase):
         self.addCleanup(up.communicate)
         self.addCleanup(up.kill)
         assert up.stdout
-        said, _, words = up.stdout.readline().partition(": ")
+        said, _, call = up.stdout.readline().partition(": ")
         self.assertEqual(said, "the exchange is up")
-        self.client_words = words.split()
+        self.client_words = call.split()
         return up
 
     def words(self, port: int) -> list[str]:

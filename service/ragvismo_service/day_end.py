@@ -1,0 +1,88 @@
+"""Ends a day of an exchange: journal, verify, audit, backup and carry-over, each only where those before hold.
+
+    service/day-end FOLDER [--at PLACE] [--backups FOLDER] [--program FILE]
+
+It writes what is new to the journal in FOLDER and recomputes the chain through its files; checks the chain of the log, in
+which the last sum of the journal has to be; has `exchange audit` judge all replies; copies the log to --backups (FOLDER
+itself, if not given) under the day's date, and starts a Redis from the copy, of which the chain has to hold too; and writes
+FOLDER/next.commands, with which the next exchange would begin, and says what these cannot carry. Each step prints a line.
+A copy is a folder from which `service/up` starts.
+
+It ends with 0, or with one line on standard error and status
+"""
+
+from __future__ import annotations
+
+import datetime
+import pathlib
+import subprocess
+
+from ragvismo_service import backups, files
+from ragvismo_service.journal import SIZE, verify, write_new
+from ragvismo_service.segments import Segment, segments
+from ragvismo_service.statuses import Ended, Status, table
+from ragvismo_service.store import Store
+from ragvismo_service.verifying import PROCESSORS, verified
+from ragvismo_service.words import Words, status_of, store_of
+
+NEW_LINE = b"\n"
+TOOLS = pathlib.Path(__file__).resolve().parents[2] / "tools"
+# carry-over ends with 1 where something is left behind.
+CARRIED = 0, 1
+OTHERS = Status.DONE, Status.DIFFERS, Status.OTHER_PROGRAM, Status.PROGRAM_ENDED, Status.HANGS, Status.LAGS
+STATUSES = [status for status in Status if status not in OTHERS]
+
+
+def over_replies(folder: pathlib.Path, *words: str | pathlib.Path) -> subprocess.CompletedProcess[bytes]:
+    """A tool that reads all replies of a journal."""
+    replies = [segment.paths(folder)[1] for segment in segments(folder)]
+    with subprocess.Popen(["cat", "/dev/null", *replies], stdout=subprocess.PIPE) as given:
+        return subprocess.run(words, stdin=given.stdout, capture_output=True)
+
+
+def said(ran: subprocess.CompletedProcess[bytes]) -> str:
+    """The last line of what a tool said, on standard error if there."""
+    lines = (ran.stdout + ran.stderr).decode(errors="replace").splitlines()
+    return lines[-1] if lines else f"nothing, with status {ran.returncode}"
+
+
+def audited(folder: pathlib.Path, program: pathlib.Path) -> str:
+    """What the program says of all replies; Ended where that is no yes."""
+    ran = over_replies(folder, TOOLS / "check-many", "-", "--word", "audit", "--program", program)
+    if ran.returncode:
+        raise Ended(Status.NO, f"the audit of {folder} says no: {said(ran)}")
+    return ran.stdout.decode().rstrip()
+
+
+def carried(folder: pathlib.Path) -> str:
+    """Writes the lines of the next exchange, and tells what is left behind."""
+    ran = over_replies(folder, TOOLS / "carry-over", "-")
+    if ran.returncode not in CARRIED:
+        raise Ended(Status.NO, f"nothing can be carried over: {said(ran)}")
+    path, left = folder / "next.commands", ran.stderr.decode().splitlines()
+    files.write(path, ran.stdout)
+    return "\n".join([f"{path} has {ran.stdout.count(NEW_LINE)} lines; {len(left)} things are left behind", *left])
+
+
+def end_day(folder: pathlib.Path, store: Store, copies: pathlib.Path, program: pathlib.Path) -> None:
+    last: Segment = write_new(folder, store, SIZE)
+    print("journal:", verify(folder), flush=True)
+    head = last.head.encode()
+    print("verify:", verified(store, head, PROCESSORS), flush=True)
+    print("audit:", audited(folder, program), flush=True)
+    copy = copies / f"{datetime.datetime.now(datetime.UTC):%Y-%m-%d}"
+    print(f"backup: in {copy}", backups.made(store, copy, head), flush=True)
+    print("carry-over:", carried(folder), flush=True)
+
+
+def run() -> None:
+    words = Words(f"{__doc__}{table(*STATUSES)}")
+    words.add_argument("folder", metavar="FOLDER", type=pathlib.Path)
+    words.add_argument("--backups", type=pathlib.Path, metavar="FOLDER")
+    words.add_program()
+    given = words.parse_args()
+    end_day(given.folder, store_of(given), given.backups or given.folder, given.program)
+
+
+def main() -> int:
+    return status_of(run)

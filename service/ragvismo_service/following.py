@@ -1,0 +1,71 @@
+"""Reading the answers of an exchange as they come, and how far they are behind the messages."""
+
+from __future__ import annotations
+
+import time
+from collections.abc import Callable
+from typing import NamedTuple
+
+from ragvismo_service.chain import FIRST_HEAD, Answered
+from ragvismo_service.connecting import client_name
+from ragvismo_service.history import History
+from ragvismo_service.messages import START_ID, time_of
+from ragvismo_service.store import Store
+from ragvismo_service.streams import counts
+
+
+class State(NamedTuple):
+    """How many entries there are, how many are not answered, how long the oldest of them has waited in seconds, and how many
+    sequencers are connected."""
+
+    entries: int
+    lag: int
+    waited: float
+    sequencers: int
+
+
+class Follower:
+    """Gives each answer to `take`, with whether it came while this runs; the chain of sums is checked."""
+
+    def __init__(
+        self, store: Store, take: Callable[[Answered, bool], None], since: bytes = START_ID, head: bytes = FIRST_HEAD
+    ) -> None:
+        self.store, self.take, self.history = store, take, History(store, since, head)
+
+    def begin(self) -> None:
+        """Takes what is there; Ended where that is not whole, or not what was read before."""
+        self.history.begin()
+        self.read_on(False)
+
+    def read_on(self, is_new: bool) -> None:
+        for page in self.history.pages():
+            for answered in page:
+                self.take(answered, is_new)
+
+    def wait(self, seconds: float) -> None:
+        """Takes what comes in some seconds."""
+        until, answers = time.monotonic() + seconds, self.history.keys.answers
+        while (left := until - time.monotonic()) > 0:
+            block = b"%d" % max(1, min(1000, int(left * 1000)))
+            self.store.say(b"XREAD", b"COUNT", b"1", b"BLOCK", block, b"STREAMS", answers, self.history.since)
+            self.read_on(True)
+
+    def state(self) -> State:
+        """How the log is; Ended where entries were taken out."""
+        appended, answered = counts(self.store, self.history.keys)
+        return State(appended.length, appended.length - answered.length, self._waited(), self._sequencers())
+
+    def _waited(self) -> float:
+        waiting = self.history.entries
+        return max(0.0, time.time() - time_of(waiting[0][0]) / 1000) if waiting else 0.0
+
+    def _sequencers(self) -> int:
+        """How many sequencers of this exchange are connected."""
+        clients = self.store.say(b"CLIENT", b"LIST").decode().splitlines()
+        name = f"name={client_name('sequencer', self.store.place.name)}"
+        return sum(name in client.split() for client in clients)
+
+
+def since_append(answered: Answered) -> float:
+    """The seconds since an entry was appended, by the clocks of this machine and of Redis."""
+    return time.time() - time_of(answered.entry.id) / 1000

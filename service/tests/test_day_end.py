@@ -1,0 +1,123 @@
+"""The end of a day: journal, verify, audit, backup and carry-over, by one call."""
+
+from __future__ import annotations
+
+import json
+import pathlib
+import shlex
+import shutil
+import subprocess
+
+from ragvismo_service import backups
+from ragvismo_service.chain import FIRST_HEAD
+from ragvismo_service.statuses import Ended, Status
+from ragvismo_service.store import Store
+from tests.standing import HERE, Service, free_port
+
+NO = '{"line":1,"reason":"Shape","verdict":"no"}'
+
+
+class Copies(Service):
+    """A copy of a log, without the program."""
+
+    def setUp(self) -> None:
+        super().setUp()
+        self.sequencer = self.start_sequencer()
+        for number in range(1, 4):
+            self.session(7, number).ask(f"open,{number}")
+        self.until(self.all_answered)
+        self.store, self.copy = Store(self.place, 5, "test"), self.folder / "copies" / "day"
+
+    def head(self) -> bytes:
+        return bytes(self.redis.xrevrange("ragvismo:out", count=1)[0][1][b"chain"])
+
+    def test_a_copy_is_a_log(self) -> None:
+        for _ in range(2):
+            holds = backups.made(self.store, self.copy, self.head())
+            self.assertEqual((holds.answers, holds.head), (3, self.head()))
+        self.assertEqual([it.name for it in self.copy.parent.iterdir()], ["day"])
+
+    def test_a_copy_of_another_log(self) -> None:
+        with self.assertRaises(Ended) as told:
+            backups.made(self.store, self.copy, b"1" * 64)
+        self.assertEqual(told.exception.status, Status.CHANGED)
+        self.assertFalse(self.copy.exists())
+
+    def test_a_copy_of_a_log_that_was_cut(self) -> None:
+        self.redis.xtrim("ragvismo:in", 1, approximate=False)
+        with self.assertRaises(Ended) as told:
+            backups.made(self.store, self.copy, FIRST_HEAD)
+        self.assertEqual(told.exception.status, Status.CUT)
+
+    def test_redis_that_gives_no_copy(self) -> None:
+        self.redis.acl_setuser("me", enabled=True, nopass=True, keys=["*"], commands=["+ping", "+client"])
+        with self.assertRaisesRegex(Ended, "Redis gave no copy|Redis refuses"):
+            backups.made(Store(self.place.of(f"redis://me@127.0.0.1:{self.port}"), 5, "test"), self.copy, FIRST_HEAD)
+
+
+class DayEnd(Service):
+    def unit(self) -> list[str]:
+        """What the unit of the night calls."""
+        text = (HERE / "systemd/ragvismo-day-end@.service").read_text()
+        [line] = [line.partition("=")[2] for line in text.splitlines() if line.startswith("ExecStart=")]
+        return shlex.split(
+            line.replace("/opt/ragvismo", str(HERE.parent)).replace("/var/lib/ragvismo", str(self.folder))
+        )
+
+    def end_day(self, *words: object) -> subprocess.CompletedProcess[str]:
+        """The call of the unit, without its user."""
+        given = self.unit()
+        at = given.index("--at")
+        given[at : at + 4] = [*self.at, "--program", str(self.program), *map(str, words)]
+        return subprocess.run(given, capture_output=True, text=True, timeout=120)
+
+    def setUp(self) -> None:
+        super().setUp()
+        if not self.is_real or not shutil.which("parallel"):
+            self.skipTest("the program or GNU parallel is missing")
+
+    def test_days(self) -> None:
+        """An empty exchange, then one with proposals, repeats and an entry that is no message; its copy goes on by itself."""
+        self.assertEqual(self.end_day().returncode, 0)
+        self.start_sequencer()
+        session = self.session(7)
+        for line in (HERE.parent / "examples/proposals.commands").read_text().splitlines():
+            session.ask(line)
+        session.answer(1, "open,1")
+        self.append(session="7,7", number=1, body="x")
+        self.until(self.all_answered)
+        ran = self.end_day("--backups", self.folder / "copies")
+        self.assertEqual((ran.returncode, ran.stderr), (0, ""))
+        steps = [line.partition(":")[0] for line in ran.stdout.splitlines()]
+        self.assertEqual(steps[:5], ["journal", "verify", "audit", "backup", "carry-over"])
+        self.assertIn("open,1\ndeposit,1,", (self.folder / "journal/next.commands").read_text())
+        [copy] = (self.folder / "copies").iterdir()
+        self.goes_on(copy, session.number)
+
+    def goes_on(self, copy: pathlib.Path, number: int) -> None:
+        """An exchange that is started from a copy answers the next message."""
+        words = [str(HERE / "up"), str(copy), "--port", str(free_port()), "--program", str(self.program)]
+        with subprocess.Popen(words, stdout=subprocess.PIPE, stderr=subprocess.DEVNULL, text=True) as up:
+            assert up.stdout
+            client = up.stdout.readline().partition(": ")[2].split()
+            client[client.index("1")] = "7"
+            ran = subprocess.run(client, input="balance,0\n", capture_output=True, text=True, cwd=HERE.parent)
+            up.terminate()
+        self.assertEqual(json.loads(ran.stdout)["line"], number, ran.stderr)
+
+    def test_a_journal_that_was_changed(self) -> None:
+        self.start_sequencer()
+        self.session(7).ask("open,1")
+        self.assertEqual(self.end_day().returncode, 0)
+        (self.folder / "journal/000001.replies").write_text("{}\n")
+        ran = self.end_day()
+        self.assertEqual((ran.returncode, ran.stdout, ran.stderr.count("\n")), (Status.CHANGED, "", 1), ran.stderr)
+
+    def test_an_audit_that_says_no(self) -> None:
+        self.start_sequencer()
+        self.session(7).ask("open,1")
+        self.until(self.all_answered)
+        liar = self.script("liar", f"#!/bin/sh\ncat >/dev/null\necho '{NO}'\nexit 6\n")
+        ran = self.end_day("--program", liar)
+        self.assertEqual((ran.returncode, ran.stderr.count("\n")), (Status.NO, 1), ran.stderr)
+        self.assertNotIn("backup", ran.stdout)

@@ -1,0 +1,181 @@
+"""What is told of an exchange: figures for Prometheus, and to systemd that a tool is alive."""
+
+from __future__ import annotations
+
+import importlib.util
+import os
+import pathlib
+import re
+import shutil
+import signal
+import socket
+import subprocess
+import time
+import unittest
+import urllib.request
+
+from ragvismo_service.chain import FIRST_HEAD, Answered
+from ragvismo_service.figures import Figures
+from ragvismo_service.messages import Entry
+from ragvismo_service.statuses import Ended, Status
+from tests.standing import HERE, Service, free_port
+
+ORDER = '"account":1,"form":[0,1],"quantity":1'
+# Messages and the replies of an exchange to them.
+DAY = (
+    ("open,1", '{"account":1,"line":1,"reply":"opened"}'),
+    ("market,4,1", '{"line":2,"market":4,"reply":"listed","underlyings":1}'),
+    ("buy,1,4,call,10,7,1,1", '{"line":3,"order":1,"reply":"placed"}'),
+    ("sell,1,4,call,10,5,1,1", '{"line":4,"order":2,"reply":"placed"}'),
+    ("sell,1,4,call,10,6,1,1", '{"line":5,"order":3,"reply":"placed"}'),
+    ("bundle,1,4,sell,6,1,1,call,9,1", '{"line":6,"order":4,"reply":"placed"}'),
+    ("cancel,1,4", '{"line":7,"order":4,"reply":"cancelled"}'),
+    (
+        "clear,4,9",
+        '{"batch":1,"fills":["1/2","1/2"],"line":8,"mark":"optimal","market":4,"orders":['
+        f'{{{ORDER},"order":1,"price":7,"side":"buy"}},{{{ORDER},"order":2,"price":5,"side":"sell"}}],"reply":"cleared"}}',
+    ),
+    ("withdraw,1,9", '{"line":9,"number":2,"reason":"Funds","reply":"refused"}'),
+)
+
+
+def answered(number: int, body: str, reply: str, session: int = 7) -> Answered:
+    entry = Entry(b"1-1", f"{session},{number},{body}".encode(), None)
+    return Answered(entry, f'{{"number":{number},"of":{reply},"session":{session}}}'.encode(), FIRST_HEAD)
+
+
+class Counted(unittest.TestCase):
+    def after(self, *more: tuple[str, str]) -> Figures:
+        figures = Figures()
+        for number, (body, reply) in enumerate((*DAY, *more), 1):
+            figures.take(answered(number, body, reply))
+        return figures
+
+    def test_a_day(self) -> None:
+        """The buyer pays 7/2, rounded up, and the seller gets 5/2, rounded down."""
+        figures = self.after()
+        self.assertEqual((figures.house, figures.live), (4 - 2, {3: "4"}))
+        used = {"accounts": 1, "batches": 1, "live_orders_of_a_market": 1, "markets": 1, "messages": 9}
+        used |= {"messages_of_a_session": 9, "orders": 4, "sessions": 1}
+        self.assertEqual(figures.used, used)
+        self.assertEqual(figures.ratios()["markets"], 1 / 64)
+
+    def test_a_repeated_message_counts_once(self) -> None:
+        figures = self.after()
+        self.assertIsNone(figures.take(answered(8, *DAY[7])))
+        self.assertEqual((figures.house, figures.used["messages"]), (2, 10))
+
+    def test_a_settlement(self) -> None:
+        payouts = '[{"account":1,"amount":"-3","batch":1,"order":2},{"account":1,"amount":"1","batch":1,"order":1}]'
+        figures = self.after(
+            ("settle,4,13", f'{{"lapsed":1,"line":10,"market":4,"payouts":{payouts},"reply":"settled"}}')
+        )
+        self.assertEqual((figures.house, figures.live, figures.used["live_orders_of_a_market"]), (4, {}, 0))
+
+    def test_what_the_house_is_told_to_have(self) -> None:
+        told = '{"account":0,"balance":"100","line":10,"reply":"balance","reserved":"0"}'
+        self.assertEqual(self.after(("balance,0", told)).house, 100)
+
+    def test_an_answer_that_no_sequencer_wrote(self) -> None:
+        with self.assertRaises(Ended) as told:
+            Figures().take(answered(1, "open,1", '{"reply":"opened"}'))
+        self.assertEqual(told.exception.status, Status.FORGED)
+
+
+@unittest.skipUnless(
+    importlib.util.find_spec("prometheus_client"), "python3-prometheus-client is missing; tools/setup installs it"
+)
+class Metrics(Service):
+    def start_metrics(self) -> None:
+        self.listen = free_port()
+        words = [str(HERE / "metrics"), *self.at, "--listen", f"127.0.0.1:{self.listen}", "--every", "0.1"]
+        self.sequencers.append(subprocess.Popen(words, stderr=subprocess.PIPE, text=True))
+
+    def told(self) -> dict[str, float]:
+        """What is told now."""
+        try:
+            with urllib.request.urlopen(f"http://127.0.0.1:{self.listen}/metrics", timeout=5) as page:
+                lines = [line for line in page.read().decode().splitlines() if not line.startswith("#")]
+        except OSError:
+            return {}
+        return {name: float(value) for name, _, value in (line.rpartition(" ") for line in lines)}
+
+    def test_figures(self) -> None:
+        sequencer = self.start_sequencer()
+        session = self.session(7)
+        session.ask("open,1")
+        session.answer(9, "balance,0")
+        self.append(session="7,7", number=1, body="x")
+        self.until(self.all_answered)
+        self.start_metrics()
+        self.until(lambda: self.told().get("ragvismo_entries") == 3)
+        session.answer(1, "open,1")
+        self.until(lambda: self.told()["ragvismo_answer_seconds_count"] == 1)
+        told = self.told()
+        for name, value in (
+            ("ragvismo_lag_entries", 0),
+            ("ragvismo_sequencers", 1),
+            ('ragvismo_refusals_total{reason="Form"}', 1),
+            ('ragvismo_refusals_total{reason="Ahead"}', 1),
+            ('ragvismo_limit_used_ratio{limit="sessions"}', 1 / 10_000),
+            ("ragvismo_live_orders", 0),
+            ("ragvismo_house_balance_ticks", 0),
+            ("ragvismo_redis_copies", 0),
+        ):
+            self.assertEqual(told[name], value, name)
+        self.assertEqual(sum(value for name, value in told.items() if name.startswith("ragvismo_replies_total")), 3)
+        self.kill(sequencer)
+        session.append(2, b"open,2")
+        self.until(lambda: self.told()["ragvismo_oldest_wait_seconds"] > 0.2)
+        self.assertEqual([self.told()[f"ragvismo_{name}"] for name in ("lag_entries", "sequencers")], [1, 0])
+        self.rules_are_of(self.told())
+        self.redis.xtrim("ragvismo:in", 1, approximate=False)
+        self.assertEqual(self.sequencers[-1].wait(60), Status.CUT)
+
+    def rules_are_of(self, told: dict[str, float]) -> None:
+        """Each figure of the rules is told, or is one of a clear, of which there is none yet."""
+        names = {name.partition("{")[0] for name in told} | {"ragvismo_clears_total"}
+        rules = (HERE / "alerts.yml").read_text()
+        self.assertEqual(set(re.findall(r"ragvismo_\w+", rules)) - names, set())
+        if shutil.which("promtool"):
+            ran = subprocess.run(["promtool", "check", "rules", HERE / "alerts.yml"], capture_output=True, text=True)
+            self.assertEqual(ran.returncode, 0, ran.stdout + ran.stderr)
+
+    def test_a_port_that_is_taken(self) -> None:
+        self.tool_ends(Status.BAD_USE, "cannot listen at", "metrics", "--listen", self.port)
+
+
+@unittest.skipUnless(importlib.util.find_spec("systemd"), "python3-systemd is missing; tools/setup installs it")
+class Watchdog(Service):
+    """What systemd is told of a sequencer."""
+
+    def test_alive(self) -> None:
+        with socket.socket(socket.AF_UNIX, socket.SOCK_DGRAM) as told:
+            told.bind(str(self.folder / "notify"))
+            told.settimeout(30)
+            os.environ["NOTIFY_SOCKET"] = str(self.folder / "notify")
+            self.addCleanup(os.environ.pop, "NOTIFY_SOCKET")
+            sequencer = self.start_sequencer()
+            said: set[bytes] = set()
+            while said != {b"READY=1", b"WATCHDOG=1"}:
+                said.add(told.recv(100))
+            self.session(7, 1).ask("open,1")
+            os.kill(self.program_of(sequencer), signal.SIGSTOP)
+            self.append(session=7, number=2, body="open,2")
+            time.sleep(1.5)
+            told.setblocking(False)
+            with self.assertRaises(BlockingIOError):
+                while told.recv(100):
+                    pass
+            time.sleep(1.5)
+            with self.assertRaises(BlockingIOError):
+                told.recv(100)
+
+    def test_units(self) -> None:
+        """The watchdog of each unit that has one waits longer than a tool does for Redis or the program."""
+        for unit in (HERE / "systemd").glob("*.service"):
+            settings = dict(re.findall(r"(?m)^(\w+)=(.*)$", unit.read_text()))
+            path = pathlib.Path(settings["ExecStart"].split()[0].replace("/opt/ragvismo", str(HERE.parent)))
+            self.assertTrue(os.access(path, os.X_OK), path)
+            if settings.get("Type") == "notify":
+                self.assertGreater(int(settings["WatchdogSec"]), 60, unit)
