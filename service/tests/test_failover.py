@@ -4,7 +4,7 @@ from __future__ import annotations
 
 import dataclasses
 import os
-import pathlib
+import re
 import signal
 import subprocess
 import time
@@ -15,11 +15,16 @@ from ragvismo_service import users
 from ragvismo_service.connecting import pool_at, pool_of
 from ragvismo_service.places import Place
 from ragvismo_service.words import password
-from tests.standing import Given, Service, Trader, free_port
+from tests.standing import HERE, Given, Service, Trader, free_port
 
-GROUP = "group"
+GROUP = "ragvismo"
 # What the sentinel does every few seconds it does ten times a second here.
 SOON = "INFO-PERIOD 100 PING-PERIOD 100 PUBLISH-PERIOD 100 ASK-PERIOD 100 MIN-LINK-RECONNECT-PERIOD 100".split()
+
+
+def shipped(name: str) -> dict[str, object]:
+    """The settings of a file of ours, those of a group among them."""
+    return dict(re.findall(r"(?m)^#?([a-z-]+) (.+)$", (HERE / "systemd" / name).read_text()))
 
 
 class Failover(Service):
@@ -50,18 +55,16 @@ class Failover(Service):
         own = self.folder / str(port)
         own.mkdir()
         settings = {
-            **self.redis_settings(),
+            **shipped("redis-ragvismo.conf"),
             "port": port,
             "dir": own,
+            "logfile": own / "log",
+            "pidfile": own / "pid",
             "aclfile": self.users / "users.acl",
-            "masteruser": "replica",
             "masterauth": password(str(self.users / "replica.password")),
-            "min-replicas-to-write": 1,
             "repl-diskless-sync-delay": 0,
         }
-        (own / "redis.conf").write_text(
-            "".join(f'{key} {chr(34) * 2 if value == "" else value}\n' for key, value in settings.items())
-        )
+        (own / "redis.conf").write_text("".join(f"{key} {value}\n" for key, value in settings.items()))
 
     def start_one(self, port: int, *words: str) -> None:
         own = self.folder / str(port)
@@ -69,13 +72,17 @@ class Failover(Service):
 
     def start_sentinel(self) -> None:
         path = self.folder / "sentinel.conf"
-        path.write_text(
-            f"port {self.sentinel_port}\ndir {self.folder}\nlogfile sentinel.log\n"
-            f"sentinel monitor {GROUP} 127.0.0.1 {self.ports[0]} 1\n"
-            f"sentinel auth-user {GROUP} sentinel\n"
-            f"sentinel auth-pass {GROUP} {password(str(self.users / 'sentinel.password'))}\n"
-            f"sentinel down-after-milliseconds {GROUP} 500\nsentinel failover-timeout {GROUP} 1000\n"
-        )
+        text = (HERE / "systemd/sentinel-ragvismo.conf").read_text()
+        for here, there in {
+            "port 26380": f"port {self.sentinel_port}\ndir {self.folder}\nlogfile sentinel.log",
+            "HOST 6380 2": f"127.0.0.1 {self.ports[0]} 1",
+            "PASSWORD": password(str(self.users / "sentinel.password")),
+            "milliseconds ragvismo 5000": "milliseconds ragvismo 500",
+            "timeout ragvismo 30000": "timeout ragvismo 1000",
+        }.items():
+            self.assertEqual(text.count(here), 1)
+            text = text.replace(here, there)
+        path.write_text(text)
         self.servers[self.sentinel_port] = subprocess.Popen(["redis-server", path, "--sentinel"])
         self.sentinel = redis.Redis(port=self.sentinel_port)
         self.until(self.sentinel_answers)
