@@ -3,16 +3,18 @@
 
     service/client.py SESSION [--at PLACE] [--password FILE] [--numbered] [--patience SECONDS]
 
-sends each line of standard input as a message of the session and prints its answer. With --numbered the first line is
-message 1, the second message 2 and so on, so a file that is sent once more, whole or from where it was left, counts once; the
-status is 1 where the session turns out to have other messages. Other statuses: 2 bad use, 3 Redis refuses, or is away for
-longer than --patience (for ever, if not given), 9 what answers is no sequencer. For programs:
+sends each line of standard input as a message of the session and prints its answer. With --numbered
+the first line is message 1, the second message 2 and so on, so a file that is sent once more, whole
+or from where it was left, counts once; the status is 1 where the session turns out to have other
+messages. Other statuses: 2 bad use, 3 Redis refuses, or is away for longer than --patience (for
+ever, if not given), 9 what answers is no sequencer. For programs:
 
     from client import Session
     session = Session("127.0.0.1:6380", 7)
     session.ask("open,1")       # {'account': 1, 'line': 1, 'reply': 'opened'}
 
-A message is sent under the same number until it is answered, so it counts once however often a connection is lost.
+A message is sent under the same number until it is answered, so it counts once however often a
+connection is lost.
 """
 from __future__ import annotations
 
@@ -37,7 +39,8 @@ SILENCE = 5
 
 
 class Refused(Exception):
-    """The gate or the service refused a message, which changed nothing; the answer is its one argument."""
+    """The gate or the service refused a message, which changed nothing; the answer is its one
+    argument."""
 
 
 class Unanswered(Ended):
@@ -45,26 +48,40 @@ class Unanswered(Ended):
 
 
 class Broken(Ended):
-    """What stands among the answers is no sequencer's, or Redis takes no message. Sending the same again does not help."""
+    """What stands among the answers is no sequencer's, or Redis takes no message. Sending the same
+    again does not help."""
 
 
 class Session:
     """One session, which one client at a time may use.
 
-    `number` is that of its next message; where it is None, the exchange is asked for it. A client that may be killed keeps
-    the number and the body of its last message, and begins again with both: then the message counts once all the same.
+    `number` is that of its next message; where it is None, the exchange is asked for it. A client
+    that may be killed keeps the number and the body of its last message, and begins again with
+    both: then the message counts once all the same.
     """
 
-    def __init__(self, at: str | Place, session: int, number: int | None = None, patience: float | None = None) -> None:
+    def __init__(
+        self,
+        at: str | Place,
+        session: int,
+        number: int | None = None,
+        patience: float | None = None,
+    ) -> None:
         place = Place.of(at) if isinstance(at, str) else at
-        self.place, self.keys, self.session, self.patience = place, Keys.of(place.name), session, patience
+        self.place, self.keys, self.session, self.patience = (
+            place,
+            Keys.of(place.name),
+            session,
+            patience,
+        )
         self.redis = redis.Redis(connection_pool=pool_of(place, "client"))
         self.number = number or self.next_number()
 
     def ask(self, body: str | bytes) -> dict[str, Any]:
         """The reply to a body.
 
-        Refused where the message is none, or its number is not the next one; Unanswered after `patience` seconds; Broken.
+        Refused where the message is none, or its number is not the next one; Unanswered after
+        `patience` seconds; Broken.
         """
         answer = self.answer(self.number, body)
         if "of" not in answer:
@@ -77,8 +94,8 @@ class Session:
         return int(self.answer(HIGHEST_NUMBER, "balance,0").get("expected", 1))
 
     def answer(self, number: int, body: str | bytes) -> dict[str, Any]:
-        """The answer to a message, sent again where Redis went away before it was seen; what is no message, or too long, is
-        answered as the service would, and not sent."""
+        """The answer to a message, sent again where Redis went away before it was seen; what is no
+        message, or too long, is answered as the service would, and not sent."""
         body = body.encode() if isinstance(body, str) else body
         if fault := fault_of(b"%d" % self.session, b"%d" % number, body):
             return {"reason": str(fault), "reply": "service"}
@@ -97,7 +114,9 @@ class Session:
 
     def append(self, number: int, body: bytes) -> bytes:
         """Appends a message, and tells its id."""
-        id: bytes = self.redis.xadd(self.keys.taken, {"session": self.session, "number": number, "body": body})
+        id: bytes = self.redis.xadd(
+            self.keys.taken, {"session": self.session, "number": number, "body": body}
+        )
         return id
 
     def answer_under(self, entry: bytes, since: float) -> dict[str, Any]:
@@ -119,12 +138,14 @@ class Session:
             if self.redis.xrange(self.keys.taken, entry, entry, 1):
                 raise Broken(
                     Status.FORGED,
-                    f"an answer stands under {id.decode()}, and none to the entry {entry.decode()} before it",
+                    f"an answer stands under {id.decode()}, and none to the entry before it,"
+                    f" {entry.decode()}",
                 )
             raise lost
         try:
             answer = json.loads(fields[b"answer"])
-            # Another Redis that took the place of one may have given the id to a message of another session.
+            # Another Redis that took the place of one may have given the id to a message of another
+            # session.
             if answer.get("session", self.session) != self.session:
                 raise lost
             if isinstance(answer.get("of", answer)["reply"], str):
@@ -137,7 +158,8 @@ class Session:
         if self.patience and time.monotonic() > since + self.patience:
             raise Unanswered(
                 Status.NO_REDIS,
-                f"session {self.session} got no answer for {self.patience:g} s; the message may count yet",
+                f"session {self.session} got no answer for {self.patience:g} s;"
+                " the message may count yet",
             )
 
 
@@ -162,17 +184,22 @@ def talk(session: Session) -> None:
 
 
 def send_numbered(session: Session) -> Status:
-    """Sends each line under its own number, and says whether the session has just these messages."""
+    """Sends each line under its own number, and says whether the session has just these
+    messages."""
     answer: dict[str, Any] = {"of": {}}
     for number, body in enumerate(bodies(), 1):
         answer = session.answer(number, body)
         say(answer.get("of", answer))
         if answer.get("reason") not in (None, "Old"):
             break
-    # The last message of a session may be repeated and is answered as it was; all before it are Old.
+    # The last message of a session may be repeated and is answered as it was; all before it are
+    # Old.
     if "of" in answer:
         return Status.DONE
-    raise Ended(Status.NO, f"session {session.session} has other messages than these; use one that nobody else uses")
+    raise Ended(
+        Status.NO,
+        f"session {session.session} has other messages than these; use one that nobody else uses",
+    )
 
 
 def session_of(text: str) -> int:

@@ -29,7 +29,11 @@ def command(store: Store) -> list[str]:
     else:
         # Where sentinels watch, that of the connection is the master's.
         address = ["-h", str(store.connection.host), "-p", str(store.connection.port)]
-    secure = ["--tls", "--cacert", os.environ.get("SSL_CERT_FILE", "/etc/ssl/certs/ca-certificates.crt")]
+    secure = [
+        "--tls",
+        "--cacert",
+        os.environ.get("SSL_CERT_FILE", "/etc/ssl/certs/ca-certificates.crt"),
+    ]
     user = ["--user", place.user, "--no-auth-warning"] if place.user else []
     return ["redis-cli", *address, *(secure if place.is_secure else []), *user]
 
@@ -52,11 +56,16 @@ def take(store: Store, folder: pathlib.Path) -> None:
 
 
 def tried(folder: pathlib.Path, name: str, patience: float, kept: bytes) -> Verified:
-    """What holds of a copy, by a Redis of its own; Ended where it does not, or a sum is not in its chain."""
+    """What holds of a copy, by a Redis of its own; Ended where it does not, or a sum is not in its
+    chain."""
     with tempfile.TemporaryDirectory(prefix="ragvismo-") as held:
         socket = pathlib.Path(held) / "redis"
-        words = redis_words(folder.resolve(), port=0, unixsocket=socket, unixsocketperm=700, logfile=f"{held}/log")
-        server, store = started(words), Store(Place(socket=str(socket), name=name), patience, "day-end")
+        words = redis_words(
+            folder.resolve(), port=0, unixsocket=socket, unixsocketperm=700, logfile=f"{held}/log"
+        )
+        server, store = started(words), Store(
+            Place(socket=str(socket), name=name), patience, "day-end"
+        )
         try:
             wait_for(server, store, pathlib.Path(held))
             return verified(store, kept, PROCESSORS)

@@ -1,8 +1,9 @@
-"""The chain of sums over the log: each head is a SHA-256 over the head before, an entry and its answer.
+"""The chain of sums over the log: each head is a SHA-256 over the head before, an entry and its
+answer.
 
-The head after an answer is the sum of three lines: the head before, in hexadecimal; the line of the entry, as the journal
-keeps it; the answer. Each ends with a line feed. The first head is 64 zeros. So who knows a head knows all entries and
-answers up to it.
+The head after an answer is the sum of three lines: the head before, in hexadecimal; the line of the
+entry, as the journal keeps it; the answer. Each ends with a line feed. The first head is 64 zeros.
+So who knows a head knows all entries and answers up to it.
 """
 
 from __future__ import annotations

@@ -10,15 +10,21 @@ SUMMED = b"%b\n%b,%b,%b,%b\n%b\n"
 
 
 def is_plain(names: list[set[bytes]], words: tuple[bytes, ...], text: bytes) -> bool:
-    """Whether there are just the fields of messages and answers, no word has a comma, nothing a line feed, and no line can be
-    too long."""
+    """Whether there are just the fields of messages and answers, no word has a comma, nothing a
+    line feed, and no line can be too long."""
     wanted = [{name} for name in (*FIELDS, *TOLD)]
-    return names == wanted and b"," not in b"".join(words) and b"\n" not in text and len(text) < LONGEST_LINE
+    return (
+        names == wanted
+        and b"," not in b"".join(words)
+        and b"\n" not in text
+        and len(text) < LONGEST_LINE
+    )
 
 
 def heads_of(head: bytes, entries: list[RawEntry], answers: list[RawEntry]) -> list[bytes] | None:
-    """The heads beside the answers to as many entries, where each follows from the one before; None where one does not, or
-    an entry is no message, so that the page has to be looked at one by one."""
+    """The heads beside the answers to as many entries, where each follows from the one before; None
+    where one does not, or an entry is no message, so that the page has to be looked at one by
+    one."""
     try:
         ids, fields = zip(*entries)
         answered, told = zip(*answers)

@@ -1,12 +1,14 @@
-"""Ends a day of an exchange: journal, verify, audit, backup and carry-over, each only where those before hold.
+"""Ends a day of an exchange: journal, verify, audit, backup and carry-over, each only where those
+before hold.
 
     service/day-end FOLDER [--at PLACE] [--backups FOLDER] [--program FILE]
 
-It writes what is new to the journal in FOLDER and recomputes the chain through its files; checks the chain of the log, in
-which the last sum of the journal has to be; has `exchange audit` judge all replies; copies the log to --backups (FOLDER
-itself, if not given) under the day's date, and starts a Redis from the copy, of which the chain has to hold too; and writes
-FOLDER/next.commands, with which the next exchange would begin, and says what these cannot carry. Each step prints a line.
-A copy is a folder from which `service/up` starts.
+It writes what is new to the journal in FOLDER and recomputes the chain through its files; checks
+the chain of the log, in which the last sum of the journal has to be; has `exchange audit` judge all
+replies; copies the log to --backups (FOLDER itself, if not given) under the day's date, and starts
+a Redis from the copy, of which the chain has to hold too; and writes FOLDER/next.commands, with
+which the next exchange would begin, and says what these cannot carry. Each step prints a line. A
+copy is a folder from which `service/up` starts.
 
 It ends with 0, or with one line on standard error and status
 """
@@ -29,11 +31,20 @@ NEW_LINE = b"\n"
 TOOLS = pathlib.Path(__file__).resolve().parents[2] / "tools"
 # carry-over ends with 1 where something is left behind.
 CARRIED = 0, 1
-OTHERS = Status.DONE, Status.DIFFERS, Status.OTHER_PROGRAM, Status.PROGRAM_ENDED, Status.HANGS, Status.LAGS
+OTHERS = (
+    Status.DONE,
+    Status.DIFFERS,
+    Status.OTHER_PROGRAM,
+    Status.PROGRAM_ENDED,
+    Status.HANGS,
+    Status.LAGS,
+)
 STATUSES = [status for status in Status if status not in OTHERS]
 
 
-def over_replies(folder: pathlib.Path, *words: str | pathlib.Path) -> subprocess.CompletedProcess[bytes]:
+def over_replies(
+    folder: pathlib.Path, *words: str | pathlib.Path
+) -> subprocess.CompletedProcess[bytes]:
     """A tool that reads all replies of a journal."""
     replies = [segment.paths(folder)[1] for segment in segments(folder)]
     with subprocess.Popen(["cat", "/dev/null", *replies], stdout=subprocess.PIPE) as given:
@@ -61,10 +72,17 @@ def carried(folder: pathlib.Path) -> str:
         raise Ended(Status.NO, f"nothing can be carried over: {said(ran)}")
     path, left = folder / "next.commands", ran.stderr.decode().splitlines()
     files.write(path, ran.stdout)
-    return "\n".join([f"{path} has {ran.stdout.count(NEW_LINE)} lines; {len(left)} things are left behind", *left])
+    return "\n".join(
+        [
+            f"{path} has {ran.stdout.count(NEW_LINE)} lines; {len(left)} things are left behind",
+            *left,
+        ]
+    )
 
 
-def end_day(folder: pathlib.Path, store: Store, copies: pathlib.Path, program: pathlib.Path) -> None:
+def end_day(
+    folder: pathlib.Path, store: Store, copies: pathlib.Path, program: pathlib.Path
+) -> None:
     last: Segment = write_new(folder, store, SIZE)
     print("journal:", verify(folder), flush=True)
     head = last.head.encode()

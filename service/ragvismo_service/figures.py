@@ -1,4 +1,5 @@
-"""What the answers of an exchange tell of its orders, of its house, and of how much of its limits is used."""
+"""What the answers of an exchange tell of its orders, of its house, and of how much of its limits
+is used."""
 
 from __future__ import annotations
 
@@ -27,7 +28,8 @@ Reply = dict[str, Any]
 
 
 def cash_of(order: Reply, fill: str) -> int:
-    """What an account gets at a clear in whole ticks, below 0 where it pays: rounded for the house."""
+    """What an account gets at a clear in whole ticks, below 0 where it pays: rounded for the
+    house."""
     numerator, _, denominator = fill.partition("/")
     price = -order["price"] if order["side"] == "buy" else order["price"]
     return int(numerator) * int(price) // int(denominator or 1)
@@ -55,11 +57,14 @@ class Figures:
         }
 
     def take(self, answered: Answered) -> Reply | None:
-        """Takes an answer, and tells its reply where it is one that was not taken before; Ended where it is none."""
+        """Takes an answer, and tells its reply where it is one that was not taken before; Ended
+        where it is none."""
         try:
             return self._take(answered)
         except FAULTS:
-            raise Ended(Status.FORGED, f"NO SEQUENCER WROTE the answer under {answered.entry.id.decode()}") from None
+            raise Ended(
+                Status.FORGED, f"NO SEQUENCER WROTE the answer under {answered.entry.id.decode()}"
+            ) from None
 
     def _take(self, answered: Answered) -> Reply | None:
         entry, answer = answered.entry, answer_of(answered.entry.id, answered.answer)
@@ -72,7 +77,9 @@ class Figures:
         self.line = reply["line"]
         self.sessions.add(answer["session"])
         self.used["sessions"] = len(self.sessions)
-        self.used["messages_of_a_session"] = max(self.used["messages_of_a_session"], answer["number"])
+        self.used["messages_of_a_session"] = max(
+            self.used["messages_of_a_session"], answer["number"]
+        )
         if take := self.takes.get(reply["reply"]):
             take(reply, entry.text.decode("latin-1").split(",")[2:])
             self.used["live_orders_of_a_market"] = max(self.live_of.values(), default=0)

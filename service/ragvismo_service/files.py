@@ -1,4 +1,5 @@
-"""Files that stand once they are told of: on the disk, with their folders, and written by one process at a time."""
+"""Files that stand once they are told of: on the disk, with their folders, and written by one
+process at a time."""
 
 from __future__ import annotations
 
@@ -64,7 +65,8 @@ def mend(path: pathlib.Path) -> None:
 
 
 def lock(folder: pathlib.Path, patience: float = 0) -> BinaryIO:
-    """A lock on a folder, which whoever has the file open holds; Ended where another one holds it for all of patience."""
+    """A lock on a folder, which whoever has the file open holds; Ended where another one holds it
+    for all of patience."""
     make(folder)
     file, until = open(folder / "lock", "ab"), time.monotonic() + patience
     while True:

@@ -15,8 +15,8 @@ from ragvismo_service.streams import counts
 
 
 class State(NamedTuple):
-    """How many entries there are, how many are not answered, how long the oldest of them has waited in seconds, and how many
-    sequencers are connected."""
+    """How many entries there are, how many are not answered, how long the oldest of them has waited
+    in seconds, and how many sequencers are connected."""
 
     entries: int
     lag: int
@@ -25,10 +25,15 @@ class State(NamedTuple):
 
 
 class Follower:
-    """Gives each answer to `take`, with whether it came while this runs; the chain of sums is checked."""
+    """Gives each answer to `take`, with whether it came while this runs; the chain of sums is
+    checked."""
 
     def __init__(
-        self, store: Store, take: Callable[[Answered, bool], None], since: bytes = START_ID, head: bytes = FIRST_HEAD
+        self,
+        store: Store,
+        take: Callable[[Answered, bool], None],
+        since: bytes = START_ID,
+        head: bytes = FIRST_HEAD,
     ) -> None:
         self.store, self.take, self.history = store, take, History(store, since, head)
 
@@ -47,13 +52,17 @@ class Follower:
         until, answers = time.monotonic() + seconds, self.history.keys.answers
         while (left := until - time.monotonic()) > 0:
             block = b"%d" % max(1, min(1000, int(left * 1000)))
-            self.store.say(b"XREAD", b"COUNT", b"1", b"BLOCK", block, b"STREAMS", answers, self.history.since)
+            self.store.say(
+                b"XREAD", b"COUNT", b"1", b"BLOCK", block, b"STREAMS", answers, self.history.since
+            )
             self.read_on(True)
 
     def state(self) -> State:
         """How the log is; Ended where entries were taken out."""
         appended, answered = counts(self.store, self.history.keys)
-        return State(appended.length, appended.length - answered.length, self._waited(), self._sequencers())
+        return State(
+            appended.length, appended.length - answered.length, self._waited(), self._sequencers()
+        )
 
     def _waited(self) -> float:
         waiting = self.history.entries

@@ -14,34 +14,45 @@ from ragvismo_service.streams import Pages, counts
 
 
 class History:
-    """Reads what was answered after an id, under which a head of the chain stands, to another one."""
+    """Reads what was answered after an id, under which a head of the chain stands, to another
+    one."""
 
     def __init__(
-        self, store: Store, since: bytes = START_ID, head: bytes = FIRST_HEAD, until: bytes = GREATEST_ID
+        self,
+        store: Store,
+        since: bytes = START_ID,
+        head: bytes = FIRST_HEAD,
+        until: bytes = GREATEST_ID,
     ) -> None:
         self.store, self.since, self.head, self.count = store, since, head, 0
         self.keys = keys = Keys.of(store.place.name)
         # The answers are read first: their entries are there then.
-        self.streams = Pages(store, keys.answers, since, until), Pages(store, keys.taken, since, until)
+        self.streams = Pages(store, keys.answers, since, until), Pages(
+            store, keys.taken, since, until
+        )
         # What was read and is not paired yet.
         self.told: list[RawEntry] = []
         self.entries: list[RawEntry] = []
 
     def begin(self) -> None:
-        """Ended where entries or answers were taken out, or the answer to begin after is not there."""
+        """Ended where entries or answers were taken out, or the answer to begin after is not
+        there."""
         counts(self.store, self.keys)
         if self.since == START_ID:
             return
-        place, found = self.store.place, self.store.say(b"XRANGE", self.keys.answers, self.since, self.since)
+        place, found = self.store.place, self.store.say(
+            b"XRANGE", self.keys.answers, self.since, self.since
+        )
         if not found:
-            said = f"{place} has no answer under {self.since.decode()}: it is another exchange, or lost its end"
-            raise Ended(Status.LOST, said)
+            said = f"{place} has no answer under {self.since.decode()}"
+            raise Ended(Status.LOST, f"{said}: it is another exchange, or lost its end")
         if Told.of(found[0]).head != self.head:
-            said = f"{place} has another sum under {self.since.decode()}: it is another exchange, or was changed"
-            raise Ended(Status.CHANGED, said)
+            said = f"{place} has another sum under {self.since.decode()}"
+            raise Ended(Status.CHANGED, f"{said}: it is another exchange, or was changed")
 
     def pages(self) -> Iterator[list[Answered]]:
-        """What was answered, page by page, to the last answer that there is; Ended where the chain does not hold."""
+        """What was answered, page by page, to the last answer that there is; Ended where the chain
+        does not hold."""
         while self._read_on():
             yield self._answered(*self._taken())
 
@@ -49,13 +60,18 @@ class History:
         """The heads beside the answers, page by page, likewise; it takes half the time."""
         while self._read_on():
             entries, told = self._taken()
-            heads = heads_of(self.head, entries, told) or [it.head for it in self._answered(entries, told)]
+            heads = heads_of(self.head, entries, told) or [
+                it.head for it in self._answered(entries, told)
+            ]
             self.head = heads[-1]
             yield heads
 
     def _read_on(self) -> bool:
-        """Reads from the streams of which nothing is left, and says whether there are more answers."""
-        empty = [stream for stream, left in zip(self.streams, (self.told, self.entries)) if not left]
+        """Reads from the streams of which nothing is left, and says whether there are more
+        answers."""
+        empty = [
+            stream for stream, left in zip(self.streams, (self.told, self.entries)) if not left
+        ]
         pages = self.store.ask(lambda: [stream.command() for stream in empty])
         for stream, page in zip(empty, pages):
             stream.take(page)
@@ -64,8 +80,8 @@ class History:
             else:
                 self.told = page
         if self.told and not self.entries:
-            said = f"NO ENTRY has the id {Told.of(self.told[0]).id.decode()}, under which an answer stands"
-            raise Ended(Status.FORGED, said)
+            id = Told.of(self.told[0]).id.decode()
+            raise Ended(Status.FORGED, f"NO ENTRY has the id {id}, under which an answer stands")
         return bool(self.told)
 
     def _taken(self) -> tuple[list[RawEntry], list[RawEntry]]:
@@ -77,14 +93,19 @@ class History:
         return taken
 
     def _answered(self, entries: list[RawEntry], told: list[RawEntry]) -> list[Answered]:
-        return [self._next(Entry.of(entry), Told.of(answer)) for entry, answer in zip(entries, told)]
+        return [
+            self._next(Entry.of(entry), Told.of(answer)) for entry, answer in zip(entries, told)
+        ]
 
     def _next(self, entry: Entry, told: Told) -> Answered:
         """The next entry with its answer; the head follows from both, or it is Ended."""
         if entry.id != told.id:
-            said = f"AN ANSWER STANDS under {told.id.decode()}, and the next entry is {entry.id.decode()}"
-            raise Ended(Status.FORGED, said)
+            said = f"AN ANSWER STANDS under {told.id.decode()}"
+            raise Ended(Status.FORGED, f"{said}, and the next entry is {entry.id.decode()}")
         self.head = head_after(self.head, entry.line(), told.answer)
         if self.head != told.head:
-            raise Ended(Status.CHANGED, f"THE LOG WAS CHANGED at {told.id.decode()}, or the sum beside its answer")
+            raise Ended(
+                Status.CHANGED,
+                f"THE LOG WAS CHANGED at {told.id.decode()}, or the sum beside its answer",
+            )
         return Answered(entry, told.answer, self.head)

@@ -3,18 +3,18 @@
     service/journal FOLDER [--at PLACE] [--size BYTES]
     service/journal FOLDER --verify
 
-A call writes what was answered since the last one as segments, each of one day (UTC, by the ids) and of --size bytes
-(67108864, if not given) and one entry at most. NNNNNN.messages has a line for each entry, ID,SESSION,NUMBER,BODY, the ID
-beginning with its time in milliseconds; for one that is no message ID!REASON,SHA256. NNNNNN.replies has what the program
-answered, as `audit` judges it, so
+A call writes what was answered since the last one as segments, each of one day (UTC, by the ids)
+and of --size bytes (67108864, if not given) and one entry at most. NNNNNN.messages has a line for
+each entry, ID,SESSION,NUMBER,BODY, the ID beginning with its time in milliseconds; for one that is
+no message ID!REASON,SHA256. NNNNNN.replies has what the program answered, as `audit` judges it, so
     sed -n 's/^[0-9-]*,//p' FOLDER/*.messages | exchange serve sessions
-writes the bytes of all of them (LC_ALL=C; the answer to an entry that is no message follows from its line). FOLDER/segments
-has a line for each segment, with the sums of its files, the head of the chain, and the sum of the line before. What is not
-told there does not count and is written anew. The files follow from the log alone: calls at the same moments write the same
-bytes on any machine.
+writes the bytes of all of them (LC_ALL=C; the answer to an entry that is no message follows from
+its line). FOLDER/segments has a line for each segment, with the sums of its files, the head of the
+chain, and the sum of the line before. What is not told there does not count and is written anew.
+The files follow from the log alone: calls at the same moments write the same bytes on any machine.
 
---verify tells whether a segment is missing or changed, by the sums and by the chain, and the last head. Keep that elsewhere
-or sign it, since nothing else tells that all were made anew.
+--verify tells whether a segment is missing or changed, by the sums and by the chain, and the last
+head. Keep that elsewhere or sign it, since nothing else tells that all were made anew.
 
 It ends with 0, or with one line on standard error and status
 """
@@ -70,7 +70,8 @@ class Journal:
 
 
 def write_new(folder: pathlib.Path, store: Store, size: int) -> Segment:
-    """Writes the segments of all that was answered since the last of them, and tells the last one."""
+    """Writes the segments of all that was answered since the last of them, and tells the last
+    one."""
     with files.lock(folder):
         journal = Journal(folder, size)
         history = History(store, journal.last.last.encode(), journal.last.head.encode())

@@ -1,7 +1,7 @@
 """What stands in the two streams: messages and their answers, and what is none of these.
 
-Clients append to NAME:in, with the fields session, number and body. NAME:out has the answer to each entry under the same id,
-in the field answer, and beside it in chain the head of the chain of sums.
+Clients append to NAME:in, with the fields session, number and body. NAME:out has the answer to each
+entry under the same id, in the field answer, and beside it in chain the head of the chain of sums.
 """
 
 from __future__ import annotations
@@ -38,11 +38,14 @@ def fault_of(session: bytes, number: bytes, body: bytes) -> Fault | None:
 
 def malformed(id: bytes, fault: str) -> bytes:
     """The answer to an entry that is no message."""
-    return json.dumps({"entry": id.decode(), "reason": fault, "reply": "service"}, separators=(",", ":")).encode()
+    return json.dumps(
+        {"entry": id.decode(), "reason": fault, "reply": "service"}, separators=(",", ":")
+    ).encode()
 
 
 class Entry(NamedTuple):
-    """An entry of NAME:in; its text is the message's, or where it is none the SHA-256 of its fields in hexadecimal."""
+    """An entry of NAME:in; its text is the message's, or where it is none the SHA-256 of its fields
+    in hexadecimal."""
 
     id: bytes
     text: bytes
@@ -63,7 +66,8 @@ class Entry(NamedTuple):
         return Entry(id, b"%b,%b,%b" % (session, number, body), None)
 
     def line(self) -> bytes:
-        """The entry as the chain and the journal tell it: ID,SESSION,NUMBER,BODY or ID!FAULT,SHA256."""
+        """The entry as the chain and the journal tell it: ID,SESSION,NUMBER,BODY or
+        ID!FAULT,SHA256."""
         if self.fault is None:
             return b"%b,%b" % (self.id, self.text)
         return b"%b!%b,%b" % (self.id, self.fault.encode(), self.text)
@@ -90,7 +94,10 @@ class Told(NamedTuple):
         """The answer that an entry tells; Ended where no sequencer writes such an entry."""
         id, fields = raw
         if fields[::2] != TOLD or len(fields) != 4 or b"\n" in fields[1]:
-            raise Ended(Status.FORGED, f"NO SEQUENCER WROTE what stands under {id.decode()} among the answers")
+            raise Ended(
+                Status.FORGED,
+                f"NO SEQUENCER WROTE what stands under {id.decode()} among the answers",
+            )
         return Told(id, fields[1], fields[3])
 
 
@@ -102,7 +109,9 @@ def answer_of(id: bytes, answer: bytes) -> dict[str, Any]:
             return told
     except (ValueError, KeyError, TypeError, AttributeError, RecursionError):
         pass
-    raise Ended(Status.FORGED, f"NO SEQUENCER WROTE the answer under {id.decode()}: it has no reply")
+    raise Ended(
+        Status.FORGED, f"NO SEQUENCER WROTE the answer under {id.decode()}: it has no reply"
+    )
 
 
 def reply_of(id: bytes, answer: bytes) -> dict[str, Any]:

@@ -2,11 +2,12 @@
 
     service/metrics [--at PLACE] [--listen HOST:PORT] [--every SECONDS]
 
-At http://HOST:PORT/metrics (127.0.0.1:9380, if not given) stand the entries, how many are not answered and how long the
-oldest has waited, the sequencers that are connected, replies, refusals by reason, clears by mark, the seconds from append to
-answer of all and of clears that came since this runs, live orders, the balance of the house, how much of each limit is used,
-and memory and copies of Redis. It reads the whole log, checks the chain of sums, and looks again every --every seconds (5).
-service/alerts.yml has rules that go with it.
+At http://HOST:PORT/metrics (127.0.0.1:9380, if not given) stand the entries, how many are not
+answered and how long the oldest has waited, the sequencers that are connected, replies, refusals by
+reason, clears by mark, the seconds from append to answer of all and of clears that came since this
+runs, live orders, the balance of the house, how much of each limit is used, and memory and copies
+of Redis. It reads the whole log, checks the chain of sums, and looks again every --every seconds
+(5). service/alerts.yml has rules that go with it.
 
 It runs until it is stopped, or ends with one line on standard error and status
 """
@@ -51,14 +52,20 @@ class Metrics:
     def __init__(self, store: Store) -> None:
         self.registry, self.figures = prometheus.CollectorRegistry(), Figures()
         self.store, self.follower = store, Follower(store, self.take)
-        self.gauges = {name: self.made(prometheus.Gauge, name, said) for name, said in GAUGES.items()}
-        self.limits = self.made(prometheus.Gauge, "limit_used_ratio", "How much of a limit is used, of 1", ["limit"])
+        self.gauges = {
+            name: self.made(prometheus.Gauge, name, said) for name, said in GAUGES.items()
+        }
+        self.limits = self.made(
+            prometheus.Gauge, "limit_used_ratio", "How much of a limit is used, of 1", ["limit"]
+        )
         self.replies = self.made(prometheus.Counter, "replies", "Replies, each once", ["reply"])
         self.refusals = self.made(prometheus.Counter, "refusals", "Refusals by reason", ["reason"])
         self.clears = self.made(prometheus.Counter, "clears", "Cleared batches by mark", ["mark"])
         said = "From append to answer, of what came since this runs"
         self.seconds = self.made(prometheus.Histogram, "answer_seconds", said, buckets=BUCKETS)
-        self.clear_seconds = self.made(prometheus.Histogram, "clear_seconds", f"{said}: clears", buckets=BUCKETS)
+        self.clear_seconds = self.made(
+            prometheus.Histogram, "clear_seconds", f"{said}: clears", buckets=BUCKETS
+        )
 
     def made(self, kind: Any, name: str, said: str, labels: Any = (), **more: Any) -> Any:
         return kind(f"ragvismo_{name}", said, labels, registry=self.registry, **more)
@@ -80,7 +87,11 @@ class Metrics:
     def look(self) -> None:
         """Takes how all is now; Ended where entries were taken out."""
         state = self.follower.state()
-        told = dict(line.split(":", 1) for line in self.store.say(b"INFO").decode().splitlines() if ":" in line)
+        told = dict(
+            line.split(":", 1)
+            for line in self.store.say(b"INFO").decode().splitlines()
+            if ":" in line
+        )
         values = {
             "entries": state.entries,
             "lag_entries": state.lag,
@@ -109,7 +120,9 @@ def run() -> None:
     try:
         prometheus.start_http_server(given.listen.port, given.listen.host, metrics.registry)
     except OSError as fault:
-        raise BadUse(f"cannot listen at {given.listen.host}:{given.listen.port}: {fault.strerror}") from None
+        raise BadUse(
+            f"cannot listen at {given.listen.host}:{given.listen.port}: {fault.strerror}"
+        ) from None
     ready()
     while True:
         metrics.follower.wait(given.every)

@@ -21,8 +21,8 @@ URL_PORT = 6379
 
 @dataclasses.dataclass(frozen=True)
 class Place:
-    """A Redis, who speaks to it, and the name of one of the exchanges in it. Where there are sentinels, the host is the name
-    of the group of Redis that they watch."""
+    """A Redis, who speaks to it, and the name of one of the exchanges in it. Where there are
+    sentinels, the host is the name of the group of Redis that they watch."""
 
     host: str = "127.0.0.1"
     port: int = URL_PORT
@@ -35,7 +35,8 @@ class Place:
 
     @staticmethod
     def of(text: str) -> Place:
-        """The place that a text tells, which leaves away what it likes of host, port and name; raises BadUse."""
+        """The place that a text tells, which leaves away what it likes of host, port and name;
+        raises BadUse."""
         parts = next((found for form in FORMS if (found := form.fullmatch(text))), None)
         if not parts:
             raise BadUse(f"{text} is no place: {FORM}; a password comes by --password FILE")
@@ -44,21 +45,25 @@ class Place:
         if not 0 < port < 65536:
             raise BadUse(f"{text} is no place: a port is 1 to 65535")
         is_secure, socket = told.get("scheme") == "rediss", told.get("socket", "")
-        return Place(host, port, told.get("name", Place.name), told.get("user", ""), is_secure, socket)
+        return Place(
+            host, port, told.get("name", Place.name), told.get("user", ""), is_secure, socket
+        )
 
     def __str__(self) -> str:
         user = f"{self.user}@" if self.user else ""
         if self.socket:
             return f"unix://{user}{self.socket}#{self.name}"
-        scheme = f"redis{'s' * self.is_secure}://" if user or self.is_secure or self.sentinels else ""
+        scheme = (
+            f"redis{'s' * self.is_secure}://" if user or self.is_secure or self.sentinels else ""
+        )
         host = f"[{self.host}]" if ":" in self.host else self.host
         return f"{scheme}{user}{host}:{self.port}/{self.name}"
 
 
 @dataclasses.dataclass(frozen=True)
 class Keys:
-    """The keys of an exchange: the stream of messages, that of answers, the sum of its program's file, and what is written
-    to see that another Redis has all."""
+    """The keys of an exchange: the stream of messages, that of answers, the sum of its program's
+    file, and what is written to see that another Redis has all."""
 
     taken: bytes
     answers: bytes

@@ -30,7 +30,8 @@ def opened(path: pathlib.Path) -> BufferedReader:
 
 
 class Program:
-    """The program `exchange serve sessions`, which answers each line with one; just the file whose sum is `digest` is run.
+    """The program `exchange serve sessions`, which answers each line with one; just the file whose
+    sum is `digest` is run.
 
     It ends with HANGS where for `patience` seconds it neither takes a byte nor answers.
     """
@@ -63,7 +64,9 @@ class Program:
         """The answers to lines, in order, in groups as they come."""
         left, given = len(lines), memoryview(b"".join(lines))
         while left:
-            ready, room, _ = select.select([self.stdout], [self.stdin] if given else [], [], self.patience)
+            ready, room, _ = select.select(
+                [self.stdout], [self.stdin] if given else [], [], self.patience
+            )
             if not ready and not room:
                 self.process.kill()
                 raise Ended(Status.HANGS, f"the program answered nothing for {self.patience:g} s")
@@ -77,7 +80,8 @@ class Program:
                 yield group
 
     def _give(self, text: memoryview) -> memoryview:
-        """Writes what the pipe has room for, and tells what is left; nothing is left for a program that ended."""
+        """Writes what the pipe has room for, and tells what is left; nothing is left for a program
+        that ended."""
         try:
             return text[self.stdin.write(text) or 0 :]
         except BrokenPipeError:
@@ -86,7 +90,9 @@ class Program:
     def _read(self) -> list[bytes]:
         """The answers that one piece of output ends."""
         if not (piece := os.read(self.stdout.fileno(), PIECE)):
-            raise Ended(Status.PROGRAM_ENDED, f"the program ended with status {self.process.wait()}")
+            raise Ended(
+                Status.PROGRAM_ENDED, f"the program ended with status {self.process.wait()}"
+            )
         if b"\n" not in piece:
             self.begun.append(piece)
             return []
@@ -100,7 +106,8 @@ class Program:
 
 
 class Replay:
-    """A program that is given the entries of a log from the first on, and the chain over its answers."""
+    """A program that is given the entries of a log from the first on, and the chain over its
+    answers."""
 
     def __init__(self, program: Program) -> None:
         self.program, self.head = program, FIRST_HEAD

@@ -8,10 +8,11 @@ from ragvismo_service.places import Keys
 from ragvismo_service.statuses import Ended, Status
 from ragvismo_service.store import Command
 
-# KEYS: out, program; ARGV: the stream of messages, the sum of the program, how many answers come before, the id of the last
-# of them, then ids, answers and heads in turn. Another sequencer may have appended the first of them; the script appends the
-# rest, all or nothing, and nothing where the log has lost the last of the entries. The stream of messages is none of the
-# keys, since who runs a script has to have the right to write to each of these.
+# KEYS: out, program; ARGV: the stream of messages, the sum of the program, how many answers come
+# before, the id of the last of them, then ids, answers and heads in turn. Another sequencer may
+# have appended the first of them; the script appends the rest, all or nothing, and nothing where
+# the log has lost the last of the entries. The stream of messages is none of the keys, since who
+# runs a script has to have the right to write to each of these.
 SCRIPT = b"""
 local stream, before, since = ARGV[1], ARGV[3], ARGV[4]
 if redis.call('GET', KEYS[2]) ~= ARGV[2] then return {'program', ''} end
@@ -20,7 +21,9 @@ if #redis.call('XRANGE', stream, last, last) == 0 then return {'lost', last} end
 local there = redis.call('XRANGE', KEYS[1], '(' .. since, '+', 'COUNT', many)
 for at, found in ipairs(there) do
     local id, of = ARGV[3 * at + 2], found[2]
-    if found[1] ~= id or #of ~= 4 or of[1] ~= 'answer' or of[3] ~= 'chain' then return {'forged', found[1]} end
+    if found[1] ~= id or #of ~= 4 or of[1] ~= 'answer' or of[3] ~= 'chain' then
+        return {'forged', found[1]}
+    end
     if of[2] ~= ARGV[3 * at + 3] then return {'differs', id} end
     if of[4] ~= ARGV[3 * at + 4] then return {'changed', id} end
 end
@@ -34,7 +37,10 @@ return {'published', last}
 FAULTS = {
     b"program": (Status.OTHER_PROGRAM, "the exchange was handed over to another program"),
     b"forged": (Status.FORGED, "NO SEQUENCER WROTE what stands under {id} among the answers"),
-    b"differs": (Status.DIFFERS, "ANOTHER ANSWER than this machine's stands under {id}: one machine is broken"),
+    b"differs": (
+        Status.DIFFERS,
+        "ANOTHER ANSWER than this machine's stands under {id}: one machine is broken",
+    ),
     b"changed": (Status.CHANGED, "THE LOG WAS CHANGED at {id}, or the sum beside its answer"),
     b"cut": (Status.CUT, "ANSWERS WERE TAKEN OUT before that to {id}"),
 }
@@ -55,7 +61,8 @@ class Publisher:
         return [b"EVAL", SCRIPT, b"2", answers, program, taken, *state, *words]
 
     def take(self, group: list[Answered], told: list[bytes]) -> Status:
-        """Takes what Redis said to the command: DONE, or LOST where the log has no such entry; else it is Ended."""
+        """Takes what Redis said to the command: DONE, or LOST where the log has no such entry; else
+        it is Ended."""
         if told[0] == b"lost":
             return Status.LOST
         if told[0] in FAULTS:

@@ -2,10 +2,10 @@
 
     service/rehearse PROGRAM [--at PLACE] [--switch]
 
-It publishes nothing, and checks the chain of sums. Where all answers are the same it says how many; at the first that is not
-it prints both. With --switch and no difference the exchange is then answered by PROGRAM: sequencers of any other end with
-status 6, and those that are started with PROGRAM go on. That step is taken only where the last answer is one that was
-compared.
+It publishes nothing, and checks the chain of sums. Where all answers are the same it says how many;
+at the first that is not it prints both. With --switch and no difference the exchange is then
+answered by PROGRAM: sequencers of any other end with status 6, and those that are started with
+PROGRAM go on. That step is taken only where the last answer is one that was compared.
 
 It ends with 0, or with status
 """
@@ -18,9 +18,17 @@ from ragvismo_service.statuses import Status, table
 from ragvismo_service.store import Store
 from ragvismo_service.words import Words, runnable, status_of, store_of
 
-OTHERS = Status.DONE, Status.DIFFERS, Status.OTHER_PROGRAM, Status.HELD, Status.LAGS, Status.FILE_FAULT
+OTHERS = (
+    Status.DONE,
+    Status.DIFFERS,
+    Status.OTHER_PROGRAM,
+    Status.HELD,
+    Status.LAGS,
+    Status.FILE_FAULT,
+)
 STATUSES = [status for status in Status if status not in OTHERS]
-# KEYS: program; ARGV: the stream of answers, the id of the last answer that was compared, or nothing, and the sum of the program.
+# KEYS: program; ARGV: the stream of answers, the id of the last answer that was compared, or
+# nothing, and the sum of the program.
 SWITCH = b"""
 local last = redis.call('XREVRANGE', ARGV[1], '+', '-', 'COUNT', 1)
 if (last[1] and last[1][1] or '0-0') ~= ARGV[2] then return 0 end
@@ -36,13 +44,15 @@ class Rehearsal:
         self.history, self.replay, self.count = History(store), Replay(program), 0
 
     def difference(self) -> str:
-        """The first answer of those that are left which the program answers otherwise; nothing where there is none."""
+        """The first answer of those that are left which the program answers otherwise; nothing
+        where there is none."""
         for page in self.history.pages():
             stands = iter(page)
             for group in self.replay.answers([it.entry for it in page]):
                 for computed, told in zip(group, stands):
                     if computed.answer != told.answer:
-                        return f"{told.entry.id.decode()} was answered {told.answer!r}, and PROGRAM answers {computed.answer!r}"
+                        id = told.entry.id.decode()
+                        return f"{id}: {told.answer!r}, and PROGRAM answers {computed.answer!r}"
                     self.count += 1
         return ""
 

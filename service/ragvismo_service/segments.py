@@ -18,8 +18,8 @@ FAULTS = {fault.encode(): fault for fault in Fault}
 
 
 class Segment(NamedTuple):
-    """What the line of a segment tells: its ids, how many entries it has, the sums of its files, the head of the chain after
-    its last answer, and the sum of the line before."""
+    """What the line of a segment tells: its ids, how many entries it has, the sums of its files,
+    the head of the chain after its last answer, and the sum of the line before."""
 
     number: int = 0
     first: str = ""
@@ -61,7 +61,9 @@ def segments(folder: pathlib.Path) -> Iterator[Segment]:
         except (ValueError, TypeError):
             stands = False
         if not stands:
-            raise Ended(Status.CHANGED, f"{path}: after segment {last.number} comes no line of the next one")
+            raise Ended(
+                Status.CHANGED, f"{path}: after segment {last.number} comes no line of the next one"
+            )
         yield segment
         last = segment
 
@@ -96,7 +98,8 @@ class OpenSegment:
         return self.messages.size + self.replies.size
 
     def take(self, answered: Answered) -> None:
-        """Takes an entry and its answer; that to one that is no message follows from it and is not kept."""
+        """Takes an entry and its answer; that to one that is no message follows from it and is not
+        kept."""
         self.messages.add(answered.entry.line() + b"\n")
         if answered.entry.fault is None:
             self.replies.add(answered.answer + b"\n")
@@ -106,13 +109,16 @@ class OpenSegment:
         messages, replies = self.messages.close(), self.replies.close()
         files.sync(self.folder)
         last, head = self.last.entry.id.decode(), self.last.head.decode()
-        segment = self.segment._replace(last=last, entries=self.entries, messages=messages, replies=replies, head=head)
+        segment = self.segment._replace(
+            last=last, entries=self.entries, messages=messages, replies=replies, head=head
+        )
         files.append(list_of(self.folder), segment.text())
         return segment
 
 
 def chain_through(segment: Segment, folder: pathlib.Path, head: bytes) -> bytes:
-    """The head of the chain after the files of a segment; Ended where they are not those that its line tells."""
+    """The head of the chain after the files of a segment; Ended where they are not those that its
+    line tells."""
     sums, (messages, replies) = (hashlib.sha256(), hashlib.sha256()), segment.paths(folder)
     for path in (messages, replies):
         if not path.exists():
@@ -130,7 +136,10 @@ def chain_through(segment: Segment, folder: pathlib.Path, head: bytes) -> bytes:
         if total.hexdigest() != told:
             raise Ended(Status.CHANGED, f"{path} was changed")
     if head.decode() != segment.head:
-        raise Ended(Status.CHANGED, f"the chain of sums does not hold in segment {segment.number} of {folder}")
+        raise Ended(
+            Status.CHANGED,
+            f"the chain of sums does not hold in segment {segment.number} of {folder}",
+        )
     return head
 
 

@@ -2,13 +2,14 @@
 
     service/sequencer [--at PLACE] [--program FILE] [--patience SECONDS]
 
-It reads the stream NAME:in from its first entry, gives each message to `exchange serve sessions`, and appends the answer to
-NAME:out under the id of the entry that it answers, with the head of the chain of sums. An entry that is no message never
-reaches the program; its answer is {"entry":ID,"reason":R,"reply":"service"}, R being Fields (other fields than session,
-number and body), Form (a line feed, or a comma in session or number) or Long (over 16,777,216 bytes as a line). Any number
-may run at once on any machines: each computes the same answers, and whoever is first publishes. It may be killed at any
-moment, and starts by reading again. With --sentinel it takes and answers just what another Redis has as well, so that one
-of them may be lost.
+It reads the stream NAME:in from its first entry, gives each message to `exchange serve sessions`,
+and appends the answer to NAME:out under the id of the entry that it answers, with the head of the
+chain of sums. An entry that is no message never reaches the program; its answer is
+{"entry":ID,"reason":R,"reply":"service"}, R being Fields (other fields than session, number and
+body), Form (a line feed, or a comma in session or number) or Long (over 16,777,216 bytes as a
+line). Any number may run at once on any machines: each computes the same answers, and whoever is
+first publishes. It may be killed at any moment, and starts by reading again. With --sentinel it
+takes and answers just what another Redis has as well, so that one of them may be lost.
 
 It runs until it is stopped, or ends with one line on standard error and status
 """
@@ -33,7 +34,8 @@ from ragvismo_service.words import Words, status_of, store_of
 WAIT = b"1000"
 OTHERS = Status.DONE, Status.NO, Status.HELD, Status.LAGS, Status.FILE_FAULT
 STATUSES = [status for status in Status if status not in OTHERS]
-AGAIN = f"A person has to look where it ends with {', '.join(map(str, sorted(NOT_AGAIN)))}; else it is started again."
+LOOKED_AT = ", ".join(map(str, sorted(NOT_AGAIN)))
+AGAIN = f"A person has to look where it ends with {LOOKED_AT}; else it is started again."
 
 
 class Sequencer:
@@ -41,8 +43,13 @@ class Sequencer:
 
     def __init__(self, store: Store, program: Program) -> None:
         self.store, self.keys, self.program = store, Keys.of(store.place.name), program
-        self.replay, self.publisher, self.size = Replay(program), Publisher(self.keys, program.digest), PageSize(store)
-        # How many entries were read, the id of the first and the whole last one; and whether more may be there already.
+        self.replay, self.publisher, self.size = (
+            Replay(program),
+            Publisher(self.keys, program.digest),
+            PageSize(store),
+        )
+        # How many entries were read, the id of the first and the whole last one; and whether more
+        # may be there already.
         self.count, self.first = 0, START_ID
         self.last: RawEntry | None = None
         self.reads_on = True
@@ -50,7 +57,9 @@ class Sequencer:
     def claim(self) -> None:
         """The first program that comes is the exchange's."""
         key, digest = self.keys.program, self.program.digest.encode()
-        _, claimed = self.store.ask(lambda: [[b"SET", key, digest, b"NX"], [b"GET", key]], kept=True)
+        _, claimed = self.store.ask(
+            lambda: [[b"SET", key, digest, b"NX"], [b"GET", key]], kept=True
+        )
         if claimed != digest:
             said = "the exchange is answered by another program; service/rehearse compares the two"
             raise Ended(Status.OTHER_PROGRAM, said)
@@ -60,23 +69,32 @@ class Sequencer:
         self.take_told(group, told)
 
     def take_told(self, group: list[Answered], told: list[bytes]) -> None:
-        """Takes what publishing was told; where an entry was lost it may be that entries were taken out."""
+        """Takes what publishing was told; where an entry was lost it may be that entries were taken
+        out."""
         if self.publisher.take(group, told) == Status.LOST:
             self.end_lost(group[-1].entry.id, "answered")
 
     def end_lost(self, id: bytes, done: str) -> NoReturn:
-        """An entry is not there: Redis lost the end of the log, or it was taken out, or there is another log."""
+        """An entry is not there: Redis lost the end of the log, or it was taken out, or there is
+        another log."""
         counts(self.store, self.keys)
         found = self.store.say(b"XRANGE", self.keys.taken, b"-", b"+", b"COUNT", b"1")
         if self.count and [id for id, _ in found] != [self.first]:
-            raise Ended(Status.CUT, f"THE LOG WAS TAKEN AWAY: its first entry is not {self.first.decode()} any more")
-        raise Ended(Status.LOST, f"the log no longer has entry {id.decode()}, which was {done}: start again")
+            raise Ended(
+                Status.CUT,
+                f"THE LOG WAS TAKEN AWAY: its first entry is not {self.first.decode()} any more",
+            )
+        raise Ended(
+            Status.LOST, f"the log no longer has entry {id.decode()}, which was {done}: start again"
+        )
 
     def commands(self, group: list[Answered]) -> list[Command]:
-        """What publishes answers, waits a second for an entry, and reads on from the last one read, in one round trip.
+        """What publishes answers, waits a second for an entry, and reads on from the last one read,
+        in one round trip.
 
-        XREAD waits, and XRANGE, which Redis runs when all that has come is done, reads from the last one read on: so entries
-        that come together are read together, and the log is seen to have that one still.
+        XREAD waits, and XRANGE, which Redis runs when all that has come is done, reads from the
+        last one read on: so entries that come together are read together, and the log is seen to
+        have that one still.
         """
         since, taken = self.last[0] if self.last else START_ID, self.keys.taken
         publish = [self.publisher.command(group)] if group else []
@@ -85,7 +103,8 @@ class Sequencer:
         return [*publish, *([] if self.reads_on else wait), [b"XINFO", b"STREAM", taken], read]
 
     def told(self, group: list[Answered]) -> list[Any]:
-        """What Redis says to these commands; one by one where its limit for all replies might be met."""
+        """What Redis says to these commands; one by one where its limit for all replies might be
+        met."""
         if self.size.entries() > 1:
             return self.store.ask(lambda: self.commands(group), kept=True)
         return [self.store.say(*command, kept=True) for command in self.commands(group)]
@@ -108,7 +127,8 @@ class Sequencer:
         return [Entry.of(raw) for raw in new]
 
     def take_page(self, group: list[Answered]) -> list[Answered]:
-        """Publishes answers and computes the next ones; those are told that are to be published with the next read."""
+        """Publishes answers and computes the next ones; those are told that are to be published
+        with the next read."""
         entries = self.read_on(group)
         if not entries:
             self.program.check()
@@ -123,7 +143,9 @@ class Sequencer:
     def run(self) -> None:
         self.claim()
         appended, answered = counts(self.store, self.keys)
-        logging.info("%s entries, %s of them answered: all are read again", appended.length, answered.length)
+        logging.info(
+            "%s entries, %s of them answered: all are read again", appended.length, answered.length
+        )
         since, group = time.monotonic(), list[Answered]()
         while self.reads_on:
             group = self.take_page(group)

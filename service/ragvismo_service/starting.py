@@ -2,12 +2,14 @@
 
     service/up [FOLDER] [--port N] [--program FILE]
 
-The log stands in FOLDER (ragvismo-log, if not given), so the next call with it goes on where this one ended. Redis listens on
-the loopback address alone, at port 6380 if not given, and writes each append to the disk before it tells of it. Its users
-are those of service/users, with their passwords in FOLDER. Redis and the sequencer end when this call does, whatever ended
-it; Redis holds the lock on FOLDER, so no other one writes there.
+The log stands in FOLDER (ragvismo-log, if not given), so the next call with it goes on where this
+one ended. Redis listens on the loopback address alone, at port 6380 if not given, and writes each
+append to the disk before it tells of it. Its users are those of service/users, with their passwords
+in FOLDER. Redis and the sequencer end when this call does, whatever ended it; Redis holds the lock
+on FOLDER, so no other one writes there.
 
-It ends when Redis ends, or when the sequencer does with a status at which a person has to look, which is told; or with
+It ends when Redis ends, or when the sequencer does with a status at which a person has to look,
+which is told; or with
 """
 
 from __future__ import annotations
@@ -37,7 +39,8 @@ STATUSES = Status.BAD_USE, Status.NO_REDIS, Status.HELD, Status.FILE_FAULT
 PR_SET_PDEATHSIG = 1
 # How long a Redis of a call before may take to end.
 ENDING = 5.0
-# The greatest answer, the greatest command, and the greatest reply of Redis: two answers and a page.
+# The greatest answer, the greatest command, and the greatest reply of Redis: two answers and a
+# page.
 ANSWER, COMMAND, REPLY = (megabytes << 20 for megabytes in (128, 136, 288))
 
 
@@ -57,10 +60,15 @@ def redis_words(folder: pathlib.Path, **more: object) -> list[str]:
         "logfile": "redis.log",
         **more,
     }
-    return ["redis-server", *(word for key, value in settings.items() for word in (f"--{key}", str(value)))]
+    return [
+        "redis-server",
+        *(word for key, value in settings.items() for word in (f"--{key}", str(value))),
+    ]
 
 
-def started(words: Sequence[str | pathlib.Path], handed_on: Sequence[BinaryIO] = ()) -> subprocess.Popen[bytes]:
+def started(
+    words: Sequence[str | pathlib.Path], handed_on: Sequence[BinaryIO] = ()
+) -> subprocess.Popen[bytes]:
     """A process that ends when this one does."""
     parent, system = os.getpid(), ctypes.CDLL(None)
 
@@ -69,11 +77,16 @@ def started(words: Sequence[str | pathlib.Path], handed_on: Sequence[BinaryIO] =
         if os.getppid() != parent:
             os._exit(Status.NO_REDIS)
 
-    return subprocess.Popen(words, pass_fds=[it.fileno() for it in handed_on], preexec_fn=end_with_parent)
+    return subprocess.Popen(
+        words, pass_fds=[it.fileno() for it in handed_on], preexec_fn=end_with_parent
+    )
 
 
 def ended(server: subprocess.Popen[bytes], folder: pathlib.Path) -> Ended:
-    return Ended(Status.NO_REDIS, f"Redis ended with status {server.returncode}; {folder / 'redis.log'} may say why")
+    return Ended(
+        Status.NO_REDIS,
+        f"Redis ended with status {server.returncode}; {folder / 'redis.log'} may say why",
+    )
 
 
 def wait_for(server: subprocess.Popen[bytes], store: Store, folder: pathlib.Path) -> None:
@@ -86,7 +99,9 @@ def wait_for(server: subprocess.Popen[bytes], store: Store, folder: pathlib.Path
         raise Ended(Status.NO_REDIS, f"at {store.place} is another Redis")
 
 
-def keep_up(server: subprocess.Popen[bytes], sequencer: list[str | pathlib.Path], folder: pathlib.Path) -> int:
+def keep_up(
+    server: subprocess.Popen[bytes], sequencer: list[str | pathlib.Path], folder: pathlib.Path
+) -> int:
     """Starts the sequencer again whenever it ends, until that does not help, or Redis ends."""
     running = started(sequencer)
     try:
@@ -94,7 +109,9 @@ def keep_up(server: subprocess.Popen[bytes], sequencer: list[str | pathlib.Path]
             if running.poll() in NOT_AGAIN:
                 return running.returncode
             if running.returncode is not None:
-                logging.info("the sequencer ended with status %s and is started again", running.returncode)
+                logging.info(
+                    "the sequencer ended with status %s and is started again", running.returncode
+                )
                 time.sleep(1)
                 running = started(sequencer)
             time.sleep(0.1)
@@ -106,7 +123,12 @@ def keep_up(server: subprocess.Popen[bytes], sequencer: list[str | pathlib.Path]
 
 def words_of(user: str, place: Place, folder: pathlib.Path) -> list[str]:
     """The words with which a tool is a user of the exchange at a port."""
-    return ["--at", f"redis://{user}@127.0.0.1:{place.port}", "--password", f"{folder / user}.password"]
+    return [
+        "--at",
+        f"redis://{user}@127.0.0.1:{place.port}",
+        "--password",
+        f"{folder / user}.password",
+    ]
 
 
 def port(text: str) -> Place:
@@ -118,7 +140,13 @@ def port(text: str) -> Place:
 
 def run() -> int:
     words = Words(f"{__doc__}{table(*STATUSES)}", is_placed=False)
-    words.add_argument("folder", metavar="FOLDER", type=pathlib.Path, nargs="?", default=pathlib.Path("ragvismo-log"))
+    words.add_argument(
+        "folder",
+        metavar="FOLDER",
+        type=pathlib.Path,
+        nargs="?",
+        default=pathlib.Path("ragvismo-log"),
+    )
     words.add_argument("--port", type=port, default="6380", metavar="N")
     words.add_program()
     given = words.parse_args()
@@ -130,11 +158,19 @@ def run() -> int:
         settings = {"port": given.port.port, "aclfile": users.write(folder)}
         server = started(redis_words(folder, **settings), [lock])
     try:
-        place = dataclasses.replace(given.port, user="watch", password=password(f"{folder}/watch.password"))
+        place = dataclasses.replace(
+            given.port, user="watch", password=password(f"{folder}/watch.password")
+        )
         wait_for(server, Store(place, given.patience, tool()), folder)
-        print("the exchange is up: service/client.py 1", *words_of("gateway", given.port, given.folder), flush=True)
+        print(
+            "the exchange is up: service/client.py 1",
+            *words_of("gateway", given.port, given.folder),
+            flush=True,
+        )
         more = ["--program", given.program, "--patience", str(given.patience)]
-        return keep_up(server, [SEQUENCER, *words_of("sequencer", given.port, folder), *more], folder)
+        return keep_up(
+            server, [SEQUENCER, *words_of("sequencer", given.port, folder), *more], folder
+        )
     finally:
         server.terminate()
         server.wait()

@@ -19,9 +19,18 @@ class Status(enum.IntEnum):
     DONE = 0, "all was done"
     NO = 1, "what was compared is not the same, or what was judged does not hold"
     BAD_USE = 2, "bad use"
-    NO_REDIS = 3, "no Redis answered for --patience seconds, or it refused, as when its memory is full"
-    LOST = 4, "the log no longer has what was read from it: Redis lost its last entries, or is another one"
-    DIFFERS = 5, "ANOTHER ANSWER stands under an id than this machine computed: one of the machines is broken"
+    NO_REDIS = (
+        3,
+        "no Redis answered for --patience seconds, or it refused, as when its memory is full",
+    )
+    LOST = (
+        4,
+        "the log no longer has what was read from it: it lost its last entries, or is another one",
+    )
+    DIFFERS = (
+        5,
+        "ANOTHER ANSWER stands under an id than this machine computed: one of them is broken",
+    )
     OTHER_PROGRAM = 6, "the exchange is answered by another program"
     PROGRAM_ENDED = 7, "the program ended, or answered more than it was asked"
     CUT = 8, "ENTRIES WERE TAKEN OUT of a stream (XTRIM, XDEL, MAXLEN)"
@@ -34,7 +43,16 @@ class Status(enum.IntEnum):
 
 
 # Starting again does not help: a person has to look.
-NOT_AGAIN = frozenset((Status.BAD_USE, Status.DIFFERS, Status.OTHER_PROGRAM, Status.CUT, Status.FORGED, Status.CHANGED))
+NOT_AGAIN = frozenset(
+    (
+        Status.BAD_USE,
+        Status.DIFFERS,
+        Status.OTHER_PROGRAM,
+        Status.CUT,
+        Status.FORGED,
+        Status.CHANGED,
+    )
+)
 
 
 class Ended(Exception):

@@ -16,13 +16,16 @@ from ragvismo_service.watchdog import alive
 
 Command = list[bytes]
 PAUSE = 0.1
-# How long to wait until another Redis has what was written, in milliseconds, before all is asked again.
+# How long to wait until another Redis has what was written, in milliseconds, before all is asked
+# again.
 COPY = b"1000"
 
 
 def packed(words: Command) -> bytes:
     """A command as it goes to Redis; that of redis-py takes five times as long."""
-    return b"*%d\r\n" % len(words) + b"".join([b"$%d\r\n%b\r\n" % (len(word), word) for word in words])
+    return b"*%d\r\n" % len(words) + b"".join(
+        [b"$%d\r\n%b\r\n" % (len(word), word) for word in words]
+    )
 
 
 class Store:
@@ -33,18 +36,23 @@ class Store:
         self.pool = pool_of(place, tool)
         # What has a Redis write, and tell how many others have all that it had then.
         copied = Keys.of(place.name).copied
-        self.copy: list[Command] = [[b"SET", copied, b"1"], [b"WAIT", b"1", COPY]] if place.sentinels else []
+        self.copy: list[Command] = (
+            [[b"SET", copied, b"1"], [b"WAIT", b"1", COPY]] if place.sentinels else []
+        )
         self.connection: Any = None
 
     def ask(self, commands: Callable[[], list[Command]], kept: bool = False) -> list[Any]:
-        """What Redis says to commands that are sent together; they are made and sent anew while it is away, for as long as
-        patience lasts, so they must do no harm twice. What is said of a key that is not there is None. Where sentinels watch
-        and it is to be `kept`, another Redis has all that they read and wrote, and so it outlasts the one that was asked.
+        """What Redis says to commands that are sent together; they are made and sent anew while it
+        is away, for as long as patience lasts, so they must do no harm twice. What is said of a key
+        that is not there is None. Where sentinels watch and it is to be `kept`, another Redis has
+        all that they read and wrote, and so it outlasts the one that was asked.
         """
         since: float | None = None
         while True:
             try:
-                told = self._ask_kept(commands()) if kept and self.copy else self._ask_once(commands())
+                told = (
+                    self._ask_kept(commands()) if kept and self.copy else self._ask_once(commands())
+                )
                 if since is not None:
                     logging.info("Redis answers again after %.1f s", time.monotonic() - since)
                 alive()
@@ -61,7 +69,9 @@ class Store:
             self.connection.disconnect()
         if since is None:
             since = time.monotonic()
-            logging.info("no Redis answers at %s, asked again for %g s: %s", self.place, self.patience, fault)
+            logging.info(
+                "no Redis answers at %s, asked again for %g s: %s", self.place, self.patience, fault
+            )
         if time.monotonic() - since > self.patience:
             raise Ended(Status.NO_REDIS, f"no Redis answers: {fault}")
         alive()

@@ -1,4 +1,5 @@
-"""Reading streams: pages of so many bytes, and whether all entries that were ever added are there."""
+"""Reading streams: pages of so many bytes, and whether all entries that were ever added are
+there."""
 
 from __future__ import annotations
 
@@ -16,8 +17,9 @@ PAGE_BYTES, PAGE_ENTRIES = 1 << 20, 256
 
 
 class PageSize:
-    """How many entries to ask for. One at first and after a loss of the connection, with which Redis answers a page that is
-    above its limit for one reply; then as many as the last page lets expect to be of PAGE_BYTES."""
+    """How many entries to ask for. One at first and after a loss of the connection, with which
+    Redis answers a page that is above its limit for one reply; then as many as the last page lets
+    expect to be of PAGE_BYTES."""
 
     def __init__(self, store: Store) -> None:
         self.store, self.losses, self.count = store, store.losses, 1
@@ -65,11 +67,14 @@ class Counts(NamedTuple):
         """The counts that XINFO STREAM tells; None is a stream that is not there."""
         told = dict(zip(info[::2], info[1::2])) if info else {b"length": 0, b"entries-added": 0}
         if b"entries-added" not in told:
-            raise Ended(Status.NO_REDIS, "this Redis does not count what was added to a stream; 7.0 does")
+            raise Ended(
+                Status.NO_REDIS, "this Redis does not count what was added to a stream; 7.0 does"
+            )
         return Counts(told[b"length"], told[b"entries-added"])
 
     def whole(self, key: bytes, least: int = 0) -> Counts:
-        """The counts; Ended where entries were taken out, of all that were added or of as many as there were at least."""
+        """The counts; Ended where entries were taken out, of all that were added or of as many as
+        there were at least."""
         taken = max(self.added, least) - self.length
         if taken > 0:
             raise Ended(Status.CUT, f"{taken} ENTRIES WERE TAKEN OUT of {key.decode()}: restore it")
@@ -80,5 +85,7 @@ def counts(store: Store, keys: Keys) -> tuple[Counts, Counts]:
     """The counts of entries and of answers; Ended where some were taken out."""
     # The answers first: they never are more than the entries are then.
     answered = Counts.of(store.say(b"XINFO", b"STREAM", keys.answers)).whole(keys.answers)
-    appended = Counts.of(store.say(b"XINFO", b"STREAM", keys.taken)).whole(keys.taken, answered.length)
+    appended = Counts.of(store.say(b"XINFO", b"STREAM", keys.taken)).whole(
+        keys.taken, answered.length
+    )
     return appended, answered

@@ -2,9 +2,10 @@
 
     service/users FOLDER
 
-service/users.acl says who may do what. FOLDER/NAME.password has the password of each, made where there is none yet, for its
-tools (--at redis://NAME@HOST:PORT --password FOLDER/NAME.password); FOLDER/users.acl has the rights with the SHA-256 of the
-passwords, for Redis (aclfile). Only who runs this may read the passwords.
+service/users.acl says who may do what. FOLDER/NAME.password has the password of each, made where
+there is none yet, for its tools (--at redis://NAME@HOST:PORT --password FOLDER/NAME.password);
+FOLDER/users.acl has the rights with the SHA-256 of the passwords, for Redis (aclfile). Only who
+runs this may read the passwords.
 
 It ends with 0, or with one line on standard error and status
 """
@@ -34,7 +35,8 @@ class User(NamedTuple):
         return folder / f"{self.name}.password"
 
     def line(self, folder: pathlib.Path) -> str:
-        """The user as Redis reads it; one that is on has the password of the folder, which is made where there is none."""
+        """The user as Redis reads it; one that is on has the password of the folder, which is made
+        where there is none."""
         if not self.rights.startswith("on "):
             return f"user {self.name} {self.rights}\n"
         path = self.password_file(folder)
@@ -46,7 +48,11 @@ class User(NamedTuple):
 
 def users() -> list[User]:
     """All users that there are."""
-    lines = [line.split(maxsplit=2) for line in RIGHTS.read_text().splitlines() if not line.startswith("#")]
+    lines = [
+        line.split(maxsplit=2)
+        for line in RIGHTS.read_text().splitlines()
+        if not line.startswith("#")
+    ]
     return [User(name, rights) for _, name, rights in lines]
 
 

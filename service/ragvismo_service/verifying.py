@@ -2,10 +2,11 @@
 
     service/verify [--at PLACE] [--head SUM] [--jobs N]
 
-Each answer has a SHA-256 beside it, over the sum before, its entry and itself; so one that was changed, put in or taken out
-breaks the chain there. It says how many answers hold, and the last sum. Who can write to Redis can make the whole chain
-anew, but not with a sum that you keep elsewhere or signed: --head SUM asks whether that one is in the chain. The
-log is cut into parts, of which --jobs are checked at once, each from the sum that stands before it.
+Each answer has a SHA-256 beside it, over the sum before, its entry and itself; so one that was
+changed, put in or taken out breaks the chain there. It says how many answers hold, and the last
+sum. Who can write to Redis can make the whole chain anew, but not with a sum that you keep
+elsewhere or signed: --head SUM asks whether that one is in the chain. The log is cut into parts, of
+which --jobs are checked at once, each from the sum that stands before it.
 
 It ends with 0, or with one line on standard error and status
 """
@@ -50,7 +51,8 @@ class Part(NamedTuple):
 
 
 class Holds(NamedTuple):
-    """What holds of a part: so many answers, to an id and a sum; and whether the sum that was asked for is one of them."""
+    """What holds of a part: so many answers, to an id and a sum; and whether the sum that was asked
+    for is one of them."""
 
     answers: int
     last: bytes
@@ -63,7 +65,9 @@ WHOLE = Part(START_ID, FIRST_HEAD, GREATEST_ID)
 
 def parts(store: Store, keys: Keys, many: int) -> list[Part]:
     """Parts of the log of about the same time."""
-    [[first, _]], [[last, _]] = (store.say(word, keys.answers, *ends, b"COUNT", b"1") for word, *ends in ENDS)
+    [[first, _]], [[last, _]] = (
+        store.say(word, keys.answers, *ends, b"COUNT", b"1") for word, *ends in ENDS
+    )
     since, found = time_of(first), [(START_ID, FIRST_HEAD)]
     for at in range(1, many):
         moment = since + (time_of(last) - since) * at // many
@@ -96,7 +100,8 @@ class Verified(NamedTuple):
 
 
 def verified(store: Store, kept: bytes | None, jobs: int) -> Verified:
-    """What holds of a log, its parts being checked at once by so many; Ended where it does not, or a sum is not in it."""
+    """What holds of a log, its parts being checked at once by so many; Ended where it does not, or
+    a sum is not in it."""
     keys, place = Keys.of(store.place.name), store.place
     _, answered = counts(store, keys)
     cut = parts(store, keys, answered.length // LEAST) if answered.length >= 2 * LEAST else [WHOLE]
@@ -104,7 +109,9 @@ def verified(store: Store, kept: bytes | None, jobs: int) -> Verified:
         held = list(pool.map(functools.partial(check, place, store.patience, kept=kept), cut))
     count = sum(it.answers for it in held)
     if kept and kept != FIRST_HEAD and not any(it.is_there for it in held):
-        said = f"THE LOG WAS CHANGED: the sum {kept.decode()} is not in its chain of {count} answers"
+        said = (
+            f"THE LOG WAS CHANGED: the sum {kept.decode()} is not in its chain of {count} answers"
+        )
         raise Ended(Status.CHANGED, said)
     return Verified(count, held[-1].last, held[-1].head)
 

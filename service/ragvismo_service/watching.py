@@ -1,13 +1,15 @@
 """Prints how an exchange is doing, every few seconds.
 
-    service/watch [--at PLACE] [--every SECONDS] [--once] [--place FILE] [--most N] [--longest SECONDS]
+    service/watch [--at PLACE] [--every SECONDS] [--once] [--place FILE] [--most N]
+                  [--longest SECONDS]
 
-Of the whole log: entries, how many are not answered (the lag) and how long the oldest of them has waited, sequencers of this
-exchange that are connected, answers by kind, refusals by reason, and marks. Of the answers that came since it runs: the
-median and the greatest time from append to answer in milliseconds, of all and of clears (with the clock of this machine and
-of Redis). It checks the chain of sums as it reads. With --place it keeps in FILE how far it has come, and goes on from there
-the next time. With --most it ends as soon as more than N entries are not answered, with --longest as soon as one has waited
-longer.
+Of the whole log: entries, how many are not answered (the lag) and how long the oldest of them has
+waited, sequencers of this exchange that are connected, answers by kind, refusals by reason, and
+marks. Of the answers that came since it runs: the median and the greatest time from append to
+answer in milliseconds, of all and of clears (with the clock of this machine and of Redis). It
+checks the chain of sums as it reads. With --place it keeps in FILE how far it has come, and goes on
+from there the next time. With --most it ends as soon as more than N entries are not answered, with
+--longest as soon as one has waited longer.
 
 It runs until it is stopped, or ends with one line on standard error and status
 """
@@ -64,14 +66,20 @@ class Seen:
         for name, times in self.times.items():
             if times:
                 said.append(
-                    f"{name} {len(times)}: median {statistics.median(times):.0f} ms, greatest {max(times):.0f} ms"
+                    f"{name} {len(times)}: median {statistics.median(times):.0f} ms,"
+                    f" greatest {max(times):.0f} ms"
                 )
             times.clear()
         return "; ".join(said) or "no answers"
 
     def text(self) -> bytes:
         """How far it has come."""
-        told = {"last": self.last.decode(), "head": self.head.decode(), "count": self.count, "kinds": self.kinds}
+        told = {
+            "last": self.last.decode(),
+            "head": self.head.decode(),
+            "count": self.count,
+            "kinds": self.kinds,
+        }
         return json.dumps(told, separators=(",", ":")).encode() + b"\n"
 
     @staticmethod
@@ -81,7 +89,11 @@ class Seen:
         if path.exists():
             try:
                 told: dict[str, Any] = json.loads(path.read_bytes())
-                seen.last, seen.head, seen.count = told["last"].encode(), told["head"].encode(), int(told["count"])
+                seen.last, seen.head, seen.count = (
+                    told["last"].encode(),
+                    told["head"].encode(),
+                    int(told["count"]),
+                )
                 seen.kinds.update(told["kinds"])
             except (OSError, ValueError, KeyError, TypeError, AttributeError):
                 raise BadUse(f"{path} does not tell how far a watch has come") from None
@@ -101,7 +113,8 @@ class Watch:
         waits = f", the oldest for {state.waited:.1f} s" if state.lag and state.waited else ""
         kinds = ", ".join(f"{count} {kind}" for kind, count in sorted(self.seen.kinds.items()))
         self.lags = state.lag > self.most or state.waited > self.longest
-        return f"{state.entries} entries, {state.lag} not answered{waits}; {state.sequencers} sequencers; {kinds}"
+        lag = f"{state.entries} entries, {state.lag} not answered{waits}"
+        return f"{lag}; {state.sequencers} sequencers; {kinds}"
 
 
 def run() -> None:

@@ -24,7 +24,8 @@ def tool() -> str:
 
 
 def runnable(path: str) -> pathlib.Path:
-    """The program at a path, which says where it is and is not looked up among others; raises BadUse."""
+    """The program at a path, which says where it is and is not looked up among others; raises
+    BadUse."""
     if not os.path.isfile(path) or not os.access(path, os.X_OK):
         raise BadUse(f"there is no program {path}, which ./build makes")
     return pathlib.Path(path).absolute()
@@ -64,23 +65,41 @@ def store_of(given: argparse.Namespace) -> Store:
 class Words(argparse.ArgumentParser):
     """The words of a tool."""
 
-    def __init__(self, description: str | None, is_placed: bool = True, patience: float | None = 60) -> None:
-        super().__init__(description=description, formatter_class=argparse.RawDescriptionHelpFormatter)
+    def __init__(
+        self, description: str | None, is_placed: bool = True, patience: float | None = 60
+    ) -> None:
+        super().__init__(
+            description=description, formatter_class=argparse.RawDescriptionHelpFormatter
+        )
         if is_placed:
-            self.add_argument("--at", type=Place.of, default="6380", metavar="PLACE", help=f"{FORM} (6380)")
+            self.add_argument(
+                "--at", type=Place.of, default="6380", metavar="PLACE", help=f"{FORM} (6380)"
+            )
             secret = "a file, the first line of which is the password of USER"
             self.add_argument("--password", type=password, metavar="FILE", help=secret)
             watched = "one that knows which Redis of the group HOST is the master; once for each"
-            self.add_argument("--sentinel", type=Place.of, action="append", default=[], metavar="PLACE", help=watched)
-        how_long = f"how long Redis may be away, and the program may say nothing ({patience or 'for ever'})"
-        self.add_argument("--patience", type=seconds, default=patience, metavar="SECONDS", help=how_long)
+            self.add_argument(
+                "--sentinel",
+                type=Place.of,
+                action="append",
+                default=[],
+                metavar="PLACE",
+                help=watched,
+            )
+        long = patience or "for ever"
+        how_long = f"how long Redis may be away, and the program may say nothing ({long})"
+        self.add_argument(
+            "--patience", type=seconds, default=patience, metavar="SECONDS", help=how_long
+        )
 
     def error(self, message: str) -> NoReturn:
         raise BadUse(f"{message}; --help says more")
 
     def add_program(self) -> None:
         of_build = "the one that ./build makes, if not given"
-        self.add_argument("--program", type=runnable, default=str(PROGRAM), metavar="FILE", help=of_build)
+        self.add_argument(
+            "--program", type=runnable, default=str(PROGRAM), metavar="FILE", help=of_build
+        )
 
 
 def status_of(main: Callable[[], int | None]) -> int:

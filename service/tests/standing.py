@@ -1,4 +1,5 @@
-"""What the tests stand on: a Redis of its own for each, sequencers, clients, and a stand-in for the program."""
+"""What the tests stand on: a Redis of its own for each, sequencers, clients, and a stand-in for the
+program."""
 
 from __future__ import annotations
 
@@ -120,7 +121,11 @@ class Service(unittest.TestCase):
         }
 
     def redis_words(self) -> list[str]:
-        words = [word for key, value in self.redis_settings().items() for word in (f"--{key}", *str(value).split())]
+        words = [
+            word
+            for key, value in self.redis_settings().items()
+            for word in (f"--{key}", *str(value).split())
+        ]
         return ["redis-server", *words]
 
     def start_redis(self) -> None:
@@ -143,8 +148,16 @@ class Service(unittest.TestCase):
             self.assertLess(time.monotonic(), end, "it took too long")
             time.sleep(0.01)
 
-    def start_sequencer(self, program: pathlib.Path | None = None, *words: str) -> subprocess.Popen[str]:
-        command = [str(HERE / "sequencer"), *self.at, "--program", str(program or self.program), *words]
+    def start_sequencer(
+        self, program: pathlib.Path | None = None, *words: str
+    ) -> subprocess.Popen[str]:
+        command = [
+            str(HERE / "sequencer"),
+            *self.at,
+            "--program",
+            str(program or self.program),
+            *words,
+        ]
         self.sequencers.append(subprocess.Popen(command, stderr=subprocess.PIPE, text=True))
         return self.sequencers[-1]
 
@@ -168,7 +181,9 @@ class Service(unittest.TestCase):
 
     def entries(self) -> list[Entry]:
         told = self.redis.xrange("ragvismo:in")
-        return [Entry.of([id, [it for pair in fields.items() for it in pair]]) for id, fields in told]
+        return [
+            Entry.of([id, [it for pair in fields.items() for it in pair]]) for id, fields in told
+        ]
 
     def published(self) -> list[tuple[bytes, bytes]]:
         return [(id, fields[b"answer"]) for id, fields in self.redis.xrange("ragvismo:out")]
@@ -179,13 +194,17 @@ class Service(unittest.TestCase):
         lines = b"".join(entry.text + b"\n" for entry in entries if not entry.fault)
         ran = subprocess.run([self.program, "serve", "sessions"], input=lines, capture_output=True)
         answers = iter(ran.stdout.splitlines())
-        return [(entry.id, malformed(entry.id, entry.fault) if entry.fault else next(answers)) for entry in entries]
+        return [
+            (entry.id, malformed(entry.id, entry.fault) if entry.fault else next(answers))
+            for entry in entries
+        ]
 
     def all_answered(self) -> bool:
         return bool(self.redis.xlen("ragvismo:out") == self.redis.xlen("ragvismo:in"))
 
     def check(self, traders: list[Trader]) -> None:
-        """Each message counted once, each trader was told what stands in the log, and that is what one run answers."""
+        """Each message counted once, each trader was told what stands in the log, and that is what
+        one run answers."""
         self.until(self.all_answered)
         published = self.published()
         self.assertEqual(published, self.computed())
@@ -193,7 +212,9 @@ class Service(unittest.TestCase):
         for _, answer in published:
             told = json.loads(answer)
             if "of" in told:
-                self.assertEqual(first.setdefault((told["session"], told["number"]), told["of"]), told["of"])
+                self.assertEqual(
+                    first.setdefault((told["session"], told["number"]), told["of"]), told["of"]
+                )
         for trader in traders:
             told = [first[trader.session.session, number] for number, _ in trader.told]
             self.assertEqual(told, [of for _, of in trader.told])
@@ -222,7 +243,8 @@ class Service(unittest.TestCase):
 
 
 class Trader(threading.Thread):
-    """A client that also repeats messages and sends wrong numbers; it remembers what it was told."""
+    """A client that also repeats messages and sends wrong numbers; it remembers what it was
+    told."""
 
     def __init__(self, session: Session, messages: int, seed: int) -> None:
         super().__init__(daemon=True)
@@ -252,7 +274,9 @@ class Trader(threading.Thread):
                     again = self.session.answer(number, body)["of"]
                     assert again == self.told[-1][1], again
                 if self.random.random() < 0.05:
-                    wrong = self.session.answer(number + self.random.choice((-1, 0, 2)), "balance,0,wrong")
+                    wrong = self.session.answer(
+                        number + self.random.choice((-1, 0, 2)), "balance,0,wrong"
+                    )
                     assert wrong.get("reply") == "gate", wrong
         except Exception as fault:
             self.fault = fault

@@ -50,18 +50,28 @@ class Copies(Service):
         self.assertEqual(told.exception.status, Status.CUT)
 
     def test_redis_that_gives_no_copy(self) -> None:
-        self.redis.acl_setuser("me", enabled=True, nopass=True, keys=["*"], commands=["+ping", "+client"])
+        self.redis.acl_setuser(
+            "me", enabled=True, nopass=True, keys=["*"], commands=["+ping", "+client"]
+        )
         with self.assertRaisesRegex(Ended, "Redis gave no copy|Redis refuses"):
-            backups.made(Store(self.place.of(f"redis://me@127.0.0.1:{self.port}"), 5, "test"), self.copy, FIRST_HEAD)
+            backups.made(
+                Store(self.place.of(f"redis://me@127.0.0.1:{self.port}"), 5, "test"),
+                self.copy,
+                FIRST_HEAD,
+            )
 
 
 class DayEnd(Service):
     def unit(self) -> list[str]:
         """What the unit of the night calls."""
         text = (HERE / "systemd/ragvismo-day-end@.service").read_text()
-        [line] = [line.partition("=")[2] for line in text.splitlines() if line.startswith("ExecStart=")]
+        [line] = [
+            line.partition("=")[2] for line in text.splitlines() if line.startswith("ExecStart=")
+        ]
         return shlex.split(
-            line.replace("/opt/ragvismo", str(HERE.parent)).replace("/var/lib/ragvismo", str(self.folder))
+            line.replace("/opt/ragvismo", str(HERE.parent)).replace(
+                "/var/lib/ragvismo", str(self.folder)
+            )
         )
 
     def end_day(self, *words: object) -> subprocess.CompletedProcess[str]:
@@ -77,7 +87,8 @@ class DayEnd(Service):
             self.skipTest("the program or GNU parallel is missing")
 
     def test_days(self) -> None:
-        """An empty exchange, then one with proposals, repeats and an entry that is no message; its copy goes on by itself."""
+        """An empty exchange, then one with proposals, repeats and an entry that is no message; its
+        copy goes on by itself."""
         self.assertEqual(self.end_day().returncode, 0)
         self.start_sequencer()
         session = self.session(7)
@@ -96,12 +107,23 @@ class DayEnd(Service):
 
     def goes_on(self, copy: pathlib.Path, number: int) -> None:
         """An exchange that is started from a copy answers the next message."""
-        words = [str(HERE / "up"), str(copy), "--port", str(free_port()), "--program", str(self.program)]
-        with subprocess.Popen(words, stdout=subprocess.PIPE, stderr=subprocess.DEVNULL, text=True) as up:
+        words = [
+            str(HERE / "up"),
+            str(copy),
+            "--port",
+            str(free_port()),
+            "--program",
+            str(self.program),
+        ]
+        with subprocess.Popen(
+            words, stdout=subprocess.PIPE, stderr=subprocess.DEVNULL, text=True
+        ) as up:
             assert up.stdout
             client = up.stdout.readline().partition(": ")[2].split()
             client[client.index("1")] = "7"
-            ran = subprocess.run(client, input="balance,0\n", capture_output=True, text=True, cwd=HERE.parent)
+            ran = subprocess.run(
+                client, input="balance,0\n", capture_output=True, text=True, cwd=HERE.parent
+            )
             up.terminate()
         self.assertEqual(json.loads(ran.stdout)["line"], number, ran.stderr)
 
@@ -111,7 +133,11 @@ class DayEnd(Service):
         self.assertEqual(self.end_day().returncode, 0)
         (self.folder / "journal/000001.replies").write_text("{}\n")
         ran = self.end_day()
-        self.assertEqual((ran.returncode, ran.stdout, ran.stderr.count("\n")), (Status.CHANGED, "", 1), ran.stderr)
+        self.assertEqual(
+            (ran.returncode, ran.stdout, ran.stderr.count("\n")),
+            (Status.CHANGED, "", 1),
+            ran.stderr,
+        )
 
     def test_an_audit_that_says_no(self) -> None:
         self.start_sequencer()

@@ -25,7 +25,10 @@ class Ends(Service):
             self.append(body="open,1"): "Fields",
             self.append(session=7, number=1, body="x", more=1): "Fields",
             self.redis.execute_command(
-                "XADD", "ragvismo:in", "*", *("session", 7, "number", 1, "body", "open,5", "body", "open,6")
+                "XADD",
+                "ragvismo:in",
+                "*",
+                *("session", 7, "number", 1, "body", "open,5", "body", "open,6"),
             ): "Fields",
             self.append(session=7, number=1, body="open,1\nopen,2"): "Form",
             self.append(session="7,1", number=1, body="x"): "Form",
@@ -37,14 +40,19 @@ class Ends(Service):
         self.until(self.all_answered)
         published = dict(self.published())
         for id, reason in faults.items():
-            self.assertEqual(published[id], b'{"entry":"%b","reason":"%b","reply":"service"}' % (id, reason.encode()))
+            self.assertEqual(
+                published[id],
+                b'{"entry":"%b","reason":"%b","reply":"service"}' % (id, reason.encode()),
+            )
         kinds = [json.loads(answer) for answer in published.values()]
         self.assertEqual((kinds[-2]["reason"], kinds[-1]["of"]["line"]), ("Malformed", 2))
         self.assertRegex(self.tool("verify").stdout, "^9 answers hold, to ")
         self.assertEqual(self.tool("journal", self.folder / "journal").returncode, 0)
         [messages] = (self.folder / "journal").glob("*.messages")
         self.assertLess(messages.stat().st_size, 1000)
-        self.assertRegex(self.tool("journal", self.folder / "journal", "--verify").stdout, "^1 segments stand: ")
+        self.assertRegex(
+            self.tool("journal", self.folder / "journal", "--verify").stdout, "^1 segments stand: "
+        )
 
     def test_another_answer(self) -> None:
         id = self.append(session=7, number=1, body="open,1")
@@ -59,7 +67,9 @@ class Ends(Service):
         other = self.script("other", STAND_IN.replace('b"one"', 'b"two"'))
         self.ends(self.start_sequencer(other), Status.OTHER_PROGRAM, "another program")
         ran = self.tool("rehearse", other, "--switch")
-        self.assertEqual((ran.returncode, ran.stdout.splitlines()[0]), (1, "0 answers are the same"), ran.stderr)
+        self.assertEqual(
+            (ran.returncode, ran.stdout.splitlines()[0]), (1, "0 answers are the same"), ran.stderr
+        )
         same = self.script("same", f"#!/bin/sh\nexec {self.program} serve sessions\n")
         ran = self.tool("rehearse", same, "--switch")
         handed_over = "1 answers are the same\nthe exchange is answered by this program now\n"
@@ -71,33 +81,43 @@ class Ends(Service):
         self.assertEqual(self.published(), self.computed())
 
     def test_handing_over_while_answers_come(self) -> None:
-        """An answer that comes while the last is compared is compared too, before the exchange is handed over."""
+        """An answer that comes while the last is compared is compared too, before the exchange is
+        handed over."""
         self.start_sequencer()
         self.session(7).ask("open,1")
         waits = self.script(
-            "waits", f"#!/bin/sh\ntouch {self.folder}/asked\nsleep 2\nexec {self.program} serve sessions\n"
+            "waits",
+            f"#!/bin/sh\ntouch {self.folder}/asked\nsleep 2\nexec {self.program} serve sessions\n",
         )
         words = [str(HERE / "rehearse"), str(waits), "--at", str(self.port), "--switch"]
         with subprocess.Popen(words, stdout=subprocess.PIPE, text=True) as rehearsal:
             self.until((self.folder / "asked").exists)
             self.session(7, 2).ask("open,2")
             told = rehearsal.communicate(timeout=60)[0]
-        self.assertEqual(told, "2 answers are the same\nthe exchange is answered by this program now\n")
+        self.assertEqual(
+            told, "2 answers are the same\nthe exchange is answered by this program now\n"
+        )
 
     def test_the_program_that_is_named_is_run(self) -> None:
-        """`--program x` is the one here, though another x stands first on the path; and it is the file that is summed."""
+        """`--program x` is the one here, though another x stands first on the path; and it is the
+        file that is summed."""
         elsewhere = self.folder / "elsewhere"
         elsewhere.mkdir()
         (elsewhere / "x").write_text("#!/bin/sh\nexit 9\n")
         (elsewhere / "x").chmod(0o755)
         self.script(
-            "x", self.program.read_text() if not self.is_real else f"#!/bin/sh\nexec {self.program} serve sessions\n"
+            "x",
+            self.program.read_text()
+            if not self.is_real
+            else f"#!/bin/sh\nexec {self.program} serve sessions\n",
         )
         for number, name in enumerate(("x", "./x"), 1):
             command = [str(HERE / "sequencer"), "--at", f"{self.port}/{number}", "--program", name]
             path = {**os.environ, "PATH": f"{elsewhere}:{os.environ['PATH']}"}
             self.sequencers.append(
-                subprocess.Popen(command, cwd=self.folder, env=path, stderr=subprocess.PIPE, text=True)
+                subprocess.Popen(
+                    command, cwd=self.folder, env=path, stderr=subprocess.PIPE, text=True
+                )
             )
             Session(f"{self.port}/{number}", 7, 1).ask("open,1")
 
@@ -105,8 +125,12 @@ class Ends(Service):
         self.append(session=7, number=1, body="open,1")
         self.append(session=7, number=2, body="open,2")
         answer = '{"number":1,"of":{},"session":7}'
-        cut = self.script("cut", f"#!/bin/sh\nread line\necho '{answer}'\nprintf '{{\"numb'\nexit 70\n")
-        self.ends(self.start_sequencer(cut), Status.PROGRAM_ENDED, "the program ended with status 70")
+        cut = self.script(
+            "cut", f"#!/bin/sh\nread line\necho '{answer}'\nprintf '{{\"numb'\nexit 70\n"
+        )
+        self.ends(
+            self.start_sequencer(cut), Status.PROGRAM_ENDED, "the program ended with status 70"
+        )
         self.assertEqual(len(self.published()), 1)
 
     def test_the_program_answers_too_much(self) -> None:
@@ -127,8 +151,9 @@ class Ends(Service):
         self.until(self.all_answered)
         self.assertEqual(self.published(), self.computed())
 
-    def test_a_log_that_lost_its_end(self) -> None:
-        """The log is cut in the middle of an append that was answered, as at a crash without fsync."""
+    def lose_end(self, *more: str) -> None:
+        """The log is cut in the middle of an append that was answered, as at a crash without fsync,
+        and messages are appended before the sequencer looks again."""
         sequencer = self.start_sequencer()
         self.session(7).ask("open,1")
         os.kill(sequencer.pid, signal.SIGSTOP)
@@ -142,12 +167,19 @@ class Ends(Service):
         os.truncate(log, text.rindex(b"open,2") + 3)
         self.start_redis()
         self.assertEqual((self.redis.xlen("ragvismo:in"), self.redis.xlen("ragvismo:out")), (1, 1))
-        self.append(session=7, number=2, body="open,3")
+        for body in more:
+            self.append(session=7, number=2, body=body)
         os.kill(sequencer.pid, signal.SIGCONT)
         self.ends(sequencer, Status.LOST, "start again")
         self.start_sequencer()
         self.until(self.all_answered)
         self.assertEqual(self.published(), self.computed())
+
+    def test_a_log_that_lost_its_end(self) -> None:
+        self.lose_end()
+
+    def test_a_log_that_lost_its_end_and_went_on(self) -> None:
+        self.lose_end("open,3", "open,4")
 
     def test_a_cut_append(self) -> None:
         with socket.create_connection(("127.0.0.1", self.port)) as cut:
@@ -158,10 +190,16 @@ class Ends(Service):
         self.assertEqual(self.published(), self.computed())
 
     def test_a_full_disk(self) -> None:
-        """Redis ends where it cannot write, and nothing that it did not write is told or answered."""
+        """Redis ends where it cannot write, and nothing that it did not write is told or
+        answered."""
         self.stop_redis()
-        room = "import resource, os, sys; resource.setrlimit(resource.RLIMIT_FSIZE, (20000, 20000)); os.execvp(sys.argv[1], sys.argv[1:])"
-        self.server = subprocess.Popen([sys.executable, "-c", room, *self.redis_words()], restore_signals=False)
+        room = (
+            "import resource, os, sys; resource.setrlimit(resource.RLIMIT_FSIZE, (20000, 20000));"
+            "os.execvp(sys.argv[1], sys.argv[1:])"
+        )
+        self.server = subprocess.Popen(
+            [sys.executable, "-c", room, *self.redis_words()], restore_signals=False
+        )
         self.until(self.answers)
         sequencer, told = self.start_sequencer(None, "--patience", "1"), []
         try:
@@ -223,9 +261,15 @@ class Ends(Service):
     def test_statuses(self) -> None:
         """The units and the documents know the statuses."""
         unit = (HERE / "systemd/ragvismo-sequencer@.service").read_text()
-        [told] = [line.partition("=")[2] for line in unit.splitlines() if line.startswith("RestartPreventExitStatus")]
+        [told] = [
+            line.partition("=")[2]
+            for line in unit.splitlines()
+            if line.startswith("RestartPreventExitStatus")
+        ]
         self.assertEqual({int(it) for it in told.split()}, set(NOT_AGAIN))
         document = (HERE.parent / "docs/OPERATING.md").read_text()
-        known = {int(number): bold for bold, number in re.findall(r"(?m)^\| (\**)status (\d+)", document)}
+        known = {
+            int(number): bold for bold, number in re.findall(r"(?m)^\| (\**)status (\d+)", document)
+        }
         self.assertEqual(set(known), set(Status) - {Status.DONE, Status.NO})
         self.assertEqual({number for number, bold in known.items() if bold}, set(NOT_AGAIN))

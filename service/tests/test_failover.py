@@ -1,4 +1,5 @@
-"""Two Redis that sentinels watch: one takes the place of the other, and nothing that was answered is lost."""
+"""Two Redis that sentinels watch: one takes the place of the other, and nothing that was answered
+is lost."""
 
 from __future__ import annotations
 
@@ -19,7 +20,7 @@ from tests.standing import HERE, Given, Service, Trader, free_port
 
 GROUP = "ragvismo"
 # What the sentinel does every few seconds it does ten times a second here.
-SOON = "INFO-PERIOD 100 PING-PERIOD 100 PUBLISH-PERIOD 100 ASK-PERIOD 100 MIN-LINK-RECONNECT-PERIOD 100".split()
+SOON = [f"{what}-PERIOD 100" for what in ("INFO", "PING", "PUBLISH", "ASK", "MIN-LINK-RECONNECT")]
 
 
 def shipped(name: str) -> dict[str, object]:
@@ -37,7 +38,14 @@ class Failover(Service):
         self.ports, self.sentinel_port = [free_port(), free_port()], free_port()
         for port in self.ports:
             self.write_settings(port)
-            self.start_one(port, *(["--replicaof", "127.0.0.1", str(self.ports[0])] if port != self.ports[0] else []))
+            self.start_one(
+                port,
+                *(
+                    ["--replicaof", "127.0.0.1", str(self.ports[0])]
+                    if port != self.ports[0]
+                    else []
+                ),
+            )
         self.until(lambda: self.is_whole(self.ports[0]))
         self.start_sentinel()
         sentinels = (Place(port=self.sentinel_port),)
@@ -48,7 +56,9 @@ class Failover(Service):
         self.at += ["--password", f"{self.users}/sequencer.password"]
 
     def user(self, name: str, port: int = 0) -> Place:
-        return Place(port=port or self.port, user=name, password=password(f"{self.users / name}.password"))
+        return Place(
+            port=port or self.port, user=name, password=password(f"{self.users / name}.password")
+        )
 
     def write_settings(self, port: int) -> None:
         """The file of one Redis, in which a sentinel writes too."""
@@ -64,7 +74,9 @@ class Failover(Service):
             "masterauth": password(str(self.users / "replica.password")),
             "repl-diskless-sync-delay": 0,
         }
-        (own / "redis.conf").write_text("".join(f"{key} {value}\n" for key, value in settings.items()))
+        (own / "redis.conf").write_text(
+            "".join(f"{key} {value}\n" for key, value in settings.items())
+        )
 
     def start_one(self, port: int, *words: str) -> None:
         own = self.folder / str(port)
@@ -86,7 +98,7 @@ class Failover(Service):
         self.servers[self.sentinel_port] = subprocess.Popen(["redis-server", path, "--sentinel"])
         self.sentinel = redis.Redis(port=self.sentinel_port)
         self.until(self.sentinel_answers)
-        self.sentinel.execute_command("SENTINEL DEBUG", *SOON)
+        self.sentinel.execute_command("SENTINEL DEBUG", *" ".join(SOON).split())
 
     def sentinel_answers(self) -> bool:
         try:
@@ -108,7 +120,9 @@ class Failover(Service):
     def is_whole(self, port: int) -> bool:
         """Whether the Redis at a port is a master with a copy that has caught up."""
         try:
-            told = redis.Redis(connection_pool=pool_at(self.user("watch", port))).info("replication")
+            told = redis.Redis(connection_pool=pool_at(self.user("watch", port))).info(
+                "replication"
+            )
         except redis.RedisError:
             return False
         return bool(told["role"] == "master" and told.get("min_slaves_good_slaves") == 1)
@@ -127,7 +141,8 @@ class Failover(Service):
         self.assertEqual(self.published(), self.computed())
 
     def replace_master(self) -> None:
-        """Kills the master; the other takes its place, and it comes again, now and then as the master that it was."""
+        """Kills the master; the other takes its place, and it comes again, now and then as the
+        master that it was."""
         old = self.master()
         self.until(lambda: self.is_whole(old))
         time.sleep(self.random.uniform(0, 1))

@@ -1,4 +1,5 @@
-"""Messages while sequencers, programs and Redis are killed: each is answered once, with the answers of one run."""
+"""Messages while sequencers, programs and Redis are killed: each is answered once, with the answers
+of one run."""
 
 from __future__ import annotations
 
@@ -15,12 +16,16 @@ LONGEST_PAUSE = 1.0
 class Kills(Service):
     def setUp(self) -> None:
         super().setUp()
-        self.messages, self.kills, self.redis_kills = (20000, 200, 20) if Given.is_long else (400, 5, 2)
+        self.messages, self.kills, self.redis_kills = (
+            (20000, 200, 20) if Given.is_long else (400, 5, 2)
+        )
 
     def trade(self, clients: int, messages: int, sequencers: int, order: list[str]) -> None:
         for _ in range(sequencers):
             self.start_sequencer()
-        traders = [Trader(self.session(at), messages // clients, at) for at in range(1, clients + 1)]
+        traders = [
+            Trader(self.session(at), messages // clients, at) for at in range(1, clients + 1)
+        ]
         for trader in traders:
             trader.start()
         self.random.shuffle(order)
@@ -59,7 +64,9 @@ class Kills(Service):
         self.trade(20, self.messages, 1, ["redis"] * self.redis_kills)
 
     def test_all_are_killed_and_three_answer(self) -> None:
-        victims = ["sequencer"] * self.kills + ["program"] * self.kills + ["redis"] * self.redis_kills
+        victims = (
+            ["sequencer"] * self.kills + ["program"] * self.kills + ["redis"] * self.redis_kills
+        )
         self.trade(20, self.messages, 3, victims)
 
     def test_two_answer(self) -> None:

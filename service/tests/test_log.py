@@ -1,4 +1,5 @@
-"""A log from which something was taken, to which something was put, or in which something was changed."""
+"""A log from which something was taken, to which something was put, or in which something was
+changed."""
 
 from __future__ import annotations
 
@@ -31,17 +32,22 @@ class Sums(unittest.TestCase):
         head = FIRST_HEAD
         for number in range(1, 4):
             id, answer = b"%d-0" % number, b'{"line":%d}' % number
-            entries.append([id, [b"session", b"7", b"number", b"%d" % number, b"body", b"open,%d" % number]])
+            entries.append(
+                [id, [b"session", b"7", b"number", b"%d" % number, b"body", b"open,%d" % number]]
+            )
             head = head_after(head, Entry.of(entries[-1]).line(), answer)
             answers.append([id, [b"answer", answer, b"chain", head]])
         return entries, answers
 
     def test_a_page_of_messages(self) -> None:
         entries, answers = self.page()
-        self.assertEqual(heads_of(FIRST_HEAD, entries, answers), [fields[3] for _, fields in answers])
+        self.assertEqual(
+            heads_of(FIRST_HEAD, entries, answers), [fields[3] for _, fields in answers]
+        )
 
     def test_what_is_looked_at_one_by_one(self) -> None:
-        """Another head, an entry that is no message, an answer of two lines, another id, a sum that does not follow."""
+        """Another head, an entry that is no message, an answer of two lines, another id, a sum that
+        does not follow."""
         self.assertIsNone(heads_of(b"1" * 64, *self.page()))
         for stream, place, value in (
             (0, 1, b"7,7"),
@@ -81,7 +87,8 @@ class Log(Service):
         self.assertFalse((self.folder / "journal/segments").exists())
 
     def cut(self, *command: object) -> None:
-        """Entries are taken out while a sequencer runs, which ends, as one that is started does, and each reader."""
+        """Entries are taken out while a sequencer runs, which ends, as one that is started does,
+        and each reader."""
         self.fill()
         sequencer = self.sequencers[0]
         third = self.redis.xrange(IN)[2][0]
@@ -162,7 +169,8 @@ class Log(Service):
         self.assertEqual((self.published(), self.tool("verify").stdout), (before, told))
 
     def forged(self, id: str, **fields: object) -> None:
-        """An answer that no sequencer wrote: sequencers end, and each reader, and a client that waits."""
+        """An answer that no sequencer wrote: sequencers end, and each reader, and a client that
+        waits."""
         sequencer = self.start_sequencer()
         self.fill()
         self.redis.xadd(OUT, fields, id=id)
@@ -180,7 +188,9 @@ class Log(Service):
 
     def test_an_answer_to_nothing_that_looks_like_one(self) -> None:
         self.forged(
-            "99999999999999-0", answer='{"line":1,"number":15,"reason":"Malformed","reply":"gate"}', chain="0" * 64
+            "99999999999999-0",
+            answer='{"line":1,"number":15,"reason":"Malformed","reply":"gate"}',
+            chain="0" * 64,
         )
 
     def test_an_answer_of_two_lines(self) -> None:
@@ -193,7 +203,9 @@ class Log(Service):
         """A stream that takes nothing more: the client is told, and nobody asks without end."""
         self.start_sequencer()
         self.fill()
-        self.redis.xadd(IN, {"session": 8, "number": 1, "body": "open,9"}, id=f"{2**64 - 1}-{2**64 - 1}")
+        self.redis.xadd(
+            IN, {"session": 8, "number": 1, "body": "open,9"}, id=f"{2**64 - 1}-{2**64 - 1}"
+        )
         with self.assertRaisesRegex(Broken, "Redis refuses"):
             self.session(7, 6).ask("open,6")
         self.until(self.all_answered)
@@ -201,15 +213,23 @@ class Log(Service):
         self.assertIn("6 entries, 0 not answered", self.tool("watch", "--once").stdout)
 
     def test_a_byte_that_is_changed(self) -> None:
-        """A price is another one in the file of a Redis that stands still: its answer tells nothing of it."""
+        """A price is another one in the file of a Redis that stands still: its answer tells nothing
+        of it."""
         self.start_sequencer()
         session = self.session(7)
-        for body in ("open,1", "deposit,1,5000", "market,1,1", "sell,1,1,call,10,50,1,1", "balance,1"):
+        for body in (
+            "open,1",
+            "deposit,1,5000",
+            "market,1,1",
+            "sell,1,1,call,10,50,1,1",
+            "balance,1",
+        ):
             session.ask(body)
         self.until(self.all_answered)
         before = self.tool("verify").stdout
         self.assertEqual(
-            before, f"5 answers hold, to {self.redis.xrevrange(OUT, count=1)[0][0].decode()}: {self.heads()[-1]}\n"
+            before,
+            f"5 answers hold, to {self.published()[-1][0].decode()}: {self.heads()[-1]}\n",
         )
         self.kill(self.sequencers[0])
         self.change(b"sell,1,1,call,10,50,1,1", b"sell,1,1,call,10,10,1,1")
@@ -239,19 +259,29 @@ class Log(Service):
         self.start_redis()
 
     def readers_end_changed(self, id: str) -> None:
-        for words in (("verify",), ("journal", self.folder / "journal"), ("rehearse", self.program)):
+        for words in (
+            ("verify",),
+            ("journal", self.folder / "journal"),
+            ("rehearse", self.program),
+        ):
             self.tool_ends(Status.CHANGED, f"THE LOG WAS CHANGED at {id}", *map(str, words))
 
     def test_a_log_that_is_verified_in_parts(self) -> None:
         for number in range(1, 101):
-            self.redis.xadd(IN, {"session": 7, "number": number, "body": f"open,{number}"}, id=f"{1000 + number}-0")
+            self.redis.xadd(
+                IN,
+                {"session": 7, "number": number, "body": f"open,{number}"},
+                id=f"{1000 + number}-0",
+            )
         self.start_sequencer()
         self.until(self.all_answered)
         place = Place.of(str(self.port))
         cut = parts(Store(place, 5, "verify"), Keys.of("ragvismo"), 7)
         self.assertEqual(len(cut), 7)
         held = [check(place, 5, part, None) for part in cut]
-        self.assertEqual((sum(it.answers for it in held), held[-1].head.decode()), (100, self.heads()[-1]))
+        self.assertEqual(
+            (sum(it.answers for it in held), held[-1].head.decode()), (100, self.heads()[-1])
+        )
         self.kill(self.sequencers[0])
         self.change(b"open,50\r", b"open,51\r")
         changed = 0
@@ -259,7 +289,9 @@ class Log(Service):
             try:
                 check(place, 5, part, None)
             except Ended as ended:
-                self.assertIn(f"THE LOG WAS CHANGED at {self.redis.xrange(IN)[49][0].decode()}", str(ended))
+                self.assertIn(
+                    f"THE LOG WAS CHANGED at {self.redis.xrange(IN)[49][0].decode()}", str(ended)
+                )
                 changed += 1
         self.assertEqual(changed, 1)
 
@@ -275,7 +307,9 @@ class Log(Service):
         self.start_sequencer()
         self.until(self.all_answered)
         self.assertEqual(self.tool("verify").returncode, 0)
-        self.tool_ends(Status.CHANGED, f"the sum {kept} is not in its chain", "verify", "--head", kept)
+        self.tool_ends(
+            Status.CHANGED, f"the sum {kept} is not in its chain", "verify", "--head", kept
+        )
         self.tool_ends(Status.BAD_USE, "is no sum", "verify", "--head", "x")
 
     def test_the_journal_of_another_exchange(self) -> None:
@@ -285,8 +319,12 @@ class Log(Service):
         self.assertEqual(self.tool("journal", folder).returncode, 0)
         listed = (folder / "segments").read_bytes()
         other = subprocess.run(
-            [HERE / "journal", folder, "--at", f"{self.port}/second"], capture_output=True, text=True
+            [HERE / "journal", folder, "--at", f"{self.port}/second"],
+            capture_output=True,
+            text=True,
         )
-        self.assertEqual((other.returncode, other.stderr.count("\n")), (Status.LOST, 1), other.stderr)
+        self.assertEqual(
+            (other.returncode, other.stderr.count("\n")), (Status.LOST, 1), other.stderr
+        )
         self.assertEqual((folder / "segments").read_bytes(), listed)
         self.assertEqual(json.loads(listed)["head"], self.heads()[-1])

@@ -20,7 +20,13 @@ from ragvismo_service.messages import Entry
 from ragvismo_service.statuses import Ended, Status
 from tests.standing import HERE, Service, free_port
 
-ORDER = '"account":1,"form":[0,1],"quantity":1'
+ORDER = '"account":1,"form":[0,1],"quantity":1,"order":'
+FILLED = f'{{{ORDER}1,"price":7,"side":"buy"}},{{{ORDER}2,"price":5,"side":"sell"}}'
+CLEARED = f'"fills":["1/2","1/2"],"line":8,"mark":"optimal","market":4,"orders":[{FILLED}]'
+PAID = ",".join(
+    f'{{"account":1,"amount":"{amount}","batch":1,"order":{order}}}'
+    for order, amount in ((2, -3), (1, 1))
+)
 # Messages and the replies of an exchange to them.
 DAY = (
     ("open,1", '{"account":1,"line":1,"reply":"opened"}'),
@@ -30,18 +36,16 @@ DAY = (
     ("sell,1,4,call,10,6,1,1", '{"line":5,"order":3,"reply":"placed"}'),
     ("bundle,1,4,sell,6,1,1,call,9,1", '{"line":6,"order":4,"reply":"placed"}'),
     ("cancel,1,4", '{"line":7,"order":4,"reply":"cancelled"}'),
-    (
-        "clear,4,9",
-        '{"batch":1,"fills":["1/2","1/2"],"line":8,"mark":"optimal","market":4,"orders":['
-        f'{{{ORDER},"order":1,"price":7,"side":"buy"}},{{{ORDER},"order":2,"price":5,"side":"sell"}}],"reply":"cleared"}}',
-    ),
+    ("clear,4,9", f'{{"batch":1,{CLEARED},"reply":"cleared"}}'),
     ("withdraw,1,9", '{"line":9,"number":2,"reason":"Funds","reply":"refused"}'),
 )
 
 
 def answered(number: int, body: str, reply: str, session: int = 7) -> Answered:
     entry = Entry(b"1-1", f"{session},{number},{body}".encode(), None)
-    return Answered(entry, f'{{"number":{number},"of":{reply},"session":{session}}}'.encode(), FIRST_HEAD)
+    return Answered(
+        entry, f'{{"number":{number},"of":{reply},"session":{session}}}'.encode(), FIRST_HEAD
+    )
 
 
 class Counted(unittest.TestCase):
@@ -55,7 +59,13 @@ class Counted(unittest.TestCase):
         """The buyer pays 7/2, rounded up, and the seller gets 5/2, rounded down."""
         figures = self.after()
         self.assertEqual((figures.house, figures.live), (4 - 2, {3: "4"}))
-        used = {"accounts": 1, "batches": 1, "live_orders_of_a_market": 1, "markets": 1, "messages": 9}
+        used = {
+            "accounts": 1,
+            "batches": 1,
+            "live_orders_of_a_market": 1,
+            "markets": 1,
+            "messages": 9,
+        }
         used |= {"messages_of_a_session": 9, "orders": 4, "sessions": 1}
         self.assertEqual(figures.used, used)
         self.assertEqual(figures.ratios()["markets"], 1 / 64)
@@ -66,11 +76,10 @@ class Counted(unittest.TestCase):
         self.assertEqual((figures.house, figures.used["messages"]), (2, 10))
 
     def test_a_settlement(self) -> None:
-        payouts = '[{"account":1,"amount":"-3","batch":1,"order":2},{"account":1,"amount":"1","batch":1,"order":1}]'
-        figures = self.after(
-            ("settle,4,13", f'{{"lapsed":1,"line":10,"market":4,"payouts":{payouts},"reply":"settled"}}')
-        )
-        self.assertEqual((figures.house, figures.live, figures.used["live_orders_of_a_market"]), (4, {}, 0))
+        settled = f'{{"lapsed":1,"line":10,"market":4,"payouts":[{PAID}],"reply":"settled"}}'
+        figures = self.after(("settle,4,13", settled))
+        self.assertEqual((figures.house, figures.live), (4, {}))
+        self.assertEqual(figures.used["live_orders_of_a_market"], 0)
 
     def test_what_the_house_is_told_to_have(self) -> None:
         told = '{"account":0,"balance":"100","line":10,"reply":"balance","reserved":"0"}'
@@ -83,19 +92,31 @@ class Counted(unittest.TestCase):
 
 
 @unittest.skipUnless(
-    importlib.util.find_spec("prometheus_client"), "python3-prometheus-client is missing; tools/setup installs it"
+    importlib.util.find_spec("prometheus_client"),
+    "python3-prometheus-client is missing; tools/setup installs it",
 )
 class Metrics(Service):
     def start_metrics(self) -> None:
         self.listen = free_port()
-        words = [str(HERE / "metrics"), *self.at, "--listen", f"127.0.0.1:{self.listen}", "--every", "0.1"]
+        words = [
+            str(HERE / "metrics"),
+            *self.at,
+            "--listen",
+            f"127.0.0.1:{self.listen}",
+            "--every",
+            "0.1",
+        ]
         self.sequencers.append(subprocess.Popen(words, stderr=subprocess.PIPE, text=True))
 
     def told(self) -> dict[str, float]:
         """What is told now."""
         try:
-            with urllib.request.urlopen(f"http://127.0.0.1:{self.listen}/metrics", timeout=5) as page:
-                lines = [line for line in page.read().decode().splitlines() if not line.startswith("#")]
+            with urllib.request.urlopen(
+                f"http://127.0.0.1:{self.listen}/metrics", timeout=5
+            ) as page:
+                lines = [
+                    line for line in page.read().decode().splitlines() if not line.startswith("#")
+                ]
         except OSError:
             return {}
         return {name: float(value) for name, _, value in (line.rpartition(" ") for line in lines)}
@@ -123,11 +144,16 @@ class Metrics(Service):
             ("ragvismo_redis_copies", 0),
         ):
             self.assertEqual(told[name], value, name)
-        self.assertEqual(sum(value for name, value in told.items() if name.startswith("ragvismo_replies_total")), 3)
+        self.assertEqual(
+            sum(value for name, value in told.items() if name.startswith("ragvismo_replies_total")),
+            3,
+        )
         self.kill(sequencer)
         session.append(2, b"open,2")
         self.until(lambda: self.told()["ragvismo_oldest_wait_seconds"] > 0.2)
-        self.assertEqual([self.told()[f"ragvismo_{name}"] for name in ("lag_entries", "sequencers")], [1, 0])
+        self.assertEqual(
+            [self.told()[f"ragvismo_{name}"] for name in ("lag_entries", "sequencers")], [1, 0]
+        )
         self.rules_are_of(self.told())
         self.redis.xtrim("ragvismo:in", 1, approximate=False)
         self.assertEqual(self.sequencers[-1].wait(60), Status.CUT)
@@ -138,14 +164,18 @@ class Metrics(Service):
         rules = (HERE / "alerts.yml").read_text()
         self.assertEqual(set(re.findall(r"ragvismo_\w+", rules)) - names, set())
         if shutil.which("promtool"):
-            ran = subprocess.run(["promtool", "check", "rules", HERE / "alerts.yml"], capture_output=True, text=True)
+            ran = subprocess.run(
+                ["promtool", "check", "rules", HERE / "alerts.yml"], capture_output=True, text=True
+            )
             self.assertEqual(ran.returncode, 0, ran.stdout + ran.stderr)
 
     def test_a_port_that_is_taken(self) -> None:
         self.tool_ends(Status.BAD_USE, "cannot listen at", "metrics", "--listen", self.port)
 
 
-@unittest.skipUnless(importlib.util.find_spec("systemd"), "python3-systemd is missing; tools/setup installs it")
+@unittest.skipUnless(
+    importlib.util.find_spec("systemd"), "python3-systemd is missing; tools/setup installs it"
+)
 class Watchdog(Service):
     """What systemd is told of a sequencer."""
 
@@ -172,10 +202,13 @@ class Watchdog(Service):
                 told.recv(100)
 
     def test_units(self) -> None:
-        """The watchdog of each unit that has one waits longer than a tool does for Redis or the program."""
+        """The watchdog of each unit that has one waits longer than a tool does for Redis or the
+        program."""
         for unit in (HERE / "systemd").glob("*.service"):
             settings = dict(re.findall(r"(?m)^(\w+)=(.*)$", unit.read_text()))
-            path = pathlib.Path(settings["ExecStart"].split()[0].replace("/opt/ragvismo", str(HERE.parent)))
+            path = pathlib.Path(
+                settings["ExecStart"].split()[0].replace("/opt/ragvismo", str(HERE.parent))
+            )
             self.assertTrue(os.access(path, os.X_OK), path)
             if settings.get("Type") == "notify":
                 self.assertGreater(int(settings["WatchdogSec"]), 60, unit)

@@ -40,7 +40,9 @@ class Tools(Service):
         lines = (folder / "segments").read_text().splitlines(keepends=True)
         self.assertEqual(len(lines), 40)
         told = json.loads(lines[-1])
-        self.assertEqual(self.tool("journal", folder, "--verify").stdout, f"40 segments stand: {told['head']}\n")
+        self.assertEqual(
+            self.tool("journal", folder, "--verify").stdout, f"40 segments stand: {told['head']}\n"
+        )
         self.assertIn(told["head"], self.tool("verify").stdout)
         self.run_again(folder)
         (folder / "000002.replies").rename(folder / "kept")
@@ -53,9 +55,13 @@ class Tools(Service):
         self.tool_ends(Status.FILE_FAULT, "/dev/null", "journal", "/dev/null/journal")
 
     def run_again(self, folder: pathlib.Path) -> None:
-        """What the journal keeps of the messages, given to the program, writes what it keeps of the replies."""
-        given = f"sed -n 's/^[0-9-]*,//p' {folder}/*.messages | {shlex.quote(str(self.program))} serve sessions"
-        ran = subprocess.run(given, shell=True, env={**os.environ, "LC_ALL": "C"}, capture_output=True)
+        """What the journal keeps of the messages, given to the program, writes what it keeps of the
+        replies."""
+        program = shlex.quote(str(self.program))
+        given = f"sed -n 's/^[0-9-]*,//p' {folder}/*.messages | {program} serve sessions"
+        ran = subprocess.run(
+            given, shell=True, env={**os.environ, "LC_ALL": "C"}, capture_output=True
+        )
         replies = b"".join(it.read_bytes() for it in sorted(folder.glob("*.replies")))
         self.assertEqual(ran.stdout, replies)
         told = [answer + b"\n" for _, answer in self.published() if b'"service"' not in answer]
@@ -88,20 +94,32 @@ class Tools(Service):
             self.assertEqual(self.tool("journal", folder).returncode, 0)
             self.assertEqual(self.tool("journal", folder, "--verify").returncode, 0)
             listed = (folder / "segments").read_bytes()
-            self.assertTrue(whole["segments"].startswith(listed) or json.loads(listed)["entries"] == 2, listed)
+            self.assertTrue(
+                whole["segments"].startswith(listed) or json.loads(listed)["entries"] == 2, listed
+            )
 
     def test_one_journal_at_a_time(self) -> None:
         self.start_sequencer()
         for number in range(1, 301):
             self.append(session=7, number=number, body=f"open,{number}")
         self.until(self.all_answered)
-        words = [str(HERE / "journal"), str(self.folder / "journal"), "--at", str(self.port), "--size", "1"]
+        words = [
+            str(HERE / "journal"),
+            str(self.folder / "journal"),
+            "--at",
+            str(self.port),
+            "--size",
+            "1",
+        ]
         calls = [subprocess.Popen(words, stderr=subprocess.PIPE, text=True) for _ in range(3)]
         said = [call.communicate()[1] for call in calls]
         self.assertIn(0, [call.returncode for call in calls])
         for call, told in zip(calls, said):
             self.assertIn(call.returncode, (0, Status.HELD), told)
-        self.assertRegex(self.tool("journal", self.folder / "journal", "--verify").stdout, "^300 segments stand: ")
+        self.assertRegex(
+            self.tool("journal", self.folder / "journal", "--verify").stdout,
+            "^300 segments stand: ",
+        )
 
     def test_watch(self) -> None:
         sequencer = self.start_sequencer()
@@ -125,12 +143,16 @@ class Tools(Service):
         self.append(session=7, number=2, body="open,2")
         time.sleep(0.2)
         ran = self.tool("watch", "--once", "--place", place, "--longest", "0.1")
-        self.assertRegex(ran.stdout, r"^3 entries, 1 not answered, the oldest for [0-9.]+ s; 0 sequencers; ")
+        self.assertRegex(
+            ran.stdout, r"^3 entries, 1 not answered, the oldest for [0-9.]+ s; 0 sequencers; "
+        )
         self.assertEqual((ran.returncode, ran.stderr.count("\n")), (Status.LAGS, 1))
         self.assertEqual(self.tool("watch", "--most", "0").returncode, Status.LAGS)
         self.assertEqual(self.tool("watch", "--once", "--most", "1").returncode, 0)
         kept = json.loads(place.read_text())
-        self.assertEqual((kept["count"], kept["last"]), (2, self.redis.xrevrange("ragvismo:out")[0][0].decode()))
+        self.assertEqual(
+            (kept["count"], kept["last"]), (2, self.redis.xrevrange("ragvismo:out")[0][0].decode())
+        )
         place.write_text(place.read_text().replace(kept["head"], "0" * 64))
         self.tool_ends(Status.CHANGED, "has another sum", "watch", "--once", "--place", place)
         place.write_text("{}")
@@ -139,12 +161,18 @@ class Tools(Service):
     def test_a_client_of_lines(self) -> None:
         self.start_sequencer()
         ran = self.tool("client.py", 7, input="open,1\n\nbalance,1\n")
-        self.assertEqual([json.loads(it)["line"] for it in ran.stdout.splitlines()], [1, 2], ran.stderr)
+        self.assertEqual(
+            [json.loads(it)["line"] for it in ran.stdout.splitlines()], [1, 2], ran.stderr
+        )
         self.assertEqual(self.tool("client.py", 7, "--at", "x").returncode, 2)
         ran = self.tool("client.py", 7, input="open,2\n")
-        self.assertEqual([json.loads(it)["line"] for it in ran.stdout.splitlines()], [3], ran.stderr)
+        self.assertEqual(
+            [json.loads(it)["line"] for it in ran.stdout.splitlines()], [3], ran.stderr
+        )
         closed = f"{HERE / 'client.py'} 8 --at {self.port} | true"
-        ran = subprocess.run(closed, shell=True, input="open,3\nopen,4\n", stderr=subprocess.PIPE, text=True)
+        ran = subprocess.run(
+            closed, shell=True, input="open,3\nopen,4\n", stderr=subprocess.PIPE, text=True
+        )
         self.assertEqual(ran.stderr, "")
 
     def test_a_client_that_numbers_its_lines(self) -> None:
@@ -155,7 +183,9 @@ class Tools(Service):
             ran = self.tool("client.py", 5, "--numbered", input="\n".join(lines[:count]))
             self.assertEqual((ran.returncode, ran.stderr), (0, ""))
         self.assertEqual(json.loads(ran.stdout.splitlines()[-1])["line"], 3)
-        self.assertEqual(sum(b'"line":' in answer and b'"of"' in answer for _, answer in self.published()), 5)
+        self.assertEqual(
+            sum(b'"line":' in answer and b'"of"' in answer for _, answer in self.published()), 5
+        )
         for other in (["open,2\n"], [*lines[:2], "deposit,1,7\n"], [*lines[:2]]):
             ran = self.tool("client.py", 5, "--numbered", input="".join(other))
             self.assertEqual(ran.returncode, Status.NO, ran.stdout)
@@ -196,11 +226,22 @@ class Tools(Service):
         )
         for words in calls:
             ran = subprocess.run([HERE / words[0], *words[1:]], capture_output=True, text=True)
-            self.assertEqual((ran.returncode, ran.stdout, ran.stderr.count("\n")), (2, "", 1), ran.stderr)
+            self.assertEqual(
+                (ran.returncode, ran.stdout, ran.stderr.count("\n")), (2, "", 1), ran.stderr
+            )
 
     def test_a_port_that_is_no_redis(self) -> None:
-        words = ["/usr/bin/python3", "-m", "http.server", "--bind", "127.0.0.1", str(port := free_port())]
-        with subprocess.Popen(words, stdout=subprocess.DEVNULL, stderr=subprocess.DEVNULL, cwd=self.folder) as other:
+        words = [
+            "/usr/bin/python3",
+            "-m",
+            "http.server",
+            "--bind",
+            "127.0.0.1",
+            str(port := free_port()),
+        ]
+        with subprocess.Popen(
+            words, stdout=subprocess.DEVNULL, stderr=subprocess.DEVNULL, cwd=self.folder
+        ) as other:
             try:
                 ran = self.tool("verify", "--at", port, "--patience", "1")
             finally:
@@ -222,7 +263,11 @@ class Up(unittest.TestCase):
         """A call, which tells how it is spoken to."""
         words = self.words(free_port())
         up = subprocess.Popen(
-            words, stdout=subprocess.PIPE, stderr=subprocess.DEVNULL, text=True, start_new_session=True
+            words,
+            stdout=subprocess.PIPE,
+            stderr=subprocess.DEVNULL,
+            text=True,
+            start_new_session=True,
         )
         self.addCleanup(up.communicate)
         self.addCleanup(up.kill)
@@ -233,16 +278,27 @@ class Up(unittest.TestCase):
         return up
 
     def words(self, port: int) -> list[str]:
-        return [str(HERE / "up"), str(self.folder), "--port", str(port), "--program", str(self.program)]
+        return [
+            str(HERE / "up"),
+            str(self.folder),
+            "--port",
+            str(port),
+            "--program",
+            str(self.program),
+        ]
 
     def client(self, line: str) -> dict[str, Any]:
-        ran = subprocess.run(self.client_words, input=line, capture_output=True, text=True, cwd=HERE.parent)
+        ran = subprocess.run(
+            self.client_words, input=line, capture_output=True, text=True, cwd=HERE.parent
+        )
         return dict(json.loads(ran.stdout))
 
     def redis(self, user: str) -> redis.Redis:
         """The Redis of the call, as one of its users."""
         port = Place.of(self.client_words[self.client_words.index("--at") + 1]).port
-        return redis.Redis(port=port, username=user, password=password(f"{self.folder / user}.password"))
+        return redis.Redis(
+            port=port, username=user, password=password(f"{self.folder / user}.password")
+        )
 
     def test_up(self) -> None:
         for line in (1, 2):
@@ -252,7 +308,8 @@ class Up(unittest.TestCase):
             self.assertEqual(up.wait(), 128 + signal.SIGTERM)
 
     def test_two_in_one_folder(self) -> None:
-        """The second is refused; and a call that is killed takes its Redis with it, so that the next goes on alone."""
+        """The second is refused; and a call that is killed takes its Redis with it, so that the
+        next goes on alone."""
         up = self.start()
         self.client("open,1\n")
         words = self.words(free_port())
@@ -282,6 +339,9 @@ class Up(unittest.TestCase):
         self.assertEqual(up.wait(30), Status.CUT)
 
 
+PYTHON = ".", "bench", "test"
+
+
 class Style(unittest.TestCase):
     """Types and format."""
 
@@ -289,7 +349,10 @@ class Style(unittest.TestCase):
         if not importlib.util.find_spec(module):
             self.skipTest(f"{module} is missing; tools/setup installs it")
         ran = subprocess.run(
-            ["/usr/bin/python3", "-m", module, *map(str, words)], cwd=HERE, capture_output=True, text=True
+            ["/usr/bin/python3", "-m", module, *map(str, words)],
+            cwd=HERE,
+            capture_output=True,
+            text=True,
         )
         self.assertEqual(ran.returncode, 0, ran.stdout + ran.stderr)
 
@@ -300,4 +363,4 @@ class Style(unittest.TestCase):
                 self.run_module("mypy", "--cache-dir", kept, "--scripts-are-modules", script)
 
     def test_format(self) -> None:
-        self.run_module("black", "--quiet", "--check", "--config", "pyproject.toml", ".")
+        self.run_module("black", "--quiet", "--check", "--config", "pyproject.toml", *PYTHON)
