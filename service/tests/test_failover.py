@@ -12,6 +12,7 @@ import time
 
 import redis
 
+from client import Session
 from ragvismo_service import users
 from ragvismo_service.connecting import pool_at, pool_of
 from ragvismo_service.places import Place
@@ -127,17 +128,37 @@ class Failover(Service):
             return False
         return bool(told["role"] == "master" and told.get("min_slaves_good_slaves") == 1)
 
+    def append_to_one(self, session: Session, body: bytes) -> int:
+        """Appends what the other Redis does not take, as it is stopped; no answer comes."""
+        copy = self.servers[self.other(self.master())].pid
+        os.kill(copy, signal.SIGSTOP)
+        session.append(2, body)
+        time.sleep(1.5)
+        self.assertEqual((self.redis.xlen("ragvismo:in"), self.redis.xlen("ragvismo:out")), (2, 1))
+        return copy
+
     def test_an_answer_comes_when_another_redis_has_the_message(self) -> None:
         self.start_sequencer()
         session = self.session(7, 1)
         session.ask("open,1")
-        copy = self.servers[self.other(self.master())].pid
-        os.kill(copy, signal.SIGSTOP)
-        session.append(2, b"open,2")
-        time.sleep(2)
-        self.assertEqual((self.redis.xlen("ragvismo:in"), self.redis.xlen("ragvismo:out")), (2, 1))
+        copy = self.append_to_one(session, b"open,2")
         os.kill(copy, signal.SIGCONT)
         self.until(self.all_answered)
+        self.assertEqual(self.published(), self.computed())
+
+    def test_what_one_redis_had_alone(self) -> None:
+        """A message that is longer than what is on its way to the other is lost with the master: it was
+        not answered, and all goes on without it."""
+        sequencer, old = self.start_sequencer(), self.master()
+        session = self.session(7, 1)
+        session.ask("open,1")
+        copy = self.append_to_one(session, b"x" * (15 << 20))
+        self.servers[old].kill()
+        os.kill(copy, signal.SIGCONT)
+        self.until(lambda: self.master() == self.other(old))
+        self.start_one(old, "--replicaof", "127.0.0.1", str(self.master()))
+        self.assertEqual(session.ask("open,2")["line"], 2)
+        self.assertEqual((self.redis.xlen("ragvismo:in"), sequencer.poll()), (2, None))
         self.assertEqual(self.published(), self.computed())
 
     def replace_master(self) -> None:
