@@ -10,7 +10,7 @@ messages. Other statuses: 2 bad use, 3 Redis refuses, or is away for longer than
 ever, if not given), 9 what answers is no sequencer. For programs:
 
     from client import Session
-    session = Session("127.0.0.1:6380", 7)
+    session = Session("redis://gateway@127.0.0.1:6380", 7, password=..)
     session.ask("open,1")       # {'account': 1, 'line': 1, 'reply': 'opened'}
 
 A message is sent under the same number until it is answered, so it counts once however often a
@@ -18,6 +18,7 @@ connection is lost.
 """
 from __future__ import annotations
 
+import dataclasses
 import json
 import logging
 import sys
@@ -66,8 +67,10 @@ class Session:
         session: int,
         number: int | None = None,
         patience: float | None = None,
+        password: str = "",
     ) -> None:
         place = Place.of(at) if isinstance(at, str) else at
+        place = dataclasses.replace(place, password=password or place.password)
         self.place, self.keys, self.session, self.patience = (
             place,
             Keys.of(place.name),

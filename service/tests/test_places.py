@@ -132,7 +132,8 @@ class Users(Service):
             *self.words("sequencer", by_socket),
         ]
         self.sequencers.append(subprocess.Popen(words, stderr=subprocess.PIPE, text=True))
-        session = Session(self.as_user("gateway"), 7, 1)
+        secret = password(str(self.users / "gateway.password"))
+        session = Session(by_port.replace("USER", "gateway"), 7, 1, password=secret)
         session.ask("open,1")
         self.assertIn("1 answers hold", self.ran("verify", "journal", by_6))
         self.ran("journal", "journal", by_tls, self.folder / "journal")
