@@ -229,11 +229,11 @@ class Ends(Service):
         self.append(session=7, number=1, body=b"x" * (10 << 20))
         for number in range(2, 1001):
             self.append(session=7, number=number, body="x")
-        for number in range(1001, 1031):
+        for number in range(1001, 1021):
             self.append(session=7, number=number, body=b"x" * (3 << 20))
         self.redis.config_set("client-output-buffer-limit", f"normal {24 << 20} 0 0")
         sequencer = self.start_sequencer()
-        self.until(self.all_answered)
+        self.until(self.all_answered, 120)
         status = pathlib.Path(f"/proc/{sequencer.pid}/status").read_text()
         [most] = [int(line.split()[1]) for line in status.splitlines() if line.startswith("VmHWM")]
         self.assertLess(most, 120_000)
