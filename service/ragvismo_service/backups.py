@@ -17,6 +17,7 @@ from ragvismo_service.verifying import PROCESSORS, Verified, verified
 
 # Where Redis looks for its log, and what says that the log is one file.
 LOG, BASE = "appendonlydir", "appendonly.aof.1.base.rdb"
+AUTHORITIES = "/etc/ssl/certs/ca-certificates.crt"
 MANIFEST = "appendonly.aof.manifest", f"file {BASE} seq 1 type b\n".encode()
 
 
@@ -29,11 +30,7 @@ def command(store: Store) -> list[str]:
     else:
         # Where sentinels watch, that of the connection is the master's.
         address = ["-h", str(store.connection.host), "-p", str(store.connection.port)]
-    secure = [
-        "--tls",
-        "--cacert",
-        os.environ.get("SSL_CERT_FILE", "/etc/ssl/certs/ca-certificates.crt"),
-    ]
+    secure = ["--tls", "--cacert", os.environ.get("SSL_CERT_FILE", AUTHORITIES)]
     user = ["--user", place.user, "--no-auth-warning"] if place.user else []
     return ["redis-cli", *address, *(secure if place.is_secure else []), *user]
 
@@ -63,9 +60,8 @@ def tried(folder: pathlib.Path, name: str, patience: float, kept: bytes) -> Veri
         words = redis_words(
             folder.resolve(), port=0, unixsocket=socket, unixsocketperm=700, logfile=f"{held}/log"
         )
-        server, store = started(words), Store(
-            Place(socket=str(socket), name=name), patience, "day-end"
-        )
+        server = started(words)
+        store = Store(Place(socket=str(socket), name=name), patience, "day-end")
         try:
             wait_for(server, store, pathlib.Path(held))
             return verified(store, kept, PROCESSORS)

@@ -27,7 +27,6 @@ from ragvismo_service.store import Store
 from ragvismo_service.verifying import PROCESSORS, verified
 from ragvismo_service.words import Words, status_of, store_of
 
-NEW_LINE = b"\n"
 TOOLS = pathlib.Path(__file__).resolve().parents[2] / "tools"
 # carry-over ends with 1 where something is left behind.
 CARRIED = 0, 1
@@ -52,8 +51,8 @@ def over_replies(
 
 
 def said(ran: subprocess.CompletedProcess[bytes]) -> str:
-    """The last line of what a tool said, on standard error if there."""
-    lines = (ran.stdout + ran.stderr).decode(errors="replace").splitlines()
+    """The last line of what a tool said, on standard error where there is no other."""
+    lines = (ran.stdout or ran.stderr).decode(errors="replace").splitlines()
     return lines[-1] if lines else f"nothing, with status {ran.returncode}"
 
 
@@ -70,14 +69,9 @@ def carried(folder: pathlib.Path) -> str:
     ran = over_replies(folder, TOOLS / "carry-over", "-")
     if ran.returncode not in CARRIED:
         raise Ended(Status.NO, f"nothing can be carried over: {said(ran)}")
-    path, left = folder / "next.commands", ran.stderr.decode().splitlines()
+    path, lines, left = folder / "next.commands", ran.stdout.splitlines(), ran.stderr.decode()
     files.write(path, ran.stdout)
-    return "\n".join(
-        [
-            f"{path} has {ran.stdout.count(NEW_LINE)} lines; {len(left)} things are left behind",
-            *left,
-        ]
-    )
+    return f"{path} has {len(lines)} lines; left behind: {left or 'nothing'}".rstrip()
 
 
 def end_day(

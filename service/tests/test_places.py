@@ -4,6 +4,7 @@ from __future__ import annotations
 
 import dataclasses
 import json
+import os
 import pathlib
 import shutil
 import subprocess
@@ -13,10 +14,12 @@ import unittest
 import redis
 
 from client import Session
-from ragvismo_service import users
+from ragvismo_service import backups, users
+from ragvismo_service.chain import FIRST_HEAD
 from ragvismo_service.connecting import pool_at
 from ragvismo_service.places import Place
 from ragvismo_service.statuses import BadUse, Status
+from ragvismo_service.store import Store
 from ragvismo_service.words import password
 from tests.standing import HERE, Service, free_port
 
@@ -117,6 +120,14 @@ class Users(Service):
         self.assertEqual(ran.returncode, 0, ran.stderr)
         return ran.stdout
 
+    def copied(self, user: str, at: str) -> int:
+        """How many answers a copy has that a user takes at a place."""
+        os.environ["SSL_CERT_FILE"] = str(self.folder / "certificate")
+        self.addCleanup(os.environ.pop, "SSL_CERT_FILE")
+        secret = password(str(self.users / f"{user}.password"))
+        place = dataclasses.replace(Place.of(at.replace("USER", user)), password=secret)
+        return backups.made(Store(place, 5, "test"), self.folder / "copy", FIRST_HEAD).answers
+
     def test_each_does_what_it_must(self) -> None:
         by_socket, by_port = f"unix://USER@{self.socket}", f"redis://USER@127.0.0.1:{self.port}"
         by_tls = f"rediss://USER@localhost:{self.tls}" if shutil.which("openssl") else by_port
@@ -137,6 +148,7 @@ class Users(Service):
         session.ask("open,1")
         self.assertIn("1 answers hold", self.ran("verify", "journal", by_6))
         self.ran("journal", "journal", by_tls, self.folder / "journal")
+        self.assertEqual(self.copied("journal", by_tls), 1)
         self.assertIn("1 sequencers; 1 ", self.ran("watch", "watch", by_tls, "--once"))
         same = self.script("same", f"#!/bin/sh\nexec {self.program} serve sessions\n")
         self.assertIn("1 answers are the same\n", self.ran("rehearse", "journal", by_port, same))
