@@ -10,6 +10,8 @@ import subprocess
 
 from ragvismo_service import backups
 from ragvismo_service.chain import FIRST_HEAD
+from ragvismo_service.figures import Figures
+from ragvismo_service.history import History
 from ragvismo_service.statuses import Ended, Status
 from ragvismo_service.store import Store
 from tests.standing import HERE, Service, free_port
@@ -104,6 +106,25 @@ class DayEnd(Service):
         self.assertIn("open,1\ndeposit,1,", (self.folder / "journal/next.commands").read_text())
         [copy] = (self.folder / "copies").iterdir()
         self.goes_on(copy, session.number)
+
+    def test_what_the_house_has(self) -> None:
+        """It is what the exchange says after each line, by the figures of all before."""
+        self.start_sequencer()
+        session = self.session(7)
+        for path in (HERE.parent / "examples").glob("*.commands"):
+            for line in path.read_text().splitlines():
+                session.ask(line)
+                session.ask("balance,0")
+        figures, told = Figures(), 0
+        for page in History(Store(self.place, 5, "test")).pages():
+            for answered in page:
+                has = figures.house
+                reply = figures.take(answered)
+                if reply and reply["reply"] == "balance" and not reply["account"]:
+                    told += 1
+                    self.assertEqual(has, int(reply["balance"]), answered.entry)
+        self.assertGreater(told, 20)
+        self.assertNotEqual(figures.house, 0)
 
     def goes_on(self, copy: pathlib.Path, number: int) -> None:
         """An exchange that is started from a copy answers the next message."""
