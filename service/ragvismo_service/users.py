@@ -4,8 +4,8 @@
 
 service/users.acl says who may do what. FOLDER/NAME.password has the password of each, made where
 there is none yet, for its tools (--at redis://NAME@HOST:PORT --password FOLDER/NAME.password);
-FOLDER/users.acl has the rights with the SHA-256 of the passwords, for Redis (aclfile). Only who
-runs this may read the passwords.
+FOLDER/users.acl has the rights with the SHA-256 of the passwords, for Redis (aclfile), which reads
+it when it starts, or at ACL LOAD. Only who runs this may read the passwords.
 
 It ends with 0, or with one line on standard error and status
 """

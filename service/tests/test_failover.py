@@ -147,8 +147,8 @@ class Failover(Service):
         self.assertEqual(self.published(), self.computed())
 
     def test_what_one_redis_had_alone(self) -> None:
-        """A message that is longer than what is on its way to the other is lost with the master: it was
-        not answered, and all goes on without it."""
+        """A message that is longer than what is on its way to the other is lost with the master: it
+        was not answered, and all goes on without it."""
         sequencer, old = self.start_sequencer(), self.master()
         session = self.session(7, 1)
         session.ask("open,1")
