@@ -358,9 +358,8 @@ class Style(unittest.TestCase):
 
     def test_types(self) -> None:
         with tempfile.TemporaryDirectory() as kept:
-            self.run_module("mypy", "--cache-dir", kept, "ragvismo_service", "tests", "client.py")
-            for script in ("bench", "test"):
-                self.run_module("mypy", "--cache-dir", kept, "--scripts-are-modules", script)
+            files = "ragvismo_service", "tests", "client.py", "bench", "test"
+            self.run_module("mypy", "--cache-dir", kept, "--scripts-are-modules", *files)
 
     def test_format(self) -> None:
         self.run_module("black", "--quiet", "--check", "--config", "pyproject.toml", *PYTHON)
