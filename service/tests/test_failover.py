@@ -13,9 +13,11 @@ import time
 import redis
 
 from client import Session
-from ragvismo_service import users
+from ragvismo_service import backups, users
+from ragvismo_service.chain import FIRST_HEAD
 from ragvismo_service.connecting import pool_at, pool_of
 from ragvismo_service.places import Place
+from ragvismo_service.store import Store
 from ragvismo_service.words import password
 from tests.standing import HERE, Given, Service, Trader, free_port
 
@@ -49,10 +51,8 @@ class Failover(Service):
             )
         self.until(lambda: self.is_whole(self.ports[0]))
         self.start_sentinel()
-        sentinels = (Place(port=self.sentinel_port),)
-        self.place = dataclasses.replace(self.user("gateway"), host=GROUP, sentinels=sentinels)
-        reader = dataclasses.replace(self.user("sequencer"), host=GROUP, sentinels=sentinels)
-        self.redis = redis.Redis(connection_pool=pool_of(reader, "test"))
+        self.place = self.in_group("gateway")
+        self.redis = redis.Redis(connection_pool=pool_of(self.in_group("sequencer"), "test"))
         self.at = ["--at", f"redis://sequencer@{GROUP}", "--sentinel", str(self.sentinel_port)]
         self.at += ["--password", f"{self.users}/sequencer.password"]
 
@@ -60,6 +60,10 @@ class Failover(Service):
         return Place(
             port=port or self.port, user=name, password=password(f"{self.users / name}.password")
         )
+
+    def in_group(self, user: str) -> Place:
+        sentinels = (Place(port=self.sentinel_port),)
+        return dataclasses.replace(self.user(user), host=GROUP, sentinels=sentinels)
 
     def write_settings(self, port: int) -> None:
         """The file of one Redis, in which a sentinel writes too."""
@@ -188,3 +192,6 @@ class Failover(Service):
             self.assertFalse(trader.is_alive() or trader.fault, repr(trader.fault))
         self.assertEqual([it.poll() for it in self.sequencers], [None, None])
         self.check(traders)
+        store = Store(self.in_group("journal"), 5, "test")
+        holds = backups.made(store, self.folder / "copy", FIRST_HEAD)
+        self.assertEqual(holds.answers, len(self.published()))
