@@ -142,7 +142,7 @@ class Service(unittest.TestCase):
         except redis.ConnectionError:
             return False
 
-    def until(self, holds: Callable[[], bool], seconds: float = 60) -> None:
+    def until(self, holds: Callable[[], bool], seconds: float = 120) -> None:
         end = time.monotonic() + seconds
         while not holds():
             self.assertLess(time.monotonic(), end, "it took too long")
@@ -224,7 +224,7 @@ class Service(unittest.TestCase):
 
     def ends(self, sequencer: subprocess.Popen[str], status: Status, said: str) -> None:
         """A sequencer ends with a status, and its last line says why."""
-        told = sequencer.communicate(timeout=60)[1]
+        told = sequencer.communicate(timeout=120)[1]
         self.assertEqual(sequencer.returncode, status, told)
         self.assertNotIn("Traceback", told)
         self.assertRegex(told.splitlines()[-1], "^sequencer: ")

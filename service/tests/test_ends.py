@@ -93,7 +93,7 @@ class Ends(Service):
         with subprocess.Popen(words, stdout=subprocess.PIPE, text=True) as rehearsal:
             self.until((self.folder / "asked").exists)
             self.session(7, 2).ask("open,2")
-            told = rehearsal.communicate(timeout=60)[0]
+            told = rehearsal.communicate(timeout=120)[0]
         self.assertEqual(
             told, "2 answers are the same\nthe exchange is answered by this program now\n"
         )
@@ -233,7 +233,7 @@ class Ends(Service):
             self.append(session=7, number=number, body=b"x" * (3 << 20))
         self.redis.config_set("client-output-buffer-limit", f"normal {24 << 20} 0 0")
         sequencer = self.start_sequencer()
-        self.until(self.all_answered, 120)
+        self.until(self.all_answered)
         status = pathlib.Path(f"/proc/{sequencer.pid}/status").read_text()
         [most] = [int(line.split()[1]) for line in status.splitlines() if line.startswith("VmHWM")]
         self.assertLess(most, 120_000)

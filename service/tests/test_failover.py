@@ -188,7 +188,7 @@ class Failover(Service):
             self.replace_master()
         for trader in traders:
             trader.is_stopped = True
-            trader.join(60)
+            trader.join(120)
             self.assertFalse(trader.is_alive() or trader.fault, repr(trader.fault))
         self.assertEqual([it.poll() for it in self.sequencers], [None, None])
         self.check(traders)

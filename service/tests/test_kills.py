@@ -50,7 +50,7 @@ class Kills(Service):
     def kill_program(self) -> None:
         victim = self.random.choice(self.sequencers)
         os.kill(self.program_of(victim), signal.SIGKILL)
-        self.assertEqual(victim.wait(60), 7)
+        self.assertEqual(victim.wait(120), 7)
         self.kill(victim)
         self.start_sequencer()
 

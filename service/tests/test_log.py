@@ -236,7 +236,7 @@ class Log(Service):
         id = self.redis.xrange(IN)[3][0].decode()
         self.readers_end_changed(id)
         sequencer = self.start_sequencer()
-        sequencer.wait(60)
+        sequencer.wait(120)
         self.assertIn(sequencer.returncode, (Status.CHANGED, Status.DIFFERS))
         self.assertIn(id, sequencer.communicate()[1])
 

@@ -156,7 +156,7 @@ class Metrics(Service):
         )
         self.rules_are_of(self.told())
         self.redis.xtrim("ragvismo:in", 1, approximate=False)
-        self.assertEqual(self.sequencers[-1].wait(60), Status.CUT)
+        self.assertEqual(self.sequencers[-1].wait(120), Status.CUT)
 
     def rules_are_of(self, told: dict[str, float]) -> None:
         """Each figure of the rules is told, or is one of a clear, of which there is none yet."""

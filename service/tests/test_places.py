@@ -8,7 +8,6 @@ import os
 import pathlib
 import shutil
 import subprocess
-import time
 import unittest
 
 import redis
@@ -116,7 +115,7 @@ class Users(Service):
         """What a tool prints as a user at a place."""
         given = [str(HERE / name), *self.words(user, at), *map(str, words)]
         environment = {"SSL_CERT_FILE": str(self.folder / "certificate"), "PATH": "/usr/bin:/bin"}
-        ran = subprocess.run(given, capture_output=True, text=True, timeout=60, env=environment)
+        ran = subprocess.run(given, capture_output=True, text=True, timeout=120, env=environment)
         self.assertEqual(ran.returncode, 0, ran.stderr)
         return ran.stdout
 
@@ -207,15 +206,15 @@ class Users(Service):
 
     def test_who_is_none_of_them(self) -> None:
         """A wrong password ends a tool at once."""
-        since = time.monotonic()
         wrong = self.folder / "wrong"
         wrong.write_text("wrong\n")
-        self.tool_ends(Status.NO_REDIS, "Redis refuses", "verify")
-        at = ["--at", f"redis://journal@127.0.0.1:{self.port}", "--password", wrong]
+        # Longer than a test waits.
+        patience = ["--patience", "1000"]
+        self.tool_ends(Status.NO_REDIS, "Redis refuses", "verify", *patience)
+        at = ["--at", f"redis://journal@127.0.0.1:{self.port}", "--password", wrong, *patience]
         self.tool_ends(Status.NO_REDIS, "Redis refuses", "verify", *at)
         ran = self.tool("client.py", 7, *at, input="open,1\n")
         self.assertEqual((ran.returncode, ran.stderr.count("\n")), (Status.NO_REDIS, 1), ran.stderr)
-        self.assertLess(time.monotonic() - since, 30)
         self.tool_ends(Status.BAD_USE, "tells no password", "verify", "--password", "/none")
 
     def test_passwords_are_kept(self) -> None:
