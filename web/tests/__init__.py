@@ -1,0 +1,26 @@
+"""What the tests stand on."""
+
+from __future__ import annotations
+
+import importlib.util
+import pathlib
+import shutil
+import unittest
+from collections.abc import Callable
+from typing import TypeVar
+
+WEB = pathlib.Path(__file__).resolve().parents[1]
+TOP = WEB.parent
+Tested = TypeVar("Tested", bound=Callable[..., object])
+
+
+class Together(unittest.TestCase):
+    """Tests that share what their class sets up, and so run one after another."""
+
+
+def wants(*programs: str, modules: tuple[str, ...] = ()) -> Callable[[Tested], Tested]:
+    """Skips a test, or a class of them, where one of these is missing."""
+    missing = [name for name in programs if not shutil.which(name)]
+    missing += [name for name in modules if not importlib.util.find_spec(name)]
+    told = f"{' and '.join(missing)} is missing; tools/setup installs it"
+    return unittest.skipIf(missing, told)
