@@ -56,7 +56,7 @@ function entryOf(text, at) {
         return {text, at, batch: null, told: `line ${at}: not read, ${reply.reason}`};
     }
     const batch = batchOf(reply);
-    const said = `batch ${batch.batch}, market ${batch.market}: ${batch.mark}, ${batch.surplus}`;
+    const said = `${batch.batch}: ${batch.mark}, ${batch.surplus} (market ${batch.market})`;
     return {text, at, batch, told: said};
 }
 

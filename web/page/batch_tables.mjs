@@ -1,5 +1,5 @@
 // What the page tells of a batch in words and tables: exact, as fractions.
-import {Sums, commonDivisor, sizeOf, whole} from "./fractions.mjs";
+import {Sums, commonDivisor, isBelowZero, negative, part, whole} from "./fractions.mjs";
 import {bundleWords, sideWord, stateText, stateWords, underlying} from "./words.mjs";
 import {net, signed} from "./batch.mjs";
 import {kept, near} from "./seen.mjs";
@@ -73,16 +73,16 @@ export const settlement = prices => [1n, ...prices.map(price => BigInt(Math.roun
 
 /** What is kept at a settlement, for each of its t.
  * @param {Batch} batch @param {State} state */
-const keptEach = (batch, state) => FREE.times(kept(batch, state), {over: 1n, under: state[0]});
+const keptEach = (batch, state) => FREE.times(kept(batch, state), part(state[0]));
 
 /** @param {Batch} batch @param {State} state */
 export function keptWords(batch, state) {
     const value = keptEach(batch, state);
     const more = FREE.less(value, batch.surplus);
-    const size = both({over: sizeOf(more.over), under: more.under});
-    const beside = more.over === 0n
-        ? "just the surplus" : `${size} ${more.over > 0n ? "more" : "less"} than the surplus`;
-    return `At ${stateWords(state)} the house keeps ${both(value)}, ${beside}.`;
+    const beside = isBelowZero(more)
+        ? `${both(negative(more))} less than the surplus` : `${both(more)} more than the surplus`;
+    const told = more.over === 0n ? "just the surplus" : beside;
+    return `At ${stateWords(state)} the house keeps ${both(value)}, ${told}.`;
 }
 
 /** The settlements along one price at which an order bends, the other prices as they are.
@@ -109,8 +109,8 @@ export function curveTable(batch, axis, prices, greatest) {
     const name = underlying(axis, batch.underlyings);
     const rows = bendsOn(batch, axis, prices, greatest).map(state => {
         const value = keptEach(batch, state);
-        const owed = FREE.times(net(FREE, batch, state), {over: 1n, under: state[0]});
-        const price = FREE.times(whole(state[axis + 1]), {over: 1n, under: state[0]});
+        const owed = FREE.times(net(FREE, batch, state), part(state[0]));
+        const price = FREE.times(whole(state[axis + 1]), part(state[0]));
         return [price, owed, value, FREE.less(value, batch.surplus)].map(String);
     });
     return tableOf(`What the house keeps over the price of ${name}`,

@@ -29,6 +29,9 @@ export function commonDivisor(a, b) {
 
 /** @param {bigint} number */
 export const whole = number => new Fraction(number, 1n);
+/** The fraction of which so many are 1.
+ * @param {bigint} number above 0 */
+export const part = number => new Fraction(1n, number);
 export const ZERO = whole(0n);
 export const ONE = whole(1n);
 

@@ -55,7 +55,7 @@ class Reader {
         pattern.lastIndex = this.at;
         const found = pattern.exec(this.text);
         if (found === null) {
-            throw new NotJson(`at ${this.at + 1}`);
+            throw new NotJson(`place ${this.at + 1} of the line begins no JSON value`);
         }
         this.at = pattern.lastIndex;
         return found;
@@ -72,7 +72,7 @@ class Reader {
     /** @param {string} word */
     expect(word) {
         if (!this.meets(word)) {
-            throw new NotJson(`at ${this.at + 1}: no ${word}`);
+            throw new NotJson(`at place ${this.at + 1} of the line ${word} is missing`);
         }
     }
 
@@ -109,7 +109,7 @@ class Reader {
     inside(read) {
         this.depth += 1;
         if (this.depth > DEEPEST) {
-            throw new NotJson(`more than ${DEEPEST} levels`);
+            throw new NotJson(`it has more than ${DEEPEST} levels`);
         }
         this.at += 1;
         const value = read();
@@ -160,7 +160,7 @@ class Reader {
             text += this.escaped() + this.take(PLAIN)[0];
         }
         if (LONE.test(text)) {
-            throw new NotJson("half of a pair of surrogates");
+            throw new NotJson("a text has half of a pair of surrogates");
         }
         return text;
     }
@@ -172,7 +172,7 @@ class Reader {
         }
         const stands = ESCAPES.get(this.text[this.at] || "");
         if (stands === undefined) {
-            throw new NotJson(`at ${this.at + 1}: no such escape`);
+            throw new NotJson(`place ${this.at + 1} of the line is no escape`);
         }
         this.at += 1;
         return stands;
@@ -195,7 +195,7 @@ export function readJson(text) {
     const reader = new Reader(text);
     const value = reader.value();
     if (reader.at < text.length) {
-        throw new NotJson(`at ${reader.at + 1}: more than one value`);
+        throw new NotJson(`from place ${reader.at + 1} of the line on more than a value stands`);
     }
     return value;
 }

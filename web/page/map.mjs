@@ -86,6 +86,6 @@ export function drawMap(seen, at, width) {
         ...axes(reach, box, x, y),
         line([x(at[0]), box.top], [x(at[0]), box.bottom], "here"),
         line([box.left, y(at[1])], [box.right, y(at[1])], "here"),
-        ...seen.spots.flatMap(spot => mark(spot, reach, x, y)),
-        svg("circle", {cx: x(at[0]), cy: y(at[1]), r: 5, class: "spot"}));
+        svg("circle", {cx: x(at[0]), cy: y(at[1]), r: 5, class: "spot"}),
+        ...seen.spots.flatMap(spot => mark(spot, reach, x, y)));
 }

@@ -22,6 +22,9 @@ const READING = [
     ["Spelling", "It is spelled as the exchange spells it"],
 ];
 
+/** @param {string} told */
+const sentenceOf = told => `${told.slice(0, 1).toUpperCase()}${told.slice(1)}.`;
+
 /** The steps of the reading, up to the test that fails, if one does.
  * @param {Fault | null} fault
  * @returns {Step[]} */
@@ -32,7 +35,7 @@ function readingSteps(fault) {
         condition,
         title,
         holds: at !== failed,
-        says: at !== failed || fault === null ? "" : `${fault.message}.`,
+        says: at !== failed || fault === null ? "" : sentenceOf(fault.message),
         table: NO_TABLE,
     }));
 }
@@ -52,7 +55,7 @@ function promise({bound, mark, surplus}) {
  * @param {Step} last @param {Batch | null} batch */
 function refusal(last, batch) {
     if (last.condition !== "Wide" || batch === null) {
-        return `The condition ${last.condition} fails. ${last.says}`;
+        return last.says;
     }
     const failed = judge(batch, null).find(step => !step.holds);
     const free = failed === undefined ? "all conditions hold" : `${failed.condition} fails`;

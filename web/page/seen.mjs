@@ -1,6 +1,6 @@
 // A batch as numbers that a picture needs: rounded, and so for drawing alone. What is told in words
 // and tables is summed exactly.
-import {Sums, isBelowZero} from "./fractions.mjs";
+import {Sums, isBelowZero, whole} from "./fractions.mjs";
 import {net, premium} from "./batch.mjs";
 
 /** @typedef {import("./batch.mjs").Batch} Batch */
@@ -18,7 +18,7 @@ export const near = value => Number(value.over) / Number(value.under);
 /** What the house keeps at a settlement: the premium less the net, times t.
  * @param {Batch} batch @param {State} state */
 export const kept = (batch, state) => FREE.less(
-    FREE.times(premium(FREE, batch), {over: state[0], under: 1n}), net(FREE, batch, state));
+    FREE.times(premium(FREE, batch), whole(state[0])), net(FREE, batch, state));
 
 /** @param {Batch} batch
  * @returns {Spot[]} */

@@ -159,7 +159,7 @@ test("the steps stand in order, and the last says what fails", () => {
         "Spelling", "BatchShape", "Fill", "Cover", "Cover", "Measure", "Bound"]);
     assert.match(sentence, /leave the house 6\/7, and no fills of these orders leave more\.$/);
     const wrong = recheck(changed(BUTTERFLY, '"weight":"4"}', '"weight":"3"}'));
-    assert.match(wrong.sentence, /Bound fails\. No fills leave more than 13\/7.* says 6\/7\./);
+    assert.equal(wrong.sentence, "No fills leave more than 13/7, and the line says 6/7.");
     assert.equal(wrong.batch.surplus.toString(), "6/7");
     assert.equal(says('{"account":1,"line":1,"reply":"opened"}'), "Shape");
 });
