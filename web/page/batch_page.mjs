@@ -3,7 +3,7 @@ import {PictureView} from "./picture_view.mjs";
 import {Fault} from "./kinds.mjs";
 import {batchOf} from "./batch.mjs";
 import {element, tableElement} from "./tables.mjs";
-import {factsOf, fillTable} from "./batch_tables.mjs";
+import {brief, factsOf, fillTable} from "./batch_tables.mjs";
 import {isDrawable} from "./seen.mjs";
 import {linesOf} from "./journal.mjs";
 import {replyOrFault} from "./recheck.mjs";
@@ -56,7 +56,7 @@ function entryOf(text, at) {
         return {text, at, batch: null, told: `line ${at}: not read, ${reply.reason}`};
     }
     const batch = batchOf(reply);
-    const said = `${batch.batch}: ${batch.mark}, ${batch.surplus} (market ${batch.market})`;
+    const said = `${batch.batch}: ${batch.mark}, ${brief(batch.surplus)} (market ${batch.market})`;
     return {text, at, batch, told: said};
 }
 

@@ -20,9 +20,21 @@ const MARKS = new Map([
     ["budget", "budget: the run stopped at its budget, so each bundle is matched by itself"],
 ]);
 
-/** A fraction, and what it is near where that is not the same.
+const LONG = 12;
+
+/** A number in short: itself, or what it is near.
  * @param {Fraction} value */
-export const both = value => value.under === 1n ? `${value}` : `${value} (${rounded(near(value))})`;
+export const brief = value => `${value}`.length > LONG ? `≈ ${rounded(near(value))}` : `${value}`;
+
+/** A number, and what it is near; that first where the number is long.
+ * @param {Fraction} value */
+function both(value) {
+    if (value.under === 1n) {
+        return `${value}`;
+    }
+    const about = `≈ ${rounded(near(value))}`;
+    return `${value}`.length > LONG ? `${about} (${value})` : `${value} (${about})`;
+}
 
 /** What a line says, as pairs of name and value.
  * @param {Batch} batch
@@ -30,7 +42,8 @@ export const both = value => value.under === 1n ? `${value}` : `${value} (${roun
 export function factsOf(batch) {
     const filled = batch.fills.filter(fill => fill.over !== 0n).length;
     /** @type {[string, string][]} */
-    const bound = batch.bound === null ? [] : [["bound", both(batch.bound)]];
+    const bound = batch.bound === null ? [] : [["bound", both(batch.bound)],
+        ["gap", both(FREE.less(batch.bound, batch.surplus))]];
     return [
         ["surplus", both(batch.surplus)],
         ...bound,

@@ -67,7 +67,8 @@ function axes(reach, box, x, y) {
 function legend(most, seen, y) {
     const samples = SHADES.map((fill, at) =>
         svg("rect", {x: 12 + at * 18, y, width: 18, height: 14, fill}));
-    const told = `kept: from ${rounded(seen.surplus)} to ${rounded(seen.surplus + most)}`;
+    const [least, greatest] = [seen.surplus, seen.surplus + most].map(rounded);
+    const told = least === greatest ? `kept: ${least}` : `kept: from ${least} to ${greatest}`;
     return [...samples, label(18 + SHADES.length * 18, y + 12, told)];
 }
 

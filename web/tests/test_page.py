@@ -152,7 +152,8 @@ class Page(Together):
             )
         self.read(line.replace('"surplus":"6/7"', '"surplus":"1"'))
         self.assertEqual(self.recheck(), "✗ No: Cover. What is left is 6/7, and the line says 1.")
-        self.assertIn("6/7 (0.8571), 1/7 (0.1429) less than the surplus.", self.text("kept"))
+        told = "6/7 (≈ 0.8571), 1/7 (≈ 0.1429) less than the surplus."
+        self.assertIn(told, self.text("kept"))
         self.shot("screen-no")
 
     def test_keys_alone(self) -> None:
