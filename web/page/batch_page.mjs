@@ -52,8 +52,9 @@ function show(id, isShown) {
  * @returns {Entry} */
 function entryOf(text, at) {
     const reply = replyOrFault(text, "audit");
-    if (reply instanceof Fault) {
-        return {text, at, batch: null, told: `line ${at}: not read, ${reply.reason}`};
+    if (reply instanceof Fault || reply.get("reply") !== "cleared") {
+        const reason = reply instanceof Fault ? reply.reason : "no batch";
+        return {text, at, batch: null, told: `line ${at}: not read, ${reason}`};
     }
     const batch = batchOf(reply);
     const said = `${batch.batch}: ${batch.mark}, ${brief(batch.surplus)} (market ${batch.market})`;

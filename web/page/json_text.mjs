@@ -17,8 +17,8 @@ export class NumberText {
 export class NotJson extends Error {}
 
 const DEEPEST = 127;
-const NUMBER = /-?(?:0|[1-9][0-9]*)(?:\.([0-9]+))?(?:[eE]([+-]?[0-9]+))?/y;
-const PLAIN = /(?:[^"\\\p{Cc}]|[\u007f-\u009f])*/yu;
+const NUMBER = /-?(0|[1-9][0-9]*)(?:\.([0-9]+))?(?:[eE]([+-]?[0-9]+))?/y;
+const PLAIN = /[^"\\\u0000-\u001f]*/y;
 const LONE = /[\ud800-\udfff]/u;
 const BLANKS = /[ \n\t\r]*/y;
 const HEX = /[0-9a-fA-F]{4}/y;
@@ -28,16 +28,15 @@ const ESCAPES = new Map(Object.entries({
 // From here on there is no double: half a step above the greatest.
 const NO_DOUBLE = 2n ** 1024n - 2n ** 970n;
 
-/** Whether a number in decimals, moved by a power of ten, is below what a double holds.
- * @param {bigint} digits @param {bigint} power */
-function hasDouble(digits, power) {
-    const length = BigInt(`${digits}`.length);
-    if (digits === 0n || length + power < 300n) {
-        return true;
+/** Whether a number, its digits moved by a power of ten, is below what a double holds.
+ * @param {string} told @param {bigint} power */
+function hasDouble(told, power) {
+    const text = told.replace(/^0+/, "");
+    const places = BigInt(text.length) + power;
+    if (text === "" || places < 300n || places > 320n) {
+        return text === "" || places < 300n;
     }
-    if (length + power > 320n) {
-        return false;
-    }
+    const digits = BigInt(text);
     return power < 0n ? digits < NO_DOUBLE * 10n ** -power : digits * 10n ** power < NO_DOUBLE;
 }
 
@@ -179,11 +178,9 @@ class Reader {
     }
 
     number() {
-        const [text, decimals, power] = this.take(NUMBER);
-        const places = decimals === undefined ? "" : decimals;
-        const digits = text.replace(/[eE].*/, "").replace(/[-.]/g, "");
-        if (!hasDouble(BigInt(digits), BigInt(power || 0) - BigInt(places.length))) {
-            throw new NotJson(`${text} is out of range`);
+        const [text, whole, decimals = "", power = "0"] = this.take(NUMBER);
+        if (!hasDouble(whole + decimals, BigInt(power) - BigInt(decimals.length))) {
+            throw new NotJson(`a number at place ${this.at - text.length + 1} is out of range`);
         }
         return new NumberText(text);
     }

@@ -27,6 +27,7 @@ test("JSON keeps each digit, and the last of two keys", () => {
         '"\\ud83d\\ude00"', '"\u007f"']) {
         readJson(text);
     }
+    assert.equal(readJson(JSON.stringify("a".repeat(2e7))).length, 2e7);
     readJson("[".repeat(127) + "]".repeat(127));
     assert.throws(() => readJson("[".repeat(128) + "]".repeat(128)), NotJson);
 });
