@@ -67,8 +67,9 @@ function read(bytes) {
     const cleared = all.filter(({text}) => text.includes('"cleared"'));
     entries = cleared.map(({text, at}) => entryOf(text, at));
     told.textContent = `Lines: ${all.length}. Cleared batches: ${entries.length}.`;
-    batches.replaceChildren(...entries.map((entry, at) =>
-        element("option", {value: `${at}`}, entry.told)));
+    batches.replaceChildren();
+    entries.forEach((entry, at) =>
+        batches.append(element("option", {value: `${at}`}, entry.told)));
     choice.hidden = entries.length === 0;
     pick();
 }

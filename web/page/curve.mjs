@@ -56,11 +56,11 @@ function keptShape({points, surplus}, x, y) {
 
 /** The bars of the measure, each as high as its mass.
  * @param {Curve} curve @param {Box} box @param {Scale} x */
-function bars({axis, spots}, box, x) {
-    const settlements = spots.filter(spot => !spot.isRay);
-    const tallest = Math.max(...settlements.map(spot => spot.mass));
+function bars({axis, greatest, spots}, box, x) {
+    const settlements = spots.filter(spot => !spot.isRay && spot.prices[axis] <= greatest);
+    const tallest = Math.max(...settlements.map(spot => Math.abs(spot.mass))) || 1;
     return settlements.map(spot => {
-        const height = Math.max(2, spot.mass / tallest * (STRIP - 6));
+        const height = Math.max(2, Math.abs(spot.mass) / tallest * (STRIP - 6));
         const bar = svg("rect", {x: x(spot.prices[axis]) - 4, y: box.bottom - height, width: 8,
             height, class: "mass", "data-part": `state-${spot.place}`});
         bar.append(svg("title", {}, `state ${spot.place}: mass ${rounded(spot.mass)}`));

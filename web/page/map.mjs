@@ -41,8 +41,8 @@ function shading(cells, box) {
  * @param {Spot} spot @param {[number, number]} reach @param {Scale} x @param {Scale} y */
 function mark({place, prices, isRay}, reach, x, y) {
     const far = Math.max(prices[0] / reach[0], prices[1] / reach[1]);
-    const [cx, cy] = isRay
-        ? [x(prices[0] / far), y(prices[1] / far)] : [x(prices[0]), y(prices[1])];
+    const beyond = isRay || far > 1 ? far : 1;
+    const [cx, cy] = [x(prices[0] / beyond), y(prices[1] / beyond)];
     const kind = isRay ? "ray" : "point";
     return [
         svg("circle", {cx, cy, r: 10, class: kind, "data-part": `state-${place}`}),

@@ -11,6 +11,8 @@ import {net, premium} from "./batch.mjs";
  * a point of the measure: prices, or the direction of a ray; and weight · t, or a ray's weight */
 
 const FREE = new Sums(null);
+// No market is settled at a greater price.
+const FARTHEST = 1e9;
 
 /** @param {Fraction} value */
 export const near = value => Number(value.over) / Number(value.under);
@@ -66,7 +68,7 @@ export class Seen {
         const forms = this.orders.flatMap(order => order.legs.map(leg => leg.form));
         const bends = forms.map(form => -form[0] / form[axis + 1]);
         const seen = this.spots.filter(spot => !spot.isRay).map(spot => spot.prices[axis]);
-        const known = [...bends, ...seen].filter(price => Number.isFinite(price) && price > 0);
+        const known = [...bends, ...seen].filter(price => price > 0 && price <= FARTHEST);
         return Math.ceil(Math.max(8, ...known) * 1.25);
     }
 
@@ -93,8 +95,11 @@ function payoffAt(legs, prices) {
     }, 0);
 }
 
-/** Whether each fill is one, so that a picture of what is kept says something.
+/** Whether all parts are of one batch, so that it can be drawn.
  * @param {Batch} batch */
-export const isDrawable = ({fills, orders, underlyings}) => fills.length === orders.length
-    && orders.every(order => order.legs.every(leg => leg.form.length === underlyings + 1))
-    && !fills.some(isBelowZero);
+export function isDrawable({certificate, fills, orders, underlyings}) {
+    const forms = orders.flatMap(order => order.legs.map(leg => leg.form));
+    const states = certificate === null ? [] : certificate.measure.map(point => point.state);
+    return fills.length === orders.length && !fills.some(isBelowZero)
+        && [...forms, ...states].every(entries => entries.length === underlyings + 1);
+}

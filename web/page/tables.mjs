@@ -51,7 +51,7 @@ export function tableElement({caption, head, rows}) {
         const more = element("button", {type: "button", class: "quiet"},
             `Show all ${rows.length} rows`);
         more.addEventListener("click", () => {
-            body.append(...rows.slice(MOST).map(rowOf));
+            rows.slice(MOST).forEach(row => body.append(rowOf(row)));
             more.remove();
         });
         return element("div", {}, scroll, more);

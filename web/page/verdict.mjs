@@ -18,20 +18,26 @@ import {pays, signed} from "./batch.mjs";
  * @param {Batch} batch
  * @returns {Demand[]} */
 function demands({certificate, fills, orders, underlyings}) {
-    const entries = underlyings + 1;
-    const forms = orders.flatMap(order => order.legs.map(leg => leg.form.length));
-    const states = certificate === null ? [] : certificate.measure.map(({state}) => state.length);
+    const forms = orders.flatMap(order => order.legs.map(leg => leg.form));
+    const states = certificate === null ? [] : certificate.measure.map(point => point.state);
     const kind = certificate === null ? null : coverKind(certificate.cover);
     return [
         ["as many fills as orders", `${fills.length} for ${orders.length}`,
             fills.length === orders.length],
-        ["a cover for so many underlyings", kind === null ? "none" : `${kind.word}, ${underlyings}`,
+        ["a cover for so many underlyings", `${kind === null ? "none" : kind.word}, ${underlyings}`,
             kind === null || kind.fits(underlyings)],
-        ["an entry more than underlyings in each form", `${entries}`,
-            forms.every(length => length === entries)],
-        ["and in each state of the measure", `${entries}`,
-            states.every(length => length === entries)],
+        entriesDemand("form", forms, underlyings),
+        entriesDemand("state of the measure", states, underlyings),
     ];
+}
+
+/** @param {string} of @param {bigint[][]} lists @param {number} underlyings
+ * @returns {Demand} */
+function entriesDemand(of, lists, underlyings) {
+    const lengths = [...new Set(lists.map(list => list.length))];
+    return [`in each ${of} one entry more than underlyings`,
+        `${lengths.join(" and ") || "none"}, ${underlyings}`,
+        lengths.every(length => length === underlyings + 1)];
 }
 
 /** @param {Batch} batch
@@ -43,8 +49,8 @@ function shapeStep(batch) {
         condition: "BatchShape",
         title: "The parts fit together",
         holds: wrong === undefined,
-        says: wrong === undefined ? "" : `There must be ${wrong[0]}, but here: ${wrong[1]}.`,
-        table: tableOf("Lengths", ["there must be", "here", ""],
+        says: wrong === undefined ? "" : `Asked is: ${wrong[0]}. Here: ${wrong[1]}.`,
+        table: tableOf("Lengths", ["asked is", "here", ""],
             list.map(([what, here, holds]) => [what, here, holdsWord(holds)])),
     };
 }
@@ -76,13 +82,14 @@ function premiumStep(sums, {orders, fills, liability, surplus}) {
         return [`${order.number}`, sideWord(order), `${fills[at]}`, `${order.price}`, `${part}`];
     });
     const left = sums.less(premium, liability);
+    const belowZero = isBelowZero(surplus) ? ", which is below 0" : "";
     rows.push(["premium", "", "", "", `${premium}`], ["liability", "", "", "", `${liability}`],
         ["what is left", "", "", "", `${left}`]);
     return {
         condition: "Cover",
         title: "The premium less the liability is the surplus, and not below 0",
         holds: isSame(left, surplus) && !isBelowZero(surplus),
-        says: `What is left is ${left}, and the line says ${surplus}.`,
+        says: `What is left is ${left}, and the line says ${surplus}${belowZero}.`,
         table: tableOf("The premium: fill · price, with a minus for a sell",
             ["order", "side", "fill", "price", "fill · price"], rows),
     };
