@@ -82,11 +82,18 @@ class Recheck(unittest.TestCase):
                 text = line.encode()
                 self.assertEqual(self.reports("audit", text), said(words, text))
 
-    def test_other_words(self) -> None:
+    def test_bad_input(self) -> None:
         for given in ("", "check now", "run"):
             words = [str(WEB / "recheck"), *given.split()]
             ran = subprocess.run(words, input=b"", capture_output=True)
-            self.assertEqual((ran.returncode, ran.stdout, ran.stderr.count(b"\n")), (2, b"", 1))
+            self.refused(ran)
+        with open(os.devnull, "wb") as unreadable:
+            words = [str(WEB / "recheck"), "check"]
+            self.refused(subprocess.run(words, stdin=unreadable, capture_output=True))
+
+    def refused(self, ran: subprocess.CompletedProcess[bytes]) -> None:
+        """Bad input gets one line and status 2."""
+        self.assertEqual((ran.returncode, ran.stdout, ran.stderr.count(b"\n")), (2, b"", 1))
 
     def test_the_example_of_the_page_is_one_of_the_repository(self) -> None:
         lines = (WEB / "page/example.replies").read_text().splitlines()
