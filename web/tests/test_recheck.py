@@ -60,7 +60,7 @@ class Recheck(unittest.TestCase):
                 self.assertEqual(self.reports("audit", text), plain)
 
     def test_the_plain_check_says_the_same_of_changed_lines(self) -> None:
-        self.beside([TOP / "tools/plain-check", "audit"], 25)
+        self.beside([TOP / "tools/plain-check", "audit"], 15)
 
     @unittest.skipUnless(PROGRAM.exists(), "the program is not built")
     def test_the_program_says_the_same(self) -> None:
@@ -69,7 +69,7 @@ class Recheck(unittest.TestCase):
                 with self.subTest(journal=journal.name, word=word):
                     text = journal.read_bytes()
                     self.assertEqual(self.reports(word, text), said([PROGRAM, word], text))
-        self.beside([PROGRAM, "audit"], 60)
+        self.beside([PROGRAM, "audit"], 30)
 
     def beside(self, words: list[str | pathlib.Path], count: int) -> None:
         """The same report on so many changed lines."""
