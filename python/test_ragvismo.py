@@ -2,7 +2,6 @@
 
 from __future__ import annotations
 
-import functools
 import importlib.util
 import json
 import os
@@ -479,33 +478,6 @@ class Clearing(unittest.TestCase):
             ran = subprocess.run(command, capture_output=True, env=environment, text=True)
             self.assertEqual(ran.returncode, 0, ran.stderr)
             self.assertIn(said or "", ran.stdout)
-
-
-class Style(unittest.TestCase):
-    """All Python that the one configuration at the top holds."""
-
-    @functools.cached_property
-    def files(self) -> list[str]:
-        found = [*TOP.glob("python/**/*.py"), *TOP.glob("studies/*.py"), TOP / "tools/picture"]
-        return [str(it) for it in sorted(found) if "build" not in it.parts]
-
-    @wants("mypy")
-    def test_types(self) -> None:
-        with tempfile.TemporaryDirectory() as kept:
-            words = [PYTHON, "-m", "mypy", "--cache-dir", kept, *self.files]
-            ran = subprocess.run(words, cwd=TOP, capture_output=True, text=True)
-        self.assertEqual(ran.returncode, 0, ran.stdout)
-
-    @wants("black")
-    def test_format(self) -> None:
-        words = [PYTHON, "-m", "black", "--quiet", "--check", "--config", "pyproject.toml"]
-        ran = subprocess.run([*words, *self.files], cwd=TOP, capture_output=True)
-        self.assertEqual((ran.returncode, ran.stderr), (0, b""))
-
-    def test_width(self) -> None:
-        for file in self.files:
-            for number, line in enumerate(pathlib.Path(file).read_text().splitlines(), 1):
-                self.assertLessEqual(len(line), 100, f"{file}:{number}")
 
 
 if __name__ == "__main__":

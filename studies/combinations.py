@@ -37,7 +37,7 @@ from statistics import NormalDist
 from typing import Any, NamedTuple
 
 import common
-import counted
+from ragvismo_tools import counted
 from common import BadInput, Given, Pair, Report, Table
 from ragvismo import Batch, Cleared, Option, Order, buy, call, commands_of, program, put, sell
 

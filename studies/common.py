@@ -13,8 +13,7 @@ logging.getLogger("matplotlib").setLevel(logging.ERROR)
 sys.dont_write_bytecode = True
 TOP = pathlib.Path(__file__).resolve().parent.parent
 sys.path += [str(TOP / "python"), str(TOP / "tools")]
-import ending
-import tracked
+from ragvismo_tools import ending, tracked
 from ragvismo import Batch, Cleared, Refused, clear_many, pictures, program
 from ragvismo.faults import RagvismoError
 

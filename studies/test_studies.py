@@ -17,8 +17,8 @@ import common
 import one_market
 import spreads
 import strikes
-import tracked
 from ragvismo import call, program, put
+from ragvismo_tools import tracked
 from test_ragvismo import wants, wants_program
 
 NAMES = ("one_market", "spreads", "strikes", "combinations")

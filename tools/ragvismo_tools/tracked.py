@@ -7,5 +7,7 @@ def is_tracked(path: pathlib.Path) -> bool:
     file = path.resolve()
     if not file.is_file():
         return False
-    asked = subprocess.run(["git", "ls-files", "--error-unmatch", file.name], cwd=file.parent, capture_output=True)
+    asked = subprocess.run(
+        ["git", "ls-files", "--error-unmatch", file.name], cwd=file.parent, capture_output=True
+    )
     return asked.returncode == 0

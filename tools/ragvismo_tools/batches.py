@@ -1,4 +1,5 @@
-"""Batches of random orders, as command lines: tools/bench and tools/basket make their inputs with these."""
+"""Batches of random orders, as command lines: tools/bench and tools/basket make their inputs with
+these."""
 from random import Random
 
 
@@ -48,12 +49,14 @@ def bundles(draw: Random, orders: int, underlyings: int) -> list[str]:
             worth += counts * pays(kind, strike, sum(w * p for w, p in zip(weights, prices)))
             legs += [str(counts), kind, str(strike), *map(str, weights)]
         side, price = draw.choice(("buy", "sell")), max(0, worth + draw.randint(-10, 10))
-        lines.append(f"bundle,{draw.randint(1, 40)},1,{side},{price},{draw.randint(1, 10)},{count},{','.join(legs)}")
+        about = draw.randint(1, 40), 1, side, price, draw.randint(1, 10), count
+        lines.append(",".join(["bundle", *map(str, about), *legs]))
     return lines
 
 
 def wild(draw: Random, orders: int, underlyings: int) -> list[str]:
-    """Orders over the whole limits: weights of both signs to 1,000, and quantities of every size to 1,000,000."""
+    """Orders over the whole limits: weights of both signs to 1,000, and quantities of every size to
+    1,000,000."""
     prices = [draw.randint(1, 1_000_000) for _ in range(underlyings)]
     lines = []
     for _ in range(orders):

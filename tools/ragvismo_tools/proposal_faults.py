@@ -45,12 +45,17 @@ def keyed(value: Any, at: str, keys: Sequence[str]) -> None:
         wrong(f"{at} has {shown(over)}, and may have {', '.join(keys)} alone")
 
 
-def listed(value: Any, at: str, item: Callable[[Any, str], None], least: int = 0, most: int | None = None) -> None:
+def listed(
+    value: Any, at: str, item: Callable[[Any, str], None], least: int = 0, most: int | None = None
+) -> None:
     """A list, each item of one kind; places count from 1."""
     if type(value) is not list:
         wrong(f"{at} is {shown(value)}; a list may stand there")
     if len(value) < least or (most is not None and len(value) > most):
-        wrong(f"{at} has {len(value)} items, and may have {f'{least} to ' if least else 'at most '}{most}")
+        wrong(
+            f"{at} has {len(value)} items, and may have"
+            f" {f'{least} to ' if least else 'at most '}{most}"
+        )
     for place, each in enumerate(value, 1):
         item(each, f"item {place} of {at}")
 
@@ -72,8 +77,16 @@ def fraction(value: Any, at: str) -> None:
 
 
 def entry(value: Any, at: str) -> None:
-    if type(value) is not str or not WHOLE.fullmatch(value) or value.startswith("-") or size(value) > LIMIT:
-        wrong(f'{at} is {shown(value)}; the text of a whole number from 0 to 2^127 - 1 may stand there, like "12"')
+    if (
+        type(value) is not str
+        or not WHOLE.fullmatch(value)
+        or value.startswith("-")
+        or size(value) > LIMIT
+    ):
+        wrong(
+            f"{at} is {shown(value)}; the text of a whole number from 0 to 2^127 - 1 may stand"
+            ' there, like "12"'
+        )
 
 
 def point(value: Any, at: str) -> None:
@@ -134,7 +147,11 @@ def value_of(text: str) -> Any:
         deep = True
     except ValueError as fault:
         wrong(f"it is no JSON: {fault}")
-    return wrong(f"its lists and objects stand more than {DEPTH} deep in one another") if deep else value
+    return (
+        wrong(f"its lists and objects stand more than {DEPTH} deep in one another")
+        if deep
+        else value
+    )
 
 
 def spelled(text: str, value: Any) -> None:
@@ -142,9 +159,17 @@ def spelled(text: str, value: Any) -> None:
     print_ = json.dumps(value, separators=(",", ":"), sort_keys=True)
     if print_ == text:
         return
-    at = next((place for place, (a, b) in enumerate(zip(text, print_)) if a != b), min(len(text), len(print_)))
-    there, better = (shown(each[at:at + 12]) if at < len(each) else "nothing" for each in (text, print_))
-    wrong(f"at its sign {at + 1} stands {there}, where the exchange spells {better} (no blanks, and keys in the order of their letters)")
+    at = next(
+        (place for place, (a, b) in enumerate(zip(text, print_)) if a != b),
+        min(len(text), len(print_)),
+    )
+    there, better = (
+        shown(each[at : at + 12]) if at < len(each) else "nothing" for each in (text, print_)
+    )
+    wrong(
+        f"at its sign {at + 1} stands {there}, where the exchange spells {better} (no blanks, and"
+        " keys in the order of their letters)"
+    )
 
 
 def fault_in(text: str) -> str | None:

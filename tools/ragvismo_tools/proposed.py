@@ -1,4 +1,5 @@
-"""Proposals, as lines of `serve` have them: tools/bench and tools/hostile make their inputs with these."""
+"""Proposals, as lines of `serve` have them: tools/bench and tools/hostile make their inputs with
+these."""
 import json
 from typing import Any
 
@@ -23,15 +24,23 @@ def of_optimal(reply: dict[str, Any]) -> Proposal:
 
 
 def unfilled(orders: list[int], underlyings: int, cover: Any = None) -> Proposal:
-    """No fills, and the measure of the price 0; the cover is the line or one leaf, where none is given."""
+    """No fills, and the measure of the price 0; the cover is the line or one leaf, where none is
+    given."""
     least = "line" if underlyings == 1 else [{"leaf": []}]
     measure = [{"state": ["1"] + ["0"] * underlyings, "weight": "1"}]
     certificate = {"cover": least if cover is None else cover, "measure": measure}
-    return {"certificate": certificate, "fills": ["0"] * len(orders), "liability": "0", "orders": orders, "surplus": "0"}
+    return {
+        "certificate": certificate,
+        "fills": ["0"] * len(orders),
+        "liability": "0",
+        "orders": orders,
+        "surplus": "0",
+    }
 
 
 def full_tree(depth: int, leaf: Node, place: int = 1) -> list[Node]:
-    """The nodes in preorder of the tree that splits at the places from one on, each path at all of them."""
+    """The nodes in preorder of the tree that splits at the places from one on, each path at all of
+    them."""
     if depth == 0:
         return [leaf]
     below = full_tree(depth - 1, leaf, place + 1)
@@ -44,8 +53,8 @@ def chain(depth: int, leaf: Node) -> list[Node]:
 
 
 def covered_by_tree(depth: int, each: int) -> tuple[list[str], Proposal]:
-    """The lines of a market on two underlyings with so many buys and as many sells, and the proposal that all are filled: the
-    sells cover the buys, by a full tree."""
+    """The lines of a market on two underlyings with so many buys and as many sells, and the
+    proposal that all are filled: the sells cover the buys, by a full tree."""
     orders = ["buy,1,1,call,10,0,1,1,1"] * each + ["sell,2,1,call,0,0,1,2,2"] * each
     leaf = {"leaf": [{"at": each + it, "by": "1"} for it in range(1, each + 1)]}
     proposal = unfilled(list(range(1, 2 * each + 1)), 2, full_tree(depth, leaf))
@@ -53,8 +62,10 @@ def covered_by_tree(depth: int, each: int) -> tuple[list[str], Proposal]:
 
 
 def deep_tree(orders: int) -> tuple[list[str], Proposal]:
-    """The lines of a market on two underlyings with so many bundles of four bought options, and a proposal of no fills whose
-    tree splits at all of these."""
+    """The lines of a market on two underlyings with so many bundles of four bought options, and a
+    proposal of no fills whose tree splits at all of these."""
     bundle = "bundle,1,1,buy,0,1,4,1,call,10,1,1,1,call,20,1,2,1,put,10,1,1,1,put,20,1,2"
     cover = chain(4 * orders, {"leaf": []})
-    return ["open,1", "market,1,2", *[bundle] * orders], unfilled(list(range(1, orders + 1)), 2, cover)
+    return ["open,1", "market,1,2", *[bundle] * orders], unfilled(
+        list(range(1, orders + 1)), 2, cover
+    )

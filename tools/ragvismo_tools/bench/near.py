@@ -1,13 +1,14 @@
-"""What the word propose finds, beside the reference run and the match of each bundle alone: a table of tools/bench."""
+"""What the word propose finds, beside the reference run and the match of each bundle alone: a table
+of tools/bench."""
 import json
 from collections.abc import Iterator
 from fractions import Fraction
 from random import Random
 from typing import Any
 
-import timing
-from batches import batch, bundles, opened, wild
-from timing import held, run, table
+from ragvismo_tools import timing
+from ragvismo_tools.batches import batch, bundles, opened, wild
+from ragvismo_tools.timing import held, run, table
 
 Found = dict[str, Any]
 
@@ -23,15 +24,21 @@ def kinds(quick: bool) -> Iterator[tuple[str, int, list[list[str]]]]:
     for underlyings in (2, 3, 8):
         for orders in (20, 40, 100, 128, 256):
             seeds = [Random(f"near {underlyings} {orders} 100 {it}") for it in range(many)]
-            yield f"{underlyings} x {orders}", underlyings, [batch(it, orders, 100, underlyings) for it in seeds]
+            yield f"{underlyings} x {orders}", underlyings, [
+                batch(it, orders, 100, underlyings) for it in seeds
+            ]
     for underlyings in (1, 2, 3):
         for orders in (40, 100):
             seeds = [Random(f"near bundles {underlyings} {orders} {it}") for it in range(many)]
-            yield f"{underlyings} x {orders} bundles", underlyings, [bundles(it, orders, underlyings) for it in seeds]
+            yield f"{underlyings} x {orders} bundles", underlyings, [
+                bundles(it, orders, underlyings) for it in seeds
+            ]
     for underlyings in (1, 3):
         for orders in (20, 100):
             seeds = [Random(f"near wild {underlyings} {orders} {it}") for it in range(many)]
-            yield f"{underlyings} x {orders}, whole limits", underlyings, [wild(it, orders, underlyings) for it in seeds]
+            yield f"{underlyings} x {orders}, whole limits", underlyings, [
+                wild(it, orders, underlyings) for it in seeds
+            ]
 
 
 def reply(program: object, lines: list[str], kind: str) -> Found:
@@ -86,11 +93,25 @@ def near(program: object, quick: bool) -> None:
         marks = [it["mark"] for it in found]
         row = [name, len(found), sum(it["surplus"] > 0 for it in found)]
         row.append(", ".join(f"{it:.0e}" for it in (gaps[0], gaps[len(gaps) // 2], gaps[-1])))
-        row += [ranged(found, "seconds", ".3f"), ranged(found, "nodes", ",d"), ranged(found, "bytes", ",d")]
+        row += [
+            ranged(found, "seconds", ".3f"),
+            ranged(found, "nodes", ",d"),
+            ranged(found, "bytes", ",d"),
+        ]
         row.append(", ".join(f"{marks.count(it)} {it}" for it in sorted(set(marks))))
         row.append("yes" if all(map(held_between, found)) else "NO")
-        row.append(f"{max(float(it['match'] / it['bound']) if it['bound'] else 0.0 for it in found):.2f}")
+        row.append(
+            f"{max(float(it['match'] / it['bound']) if it['bound'] else 0.0 for it in found):.2f}"
+        )
         rows.append([*row, f"{max(it['memory'] for it in found):.0f}"])
-    head = ["Batches", "Count", "Filled", "Gap (least, median, most)", "Seconds (median, most)", "Nodes", "Bytes of the line"]
+    head = [
+        "Batches",
+        "Count",
+        "Filled",
+        "Gap (least, median, most)",
+        "Seconds (median, most)",
+        "Nodes",
+        "Bytes of the line",
+    ]
     more = ["Reference run", "Optimum between", "Match / bound", "MiB"]
     table("What propose finds: gap is (bound - surplus) / bound", [*head, *more], rows)

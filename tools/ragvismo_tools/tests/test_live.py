@@ -1,0 +1,112 @@
+"""Live exchanges, and auctions with solvers beside them."""
+
+from __future__ import annotations
+
+from typing import Any
+import json
+import subprocess
+from fractions import Fraction
+
+from ragvismo_tools.piping import ends_of, piped
+from ragvismo_tools.places import PROGRAM, TOP
+from ragvismo_tools.tests.common import PROPOSAL, Folder, built, run
+
+
+@built
+class Live(Folder):
+    def test_a_reply_comes_before_the_next_line(self) -> None:
+        lines = (TOP / "examples/butterfly.commands").read_bytes().splitlines(True)
+        replies = (TOP / "examples/butterfly.replies").read_bytes().splitlines(True)
+        with piped([PROGRAM, "serve"], bufsize=0) as child:
+            given, told = ends_of(child)
+            for line, reply in zip(lines, replies, strict=True):
+                given.write(line)
+                self.assertEqual(told.readline(), reply)
+            given.close()
+            self.assertEqual((told.read(), child.wait()), (b"", 0))
+
+    def test_two_traders_play(self) -> None:
+        ran = run("live-demo", self.folder, "--play")
+        said = ran.stdout.decode().splitlines()
+        self.assertEqual((ran.returncode, ran.stderr, list(self.folder.iterdir())), (0, b"", []))
+        self.assertIn(
+            '     {"account":1,"balance":"95","line":11,"reply":"balance","reserved":"0"}', said
+        )
+        closed = subprocess.run(
+            f"{TOP / 'tools/live-demo'} --play | true", shell=True, stderr=subprocess.PIPE
+        )
+        self.assertEqual(closed.stderr, b"")
+        (self.folder / "one").write_text("kept")
+        self.refused(run("live-demo", self.folder, "--play"))
+        self.assertEqual((self.folder / "one").read_text(), "kept")
+
+
+# The butterfly up to its sells, and a clear whose own run stops.
+STOPPED = "".join(
+    f"{line}\n"
+    for line in (*(TOP / "examples/butterfly.commands").read_text().splitlines()[:7], "clear,1,1")
+)
+
+
+LIE = PROPOSAL.replace('"surplus":"3/7"', '"surplus":"4/7"')
+
+
+# Solvers that are of no use: one that hangs, with a child that does, one that prints noise, two
+# that flood, one that lies and one that is gone at once.
+BAD_SOLVERS = {
+    "hangs": "sleep 1000; true",
+    "noise": "while read -r book; do echo noise; echo propose,1,noise; done",
+    "lines": "exec yes propose,1,",
+    "bytes": "exec cat /dev/zero",
+    "lies": f"while read -r book; do echo 'propose,1,{LIE}'; done",
+    "gone": "exit 1",
+}
+
+
+@built
+class Auction(Folder):
+    def cleared(self, *solvers: str) -> dict[str, Any]:
+        """The cleared line of the stopped clear with solvers beside it; the log tells the same
+        replies again."""
+        log = self.folder / "log"
+        words = [word for solver in solvers for word in ("--solver", solver)]
+        ran = run("auction", *words, "--seconds", "0.5", "--log", log, input=STOPPED.encode())
+        self.assertEqual(ran.returncode, 0, ran.stderr)
+        again = subprocess.run([PROGRAM, "serve"], input=log.read_bytes(), capture_output=True)
+        self.assertEqual(again.stdout, ran.stdout)
+        reply: dict[str, Any] = json.loads(ran.stdout.splitlines()[-1])
+        return reply
+
+    def test_bad_solvers_cost_their_time_alone(self) -> None:
+        bad = [self.script(name, f"#!/bin/sh\n{text}\n") for name, text in BAD_SOLVERS.items()]
+        good = self.script(
+            "good", f"#!/bin/sh\nwhile read -r book; do echo 'propose,1,{PROPOSAL}'; done\n"
+        )
+        for solvers, mark, surplus in (
+            (bad, "budget", "0"),
+            ((*bad, good), "bounded", "3/7"),
+            ((good, *bad), "bounded", "3/7"),
+        ):
+            reply = self.cleared(*map(str, solvers))
+            self.assertEqual((reply["mark"], reply["surplus"]), (mark, surplus))
+
+    def test_the_program_is_the_solver_where_none_is_named(self) -> None:
+        reply = self.cleared()
+        self.assertEqual((reply["mark"], reply["run"]), ("bounded", "budget"))
+        self.assertLessEqual(Fraction(6, 7) - Fraction(reply["surplus"]), Fraction(1, 10**6))
+        self.assertLessEqual(Fraction(reply["bound"]) - Fraction(6, 7), Fraction(1, 10**6))
+
+    def test_each_book_is_proposed_for_at_once(self) -> None:
+        served = subprocess.run(
+            [PROGRAM, "serve"],
+            input=(STOPPED.replace("clear,1,1", "book,1")).encode(),
+            capture_output=True,
+        )
+        other, book = served.stdout.splitlines(True)[-2:]
+        with piped([PROGRAM, "propose"], bufsize=0) as child:
+            given, told = ends_of(child)
+            for _ in range(2):
+                given.write(other + b"\n" + book)
+                self.assertTrue(told.readline().startswith(b"propose,1,{"))
+            given.close()
+            self.assertEqual((told.read(), child.wait()), (b"", 0))

@@ -1,0 +1,93 @@
+"""The second check of journals."""
+
+from __future__ import annotations
+
+from typing import Any
+import json
+import os
+import re
+
+from ragvismo_tools.places import TOP
+from ragvismo_tools.tests.common import JOURNALS, Folder, run
+
+
+# The butterfly, half of it filled by a proposal, with a bound.
+BOUNDED = (
+    '{"batch":1,"bound":"6/7",'
+    '"certificate":{"cover":"line","measure":[{"state":["1","0"],"weight":"3/7"},'
+    '{"state":["1","12"],"weight":"4/7"},{"state":["0","1"],"weight":"4"}]},'
+    '"fills":["1/2","1/7","5/14"],"liability":"0","line":10,"mark":"bounded","market":1,'
+    '"orders":[{"account":1,"legs":[{"count":1,"form":[-10,1]}],"order":1,"price":6,'
+    '"quantity":1,"side":"buy"},{"account":2,"legs":[{"count":1,"form":[-5,1]}],"order":2,'
+    '"price":8,"quantity":1,"side":"sell"},{"account":3,"legs":[{"count":1,"form":[-12,1]}],'
+    '"order":3,"price":4,"quantity":1,"side":"sell"}],'
+    '"reply":"cleared","run":"budget","surplus":"3/7","underlyings":1,"units":1,"version":3}'
+)
+
+
+class PlainCheck(Folder):
+    def said(self, text: str) -> dict[str, Any]:
+        ran = run("plain-check", "check", input=text.encode())
+        report: dict[str, Any] = json.loads(ran.stdout)
+        self.assertEqual(ran.returncode, 0 if report["verdict"] == "yes" else 6)
+        return report
+
+    def test_journals_pass(self) -> None:
+        for journal in JOURNALS:
+            lines = journal.read_text().splitlines()
+            batches, optimal = (
+                sum(word in line for line in lines)
+                for word in ('"reply":"cleared"', '"mark":"optimal"')
+            )
+            report = {"batches": batches, "lines": len(lines), "optimal": optimal, "verdict": "yes"}
+            self.assertEqual(self.said(journal.read_text()), report, journal.name)
+
+    def test_lines_of_serve_are_audited(self) -> None:
+        told = '{"number":5,"of":%s,"session":1}' % BOUNDED
+        for line, reason in (
+            (BOUNDED, None),
+            (told, None),
+            (told.replace(":5,", ": 5,"), "Spelling"),
+            (told.replace(":5,", ":0,"), "Range"),
+            (told.replace('"of":', '"of":{},"of":'), "Spelling"),
+            (BOUNDED.replace('"bound":"6/7"', '"bound":"1"'), "Bound"),
+            (BOUNDED.replace('"weight":"4"', '"weight":"-4"'), "Measure"),
+        ):
+            ran = run("plain-check", "audit", input=line.encode())
+            self.assertEqual(json.loads(ran.stdout).get("reason"), reason, line)
+        for word in ("serve", "serve-sessions"):
+            self.assertEqual(
+                run(
+                    "plain-check", "audit", input=(TOP / f"examples/{word}.replies").read_bytes()
+                ).returncode,
+                0,
+            )
+
+    def test_changed_lines_are_named(self) -> None:
+        text = "".join((TOP / "examples/butterfly.replies").read_text().splitlines(True)[:8])
+        measure = re.findall(r'"certificate":{.*?}]},', text)[0]
+        changes = (
+            ('"2/7"', '"3/7"', "Cover"),
+            ('"weight":"4"', '"weight":"3"', "Bound"),
+            ('"weight":"3/7"', '"weight":"2/7"', "Measure"),
+            ('"surplus":"6/7"', '"surplus":"1"', "Cover"),
+            ('"fills":["1"', '"fills":["2"', "Fill"),
+            (',"5/7"]', "]", "BatchShape"),
+            ('"cover":"line"', '"cover":[{"leaf":[]}]', "BatchShape"),
+            ('"2/7"', '"4/14"', "Number"),
+            ('"price":6', '"price":1000000000001', "Range"),
+            ('"side":"buy"', '"side":"bid"', "Shape"),
+            ('"batch":', '"batch": ', "Spelling"),
+            (measure, "", "Shape"),
+            ("}\n", "", "NotJson"),
+        )
+        for old, new, reason in changes:
+            at = text.rindex(old)
+            report = self.said(text[:at] + new + text[at + len(old) :])
+            self.assertEqual(report, {"line": 8, "reason": reason, "verdict": "no"}, new)
+
+    def test_bad_input(self) -> None:
+        for words in ((), ("check", "now")):
+            self.refused(run("plain-check", *words, input=b""))
+        with open(os.devnull, "wb") as unreadable:
+            self.refused(run("plain-check", "check", stdin=unreadable))
