@@ -24,6 +24,8 @@ from ragvismo_tools.places import TOP
 
 # Folders whose modules test_*.py are the tests, and what stands before their names.
 FOLDERS = {"python": "", "studies": "", "tools/ragvismo_tools/tests": "ragvismo_tools.tests."}
+# Their tests take long and are begun first, so that no processor waits for them at the end.
+LONG = ("Style", "Studies", "CheckMany", "Package")
 
 
 def modules() -> Iterator[str]:
@@ -52,17 +54,18 @@ def found() -> Iterator[tuple[str, str]]:
                 yield test.id().removeprefix(f"{name}."), test.id()
 
 
+def class_of(test: str) -> str:
+    return test.partition(".")[0]
+
+
 def chosen(names: list[str]) -> list[str]:
     """The tests of these names, or all of them."""
     tests = list(found())
     for name in names:
-        if not any(name in (short, short.partition(".")[0]) for short, _ in tests):
+        if not any(name in (short, class_of(short)) for short, _ in tests):
             raise BadUse(f"no test is named {name}")
-    return [
-        whole
-        for short, whole in tests
-        if not names or short in names or short.partition(".")[0] in names
-    ]
+    taken = [it for it in tests if not names or it[0] in names or class_of(it[0]) in names]
+    return [whole for short, whole in sorted(taken, key=lambda it: class_of(it[0]) not in LONG)]
 
 
 def ran(name: str) -> tuple[str, list[str]]:

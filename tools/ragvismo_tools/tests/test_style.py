@@ -12,8 +12,9 @@ import unittest
 from ragvismo_tools.places import TOP
 
 PYTHON = "/usr/bin/python3"
-# A folder with a style of its own in its pyproject.toml is judged by that, not here.
-FOLDERS = ("examples", "python", "service", "studies", "tools", "web")
+# Folders that import from one another; a folder with a style of its own (pyproject.toml, mypy.ini)
+# has tests of its own for it.
+GROUPS = (("examples", "python", "studies", "tools"), ("service",), ("web",))
 
 
 def is_python(path: pathlib.Path) -> bool:
@@ -26,7 +27,13 @@ def is_python(path: pathlib.Path) -> bool:
 def held(folder: pathlib.Path) -> bool:
     """Whether a folder is there, and has no style of its own."""
     own = folder / "pyproject.toml"
-    return folder.is_dir() and not (own.is_file() and "[tool.black]" in own.read_text())
+    has_own = own.is_file() and "[tool.black]" in own.read_text()
+    return folder.is_dir() and not has_own and not (folder / "mypy.ini").is_file()
+
+
+def files_of(folders: tuple[str, ...]) -> list[pathlib.Path]:
+    found = [it for each in folders if held(TOP / each) for it in sorted((TOP / each).rglob("*"))]
+    return [it for it in found if it.is_file() and "build" not in it.parts and is_python(it)]
 
 
 class Style(unittest.TestCase):
@@ -34,9 +41,7 @@ class Style(unittest.TestCase):
 
     @functools.cached_property
     def files(self) -> list[pathlib.Path]:
-        folders = [TOP / name for name in FOLDERS]
-        found = [it for folder in filter(held, folders) for it in sorted(folder.rglob("*"))]
-        return [it for it in found if it.is_file() and "build" not in it.parts and is_python(it)]
+        return [it for group in GROUPS for it in files_of(group)]
 
     def judged(self, linter: str, files: list[pathlib.Path], *words: str) -> None:
         if not importlib.util.find_spec(linter):
@@ -46,10 +51,11 @@ class Style(unittest.TestCase):
         self.assertEqual(ran.returncode, 0, ran.stdout + ran.stderr)
 
     def test_types(self) -> None:
-        """Executables without an ending hold a call and no more."""
-        with tempfile.TemporaryDirectory() as kept:
-            files = [it for it in self.files if it.suffix]
-            self.judged("mypy", files, "--cache-dir", kept)
+        for group in GROUPS:
+            files = [it for it in files_of(group) if it.suffix]
+            with tempfile.TemporaryDirectory() as kept:
+                if files:
+                    self.judged("mypy", files, "--cache-dir", kept)
 
     def test_format(self) -> None:
         self.judged("black", self.files, "--quiet", "--check", "--config", "pyproject.toml")
