@@ -403,7 +403,7 @@ class Prices(unittest.TestCase):
         options = [call(10), put(5, 1, -3), call(10**9)]
         for option in options:
             for price in (Fraction(36, 7), Fraction(1, 999_983), Fraction(3), Fraction(1, 2_000)):
-                order = ragvismo.prices._order_at("buy", option, price)
+                order = ragvismo.prices.order_at("buy", option, price)
                 if order is None:
                     self.assertGreater(price.denominator * max(option.weights), 1_000)
                     continue

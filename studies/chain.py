@@ -25,12 +25,19 @@ import pathlib
 from collections.abc import Iterable
 
 import common
-import one_market
 import spreads
-from common import BadInput, Given, Table
+from common import BadInput, Given, Pair, Table
 from ragvismo import Chain, import_chain
 
 TAKEN = ("Chain", "Orders", "Strikes (ticks)", "Exercise", "Units a contract", "Left out")
+MATCHED = (
+    *("Chain", "Orders that trade: joint", "alone", "Surplus: joint", "alone"),
+    *("Quantity filled, %: joint", "alone", "Joint mark"),
+)
+QUOTED = (
+    *("Chain", "Options", "Better", "Exact spread: own quotes", "whole book", "fall, %"),
+    *("Whole: own quotes", "whole book", "fall, %"),
+)
 
 
 def taken(chain: Chain) -> list[object]:
@@ -42,17 +49,40 @@ def taken(chain: Chain) -> list[object]:
     return [chain.name, len(chain.batch.orders), strikes, *about]
 
 
+def matched(chain: Chain, pair: Pair) -> list[object]:
+    """The cells of a row that tell what is matched of a chain."""
+    sides = pair.joint, pair.each
+    return [
+        chain.name,
+        *(sum(map(bool, it.fills)) for it in sides),
+        *(f"{float(it.surplus):,.1f}" for it in sides),
+        *(f"{common.filled_share(it):.1f}" for it in sides),
+        pair.joint.mark,
+    ]
+
+
+def quoted(chain: Chain, found: spreads.Chain) -> list[object]:
+    """The cells of a row that tell what the book of a chain says of prices."""
+    better = sum(it.is_better for it in found.spreads)
+    cells: list[object] = [chain.name, len(found.spreads), better]
+    for kind in ("exact", "whole"):
+        means = (it / max(len(found.spreads), 1) for it in found.spread(kind))
+        cells += [*(f"{it:.2f}" for it in means), f"{found.fall(kind):.1f}"]
+    return cells
+
+
 def report(chains: list[Chain], given: Given) -> Iterable[Table]:
     """The tables of the chains: what was taken, what is matched, and the spreads."""
-    matched, quoted = [], []
+    rows, more = [], []
     for place, it in enumerate(chains, 1):
-        pairs = common.clear_both([it.batch], given, f"chain-{place}")
-        matched.append([it.name, *one_market.measures(pairs)])
-        found = spreads.quote_chains([it.batch], given, f"chain-{place}")
-        quoted.append([it.name, *spreads.measures(found)])
+        pair = common.clear_both(it.batch, given)
+        found, lines = spreads.quote_chain(it.batch, given)
+        common.audit([*pair, *lines], given, f"chain-{place}")
+        rows.append(matched(it, pair))
+        more.append(quoted(it, found))
     yield Table("What was taken.", TAKEN, list(map(taken, chains)))
-    yield Table("What is matched, in ticks.", ["Chain", *one_market.HEAD[2:]], matched)
-    yield Table("What the book implies, in ticks.", ["Chain", *spreads.HEAD[2:]], quoted)
+    yield Table("What is matched, in ticks.", MATCHED, rows)
+    yield Table("What the book says of prices, in ticks.", QUOTED, more)
 
 
 def read(words: argparse.Namespace) -> list[Chain]:

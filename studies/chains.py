@@ -40,24 +40,25 @@ def ask_above(value: float) -> int:
     return max(math.ceil(value + HALF_SPREAD), 0)
 
 
-def beliefs(orders: int, strikes: int, noise: float, draw: random.Random) -> Batch:
-    """Single orders for options drawn from a chain, each by a belief around the model's price."""
+def beliefs(orders: int, strikes: int, noise: float, draw: random.Random, most: int = 10) -> Batch:
+    """Single orders for options drawn from a chain, each by a belief around the model's price, of
+    quantities up to the most."""
     options, made = listed(strikes), []
     for _ in range(orders):
         option, buys = draw.choice(options), draw.random() < 0.5
-        value, quantity = worth(option) + draw.gauss(0, noise), draw.randint(1, 10)
+        value, quantity = worth(option) + draw.gauss(0, noise), draw.randint(1, most)
         price = bid_below(value) if buys else ask_above(value)
         made.append((buy if buys else sell)(option, price, quantity))
     return Batch(made)
 
 
 def quotes(strikes: int, noise: float, draw: random.Random) -> Batch:
-    """A bid and an ask for each option of a chain, around a middle of its own; no bid of 0."""
+    """A bid and an ask for each option of a chain, around a middle of its own. One seed draws the
+    same quantities, and middles that are as much further off as the noise is greater."""
     made = []
     for option in listed(strikes):
-        value = worth(option) + draw.gauss(0, noise)
-        if bid_below(value):
-            made.append(buy(option, bid_below(value), draw.randint(1, 10)))
+        value = worth(option) + noise * draw.gauss(0, 1)
+        made.append(buy(option, bid_below(value), draw.randint(1, 10)))
         made.append(sell(option, ask_above(value), draw.randint(1, 10)))
     return Batch(made)
 

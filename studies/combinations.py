@@ -1,196 +1,254 @@
 #!/usr/bin/python3
-"""Combinations: options on weighted sums of several underlyings, matched jointly and each bundle
-alone.
+"""Combinations: options on weighted sums of several underlyings in one market, or in many.
 
-    studies/combinations.py [--batches N] [--counted N] [--out FOLDER] [--journals FOLDER]
-                            [--program FILE]
+    studies/combinations.py [--batches N] [--workers N] [--out FOLDER] [--journals FOLDER]
+                            [--program FILE] [--seconds]
 
-Each order is a call or a put on one to three of the underlyings, with weights -1, 1 and 2, bid or
-asked by a belief of its trader about their prices. Of N batches (20) for each number of
-underlyings and of orders, each cleared jointly within 20,000 units and each bundle alone, told are
-how many are proved the greatest, the units, the nodes of the certificate's tree, and of those
-proved the greatest the surplus of both with the mean gain batch by batch and its interval of 95
-percent. The first few batches (--counted 2, 0 for none; of at most 40 orders) run again under
-valgrind, which counts rounds (solves of a master program), the nodes of all searches, and
-instructions: unlike seconds, these do not depend on the machine's other work. Every line is
-rechecked.
+Two kinds of books (studies/books.py), both of calls and puts that are bid and asked by beliefs of
+their traders: random ones, on one to three of the underlyings with weights -1, 1 and 2; and names,
+where six in ten orders are on a single underlying, and the others on a pair (one less another), on
+the index (one of each) or on an odd basket. Of each kind and each number of underlyings there are N
+batches of 20 orders (4) and half as many of 64; with N of 8 or more also an eighth as many of 128,
+or on two underlyings of 256. More orders on more underlyings take the solver up to half a minute a
+batch, and its tree may not fit (docs/PERFORMANCE.md). Each batch is cleared
+
+    joint    with all in one market, by the exchange's own run of 2,000 units and its solver
+    sum      with a market for each weighted sum, of all strikes
+    strike   with a market for each strike of each sum, a call and its put together
+    alone    with each option by itself
+
+No batch is left out, whatever its mark: told is for each case how far the surplus may be below the
+greatest one, at most the bound of its certificate. What one market adds is the joint surplus less
+that by sum, batch by batch, with an interval of 95 percent by t and one by resampling. Each line is
+audited. Of the batches of 20 orders `solvers.highs`, which shares no code with the exchange's
+solver, finds fills as well, and told is the greatest difference.
 
 Mirrored of Wang, Pennock, Devanur, Rothschild, Tao and Wellman (EC 2021): made markets of
 combinatorial options of different sizes, the optimum by generating constraints, and what it costs
-over orders and underlyings. Not mirrored: their way of drawing orders, and their integer program
-by a solver of floats, in place of which an exact search stands, with a bound on its numbers and
-its work. A batch that meets these bounds is matched bundle by bundle, and no bound of what it
-misses is told.
+over orders and underlyings. Not mirrored: their way of drawing orders, and their integer program by
+a solver of floats, in place of which stand the exchange's two.
 
---out writes combinations.md and combinations.svg into FOLDER, over tracked files in the whole
-study alone. --journals keeps the cleared lines of each case in FOLDER. The program is FILE, or
-what RAGVISMO_EXCHANGE names, or what ./build makes.
+--out writes combinations.md and combinations.svg into FOLDER, over tracked files in the whole study
+alone. --journals keeps the cleared lines in FOLDER, --workers are processes at once, and --seconds
+tells on standard error what each case took. The program is FILE, or what RAGVISMO_EXCHANGE names,
+or what ./build makes.
 """
 from __future__ import annotations
 
-import math
 import random
-import shutil
 import statistics
-from collections.abc import Sequence
-from statistics import NormalDist
+from collections.abc import Callable, Hashable, Sequence
+from fractions import Fraction
 from typing import Any, NamedTuple
 
 import common
-from ragvismo_tools import counted
-from common import BadInput, Given, Pair, Report, Table
-from ragvismo import Batch, Cleared, Option, Order, buy, call, commands_of, program, put, sell
+import books
+from common import BadInput, Given, Report, Table
+from ragvismo import Batch, Cleared, Exchange, Order, clear, solvers
 
-WHOLE, COUNTED, MOST_COUNTED = 20, 2, 40
-UNDERLYINGS = (2, 3, 4, 8)
-ORDERS = (10, 20, 40, 80)
-WEIGHTS = (-1, 1, 1, 2)
-MIDDLE, DEVIATION, DOUBT, GRID, HALF_SPREAD = 100, 20, 8, 5, 1
-ROUND, NODE = "rounds::master_solve::solve_over::", "pricing_oracle::branches::branch::"
+WHOLE, OWN_BUDGET = 4, 2_000
+# The orders of a batch on so many underlyings, and after how many of 20 orders there is one more.
+SIZES = {2: (20, 64, 256), 3: (20, 64, 128), 4: (20, 64, 128), 8: (20, 64, 128)}
+ONE_OF = {20: 1, 64: 2, 128: 8, 256: 8}
+BOTH_SOLVERS = 20
+# A bound of no more ticks is taken for nothing.
+LITTLE = 1e-4
+# The markets that a batch is parted into, by what their orders share.
+PARTS: dict[str, Callable[[Order], Hashable]] = {
+    "sum": lambda order: order.legs[0].option.weights,
+    "strike": lambda order: (order.legs[0].option.weights, order.legs[0].option.strike),
+    "alone": lambda order: order.legs,
+}
 HEAD = (
-    *(
-        "Underlyings",
-        "Orders",
-        "Proved greatest",
-        "Marks",
-        "Units: median",
-        "greatest",
-        "Nodes: median",
-        "greatest",
-    ),
-    *("Surplus: joint", "alone", "gain"),
+    *("Books", "Underlyings", "Orders", "n", "Marks", "Gap, % of the bound: median", "greatest"),
+    *("Surplus: bound", "joint", "by sum", "by strike", "alone"),
+    *("Joint less by sum", "resampled"),
 )
-COUNTED_HEAD = (
-    "Underlyings",
-    "Orders",
-    "Batches",
-    "Rounds",
-    "Nodes of all searches",
-    "Instructions (millions)",
+FILLED_HEAD = (
+    *("Books", "Underlyings", "Orders", "Filled, % of the quantity: joint", "by sum", "by strike"),
+    *("alone", "Orders that trade: joint", "by sum", "by strike", "alone"),
+)
+WORK_HEAD = (
+    *("Books", "Underlyings", "Orders", "Units: median", "greatest", "Nodes: median", "greatest"),
+    "HiGHS differs by, % of the bound",
 )
 
 
 class Case(NamedTuple):
-    """The batches of a number of underlyings and of orders, and what was counted of the first."""
+    """A kind of books, a number of underlyings, and one of orders."""
 
+    books: str
     underlyings: int
     orders: int
-    pairs: list[Pair]
-    counts: list[tuple[int, int, float]]
+
+
+class Market(NamedTuple):
+    """What a batch leaves, how much of its quantity is filled, in percent, and of how many orders
+    some."""
+
+    surplus: float
+    filled: float
+    traded: int
+
+
+class Found(NamedTuple):
+    """A batch cleared in each way, with its mark, bound, units and nodes, and what another solver
+    finds, in ticks."""
+
+    joint: Market
+    parts: dict[str, Market]
+    mark: str
+    bound: float
+    units: int
+    nodes: int
+    highs: float | None
 
     @property
-    def proved(self) -> list[Pair]:
-        """Those whose surplus is proved the greatest; no other mark bounds what it misses."""
-        return [it for it in self.pairs if it.joint.mark == "optimal"]
+    def gap(self) -> float:
+        """By how much the greatest surplus may be above the joint one, in percent of the bound."""
+        return 100 * (1 - self.joint.surplus / self.bound) if self.bound > LITTLE else 0.0
 
 
-def order(underlyings: int, draw: random.Random) -> Order:
-    """An order on some of the underlyings, by a belief about each price and half a spread."""
-    chosen = draw.sample(range(underlyings), min(draw.randint(1, 3), underlyings))
-    weights = [draw.choice(WEIGHTS) if it in chosen else 0 for it in range(underlyings)]
-    middle, deviation = MIDDLE * sum(weights), DEVIATION * math.hypot(*weights)
-    option = draw.choice((call, put))(
-        GRID * round(draw.gauss(middle, deviation / 2) / GRID), *weights
+def market(batch: Batch, surplus: Fraction, fills: Sequence[Fraction]) -> Market:
+    whole = sum(it.quantity for it in batch.orders)
+    return Market(float(surplus), 100 * float(sum(fills)) / whole, sum(map(bool, fills)))
+
+
+def in_parts(batch: Batch, share: Callable[[Order], Hashable], given: Given) -> list[Cleared]:
+    """The markets of a batch, each cleared by itself; those of one order are left out."""
+    parts: dict[Hashable, list[Order]] = {}
+    for order in batch.orders:
+        parts.setdefault(share(order), []).append(order)
+    batches = [Batch(orders) for orders in parts.values() if len(orders) > 1]
+    found = common.clear_together(batches, given)
+    return [
+        it if it.mark == "optimal" else clear(of, solver="exchange", path=given.program)
+        for of, it in zip(batches, found, strict=True)
+    ]
+
+
+def bound_of(batch: Batch, joint: Cleared, given: Given) -> Fraction:
+    """The bound of a batch: of its line, or where nothing better than the match was proposed, so
+    that the line has none, of what was proposed."""
+    if joint.bound is not None:
+        return joint.bound
+    with Exchange(given.program) as exchange:
+        exchange.open(account=1)
+        exchange.deposit(account=1, amount=common.FUNDS)
+        exchange.market(market=1, underlyings=batch.underlyings)
+        for order in batch.orders:
+            exchange.place(order, market=1)
+        proposed = exchange.propose(market=1)
+    if proposed is None:
+        raise BadInput("the exchange's solver proposes nothing")
+    return proposed.bound
+
+
+def together(batch: Batch, found: Sequence[Cleared]) -> Market:
+    fills = [fill for it in found for fill in it.fills]
+    return market(batch, sum((it.surplus for it in found), Fraction(0)), fills)
+
+
+def one(case: Case, number: int, given: Given) -> tuple[Found | None, list[Cleared]]:
+    if (number + 1) % ONE_OF[case.orders]:
+        return None, []
+    draw = random.Random(f"combinations {case.books} {case.underlyings} {number}")
+    batch = books.KINDS[case.books](case.underlyings, case.orders, draw)
+    joint = clear(batch, solver="exchange", budget=OWN_BUDGET, path=given.program)
+    parted = {name: in_parts(batch, share, given) for name, share in PARTS.items()}
+    other = solvers.highs(batch).surplus(batch) if case.orders == BOTH_SOLVERS else None
+    found = Found(
+        market(batch, joint.surplus, joint.fills),
+        {name: together(batch, it) for name, it in parted.items()},
+        joint.mark,
+        float(bound_of(batch, joint, given)),
+        joint.units,
+        len(joint.certificate.cover),
+        None if other is None else float(other),
     )
-    believed = sum(weight * draw.gauss(MIDDLE, DOUBT) for weight in weights)
-    value, quantity = worth(option, believed, deviation), draw.randint(1, 10)
-    if draw.random() < 0.5:
-        return buy(option, max(math.floor(value - HALF_SPREAD), 0), quantity)
-    return sell(option, math.ceil(value + HALF_SPREAD), quantity)
+    return found, [joint, *(line for it in parted.values() for line in it)]
 
 
-def worth(option: Option, mean: float, deviation: float) -> float:
-    """What an option pays on average, in ticks, where the weighted price is normal."""
-    normal, above = NormalDist(), mean - option.strike
-    high = (above if option.kind == "call" else -above) / deviation
-    return deviation * (high * normal.cdf(high) + normal.pdf(high))
+def measures(of: Sequence[Found]) -> list[object]:
+    """The cells on surplus and gap."""
+    gaps = [it.gap for it in of]
+    more = [it.joint.surplus - it.parts["sum"].surplus for it in of]
+    surplus = [[it.bound for it in of], [it.joint.surplus for it in of]]
+    surplus += [[it.parts[name].surplus for it in of] for name in PARTS]
+    return [
+        *(len(of), common.counts([it.mark for it in of])),
+        *(f"{it:.1g}" for it in (statistics.median(gaps), max(gaps))),
+        *(f"{statistics.mean(it):,.1f}" for it in surplus),
+        *(common.told(more, 1), common.ends(more, 1)),
+    ]
 
 
-def batch(underlyings: int, orders: int, number: int) -> Batch:
-    draw = random.Random(f"combinations {underlyings} {number}")
-    return Batch([order(underlyings, draw) for _ in range(orders)])
+def filled(of: Sequence[Found]) -> list[object]:
+    """The cells on what trades."""
+    ways = [[it.joint for it in of], *([it.parts[name] for it in of] for name in PARTS)]
+    return [
+        *(f"{statistics.mean(it.filled for it in way):.1f}" for way in ways),
+        *(f"{statistics.mean(it.traded for it in way):.1f}" for way in ways),
+    ]
 
 
-def nodes(cleared: Cleared) -> int:
-    """How many splits and leaves the certificate's tree has."""
-    return len(cleared.certificate.cover)
-
-
-def case(underlyings: int, orders: int, given: Given) -> Case:
-    batches = [batch(underlyings, orders, number) for number in range(given.batches)]
-    pairs = common.clear_both(batches, given, f"combinations-{underlyings}-{orders}")
-    first = batches[: given.counted] if orders <= MOST_COUNTED else []
-    return Case(underlyings, orders, pairs, [count(it, given) for it in first])
-
-
-def count(of: Batch, given: Given) -> tuple[int, int, float]:
-    """Rounds, nodes of all searches, and millions of instructions of a run for a batch alone."""
-    text = "".join(f"{line}\n" for line in commands_of(of, common.BUDGET))
-    found = counted.counted(program.find(given.program), ["run"], text)
-    rounds, searched = found.calls((ROUND, NODE))
-    return rounds, searched, found.instructions
-
-
-def measures(of: Case) -> list[object]:
-    units = [it.joint.units for it in of.pairs]
-    trees = [nodes(it.joint) for it in of.proved]
-    surplus = [
-        [float(it.joint.surplus) for it in of.proved],
-        [float(it.each.surplus) for it in of.proved],
+def work(of: Sequence[Found]) -> list[object]:
+    """The cells on what it took, and on the other solver."""
+    units, nodes = [it.units for it in of], [it.nodes for it in of]
+    apart = [
+        100 * abs(it.highs - it.joint.surplus) / it.bound
+        for it in of
+        if it.highs is not None and it.bound > LITTLE
     ]
     return [
-        *(of.underlyings, of.orders, f"{len(of.proved)} of {len(of.pairs)}"),
-        common.counts([it.joint.mark for it in of.pairs]),
         *(f"{statistics.median(units):,.0f}", f"{max(units):,}"),
-        *((f"{statistics.median(trees):,.0f}", f"{max(trees):,}") if trees else ("", "")),
-        *(f"{statistics.mean(it):,.1f}" if it else "" for it in surplus),
-        common.told([it.gain for it in of.proved], 1) if of.proved else "",
+        *(f"{statistics.median(nodes):,.0f}", f"{max(nodes):,}"),
+        f"{max(apart):.1g}" if apart else "",
     ]
 
 
-def counts_of(of: Case) -> list[object]:
-    spreads = [f"{min(it):,.0f} to {max(it):,.0f}" for it in zip(*of.counts)]
-    return [of.underlyings, of.orders, len(of.counts), *spreads]
-
-
-def draw_cases(cases: Sequence[Case], panels: Sequence[Any]) -> None:
-    upper, lower = panels
-    places = range(len(ORDERS))
-    for underlyings, look in zip(UNDERLYINGS, ("k-o", "k--s", "k-.^", "k:D")):
-        mine = [it for it in cases if it.underlyings == underlyings]
-        shares = [100 * len(it.proved) / len(it.pairs) for it in mine]
-        units = [statistics.median(it.joint.units for it in of.pairs) for of in mine]
-        for axes, values in ((upper, shares), (lower, units)):
-            axes.plot(
-                places,
-                values,
-                look,
-                lw=1.6,
-                markersize=6,
-                markerfacecolor="w",
-                label=f"{underlyings} underlyings",
-            )
-    upper.set(ylabel="proved\ngreatest (%)", ylim=(0, 105))
-    lower.set(ylabel="units (median)", yscale="log", xlabel="orders")
-    for axes in panels:
-        axes.set_xticks(places, ORDERS)
-    upper.legend(frameon=False)
+def draw_cases(found: dict[Case, list[Found]], panels: Sequence[Any]) -> None:
+    """Of each kind of books the joint surplus and the others', in percent of the bound."""
+    names = {"joint": "one market", "sum": "by sum", "strike": "by strike", "alone": "alone"}
+    cases = list(found)
+    for axes, kind in zip(panels, books.KINDS):
+        mine = [case for case in cases if case.books == kind]
+        for name, look in zip(names, ("k-o", "k--s", "k-.^", "k:D")):
+            shares = [
+                common.share(
+                    ((it.joint if name == "joint" else it.parts[name]).surplus for it in found[at]),
+                    (it.bound for it in found[at]),
+                )
+                for at in mine
+            ]
+            lines = {"lw": 1.6, "markersize": 6, "markerfacecolor": "w", "label": names[name]}
+            axes.plot(range(len(mine)), shares, look, **lines)
+        axes.set_xticks(range(len(mine)), [f"{it.underlyings}\n{it.orders}" for it in mine])
+        axes.set(ylabel="surplus (% of the bound)", ylim=(0, 105), title=f"{kind} books")
+    panels[-1].set_xlabel("underlyings, and below them orders")
+    panels[0].legend(frameon=False, ncols=2, loc="center right")
 
 
 def study(given: Given) -> Report:
-    first = given.counted
-    if first and not shutil.which("valgrind"):
-        raise BadInput("valgrind is missing; tools/setup installs it, and --counted 0 does without")
-    cases = [case(underlyings, orders, given) for underlyings in UNDERLYINGS for orders in ORDERS]
-    title = (
-        f"Of {given.batches} batches each; nodes and surplus (ticks) of those proved the greatest."
-    )
-    tables = [Table(title, HEAD, [measures(it) for it in cases])]
-    if first:
-        title = f"By valgrind, least and greatest of the first {first} of these batches."
-        tables.append(Table(title, COUNTED_HEAD, [counts_of(it) for it in cases if it.counts]))
-    return Report(tables, 2, lambda panels: draw_cases(cases, panels))
+    cases = [
+        Case(kind, underlyings, orders)
+        for kind in books.KINDS
+        for underlyings, sizes in SIZES.items()
+        for orders in sizes
+    ]
+    made = common.trials(one, cases, given, "combinations")
+    held = {case: [it for it in of if it] for case, of in made.items()}
+    found = {case: of for case, of in held.items() if of}
+    rows = [
+        [[*case, *cells(of)] for case, of in found.items()] for cells in (measures, filled, work)
+    ]
+    tables = [
+        Table("Mean surplus of n batches in ticks, and what is known of it.", HEAD, rows[0]),
+        Table("What trades, in the mean.", FILLED_HEAD, rows[1]),
+        Table("What it took: turns of the own run, and nodes of the cover.", WORK_HEAD, rows[2]),
+    ]
+    return Report(tables, len(books.KINDS), lambda panels: draw_cases(found, panels))
 
 
 if __name__ == "__main__":
-    common.run(__doc__, WHOLE, study, COUNTED)
+    common.run(__doc__, WHOLE, study)

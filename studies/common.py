@@ -1,25 +1,38 @@
-"""What the studies share: words, clears with every certificate rechecked, tables, figures."""
+"""What the studies share: words, trials over processes with every certificate rechecked, intervals,
+tables, figures."""
 from __future__ import annotations
 
 import argparse
+import json
 import logging
 import pathlib
+import random
 import statistics
 import sys
-from collections.abc import Callable, Iterable, Sequence
-from typing import Any, NamedTuple, NoReturn
+import time
+from collections.abc import Callable, Hashable, Iterable, Sequence
+from concurrent.futures import ProcessPoolExecutor
+from functools import partial
+from typing import Any, NamedTuple, NoReturn, TypeVar
 
 logging.getLogger("matplotlib").setLevel(logging.ERROR)
 sys.dont_write_bytecode = True
 TOP = pathlib.Path(__file__).resolve().parent.parent
 sys.path += [str(TOP / "python"), str(TOP / "tools")]
 from ragvismo_tools import ending, tracked
-from ragvismo import Batch, Cleared, Refused, clear_many, pictures, program
+from ragvismo import Batch, Cleared, Refused, clear, cleared, pictures, program
+from ragvismo.exchange import command_of, refused
 from ragvismo.faults import RagvismoError
 
 BUDGET = 20_000
+# What an account that holds all orders of a batch has, in ticks.
+FUNDS = 10**15
+# So many samples with replacement, of which the middle 95 percent are an interval.
+SAMPLES = 2_000
 # Twice the width of a column: set into one, letters have half this size.
 WIDTH, HEIGHT, LETTERS = 6.8, 2.7, 13
+CaseOf = TypeVar("CaseOf", bound=Hashable)
+Found = TypeVar("Found")
 
 
 class BadInput(Exception):
@@ -28,14 +41,16 @@ class BadInput(Exception):
 
 class Given(NamedTuple):
     """How a study is asked for: the program, or None for the usual one, the folders for the cleared
-    lines and for the results, or None, the batches of each case, and how many valgrind counts.
+    lines and for the results, or None, the batches of each case, the processes, and whether it is
+    told what each case took.
     """
 
     program: pathlib.Path | None
     journals: pathlib.Path | None
     batches: int = 1
-    counted: int = 0
+    workers: int = 1
     out: pathlib.Path | None = None
+    seconds: bool = False
 
 
 class Pair(NamedTuple):
@@ -70,16 +85,59 @@ class Report(NamedTuple):
     draw: Callable[[Sequence[Any]], None]
 
 
-def clear_both(batches: Sequence[Batch], given: Given, name: str) -> list[Pair]:
-    """Clears each batch jointly and each bundle alone, every line rechecked."""
-    joint = list(clear_many(batches, budget=BUDGET, path=given.program))
-    each = list(clear_many(batches, "each", path=given.program))
-    recheck(joint, given, f"{name}-joint")
-    recheck(each, given, f"{name}-each")
-    return [Pair(*it) for it in zip(joint, each, strict=True)]
+# Trials.
 
 
-def recheck(found: Iterable[Cleared], given: Given, name: str) -> None:
+class Trial(NamedTuple):
+    """What was found in one trial, the lines that were cleared in it, and what it took."""
+
+    found: Any
+    lines: list[str]
+    seconds: float
+
+
+def trials(
+    one: Callable[[CaseOf, int, Given], tuple[Found, list[Cleared]]],
+    cases: Sequence[CaseOf],
+    given: Given,
+    name: str,
+) -> dict[CaseOf, list[Found]]:
+    """What is found in each case with the number of each batch, over processes: in one order and
+    with the same seeds however many there are. `exchange audit` judges every line that was cleared.
+    """
+    asked = [(case, number) for case in cases for number in range(given.batches)]
+    do = partial(_trial, one, given)
+    if given.workers == 1:
+        made = list(map(do, asked))
+    else:
+        with ProcessPoolExecutor(given.workers) as pool:
+            made = list(pool.map(do, asked))
+    results: dict[CaseOf, list[Found]] = {case: [] for case in cases}
+    spent: dict[CaseOf, list[float]] = {case: [] for case in cases}
+    for (case, _), trial in zip(asked, made, strict=True):
+        results[case].append(trial.found)
+        spent[case].append(trial.seconds)
+    for case, seconds in spent.items() if given.seconds else ():
+        print(f"{case}: {sum(seconds):.1f} s, at most {max(seconds):.2f} s", file=sys.stderr)
+    if given.journals:
+        lines = [line for trial in made for line in trial.lines]
+        (given.journals / f"{name}.replies").write_text("".join(f"{it}\n" for it in lines))
+    return results
+
+
+def _trial(
+    one: Callable[[CaseOf, int, Given], tuple[Found, list[Cleared]]],
+    given: Given,
+    asked: tuple[CaseOf, int],
+) -> Trial:
+    start = time.perf_counter()
+    found, lines = one(*asked, given)
+    texts = [it.text for it in lines]
+    program.check("".join(f"{it}\n" for it in texts), given.program)
+    return Trial(found, texts, time.perf_counter() - start)
+
+
+def audit(found: Iterable[Cleared], given: Given, name: str) -> None:
     """Has `exchange audit` judge cleared lines, and keeps them where that is asked for."""
     text = "".join(f"{it.text}\n" for it in found)
     program.check(text, given.program)
@@ -87,18 +145,63 @@ def recheck(found: Iterable[Cleared], given: Given, name: str) -> None:
         (given.journals / f"{name}.replies").write_text(text)
 
 
-def mean_and_reach(values: Sequence[float]) -> tuple[float, float]:
-    """The mean, and the half width of its interval of 95 percent; 0 for a single value."""
+def clear_both(batch: Batch, given: Given) -> Pair:
+    """Clears a batch jointly and each bundle alone."""
+    joint = clear(batch, budget=BUDGET, path=given.program)
+    return Pair(joint, clear(batch, "each", path=given.program))
+
+
+def clear_together(batches: Iterable[Batch], given: Given, budget: int = BUDGET) -> list[Cleared]:
+    """Clears batches on as many underlyings one after the other in one exchange, which is faster:
+    as `clear` does each, but for the numbers of the orders, which run on. Each order is of account
+    1."""
+    listed = list(batches)
+    lines = ["open,1", f"deposit,1,{FUNDS}", f"market,1,{listed[0].underlyings}" if listed else ""]
+    for batch in listed:
+        lines += [command_of(order, 1) for order in batch.orders]
+        lines.append(f"clear,1,{budget}")
+    text = "".join(f"{line}\n" for line in lines)
+    found = []
+    for command, line in zip(lines, program.run(text, "serve", given.program).splitlines()):
+        reply = json.loads(line)
+        if reply["reply"] == "refused":
+            raise refused(command, reply)
+        if reply["reply"] == "cleared":
+            found.append(cleared.read(reply, line, given.program))
+    return found
+
+
+# Numbers.
+
+
+def by_t(values: Sequence[float]) -> tuple[float, float]:
+    """The mean, and the half width of its interval of 95 percent by Student's t; 0 for a single
+    value."""
+    from scipy.special import stdtrit
+
     if len(values) < 2:
         return statistics.mean(values), 0.0
-    reach = statistics.NormalDist().inv_cdf(0.975) * statistics.stdev(values) / len(values) ** 0.5
-    return statistics.mean(values), reach
+    quantile = float(stdtrit(len(values) - 1, 0.975))
+    return statistics.mean(values), quantile * statistics.stdev(values) / len(values) ** 0.5
+
+
+def by_resampling(values: Sequence[float]) -> tuple[float, float]:
+    """The middle 95 percent of the means of samples with replacement, from one seed."""
+    draw, count = random.Random("resampling"), len(values)
+    means = sorted(sum(draw.choices(values, k=count)) / count for _ in range(SAMPLES))
+    return means[SAMPLES // 40], means[SAMPLES - 1 - SAMPLES // 40]
 
 
 def told(values: Sequence[float], digits: int = 0) -> str:
-    """The mean with the half width of its interval."""
-    mean, reach = mean_and_reach(values)
-    return f"{mean:,.{digits}f} ± {reach:,.{digits}f}"
+    """The mean with the half width of its interval by t."""
+    mean, reach = by_t(values)
+    return f"{mean:,.{digits}f}" + (f" ± {reach:,.{digits}f}" if len(values) > 1 else "")
+
+
+def ends(values: Sequence[float], digits: int = 0) -> str:
+    """The ends of the interval of the mean by resampling."""
+    low, high = by_resampling(values)
+    return f"{low:,.{digits}f} to {high:,.{digits}f}"
 
 
 def counts(words: Sequence[str]) -> str:
@@ -110,6 +213,15 @@ def filled_share(cleared: Cleared) -> float:
     """The share of the quantity that is filled, in percent."""
     whole = sum(it.quantity for it in cleared.orders)
     return 100 * float(sum(cleared.fills)) / whole if whole else 0.0
+
+
+def share(part: Iterable[float], whole: Iterable[float]) -> float:
+    """The first sum in percent of the second; 0 where that is 0."""
+    below = sum(whole)
+    return 100 * sum(part) / below if below else 0.0
+
+
+# Words.
 
 
 class Words(argparse.ArgumentParser):
@@ -127,18 +239,18 @@ def words_of(about: str | None) -> Words:
     return words
 
 
-def asked(about: str | None, batches: int, counted: int) -> Given:
+def asked(about: str | None, batches: int) -> Given:
     """What a study of made data is asked for, by its whole form; raises `BadInput`."""
     words = words_of(about)
     words.add_argument("--batches", type=int, default=batches, metavar="N")
+    words.add_argument("--workers", type=int, default=1, metavar="N")
     words.add_argument("--out", type=pathlib.Path, metavar="FOLDER")
-    if counted:
-        words.add_argument("--counted", type=int, default=counted, metavar="N")
+    words.add_argument("--seconds", action="store_true")
     given = Given(**vars(words.parse_args()))
-    if given.batches < 2 or given.counted < 0:
-        raise BadInput("--batches is at least 2, and --counted at least 0")
+    if given.batches < 2 or given.workers < 1:
+        raise BadInput("--batches is at least 2, and --workers at least 1")
     for file in results(given):
-        if (given.batches, given.counted) != (batches, counted) and tracked.is_tracked(file):
+        if given.batches != batches and tracked.is_tracked(file):
             raise BadInput(f"{file} is tracked, and this is not the whole study")
     return given
 
@@ -149,13 +261,11 @@ def results(given: Given) -> list[pathlib.Path]:
     return [given.out / f"{name}.md", given.out / f"{name}.svg"] if given.out else []
 
 
-def run(
-    about: str | None, batches: int, study: Callable[[Given], Report], counted: int = 0
-) -> None:
+def run(about: str | None, batches: int, study: Callable[[Given], Report]) -> None:
     """Runs a study, prints its tables, and writes them and its figure where that is asked for."""
 
     def main() -> None:
-        given = asked(about, batches, counted)
+        given = asked(about, batches)
         report = study(given)
         text = "\n".join(map(str, report.tables))
         print(text, end="")
@@ -177,6 +287,9 @@ def end_by(main: Callable[[], None]) -> NoReturn:
         sys.exit(2)
 
 
+# Figures.
+
+
 def save(report: Report, path: pathlib.Path) -> None:
     """Draws the figure of a study into a file."""
     import matplotlib
@@ -184,7 +297,8 @@ def save(report: Report, path: pathlib.Path) -> None:
     matplotlib.use("Agg")
     from matplotlib import pyplot
 
-    with matplotlib.rc_context({**pictures.LOOK, "font.size": LETTERS, "axes.titlesize": "medium"}):
+    look = {**pictures.LOOK, "font.size": LETTERS, "axes.titlesize": "medium"}
+    with matplotlib.rc_context(look):
         size = WIDTH, 0.4 + HEIGHT * report.panels
         figure, axes = pyplot.subplots(
             report.panels, 1, figsize=size, layout="constrained", squeeze=False
@@ -197,7 +311,7 @@ def save(report: Report, path: pathlib.Path) -> None:
 def show(
     axes: Any, places: Sequence[float], values: Sequence[Sequence[float]], look: str, **more: Any
 ) -> None:
-    """The means of values over their places, with intervals of 95 percent."""
-    means = [mean_and_reach(it) for it in values]
+    """The means of values over their places, with intervals of 95 percent by t."""
+    means = [by_t(it) for it in values]
     lines = {"markersize": 6, "capsize": 4, "lw": 1.6, "elinewidth": 1.2, **more}
     axes.errorbar(places, [it[0] for it in means], yerr=[it[1] for it in means], fmt=look, **lines)

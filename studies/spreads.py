@@ -1,193 +1,243 @@
 #!/usr/bin/python3
-"""Spreads: of each listed option the best standing bid and ask, and those that the whole book
-implies.
+"""Spreads: how far what a whole book bids and asks lies within its own quotes.
 
-    studies/spreads.py [--batches N] [--out FOLDER] [--journals FOLDER] [--program FILE]
+    studies/spreads.py [--batches N] [--workers N] [--out FOLDER] [--journals FOLDER]
+                       [--program FILE] [--seconds]
 
-A bid and an ask stand for each option of a chain, around a middle of its own: a model's price and
-noise. Noise and the number of strikes are varied, with N chains for each value (20). A chain is
-cleared, and orders that trade are taken away, until nothing trades. Of each option that still has
-both sides, `quote` tells from which whole price on one more buy, or one more sell, trades with the
-book as a whole: the implied ask and bid, where they are better than what stands. Each is tested by
-clears: at that price one more order raises the surplus, and a tick short of it not. Every line of
-a clear is rechecked.
+A bid and an ask stand for each call and each put of a chain, around a middle of its own: the
+model's price and noise. One of noise and strikes is varied at a time, with N chains for each value
+(10); the same options, quantities and draws at every noise, and every book as it stands, whether or
+not it would trade. Told are two kinds of spreads, of all options:
 
-Mirrored of Wang, Pennock, Devanur, Rothschild, Tao and Wellman (EC 2021): the best quotes of each
-listed option as orders, and where nothing trades the quotes that the consolidated book implies.
-Not mirrored: their data, quotes of real stocks. Here all is made, from fixed seeds.
+    exact    between the price above which a further buy adds to what the market can share, and the
+             price below which a further sell does (`price_bounds`): by the option's own quotes
+             these are the ask and the bid, by the whole book exact fractions
+    whole    between the least whole price at which such a buy, and the greatest at which such a
+             sell does (the line `price`): by the own quotes a tick above the ask and a tick below
+             the bid
+
+A chain's fall is what its spreads by the whole book lack, in sum, of those by their own quotes. Its
+mean has an interval of 95 percent by t, and one by resampling. Every clear is audited, and that the
+line `price` tells the whole prices is tested.
+
+Mirrored of Wang, Pennock, Devanur, Rothschild, Tao and Wellman (EC 2021): the question what a
+consolidated book says of bids and asks that no single option has. Not mirrored: their data, quotes
+of real stocks. Here all is made, from fixed seeds.
 
 --out writes spreads.md and spreads.svg into FOLDER, over tracked files in the whole study alone.
---journals keeps the cleared lines of each chain in FOLDER. The program is FILE, or what
-RAGVISMO_EXCHANGE names, or what ./build makes.
+--journals keeps the cleared lines in FOLDER, --workers are processes at once, and --seconds tells
+on standard error what each case took. The program is FILE, or what RAGVISMO_EXCHANGE names, or what
+./build makes.
 """
 from __future__ import annotations
 
-import itertools
 import json
 import random
-import statistics
-from collections.abc import Iterator, Sequence
-from typing import Any, NamedTuple
+from collections.abc import Sequence
+from fractions import Fraction
+from typing import Any, Literal, NamedTuple
 
 import common
 from chains import best, quotes
 from common import BadInput, Given, Report, Table
-from ragvismo import Batch, Option, Order, buy, clear_many, program, sell
+from ragvismo import Batch, Cleared, Option, Order, PriceBounds, program
 from ragvismo.exchange import command_of
+from ragvismo.orders import Side
+from ragvismo.prices import order_at, times_of
 
-WHOLE = 20
+WHOLE = 10
 USUAL = {"noise": 2, "strikes": 9}
 VARIED = {"noise": (0, 1, 2, 4, 8), "strikes": (3, 5, 9, 13, 17)}
-NAMES = {"noise": "noise of the quotes (ticks)", "strikes": "strikes in the chain"}
-QUOTE_BUDGET = 2_000
-FUNDS = 10**15
+NAMES = {"noise": "noise of middles (ticks)", "strikes": "strikes in the chain"}
 HEAD = (
-    *(
-        "Varied",
-        "Value",
-        "Chains that trade",
-        "Surplus (mean)",
-        "Options quoted",
-        "Spread: standing",
-    ),
-    *("implied", "Fall of a chain's spreads, %", "Options whose spread falls, %"),
+    *("Varied", "Value", "Chains", "That would trade", "Options", "Better, %"),
+    *("Exact: own quotes", "whole book", "fall of a chain's, %", "resampled"),
+    *("Whole: own quotes", "whole book", "fall of a chain's, %", "resampled"),
 )
+# From here on a further buy adds something, if it does at any price.
+HIGHEST = Fraction(10**9)
+# What is varied, and its value.
+Case = tuple[str, int]
 
 
 class Spread(NamedTuple):
-    """The best bid and ask of an option, in ticks: as they stand, and as the book implies them."""
+    """What stands for an option, and the exact prices by the whole book."""
 
     option: Option
     bid: int
     ask: int
-    implied_bid: int
-    implied_ask: int
+    bounds: PriceBounds
 
     @property
-    def standing(self) -> int:
-        return self.ask - self.bid
+    def exact(self) -> tuple[Fraction, Fraction]:
+        """The bid and the ask by the whole book; those that stand where it tells none."""
+        bid, ask = self.bounds.bid, self.bounds.ask
+        return (
+            Fraction(self.bid) if isinstance(bid, str) else bid,
+            Fraction(self.ask) if isinstance(ask, str) else ask,
+        )
 
     @property
-    def implied(self) -> int:
-        return self.implied_ask - self.implied_bid
+    def is_better(self) -> bool:
+        """Whether the whole book bids more or asks less than the option's own quotes."""
+        return self.exact[0] > self.bid or self.exact[1] < self.ask
+
+    @property
+    def whole(self) -> tuple[int, int]:
+        """The greatest whole price at which a sell trades with the whole book, and the least at
+        which a buy does."""
+        bid, ask = self.exact
+        bounds = PriceBounds(bid, ask)
+        low, high = bounds.whole_bid, bounds.whole_ask
+        assert not isinstance(low, str) and not isinstance(high, str)
+        return low, high
 
 
 class Chain(NamedTuple):
-    """What became of a chain: the surplus of what traded, in ticks, and the spreads of the rest."""
+    """What the orders of a chain leave as they stand, and its spreads."""
 
     surplus: float
     spreads: list[Spread]
 
+    def spread(self, kind: str) -> tuple[float, float]:
+        """The sums of the spreads by the own quotes and by the whole book."""
+        if kind == "exact":
+            own = sum(it.ask - it.bid for it in self.spreads)
+            return own, float(sum(it.exact[1] - it.exact[0] for it in self.spreads))
+        own = sum(it.ask - it.bid + 2 for it in self.spreads)
+        return own, float(sum(it.whole[1] - it.whole[0] for it in self.spreads))
+
+    def fall(self, kind: str) -> float:
+        """What its spreads by the whole book lack of those by their own quotes, in percent."""
+        own, whole = self.spread(kind)
+        return 100 * (1 - whole / own) if own > 0 else 0.0
+
+
+class Way(NamedTuple):
+    """One side of an option's bounds, on the way: the price that is tried, whether one at which a
+    further order adds something was, and whether the bound is found."""
+
+    option: Option
+    side: Side
+    price: Fraction
+    is_raised: bool = False
+    is_found: bool = False
+
     @property
-    def fall(self) -> float:
-        """By how much its spreads fall in all, in percent."""
-        standing = sum(it.standing for it in self.spreads)
-        implied = sum(it.implied for it in self.spreads)
-        return 100 * (standing - implied) / standing if standing else 0.0
+    def bound(self) -> Fraction | Literal["never"]:
+        return self.price if self.is_raised else "never"
 
 
-def quote_chains(batches: Sequence[Batch], given: Given, name: str) -> list[Chain]:
-    """Clears chains until nothing trades, and quotes what is left of each."""
-    surplus = [0.0] * len(batches)
-    left = [list(it.orders) for it in batches]
-    for turn in itertools.count():
-        found = list(clear_many(map(Batch, left), path=given.program))
-        common.recheck(found, given, f"{name}-clear-{turn}")
-        if not any(fill for it in found for fill in it.fills):
-            break
-        surplus = [whole + float(it.surplus) for whole, it in zip(surplus, found)]
-        left = [[of for of, fill in zip(it, its.fills) if not fill] for it, its in zip(left, found)]
-    spreads = list(implied_by(left, given))
-    confirm(spreads, left, given, f"{name}-quotes")
-    return [Chain(*it) for it in zip(surplus, spreads, strict=True)]
+def quote_chain(batch: Batch, given: Given) -> tuple[Chain, list[Cleared]]:
+    """What a book says of each option that has a bid and an ask; and all that was cleared."""
+    cleared = common.clear_together([batch], given)
+    base, standing = cleared[0], list(best(batch.orders))
+    if base.mark != "optimal":
+        none = PriceBounds("unmarked", "unmarked")
+        return Chain(float(base.surplus), [Spread(*it, none) for it in standing]), cleared
+    sides = [
+        it
+        for option, _, _ in standing
+        for it in (
+            Way(option, "buy", HIGHEST),
+            Way(option, "sell", Fraction(0)),
+        )
+    ]
+    while any(not it.is_found for it in sides):
+        sides, more = nearer(batch, base, sides, given)
+        cleared += more
+    prices = iter(it.bound for it in sides)
+    spreads = []
+    for option, bid, ask in standing:
+        high, low = next(prices), next(prices)
+        spreads.append(Spread(option, bid, ask, PriceBounds(low, high)))
+    confirm(batch, spreads, given)
+    return Chain(float(base.surplus), spreads), cleared
 
 
-def implied_by(chains: Sequence[Sequence[Order]], given: Given) -> Iterator[list[Spread]]:
-    """For each chain the spreads of what has both sides, as they stand and as its orders imply."""
-    listed = [list(best(orders)) for orders in chains]
-    lines = ["open,1", *[f"deposit,1,{FUNDS}"] * len(chains)]
-    for market, (orders, found) in enumerate(zip(chains, listed), 1):
-        lines += [f"market,{market},1", *(command_of(order, market) for order in orders)]
-        options = [option for option, _, _ in found]
-        about = f"quote,{market},{QUOTE_BUDGET}"
-        lines += [f"{about},{option.kind},{option.strike},1" for option in options]
-    text = program.run("".join(f"{line}\n" for line in lines), "quotes", given.program)
-    told = [line for line in map(json.loads, text.splitlines()) if line["reply"] == "quoted"]
-    replies = iter(told)
-    for found in listed:
-        yield [implied(*it, next(replies)) for it in found]
+def nearer(
+    batch: Batch, base: Cleared, sides: Sequence[Way], given: Given
+) -> tuple[list[Way], list[Cleared]]:
+    """Each price that is not found yet moved to where a further order may add nothing: the surplus
+    is a convex function of its price, so no further than what it adds there for each option."""
+    orders = [None if it.is_found else order_at(it.side, it.option, it.price) for it in sides]
+    asked = [it for it in orders if it]
+    cleared = common.clear_together([Batch([*batch.orders, it]) for it in asked], given)
+    replies = iter(cleared)
+    return [moved(it, order, base, replies) for it, order in zip(sides, orders)], cleared
 
 
-def implied(option: Option, bid: int, ask: int, reply: dict[str, str]) -> Spread:
-    """What stands for an option, bettered by what the reply to a quote tells."""
-    sells_from = int(reply["ask"]) if reply["ask"].isdecimal() else bid
-    buys_from = int(reply["bid"]) if reply["bid"].isdecimal() else ask
-    return Spread(option, bid, ask, max(bid, sells_from), min(ask, buys_from))
+def moved(side: Way, order: Order | None, base: Cleared, replies: Any) -> Way:
+    if order is None:
+        return side._replace(is_found=True)
+    found = next(replies)
+    if found.mark != "optimal":
+        raise BadInput(f"with the {side.option} at {side.price} the book is not cleared optimally")
+    if found.surplus == base.surplus:
+        return side._replace(is_found=True)
+    options = sum(leg.count * times_of(leg.option, side.option) for leg in order.legs)
+    step = (found.surplus - base.surplus) / (found.fills[-1] * options)
+    price = side.price + (step if side.side == "sell" else -step)
+    return side._replace(price=price, is_raised=True, is_found=price < 0)
 
 
-def confirm(
-    spreads: Sequence[Sequence[Spread]], chains: Sequence[Sequence[Order]], given: Given, name: str
-) -> None:
-    """Tests what is better than what stands: one more order trades there, and not a tick short."""
-    tests: list[tuple[Order, int, Sequence[Order]]] = []
-    for it, orders in ((it, orders) for of, orders in zip(spreads, chains) for it in of):
-        for short in (0, 1):
-            if it.implied_ask < it.ask:
-                tests.append((buy(it.option, it.implied_ask - short), short, orders))
-            if it.implied_bid > it.bid:
-                tests.append((sell(it.option, it.implied_bid + short), short, orders))
-    batches = [Batch([*orders, order]) for order, _, orders in tests]
-    found = list(clear_many(batches, path=given.program))
-    common.recheck(found, given, name)
-    for (order, short, _), cleared in zip(tests, found, strict=True):
-        if cleared.mark != "optimal" or (cleared.surplus > 0) == bool(short):
-            raise BadInput(f"a quote for the {order.options()} does not hold at {order.price}")
+def confirm(batch: Batch, spreads: Sequence[Spread], given: Given) -> None:
+    """Tests that the line `price` tells the whole prices."""
+    lines = ["open,1", f"deposit,1,{common.FUNDS}", "market,1,1"]
+    lines += [command_of(order, 1) for order in batch.orders]
+    about = f"price,1,{common.BUDGET},1"
+    lines += [f"{about},{it.option.kind},{it.option.strike},1" for it in spreads]
+    text = program.run("".join(f"{line}\n" for line in lines), "serve", given.program)
+    replies = [json.loads(line) for line in text.splitlines()][-len(spreads) :]
+    for it, reply in zip(spreads, replies):
+        wanted = tuple(map(str, it.whole))
+        told = reply["bid"], reply["ask"]
+        if told != wanted and "never" not in told:
+            raise BadInput(f"the line price tells {reply} of the {it.option}, not {wanted}")
 
 
-def case(varied: str, value: int, given: Given) -> list[Chain]:
+def one(case: Case, number: int, given: Given) -> tuple[Chain, list[Cleared]]:
+    varied, value = case
     about = {**USUAL, varied: value}
-    draws = [random.Random(f"spreads {number}") for number in range(given.batches)]
-    batches = [quotes(about["strikes"], about["noise"], draw) for draw in draws]
-    return quote_chains(batches, given, f"{varied}-{value}")
+    draw = random.Random(f"spreads {number}")
+    return quote_chain(quotes(about["strikes"], about["noise"], draw), given)
 
 
-def measures(chains: Sequence[Chain]) -> list[str]:
+def measures(chains: Sequence[Chain]) -> list[object]:
     """The cells of a row that tell what became of chains."""
     spreads = [spread for chain in chains for spread in chain.spreads]
-    fell = [it for it in spreads if it.implied < it.standing]
-    return [
-        f"{sum(it.surplus > 0 for it in chains)} of {len(chains)}",
-        f"{statistics.mean(it.surplus for it in chains):,.1f}",
-        str(len(spreads)),
-        *(
-            f"{statistics.mean(of) if of else 0:.1f}"
-            for of in ([it.standing for it in spreads], [it.implied for it in spreads])
-        ),
-        common.told([it.fall for it in chains if it.spreads] or [0.0]),
-        f"{100 * len(fell) / len(spreads) if spreads else 0:.0f}",
+    better = [it for it in spreads if it.is_better]
+    cells: list[object] = [
+        *(len(chains), sum(it.surplus > 0 for it in chains), len(spreads)),
+        f"{100 * len(better) / len(spreads) if spreads else 0:.0f}",
     ]
+    for kind in ("exact", "whole"):
+        sums = [it.spread(kind) for it in chains]
+        falls = [it.fall(kind) for it in chains]
+        means = (sum(each) / max(len(spreads), 1) for each in zip(*sums))
+        cells += [*(f"{it:.2f}" for it in means), common.told(falls, 1), common.ends(falls, 1)]
+    return cells
 
 
-def draw(cases: dict[tuple[str, int], list[Chain]], panels: Sequence[Any]) -> None:
+def draw(found: dict[Case, list[Chain]], panels: Sequence[Any]) -> None:
     for axes, (varied, values) in zip(panels, VARIED.items()):
-        falls = [
-            [it.fall for it in cases[varied, value] if it.spreads] or [0.0] for value in values
-        ]
-        common.show(axes, range(len(values)), falls, "k-o")
+        for kind, look, label in (("exact", "k-o", "exact"), ("whole", "k--s", "whole prices")):
+            falls = [[it.fall(kind) for it in found[varied, value]] for value in values]
+            by = -0.05 if kind == "exact" else 0.05
+            places = [place + by for place in range(len(values))]
+            common.show(axes, places, falls, look, label=label, markerfacecolor="w")
         axes.set_xticks(range(len(values)), values)
         axes.set(xlabel=NAMES[varied], ylabel="spreads fall by (%)", ylim=(0, None))
+    panels[0].legend(frameon=False)
 
 
 def study(given: Given) -> Report:
-    cases = {
-        (varied, value): case(varied, value, given)
-        for varied, values in VARIED.items()
-        for value in values
-    }
-    rows = [[*about, *measures(chains)] for about, chains in cases.items()]
+    cases = [(varied, value) for varied, values in VARIED.items() for value in values]
+    found = common.trials(one, cases, given, "spreads")
+    rows = [[*case, *measures(chains)] for case, chains in found.items()]
     usual = ", ".join(f"{name} {value}" for name, value in USUAL.items())
-    title = f"Of {given.batches} chains each, {usual} where not varied. Amounts in ticks."
-    return Report([Table(title, HEAD, rows)], len(VARIED), lambda panels: draw(cases, panels))
+    title = f"Means over all options, {usual} where not varied. Amounts in ticks."
+    return Report([Table(title, HEAD, rows)], len(VARIED), lambda panels: draw(found, panels))
 
 
 if __name__ == "__main__":

@@ -1,14 +1,16 @@
 #!/usr/bin/python3
 """Any strike: what free strikes add over a grid, matched jointly and each option alone.
 
-    studies/strikes.py [--batches N] [--out FOLDER] [--journals FOLDER] [--program FILE]
+    studies/strikes.py [--batches N] [--workers N] [--out FOLDER] [--journals FOLDER]
+                       [--program FILE] [--seconds]
 
 The same 40 traders a batch, with the same beliefs, place their orders on 1, 2, 4, .. 64 listed
 strikes, and then each on the very strike that it wished. Each believes the price at settlement to
 be uniform within 500 of a mean of its own, and bids or asks what its option is then worth on
 average. Each of N batches (40) is cleared jointly and each option alone. Told are the surpluses,
 the mean gain of joint clearing batch by batch, and the mean of what free strikes add to the joint
-surplus of the grid, batch by batch, with intervals of 95 percent. Every line is rechecked.
+surplus of the grid, batch by batch, with intervals of 95 percent by t and by resampling. Every line
+is audited.
 
 Mirrored of Wang, Pennock, Devanur, Rothschild, Tao and Wellman (EC 2021): that traders of one
 expiry may name any strike, and that thin options meet jointly. Not mirrored: the paper has no such
@@ -16,8 +18,9 @@ experiment, and what a trader gains from the very strike that it wished is count
 made, from fixed seeds.
 
 --out writes strikes.md and strikes.svg into FOLDER, over tracked files in the whole study alone.
---journals keeps the cleared lines of each case in FOLDER. The program is FILE, or what
-RAGVISMO_EXCHANGE names, or what ./build makes.
+--journals keeps the cleared lines in FOLDER, --workers are processes at once, and --seconds tells
+on standard error what each case took. The program is FILE, or what RAGVISMO_EXCHANGE names, or what
+./build makes.
 """
 from __future__ import annotations
 
@@ -29,7 +32,7 @@ from typing import Any, NamedTuple
 
 import common
 from common import Given, Pair, Report, Table
-from ragvismo import Batch, Option, Order, buy, call, put, sell
+from ragvismo import Batch, Cleared, Option, Order, buy, call, put, sell
 
 WHOLE, ORDERS = 40, 40
 GRIDS = (1, 2, 4, 8, 16, 32, 64)
@@ -37,8 +40,8 @@ FREE = "any"
 LOWEST, HIGHEST = 600, 1400
 MIDDLE, WIDTH, DOUBT = 1000, 500, 80
 HEAD = (
-    *("Strikes", "Joint (mean)", "Each option alone (mean)", "Gain of joint clearing"),
-    *("Joint: free strikes less this", "Joint marks"),
+    *("Strikes", "n", "Joint (mean)", "Each option alone (mean)", "Gain of joint clearing"),
+    *("resampled", "Joint: free strikes less this", "resampled", "Joint marks"),
 )
 Kind = Callable[[int], Option]
 
@@ -94,12 +97,11 @@ def grid(count: int) -> list[int]:
     ]
 
 
-def case(count: int, given: Given) -> list[Pair]:
-    """The batches on so many listed strikes, or with 0 on those that were wished."""
-    batches = [
-        Batch([it.order(grid(count)) for it in traders(number)]) for number in range(given.batches)
-    ]
-    return common.clear_both(batches, given, f"strikes-{count or FREE}")
+def one(count: int, number: int, given: Given) -> tuple[Pair, list[Cleared]]:
+    """A batch on so many listed strikes, or with 0 on those that were wished."""
+    batch = Batch([it.order(grid(count)) for it in traders(number)])
+    pair = common.clear_both(batch, given)
+    return pair, list(pair)
 
 
 def row(count: int, pairs: Sequence[Pair], free: Sequence[Pair]) -> list[object]:
@@ -110,11 +112,12 @@ def row(count: int, pairs: Sequence[Pair], free: Sequence[Pair]) -> list[object]
     added = [
         float(its.joint.surplus - it.joint.surplus) for its, it in zip(free, pairs, strict=True)
     ]
+    gains = [it.gain for it in pairs]
     return [
-        count or FREE,
+        *(count or FREE, len(pairs)),
         *(f"{it:,.0f}" for it in means),
-        common.told([it.gain for it in pairs]),
-        common.told(added) if count else "",
+        *(common.told(gains), common.ends(gains)),
+        *((common.told(added), common.ends(added)) if count else ("", "")),
         common.counts([it.joint.mark for it in pairs]),
     ]
 
@@ -139,9 +142,9 @@ def draw(cases: dict[int, list[Pair]], panels: Sequence[Any]) -> None:
 
 
 def study(given: Given) -> Report:
-    cases = {count: case(count, given) for count in (*GRIDS, 0)}
+    cases = common.trials(one, (*GRIDS, 0), given, "strikes")
     rows = [row(count, pairs, cases[0]) for count, pairs in cases.items()]
-    title = f"Surplus of a batch of {ORDERS} orders in ticks, over {given.batches} batches."
+    title = f"Surplus of a batch of {ORDERS} orders in ticks, in the mean of n."
     return Report([Table(title, HEAD, rows)], 2, lambda panels: draw(cases, panels))
 
 

@@ -1,27 +1,34 @@
 """Tests the studies in small form, as a part of tools/test: `tools/test Studies` is one class."""
 from __future__ import annotations
 
+import os
 import pathlib
-import shutil
+import random
 import subprocess
 import sys
 import tempfile
 import unittest
+from collections.abc import Callable, Hashable
+from typing import TypeVar
 from unittest import mock
 
 HERE = pathlib.Path(__file__).resolve().parent
 sys.path += [str(HERE), str(HERE.parent / "python")]
+import books
 import chains
 import combinations
 import common
+import lots
 import one_market
+import over_time
+import payments
 import spreads
 import strikes
-from ragvismo import call, program, put
+from ragvismo import Cleared, call, price_bounds, program, put
 from ragvismo_tools import tracked
 from test_ragvismo import wants, wants_program
 
-NAMES = ("one_market", "spreads", "strikes", "combinations")
+NAMES = ("one_market", "spreads", "strikes", "combinations", "payments", "over_time", "lots")
 PLAIN = common.Given(None, None)
 # The butterfly of README.md in money, and beside it a bid and an ask for the call in the middle.
 BUTTERFLY = ("C,5,,8,1,1", "C,10,6,,1,1", "C,12,0,4.00,1,1")
@@ -34,16 +41,21 @@ def row_of(cells: "list[object]") -> str:
     return f"| {' | '.join(map(str, cells))} |\n"
 
 
+Case = TypeVar("Case", bound=Hashable)
+Found = TypeVar("Found")
+
+
 @wants_program
 @wants("matplotlib")
+@wants("scipy")
 class Studies(unittest.TestCase):
-    """Each study in small form, and of its kept table one row anew, as the whole study makes it."""
+    """Each study in small form, and of its kept tables one row as the whole study makes it."""
 
     def by_command(self, name: str) -> None:
-        """Two batches of each case, with all that a study writes."""
+        """Two batches of each case, with all that a study writes, the same by two processes."""
         with tempfile.TemporaryDirectory() as given:
             folder = pathlib.Path(given)
-            words = ["--batches", "2", "--out", given, "--journals", given]
+            words = ["--batches", "2", "--workers", "2", "--out", given, "--journals", given]
             ran = subprocess.run([HERE / f"{name}.py", *words], capture_output=True, text=True)
             self.assertEqual((ran.returncode, ran.stderr), (0, ""))
             self.assertEqual(ran.stdout, (folder / f"{name}.md").read_text())
@@ -51,39 +63,82 @@ class Studies(unittest.TestCase):
             journal = next(folder.glob("*.replies"))
             self.assertGreater(program.check(journal.read_text())["batches"], 1)
 
-    def in_part(self, report: common.Report, rows: int) -> None:
-        """A study of a few cases: its first table has so many rows, and its figure is drawn."""
-        self.assertEqual(str(report.tables[0]).count("\n"), rows + 4)
+    def drawn(self, report: common.Report) -> None:
         with tempfile.TemporaryDirectory() as folder:
             common.save(report, pathlib.Path(folder) / "drawn.svg")
+
+    def whole(
+        self,
+        one: Callable[[Case, int, common.Given], tuple[Found, list[Cleared]]],
+        case: Case,
+        batches: int,
+    ) -> list[Found]:
+        """A case as the whole study has it."""
+        return common.trials(one, [case], PLAIN._replace(batches=batches), "one")[case]
 
     def committed(self, name: str, *cells: object) -> None:
         self.assertIn(row_of(list(cells)), (HERE / f"results/{name}.md").read_text())
 
     def test_one_market(self) -> None:
-        self.by_command("one_market")
-        case = one_market.case("orders", 20, PLAIN._replace(batches=one_market.WHOLE))
-        self.committed("one_market", "orders", 20, *one_market.measures(case.pairs))
+        pairs = self.whole(one_market.one, ("orders", 20), one_market.WHOLE)
+        self.committed("one_market", "orders", 20, *one_market.measures(pairs))
+        with mock.patch.object(one_market, "VARIED", {"noise": (8,), "orders": (20, 40)}):
+            self.drawn(one_market.study(PLAIN._replace(batches=2)))
 
     def test_spreads(self) -> None:
+        found = self.whole(spreads.one, ("strikes", 3), spreads.WHOLE)
+        self.committed("spreads", "strikes", 3, *spreads.measures(found))
         cases = {"noise": (2,), "strikes": (3,)}
         with mock.patch.multiple(spreads, VARIED=cases, USUAL={"noise": 2, "strikes": 3}):
-            self.in_part(spreads.study(PLAIN._replace(batches=2)), 2)
-        found = spreads.case("strikes", 3, PLAIN._replace(batches=spreads.WHOLE))
-        self.committed("spreads", "strikes", 3, *spreads.measures(found))
+            self.drawn(spreads.study(PLAIN._replace(batches=2)))
+
+    def test_exact_bounds_are_those_of_the_package(self) -> None:
+        batch = chains.quotes(3, 8, random.Random("bounds"))
+        for spread in spreads.quote_chain(batch, PLAIN)[0].spreads[:3]:
+            self.assertEqual(spread.bounds, price_bounds(batch, spread.option))
 
     def test_strikes(self) -> None:
         self.by_command("strikes")
-        given = PLAIN._replace(batches=strikes.WHOLE)
-        grid, free = strikes.case(4, given), strikes.case(0, given)
+        grid, free = (self.whole(strikes.one, count, strikes.WHOLE) for count in (4, 0))
         self.committed("strikes", *strikes.row(4, grid, free))
 
     def test_combinations(self) -> None:
-        with mock.patch.multiple(combinations, UNDERLYINGS=(2, 8), ORDERS=(10,)):
-            counted = 1 if shutil.which("valgrind") else 0
-            self.in_part(combinations.study(PLAIN._replace(batches=2, counted=counted)), 2)
-        case = combinations.case(2, 10, PLAIN._replace(batches=combinations.WHOLE))
-        self.committed("combinations", *combinations.measures(case))
+        with mock.patch.object(combinations, "SIZES", {2: (20,), 3: (20,)}):
+            self.drawn(combinations.study(PLAIN._replace(batches=2)))
+
+    def test_payments(self) -> None:
+        of = self.whole(payments.one, payments.Case(20, 0), payments.WHOLE)
+        self.committed("payments", *payments.first_row(20, of))
+        for found in of:
+            self.assertAlmostEqual(found.gains[1], found.surplus)
+        with mock.patch.multiple(payments, ORDERS=(20, 30), SHADES=(0, 2)):
+            self.drawn(payments.study(PLAIN._replace(batches=2)))
+
+    def test_over_time(self) -> None:
+        case = over_time.Case(1, "joint")
+        days = self.whole(over_time.one, case, over_time.WHOLE)
+        self.committed("over_time", *over_time.row(case, days, days))
+        with mock.patch.object(over_time, "AUCTIONS", (1, 4)):
+            self.drawn(over_time.study(PLAIN._replace(batches=2)))
+
+    def test_lots(self) -> None:
+        case = lots.Case(20, 10)
+        found = self.whole(lots.one, case, lots.WHOLE)
+        self.committed("lots", *lots.row(case, found))
+        for it in found:
+            self.assertGreaterEqual(it.surplus, it.others["whole lots"])
+            self.assertGreaterEqual(it.others["whole lots"], it.others["all or nothing"])
+        self.drawn(
+            common.Report(
+                [], 2, lambda panels: lots.draw_cases({it: found for it in lots.CASES}, panels)
+            )
+        )
+
+    def test_intervals(self) -> None:
+        """By Student's t of three values, whose quantile is 4.303; and by resampling."""
+        self.assertEqual(common.told([1.0, 2.0, 3.0], 2), "2.00 ± 2.48")
+        self.assertEqual(common.ends([1.0, 2.0, 3.0], 2), "1.00 to 3.00")
+        self.assertEqual((common.told([5.0]), common.ends([5.0, 5.0])), ("5", "5 to 5"))
 
     def test_the_model_prices_as_it_should(self) -> None:
         """A call less a put is the middle less the strike, and two prices are those of tables."""
@@ -92,19 +147,20 @@ class Studies(unittest.TestCase):
             self.assertAlmostEqual(of_call - of_put, chains.MIDDLE - strike)
             self.assertGreater(min(of_call, of_put), 0)
         self.assertAlmostEqual(chains.worth(call(1000)), 79.656, 3)
-        self.assertAlmostEqual(combinations.worth(call(100, 1, 1), 100, 20), 7.979, 3)
+        self.assertAlmostEqual(books.worth(call(100, 1, 1), 100, 20), 7.979, 3)
 
     def test_bad_use(self) -> None:
+        """All studies read their words by the same lines."""
+        uses = [["--batches", "1"], ["--workers", "0"], ["--program", "none"]]
+        if tracked.is_tracked(HERE / "results/lots.md"):
+            uses.append(["--batches", "3", "--out", str(HERE / "results")])
+        for words in uses:
+            ran = subprocess.run([HERE / "lots.py", *words], capture_output=True, text=True)
+            found = ran.returncode, ran.stdout, ran.stderr.count("\n")
+            self.assertEqual(found, (2, "", 1), words)
         for name in NAMES:
-            uses = [["--batches", "1"], ["--program", "none"]]
-            if tracked.is_tracked(HERE / f"results/{name}.md"):
-                uses.append(["--batches", "3", "--out", str(HERE / "results")])
-            for words in uses:
-                ran = subprocess.run([HERE / f"{name}.py", *words], capture_output=True, text=True)
-                found = ran.returncode, ran.stdout, ran.stderr.count("\n")
-                self.assertEqual(found, (2, "", 1), (name, words))
-            told = subprocess.run([HERE / f"{name}.py", "--help"], capture_output=True, text=True)
-            self.assertEqual((told.returncode, f"studies/{name}.py" in told.stdout), (0, True))
+            self.assertIn(f"studies/{name}.py", (HERE / f"{name}.py").read_text())
+            self.assertTrue(os.access(HERE / f"{name}.py", os.X_OK), name)
 
 
 class ChainData(unittest.TestCase):
@@ -121,9 +177,9 @@ class ChainData(unittest.TestCase):
         ran = self.ran("\n".join([f"exdate,{HEAD}", *rows]))
         self.assertEqual((ran.returncode, ran.stderr), (0, ""))
         lines = ran.stdout.splitlines(keepends=True)
-        surplus = ["3.0", "0.0", "85.7", "0.0", "85.7 ± 0.0", "66.7", "0.0", "1 optimal"]
+        surplus = [3, 0, "85.7", "0.0", "66.7", "0.0", "optimal"]
         self.assertIn(row_of(["2019-01-18", *surplus]), lines)
-        spreads = ["0 of 1", "0.0", 1, "400.0", "15.0", "96 ± 0", 100]
+        spreads = [1, 1, "400.00", "14.29", "96.4", "402.00", "16.00", "96.0"]
         self.assertIn(row_of(["2019-02-15", *spreads]), lines)
         taken = [3, "500 to 1200", "not said", "not said", "none"]
         self.assertIn(row_of(["2019-01-18", *taken]), lines)
@@ -143,7 +199,7 @@ class ChainData(unittest.TestCase):
         left = "1 rows with other strikes"
         taken = ["A", 3, "5 to 12", "American, as European", "not said", left]
         self.assertIn(row_of(list(taken)), ran.stdout)
-        self.assertIn("| A | 3.0 | 0.0 | 0.9 | 0.0 |", ran.stdout)
+        self.assertIn("| A | 3 | 0 | 0.9 | 0.0 |", ran.stdout)
 
     def test_bad_input(self) -> None:
         uses: tuple[tuple[str, tuple[str, ...], str], ...] = (

@@ -165,7 +165,7 @@ def price_bounds(
         price = Fraction(BEST[side])
         raised = False
         while base.mark == "optimal":
-            order = _order_at(side, option, price)
+            order = order_at(side, option, price)
             if order is None:
                 return "unmarked"
             found = cleared([order])
@@ -175,7 +175,7 @@ def price_bounds(
                 return price if raised else "never"
             raised = True
             options = found.fills[-1] * sum(
-                leg.count * _times(leg.option, option) for leg in order.legs
+                leg.count * times_of(leg.option, option) for leg in order.legs
             )
             step = (found.surplus - base.surplus) / options
             price += step if side == "sell" else -step
@@ -186,12 +186,12 @@ def price_bounds(
     return PriceBounds(bid=bound("sell"), ask=bound("buy"))
 
 
-def _times(option: Option, of: Option) -> int:
+def times_of(option: Option, of: Option) -> int:
     """How many of an option another one is."""
     return next(a // b for a, b in zip(option.form, of.form) if b)
 
 
-def _order_at(side: Side, option: Option, price: Fraction) -> Order | None:
+def order_at(side: Side, option: Option, price: Fraction) -> Order | None:
     """An order at an exact price for one option: for so many that the limit is whole, as a count of
     the option with greater weights and a count of itself. None where no order can be that many.
     """
