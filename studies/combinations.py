@@ -8,9 +8,9 @@ Two kinds of books (studies/books.py), both of calls and puts that are bid and a
 their traders: random ones, on one to three of the underlyings with weights -1, 1 and 2; and names,
 where six in ten orders are on a single underlying, and the others on a pair (one less another), on
 the index (one of each) or on an odd basket. Of each kind and each number of underlyings there are N
-batches of 20 orders (4) and half as many of 64; with N of 8 or more also an eighth as many of 128,
-or on two underlyings of 256. More orders on more underlyings take the solver up to half a minute a
-batch, and its tree may not fit (docs/PERFORMANCE.md). Each batch is cleared
+batches of 20 orders and of 64 (6); with N of 12 or more also a twelfth as many of 128, or on two
+underlyings of 256. More orders on more underlyings take the solver up to half a minute a batch, and
+its tree may not fit (docs/PERFORMANCE.md). Each batch is cleared
 
     joint    with all in one market, by the exchange's own run of 2,000 units and its solver
     sum      with a market for each weighted sum, of all strikes
@@ -20,8 +20,8 @@ batch, and its tree may not fit (docs/PERFORMANCE.md). Each batch is cleared
 No batch is left out, whatever its mark: told is for each case how far the surplus may be below the
 greatest one, at most the bound of its certificate. What one market adds is the joint surplus less
 that by sum, batch by batch, with an interval of 95 percent by t and one by resampling. Each line is
-audited. Of the batches of 20 orders `solvers.highs`, which shares no code with the exchange's
-solver, finds fills as well, and told is the greatest difference.
+audited. Of two batches of 20 orders of each case `solvers.highs`, which shares no code with the
+exchange's solver, finds fills as well, and told is the greatest difference.
 
 Mirrored of Wang, Pennock, Devanur, Rothschild, Tao and Wellman (EC 2021): made markets of
 combinatorial options of different sizes, the optimum by generating constraints, and what it costs
@@ -46,11 +46,12 @@ import books
 from common import BadInput, Given, Report, Table
 from ragvismo import Batch, Cleared, Exchange, Order, clear, solvers
 
-WHOLE, OWN_BUDGET = 4, 2_000
+WHOLE, OWN_BUDGET = 6, 2_000
 # The orders of a batch on so many underlyings, and after how many of 20 orders there is one more.
 SIZES = {2: (20, 64, 256), 3: (20, 64, 128), 4: (20, 64, 128), 8: (20, 64, 128)}
-ONE_OF = {20: 1, 64: 2, 128: 8, 256: 8}
-BOTH_SOLVERS = 20
+ONE_OF = {20: 1, 64: 1, 128: 12, 256: 12}
+# So many batches of so many orders are given to both solvers.
+BOTH_SOLVERS, BOTH_ORDERS = 2, 20
 # A bound of no more ticks is taken for nothing.
 LITTLE = 1e-4
 # The markets that a batch is parted into, by what their orders share.
@@ -102,6 +103,12 @@ class Found(NamedTuple):
     units: int
     nodes: int
     highs: float | None
+
+    @property
+    def more(self) -> float:
+        """What one market adds to those by sum, in ticks; what a bound of floats may take is 0."""
+        more = self.joint.surplus - self.parts["sum"].surplus
+        return more if abs(more) > LITTLE else 0.0
 
     @property
     def gap(self) -> float:
@@ -156,7 +163,8 @@ def one(case: Case, number: int, given: Given) -> tuple[Found | None, list[Clear
     batch = books.KINDS[case.books](case.underlyings, case.orders, draw)
     joint = clear(batch, solver="exchange", budget=OWN_BUDGET, path=given.program)
     parted = {name: in_parts(batch, share, given) for name, share in PARTS.items()}
-    other = solvers.highs(batch).surplus(batch) if case.orders == BOTH_SOLVERS else None
+    is_both = number < BOTH_SOLVERS and case.orders == BOTH_ORDERS
+    other = solvers.highs(batch).surplus(batch) if is_both else None
     found = Found(
         market(batch, joint.surplus, joint.fills),
         {name: together(batch, it) for name, it in parted.items()},
@@ -172,7 +180,7 @@ def one(case: Case, number: int, given: Given) -> tuple[Found | None, list[Clear
 def measures(of: Sequence[Found]) -> list[object]:
     """The cells on surplus and gap."""
     gaps = [it.gap for it in of]
-    more = [it.joint.surplus - it.parts["sum"].surplus for it in of]
+    more = [it.more for it in of]
     surplus = [[it.bound for it in of], [it.joint.surplus for it in of]]
     surplus += [[it.parts[name].surplus for it in of] for name in PARTS]
     return [

@@ -103,6 +103,10 @@ class Studies(unittest.TestCase):
         self.committed("strikes", *strikes.row(4, grid, free))
 
     def test_combinations(self) -> None:
+        case = combinations.Case("names", 2, 20)
+        found = [it for it in self.whole(combinations.one, case, combinations.WHOLE) if it]
+        for cells in (combinations.measures, combinations.filled):
+            self.committed("combinations", *case, *cells(found))
         with mock.patch.object(combinations, "SIZES", {2: (20,), 3: (20,)}):
             self.drawn(combinations.study(PLAIN._replace(batches=2)))
 
