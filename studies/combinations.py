@@ -232,9 +232,12 @@ def draw_cases(found: dict[Case, list[Found]], panels: Sequence[Any]) -> None:
             lines = {"lw": 1.6, "markersize": 6, "markerfacecolor": "w", "label": names[name]}
             axes.plot(range(len(mine)), shares, look, **lines)
         axes.set_xticks(range(len(mine)), [f"{it.underlyings}\n{it.orders}" for it in mine])
-        axes.set(ylabel="surplus (% of the bound)", ylim=(0, 105), title=f"{kind} books")
+        axes.set(ylabel="surplus (% of the bound)", ylim=(0, 105), title=kind)
     panels[-1].set_xlabel("underlyings, and below them orders")
-    panels[0].legend(frameon=False, ncols=2, loc="center right")
+    # Over the lines of the upper panel, which end at 100.
+    panels[0].set_ylim(0, 160)
+    panels[0].set_yticks(range(0, 101, 25))
+    panels[0].legend(frameon=False, ncols=2, loc="upper center")
 
 
 def study(given: Given) -> Report:
