@@ -1,5 +1,9 @@
 -- What the lines that are written are read as.
-use Rattle.std.specs.Prelude.{ℕ, ◌≡◌, ◌≤◌, List, [], ◌∷◌, ◌++◌, length, Some, None, Ok, option_map}
+use Rattle.std.specs.Prelude.{ℕ, ◌≡◌, ◌≤◌, List, [], ◌∷◌, ◌++◌, length, None, Ok}
+use Rattle.command_text.specs.declared.requests.ProposeRequest.{ProposeRequest}
+use Rattle.command_text.specs.declared.requests.Request.TheVariants.{Propose}
+use Rattle.command_text.specs.declared.words.TheConstants.{SERVED}
+use Rattle.command_text.specs.Said.{said_in}
 use Rattle.exchange_core.specs.Refusals.{by_book}
 use Rattle.exchange_core.specs.Step.{batch_in}
 use Rattle.form.specs.declared.orders.Batch.{Batch}
@@ -9,7 +13,7 @@ use Rattle.live_lines.specs.Open.{IsOneLine, line_limit}
 use Rattle.reply_print.specs.Within.{IsMarket}
 use Rattle.order_book.specs.Refusals.{live_refusals}
 use Rattle.proposal_lines.specs.Laws.{IsRefused}
-use Rattle.proposal_lines.specs.Proposed.{after_word, proposed_of, proposed_reply}
+use Rattle.proposal_lines.specs.Proposed.{proposed_of, proposed_reply}
 use Rattle.proposal_lines.specs.ProposingState.{ProposingState}
 use Rattle.proposal_text.specs.declared.submissions.Submission.{Submission}
 use Rattle.proposal_text.specs.Within.{IsSubmissionWithin}
@@ -18,7 +22,8 @@ use Rattle.book_proposals.specs.Answers.{IsBookOf, IsProposed, proposing_text, s
 
 -- a line is read as handing in just this for the market
 abbrev pub IsReadAs : List ℕ → ℕ → Submission → Type 0
-IsReadAs line market submission = option_map proposed_of (after_word line) ≡ Some (Ok (record { market = market; submission = submission }))
+IsReadAs line market submission =
+    (request : ProposeRequest) × (said_in SERVED line ≡ Ok (Propose request)) × (proposed_of line request ≡ Ok (record { market = market; submission = submission }))
 
 -- what hands in something for a market is read as that
 abbrev pub ProposingIsRead : Type 0

@@ -2,7 +2,6 @@
 use Rattle.std.proofs.Common.{◌≡◌, ℕ, suc, arith, ◌-◌, List, [], ◌∷◌, length, take, map, Bool, true, false, not, nat_eq, Option, Some, None, is_some, option_map, option_and_then, inl, inr, refl, sym, ap, ◌∙◌, true≢false, ◌||◌, ◌&&◌, ◌==◌, if◌then◌else◌}
 use Rattle.std.proofs.lemmas.Bool.{cases_Bool, and_parts, or_parts}
 use Rattle.std.specs.List.{list_all, slice_split}
-use Rattle.form.specs.Naturals.{is_empty}
 use Rattle.command_text.specs.Fields.{before_end_quote, field_of, fields_of_line, fields_of_pieces, first_of_many, has_quote, is_bare, is_readable, without_quotes}
 use Rattle.command_text.proofs.BareLines.{bare_is_readable, no_quote}
 

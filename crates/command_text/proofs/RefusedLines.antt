@@ -1,7 +1,8 @@
 -- A line is no command exactly where its shape says so.
-use Rattle.std.proofs.Common.{◌≡◌, ℕ, ◌+◌, ◌-◌, ◌*◌, List, [], ◌∷◌, ◌++◌, Bool, true, false, ◌&&◌, ◌==◌, nat_le, length, take, option_map, Option, Some, None, Result, Ok, Err, codes, if◌then◌else◌, refl, sym, ap, ◌∙◌, arith}
+use Rattle.std.proofs.Common.{◌≡◌, ℕ, ◌+◌, ◌-◌, ◌*◌, List, [], ◌∷◌, ◌++◌, Bool, true, false, ◌&&◌, ◌==◌, nat_le, length, take, option_map, Option, Some, None, Result, Ok, Err, zero-add, if◌then◌else◌, refl, sym, ap, ◌∙◌, arith}
 use Rattle.std.proofs.lemmas.Bool.Decides.{nat_tests}
-use Rattle.std.specs.Str.{bytes_eq}
+use Rattle.std.specs.Option.{option_map_or}
+use Rattle.std.specs.Prelude.{position}
 use Rattle.form.specs.declared.limits.TheConstants.{MAX_OPTIONS}
 use Rattle.form.specs.declared.orders.Side.{Side}
 use Rattle.form.specs.declared.orders.Side.TheVariants.{Buy, Sell}
@@ -10,26 +11,30 @@ use Rattle.command_text.specs.declared.asked.Fault.{Fault}
 use Rattle.command_text.specs.declared.asked.Fault.TheVariants.{Syntax, Range}
 use Rattle.command_text.specs.declared.command.Command.{Command}
 use Rattle.command_text.specs.declared.command.Command.TheVariants.{Trade}
+use Rattle.command_text.specs.declared.command.Command.TheVariants as command
+use Rattle.command_text.specs.declared.requests.QuoteRequest.{QuoteRequest}
+use Rattle.command_text.specs.declared.words.LineWord.{LineWord}
+use Rattle.command_text.specs.declared.words.LineWord.TheVariants as word
+use Rattle.form.specs.FormOf.{form_of}
+use Rattle.command_text.specs.Numbers.{number_in}
+use Rattle.command_text.specs.Options.{option_by}
+use Rattle.command_text.specs.Requests.{as_price, as_quote, option_request, propose_request, proposed_for, strike_at}
+use Rattle.command_text.specs.Said.{as_command, proposed_in, said_by, said_by_fields, said_of}
+use Rattle.command_text.specs.Words.{word_among}
 use Rattle.command_text.specs.declared.command.Kind.{Kind}
 use Rattle.command_text.specs.declared.numbers.NumberRead.{NumberRead}
 use Rattle.command_text.specs.declared.numbers.NumberRead.TheVariants.{NotNumber, Outside, Value}
-use Rattle.command_text.specs.declared.ranges.TheConstants.{ACCOUNT, ANY_ACCOUNT, MARKET, AMOUNT, UNDERLYINGS, ORDER, BUDGET, SETTLE, LISTED, BUNDLE_PRICE, BUNDLE_QUANTITY, STRIKE, PRICE, QUANTITY, TRADE, LEGS, HEAD, LEG}
+use Rattle.command_text.specs.declared.ranges.TheConstants.{ACCOUNT, ANY_ACCOUNT, MARKET, AMOUNT, UNDERLYINGS, ORDER, BUDGET, SETTLE, LISTED, MARGIN_BUDGET, PRICED, PRICED_QUANTITY, QUOTED, BUNDLE_PRICE, BUNDLE_QUANTITY, STRIKE, PRICE, QUANTITY, TRADE, LEGS, HEAD, LEG}
 use Rattle.command_text.specs.Asked.{text_of, fault_in, fault_of, either_fault, natural_in, value_in, says_in}
 use Rattle.command_text.specs.Bundles.{side_in, kind_fault, leg_fault, has_leg, leg_fields, fault_at, weightless_at, legs_fault, legs_weightless, legs_size, too_many, bundle_fault, sized_command, fields_each, fault_or_syntax, bundle_command}
-use Rattle.command_text.specs.Commands.{body_of_fields, body_of_result, command_of_fields}
 use Rattle.command_text.specs.Fields.{fields_of_line}
-use Rattle.command_text.specs.Refused.{word_read, reads_in, Shape, weight_place, trade_shape, or_else, leg_reads, leg_weight_place, legs_reads, legs_beyond, head_reads, legs_shape, bundle_shape, shape_of, has_unread, first_outside, fault_of_shape, fault_of_fields, fault_of_body, LinesAreRefused}
-use Rattle.command_text.specs.Trades.{unless, with_some, kind_in, is_weighted, weightless, weights_in, trade_command}
+use Rattle.command_text.specs.Refused.{word_read, reads_in, Shape, weight_place, option_shape, trade_shape, or_else, leg_reads, leg_weight_place, legs_reads, legs_beyond, head_reads, is_unread, legs_shape, bundle_shape, shape_by, has_unread, first_outside, fault_by, fault_of_proposal, fault_of_said, fault_of_shape, fault_of_words, LinesAreRefused}
+use Rattle.command_text.specs.Trades.{unless, with_some, kind_in, is_weighted, weightless, weights_in, prices_in, trade_command}
 use Rattle.command_text.proofs.Bounds.{natural_between, one_asked}
 use Rattle.command_text.proofs.PlainSays.{either_none}
 
 abbrev ranged : Option ℕ → Option Fault
 ranged place = option_map (λ p. Range p) place
-
--- why fields are no command
-abbrev fault_in_result : Result Command Fault → Option Fault
-fault_in_result (Ok command) = None
-fault_in_result (Err fault) = Some fault
 
 -- ---- the first of two faults
 either_syntax : (a : Option Fault) → either_fault a (Some Syntax) ≡ Some Syntax
@@ -83,26 +88,26 @@ told_is ((p, Outside) ∷ reads) beyond =
     ap (λ f. either_fault (either_fault (Some (Range p)) f) (ranged beyond)) said ∙ told_outside (has_unread reads) (first_outside reads) beyond p
 told_is ((p, Value v) ∷ reads) beyond = told_is reads beyond
 
--- ---- commands
-unless_is : (fault : Option Fault) (command : Command) → fault_in_result (unless fault command) ≡ fault
+-- ---- commands and requests
+unless_is : {A : Type 0} (fault : Option Fault) (command : A) → fault_of_said (unless fault command) ≡ fault
 unless_is None command = refl
 unless_is (Some fault) command = refl
 
 -- a line with so many fields as the word allows
-when_sized : (sized : Bool) (said : Result Command Fault) (reads : List (ℕ × NumberRead)) (beyond : Option ℕ) → fault_in_result said ≡ either_fault (fault_said reads) (ranged beyond)
-    → fault_in_result (if sized then said else Err Syntax) ≡ fault_of_shape (record { sized = sized; reads = reads; beyond = beyond })
+when_sized : {A : Type 0} (sized : Bool) (said : Result A Fault) (reads : List (ℕ × NumberRead)) (beyond : Option ℕ) → fault_of_said said ≡ either_fault (fault_said reads) (ranged beyond)
+    → fault_of_said (if sized then said else Err Syntax) ≡ fault_of_shape (record { sized = sized; reads = reads; beyond = beyond })
 when_sized true said reads beyond is = is ∙ told_is reads beyond
 when_sized false said reads beyond is = refl
 
-plain_is : (sized : Bool) (asked : List Asked) (fields : List (List ℕ)) (command : Command)
-    → fault_in_result (if sized then unless (fault_in 0 asked fields) command else Err Syntax) ≡ fault_of_shape (record { sized = sized; reads = reads_in 0 asked fields; beyond = None })
+plain_is : {A : Type 0} (sized : Bool) (asked : List Asked) (fields : List (List ℕ)) (command : A)
+    → fault_of_said (if sized then unless (fault_in 0 asked fields) command else Err Syntax) ≡ fault_of_shape (record { sized = sized; reads = reads_in 0 asked fields; beyond = None })
 plain_is sized asked fields command =
     when_sized sized (unless (fault_in 0 asked fields) command) (reads_in 0 asked fields) None
     (unless_is (fault_in 0 asked fields) command ∙ said_in 0 asked fields ∙ sym (either_none (fault_said (reads_in 0 asked fields))))
 
 -- a word that has to be one of two
-with_word : {A : Type 0} (place : ℕ) (word : Option A) (said : A → Result Command Fault) (fault : Option Fault) → ((a : A) → fault_in_result (said a) ≡ fault)
-    → fault_in_result (with_some word said) ≡ either_fault (fault_of place (word_read word)) fault
+with_word : {A B : Type 0} (place : ℕ) (word : Option A) (said : A → Result B Fault) (fault : Option Fault) → ((a : A) → fault_of_said (said a) ≡ fault)
+    → fault_of_said (with_some word said) ≡ either_fault (fault_of place (word_read word)) fault
 with_word place None said fault is = refl
 with_word place (Some a) said fault is = is a
 
@@ -110,7 +115,7 @@ weightless_is : (shift : ℕ) (fields : List (List ℕ)) (first : ℕ) → weigh
 weightless_is shift fields first =
     elim (is_weighted (weights_in fields first)) as (λ b. (if b then None else Some (Range (shift + first))) ≡ ranged (if b then None else Some (shift + first))) [ true ↦ refl | false ↦ refl ]
 
-trade_is : (side : Side) (fields : List (List ℕ)) → fault_in_result (trade_command side fields) ≡ fault_of_shape (trade_shape fields)
+trade_is : (side : Side) (fields : List (List ℕ)) → fault_of_said (trade_command side fields) ≡ fault_of_shape (trade_shape fields)
 trade_is side fields =
     let n = length fields in
     let asked = take (n - 2) TRADE in
@@ -124,6 +129,30 @@ trade_is side fields =
     (with_word 4 kind (λ k. unless fault (command k)) fault (λ k. unless_is fault (command k))
     ∙ ap (either_fault (fault_of 4 (word_read kind))) faults
     ∙ sym (either_assoc (fault_of 4 (word_read kind)) (fault_said reads) (ranged beyond)))
+
+-- an option whose kind is at a place
+weightless_from : (place : ℕ) (fields : List (List ℕ)) → weightless place (weights_in fields place) ≡ ranged (weight_place 0 fields place)
+weightless_from place fields =
+    elim (is_weighted (weights_in fields place)) as (λ b. (if b then None else Some (Range place)) ≡ ranged (if b then None else Some (0 + place))) [ true ↦ refl | false ↦ ap (λ p. Some (Range p)) (sym (zero-add place)) ]
+
+option_is : (place : ℕ) (asked : List Asked) (fields : List (List ℕ)) → fault_of_said (option_request place asked fields) ≡ fault_of_shape (option_shape place asked fields)
+option_is place asked fields =
+    let n = length fields in
+    let kind = kind_in (text_of fields place) in
+    let front = take (n - 2) asked in
+    let reads = reads_in 0 front fields in
+    let beyond = weight_place 0 fields (place + 2) in
+    let fault = either_fault (fault_in 0 front fields) (weightless (place + 2) (weights_in fields (place + 2))) in
+    let request : Kind → QuoteRequest = λ kind. record {
+      market = natural_in fields MARKET;
+      budget = natural_in fields BUDGET;
+      form = form_of (option_by kind (value_in fields (strike_at (place + 1))) (take (n - (place + 1)) (weights_in fields (place + 2))));
+    } in
+    let faults : fault ≡ either_fault (fault_said reads) (ranged beyond) = (λ i. either_fault (said_in 0 front fields i) (weightless_from (place + 2) fields i)) in
+    when_sized (nat_le (place + 2) n && nat_le n (place + 9)) (with_some kind (λ k. unless fault (request k))) ((place, word_read kind) ∷ reads) beyond
+    (with_word place kind (λ k. unless fault (request k)) fault (λ k. unless_is fault (request k))
+    ∙ ap (either_fault (fault_of place (word_read kind))) faults
+    ∙ sym (either_assoc (fault_of place (word_read kind)) (fault_said reads) (ranged beyond)))
 
 -- ---- bundles
 leg_is : (size shift : ℕ) (fields : List (List ℕ)) → fault_at size shift fields ≡ fault_said (leg_reads size shift fields)
@@ -189,15 +218,15 @@ some_fault fields zero none =
     let none_there : natural_in fields LEGS ≡ 0 = grind (arith, nat_tests, zero) in
     absurd (omega (arith, counted.0, none_there))
 
-refused_is : (fault : Option Fault) → (fault ≡ None → ⊥) → fault_in_result (fault_or_syntax fault) ≡ fault
+refused_is : (fault : Option Fault) → (fault ≡ None → ⊥) → fault_of_said (fault_or_syntax fault) ≡ fault
 refused_is None some = absurd (some refl)
 refused_is (Some fault) some = refl
 
 legs_shape_is : (fields : List (List ℕ)) (legs : ℕ) (side : Option Side) (each : Option ℕ) → side ≡ side_in (text_of fields 4)
-    → fault_in_result (if nat_le 7 (length fields) then with_some side (λ s. with_some each (λ size. sized_command s legs size fields)) else Err Syntax) ≡ fault_of_shape (legs_shape each fields)
+    → fault_of_said (if nat_le 7 (length fields) then with_some side (λ s. with_some each (λ size. sized_command s legs size fields)) else Err Syntax) ≡ fault_of_shape (legs_shape each fields)
 legs_shape_is fields legs side None is =
-    elim (nat_le 7 (length fields)) as (λ b. fault_in_result (if b then with_some side (λ s. Err Syntax) else Err Syntax) ≡ Some Syntax) [
-      | true ↦ with_word 4 side (λ s. Err Syntax) (Some Syntax) (λ s. refl) ∙ either_syntax (fault_of 4 (word_read side))
+    elim (nat_le 7 (length fields)) as (λ b. fault_of_said {A = Command} (if b then with_some side (λ s. Err Syntax) else Err Syntax) ≡ Some Syntax) [
+      | true ↦ with_word {B = Command} 4 side (λ s. Err Syntax) (Some Syntax) (λ s. refl) ∙ either_syntax (fault_of 4 (word_read side))
       | false ↦ refl
     ]
 legs_shape_is fields legs side (Some size) is =
@@ -211,7 +240,7 @@ legs_shape_is fields legs side (Some size) is =
     ∙ sym (either_assoc (fault_of 4 (word_read side)) (fault_said reads) (ranged beyond))
     ∙ ap (λ s. either_fault (either_fault (fault_of 4 (word_read s)) (fault_said reads)) (ranged beyond)) is)
 
-bundle_is : (fields : List (List ℕ)) → fault_in_result (bundle_command fields) ≡ fault_of_shape (bundle_shape fields)
+bundle_is : (fields : List (List ℕ)) → fault_of_said (bundle_command fields) ≡ fault_of_shape (bundle_shape fields)
 bundle_is fields =
     let n = length fields in
     let legs = natural_in fields LEGS in
@@ -219,7 +248,7 @@ bundle_is fields =
     let each = fields_each (n - 7) legs in
     let fault = fault_in 0 HEAD fields in
     let P : Bool → Type 0 = λ b. (legs == 0) ≡ b
-    → fault_in_result (if nat_le 7 n then with_some side (λ s. if b then fault_or_syntax fault else with_some each (λ size. sized_command s legs size fields)) else Err Syntax)
+    → fault_of_said (if nat_le 7 n then with_some side (λ s. if b then fault_or_syntax fault else with_some each (λ size. sized_command s legs size fields)) else Err Syntax)
     ≡ fault_of_shape (if b then record { sized = nat_le 7 n; reads = head_reads fields; beyond = None } else legs_shape each fields) in
     (elim (legs == 0) as P [
       | true ↦ λ zero.
@@ -231,34 +260,66 @@ bundle_is fields =
     ]) refl
 
 -- ---- by the word
-by_word : (test : Bool) (r s : Result Command Fault) (x y : Shape) → fault_in_result r ≡ fault_of_shape x → fault_in_result s ≡ fault_of_shape y
-    → fault_in_result (if test then r else s) ≡ fault_of_shape (if test then x else y)
-by_word true r s x y h k = h
-by_word false r s x y h k = k
+of_command : (said : Result Command Fault) (shape : Shape) → fault_of_said said ≡ fault_of_shape shape → fault_of_said (as_command said) ≡ fault_of_shape shape
+of_command (Ok command) shape is = is
+of_command (Err fault) shape is = is
 
-commands_are_refused : (fields : List (List ℕ)) → fault_in_result (command_of_fields fields) ≡ fault_of_shape (shape_of fields)
-commands_are_refused fields =
-    let word = text_of fields 1 in
-    by_word (bytes_eq word (codes "open")) _ _ _ _ (plain_is (length fields == 2) (ACCOUNT ∷ []) fields _)
-    (by_word (bytes_eq word (codes "deposit")) _ _ _ _ (plain_is (length fields == 3) (ACCOUNT ∷ AMOUNT ∷ []) fields _)
-    (by_word (bytes_eq word (codes "withdraw")) _ _ _ _ (plain_is (length fields == 3) (ACCOUNT ∷ AMOUNT ∷ []) fields _)
-    (by_word (bytes_eq word (codes "market")) _ _ _ _ (plain_is (length fields == 3) (MARKET ∷ UNDERLYINGS ∷ []) fields _)
-    (by_word (bytes_eq word (codes "buy")) _ _ _ _ (trade_is Buy fields)
-    (by_word (bytes_eq word (codes "sell")) _ _ _ _ (trade_is Sell fields)
-    (by_word (bytes_eq word (codes "bundle")) _ _ _ _ (bundle_is fields)
-    (by_word (bytes_eq word (codes "cancel")) _ _ _ _ (plain_is (length fields == 3) (ACCOUNT ∷ ORDER ∷ []) fields _)
-    (by_word (bytes_eq word (codes "clear")) _ _ _ _ (plain_is (length fields == 3) (MARKET ∷ BUDGET ∷ []) fields _)
-    (by_word (bytes_eq word (codes "settle")) _ _ _ _ (plain_is (nat_le 3 (length fields) && nat_le (length fields) 10) (take (length fields - 1) SETTLE) fields _)
-    (by_word (bytes_eq word (codes "balance")) _ _ _ _ (plain_is (length fields == 2) (ANY_ACCOUNT ∷ []) fields _) refl))))))))))
+of_quote : (said : Result QuoteRequest Fault) → fault_of_said (as_quote said) ≡ fault_of_said said
+of_quote (Ok quote) = refl
+of_quote (Err fault) = refl
 
-body_fault : (said : Result Command Fault) → fault_of_body (body_of_result said) ≡ fault_in_result said
-body_fault (Ok command) = refl
-body_fault (Err Syntax) = refl
-body_fault (Err (Range field)) = refl
+of_price : (quantity : ℕ) (said : Result QuoteRequest Fault) → fault_of_said (as_price quantity said) ≡ fault_of_said said
+of_price quantity (Ok quote) = refl
+of_price quantity (Err fault) = refl
 
-pub fields_are_refused : (fields : Option (List (List ℕ))) → fault_of_body (body_of_fields fields) ≡ fault_of_fields fields
-fields_are_refused None = refl
-fields_are_refused (Some fields) = body_fault (command_of_fields fields) ∙ commands_are_refused fields
+word_is_refused : (w : LineWord) (fields : List (List ℕ)) → fault_of_said (said_by w fields) ≡ fault_of_shape (shape_by w fields)
+word_is_refused word.Open fields = of_command _ (shape_by word.Open fields) (plain_is (length fields == 2) (ACCOUNT ∷ []) fields (command.Open (natural_in fields ACCOUNT)))
+word_is_refused word.Deposit fields = of_command _ (shape_by word.Deposit fields) (plain_is (length fields == 3) (ACCOUNT ∷ AMOUNT ∷ []) fields (command.Deposit (natural_in fields ACCOUNT) (natural_in fields AMOUNT)))
+word_is_refused word.Withdraw fields = of_command _ (shape_by word.Withdraw fields) (plain_is (length fields == 3) (ACCOUNT ∷ AMOUNT ∷ []) fields (command.Withdraw (natural_in fields ACCOUNT) (natural_in fields AMOUNT)))
+word_is_refused word.Market fields = of_command _ (shape_by word.Market fields) (plain_is (length fields == 3) (MARKET ∷ UNDERLYINGS ∷ []) fields (command.Market (natural_in fields MARKET) (natural_in fields UNDERLYINGS)))
+word_is_refused word.Buy fields = of_command _ (shape_by word.Buy fields) (trade_is Buy fields)
+word_is_refused word.Sell fields = of_command _ (shape_by word.Sell fields) (trade_is Sell fields)
+word_is_refused word.Bundle fields = of_command _ (shape_by word.Bundle fields) (bundle_is fields)
+word_is_refused word.Cancel fields = of_command _ (shape_by word.Cancel fields) (plain_is (length fields == 3) (ACCOUNT ∷ ORDER ∷ []) fields (command.Cancel (natural_in fields ACCOUNT) (natural_in fields ORDER)))
+word_is_refused word.Clear fields = of_command _ (shape_by word.Clear fields) (plain_is (length fields == 3) (MARKET ∷ BUDGET ∷ []) fields (command.Clear (natural_in fields MARKET) (natural_in fields BUDGET)))
+word_is_refused word.Settle fields =
+    of_command _ (shape_by word.Settle fields) (plain_is (nat_le 3 (length fields) && nat_le (length fields) 10) (take (length fields - 1) SETTLE) fields (command.Settle (natural_in fields MARKET) (length fields - 2) (prices_in fields)))
+word_is_refused word.Balance fields = of_command _ (shape_by word.Balance fields) (plain_is (length fields == 2) (ANY_ACCOUNT ∷ []) fields (command.Balance (natural_in fields ANY_ACCOUNT)))
+word_is_refused word.Quote fields = of_quote (option_request 4 QUOTED fields) ∙ option_is 4 QUOTED fields
+word_is_refused word.Price fields = of_price (natural_in fields PRICED_QUANTITY) (option_request 5 PRICED fields) ∙ option_is 5 PRICED fields
+word_is_refused word.Margin fields = plain_is (length fields == 4) (ACCOUNT ∷ LISTED ∷ MARGIN_BUDGET ∷ []) fields _
+word_is_refused word.Book fields = plain_is (length fields == 2) (MARKET ∷ []) fields _
+word_is_refused word.Positions fields = plain_is (length fields == 3) (ACCOUNT ∷ LISTED ∷ []) fields _
+word_is_refused word.Propose fields = refl
+
+words_are_refused : (fields : List (List ℕ)) (o : Option LineWord)
+    → fault_of_said (with_some o (λ w. said_by w fields)) ≡ option_map_or (λ w. fault_of_shape (shape_by w fields)) o (Some Syntax)
+words_are_refused fields None = refl
+words_are_refused fields (Some w) = word_is_refused w fields
+
+fields_are_refused : (words : List LineWord) (fields : Option (List (List ℕ)))
+    → fault_of_said (with_some fields (said_by_fields words)) ≡ option_map_or (fault_of_words words) fields (Some Syntax)
+fields_are_refused words None = refl
+fields_are_refused words (Some fields) = words_are_refused fields (word_among words (text_of fields 1))
+
+-- ---- proposals
+market_is_refused : (from : ℕ) (read : NumberRead) → fault_of_said (proposed_for from read) ≡ (if is_unread read then Some Syntax else None)
+market_is_refused from NotNumber = refl
+market_is_refused from Outside = refl
+market_is_refused from (Value v) = refl
+
+proposals_are_refused : (text : List ℕ) → fault_of_said (propose_request text) ≡ fault_of_proposal text
+proposals_are_refused text = by (position (λ b. b == 44) text)
+  where
+    by : (o : Option ℕ)
+        → fault_of_said (with_some o (λ place. proposed_for (place + 9) (number_in MARKET.low MARKET.high (take place text))))
+        ≡ option_map_or (λ place. if is_unread (number_in MARKET.low MARKET.high (take place text)) then Some Syntax else None) o (Some Syntax)
+    by None = refl
+    by (Some place) = market_is_refused (place + 9) (number_in MARKET.low MARKET.high (take place text))
 
 pub lines_are_refused : LinesAreRefused
-lines_are_refused line = fields_are_refused (fields_of_line line)
+lines_are_refused words line = by (proposed_in words line)
+  where
+    by : (o : Option (List ℕ)) → fault_of_said (said_of words line o) ≡ fault_by words line o
+    by None = fields_are_refused words (fields_of_line line)
+    by (Some text) = proposals_are_refused text

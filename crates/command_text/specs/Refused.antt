@@ -1,21 +1,24 @@
--- When a line is no command: a sentence on Syntax and one on Range.
-use Rattle.std.specs.Prelude.{ℕ, pos, ◌+◌, ◌-◌, ◌*◌, ◌≡◌, List, [], ◌∷◌, ◌++◌, Bool, true, false, not, ◌&&◌, ◌||◌, ◌==◌, nat_le, codes, length, take, option_map, Option, Some, None, if◌then◌else◌}
+-- When a line is refused as it is read: a sentence on Syntax and one on Range.
+use Rattle.std.specs.Prelude.{ℕ, pos, ◌+◌, ◌-◌, ◌*◌, ◌≡◌, List, [], ◌∷◌, ◌++◌, Bool, true, false, not, ◌&&◌, ◌||◌, ◌==◌, nat_le, length, take, option_map, position, Result, Ok, Err, Option, Some, None, if◌then◌else◌}
 use Rattle.std.specs.List.{list_any}
-use Rattle.std.specs.Str.{bytes_eq}
+use Rattle.std.specs.Option.{option_map_or}
 use Rattle.command_text.specs.declared.asked.Asked.{Asked}
 use Rattle.command_text.specs.declared.asked.Fault.{Fault}
 use Rattle.command_text.specs.declared.asked.Fault.TheVariants.{Syntax, Range}
-use Rattle.command_text.specs.declared.command.Body.{Body}
-use Rattle.command_text.specs.declared.command.Body.TheVariants as body
+use Rattle.command_text.specs.declared.requests.Request.{Request}
+use Rattle.command_text.specs.declared.words.LineWord.{LineWord}
+use Rattle.command_text.specs.declared.words.LineWord.TheVariants as word
 use Rattle.command_text.specs.declared.numbers.NumberRead.{NumberRead}
 use Rattle.command_text.specs.declared.numbers.NumberRead.TheVariants.{NotNumber, Outside, Value}
-use Rattle.command_text.specs.declared.ranges.TheConstants.{ACCOUNT, ANY_ACCOUNT, MARKET, AMOUNT, UNDERLYINGS, ORDER, BUDGET, TRADE, SETTLE, BUNDLE_QUANTITY, LEGS, HEAD, LEG}
+use Rattle.command_text.specs.declared.ranges.TheConstants.{ACCOUNT, ANY_ACCOUNT, MARKET, AMOUNT, UNDERLYINGS, ORDER, BUDGET, TRADE, SETTLE, BUNDLE_QUANTITY, LEGS, HEAD, LEG, LISTED, MARGIN_BUDGET, PRICED, QUOTED}
 use Rattle.form.specs.declared.limits.TheConstants.{MAX_OPTIONS}
 use Rattle.command_text.specs.Asked.{text_of, says_in, natural_in}
 use Rattle.command_text.specs.Bundles.{side_in, has_leg, leg_fields, legs_size, fields_each}
-use Rattle.command_text.specs.Commands.{body_of_line}
+use Rattle.command_text.specs.Numbers.{number_in}
+use Rattle.command_text.specs.Said.{proposed_in, said_in}
 use Rattle.command_text.specs.Fields.{fields_of_line}
 use Rattle.command_text.specs.Trades.{kind_in, is_weighted, weights_in}
+use Rattle.command_text.specs.Words.{word_among}
 
 -- ---- what a word asks of its line
 -- a KIND or a SIDE that is neither of its words reads as a number field does that is no number text
@@ -94,21 +97,33 @@ bundle_shape fields =
     if natural_in fields LEGS == 0 then record { sized = nat_le 7 (length fields); reads = head_reads fields; beyond = None }
     else legs_shape (fields_each (length fields - 7) (natural_in fields LEGS)) fields
 
--- a word that is none of a command allows no number of fields
-abbrev pub shape_of : List (List ℕ) → Shape
-shape_of fields =
-    if bytes_eq (text_of fields 1) (codes "open") then plain_shape 2 (ACCOUNT ∷ []) fields
-    else if bytes_eq (text_of fields 1) (codes "deposit") then plain_shape 3 (ACCOUNT ∷ AMOUNT ∷ []) fields
-    else if bytes_eq (text_of fields 1) (codes "withdraw") then plain_shape 3 (ACCOUNT ∷ AMOUNT ∷ []) fields
-    else if bytes_eq (text_of fields 1) (codes "market") then plain_shape 3 (MARKET ∷ UNDERLYINGS ∷ []) fields
-    else if bytes_eq (text_of fields 1) (codes "buy") then trade_shape fields
-    else if bytes_eq (text_of fields 1) (codes "sell") then trade_shape fields
-    else if bytes_eq (text_of fields 1) (codes "bundle") then bundle_shape fields
-    else if bytes_eq (text_of fields 1) (codes "cancel") then plain_shape 3 (ACCOUNT ∷ ORDER ∷ []) fields
-    else if bytes_eq (text_of fields 1) (codes "clear") then plain_shape 3 (MARKET ∷ BUDGET ∷ []) fields
-    else if bytes_eq (text_of fields 1) (codes "settle") then settle_shape fields
-    else if bytes_eq (text_of fields 1) (codes "balance") then plain_shape 2 (ANY_ACCOUNT ∷ []) fields
-    else record { sized = false; reads = []; beyond = None }
+-- an option whose kind is at a place, behind what else is asked
+abbrev pub option_shape : ℕ → List Asked → List (List ℕ) → Shape
+option_shape place asked fields = record {
+  sized = nat_le (place + 2) (length fields) && nat_le (length fields) (place + 9);
+  reads = (place, word_read (kind_in (text_of fields place))) ∷ reads_in 0 (take (length fields - 2) asked) fields;
+  beyond = weight_place 0 fields (place + 2);
+}
+
+-- by the word. That of a proposal allows no number of fields
+abbrev pub shape_by : LineWord → List (List ℕ) → Shape
+shape_by word.Open fields = plain_shape 2 (ACCOUNT ∷ []) fields
+shape_by word.Deposit fields = plain_shape 3 (ACCOUNT ∷ AMOUNT ∷ []) fields
+shape_by word.Withdraw fields = plain_shape 3 (ACCOUNT ∷ AMOUNT ∷ []) fields
+shape_by word.Market fields = plain_shape 3 (MARKET ∷ UNDERLYINGS ∷ []) fields
+shape_by word.Buy fields = trade_shape fields
+shape_by word.Sell fields = trade_shape fields
+shape_by word.Bundle fields = bundle_shape fields
+shape_by word.Cancel fields = plain_shape 3 (ACCOUNT ∷ ORDER ∷ []) fields
+shape_by word.Clear fields = plain_shape 3 (MARKET ∷ BUDGET ∷ []) fields
+shape_by word.Settle fields = settle_shape fields
+shape_by word.Balance fields = plain_shape 2 (ANY_ACCOUNT ∷ []) fields
+shape_by word.Quote fields = option_shape 4 QUOTED fields
+shape_by word.Price fields = option_shape 5 PRICED fields
+shape_by word.Margin fields = plain_shape 4 (ACCOUNT ∷ LISTED ∷ MARGIN_BUDGET ∷ []) fields
+shape_by word.Book fields = plain_shape 2 (MARKET ∷ []) fields
+shape_by word.Positions fields = plain_shape 3 (ACCOUNT ∷ LISTED ∷ []) fields
+shape_by word.Propose fields = record { sized = false; reads = []; beyond = None }
 
 -- ---- the two sentences
 abbrev pub is_unread : NumberRead → Bool
@@ -137,20 +152,28 @@ abbrev pub fault_of_shape : Shape → Option Fault
 fault_of_shape shape =
     if not shape.sized || has_unread shape.reads then Some Syntax else option_map (λ place. Range place) (or_else (first_outside shape.reads) shape.beyond)
 
--- and a line that has no list of fields is Syntax
-abbrev pub fault_of_fields : Option (List (List ℕ)) → Option Fault
-fault_of_fields None = Some Syntax
-fault_of_fields (Some fields) = fault_of_shape (shape_of fields)
+-- a line with another word is Syntax
+abbrev pub fault_of_words : List LineWord → List (List ℕ) → Option Fault
+fault_of_words words fields = option_map_or (λ word. fault_of_shape (shape_by word fields)) (word_among words (text_of fields 1)) (Some Syntax)
 
--- why a line says no command
-abbrev pub fault_of_body : Body → Option Fault
-fault_of_body (body.Command command) = None
-fault_of_body body.Syntax = Some Syntax
-fault_of_body (body.Range field) = Some (Range field)
+-- a line that proposes is Syntax where no number text and a comma stand behind its word
+abbrev pub fault_of_proposal : List ℕ → Option Fault
+fault_of_proposal text =
+    option_map_or (λ place. if is_unread (number_in MARKET.low MARKET.high (take place text)) then Some Syntax else None) (position (λ b. b == 44) text) (Some Syntax)
 
--- a line is no command exactly by these sentences
-abbrev pub IsRefusedBy : List ℕ → Body → Type 0
-IsRefusedBy line said = fault_of_body said ≡ fault_of_fields (fields_of_line line)
+-- and one that has no list of fields
+abbrev pub fault_by : List LineWord → List ℕ → Option (List ℕ) → Option Fault
+fault_by words line (Some text) = fault_of_proposal text
+fault_by words line None = option_map_or (fault_of_words words) (fields_of_line line) (Some Syntax)
+
+-- why a line asks nothing
+abbrev pub fault_of_said : {A : Type 0} → Result A Fault → Option Fault
+fault_of_said (Ok said) = None
+fault_of_said (Err fault) = Some fault
+
+-- a line is refused exactly by these sentences
+abbrev pub IsRefusedBy : List LineWord → List ℕ → Result Request Fault → Type 0
+IsRefusedBy words line said = fault_of_said said ≡ fault_by words line (proposed_in words line)
 
 abbrev pub LinesAreRefused : Type 0
-LinesAreRefused = (line : List ℕ) → IsRefusedBy line (body_of_line line)
+LinesAreRefused = (words : List LineWord) (line : List ℕ) → IsRefusedBy words line (said_in words line)

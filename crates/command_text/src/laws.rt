@@ -1,5 +1,5 @@
 //! Laws over the definitions: each is the contract of a function that does nothing.
-ghost use Rattle.command_text.specs.Worked.{LimitsAsWorked, LinesAsWorked};
+ghost use Rattle.command_text.specs.Worked.{LimitsAsWorked, LinesAsWorked, RequestsAsWorked};
 
 /// What lines say, and how an input is cut into lines: worked rows.
 pub fn lines_as_worked()
@@ -10,4 +10,10 @@ pub fn lines_as_worked()
 /// input that is read whole.
 pub fn limits_as_worked()
     ensures { LimitsAsWorked }
+{}
+
+/// Requests at the ends of the ranges of their numbers and beyond them, and which lines the words
+/// of the program take: worked rows.
+pub fn requests_as_worked()
+    ensures { RequestsAsWorked }
 {}

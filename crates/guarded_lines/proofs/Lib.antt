@@ -1,6 +1,3 @@
-pub mod Words
-pub mod FirstFields
-pub mod RequestsWithin
 pub mod PlainLines
 pub mod AsRun
 pub mod ToldMargins

@@ -10,7 +10,7 @@ use Rattle.exchange_core.specs.declared.refusal.Refusal.TheVariants.{Settled, No
 use Rattle.exchange_core.specs.ExchangeState.{ExchangeState}
 use Rattle.exchange_core.specs.Reply.{refused_with}
 use Rattle.guarded_lines.specs.declared.told.ToldMargin.{ToldMargin}
-use Rattle.guarded_lines.specs.declared.requests.MarginRequest.{MarginRequest}
+use Rattle.command_text.specs.declared.requests.MarginRequest.{MarginRequest}
 use Rattle.guarded_lines.specs.declared.replies.GuardedReply.{GuardedReply}
 use Rattle.guarded_lines.specs.declared.replies.GuardedReply.TheVariants as reply
 use Rattle.guarded_lines.specs.Margins.{are_many, run_in, margin_reply, market_refusals, told_of}

@@ -12,7 +12,7 @@ use Rattle.guarded_lines.specs.declared.told.ToldMargin.{ToldMargin}
 use Rattle.guarded_lines.specs.declared.told.ToldMargin.TheVariants.{Least, Unbounded, Wide, Budget}
 use Rattle.guarded_lines.specs.declared.told.Need.{Need}
 use Rattle.guarded_lines.specs.declared.told.Need.TheVariants as need
-use Rattle.guarded_lines.specs.declared.requests.MarginRequest.{MarginRequest}
+use Rattle.command_text.specs.declared.requests.MarginRequest.{MarginRequest}
 use Rattle.guarded_lines.specs.Told.{margin_piece, margin_with, need_text, uncovered_piece}
 
 with_plain : (line : ℕ) (request : MarginRequest) (text : List ℕ) (at : State) → is_plain text ≡ true → HasPlainTexts (margin_with line request text at)

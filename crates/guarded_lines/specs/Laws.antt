@@ -1,14 +1,13 @@
 -- What holds of the answers.
-use Rattle.std.specs.Prelude.{◌≡◌, ◌≤◌, ℕ, ℤ, pos, ◌≤ℤ◌, List, length}
+use Rattle.std.specs.Prelude.{◌≡◌, ◌≤◌, ℕ, ℤ, pos, ◌≤ℤ◌, List, length, Ok}
 use Rattle.cash_ledger.specs.Entries.{balance_of}
-use Rattle.command_text.specs.declared.command.Body.TheVariants.{Command}
 use Rattle.command_text.specs.declared.command.Command.TheVariants.{Withdraw}
 use Rattle.exchange_core.specs.ExchangeState.{ExchangeState}
 use Rattle.exchange_core.specs.Held.{markets_of}
 use Rattle.exchange_core.specs.Kept.{IsKept}
 use Rattle.exchange_lines.specs.LineSteps.{AnswersAsRun}
 use Rattle.exchange_lines.specs.Promises.{OutputTells}
-use Rattle.guarded_lines.specs.declared.bodies.GuardedBody.TheVariants as said
+use Rattle.command_text.specs.declared.requests.Request.TheVariants as asks
 use Rattle.reply_print.specs.declared.replies.Reply.TheVariants.{Withdrawn}
 use Rattle.guarded_lines.specs.declared.replies.GuardedReply.{GuardedReply}
 use Rattle.guarded_lines.specs.declared.replies.GuardedReply.TheVariants.{Plain}
@@ -30,7 +29,7 @@ GuardedTellAnswers = OutputTells IsMarginText guarded_line
 -- ---- withdrawals
 -- the answer to a withdrawal, and the exchange after it
 abbrev pub answer_to_withdrawal : ExchangeState → ℕ → ℕ → GuardedReply × ExchangeState
-answer_to_withdrawal state account amount = guarded_reply_to state (said.Plain (Command (Withdraw account amount)))
+answer_to_withdrawal state account amount = guarded_reply_to state (Ok (asks.Command (Withdraw account amount)))
 
 -- after a withdrawal that is accepted, were all markets in which the account has positions settled
 -- next, in rising number and at any prices, its balance would not be below 0

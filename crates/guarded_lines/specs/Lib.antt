@@ -1,8 +1,4 @@
-pub mod Requests
-pub mod Bodies
-pub mod Within
 pub mod Told
-pub mod RequestLaws
 pub mod Margins
 pub mod Needs
 pub mod Withdrawals

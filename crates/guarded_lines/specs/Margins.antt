@@ -18,7 +18,7 @@ use Rattle.exchange_core.specs.Held.{positions_of}
 use Rattle.exchange_core.specs.Reply.{refused_with}
 use Rattle.guarded_lines.specs.declared.told.ToldMargin.{ToldMargin}
 use Rattle.guarded_lines.specs.declared.told.ToldMargin.TheVariants as told
-use Rattle.guarded_lines.specs.declared.requests.MarginRequest.{MarginRequest}
+use Rattle.command_text.specs.declared.requests.MarginRequest.{MarginRequest}
 use Rattle.portfolio_margin.specs.declared.least_margin.LeastMargin.{LeastMargin}
 use Rattle.portfolio_margin.specs.declared.least_margin.LeastMargin.TheVariants.{Least, Unbounded, Wide, Budget}
 use Rattle.portfolio_margin.specs.Answers.{IsMarginOf}

@@ -4,8 +4,9 @@ use Rattle.exchange_core.specs.ExchangeState.{ExchangeState}
 use Rattle.exchange_lines.specs.LineSteps.{IsRefusalText}
 use Rattle.guarded_lines.specs.declared.told.ToldMargin.{ToldMargin}
 use Rattle.guarded_lines.specs.declared.told.Need.{Need}
-use Rattle.guarded_lines.specs.declared.requests.MarginRequest.{MarginRequest}
-use Rattle.guarded_lines.specs.Bodies.{guarded_body_of}
+use Rattle.command_text.specs.declared.requests.MarginRequest.{MarginRequest}
+use Rattle.command_text.specs.Said.{said_in}
+use Rattle.command_text.specs.declared.words.TheConstants.{GUARDED}
 use Rattle.guarded_lines.specs.Told.{margin_line, uncovered_line}
 use Rattle.guarded_lines.specs.declared.replies.GuardedReply.{GuardedReply}
 use Rattle.guarded_lines.specs.Replies.{guarded_reply_line, guarded_reply_to}
@@ -16,7 +17,7 @@ written_reply number result = (guarded_reply_line number result.0 ++ 10 ∷ [], 
 
 -- what is written for a line of these bytes, and the state after it
 abbrev pub guarded_line : ℕ → ExchangeState → List ℕ → List ℕ × ExchangeState
-guarded_line number state line = written_reply number (guarded_reply_to state (guarded_body_of line))
+guarded_line number state line = written_reply number (guarded_reply_to state (said_in GUARDED line))
 
 -- a text is the line of a margin that was asked for, with its line feed
 abbrev pub IsToldText : ℕ → List ℕ → Type 0

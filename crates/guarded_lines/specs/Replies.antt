@@ -1,11 +1,13 @@
 -- The reply to a line that may ask for a margin, and the exchange after it.
-use Rattle.std.specs.Prelude.{ℕ, List}
+use Rattle.std.specs.Prelude.{ℕ, List, Result, Ok}
 use Rattle.std.specs.Option.{option_map_or}
 use Rattle.command_text.specs.declared.command.Body.{Body}
 use Rattle.exchange_core.specs.ExchangeState.{ExchangeState}
 use Rattle.exchange_core.specs.LineReplies.{reply_to}
-use Rattle.guarded_lines.specs.declared.bodies.GuardedBody.{GuardedBody}
-use Rattle.guarded_lines.specs.declared.bodies.GuardedBody.TheVariants as body
+use Rattle.command_text.specs.Commands.{body_of_said}
+use Rattle.command_text.specs.declared.asked.Fault.{Fault}
+use Rattle.command_text.specs.declared.requests.Request.{Request}
+use Rattle.command_text.specs.declared.requests.Request.TheVariants as asks
 use Rattle.guarded_lines.specs.Told.{margin_line, uncovered_line}
 use Rattle.reply_print.specs.ReplyPieces.{reply_line}
 use Rattle.guarded_lines.specs.declared.replies.GuardedReply.{GuardedReply}
@@ -17,12 +19,15 @@ use Rattle.guarded_lines.specs.Withdrawals.{uncovered_by}
 abbrev pub plain_reply_to : ExchangeState → Body → GuardedReply × ExchangeState
 plain_reply_to state said = let now = reply_to state said in (Plain now.0, now.1)
 
--- the reply to what a line says, and the exchange after it: a run's, but for a withdrawal that
--- would leave less than is needed. That and a request for a margin change nothing
-abbrev pub guarded_reply_to : ExchangeState → GuardedBody → GuardedReply × ExchangeState
-guarded_reply_to state (body.Plain said) =
+-- the same, but for a withdrawal that would leave less than is needed, which changes nothing
+abbrev pub covered_reply_to : ExchangeState → Body → GuardedReply × ExchangeState
+covered_reply_to state said =
     option_map_or (λ need. (Uncovered need, state)) (uncovered_by state said) (plain_reply_to state said)
-guarded_reply_to state (body.Margin request) = (margin_reply state request, state)
+
+-- a request for a margin changes nothing either
+abbrev pub guarded_reply_to : ExchangeState → Result Request Fault → GuardedReply × ExchangeState
+guarded_reply_to state (Ok (asks.Margin request)) = (margin_reply state request, state)
+guarded_reply_to state said = covered_reply_to state (body_of_said said)
 
 -- the line of a reply, without its line feed
 abbrev pub guarded_reply_line : ℕ → GuardedReply → List ℕ

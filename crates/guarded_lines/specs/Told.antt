@@ -10,7 +10,7 @@ use Rattle.guarded_lines.specs.declared.told.ToldMargin.{ToldMargin}
 use Rattle.guarded_lines.specs.declared.told.ToldMargin.TheVariants.{Least, Unbounded, Wide, Budget}
 use Rattle.guarded_lines.specs.declared.told.Need.{Need}
 use Rattle.guarded_lines.specs.declared.told.Need.TheVariants as need
-use Rattle.guarded_lines.specs.declared.requests.MarginRequest.{MarginRequest}
+use Rattle.command_text.specs.declared.requests.MarginRequest.{MarginRequest}
 
 -- ---- margins
 -- with the state at which the positions owe it, or along which they owe without a bound

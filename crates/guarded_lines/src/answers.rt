@@ -1,12 +1,13 @@
 //! The answer to one line.
-ghost use Rattle.std.specs.Prelude.{◌≡◌, ◌<◌, ◌==◌, false, length, IfOk};
-ghost use Rattle.std.specs.List.{list_any};
+ghost use Rattle.std.specs.Prelude.{◌≡◌, IfOk};
+ghost use Rattle.command_text.specs.Within.{RequestIsWithin};
 ghost use Rattle.guarded_lines.specs.Output.{guarded_line, written_reply};
 ghost use Rattle.guarded_lines.specs.Replies.{guarded_reply_to};
-ghost use Rattle.guarded_lines.specs.Within.{GuardedBodyIsWithin};
 
-use crate::bodies::{GuardedBody, guarded_body_of};
 use crate::replies::{print, reply_to};
+use command_text::asked::Fault;
+use command_text::words::GUARDED;
+use command_text::{Request, read_line};
 use exchange_core::Exchange;
 use std::alloc::{AllocError, Global};
 
@@ -19,13 +20,11 @@ pub fn answer(
     number: u32,
     line: &[u8],
 ) -> Result<Vec<u8>, AllocError>
-    requires some { 0 < length line.now }
-    requires one_line { list_any (λ b. b == 10) line.now ≡ false }
     ensures { IfOk result (λ text.
         (text.items, exchange.new) ≡ guarded_line number exchange.old line.now) }
 {
-    let said = guarded_body_of(alloc, line)?;
-    answer_said(alloc, exchange, number, &said)
+    let said = read_line(alloc, &GUARDED, line)?;
+    answer_said(alloc, exchange, number, said)
 }
 
 /// Takes the exchange further by a line that says this, and answers what is written for it with
@@ -34,11 +33,11 @@ pub fn answer_said(
     alloc: Global,
     exchange: &mut Exchange,
     number: u32,
-    said: &GuardedBody,
+    said: Result<Request, Fault>,
 ) -> Result<Vec<u8>, AllocError>
-    requires { GuardedBodyIsWithin said.now }
+    requires { IfOk said RequestIsWithin }
     ensures { IfOk result (λ text. (text.items, exchange.new)
-        ≡ written_reply number (guarded_reply_to exchange.old said.now)) }
+        ≡ written_reply number (guarded_reply_to exchange.old said)) }
 {
     let reply = reply_to(alloc, exchange, said)?;
     let mut text = print(alloc, number, &reply)?;

@@ -1,21 +1,5 @@
 //! Laws over the definitions: each is the contract of a function that does nothing.
 ghost use Rattle.guarded_lines.specs.Laws.{GuardedAnswerAsRun, GuardedTellAnswers, WithdrawalsAreCovered};
-ghost use Rattle.guarded_lines.specs.RequestLaws.{OtherLinesAreRuns, RequestsAreWithin, WorkedRequests};
-
-/// A line whose first field is not `margin` says what it says to a run.
-pub fn other_lines_are_runs()
-    ensures { OtherLinesAreRuns }
-{}
-
-/// Whatever its bytes are, a line says a command or a request within the limits, or neither.
-pub fn requests_are_within()
-    ensures { RequestsAreWithin }
-{}
-
-/// Requests and refusals of requests, with the field that is out of its range: worked rows.
-pub fn worked_requests()
-    ensures { WorkedRequests }
-{}
 
 /// Each line is answered as in a run, or by a refusal or by what is told of a margin, and then the
 /// exchange is as it was.

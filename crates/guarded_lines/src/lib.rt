@@ -3,17 +3,13 @@
 #![tactic(auto)]
 
 mod answers;
-mod bodies;
 pub mod laws;
 mod margins;
 mod needs;
 mod replies;
-mod requests;
 mod told;
 mod withdrawals;
 
 pub use answers::{answer, answer_said};
-pub use bodies::{GuardedBody, guarded_body_of};
 pub use replies::{GuardedReply, reply_to};
-pub use requests::MarginRequest;
 pub use told::{Need, ToldMargin, print_margin, print_uncovered};

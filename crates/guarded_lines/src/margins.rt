@@ -9,8 +9,8 @@ ghost use Rattle.exchange_core.specs.Held.{positions_of};
 ghost use Rattle.guarded_lines.specs.Margins.{IsMarginIn, market_refusals, margin_reply, told_by, underlyings_in};
 
 use crate::replies::GuardedReply;
-use crate::requests::MarginRequest;
 use crate::told::ToldMargin;
+use command_text::MarginRequest;
 use exchange_core::{Exchange, Refusal};
 use form::MAX_ORDERS;
 use order_book::MarketInfo;

@@ -1,13 +1,14 @@
 // The reply to what a line says.
 ghost use Rattle.std.specs.Prelude.{◌≡◌, IfOk, OnErr};
-ghost use Rattle.guarded_lines.specs.Within.{GuardedBodyIsWithin};
-ghost use Rattle.guarded_lines.specs.Replies.{guarded_reply_line, guarded_reply_to};
+ghost use Rattle.command_text.specs.Within.{BodyIsWithin, RequestIsWithin};
+ghost use Rattle.guarded_lines.specs.Replies.{covered_reply_to, guarded_reply_line, guarded_reply_to};
 
-use crate::bodies::GuardedBody;
 use crate::margins::margin_reply;
-use crate::requests::MarginRequest;
 use crate::told::{Need, ToldMargin, print_margin, print_uncovered};
 use crate::withdrawals::uncovered_by;
+use command_text::asked::Fault;
+use command_text::bodies::body_of_said;
+use command_text::{Body, MarginRequest, Request};
 use exchange_core::{Exchange, Reply};
 use std::alloc::{AllocError, Global};
 
@@ -27,6 +28,23 @@ pub enum GuardedReply {
     },
 }
 
+// A run's, but for a withdrawal that would leave its account less than its positions demand.
+fn covered_reply_to(
+    alloc: Global,
+    exchange: &mut Exchange,
+    said: &Body,
+) -> Result<GuardedReply, AllocError>
+    requires { BodyIsWithin said.now }
+    ensures ok { IfOk result (λ reply.
+        (reply, exchange.new) ≡ covered_reply_to exchange.old said.now) }
+    ensures err { OnErr result (exchange.new ≡ exchange.old) }
+{
+    match uncovered_by(alloc, exchange, said)? {
+        Some(need) => Ok(GuardedReply::Uncovered { need }),
+        None => Ok(GuardedReply::Plain(exchange_core::reply_to(exchange, said)?)),
+    }
+}
+
 /// Takes the exchange one line further: a line of a run as there, but for a withdrawal that would
 /// leave its account less than its positions demand; that and a request for a margin change
 /// nothing.
@@ -35,19 +53,16 @@ pub enum GuardedReply {
 pub fn reply_to(
     alloc: Global,
     exchange: &mut Exchange,
-    said: &GuardedBody,
+    said: Result<Request, Fault>,
 ) -> Result<GuardedReply, AllocError>
-    requires { GuardedBodyIsWithin said.now }
+    requires { IfOk said RequestIsWithin }
     ensures ok { IfOk result (λ reply.
-        (reply, exchange.new) ≡ guarded_reply_to exchange.old said.now) }
+        (reply, exchange.new) ≡ guarded_reply_to exchange.old said) }
     ensures err { OnErr result (exchange.new ≡ exchange.old) }
 {
     match said {
-        GuardedBody::Plain(body) => match uncovered_by(alloc, exchange, body)? {
-            Some(need) => Ok(GuardedReply::Uncovered { need }),
-            None => Ok(GuardedReply::Plain(exchange_core::reply_to(exchange, body)?)),
-        },
-        GuardedBody::Margin(request) => margin_reply(alloc, exchange, request),
+        Ok(Request::Margin(request)) => margin_reply(alloc, exchange, &request),
+        said => covered_reply_to(alloc, exchange, &body_of_said(said)),
     }
 }
 

@@ -3,7 +3,7 @@ ghost use Rattle.std.specs.Prelude.{true, ◌≡◌, ◌++◌, IfOk, OnOk, codes
 ghost use Rattle.reply_print.specs.Piece.{Fields, field, fields_text, piece_text, words};
 ghost use Rattle.guarded_lines.specs.Told.{margin_line, margin_piece, margin_text, margin_with, margin_without, need_text, uncovered_line, uncovered_piece};
 
-use crate::requests::MarginRequest;
+use command_text::MarginRequest;
 use form::State;
 use frac::Frac128;
 use itoa::Buffer;

@@ -3,7 +3,7 @@ use Rattle.std.specs.Prelude.{ℕ, ◌≤◌, ◌^◌, ◌<◌, ⊤, List}
 use Rattle.std.specs.List.{AllByRecursion}
 use Rattle.form.specs.declared.limits.TheConstants.{MAX_PRICE, MAX_QUANTITY}
 use Rattle.form.specs.Between.{Between}
-use Rattle.guarded_lines.specs.declared.requests.MarginRequest.{MarginRequest}
+use Rattle.command_text.specs.declared.requests.MarginRequest.{MarginRequest}
 use Rattle.guarded_lines.specs.declared.told.Need.{Need}
 use Rattle.guarded_lines.specs.declared.told.Need.TheVariants as need
 use Rattle.guarded_lines.specs.declared.told.ToldMargin.{ToldMargin}

@@ -11,7 +11,8 @@ use crate::asked_shapes::{
     uncovered_shape,
 };
 use crate::asked_values::{margin_from, priced_from, quoted_from, uncovered_from};
-use guarded_lines::{MarginRequest, print_margin, print_uncovered};
+use command_text::MarginRequest;
+use guarded_lines::{print_margin, print_uncovered};
 use quote_lines::{print_priced, print_quoted};
 use reply_print::look::has_at;
 use reply_text::tested::read_value;

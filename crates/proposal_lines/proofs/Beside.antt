@@ -1,19 +1,20 @@
 -- What is told of what is read, and of refusals, tells of nothing that is taken.
-use Rattle.std.proofs.Common.{◌≡◌, ◌++◌, ◌∷◌, [], ℕ, Bool, true, false, Option, Some, None, Result, Ok, Err, if◌then◌else◌, inl, inr, refl, ap}
+use Rattle.std.proofs.Common.{◌≡◌, ◌++◌, ◌∷◌, [], ℕ, List, Bool, Option, Some, None, inl, inr, refl, ap}
 use Rattle.std.specs.Option.{option_map_or}
 use Rattle.command_text.specs.declared.asked.Fault.{Fault}
 use Rattle.command_text.specs.declared.asked.Fault.TheVariants.{Syntax, Range}
 use Rattle.exchange_core.specs.ExchangeState.{ExchangeState}
+use Rattle.exchange_core.specs.Held.{positions_of}
 use Rattle.exchange_core.specs.Reply.{refused_with}
+use Rattle.exchange_core.specs.Step.{batch_in}
 use Rattle.exchange_core.specs.declared.refusal.Refusal.{Refusal}
 use Rattle.exchange_core.specs.declared.refusal.Refusal.TheVariants as refusal
 use Rattle.lists.specs.Refusals.{first_of}
+use Rattle.proposal_text.specs.declared.replies.ProposalReply.TheVariants as told
 use Rattle.reply_print.specs.ReplyPieces.{reply_line}
 use Rattle.proposal_lines.specs.Output.{proposing_reply_line}
 use Rattle.proposal_lines.specs.Promises.{TakesNothing, IsBesideProposals}
-use Rattle.proposal_lines.specs.Reads.{read_refusals, read_reply, refused_by, refused_by_fault, told_by}
-use Rattle.proposal_lines.specs.declared.reads.ReadRequest.{ReadRequest}
-use Rattle.proposal_lines.specs.declared.reads.ReadRequest.TheVariants.{Book, Positions}
+use Rattle.proposal_lines.specs.Reads.{book_refusals, book_reply, positions_refusals, positions_reply, refused_by, refused_by_fault, unless_refused}
 use Rattle.proposal_lines.specs.declared.replies.ProposingReply.{ProposingReply}
 use Rattle.proposal_lines.specs.declared.replies.ProposingReply.TheVariants.{Plain, Told}
 
@@ -35,14 +36,15 @@ pub refusal_beside : (first : Refusal) → IsBeside (refused_by first)
 refusal_beside first = (first, refl)
 
 -- ---- a read
-told_beside : (exchange : ExchangeState) (request : ReadRequest) → TakesNothing (told_by exchange request)
-told_beside exchange (Book market) = tt
-told_beside exchange (Positions account market) = tt
+unless_beside : (refusals : List (Bool × Refusal)) (reply : ProposingReply) → IsBeside reply → IsBeside (unless_refused refusals reply)
+unless_beside refusals reply is = elim (first_of refusals) as (λ (r : Option Refusal). IsBeside (option_map_or refused_by r reply)) [
+  | None ↦ is
+  | Some first ↦ (first, refl)
+]
 
-pub read_beside : (exchange : ExchangeState) (asked : Result ReadRequest Fault) → IsBeside (read_reply exchange asked)
-read_beside exchange (Err fault) = fault_beside fault
-read_beside exchange (Ok request) = by (first_of (read_refusals exchange request))
-  where
-    by : (r : Option Refusal) → IsBeside (option_map_or refused_by r (Told (told_by exchange request)))
-    by (Some first) = (first, refl)
-    by None = told_beside exchange request
+pub book_beside : (exchange : ExchangeState) (market : ℕ) → IsBeside (book_reply exchange market)
+book_beside exchange market = unless_beside (book_refusals exchange market) (Told (told.Book market (batch_in exchange market))) tt
+
+pub positions_beside : (exchange : ExchangeState) (account market : ℕ) → IsBeside (positions_reply exchange account market)
+positions_beside exchange account market =
+    unless_beside (positions_refusals exchange account market) (Told (told.Positions account market (positions_of account market exchange.positions))) tt

@@ -1,15 +1,18 @@
 -- A proposal lowers the surplus of no clear, for as long as the orders of its market stay.
 use Rattle.std.proofs.Common.{◌≡◌, ℕ, List, [], ◌∷◌, Bool, true, false, nat_eq, if◌then◌else◌, Option, Some, None, Result, Ok, Err, option_and_then, refl, sym, ap, ◌∙◌, subst}
 use Rattle.std.specs.Option.{option_map_or}
-use Rattle.proposal_lines.specs.AllKinds.{all_line}
+use Rattle.proposal_lines.specs.AllKinds.{said_line}
 use Rattle.cert_check.specs.Proposals.{proposal_bound}
 use Rattle.cert_check.specs.declared.outcome.Outcome.{Outcome}
 use Rattle.cert_check.specs.declared.outcome.Unproved.{Unproved as Reason}
 use Rattle.command_text.specs.declared.asked.Fault.{Fault}
-use Rattle.command_text.specs.declared.command.Body.{Body}
-use Rattle.command_text.specs.declared.command.Body.TheVariants as body
-use Rattle.command_text.specs.declared.command.Command.TheVariants.{Open, Deposit, Withdraw, Market, Trade, Bundle, Cancel, Clear, Settle, Balance}
+use Rattle.command_text.specs.declared.command.Command.TheVariants.{Clear}
+use Rattle.command_text.specs.declared.requests.Request.{Request}
+use Rattle.command_text.specs.declared.requests.Request.TheVariants as asks
+use Rattle.command_text.specs.declared.words.TheConstants.{SERVED}
 use Rattle.command_text.specs.Commands.{body_of_line}
+use Rattle.command_text.specs.Said.{said_in}
+use Rattle.command_text.proofs.SaidByWords.{command_to_run}
 use Rattle.exact_num.specs.Fraction.{AtMost, Fraction}
 use Rattle.exchange_core.specs.declared.refusal.Refusal.{Refusal}
 use Rattle.exchange_core.specs.ExchangeState.{ExchangeState}
@@ -32,14 +35,15 @@ use Rattle.proposal_lines.specs.Clears.{better_in, clear_reply, cleared_by, refe
 use Rattle.proposal_lines.specs.KeptByMarket.{KeptProposals, best_in, if_above, kept_in, stop_of, with_kept, without_kept}
 use Rattle.proposal_lines.specs.LaterClears.{IsNoClearOf, IsUnharmed, LeaveOrders, ProposalsLowerNothing}
 use Rattle.proposal_lines.specs.Laws.{cleared_surplus}
-use Rattle.proposal_lines.specs.Output.{body_line, other_line, proposing_line, unproposed_line, written_reply}
+use Rattle.proposal_lines.specs.Output.{other_line, proposing_line, served_line, written_reply}
 use Rattle.proposal_lines.specs.Promises.{state_by_lines}
-use Rattle.proposal_lines.specs.Proposed.{after_proposed, after_word, judged_effect, kept_by, offered, proposed_by, proposed_of, proposed_reply, stale_effect, unproved_effect}
+use Rattle.proposal_lines.specs.Proposed.{after_proposed, judged_effect, kept_by, offered, proposed_by, proposed_of, proposed_reply, stale_effect, unproved_effect}
 use Rattle.proposal_lines.specs.ProposingState.{ProposingState, state_of}
-use Rattle.proposal_lines.specs.Reads.{read_of_line, read_reply, refused_by}
+use Rattle.proposal_lines.specs.Reads.{refused_by}
 use Rattle.proposal_lines.specs.declared.proposed.Proposed.{Proposed}
 use Rattle.proposal_lines.specs.declared.replies.ProposingReply.{ProposingReply}
 use Rattle.proposal_lines.proofs.Kept.{same_numbers}
+use Rattle.proposal_lines.proofs.SaidKinds.{by_kind}
 use Rattle.proposal_lines.proofs.Lowering.{IsNoLess, after_counts, after_no_less, after_no_worse, as_much, charged_no_less}
 use Rattle.proposal_lines.proofs.ByMarket.{kept_in_others, other_way, others_in, others_kept, others_removed, own_counts, own_kept, removed_in_others, with_in_others}
 
@@ -246,8 +250,8 @@ module _ (market : ℕ) (exchange : ExchangeState) (one other : KeptProposals) (
     Both answer =
         OrdersStay (answer (state_of exchange one)).1.exchange → IsNoWorse market (answer (state_of exchange one)).1 (answer (state_of exchange other)).1
 
-    other_both : Both (λ state. other_line number state line)
-    other_both stay = left_both (all_line number exchange line).1 stay (λ kept. kept) no_worse.others (λ kept. refl)
+    other_both : (said : Result Request Fault) → Both (λ state. other_line number state said)
+    other_both said stay = left_both (said_line number exchange said).1 stay (λ kept. kept) no_worse.others (λ kept. refl)
 
     -- a clear of another market
     clear_both : (cleared budget : ℕ) → nat_eq cleared market ≡ false → Both (λ state. written_reply number (clear_reply state cleared budget))
@@ -279,35 +283,26 @@ module _ (market : ℕ) (exchange : ExchangeState) (one other : KeptProposals) (
             (removed_in_others market cleared apart other ∙ ap (without_kept cleared) no_worse.others ∙ sym (removed_in_others market cleared apart one))
             (others_removed cleared market (other_way cleared market apart))
 
-    body_both : (said : Body) → IsNoClearOf market said → Both (λ state. body_line number state line said)
-    body_both body.Syntax none = other_both
-    body_both (body.Range field) none = other_both
-    body_both (body.Command (Open account)) none = other_both
-    body_both (body.Command (Deposit account amount)) none = other_both
-    body_both (body.Command (Withdraw account amount)) none = other_both
-    body_both (body.Command (Market listed underlyings)) none = other_both
-    body_both (body.Command (Trade side account traded kind strike price quantity count weights)) none = other_both
-    body_both (body.Command (Bundle side account traded price quantity bundle)) none = other_both
-    body_both (body.Command (Cancel account order)) none = other_both
-    body_both (body.Command (Clear cleared budget)) none = by (nat_eq cleared market) refl
+    -- what is no clear of the market
+    said_both : (said : Result Request Fault) → ((budget : ℕ) → said ≡ Ok (asks.Command (Clear market budget)) → ⊥) → Both (λ state. served_line number state line said)
+    said_both =
+        by_kind (λ said. ((budget : ℕ) → said ≡ Ok (asks.Command (Clear market budget)) → ⊥) → Both (λ state. served_line number state line said))
+        (λ request none stay. proposed_both (proposed_of line request))
+        (λ cleared budget none. by cleared budget (nat_eq cleared market) refl none)
+        (λ read none stay. unchanged)
+        (λ account read none stay. unchanged)
+        (λ said other none.
+        let same : (λ (state : ProposingState). other_line number state said) ≡ (λ (state : ProposingState). served_line number state line said) =
+        λ i state. sym (other.served number state line) i in
+        subst Both same (other_both said))
       where
-        by : (b : Bool) → nat_eq cleared market ≡ b → Both (λ state. written_reply number (clear_reply state cleared budget))
-        by true own = absurd (none budget (ap (λ q. body.Command (Clear q budget)) (same_number cleared market own)))
-        by false apart = clear_both cleared budget apart
-    body_both (body.Command (Settle settled count prices)) none = other_both
-    body_both (body.Command (Balance account)) none = other_both
+        by : (cleared budget : ℕ) (b : Bool) → nat_eq cleared market ≡ b → ((budget' : ℕ) → Ok (asks.Command (Clear cleared budget)) ≡ Ok (asks.Command (Clear market budget')) → ⊥)
+            → Both (λ state. written_reply number (clear_reply state cleared budget))
+        by cleared budget true own none = absurd (none budget (ap (λ (q : ℕ). Ok (asks.Command (Clear q budget))) (same_number cleared market own)))
+        by cleared budget false apart none = clear_both cleared budget apart
 
     line_both : IsNoClearOf market (body_of_line line) → Both (λ state. proposing_line number state line)
-    line_both none =
-        elim (after_word line) as (λ o. Both (λ state. option_map_or (λ text. written_reply number (proposed_reply state (proposed_of text))) o (unproposed_line number state line))) [
-          | Some text ↦ λ stay. proposed_both (proposed_of text)
-          | None ↦
-              elim (read_of_line line) as (λ o.
-              Both (λ state. option_map_or (λ asked. written_reply number (read_reply state.exchange asked, state)) o (body_line number state line (body_of_line line)))) [
-                | Some asked ↦ λ stay. unchanged
-                | None ↦ body_both (body_of_line line) none
-              ]
-        ]
+    line_both none = said_both (said_in SERVED line) (λ budget is. none budget (command_to_run SERVED line (Clear market budget) is))
 
 -- a state with the exchange of another
 with_exchange : (market : ℕ) (one other : ProposingState) → IsNoWorse market one other → other ≡ state_of one.exchange other.kept

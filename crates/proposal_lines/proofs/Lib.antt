@@ -1,12 +1,12 @@
 pub mod AsRun
-pub mod FirstWords
 pub mod Outputs
 pub mod Numbered
 pub mod Moving
+pub mod SaidProved
 pub mod Kept
-pub mod Others
 pub mod Clearing
 pub mod Sound
+pub mod SaidKinds
 pub mod Beside
 pub mod Taking
 pub mod AskedLines
@@ -16,5 +16,4 @@ pub mod Lowering
 pub mod LaterClears
 pub mod Ends
 pub mod Without
-pub mod FirstFields
 pub mod Charging

@@ -22,6 +22,6 @@ pub outputs_are_of_lines : OutputsAreOfLines
 outputs_are_of_lines step input = by_places step input empty_exchange (raw_lines_in input)
 
 pub outputs_tell : OutputsTell
-outputs_tell input =
-    subst (TellAnswers IsBesideText all_line input) (sym (outputs_are_of_lines all_line input))
-    (output_tells IsBesideText all_line all_answer_as_run input)
+outputs_tell words input =
+    subst (TellAnswers IsBesideText (all_line words) input) (sym (outputs_are_of_lines (all_line words) input))
+    (output_tells IsBesideText (all_line words) (all_answer_as_run words) input)

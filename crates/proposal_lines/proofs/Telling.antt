@@ -2,7 +2,7 @@
 use Rattle.std.proofs.Common.{◌≡◌, ℕ, ◌+◌, List, [], ◌∷◌, ◌++◌, All, map, Option, Some, None, Result, Ok, Err, option_map, inl, inr, refl, sym, ap, ◌∙◌, subst}
 use Rattle.std.specs.Option.{option_map_or}
 use Rattle.std.proofs.lemmas.List.Elements.{All-nil, All-cons}
-use Rattle.proposal_lines.proofs.AsRun.{all_answer_as_run}
+use Rattle.proposal_lines.proofs.AsRun.{said_as_run, said_beside}
 use Rattle.cert_check.specs.Laws.{IsCovered}
 use Rattle.cert_check.specs.Proposals.{as_optimal, proposal_bound}
 use Rattle.cert_check.proofs.Proposals.{proposals_are_decided}
@@ -17,13 +17,20 @@ use Rattle.order_book.specs.Refusals.{live_refusals}
 use Rattle.proposal_text.specs.declared.replies.ProposalReply.{ProposalReply}
 use Rattle.proposals.specs.Laws.{as_proposal}
 use Rattle.proposal_lines.specs.declared.proposed.Proposed.{Proposed}
+use Rattle.proposal_lines.specs.declared.replies.ProposingReply.{ProposingReply}
 use Rattle.proposal_lines.specs.declared.replies.ProposingReply.TheVariants as reply_of
 use Rattle.command_text.specs.declared.command.Body.{Body}
 use Rattle.command_text.specs.declared.command.Body.TheVariants as body
 use Rattle.command_text.specs.declared.command.Command.{Command}
-use Rattle.command_text.specs.declared.command.Command.TheVariants.{Open, Deposit, Withdraw, Market, Trade, Bundle, Cancel, Clear, Settle, Balance}
+use Rattle.command_text.specs.declared.command.Command.TheVariants.{Clear}
+use Rattle.command_text.specs.declared.requests.ProposeRequest.{ProposeRequest}
+use Rattle.command_text.specs.declared.requests.Request.{Request}
+use Rattle.command_text.specs.declared.requests.Request.TheVariants as asks
+use Rattle.command_text.specs.declared.words.TheConstants.{SERVED}
+use Rattle.command_text.specs.Said.{said_in}
+use Rattle.command_text.proofs.SaidByWords.{command_to_run}
 use Rattle.command_text.specs.declared.lines.RawLine.{RawLine}
-use Rattle.command_text.specs.Commands.{body_of_line}
+use Rattle.command_text.specs.Commands.{body_of_line, body_of_said}
 use Rattle.command_text.specs.Lines.{raw_lines_in}
 use Rattle.command_text.proofs.ReadWithin.{lines_are_within}
 use Rattle.exchange_core.specs.declared.refusal.Refusal.{Refusal}
@@ -31,14 +38,14 @@ use Rattle.exchange_core.specs.ExchangeState.{ExchangeState, empty_exchange}
 use Rattle.exchange_core.specs.Kept.{IsKept}
 use Rattle.exchange_core.specs.LineReplies.{reply_to}
 use Rattle.exchange_core.specs.Refusals.{refusal_of}
-use Rattle.exchange_core.specs.Step.{batch_in, clear_effect, cleared_with, effect, refusal_effect, step}
+use Rattle.exchange_core.specs.Step.{batch_in, clear_effect, cleared_with, refusal_effect, step}
 use Rattle.exchange_core.proofs.Keeping.{clears_keep, empty_is_kept}
 use Rattle.exchange_lines.specs.LineSteps.{InputLine, input_line, input_lines, line_of}
 use Rattle.exchange_lines.specs.Replies.{answer_to}
 use Rattle.exchange_lines.proofs.Answered.{answer_keeps, promises_kept}
 use Rattle.form.specs.declared.orders.Batch.{Batch}
 use Rattle.exchange_lines.specs.Moves.{AreMoves, Move, clears, move, says}
-use Rattle.exchange_lines.specs.GainRuns.{HouseGains, IfClears, replies_by, state_by}
+use Rattle.exchange_lines.specs.GainRuns.{HouseGains, replies_by, state_by}
 use Rattle.exchange_lines.proofs.RunGains.{moves_gain}
 use Rattle.live_lines.specs.Output.{places_output}
 use Rattle.proposal_text.specs.declared.replies.BoundedOutcome.{BoundedOutcome}
@@ -46,17 +53,18 @@ use Rattle.reply_print.specs.ReplyPieces.{reply_line}
 use Rattle.reply_print.specs.declared.replies.Reply.{Reply}
 use Rattle.proposal_lines.specs.Clears.{better_in, bounded_effect, clear_reply, cleared_by, reference_in}
 use Rattle.proposal_lines.specs.KeptByMarket.{KeptProposals, without_kept}
-use Rattle.proposal_lines.specs.Laws.{IsBetter, IsClearedAs, IsSound, NoneIsAbove}
-use Rattle.proposal_lines.specs.Output.{body_line, other_line, proposing_line, unproposed_line, written_reply}
+use Rattle.proposal_lines.specs.Laws.{IsBetter, IsClearedAs, IsSound}
+use Rattle.proposal_lines.specs.Output.{other_line, proposing_line, served_line, written_reply}
 use Rattle.proposal_lines.specs.Promises.{AreToldFor, IsBesideProposals, IsToldFor, KeepsProposalPromises, OutputsTellProposals, ProposalAnswer, TellsAsked, beside, bounded, charged, replied, replies_in, state_by_lines, taken, told_text, told_texts}
-use Rattle.proposal_lines.specs.Proposed.{after_proposed, after_word, kept_by, offered, proposed_by, proposed_of, proposed_reply}
+use Rattle.proposal_lines.specs.Proposed.{after_proposed, kept_by, offered, proposed_by, proposed_of, proposed_reply}
 use Rattle.proposal_lines.specs.ProposingState.{ProposingState, empty_state}
 use Rattle.proposal_lines.specs.Proved.{AreProvedIn, IsEntryProved}
-use Rattle.proposal_lines.specs.Reads.{read_of_line, read_reply, refused_by, refused_by_fault}
+use Rattle.proposal_lines.specs.Reads.{book_reply, positions_reply, refused_by, refused_by_fault}
 use Rattle.proposal_lines.proofs.AskedLines.{asked_told}
-use Rattle.proposal_lines.proofs.Beside.{beside_text, fault_beside, read_beside, refusal_beside}
+use Rattle.proposal_lines.proofs.Beside.{IsBeside, beside_text, book_beside, fault_beside, positions_beside, refusal_beside}
 use Rattle.proposal_lines.proofs.Clearing.{clears_are_proved}
 use Rattle.proposal_lines.proofs.Kept.{without_proved}
+use Rattle.proposal_lines.proofs.SaidKinds.{IsOther, IsUnbeaten, by_kind}
 use Rattle.proposal_lines.proofs.Moving.{after_batch_proved, entries_moved, reply_proved}
 use Rattle.proposal_lines.proofs.Sound.{proposed_proved}
 use Rattle.proposal_lines.proofs.Taking.{offer_becomes, taken_is_proved}
@@ -73,19 +81,6 @@ module _ (state : ProposingState) (line : InputLine) where
     may : AreMoves state.exchange moves
     replies : (more : List ProposalAnswer) → replies_in (answer ∷ more) ≡ replies_by move state.exchange moves ++ replies_in more
     end : now.1.exchange ≡ state_by move state.exchange moves
-
--- ---- a batch that a line clears as a run does
-module _ (state : ProposingState) where
-  -- nothing that counts covers more than what it is cleared as, where its run stopped
-  abbrev IsUnbeaten : Reply → Type 0
-  IsUnbeaten = IfClears (λ number market batch outcome. NoneIsAbove state market outcome)
-
-  by_refusal : (command : Command) → IsUnbeaten (effect state.exchange command).0 → IsUnbeaten (step state.exchange command).0
-  by_refusal command h =
-      elim (refusal_of state.exchange command) as (λ (r : Option Refusal). IsUnbeaten (option_map_or (refusal_effect state.exchange) r (effect state.exchange command)).0) [
-        | None ↦ h
-        | Some refusal ↦ tt
-      ]
 
 -- ---- one line
 module _ (state : ProposingState) (line : InputLine) (sound : IsSound state) where
@@ -109,7 +104,7 @@ module _ (state : ProposingState) (line : InputLine) (sound : IsSound state) whe
   }
 
   -- ---- a proposal
-  module _ (proposed : Proposed) (says_it : option_map proposed_of (after_word line.bytes) ≡ Some (Ok proposed))
+  module _ (request : ProposeRequest) (says_it : said_in SERVED line.bytes ≡ Ok (asks.Propose request)) (proposed : Proposed) (proposes : proposed_of line.bytes request ≡ Ok proposed)
       (none : first_of (by_book (live_refusals state.exchange.book proposed.market)) ≡ None) where
     abbrev live : Batch
     live = batch_in state.exchange proposed.market
@@ -123,7 +118,7 @@ module _ (state : ProposingState) (line : InputLine) (sound : IsSound state) whe
         let best = after_proposed state.kept proposed bound in
         record {
           answer = taken (record { line = line.number; proposed = proposed; batch = live; bound = bound; best = best });
-          told = record { of_line = refl; says = says_it; batch = refl; orders = orders; judged = judged; best = refl; exchange = refl; kept = refl };
+          told = record { of_line = refl; request = request; says = says_it; proposes = proposes; batch = refl; orders = orders; judged = judged; best = refl; exchange = refl; kept = refl };
           text = refl;
           promise = record {
             proposed = (proposals_are_decided live proposed.submission.proposal).proved (fraction_of bound) judged;
@@ -149,14 +144,15 @@ module _ (state : ProposingState) (line : InputLine) (sound : IsSound state) whe
           (taken_told took.bound took.orders took.judged (subst (λ (now : ProposalReply × KeptProposals). AreProvedIn state.exchange.book now.1) took.is offered_proved))
     ]
 
-  proposal_told : (said : Result Proposed Fault) → option_map proposed_of (after_word line.bytes) ≡ Some said → Told (written_reply line.number (proposed_reply state said))
-  proposal_told (Err fault) is = beside_told (written_reply line.number (refused_by_fault fault, state)) (beside_text line.number (refused_by_fault fault) (fault_beside fault)) refl refl
-  proposal_told (Ok proposed) is = by (first_of (by_book (live_refusals state.exchange.book proposed.market))) refl
+  proposal_told : (request : ProposeRequest) → said_in SERVED line.bytes ≡ Ok (asks.Propose request) → (said : Result Proposed Fault) → proposed_of line.bytes request ≡ said
+      → Told (written_reply line.number (proposed_reply state said))
+  proposal_told request says_it (Err fault) is = beside_told (written_reply line.number (refused_by_fault fault, state)) (beside_text line.number (refused_by_fault fault) (fault_beside fault)) refl refl
+  proposal_told request says_it (Ok proposed) is = by (first_of (by_book (live_refusals state.exchange.book proposed.market))) refl
     where
       by : (r : Option Refusal) → first_of (by_book (live_refusals state.exchange.book proposed.market)) ≡ r
           → Told (written_reply line.number (option_map_or (λ first. (refused_by first, state)) r (proposed_by state proposed)))
       by (Some first) none = beside_told (written_reply line.number (refused_by first, state)) (beside_text line.number (refused_by first) (refusal_beside first)) refl refl
-      by None none = offer_told proposed is none
+      by None none = offer_told request says_it proposed is none
 
   abbrev run_reply : Reply × ExchangeState
   run_reply = reply_to state.exchange (body_of_line line.bytes)
@@ -216,14 +212,26 @@ module _ (state : ProposingState) (line : InputLine) (sound : IsSound state) whe
       }
 
   -- ---- by what it says
-  other_told : (said : Body) → body_of_line line.bytes ≡ said → IsUnbeaten state (reply_to state.exchange said).0 → Told (other_line line.number state line.bytes)
-  other_told said same unbeaten =
-      let now = other_line line.number state line.bytes in
-      elim (all_answer_as_run line.number state.exchange line.bytes) [
+  -- a command that clears nothing
+  command_told : (c : Command) → said_in SERVED line.bytes ≡ Ok (asks.Command c) → IsUnbeaten state (step state.exchange c).0 → Told (other_line line.number state (Ok (asks.Command c)))
+  command_told c is unbeaten =
+      let now = other_line line.number state (Ok (asks.Command c)) in
+      let says = command_to_run SERVED line.bytes c is in
+      elim (said_as_run line.number state.exchange (body_of_line line.bytes) (Ok (asks.Command c)) (λ other same. says ∙ ap body_of_said same)) [
         | inl is ↦
             replied_told now (ap (λ (r : List ℕ × ExchangeState). r.0) is) (ap (λ (r : List ℕ × ExchangeState). r.1) is) refl
-            (subst (λ (b : Body). IsUnbeaten state (reply_to state.exchange b).0) (sym same) unbeaten)
+            (subst (λ (b : Body). IsUnbeaten state (reply_to state.exchange b).0) (sym says) unbeaten)
         | inr is ↦ beside_told now (inl is.0) is.1 refl
+      ]
+
+  other_told : (said : Result Request Fault) → IsOther said → said_in SERVED line.bytes ≡ said → Told (served_line line.number state line.bytes said)
+  other_told said other is = subst Told (sym (other.served line.number state line.bytes)) answered
+    where
+      answered : Told (other_line line.number state said)
+      answered = elim other.says [
+        | inl command ↦
+            subst (λ said. Told (other_line line.number state said)) (sym command.1) (command_told command.0 (is ∙ command.1) (command.2 state))
+        | inr none ↦ let told = said_beside line.number state.exchange said none in beside_told (other_line line.number state said) (inl told.0) told.1 refl
       ]
 
   clear_told : (market budget : ℕ) → body_of_line line.bytes ≡ body.Command (Clear market budget) → Told (written_reply line.number (clear_reply state market budget))
@@ -253,42 +261,17 @@ module _ (state : ProposingState) (line : InputLine) (sound : IsSound state) whe
       by None accepted = by_better accepted (better_in state market budget) refl (clears_are_proved state market budget sound accepted)
       by (Some first) is = as_run (Some first) is (written_reply line.number (refused_by first, state)) refl refl refl tt
 
-  -- of a command that clears nothing
-  command_told : (command : Command) → body_of_line line.bytes ≡ body.Command command → IsUnbeaten state (effect state.exchange command).0 → Told (other_line line.number state line.bytes)
-  command_told command is unbeaten = other_told (body.Command command) is (by_refusal state command unbeaten)
-
-  body_told : (said : Body) → body_of_line line.bytes ≡ said → Told (body_line line.number state line.bytes said)
-  body_told body.Syntax is = other_told body.Syntax is tt
-  body_told (body.Range field) is = other_told (body.Range field) is tt
-  body_told (body.Command (Open account)) is = command_told (Open account) is tt
-  body_told (body.Command (Deposit account amount)) is = command_told (Deposit account amount) is tt
-  body_told (body.Command (Withdraw account amount)) is = command_told (Withdraw account amount) is tt
-  body_told (body.Command (Market market underlyings)) is = command_told (Market market underlyings) is tt
-  body_told (body.Command (Trade side account market kind strike price quantity count weights)) is =
-      command_told (Trade side account market kind strike price quantity count weights) is tt
-  body_told (body.Command (Bundle side account market price quantity bundle)) is = command_told (Bundle side account market price quantity bundle) is tt
-  body_told (body.Command (Cancel account order)) is = command_told (Cancel account order) is tt
-  body_told (body.Command (Clear market budget)) is = clear_told market budget is
-  body_told (body.Command (Settle market count prices)) is = command_told (Settle market count prices) is tt
-  body_told (body.Command (Balance account)) is = command_told (Balance account) is tt
-
   pub line_told : Told (proposing_line line.number state line.bytes)
-  line_told = by (after_word line.bytes) refl
+  line_told =
+      by_kind (λ said. said_in SERVED line.bytes ≡ said → Told (served_line line.number state line.bytes said))
+      (λ request is. proposal_told request is (proposed_of line.bytes request) refl)
+      (λ market budget is. clear_told market budget (command_to_run SERVED line.bytes (Clear market budget) is))
+      (λ market is. told_beside (book_reply state.exchange market) (book_beside state.exchange market))
+      (λ account market is. told_beside (positions_reply state.exchange account market) (positions_beside state.exchange account market))
+      other_told (said_in SERVED line.bytes) refl
     where
-      unproposed_told : Told (unproposed_line line.number state line.bytes)
-      unproposed_told =
-          elim (read_of_line line.bytes) as (λ o.
-          Told (option_map_or (λ asked. written_reply line.number (read_reply state.exchange asked, state)) o (body_line line.number state line.bytes (body_of_line line.bytes)))) [
-            | Some asked ↦
-                beside_told (written_reply line.number (read_reply state.exchange asked, state))
-                (beside_text line.number (read_reply state.exchange asked) (read_beside state.exchange asked)) refl refl
-            | None ↦ body_told (body_of_line line.bytes) refl
-          ]
-
-      by : (o : Option (List ℕ)) → after_word line.bytes ≡ o
-          → Told (option_map_or (λ text. written_reply line.number (proposed_reply state (proposed_of text))) o (unproposed_line line.number state line.bytes))
-      by None is = unproposed_told
-      by (Some text) is = proposal_told (proposed_of text) (ap (option_map proposed_of) is)
+      told_beside : (reply : ProposingReply) → IsBeside reply → Told (written_reply line.number (reply, state))
+      told_beside reply is = beside_told (written_reply line.number (reply, state)) (beside_text line.number reply is) refl refl
 
 -- ---- all lines
 record AreTold (state : ProposingState) (lines : List InputLine) : Type 0 where

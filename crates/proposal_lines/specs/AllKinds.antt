@@ -1,41 +1,29 @@
--- What is written for a line of any kind.
-use Rattle.std.specs.Prelude.{ℕ, ◌==◌, ◌||◌, ◌⊎◌, Bool, false, List, [], ◌∷◌, Option, Some, None, if◌then◌else◌}
-use Rattle.std.specs.Option.{option_map_or}
-use Rattle.std.specs.Str.{bytes_eq}
-use Rattle.command_text.specs.Asked.{text_of}
-use Rattle.command_text.specs.Fields.{fields_of_line}
+-- What is written for what a line says, of any kind, where nothing is read and no proposals are
+-- taken.
+use Rattle.std.specs.Prelude.{ℕ, ◌⊎◌, List, Result, Ok}
+use Rattle.command_text.specs.declared.asked.Fault.{Fault}
+use Rattle.command_text.specs.declared.requests.Request.{Request}
+use Rattle.command_text.specs.declared.requests.Request.TheVariants as asks
+use Rattle.command_text.specs.declared.words.LineWord.{LineWord}
+use Rattle.command_text.specs.Said.{said_in}
+use Rattle.exchange_core.specs.ExchangeState.{ExchangeState}
 use Rattle.exchange_lines.specs.LineSteps.{LineStep}
-use Rattle.guarded_lines.specs.Output.{IsMarginText, guarded_line}
-use Rattle.quote_lines.specs.declared.bodies.AskingWord.{AskingWord}
-use Rattle.quote_lines.specs.declared.bodies.AskingWord.TheVariants.{Quote, Price}
-use Rattle.quote_lines.specs.Bodies.{word_text}
-use Rattle.quote_lines.specs.Output.{IsPriceText, IsQuoteText, line_by}
+use Rattle.guarded_lines.specs.Output as guarded
+use Rattle.guarded_lines.specs.Output.{IsMarginText}
+use Rattle.guarded_lines.specs.Replies.{guarded_reply_to}
+use Rattle.quote_lines.specs.Output as quotes
+use Rattle.quote_lines.specs.Output.{IsPriceText, IsQuoteText}
+use Rattle.quote_lines.specs.Replies.{quotes_reply_to}
 
--- the word that is the first field
-abbrev pub word_in : List (List ℕ) → Option AskingWord
-word_in fields =
-    if bytes_eq (text_of fields 1) (word_text Quote) then Some Quote
-    else if bytes_eq (text_of fields 1) (word_text Price) then Some Price
-    else None
+-- a quote and prices as `quotes` answers them, and all else as `guarded`
+abbrev pub said_line : ℕ → ExchangeState → Result Request Fault → List ℕ × ExchangeState
+said_line number state (Ok (asks.Quote request)) = quotes.written_reply number (quotes_reply_to state (Ok (asks.Quote request)))
+said_line number state (Ok (asks.Price request)) = quotes.written_reply number (quotes_reply_to state (Ok (asks.Price request)))
+said_line number state said = guarded.written_reply number (guarded_reply_to state said)
 
--- the word by which the first field of a line asks
-abbrev pub asking_word : List ℕ → Option AskingWord
-asking_word line = option_map_or word_in (fields_of_line line) None
-
--- it begins with the letter q or p or with a quotation mark, as each line does that asks so; no
--- other need be read to its first field
-abbrev pub may_ask : List ℕ → Bool
-may_ask [] = false
-may_ask (b ∷ bs) = (b == 113) || (b == 112) || (b == 34)
-
--- what is written by the word, or for a line of none
-abbrev pub line_of : Option AskingWord → LineStep
-line_of (Some word) number state line = line_by word number state line
-line_of None number state line = guarded_line number state line
-
--- what is written for a line of these bytes, and the state after it
-abbrev pub all_line : LineStep
-all_line number state line = line_of (asking_word line) number state line
+-- what is written for a line of these bytes, where these words may begin it, and the state after it
+abbrev pub all_line : List LineWord → LineStep
+all_line words number state line = said_line number state (said_in words line)
 
 -- what is written for a line beside a run's answers
 abbrev pub IsBesideText : ℕ → List ℕ → Type 0

@@ -3,12 +3,9 @@ use Rattle.std.specs.Prelude.{ℕ, ◌+◌, Option, Some, None}
 use Rattle.std.specs.Option.{option_map_or}
 use Rattle.cert_check.specs.declared.outcome.Outcome.{Outcome}
 use Rattle.clearing.specs.Outcome.{outcome_of}
-use Rattle.command_text.specs.declared.command.Body.TheVariants as body
 use Rattle.command_text.specs.declared.command.Command.TheVariants.{Clear}
 use Rattle.exchange_core.specs.Refusals.{refusal_of}
 use Rattle.exchange_core.specs.Step.{batch_in, cleared_as, cleared_with}
-use Rattle.guarded_lines.specs.declared.bodies.GuardedBody.{GuardedBody}
-use Rattle.guarded_lines.specs.declared.bodies.GuardedBody.TheVariants as guarded
 use Rattle.order_book.specs.Numbers.{numbers_of}
 use Rattle.proposal_text.specs.declared.replies.BoundedOutcome.{BoundedOutcome}
 use Rattle.proposal_text.specs.declared.replies.ProposalReply.TheVariants as told
@@ -54,8 +51,3 @@ abbrev pub clear_reply : ProposingState → ℕ → ℕ → ProposingReply × Pr
 clear_reply state market budget =
     option_map_or (λ first. (refused_by first, state)) (refusal_of state.exchange (Clear market budget))
     (cleared_by state market budget (better_in state market budget))
-
--- the market and the budget of a clear, where a line says one
-abbrev pub clear_said : GuardedBody → Option (ℕ × ℕ)
-clear_said (guarded.Plain (body.Command (Clear market budget))) = Some (market, budget)
-clear_said said = None

@@ -10,4 +10,3 @@ pub mod Proved
 pub mod Laws
 pub mod Promises
 pub mod LaterClears
-pub mod Worked

@@ -1,18 +1,18 @@
 -- What is written for a line where proposals are taken.
-use Rattle.std.specs.Prelude.{ℕ, List, [], ◌∷◌, ◌++◌}
-use Rattle.std.specs.Option.{option_map_or}
-use Rattle.proposal_lines.specs.AllKinds.{all_line}
-use Rattle.command_text.specs.declared.command.Body.{Body}
-use Rattle.command_text.specs.declared.command.Body.TheVariants.{Command, Syntax, Range}
-use Rattle.command_text.specs.declared.command.Command.{Command as CommandOf}
+use Rattle.std.specs.Prelude.{ℕ, List, [], ◌∷◌, ◌++◌, Result, Ok}
+use Rattle.command_text.specs.declared.asked.Fault.{Fault}
 use Rattle.command_text.specs.declared.command.Command.TheVariants.{Clear}
-use Rattle.command_text.specs.Commands.{body_of_line}
+use Rattle.command_text.specs.declared.requests.Request.{Request}
+use Rattle.command_text.specs.declared.requests.Request.TheVariants.{Command, Book, Positions, Propose}
+use Rattle.command_text.specs.declared.words.TheConstants.{SERVED}
+use Rattle.command_text.specs.Said.{said_in}
 use Rattle.proposal_text.specs.Pieces.{proposal_line}
 use Rattle.reply_print.specs.ReplyPieces.{reply_line}
+use Rattle.proposal_lines.specs.AllKinds.{said_line}
 use Rattle.proposal_lines.specs.Clears.{clear_reply}
-use Rattle.proposal_lines.specs.Proposed.{after_word, proposed_of, proposed_reply}
+use Rattle.proposal_lines.specs.Proposed.{proposed_of, proposed_reply}
 use Rattle.proposal_lines.specs.ProposingState.{ProposingState}
-use Rattle.proposal_lines.specs.Reads.{read_of_line, read_reply}
+use Rattle.proposal_lines.specs.Reads.{book_reply, positions_reply}
 use Rattle.proposal_lines.specs.declared.replies.ProposingReply.{ProposingReply}
 use Rattle.proposal_lines.specs.declared.replies.ProposingReply.TheVariants.{Plain, Told}
 
@@ -24,26 +24,17 @@ proposing_reply_line number (Told reply) = proposal_line number reply
 abbrev pub written_reply : ℕ → ProposingReply × ProposingState → List ℕ × ProposingState
 written_reply number result = (proposing_reply_line number result.0 ++ 10 ∷ [], result.1)
 
--- a line of another kind is answered as where nothing is proposed
-abbrev pub other_line : ℕ → ProposingState → List ℕ → List ℕ × ProposingState
-other_line number state line = let now = all_line number state.exchange line in (now.0, record state { exchange = now.1 })
+-- what is said otherwise is answered as where nothing is read or proposed
+abbrev pub other_line : ℕ → ProposingState → Result Request Fault → List ℕ × ProposingState
+other_line number state said = let now = said_line number state.exchange said in (now.0, record state { exchange = now.1 })
 
-abbrev pub command_line : ℕ → ProposingState → List ℕ → CommandOf → List ℕ × ProposingState
-command_line number state line (Clear market budget) = written_reply number (clear_reply state market budget)
-command_line number state line command = other_line number state line
+-- what is written for a line of these bytes that says this, and the state after it
+abbrev pub served_line : ℕ → ProposingState → List ℕ → Result Request Fault → List ℕ × ProposingState
+served_line number state line (Ok (Propose request)) = written_reply number (proposed_reply state (proposed_of line request))
+served_line number state line (Ok (Command (Clear market budget))) = written_reply number (clear_reply state market budget)
+served_line number state line (Ok (Book market)) = written_reply number (book_reply state.exchange market, state)
+served_line number state line (Ok (Positions account market)) = written_reply number (positions_reply state.exchange account market, state)
+served_line number state line said = other_line number state said
 
-abbrev pub body_line : ℕ → ProposingState → List ℕ → Body → List ℕ × ProposingState
-body_line number state line (Command command) = command_line number state line command
-body_line number state line Syntax = other_line number state line
-body_line number state line (Range field) = other_line number state line
-
-abbrev pub unproposed_line : ℕ → ProposingState → List ℕ → List ℕ × ProposingState
-unproposed_line number state line =
-    option_map_or (λ asked. written_reply number (read_reply state.exchange asked, state)) (read_of_line line)
-    (body_line number state line (body_of_line line))
-
--- what is written for a line of these bytes, and the state after it
 abbrev pub proposing_line : ℕ → ProposingState → List ℕ → List ℕ × ProposingState
-proposing_line number state line =
-    option_map_or (λ text. written_reply number (proposed_reply state (proposed_of text))) (after_word line)
-    (unproposed_line number state line)
+proposing_line number state line = served_line number state line (said_in SERVED line)

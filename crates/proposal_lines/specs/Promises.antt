@@ -1,7 +1,6 @@
 -- What is promised of the bytes that are written where proposals are taken.
-use Rattle.std.specs.Prelude.{ℕ, ◌≡◌, ◌+◌, ◌⊎◌, ⊤, List, [], ◌∷◌, ◌++◌, true, Some, None, Ok, option_map}
+use Rattle.std.specs.Prelude.{ℕ, ◌≡◌, ◌+◌, ◌⊎◌, ⊤, List, [], ◌∷◌, ◌++◌, true, Some, None, Result, Ok}
 use Rattle.std.specs.List.{All}
-use Rattle.std.specs.Option.{option_map_or}
 use Rattle.cert_check.specs.ProposalLaws.{Proves}
 use Rattle.cert_check.specs.Proposals.{proposal_bound}
 use Rattle.frac.specs.Range.{limit}
@@ -11,17 +10,13 @@ use Rattle.lists.specs.Refusals.{first_of}
 use Rattle.order_book.specs.Numbers.{numbers_of}
 use Rattle.proposals.specs.Laws.{as_proposal}
 use Rattle.proposals.specs.declared.best.Best.{Best}
-use Rattle.quote_lines.specs.Bodies.{body_by}
 use Rattle.quote_lines.specs.Laws.{TellsPrices, TellsQuote}
 use Rattle.quote_lines.specs.Refusals.{quote_refusals}
-use Rattle.quote_lines.specs.declared.bodies.AskingWord.TheVariants as asks
-use Rattle.quote_lines.specs.declared.bodies.QuotesBody.TheVariants as says
-use Rattle.quote_lines.specs.declared.requests.PriceRequest.{PriceRequest}
-use Rattle.quote_lines.specs.declared.requests.QuoteRequest.{QuoteRequest}
-use Rattle.proposal_lines.specs.AllKinds.{IsBesideText, all_line}
+use Rattle.proposal_lines.specs.AllKinds.{IsBesideText, said_line}
 use Rattle.cert_check.specs.declared.outcome.Mark.TheVariants.{Budget}
 use Rattle.cert_check.specs.declared.outcome.Outcome.{Outcome}
 use Rattle.clearing.specs.Outcome.{outcome_of}
+use Rattle.command_text.specs.declared.asked.Fault.{Fault}
 use Rattle.command_text.specs.declared.command.Body.TheVariants.{Command}
 use Rattle.command_text.specs.declared.command.Command.TheVariants.{Clear}
 use Rattle.exchange_core.specs.ExchangeState.{ExchangeState, empty_exchange}
@@ -32,6 +27,13 @@ use Rattle.exchange_core.specs.LineReplies.{reply_to}
 use Rattle.exchange_core.specs.Refusals.{refusal_of}
 use Rattle.exchange_core.specs.Step.{batch_in, cleared_with}
 use Rattle.command_text.specs.Commands.{body_of_line}
+use Rattle.command_text.specs.Said.{said_in}
+use Rattle.command_text.specs.declared.requests.PriceRequest.{PriceRequest}
+use Rattle.command_text.specs.declared.requests.ProposeRequest.{ProposeRequest}
+use Rattle.command_text.specs.declared.requests.QuoteRequest.{QuoteRequest}
+use Rattle.command_text.specs.declared.requests.Request.{Request}
+use Rattle.command_text.specs.declared.requests.Request.TheVariants as asks
+use Rattle.command_text.specs.declared.words.TheConstants.{SERVED}
 use Rattle.form.specs.declared.orders.Batch.{Batch}
 use Rattle.exchange_lines.specs.GainRuns.{HouseGains, IfClears}
 use Rattle.live_lines.specs.Output.{output_of}
@@ -47,8 +49,9 @@ use Rattle.proposal_lines.specs.KeptByMarket.{with_kept, without_kept}
 use Rattle.proposal_lines.specs.Laws.{IsBetter, IsSound, NoneIsAbove}
 use Rattle.proposal_lines.specs.Output.{proposing_line, proposing_reply_line}
 use Rattle.proposal_lines.specs.declared.proposed.Proposed.{Proposed}
-use Rattle.proposal_lines.specs.Proposed.{after_proposed, after_word, proposed_of, told_bound}
-use Rattle.proposal_lines.specs.Reads.{read_of_line, read_reply}
+use Rattle.proposal_lines.specs.declared.replies.ProposingReply.{ProposingReply}
+use Rattle.proposal_lines.specs.Proposed.{after_proposed, proposed_of, told_bound}
+use Rattle.proposal_lines.specs.Reads.{book_reply, positions_reply}
 use Rattle.proposal_lines.specs.ProposingState.{ProposingState, empty_state}
 
 -- ---- of each line
@@ -159,7 +162,9 @@ pub record IsBoundedFor (state : ProposingState) (line : InputLine) (answer : Bo
 -- verdict and proves this bound, and what is kept of it and of what was kept before is told
 pub record IsTakenFor (state : ProposingState) (line : InputLine) (answer : TakenAnswer) (after : ProposingState) : Type 0 where
   pub of_line : answer.line ≡ line.number
-  pub says : option_map proposed_of (after_word line.bytes) ≡ Some (Ok answer.proposed)
+  pub request : ProposeRequest
+  pub says : said_in SERVED line.bytes ≡ Ok (asks.Propose request)
+  pub proposes : proposed_of line.bytes request ≡ Ok answer.proposed
   pub batch : answer.batch ≡ batch_in state.exchange answer.proposed.market
   pub orders : answer.proposed.submission.orders ≡ numbers_of answer.batch.orders
   pub judged : proposal_bound limit answer.batch answer.proposed.submission.proposal ≡ Ok (fraction_of answer.bound)
@@ -184,9 +189,9 @@ IsToldFor state line (beside number text) after = IsBesideFor state line number 
 -- a line that asks for a quote, or for prices, and meets no refusal is told prices from which on a
 -- further order raises the greatest surplus of the live orders
 pub record TellsAsked (state : ProposingState) (line : InputLine) (written : List ℕ × ExchangeState) : Type 0 where
-  pub quote : (request : QuoteRequest) → body_by asks.Quote line.bytes ≡ says.Quote request → first_of (quote_refusals state.exchange.book request) ≡ None
+  pub quote : (request : QuoteRequest) → said_in SERVED line.bytes ≡ Ok (asks.Quote request) → first_of (quote_refusals state.exchange.book request) ≡ None
       → TellsQuote line.number state.exchange request written
-  pub prices : (request : PriceRequest) → body_by asks.Price line.bytes ≡ says.Price request → first_of (quote_refusals state.exchange.book request.quote) ≡ None
+  pub prices : (request : PriceRequest) → said_in SERVED line.bytes ≡ Ok (asks.Price request) → first_of (quote_refusals state.exchange.book request.quote) ≡ None
       → TellsPrices line.number state.exchange request written
 
 -- one for each line, in order, each in the state that the lines before it left
@@ -223,13 +228,19 @@ OutputsTellProposals = (input : List ℕ) → TellProposals input (proposing_out
 -- ---- where nothing is proposed
 -- what is written where no proposals are taken: a line that reads is told what it asks for, and any
 -- other is answered as ever
+abbrev pub told_reply : ℕ → ExchangeState → ProposingReply → List ℕ × ExchangeState
+told_reply number exchange reply = (proposing_reply_line number reply ++ 10 ∷ [], exchange)
+
+abbrev pub reading_said : ℕ → ExchangeState → Result Request Fault → List ℕ × ExchangeState
+reading_said number exchange (Ok (asks.Book market)) = told_reply number exchange (book_reply exchange market)
+reading_said number exchange (Ok (asks.Positions account market)) = told_reply number exchange (positions_reply exchange account market)
+reading_said number exchange said = said_line number exchange said
+
 abbrev pub reading_line : ℕ → ExchangeState → List ℕ → List ℕ × ExchangeState
-reading_line number exchange line =
-    option_map_or (λ asked. (proposing_reply_line number (read_reply exchange asked) ++ 10 ∷ [], exchange)) (read_of_line line)
-    (all_line number exchange line)
+reading_line number exchange line = reading_said number exchange (said_in SERVED line)
 
 abbrev pub ProposesNothing : InputLine → Type 0
-ProposesNothing line = after_word line.bytes ≡ None
+ProposesNothing line = (request : ProposeRequest) → said_in SERVED line.bytes ≡ Ok (asks.Propose request) → ⊥
 
 -- so it is written for an input of which no line proposes
 abbrev pub WithoutProposals : Type 0

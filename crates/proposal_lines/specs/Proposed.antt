@@ -1,13 +1,12 @@
 -- Lines that propose fills for a market.
-use Rattle.std.specs.Prelude.{ℕ, ◌+◌, ◌==◌, List, [], ◌∷◌, take, drop, codes, position, ◌≡◌, Option, Some, None, Result, Ok, Err, if◌then◌else◌}
+use Rattle.std.specs.Prelude.{ℕ, List, drop, ◌≡◌, Option, Some, None, Result, Ok, Err, if◌then◌else◌}
 use Rattle.std.specs.Option.{option_map_or}
-use Rattle.std.specs.Str.{bytes_eq}
 use Rattle.cert_check.specs.Proposals.{proposal_bound}
 use Rattle.cert_check.specs.declared.outcome.Unproved.{Unproved as Reason}
 use Rattle.command_text.specs.declared.asked.Fault.{Fault}
-use Rattle.command_text.specs.declared.ranges.TheConstants.{MARKET}
-use Rattle.command_text.specs.Asked.{fault_in, natural_in}
-use Rattle.command_text.specs.Trades.{unless, with_some}
+use Rattle.command_text.specs.declared.asked.Fault.TheVariants.{Range}
+use Rattle.command_text.specs.declared.requests.ProposeRequest.{ProposeRequest}
+use Rattle.command_text.specs.Trades.{with_some}
 use Rattle.exact_num.specs.Fraction.{Fraction}
 use Rattle.exchange_core.specs.Refusals.{by_book}
 use Rattle.exchange_core.specs.Step.{batch_in}
@@ -24,6 +23,7 @@ use Rattle.proposal_text.specs.declared.replies.Failed.{Failed}
 use Rattle.proposal_text.specs.declared.replies.Failed.TheVariants as failed
 use Rattle.proposal_text.specs.declared.replies.ProposalReply.{ProposalReply}
 use Rattle.proposal_text.specs.declared.replies.ProposalReply.TheVariants as told
+use Rattle.proposal_text.specs.declared.submissions.Submission.{Submission}
 use Rattle.proposals.specs.Best.{after_offer, are_same_orders}
 use Rattle.proposals.specs.declared.best.Best.{Best}
 use Rattle.lists.specs.Refusals.{first_of}
@@ -35,23 +35,14 @@ use Rattle.proposal_lines.specs.declared.replies.ProposingReply.{ProposingReply}
 use Rattle.proposal_lines.specs.declared.replies.ProposingReply.TheVariants.{Told}
 
 -- ---- what is proposed
-abbrev pub propose_word : List ℕ
-propose_word = codes "propose,"
+-- the proposal is the text from a place of the line on; a market out of its range is told only where
+-- there is one
+abbrev pub for_market : Option ℕ → Submission → Result Proposed Fault
+for_market None submission = Err (Range 2)
+for_market (Some market) submission = Ok (record { market = market; submission = submission })
 
--- what stands behind the word and its comma
-abbrev pub after_word : List ℕ → Option (List ℕ)
-after_word line = if bytes_eq (take 8 line) propose_word then Some (drop 8 line) else None
-
--- the market is what stands up to the first comma, and the proposal all behind it; the word is the
--- first field
-abbrev pub proposed_at : List ℕ → ℕ → Result Proposed Fault
-proposed_at text place =
-    let fields = [] ∷ take place text ∷ [] in
-    with_some (submission_of (drop (place + 1) text)) (λ submission.
-    unless (fault_in 0 (MARKET ∷ []) fields) (record { market = natural_in fields MARKET; submission = submission }))
-
-abbrev pub proposed_of : List ℕ → Result Proposed Fault
-proposed_of text = with_some (position (λ b. b == 44) text) (proposed_at text)
+abbrev pub proposed_of : List ℕ → ProposeRequest → Result Proposed Fault
+proposed_of line request = with_some (submission_of (drop request.from line)) (for_market request.market)
 
 -- ---- what becomes of it
 -- what is kept after a proposal that proves this bound

@@ -1,28 +1,33 @@
-// The answer to a line of any kind.
-ghost use Rattle.std.specs.Prelude.{◌≡◌, ◌<◌, ◌==◌, false, length, IfOk};
-ghost use Rattle.std.specs.List.{list_any};
-ghost use Rattle.proposal_lines.specs.AllKinds.{all_line};
+// The answer to what a line says, of any kind, where nothing is read and no proposals are taken.
+ghost use Rattle.std.specs.Prelude.{◌≡◌, IfOk};
+ghost use Rattle.command_text.specs.Within.{RequestIsWithin};
+ghost use Rattle.proposal_lines.specs.AllKinds.{said_line};
 
-use crate::asking_words::asking_word;
+use command_text::Request;
+use command_text::asked::Fault;
 use exchange_core::Exchange;
 use std::alloc::{AllocError, Global};
 
-/// Takes the exchange one line further, whatever kind the line is of, and answers what is written
-/// for a line of exactly these bytes with this number. A line that asks for a quote, prices or a
-/// margin changes nothing, nor does a withdrawal that is refused. The only error is want of memory.
-pub fn answer(
+/// Takes the exchange further by a line that says this, and answers what is written for it with
+/// this number. A line that asks for a quote, prices or a margin changes nothing, nor does a
+/// withdrawal that is refused. The only error is want of memory.
+pub(crate) fn answer_said(
     alloc: Global,
     exchange: &mut Exchange,
     number: u32,
-    line: &[u8],
+    said: Result<Request, Fault>,
 ) -> Result<Vec<u8>, AllocError>
-    requires some { 0 < length line.now }
-    requires one_line { list_any (λ b. b == 10) line.now ≡ false }
+    requires { IfOk said RequestIsWithin }
     ensures { IfOk result (λ text.
-        (text.items, exchange.new) ≡ all_line number exchange.old line.now) }
+        (text.items, exchange.new) ≡ said_line number exchange.old said) }
 {
-    match asking_word(alloc, line)? {
-        Some(word) => quote_lines::answer_by(alloc, exchange, word, number, line),
-        None => guarded_lines::answer(alloc, exchange, number, line),
+    match said {
+        Ok(Request::Quote(request)) => {
+            quote_lines::answer_said(alloc, exchange, number, Ok(Request::Quote(request)))
+        }
+        Ok(Request::Price(request)) => {
+            quote_lines::answer_said(alloc, exchange, number, Ok(Request::Price(request)))
+        }
+        said => guarded_lines::answer_said(alloc, exchange, number, said),
     }
 }

@@ -1,8 +1,8 @@
 //! Laws over the definitions: each is the contract of a function that does nothing.
 ghost use Rattle.proposal_lines.specs.AllKindsLaws.{AllAnswerAsRun, OutputsAreOfLines, OutputsTell};
 
-/// Each line is answered as in a run, or by a refusal, by what is quoted or by what is told of a
-/// margin, and then the exchange is as it was.
+/// Each line, whatever words may begin it, is answered as in a run, or by a refusal, by what is
+/// quoted or by what is told of a margin, and then the exchange is as it was.
 pub fn all_answer_as_run()
     ensures { AllAnswerAsRun }
 {}

@@ -1,33 +1,28 @@
 // An exchange that answers all lines and takes proposals.
-ghost use Rattle.std.specs.Prelude.{◌≡◌, ◌≢◌, ◌<◌, ◌==◌, false, length, IfOk, None, Some};
-ghost use Rattle.std.specs.List.{list_any};
+ghost use Rattle.std.specs.Prelude.{◌≡◌, ◌≤◌, IfOk, length, Some};
 ghost use Rattle.std.specs.Option.{option_map};
-ghost use Rattle.proposal_lines.specs.AllKinds.{all_line};
-ghost use Rattle.command_text.specs.Within.{IsBudget};
-ghost use Rattle.command_text.specs.declared.command.Body.TheVariants as Body;
+ghost use Rattle.command_text.specs.Within.{IsBudget, IsInside, RequestIsWithin};
 ghost use Rattle.exchange_core.specs.Kept.{IsKept};
 ghost use Rattle.form.specs.Limits.{IsWithinLimits};
-ghost use Rattle.guarded_lines.specs.Bodies.{guarded_body_of};
-ghost use Rattle.guarded_lines.specs.Within.{GuardedBodyIsWithin};
-ghost use Rattle.guarded_lines.specs.declared.bodies.GuardedBody.TheVariants as GuardedBody;
 ghost use Rattle.live_lines.specs.Answering.{by_step};
 ghost use Rattle.order_book.specs.Book.{batch_of, market_of};
-ghost use Rattle.proposal_lines.specs.Clears.{clear_reply, clear_said};
-ghost use Rattle.proposal_lines.specs.Output.{other_line, proposing_line, unproposed_line, written_reply};
+ghost use Rattle.proposal_lines.specs.Clears.{clear_reply};
+ghost use Rattle.proposal_lines.specs.Output.{other_line, proposing_line, served_line, written_reply};
 ghost use Rattle.proposal_lines.specs.Proposed.{proposed_by, proposed_of, proposed_reply};
 ghost use Rattle.proposal_lines.specs.ProposingState.{empty_state};
 
-use crate::clears::{clear, clear_said};
+use crate::all_kinds::answer_said;
+use crate::clears::clear;
 use crate::judging::offer;
 use crate::kept_by_market::KeptByMarket;
-use crate::proposed::{Proposed, after_word, proposed_of};
-use crate::reads::{read_of_line, read_reply};
+use crate::proposed::{Proposed, proposed_of};
+use crate::reads::{book_reply, positions_reply};
 use crate::replies::{ProposingReply, print_line, refused, refused_by_fault};
-use command_text::Body;
 use command_text::asked::Fault;
+use command_text::words::SERVED;
+use command_text::{Command, ProposeRequest, Request, read_line};
 use exchange_core::Exchange;
 use form::Batch;
-use guarded_lines::{GuardedBody, guarded_body_of};
 use live_lines::{LineAnswers, LineSteps};
 use std::alloc::{AllocError, Global};
 use std::marker::Model;
@@ -124,33 +119,16 @@ impl ProposalLines {
         &mut self,
         alloc: Global,
         number: u32,
-        text: &[u8],
+        line: &[u8],
+        request: ProposeRequest,
     ) -> Result<Vec<u8>, AllocError>
-        ensures { IfOk result (λ written. (written.items, self.new)
-            ≡ written_reply number (proposed_reply self.old (proposed_of text.now))) }
+        requires { request.from ≤ length line.now }
+        ensures { IfOk result (λ text. (text.items, self.new)
+            ≡ written_reply number (proposed_reply self.old (proposed_of line.now request))) }
     {
-        let said = proposed_of(alloc, text)?;
+        let said = proposed_of(alloc, line, request)?;
         let reply = self.propose(alloc, said)?;
         print_line(alloc, number, &reply)
-    }
-
-    // The answer to a line that does not propose.
-    fn answer_unproposed(
-        &mut self,
-        alloc: Global,
-        number: u32,
-        line: &[u8],
-    ) -> Result<Vec<u8>, AllocError>
-        requires some { 0 < length line.now }
-        requires one_line { list_any (λ b. b == 10) line.now ≡ false }
-        ensures { IfOk result (λ text.
-            (text.items, self.new) ≡ unproposed_line number self.old line.now) }
-    {
-        let said = guarded_body_of(alloc, line)?;
-        match clear_said(&said) {
-            Some((market, budget)) => self.answer_clear(alloc, number, market, budget),
-            None => self.answer_rest(alloc, number, line, &said),
-        }
     }
 
     // The answer to a line that clears a market.
@@ -169,93 +147,53 @@ impl ProposalLines {
         print_line(alloc, number, &reply)
     }
 
-    // The answer to a line that says this, which neither proposes nor clears a market.
-    fn answer_rest(
-        &mut self,
-        alloc: Global,
-        number: u32,
-        line: &[u8],
-        said: &GuardedBody,
-    ) -> Result<Vec<u8>, AllocError>
-        requires some { 0 < length line.now }
-        requires one_line { list_any (λ b. b == 10) line.now ≡ false }
-        requires said { said.now ≡ guarded_body_of line.now }
-        requires within { GuardedBodyIsWithin said.now }
-        requires no_clear { clear_said said.now ≡ None }
-        ensures { IfOk result (λ text.
-            (text.items, self.new) ≡ unproposed_line number self.old line.now) }
-    {
-        match said {
-            GuardedBody::Plain(Body::Syntax) => self.answer_other(alloc, number, line),
-            said => self.answer_said(alloc, number, line, said),
-        }
-    }
-
-    // The answer to a line that is no command and asks for no margin.
+    // The answer of an exchange that takes no proposals. Where memory is refused nothing is kept.
     fn answer_other(
         &mut self,
         alloc: Global,
         number: u32,
-        line: &[u8],
+        said: Result<Request, Fault>,
     ) -> Result<Vec<u8>, AllocError>
-        requires some { 0 < length line.now }
-        requires one_line { list_any (λ b. b == 10) line.now ≡ false }
-        requires no_command { guarded_body_of line.now ≡ GuardedBody.Plain Body.Syntax }
+        requires { IfOk said RequestIsWithin }
         ensures { IfOk result (λ text.
-            (text.items, self.new) ≡ unproposed_line number self.old line.now) }
+            (text.items, self.new) ≡ other_line number self.old said) }
     {
-        match read_of_line(alloc, line)? {
-            Some(asked) => {
-                let reply = read_reply(&self.exchange, asked)?;
+        match answer_said(alloc, &mut self.exchange, number, said) {
+            Ok(text) => Ok(text),
+            Err(error) => {
+                self.kept.clear();
+                Err(error)
+            }
+        }
+    }
+
+    // The answer to a line of these bytes that says this.
+    fn answer_line(
+        &mut self,
+        alloc: Global,
+        number: u32,
+        line: &[u8],
+        said: Result<Request, Fault>,
+    ) -> Result<Vec<u8>, AllocError>
+        requires within { IfOk said RequestIsWithin }
+        requires inside { IfOk said (IsInside line.now) }
+        ensures { IfOk result (λ text.
+            (text.items, self.new) ≡ served_line number self.old line.now said) }
+    {
+        match said {
+            Ok(Request::Propose(request)) => self.answer_proposal(alloc, number, line, request),
+            Ok(Request::Command(Command::Clear { market, budget })) => {
+                self.answer_clear(alloc, number, market, budget)
+            }
+            Ok(Request::Book { market }) => {
+                let reply = book_reply(&self.exchange, market)?;
                 print_line(alloc, number, &reply)
             }
-            None => self.answer_plain(alloc, number, line),
-        }
-    }
-
-    // The answer of an exchange that takes no proposals. Where memory is refused nothing is kept.
-    fn answer_plain(
-        &mut self,
-        alloc: Global,
-        number: u32,
-        line: &[u8],
-    ) -> Result<Vec<u8>, AllocError>
-        requires some { 0 < length line.now }
-        requires one_line { list_any (λ b. b == 10) line.now ≡ false }
-        ensures { IfOk result (λ text.
-            (text.items, self.new) ≡ other_line number self.old line.now) }
-    {
-        match crate::all_kinds::answer(alloc, &mut self.exchange, number, line) {
-            Ok(text) => Ok(text),
-            Err(error) => {
-                self.kept.clear();
-                Err(error)
+            Ok(Request::Positions { account, market }) => {
+                let reply = positions_reply(&self.exchange, account, market)?;
+                print_line(alloc, number, &reply)
             }
-        }
-    }
-
-    // The answer to a line that says this, a command that clears no market or a request for a
-    // margin. Where memory is refused nothing is kept.
-    fn answer_said(
-        &mut self,
-        alloc: Global,
-        number: u32,
-        line: &[u8],
-        said: &GuardedBody,
-    ) -> Result<Vec<u8>, AllocError>
-        requires said { said.now ≡ guarded_body_of line.now }
-        requires within { GuardedBodyIsWithin said.now }
-        requires command { said.now ≢ GuardedBody.Plain Body.Syntax }
-        requires no_clear { clear_said said.now ≡ None }
-        ensures { IfOk result (λ text.
-            (text.items, self.new) ≡ unproposed_line number self.old line.now) }
-    {
-        match guarded_lines::answer_said(alloc, &mut self.exchange, number, said) {
-            Ok(text) => Ok(text),
-            Err(error) => {
-                self.kept.clear();
-                Err(error)
-            }
+            said => self.answer_other(alloc, number, said),
         }
     }
 }
@@ -264,10 +202,8 @@ impl LineAnswers for ProposalLines {
     ghost answers = { by_step proposing_line };
 
     fn answer(&mut self, alloc: Global, number: u32, line: &[u8]) -> Result<Vec<u8>, AllocError> {
-        match after_word(line) {
-            Some(text) => self.answer_proposal(alloc, number, text),
-            None => self.answer_unproposed(alloc, number, line),
-        }
+        let said = read_line(alloc, &SERVED, line)?;
+        self.answer_line(alloc, number, line, said)
     }
 
     ghost goes_on = { λ _ _ _. (tt, λ _ _ _ _. tt) };

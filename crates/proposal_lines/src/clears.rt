@@ -8,11 +8,10 @@ ghost use Rattle.exchange_core.specs.Failures.{unless_memory};
 ghost use Rattle.exchange_core.specs.Refusals.{refusals};
 ghost use Rattle.form.specs.Limits.{IsWithinLimits};
 ghost use Rattle.frac.specs.Value.{fraction_of};
-ghost use Rattle.guarded_lines.specs.Within.{GuardedBodyIsWithin};
 ghost use Rattle.order_book.specs.Book.{batch_of, is_trading, market_of};
 ghost use Rattle.order_book.specs.declared.limits.TheConstants.{MAX_BATCHES};
 ghost use Rattle.lists.specs.Refusals.{TellsFirst};
-ghost use Rattle.proposal_lines.specs.Clears.{better_in, better_than, charge_effect, clear_said, cleared_by};
+ghost use Rattle.proposal_lines.specs.Clears.{better_in, better_than, charge_effect, cleared_by};
 ghost use Rattle.proposal_lines.specs.Proved.{AreProvedIn};
 ghost use Rattle.proposal_lines.specs.ProposingState.{state_of};
 
@@ -20,26 +19,10 @@ use crate::judging::numbers_of;
 use crate::kept_by_market::KeptByMarket;
 use crate::replies::ProposingReply;
 use cert_check::Outcome;
-use command_text::{Body, Command};
 use exchange_core::{Exchange, Failure, Reply};
 use form::Batch;
-use guarded_lines::GuardedBody;
 use proposal_text::ProposalReply;
 use std::alloc::{AllocError, Global};
-
-// The market and the budget of a clear, where a line says one.
-pub(crate) fn clear_said(said: &GuardedBody) -> Option<(u32, u32)>
-    requires { GuardedBodyIsWithin said.now }
-    ensures clear { result ≡ clear_said said.now }
-    ensures within { IfSome result (λ clear. IsBudget clear.1) }
-{
-    match said {
-        GuardedBody::Plain(Body::Command(Command::Clear { market, budget })) => {
-            Some((*market, *budget))
-        }
-        _ => None,
-    }
-}
 
 // Charges an outcome of the batch of a market, or what is kept for its orders, where the run
 // stopped and this covers more. Want of memory may lose what is kept for the market.

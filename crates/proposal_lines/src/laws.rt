@@ -2,7 +2,6 @@
 ghost use Rattle.proposal_lines.specs.LaterClears.{ProposalsLowerNothing};
 ghost use Rattle.proposal_lines.specs.Laws.{ClearsAreAtLeast, ClearsAreProved, RefusedChangeNothing};
 ghost use Rattle.proposal_lines.specs.Promises.{OutputsTellProposals, WithoutProposals};
-ghost use Rattle.proposal_lines.specs.Worked.{ReadsAsWorked};
 
 /// In each state that an exchange which takes proposals may be in: what is charged in place of the
 /// reference run's outcome proves its bound for the batch, so its fills cover its surplus at every
@@ -46,9 +45,4 @@ pub fn outputs_tell_proposals()
 /// line that reads a book or positions is told what it asks for.
 pub fn without_proposals()
     ensures { WithoutProposals }
-{}
-
-/// What lines ask to read, at the limits of their numbers and beyond: worked rows.
-pub fn reads_as_worked()
-    ensures { ReadsAsWorked }
 {}

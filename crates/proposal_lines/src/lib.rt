@@ -8,7 +8,6 @@
 mod all_kinds;
 pub mod all_kinds_laws;
 mod answers;
-mod asking_words;
 mod clears;
 mod judging;
 mod kept_by_market;
@@ -17,8 +16,6 @@ mod proposed;
 mod reads;
 mod replies;
 
-pub use all_kinds::answer;
 pub use answers::ProposalLines;
 pub use proposed::Proposed;
-pub use reads::ReadRequest;
 pub use replies::ProposingReply;

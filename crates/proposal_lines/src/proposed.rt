@@ -1,9 +1,9 @@
 //! Lines that propose fills for a market.
-ghost use Rattle.std.specs.Prelude.{◌≡◌, ◌<◌, ◌==◌, IfOk, IfSome, length, option_map, position};
-ghost use Rattle.proposal_lines.specs.Proposed.{after_word, proposed_at, proposed_of};
+ghost use Rattle.std.specs.Prelude.{◌≡◌, ◌≤◌, IfOk, length};
+ghost use Rattle.proposal_lines.specs.Proposed.{for_market, proposed_of};
 
-use command_text::asked::{Fault, first_fault, natural};
-use command_text::ranges::MARKET;
+use command_text::ProposeRequest;
+use command_text::asked::Fault;
 use proposal_text::{Submission, read_submission};
 use std::alloc::{AllocError, Global};
 
@@ -14,49 +14,27 @@ pub struct Proposed {
     pub submission: Submission,
 }
 
-// What stands behind the word of a proposal and its comma.
-pub(crate) fn after_word(line: &[u8]) -> Option<&[u8]>
-    ensures { option_map (λ text. text.now) result ≡ after_word line.now }
+// A proposal for a market, which may be out of its range.
+fn for_market(market: Option<u32>, submission: Submission) -> Result<Proposed, Fault>
+    ensures { result ≡ for_market market submission }
 {
-    line.strip_prefix(b"propose,".as_slice())
-}
-
-// The place of the first comma.
-fn comma_in(text: &[u8]) -> Option<usize>
-    ensures place { result ≡ position (λ b. b == 44) text.now }
-    ensures inside { IfSome result (λ place. place < length text.now) }
-{
-    text.iter().position(|byte| *byte == b',')
-}
-
-// What is proposed for the market that stands up to the comma at this place.
-fn proposed_at(
-    alloc: Global,
-    text: &[u8],
-    place: usize,
-) -> Result<Result<Proposed, Fault>, AllocError>
-    requires { place < length text.now }
-    ensures { IfOk result (λ said. said ≡ proposed_at text.now place) }
-{
-    let Some(submission) = read_submission(alloc, &text[place + 1..])? else {
-        return Ok(Err(Fault::Syntax));
-    };
-    let fields = [b"".as_slice(), &text[..place]];
-    match first_fault(&fields, &[MARKET], 0) {
-        Some(fault) => Ok(Err(fault)),
-        None => Ok(Ok(Proposed {
-            market: natural(&fields, MARKET) as u32,
-            submission,
-        })),
+    match market {
+        Some(market) => Ok(Proposed { market, submission }),
+        None => Err(Fault::Range { field: 2 }),
     }
 }
 
-// What is proposed behind the word and its comma.
-pub(crate) fn proposed_of(alloc: Global, text: &[u8]) -> Result<Result<Proposed, Fault>, AllocError>
-    ensures { IfOk result (λ said. said ≡ proposed_of text.now) }
+// What a line proposes by such a request.
+pub(crate) fn proposed_of(
+    alloc: Global,
+    line: &[u8],
+    request: ProposeRequest,
+) -> Result<Result<Proposed, Fault>, AllocError>
+    requires { request.from ≤ length line.now }
+    ensures { IfOk result (λ said. said ≡ proposed_of line.now request) }
 {
-    match comma_in(text) {
-        Some(place) => proposed_at(alloc, text, place),
+    match read_submission(alloc, &line[request.from..])? {
+        Some(submission) => Ok(for_market(request.market, submission)),
         None => Ok(Err(Fault::Syntax)),
     }
 }

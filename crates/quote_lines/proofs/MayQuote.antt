@@ -22,7 +22,7 @@ use Rattle.exchange_core.specs.Kept.{IsKept}
 use Rattle.exchange_core.specs.Reply.{refused_with}
 use Rattle.exchange_core.specs.Step.{batch_in}
 use Rattle.option_quotes.specs.Thresholds.{MayBeQuoted}
-use Rattle.quote_lines.specs.declared.requests.QuoteRequest.{QuoteRequest}
+use Rattle.command_text.specs.declared.requests.QuoteRequest.{QuoteRequest}
 use Rattle.lists.specs.Refusals.{first_of}
 use Rattle.lists.proofs.FirstRefusal.{first_behind, first_in_front}
 use Rattle.quote_lines.specs.declared.replies.QuotesReply.{QuotesReply}

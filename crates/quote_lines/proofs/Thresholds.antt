@@ -1,5 +1,5 @@
 -- What quoted and priced lines tell of the greatest surplus.
-use Rattle.std.proofs.Common.{◌≡◌, ℕ, Option, Some, refl, ap, subst, ◌∙◌, inl, inr}
+use Rattle.std.proofs.Common.{◌≡◌, ℕ, Option, Some, refl, ap, ◌∙◌, inl, inr}
 use Rattle.std.specs.Option.{option_map_or}
 use Rattle.form.specs.declared.orders.Batch.{Batch}
 use Rattle.form.specs.declared.orders.Order.{Order}
@@ -20,14 +20,9 @@ use Rattle.option_quotes.specs.Probes.{further}
 use Rattle.option_quotes.specs.Thresholds.{TellPrices, Tells, TellsSide}
 use Rattle.option_quotes.proofs.Found.{implied_prices_are_thresholds}
 use Rattle.option_quotes.proofs.Thresholds.{quotes_are_thresholds}
-use Rattle.quote_lines.specs.declared.bodies.AskingWord.TheVariants as asking
-use Rattle.quote_lines.specs.declared.bodies.QuotesBody.{QuotesBody}
-use Rattle.quote_lines.specs.declared.bodies.QuotesBody.TheVariants.{Quote, Price}
 use Rattle.quote_lines.specs.declared.prices.QuotedPrice.{QuotedPrice}
 use Rattle.quote_lines.specs.declared.prices.QuotedPrice.TheVariants as price
-use Rattle.quote_lines.specs.declared.requests.PriceRequest.{PriceRequest}
-use Rattle.quote_lines.specs.Within.{QuotesBodyIsWithin}
-use Rattle.quote_lines.proofs.RequestsWithin.{requests_are_within}
+use Rattle.command_text.specs.declared.requests.PriceRequest.{PriceRequest}
 use Rattle.order_book.specs.Book.{info_in}
 use Rattle.lists.proofs.FirstRefusal.{none_in_both}
 use Rattle.quote_lines.specs.declared.replies.QuotesReply.{QuotesReply}
@@ -35,7 +30,7 @@ use Rattle.quote_lines.specs.declared.replies.QuotesReply.TheVariants.{Plain, Pr
 use Rattle.quote_lines.specs.Laws.{PricedLinesAreThresholds, QuotedLinesAreThresholds, TellsImplied, TellsOf, TellsPrice}
 use Rattle.quote_lines.specs.Output.{written_reply}
 use Rattle.quote_lines.specs.Refusals.{info_refusals}
-use Rattle.quote_lines.specs.Replies.{price_of, priced_for, prices_told, quoted_for, quoted_price, quotes_reply_to, side_told}
+use Rattle.quote_lines.specs.Replies.{price_of, priced_for, prices_told, quoted_for, quoted_price, side_told}
 use Rattle.quote_lines.proofs.MayQuote.{live_may}
 
 price_tells : (batch : Batch) (order : Order) (budget : ℕ) (quoted : Quoted) → Tells batch order budget quoted → TellsPrice batch order budget (price_of quoted)
@@ -44,9 +39,8 @@ price_tells batch order budget (Never extreme base) tells = tells.0
 price_tells batch order budget (Unmarked probe outcome) tells = ((probe, outcome), tells)
 
 pub quoted_lines_are_thresholds : QuotedLinesAreThresholds
-quoted_lines_are_thresholds number state line request kept asked allowed =
+quoted_lines_are_thresholds number state request kept within allowed =
     let batch = batch_in state request.market in
-    let within : QuotesBodyIsWithin (Quote request) = subst QuotesBodyIsWithin asked (requests_are_within asking.Quote line) in
     let none = (none_in_both (info_refusals (info_in state.book request.market) request) _ allowed).0 in
     let may = live_may state request kept within.listed none in
     let tells : (side : Side) → TellsOf state request side (quoted_price batch request side) = λ side.
@@ -54,8 +48,7 @@ quoted_lines_are_thresholds number state line request kept asked allowed =
     price_tells batch order request.budget (quoted_of batch order request.budget) (quotes_are_thresholds batch request.form side request.budget may) in (
       quoted_price batch request Buy,
       quoted_price batch request Sell,
-      ap (λ (said : QuotesBody). written_reply number (quotes_reply_to state said)) asked
-          ∙ ap (λ (refused : Option Refusal). written_reply number (option_map_or (λ refusal. Plain (refused_with refusal)) refused (quoted_for batch request), state)) allowed,
+      ap (λ (refused : Option Refusal). written_reply number (option_map_or (λ refusal. Plain (refused_with refusal)) refused (quoted_for batch request), state)) allowed,
       tells Buy,
       tells Sell,
     )
@@ -92,17 +85,15 @@ prices_tell batch request (market.Unmarked base) tell = record {
 }
 
 pub priced_lines_are_thresholds : PricedLinesAreThresholds
-priced_lines_are_thresholds number state line request kept asks allowed =
+priced_lines_are_thresholds number state request kept within allowed =
     let quote = request.quote in
     let batch = batch_in state quote.market in
-    let within : QuotesBodyIsWithin (Price request) = subst QuotesBodyIsWithin asks (requests_are_within asking.Price line) in
     let none = (none_in_both (info_refusals (info_in state.book quote.market) quote) _ allowed).0 in
     let may = live_may state quote kept within.0.listed none in
     let told = prices_tell batch request (prices_of batch quote.form request.quantity quote.budget) (implied_prices_are_thresholds batch quote.form request.quantity quote.budget may within.1.0 within.1.1) in (
       told.ask,
       told.bid,
-      ap (λ (said : QuotesBody). written_reply number (quotes_reply_to state said)) asks
-          ∙ ap (λ (refused : Option Refusal). written_reply number (option_map_or (λ refusal. Plain (refused_with refusal)) refused (priced_for batch quote request.quantity), state)) allowed
+      ap (λ (refused : Option Refusal). written_reply number (option_map_or (λ refusal. Plain (refused_with refusal)) refused (priced_for batch quote request.quantity), state)) allowed
           ∙ ap (λ (reply : QuotesReply). written_reply number (reply, state)) told.is,
       told.asks,
       told.bids,

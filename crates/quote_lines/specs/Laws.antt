@@ -1,5 +1,5 @@
 -- What holds of each answer.
-use Rattle.std.specs.Prelude.{◌≡◌, ℕ, List, [], ◌∷◌, ◌++◌, Some, None}
+use Rattle.std.specs.Prelude.{◌≡◌, ℕ, List, [], ◌∷◌, ◌++◌, Some, None, Ok}
 use Rattle.form.specs.declared.orders.Batch.{Batch}
 use Rattle.form.specs.declared.orders.Order.{Order}
 use Rattle.form.specs.declared.orders.Side.{Side}
@@ -12,25 +12,20 @@ use Rattle.exchange_core.specs.Kept.{IsKept}
 use Rattle.exchange_core.specs.Step.{batch_in}
 use Rattle.exchange_lines.specs.LineSteps.{AnswersAsRun}
 use Rattle.exchange_lines.specs.Promises.{OutputTells}
-use Rattle.quote_lines.specs.declared.bodies.AskingWord.{AskingWord}
-use Rattle.quote_lines.specs.declared.bodies.AskingWord.TheVariants as asks
-use Rattle.quote_lines.specs.declared.bodies.QuotesBody.TheVariants.{Quote, Price}
 use Rattle.quote_lines.specs.declared.prices.QuotedPrice.{QuotedPrice}
 use Rattle.quote_lines.specs.declared.prices.QuotedPrice.TheVariants.{At, Never, Unmarked}
-use Rattle.quote_lines.specs.declared.requests.QuoteRequest.{QuoteRequest}
-use Rattle.quote_lines.specs.declared.requests.PriceRequest.{PriceRequest}
-use Rattle.quote_lines.specs.Bodies.{body_by, quotes_body_of}
+use Rattle.command_text.specs.Within.{IsPriceWithin, IsQuoteWithin}
+use Rattle.command_text.specs.declared.requests.PriceRequest.{PriceRequest}
+use Rattle.command_text.specs.declared.requests.QuoteRequest.{QuoteRequest}
+use Rattle.command_text.specs.declared.requests.Request.TheVariants as asks
 use Rattle.quote_lines.specs.Quoted.{priced_line, quoted_line}
 use Rattle.lists.specs.Refusals.{first_of}
-use Rattle.quote_lines.specs.Output.{IsQuoteText, IsTextBy, line_by, quotes_line}
+use Rattle.quote_lines.specs.Output.{IsQuoteText, quotes_line, written_reply}
 use Rattle.quote_lines.specs.Refusals.{quote_refusals}
+use Rattle.quote_lines.specs.Replies.{quotes_reply_to}
 
--- each line is answered as in a run, or by a refusal or by what is told by the word, and then the
--- exchange is as it was
-abbrev pub LinesAnswerAsRun : Type 0
-LinesAnswerAsRun = (word : AskingWord) → AnswersAsRun (IsTextBy word) (line_by word)
-
--- so it is where it may ask for a quote
+-- each line is answered as in a run, or by a refusal or by what is quoted, and then the exchange is
+-- as it was
 abbrev pub QuotesAnswerAsRun : Type 0
 QuotesAnswerAsRun = AnswersAsRun IsQuoteText quotes_line
 
@@ -60,12 +55,11 @@ TellsQuote number state request written =
     (bid : QuotedPrice) × (ask : QuotedPrice) × (written ≡ (quoted_line number request.market bid ask ++ 10 ∷ [], state))
     × TellsOf state request Buy bid × TellsOf state request Sell ask
 
--- so it is for a line that asks for a quote and meets no refusal
+-- so it is for a line that asks for a quote, whatever words may begin it, and meets no refusal
 abbrev pub QuotedLinesAreThresholds : Type 0
 QuotedLinesAreThresholds =
-    (number : ℕ) (state : ExchangeState) (line : List ℕ) (request : QuoteRequest) → IsKept state
-    → quotes_body_of line ≡ Quote request → first_of (quote_refusals state.book request) ≡ None
-    → TellsQuote number state request (quotes_line number state line)
+    (number : ℕ) (state : ExchangeState) (request : QuoteRequest) → IsKept state → IsQuoteWithin request → first_of (quote_refusals state.book request) ≡ None
+    → TellsQuote number state request (written_reply number (quotes_reply_to state (Ok (asks.Quote request))))
 
 -- ---- what a priced line tells
 -- a price, or `never`, as above; `unmarked`: the first clear that is not marked optimal, of the
@@ -89,6 +83,5 @@ TellsPrices number state request written =
 -- so it is for a line that asks for prices and meets no refusal
 abbrev pub PricedLinesAreThresholds : Type 0
 PricedLinesAreThresholds =
-    (number : ℕ) (state : ExchangeState) (line : List ℕ) (request : PriceRequest) → IsKept state
-    → body_by asks.Price line ≡ Price request → first_of (quote_refusals state.book request.quote) ≡ None
-    → TellsPrices number state request (line_by asks.Price number state line)
+    (number : ℕ) (state : ExchangeState) (request : PriceRequest) → IsKept state → IsPriceWithin request → first_of (quote_refusals state.book request.quote) ≡ None
+    → TellsPrices number state request (written_reply number (quotes_reply_to state (Ok (asks.Price request))))

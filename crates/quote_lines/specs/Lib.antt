@@ -1,8 +1,4 @@
-pub mod Requests
-pub mod Bodies
-pub mod Within
 pub mod Quoted
-pub mod RequestLaws
 pub mod Refusals
 pub mod Replies
 pub mod Output

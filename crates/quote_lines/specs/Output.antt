@@ -2,10 +2,9 @@
 use Rattle.std.specs.Prelude.{◌≡◌, ◌⊎◌, ℕ, List, [], ◌∷◌, ◌++◌}
 use Rattle.exchange_core.specs.ExchangeState.{ExchangeState}
 use Rattle.exchange_lines.specs.LineSteps.{IsRefusalText}
-use Rattle.quote_lines.specs.declared.bodies.AskingWord.{AskingWord}
-use Rattle.quote_lines.specs.declared.bodies.AskingWord.TheVariants as asks
+use Rattle.command_text.specs.Said.{said_in}
+use Rattle.command_text.specs.declared.words.TheConstants.{QUOTES}
 use Rattle.quote_lines.specs.declared.prices.QuotedPrice.{QuotedPrice}
-use Rattle.quote_lines.specs.Bodies.{body_by}
 use Rattle.quote_lines.specs.Quoted.{priced_line, quoted_line}
 use Rattle.quote_lines.specs.declared.replies.QuotesReply.{QuotesReply}
 use Rattle.quote_lines.specs.Replies.{quotes_reply_line, quotes_reply_to}
@@ -14,12 +13,9 @@ use Rattle.quote_lines.specs.Replies.{quotes_reply_line, quotes_reply_to}
 abbrev pub written_reply : ℕ → QuotesReply × ExchangeState → List ℕ × ExchangeState
 written_reply number result = (quotes_reply_line number result.0 ++ 10 ∷ [], result.1)
 
--- what is written for a line of these bytes that may ask by the word, and the state after it
-abbrev pub line_by : AskingWord → ℕ → ExchangeState → List ℕ → List ℕ × ExchangeState
-line_by word number state line = written_reply number (quotes_reply_to state (body_by word line))
-
+-- what is written for a line of these bytes that may ask for a quote, and the state after it
 abbrev pub quotes_line : ℕ → ExchangeState → List ℕ → List ℕ × ExchangeState
-quotes_line = line_by asks.Quote
+quotes_line number state line = written_reply number (quotes_reply_to state (said_in QUOTES line))
 
 -- a text is the line of what is quoted of some market, with its line feed
 abbrev pub IsQuotedText : ℕ → List ℕ → Type 0
@@ -36,8 +32,3 @@ IsPricedText number text =
 
 abbrev pub IsPriceText : ℕ → List ℕ → Type 0
 IsPriceText number text = IsRefusalText number text ⊎ IsPricedText number text
-
--- a text that is written beside a run's answers where a line may ask by the word
-abbrev pub IsTextBy : AskingWord → ℕ → List ℕ → Type 0
-IsTextBy asks.Quote number text = IsQuoteText number text
-IsTextBy asks.Price number text = IsPriceText number text

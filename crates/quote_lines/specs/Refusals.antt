@@ -7,7 +7,7 @@ use Rattle.order_book.specs.Book.{BookState, info_in}
 use Rattle.order_book.specs.Refusals.{is_full}
 use Rattle.exchange_core.specs.declared.refusal.Refusal.{Refusal}
 use Rattle.exchange_core.specs.declared.refusal.Refusal.TheVariants.{NoMarket, Settled, WeightCount, BookFull, TooMany}
-use Rattle.quote_lines.specs.declared.requests.QuoteRequest.{QuoteRequest}
+use Rattle.command_text.specs.declared.requests.QuoteRequest.{QuoteRequest}
 
 -- by what is told of the market: a further order would find no room where it has as many live
 -- orders as it may have

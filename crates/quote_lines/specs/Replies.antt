@@ -1,5 +1,5 @@
 -- The reply to a line that may ask for something, and the exchange after it.
-use Rattle.std.specs.Prelude.{ℕ, List, Option, Some, None}
+use Rattle.std.specs.Prelude.{ℕ, List, Option, Some, None, Result, Ok}
 use Rattle.std.specs.Option.{option_map_or}
 use Rattle.form.specs.declared.orders.Batch.{Batch}
 use Rattle.form.specs.declared.orders.Side.{Side}
@@ -17,11 +17,13 @@ use Rattle.option_quotes.specs.declared.prices.SidePrice.{SidePrice}
 use Rattle.option_quotes.specs.declared.prices.SidePrice.TheVariants as side
 use Rattle.option_quotes.specs.Implied.{prices_of}
 use Rattle.option_quotes.specs.Probes.{further}
-use Rattle.quote_lines.specs.declared.bodies.QuotesBody.{QuotesBody}
-use Rattle.quote_lines.specs.declared.bodies.QuotesBody.TheVariants as body
+use Rattle.command_text.specs.Commands.{body_of_said}
+use Rattle.command_text.specs.declared.asked.Fault.{Fault}
+use Rattle.command_text.specs.declared.requests.QuoteRequest.{QuoteRequest}
+use Rattle.command_text.specs.declared.requests.Request.{Request}
+use Rattle.command_text.specs.declared.requests.Request.TheVariants as asks
 use Rattle.quote_lines.specs.declared.prices.QuotedPrice.{QuotedPrice}
 use Rattle.quote_lines.specs.declared.prices.QuotedPrice.TheVariants as told
-use Rattle.quote_lines.specs.declared.requests.QuoteRequest.{QuoteRequest}
 use Rattle.quote_lines.specs.Quoted.{priced_line, quoted_line}
 use Rattle.lists.specs.Refusals.{first_of}
 use Rattle.reply_print.specs.ReplyPieces.{reply_line}
@@ -69,10 +71,10 @@ asked_reply state request quantity =
     (told_for (batch_in state request.market) request quantity)
 
 -- the reply to what a line says, and the exchange after it: a request changes nothing
-abbrev pub quotes_reply_to : ExchangeState → QuotesBody → QuotesReply × ExchangeState
-quotes_reply_to state (body.Plain said) = let now = reply_to state said in (Plain now.0, now.1)
-quotes_reply_to state (body.Quote request) = (asked_reply state request None, state)
-quotes_reply_to state (body.Price request) = (asked_reply state request.quote (Some request.quantity), state)
+abbrev pub quotes_reply_to : ExchangeState → Result Request Fault → QuotesReply × ExchangeState
+quotes_reply_to state (Ok (asks.Quote request)) = (asked_reply state request None, state)
+quotes_reply_to state (Ok (asks.Price request)) = (asked_reply state request.quote (Some request.quantity), state)
+quotes_reply_to state said = let now = reply_to state (body_of_said said) in (Plain now.0, now.1)
 
 -- the line of a reply, without its line feed
 abbrev pub quotes_reply_line : ℕ → QuotesReply → List ℕ

@@ -1,46 +1,46 @@
 // The answer to one line.
-ghost use Rattle.std.specs.Prelude.{◌≡◌, ◌<◌, ◌==◌, false, length, IfOk};
-ghost use Rattle.std.specs.List.{list_any};
-ghost use Rattle.quote_lines.specs.Output.{line_by, quotes_line};
+ghost use Rattle.std.specs.Prelude.{◌≡◌, IfOk};
+ghost use Rattle.command_text.specs.Within.{RequestIsWithin};
+ghost use Rattle.quote_lines.specs.Output.{quotes_line, written_reply};
+ghost use Rattle.quote_lines.specs.Replies.{quotes_reply_to};
 
-use crate::bodies::{AskingWord, body_by};
 use crate::replies::{print, reply_to};
+use command_text::asked::Fault;
+use command_text::words::QUOTES;
+use command_text::{Request, read_line};
 use exchange_core::Exchange;
 use std::alloc::{AllocError, Global};
 
-/// Takes the exchange one line further, and answers what is written for a line of exactly these
-/// bytes with this number, which may ask by the word: the line of its reply and a line feed. A line
-/// that asks changes nothing. The only error is want of memory.
-pub fn answer_by(
+/// Takes the exchange one line further by what the line says: a line of a run as there, and a
+/// request changes nothing. Answers the line of its reply and a line feed. The only error is want of
+/// memory.
+pub fn answer_said(
     alloc: Global,
     exchange: &mut Exchange,
-    word: AskingWord,
     number: u32,
-    line: &[u8],
+    said: Result<Request, Fault>,
 ) -> Result<Vec<u8>, AllocError>
-    requires some { 0 < length line.now }
-    requires one_line { list_any (λ b. b == 10) line.now ≡ false }
-    ensures { IfOk result (λ text.
-        (text.items, exchange.new) ≡ line_by word number exchange.old line.now) }
+    requires { IfOk said RequestIsWithin }
+    ensures { IfOk result (λ text. (text.items, exchange.new)
+        ≡ written_reply number (quotes_reply_to exchange.old said)) }
 {
-    let said = body_by(alloc, word, line)?;
-    let reply = reply_to(alloc, exchange, &said)?;
+    let reply = reply_to(alloc, exchange, said)?;
     let mut text = print(alloc, number, &reply)?;
     text.push(b'\n')?;
     Ok(text)
 }
 
-/// The same of a line that may ask for a quote.
+/// Takes the exchange one line further, and answers what is written for a line of exactly these
+/// bytes with this number, which may ask for a quote.
 pub fn answer(
     alloc: Global,
     exchange: &mut Exchange,
     number: u32,
     line: &[u8],
 ) -> Result<Vec<u8>, AllocError>
-    requires some { 0 < length line.now }
-    requires one_line { list_any (λ b. b == 10) line.now ≡ false }
     ensures { IfOk result (λ text.
         (text.items, exchange.new) ≡ quotes_line number exchange.old line.now) }
 {
-    answer_by(alloc, exchange, AskingWord::Quote, number, line)
+    let said = read_line(alloc, &QUOTES, line)?;
+    answer_said(alloc, exchange, number, said)
 }

@@ -1,29 +1,8 @@
 //! Laws over the definitions: each is the contract of a function that does nothing.
-ghost use Rattle.quote_lines.specs.Laws.{LinesAnswerAsRun, PricedLinesAreThresholds, QuotedLinesAreThresholds, QuotesAnswerAsRun, QuotesTellAnswers};
-ghost use Rattle.quote_lines.specs.RequestLaws.{OtherLinesAreRuns, RequestsAreWithin, WorkedRequests};
+ghost use Rattle.quote_lines.specs.Laws.{PricedLinesAreThresholds, QuotedLinesAreThresholds, QuotesAnswerAsRun, QuotesTellAnswers};
 
-/// A line whose first field is not the word says what it says to a run.
-pub fn other_lines_are_runs()
-    ensures { OtherLinesAreRuns }
-{}
-
-/// Whatever its bytes are, a line says a command or a request within the limits, or neither.
-pub fn requests_are_within()
-    ensures { RequestsAreWithin }
-{}
-
-/// Requests and refusals of requests, with the field that is out of its range: worked rows.
-pub fn worked_requests()
-    ensures { WorkedRequests }
-{}
-
-/// Each line is answered as in a run, or by a refusal or by what is told by the word, and then the
-/// exchange is as it was.
-pub fn lines_answer_as_run()
-    ensures { LinesAnswerAsRun }
-{}
-
-/// So it is where it may ask for a quote.
+/// Each line is answered as in a run, or by a refusal or by what is quoted, and then the exchange is
+/// as it was.
 pub fn quotes_answer_as_run()
     ensures { QuotesAnswerAsRun }
 {}

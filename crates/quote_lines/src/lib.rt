@@ -3,15 +3,11 @@
 #![tactic(auto)]
 
 mod answers;
-mod bodies;
 pub mod laws;
 mod prices;
 mod quoting;
 mod replies;
-mod requests;
 
-pub use answers::{answer, answer_by};
-pub use bodies::{AskingWord, QuotesBody, body_by, quotes_body_of};
+pub use answers::{answer, answer_said};
 pub use prices::{QuotedPrice, print_priced, print_quoted};
 pub use replies::{QuotesReply, reply_to};
-pub use requests::{PriceRequest, QuoteRequest};

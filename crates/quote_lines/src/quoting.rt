@@ -5,13 +5,13 @@ ghost use Rattle.order_book.specs.Book.{info_in};
 ghost use Rattle.exchange_core.specs.Kept.{IsKept};
 ghost use Rattle.lists.specs.Refusals.{first_of};
 ghost use Rattle.option_quotes.specs.Thresholds.{MayBeQuoted};
-ghost use Rattle.quote_lines.specs.Within.{IsRequestWithin};
+ghost use Rattle.command_text.specs.Within.{IsQuoteWithin};
 ghost use Rattle.quote_lines.specs.Replies.{asked_reply, price_of, priced_for, prices_told, quoted_for, quoted_price, side_told, told_for};
 ghost use Rattle.quote_lines.specs.Refusals.{info_refusals};
 
 use crate::prices::QuotedPrice;
 use crate::replies::QuotesReply;
-use crate::requests::QuoteRequest;
+use command_text::QuoteRequest;
 use exchange_core::{Exchange, Refusal};
 use form::{Batch, MAX_ORDERS, Side};
 use option_quotes::{MarketPrices, Quoted, SidePrice, implied_prices, quote};
@@ -36,7 +36,7 @@ fn quoted_price(
     request: &QuoteRequest,
     side: Side,
 ) -> Result<QuotedPrice, AllocError>
-    requires request { IsRequestWithin request.now }
+    requires request { IsQuoteWithin request.now }
     requires batch { MayBeQuoted batch.now request.now.form }
     ensures { IfOk result (λ price. price ≡ quoted_price batch.now request.now side) }
 {
@@ -50,7 +50,7 @@ fn quoted_for(
     batch: &Batch,
     request: &QuoteRequest,
 ) -> Result<QuotesReply, AllocError>
-    requires request { IsRequestWithin request.now }
+    requires request { IsQuoteWithin request.now }
     requires batch { MayBeQuoted batch.now request.now.form }
     ensures { IfOk result (λ reply. reply ≡ quoted_for batch.now request.now) }
 {
@@ -95,7 +95,7 @@ fn priced_for(
     request: &QuoteRequest,
     quantity: u32,
 ) -> Result<QuotesReply, AllocError>
-    requires request { IsRequestWithin request.now }
+    requires request { IsQuoteWithin request.now }
     requires quantity { (1 ≤ quantity) × (quantity ≤ MAX_QUANTITY) }
     requires batch { MayBeQuoted batch.now request.now.form }
     ensures { IfOk result (λ reply. reply ≡ priced_for batch.now request.now quantity) }
@@ -111,7 +111,7 @@ fn told_for(
     request: &QuoteRequest,
     quantity: Option<u32>,
 ) -> Result<QuotesReply, AllocError>
-    requires request { IsRequestWithin request.now }
+    requires request { IsQuoteWithin request.now }
     requires quantity { IfSome quantity (λ q. (1 ≤ q) × (q ≤ MAX_QUANTITY)) }
     requires batch { MayBeQuoted batch.now request.now.form }
     ensures { IfOk result (λ reply. reply ≡ told_for batch.now request.now quantity) }
@@ -149,7 +149,7 @@ fn asked_live(
     request: &QuoteRequest,
     quantity: Option<u32>,
 ) -> Result<QuotesReply, AllocError>
-    requires request { IsRequestWithin request.now }
+    requires request { IsQuoteWithin request.now }
     requires quantity { IfSome quantity (λ q. (1 ≤ q) × (q ≤ MAX_QUANTITY)) }
     requires kept { IsKept exchange.now }
     requires told { first_of
@@ -171,7 +171,7 @@ pub(crate) fn asked_reply(
     request: &QuoteRequest,
     quantity: Option<u32>,
 ) -> Result<QuotesReply, AllocError>
-    requires request { IsRequestWithin request.now }
+    requires request { IsQuoteWithin request.now }
     requires quantity { IfSome quantity (λ q. (1 ≤ q) × (q ≤ MAX_QUANTITY)) }
     ensures { IfOk result (λ reply. reply ≡ asked_reply exchange.now request.now quantity) }
 {

@@ -1,11 +1,13 @@
 // The reply to what a line says.
 ghost use Rattle.std.specs.Prelude.{◌≡◌, IfOk, OnErr};
-ghost use Rattle.quote_lines.specs.Within.{QuotesBodyIsWithin};
+ghost use Rattle.command_text.specs.Within.{RequestIsWithin};
 ghost use Rattle.quote_lines.specs.Replies.{quotes_reply_line, quotes_reply_to};
 
-use crate::bodies::QuotesBody;
 use crate::prices::{QuotedPrice, print_priced, print_quoted};
 use crate::quoting::asked_reply;
+use command_text::Request;
+use command_text::asked::Fault;
+use command_text::bodies::body_of_said;
 use exchange_core::{Exchange, Reply};
 use std::alloc::{AllocError, Global};
 
@@ -36,18 +38,21 @@ pub enum QuotesReply {
 pub fn reply_to(
     alloc: Global,
     exchange: &mut Exchange,
-    said: &QuotesBody,
+    said: Result<Request, Fault>,
 ) -> Result<QuotesReply, AllocError>
-    requires { QuotesBodyIsWithin said.now }
+    requires { IfOk said RequestIsWithin }
     ensures ok { IfOk result (λ reply.
-        (reply, exchange.new) ≡ quotes_reply_to exchange.old said.now) }
+        (reply, exchange.new) ≡ quotes_reply_to exchange.old said) }
     ensures err { OnErr result (exchange.new ≡ exchange.old) }
 {
     match said {
-        QuotesBody::Plain(body) => Ok(QuotesReply::Plain(exchange_core::reply_to(exchange, body)?)),
-        QuotesBody::Quote(request) => asked_reply(alloc, exchange, request, None),
-        QuotesBody::Price(request) => {
+        Ok(Request::Quote(request)) => asked_reply(alloc, exchange, &request, None),
+        Ok(Request::Price(request)) => {
             asked_reply(alloc, exchange, &request.quote, Some(request.quantity))
+        }
+        said => {
+            let body = body_of_said(said);
+            Ok(QuotesReply::Plain(exchange_core::reply_to(exchange, &body)?))
         }
     }
 }

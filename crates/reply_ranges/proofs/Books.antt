@@ -1,15 +1,15 @@
 -- Live orders are told as a book that `propose` takes, and what it writes is taken.
-use Rattle.std.proofs.Common.{◌≡◌, ℕ, ◌+◌, ◌≤◌, ◌==◌, List, [], ◌∷◌, ◌++◌, take, drop, codes, Bool, true, false, Option, Some, None, Result, Ok, if◌then◌else◌, refl, sym, ap, ◌∙◌, subst, inl, inr, arith, take-append-drop}
-use Rattle.std.specs.Prelude.{IfSome, option_map}
-use Rattle.std.specs.List.{slice_split}
+use Rattle.std.proofs.Common.{◌≡◌, ℕ, ◌+◌, ◌≤◌, List, [], ◌∷◌, ◌++◌, Option, Some, None, Result, Ok, sym, ap, ◌∙◌, subst, inl, inr, arith}
+use Rattle.std.specs.Prelude.{IfOk}
 use Rattle.std.specs.Option.{option_map_or}
-use Rattle.std.specs.Str.{bytes_eq}
 use Rattle.std.proofs.lemmas.List.{same_from_push}
 use Rattle.std.proofs.lemmas.List.Folds.{list_any_none}
-use Rattle.std.proofs.lemmas.Option.{none-some, same_Some}
-use Rattle.std.proofs.lemmas.Slice.Eq.{bytes_eq-Decides}
-use Rattle.command_text.specs.declared.asked.Fault.{Fault}
-use Rattle.command_text.specs.Fields.{fields_of_pieces, is_readable}
+use Rattle.std.proofs.lemmas.Option.{same_Some}
+use Rattle.command_text.specs.declared.requests.Request.TheVariants as asks
+use Rattle.command_text.specs.declared.words.TheConstants.{SERVED}
+use Rattle.command_text.specs.Said.{said_in}
+use Rattle.command_text.specs.Within.{RequestIsWithin}
+use Rattle.command_text.proofs.ReadWithin.{said_is_within}
 use Rattle.exchange_core.specs.Step.{batch_in}
 use Rattle.exchange_lines.specs.LineSteps.{InputLine}
 use Rattle.form.specs.declared.orders.Batch.{Batch}
@@ -23,17 +23,14 @@ use Rattle.proposal_text.proofs.WrittenProposals.{reply_written}
 use Rattle.cert_check.specs.declared.outcome.Proposal.{Proposal}
 use Rattle.proposals.specs.Judged.{IsJudgedBound}
 use Rattle.proposal_lines.specs.Laws.{IsRefused}
-use Rattle.proposal_lines.specs.Output.{proposing_line, proposing_reply_line}
+use Rattle.proposal_lines.specs.Output.{proposing_line, proposing_reply_line, served_line}
 use Rattle.proposal_lines.specs.Promises.{state_by_lines}
-use Rattle.proposal_lines.specs.Proposed.{after_word, propose_word, proposed_of, proposed_reply}
+use Rattle.proposal_lines.specs.Proposed.{proposed_reply}
 use Rattle.proposal_lines.specs.ProposingState.{ProposingState, empty_state}
-use Rattle.proposal_lines.specs.Reads.{read_of, read_of_line, refused_by, told_by}
+use Rattle.proposal_lines.specs.Reads.{refused_by}
 use Rattle.proposal_lines.specs.declared.proposed.Proposed.{Proposed}
-use Rattle.proposal_lines.specs.declared.reads.ReadRequest.{ReadRequest}
-use Rattle.proposal_lines.specs.declared.reads.ReadRequest.TheVariants.{Book}
 use Rattle.proposal_lines.specs.declared.replies.ProposingReply.{ProposingReply}
 use Rattle.proposal_lines.specs.declared.replies.ProposingReply.TheVariants.{Told}
-use Rattle.proposal_lines.proofs.Others.{proposes, proposes_not, reads}
 use Rattle.book_proposals.specs.Answers.{IsAnswerTo, IsBookOf, IsProposed, proposing_text, submission_for}
 use Rattle.book_proposals.specs.Laws.{IsReadAs}
 use Rattle.book_proposals.proofs.FoundBooks.{reads as book_reads}
@@ -42,31 +39,8 @@ use Rattle.book_proposals.proofs.TakenProposals.{proposals_are_taken}
 use Rattle.reply_ranges.specs.Books.{BooksAreProposedFor, BooksAreTold, IsReadAsBook, IsTakenFor, IsWholeText, TellsLive}
 use Rattle.reply_ranges.proofs.InputLines.{AreCounted, inputs_counted}
 use Rattle.reply_ranges.proofs.ReadAsWritten.{book_is_whole, proposing_is_whole}
-use Rattle.reply_ranges.proofs.Proposals.{IsReadIn, reads_within}
 use Rattle.reply_ranges.proofs.ServedLines.{Stands, answers, empty_stands, still}
 use Rattle.reply_ranges.proofs.States.{batch_is_within, live_ranged}
-
--- ---- a line that reads is none that proposes
-other_word : (fields : Option (List (List ℕ))) → option_map_or read_of (option_map (λ more. codes "propose" ∷ more) fields) None ≡ None
-other_word None = refl
-other_word (Some fields) = refl
-
-word_reads_not : (rest : List ℕ) → read_of_line (propose_word ++ rest) ≡ None
-word_reads_not rest = by (is_readable (propose_word ++ rest))
-  where
-    by : (readable : Bool) → option_map_or read_of (if readable then fields_of_pieces (slice_split (λ b. b == 44) (propose_word ++ rest)) else None) None ≡ None
-    by true = other_word (fields_of_pieces (slice_split (λ b. b == 44) rest))
-    by false = refl
-
-reads_alone : (line : List ℕ) (asked : Result ReadRequest Fault) → read_of_line line ≡ Some asked → after_word line ≡ None
-reads_alone line asked is = by (bytes_eq (take 8 line) propose_word) refl
-  where
-    by : (b : Bool) → bytes_eq (take 8 line) propose_word ≡ b → (if b then Some (drop 8 line) else None) ≡ None
-    by true same =
-        let word = (bytes_eq-Decides (take 8 line) propose_word).0 same in
-        let whole = ap (λ w. w ++ drop 8 line) (sym word) ∙ take-append-drop 8 line in
-        absurd (none-some asked (sym (word_reads_not (drop 8 line)) ∙ ap read_of_line whole ∙ is))
-    by false other = refl
 
 -- ---- before a line of an input
 reached : (low : ℕ) (state : ProposingState) (before later : List InputLine) (line : InputLine) → Stands (low + 1) state → AreCounted low (before ++ line ∷ later)
@@ -93,13 +67,13 @@ module _ (number : ℕ) (state : ProposingState) (few : number ≤ count_limit) 
         record { number = number; told = (within, refl); within = batch.within },
       )
 
-  tells_book : (line : List ℕ) → read_of_line line ≡ Some (Ok (Book market)) → (proposing_line number state line).0 ≡ proposal_line number (told.Book market live) ++ 10 ∷ []
-  tells_book line asks =
-      ap (λ (now : List ℕ × ProposingState). now.0) (proposes_not number state line (reads_alone line (Ok (Book market)) asks) ∙ reads number state line (Ok (Book market)) asks)
-      ∙ ap (λ first. proposing_reply_line number (option_map_or refused_by first (Told (told_by state.exchange (Book market)))) ++ 10 ∷ []) tells
+  tells_book : (line : List ℕ) → said_in SERVED line ≡ Ok (asks.Book market) → (proposing_line number state line).0 ≡ proposal_line number (told.Book market live) ++ 10 ∷ []
+  tells_book line is =
+      ap (λ said. (served_line number state line said).0) is
+      ∙ ap (λ first. proposing_reply_line number (option_map_or refused_by first (Told (told.Book market live))) ++ 10 ∷ []) tells
 
-listed_in : (line : List ℕ) (market : ℕ) → read_of_line line ≡ Some (Ok (Book market)) → IsMarket market
-listed_in line market asks = subst (λ asked. IfSome asked IsReadIn) asks (reads_within line)
+listed_in : (line : List ℕ) (market : ℕ) → said_in SERVED line ≡ Ok (asks.Book market) → IsMarket market
+listed_in line market is = subst (λ said. IfOk said RequestIsWithin) is (said_is_within SERVED line)
 
 pub books_are_told : BooksAreTold
 books_are_told input before later line market within is asks tells =
@@ -126,7 +100,11 @@ is_proposed line text market batch book (inr none) = absurd (none.0 market batch
 -- a line that is read as handing in just this
 taken : (line : List ℕ) (market : ℕ) (batch : Batch) (proposal : Proposal) → IsReadAs line market (submission_for batch proposal) → IsJudgedBound batch proposal
     → IsTakenFor market batch line
-taken line market batch proposal is judged number state tells same = by (after_word line) refl is
+taken line market batch proposal is judged number state tells same = (
+  (proposed_reply state (Ok proposed)).0,
+  ap (λ said. (served_line number state line said).0) is.1 ∙ ap (λ said. proposing_reply_line number (proposed_reply state said).0 ++ 10 ∷ []) is.2,
+  not_refused,
+)
   where
     proposed : Proposed
     proposed = record { market = market; submission = submission_for batch proposal }
@@ -135,16 +113,6 @@ taken line market batch proposal is judged number state tells same = by (after_w
     not_refused =
         subst (λ b. IsJudgedBound b proposal → ¬ (IsRefused (proposed_reply state (Ok (record { market = market; submission = submission_for b proposal }))).0)) same
         (proposals_are_taken state market proposal tells) judged
-
-    by : (o : Option (List ℕ)) → after_word line ≡ o → option_map proposed_of o ≡ Some (Ok proposed)
-        → (reply : ProposingReply) × ((proposing_line number state line).0 ≡ proposing_reply_line number reply ++ 10 ∷ []) × ¬ (IsRefused reply)
-    by None word read = absurd (none-some (Ok proposed) read)
-    by (Some text) word read = (
-      (proposed_reply state (Ok proposed)).0,
-      ap (λ (now : List ℕ × ProposingState). now.0) (proposes number state line text word)
-          ∙ ap (λ said. proposing_reply_line number (proposed_reply state said).0 ++ 10 ∷ []) (same_Some (proposed_of text) (Ok proposed) read),
-      not_refused,
-    )
 
 pub books_are_proposed_for : BooksAreProposedFor
 books_are_proposed_for line text market batch book answer =

@@ -1,22 +1,29 @@
 -- The field that is told where a number is out of its range is one of a line.
-use Rattle.std.proofs.Common.{◌≡◌, ℕ, ◌+◌, ◌-◌, ◌*◌, ◌/◌, ◌%◌, ◌≤◌, List, [], ◌∷◌, length, take, Bool, true, false, not, ◌&&◌, ◌||◌, ◌==◌, Option, Some, None, IfSome, codes, if◌then◌else◌, refl, subst, sym, arith}
-use Rattle.std.specs.Prelude.{nat_le, option_map}
+use Rattle.std.proofs.Common.{◌≡◌, ℕ, ◌+◌, ◌-◌, ◌*◌, ◌/◌, ◌%◌, ◌≤◌, List, [], ◌∷◌, length, take, Bool, true, false, not, ◌&&◌, ◌||◌, ◌==◌, Option, Some, None, Result, Ok, Err, IfSome, if◌then◌else◌, refl, subst, sym, arith}
+use Rattle.std.specs.Prelude.{nat_le, option_map, position}
 use Rattle.std.specs.List.{All, list_all}
-use Rattle.std.specs.Str.{bytes_eq}
+use Rattle.std.specs.Option.{option_map_or}
 use Rattle.std.proofs.lemmas.Bool.{and_parts, leb-true}
 use Rattle.std.proofs.lemmas.List.Elements.{All-nil, All-cons, All-head, All-tail, All-append, All-from_recursion, All-take}
 use Rattle.command_text.specs.declared.asked.Asked.{Asked}
 use Rattle.command_text.specs.declared.asked.Fault.{Fault}
 use Rattle.command_text.specs.declared.asked.Fault.TheVariants.{Syntax, Range}
-use Rattle.command_text.specs.declared.command.Body.{Body}
-use Rattle.command_text.specs.declared.command.Body.TheVariants as body
 use Rattle.command_text.specs.declared.numbers.NumberRead.{NumberRead}
+use Rattle.command_text.specs.declared.ranges.TheConstants.{ACCOUNT, AMOUNT, ANY_ACCOUNT, BUDGET, LISTED, MARGIN_BUDGET, MARKET, ORDER, PRICED, QUOTED, UNDERLYINGS}
+use Rattle.command_text.specs.declared.requests.Request.{Request}
+use Rattle.command_text.specs.declared.requests.Request.TheVariants as asks
+use Rattle.command_text.specs.declared.words.LineWord.{LineWord}
+use Rattle.command_text.specs.declared.words.LineWord.TheVariants as word
+use Rattle.command_text.specs.declared.words.TheConstants.{RUN}
 use Rattle.command_text.specs.Asked.{text_of, says_in}
 use Rattle.command_text.specs.Bundles.{has_leg, leg_fields, fields_each}
-use Rattle.command_text.specs.Commands.{body_of_line}
+use Rattle.command_text.specs.Commands.{body_of_said}
 use Rattle.command_text.specs.Fields.{fields_of_line}
-use Rattle.command_text.specs.Refused.{Shape, reads_in, settle_shape, weight_place, trade_shape, or_else, leg_reads, leg_weight_place, legs_reads, legs_beyond, head_reads, legs_shape, bundle_shape, shape_of, is_outside, first_outside, has_unread, fault_of_shape, fault_of_fields, fault_of_body, word_read}
+use Rattle.command_text.specs.Numbers.{number_in}
+use Rattle.command_text.specs.Refused.{Shape, reads_in, plain_shape, settle_shape, weight_place, trade_shape, option_shape, or_else, leg_reads, leg_weight_place, legs_reads, legs_beyond, head_reads, legs_shape, bundle_shape, shape_by, is_outside, is_unread, first_outside, has_unread, fault_of_shape, fault_of_words, fault_of_proposal, fault_by, fault_of_said, word_read}
+use Rattle.command_text.specs.Said.{proposed_in, said_in}
 use Rattle.command_text.specs.Trades.{kind_in, is_weighted, weights_in}
+use Rattle.command_text.specs.Words.{word_among}
 use Rattle.command_text.proofs.RefusedLines.{lines_are_refused}
 use Rattle.form.specs.Between.{Between}
 use Rattle.reply_ranges.specs.Laws.{HasField, FieldsAreWithin}
@@ -145,32 +152,35 @@ counted_places false legs fields = legs_places (fields_each (length fields - 7) 
 bundle_places : (fields : List (List ℕ)) → HasPlaces (bundle_shape fields)
 bundle_places fields = counted_places _ _ fields
 
+-- an option
+option_places : (place : ℕ) (asked : List Asked) (fields : List (List ℕ)) → IsPlace place → IsPlace (place + 2) → list_all (is_between 2 51) asked ≡ true → HasPlaces (option_shape place asked fields)
+option_places place asked fields is first are = record {
+  reads = All-cons IsRead (place, word_read (kind_in (text_of fields place))) _ is (some_reads (length fields - 2) asked fields are);
+  beyond = weight_is 0 (place + 2) fields first;
+}
+
 -- ---- by the word
-one_read : (place : ℕ) (said : NumberRead) (sized : Bool) → IsPlace place → HasPlaces (record { sized = sized; reads = (place, said) ∷ []; beyond = None })
-one_read place said sized is = record { reads = All-cons IsRead (place, said) [] is (All-nil IsRead); beyond = tt }
+plain_places : (count : ℕ) (asked : List Asked) (fields : List (List ℕ)) → list_all (is_between 2 51) asked ≡ true → HasPlaces (plain_shape count asked fields)
+plain_places count asked fields are = record { reads = reads_are 0 2 51 asked fields (omega arith) (omega arith) (all_between 2 51 asked are); beyond = tt }
 
-two_reads : (place next : ℕ) (said more : NumberRead) (sized : Bool) → IsPlace place → IsPlace next → HasPlaces (record { sized = sized; reads = (place, said) ∷ (next, more) ∷ []; beyond = None })
-two_reads place next said more sized is are =
-    record { reads = All-cons IsRead (place, said) ((next, more) ∷ []) is (All-cons IsRead (next, more) [] are (All-nil IsRead)); beyond = tt }
-
-by_word : (test : Bool) (x y : Shape) → HasPlaces x → HasPlaces y → HasPlaces (if test then x else y)
-by_word true x y h k = h
-by_word false x y h k = k
-
-shapes_have : (fields : List (List ℕ)) → HasPlaces (shape_of fields)
-shapes_have fields =
-    let word = text_of fields 1 in
-    by_word (bytes_eq word (codes "open")) _ _ (one_read 2 _ _ (omega arith, omega arith))
-    (by_word (bytes_eq word (codes "deposit")) _ _ (two_reads 2 3 _ _ _ (omega arith, omega arith) (omega arith, omega arith))
-    (by_word (bytes_eq word (codes "withdraw")) _ _ (two_reads 2 3 _ _ _ (omega arith, omega arith) (omega arith, omega arith))
-    (by_word (bytes_eq word (codes "market")) _ _ (two_reads 2 3 _ _ _ (omega arith, omega arith) (omega arith, omega arith))
-    (by_word (bytes_eq word (codes "buy")) _ _ (trade_places fields)
-    (by_word (bytes_eq word (codes "sell")) _ _ (trade_places fields)
-    (by_word (bytes_eq word (codes "bundle")) _ _ (bundle_places fields)
-    (by_word (bytes_eq word (codes "cancel")) _ _ (two_reads 2 3 _ _ _ (omega arith, omega arith) (omega arith, omega arith))
-    (by_word (bytes_eq word (codes "clear")) _ _ (two_reads 2 3 _ _ _ (omega arith, omega arith) (omega arith, omega arith))
-    (by_word (bytes_eq word (codes "settle")) _ _ (settle_places fields)
-    (by_word (bytes_eq word (codes "balance")) _ _ (one_read 2 _ _ (omega arith, omega arith)) (record { reads = All-nil IsRead; beyond = tt })))))))))))
+shapes_have : (w : LineWord) (fields : List (List ℕ)) → HasPlaces (shape_by w fields)
+shapes_have word.Open fields = plain_places 2 (ACCOUNT ∷ []) fields refl
+shapes_have word.Deposit fields = plain_places 3 (ACCOUNT ∷ AMOUNT ∷ []) fields refl
+shapes_have word.Withdraw fields = plain_places 3 (ACCOUNT ∷ AMOUNT ∷ []) fields refl
+shapes_have word.Market fields = plain_places 3 (MARKET ∷ UNDERLYINGS ∷ []) fields refl
+shapes_have word.Buy fields = trade_places fields
+shapes_have word.Sell fields = trade_places fields
+shapes_have word.Bundle fields = bundle_places fields
+shapes_have word.Cancel fields = plain_places 3 (ACCOUNT ∷ ORDER ∷ []) fields refl
+shapes_have word.Clear fields = plain_places 3 (MARKET ∷ BUDGET ∷ []) fields refl
+shapes_have word.Settle fields = settle_places fields
+shapes_have word.Balance fields = plain_places 2 (ANY_ACCOUNT ∷ []) fields refl
+shapes_have word.Quote fields = option_places 4 QUOTED fields (omega arith, omega arith) (omega arith, omega arith) refl
+shapes_have word.Price fields = option_places 5 PRICED fields (omega arith, omega arith) (omega arith, omega arith) refl
+shapes_have word.Margin fields = plain_places 4 (ACCOUNT ∷ LISTED ∷ MARGIN_BUDGET ∷ []) fields refl
+shapes_have word.Book fields = plain_places 2 (MARKET ∷ []) fields refl
+shapes_have word.Positions fields = plain_places 3 (ACCOUNT ∷ LISTED ∷ []) fields refl
+shapes_have word.Propose fields = record { reads = All-nil IsRead; beyond = tt }
 
 -- ---- what is told
 first_is : (reads : List (ℕ × NumberRead)) → All IsRead reads → IfSome (first_outside reads) IsPlace
@@ -197,14 +207,60 @@ shape_faults shape has =
       | false ↦ ranges_are told (or_else_is (first_outside shape.reads) shape.beyond (first_is shape.reads has.reads) has.beyond)
     ]
 
-fields_faults : (fields : Option (List (List ℕ))) → IsFault (fault_of_fields fields)
-fields_faults None = tt
-fields_faults (Some fields) = shape_faults (shape_of fields) (shapes_have fields)
+words_faults : (words : List LineWord) (fields : List (List ℕ)) → IsFault (fault_of_words words fields)
+words_faults words fields = elim (word_among words (text_of fields 1)) as (λ o. IsFault (option_map_or (λ w. fault_of_shape (shape_by w fields)) o (Some Syntax))) [
+  | None ↦ tt
+  | Some w ↦ shape_faults (shape_by w fields) (shapes_have w fields)
+]
 
-said_is : (said : Body) → IsFault (fault_of_body said) → HasField said
-said_is (body.Command command) h = tt
-said_is body.Syntax h = tt
-said_is (body.Range field) h = h
+proposal_faults : (text : List ℕ) → IsFault (fault_of_proposal text)
+proposal_faults text =
+    elim (position (λ b. b == 44) text) as (λ o.
+    IsFault (option_map_or (λ place. if is_unread (number_in MARKET.low MARKET.high (take place text)) then Some Syntax else None) o (Some Syntax))) [
+      | None ↦ tt
+      | Some place ↦ unread_faults (is_unread (number_in MARKET.low MARKET.high (take place text)))
+    ]
+  where
+    unread_faults : (unread : Bool) → IsFault (if unread then Some Syntax else None)
+    unread_faults true = tt
+    unread_faults false = tt
+
+line_faults : (words : List LineWord) (line : List ℕ) (proposed : Option (List ℕ)) → IsFault (fault_by words line proposed)
+line_faults words line (Some text) = proposal_faults text
+line_faults words line None = elim (fields_of_line line) as (λ o. IsFault (option_map_or (fault_of_words words) o (Some Syntax))) [
+  | None ↦ tt
+  | Some fields ↦ words_faults words fields
+]
+
+-- a fault of a field is told with its place
+abbrev pub IsPlaced : Fault → Type 0
+IsPlaced Syntax = Unit {0}
+IsPlaced (Range place) = IsPlace place
+
+abbrev pub IsPlacedIn : {A : Type 0} → Result A Fault → Type 0
+IsPlacedIn (Ok a) = Unit {0}
+IsPlacedIn (Err fault) = IsPlaced fault
+
+placed_in : (said : Result Request Fault) → IsFault (fault_of_said said) → IsPlacedIn said
+placed_in (Ok request) h = tt
+placed_in (Err Syntax) h = tt
+placed_in (Err (Range field)) h = h
+
+-- whatever words may begin it, a line is refused so
+pub said_is_placed : (words : List LineWord) (line : List ℕ) → IsPlacedIn (said_in words line)
+said_is_placed words line =
+    placed_in (said_in words line) (subst IsFault (sym (lines_are_refused words line)) (line_faults words line (proposed_in words line)))
+
+said_has : (said : Result Request Fault) → IsPlacedIn said → HasField (body_of_said said)
+said_has (Ok (asks.Command command)) h = tt
+said_has (Ok (asks.Quote request)) h = tt
+said_has (Ok (asks.Price request)) h = tt
+said_has (Ok (asks.Margin request)) h = tt
+said_has (Ok (asks.Book market)) h = tt
+said_has (Ok (asks.Positions account market)) h = tt
+said_has (Ok (asks.Propose request)) h = tt
+said_has (Err Syntax) h = tt
+said_has (Err (Range field)) h = h
 
 pub fields_are_within : FieldsAreWithin
-fields_are_within line = said_is (body_of_line line) (subst IsFault (sym (lines_are_refused line)) (fields_faults (fields_of_line line)))
+fields_are_within line = said_has (said_in RUN line) (said_is_placed RUN line)

@@ -14,7 +14,6 @@ pub mod Runs
 pub mod Owed
 pub mod Margins
 pub mod Texts
-pub mod ServedFields
 pub mod Others
 pub mod InOrder
 pub mod Kept

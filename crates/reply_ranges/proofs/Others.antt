@@ -1,17 +1,17 @@
--- The lines that a run has, and those of quotes, prices and margins, are sound.
-use Rattle.std.proofs.Common.{◌≡◌, ℕ, ◌+◌, ◌≤◌, List, [], ◌∷◌, ◌++◌, Bool, true, false, ◌||◌, Option, Some, None, if◌then◌else◌, refl, subst, arith}
-use Rattle.std.specs.Prelude.{IfSome}
+-- What is written for what a line says where nothing is read or proposed is sound.
+use Rattle.std.proofs.Common.{◌≡◌, ℕ, ◌+◌, ◌≤◌, List, [], ◌∷◌, ◌++◌, Bool, true, false, ◌||◌, Option, Some, None, Result, Ok, Err, if◌then◌else◌, refl, subst, arith}
+use Rattle.std.specs.Prelude.{IfOk, IfSome}
 use Rattle.std.specs.List.{All}
 use Rattle.std.specs.Option.{option_map_or}
 use Rattle.std.proofs.lemmas.List.Elements.{All-append, All-from_recursion}
-use Rattle.proposal_lines.specs.AllKinds.{all_line, asking_word, line_of}
+use Rattle.proposal_lines.specs.AllKinds.{said_line}
 use Rattle.journal_audit.specs.declared.asked_replies.AskedReply.TheVariants as told
 use Rattle.journal_audit.specs.AskedLines.{IsNeedWithin, IsPriceWithin, asked_line}
 use Rattle.command_text.specs.declared.command.Body.{Body}
 use Rattle.command_text.specs.declared.command.Body.TheVariants as body
 use Rattle.command_text.specs.declared.command.Command.{Command}
 use Rattle.command_text.specs.declared.command.Command.TheVariants.{Open, Deposit, Withdraw, Market, Trade, Bundle, Cancel, Clear, Settle, Balance}
-use Rattle.command_text.specs.Within.{BodyIsWithin}
+use Rattle.command_text.specs.Within.{BodyIsWithin, IsMarginWithin, IsQuoteWithin, RequestIsWithin}
 use Rattle.exchange_core.specs.declared.refusal.Refusal.{Refusal}
 use Rattle.exchange_core.specs.declared.refusal.Refusal.TheVariants as refusal
 use Rattle.exchange_core.specs.ExchangeState.{ExchangeState}
@@ -25,21 +25,18 @@ use Rattle.form.specs.declared.orders.Batch.{Batch}
 use Rattle.form.specs.declared.orders.Order.{Order}
 use Rattle.form.specs.declared.orders.Side.{Side}
 use Rattle.form.specs.declared.orders.Side.TheVariants.{Buy, Sell}
-use Rattle.guarded_lines.specs.declared.bodies.GuardedBody.{GuardedBody}
-use Rattle.guarded_lines.specs.declared.bodies.GuardedBody.TheVariants as guarded
 use Rattle.guarded_lines.specs.declared.replies.GuardedReply.TheVariants as guarded_reply
-use Rattle.guarded_lines.specs.declared.requests.MarginRequest.{MarginRequest}
+use Rattle.command_text.specs.declared.asked.Fault.{Fault}
+use Rattle.command_text.specs.declared.asked.Fault.TheVariants.{Syntax, Range}
+use Rattle.command_text.specs.declared.requests.MarginRequest.{MarginRequest}
 use Rattle.guarded_lines.specs.declared.told.Need.{Need}
 use Rattle.guarded_lines.specs.declared.told.ToldMargin.{ToldMargin}
 use Rattle.guarded_lines.specs.declared.told.ToldMargin.TheVariants as margin
-use Rattle.guarded_lines.specs.Bodies.{guarded_body_of}
 use Rattle.guarded_lines.specs.Margins.{margin_refusals, market_refusals, run_in, told_of}
 use Rattle.guarded_lines.specs.Needs.{need_in}
-use Rattle.guarded_lines.specs.Replies.{guarded_reply_line, guarded_reply_to, plain_reply_to}
+use Rattle.guarded_lines.specs.Replies.{covered_reply_to, guarded_reply_line, guarded_reply_to, plain_reply_to}
 use Rattle.guarded_lines.specs.Told.{margin_line}
-use Rattle.guarded_lines.specs.Within.{GuardedBodyIsWithin, IsRequestWithin as IsMarginRequest}
 use Rattle.guarded_lines.specs.Withdrawals.{covers, is_refused, left_in, uncovered_by, uncovered_command}
-use Rattle.guarded_lines.proofs.RequestsWithin.{requests_are_within as margin_requests}
 use Rattle.exchange_lines.proofs.RunStates.{IsRunning}
 use Rattle.option_quotes.specs.declared.prices.MarketPrices.{MarketPrices}
 use Rattle.option_quotes.specs.declared.prices.MarketPrices.TheVariants as market
@@ -55,28 +52,24 @@ use Rattle.option_quotes.proofs.Found.{implied_prices_are_thresholds}
 use Rattle.option_quotes.proofs.Thresholds.{quotes_are_thresholds}
 use Rattle.order_book.specs.declared.market.MarketInfo.{MarketInfo}
 use Rattle.order_book.specs.Book.{info_in}
-use Rattle.quote_lines.specs.declared.bodies.AskingWord.{AskingWord}
-use Rattle.quote_lines.specs.declared.bodies.QuotesBody.{QuotesBody}
-use Rattle.quote_lines.specs.declared.bodies.QuotesBody.TheVariants as quotes
 use Rattle.quote_lines.specs.declared.prices.QuotedPrice.TheVariants as price
 use Rattle.quote_lines.specs.declared.replies.QuotesReply.TheVariants as quotes_reply
-use Rattle.quote_lines.specs.declared.requests.QuoteRequest.{QuoteRequest}
-use Rattle.quote_lines.specs.Bodies.{body_by}
+use Rattle.command_text.specs.declared.requests.QuoteRequest.{QuoteRequest}
+use Rattle.command_text.specs.declared.requests.Request.{Request}
+use Rattle.command_text.specs.declared.requests.Request.TheVariants as asks
 use Rattle.quote_lines.specs.Refusals.{info_refusals, quote_refusals}
-use Rattle.quote_lines.specs.Replies.{asked_reply, price_of, prices_told, quoted_price, quotes_reply_line, quotes_reply_to, side_told, told_for}
-use Rattle.quote_lines.specs.Within.{IsRequestWithin, QuotesBodyIsWithin}
+use Rattle.quote_lines.specs.Replies.{asked_reply, price_of, prices_told, quoted_price, quotes_reply_line, side_told, told_for}
 use Rattle.quote_lines.proofs.MayQuote.{live_may}
-use Rattle.quote_lines.proofs.RequestsWithin.{requests_are_within}
 use Rattle.lists.specs.Refusals.{first_of}
 use Rattle.lists.proofs.FirstRefusal.{none_in_both}
 use Rattle.reply_print.specs.ReplyPieces.{reply_line}
 use Rattle.reply_print.specs.Within.{IsLine}
 use Rattle.reply_print.specs.declared.limits.TheConstants.{MAX_LINE}
 use Rattle.reply_ranges.specs.Laws.{HasField}
+use Rattle.reply_ranges.proofs.Fields.{IsPlacedIn}
 use Rattle.reply_ranges.proofs.Refusals.{IsOne, IsTold, first_told}
 use Rattle.reply_ranges.proofs.States.{IsRanged}
 use Rattle.reply_ranges.proofs.StepReplies.{reply_within}
-use Rattle.reply_ranges.proofs.ServedFields.{HasMarginField, HasQuoteField, guarded_field, quotes_field}
 use Rattle.reply_ranges.proofs.Margins.{margin_within, need_within}
 use Rattle.reply_ranges.proofs.Owed.{AreOwed}
 use Rattle.reply_ranges.proofs.Texts.{IsServedText, asked_text, run_text}
@@ -167,7 +160,7 @@ module _ (lines number : ℕ) (few : lines + 1 ≤ MAX_LINE) (is_line : IsLine n
       (promises_kept state (record { number = number; body = said }) stands.running.kept).judged
 
   -- what is told of the live orders of a market
-  told_served : (request : QuoteRequest) (quantity : Option ℕ) → IsRequestWithin request → IfSome quantity (Between 1 MAX_QUANTITY) → MayBeQuoted (batch_in state request.market) request.form
+  told_served : (request : QuoteRequest) (quantity : Option ℕ) → IsQuoteWithin request → IfSome quantity (Between 1 MAX_QUANTITY) → MayBeQuoted (batch_in state request.market) request.form
       → IsServedText (quotes_reply_line number (told_for (batch_in state request.market) request quantity) ++ 10 ∷ [])
   told_served request None within some may =
       let batch = batch_in state request.market in
@@ -187,7 +180,7 @@ module _ (lines number : ℕ) (few : lines + 1 ≤ MAX_LINE) (is_line : IsLine n
           (is_line, (within.market, some, side_price batch (asked request.form Buy quantity) request.budget ask tells.0, side_price batch (asked request.form Sell quantity) request.budget bid tells.1))
       by (market.Unmarked base) tells = asked_text number (told.Priced request.market quantity price.Unmarked price.Unmarked) (is_line, (within.market, some, tt, tt))
 
-  request_served : (request : QuoteRequest) (quantity : Option ℕ) → IsRequestWithin request → IfSome quantity (Between 1 MAX_QUANTITY)
+  request_served : (request : QuoteRequest) (quantity : Option ℕ) → IsQuoteWithin request → IfSome quantity (Between 1 MAX_QUANTITY)
       → IsServedText (quotes_reply_line number (asked_reply state request quantity) ++ 10 ∷ [])
   request_served request quantity within some = by (first_of (quote_refusals state.book request)) refl
     where
@@ -201,12 +194,7 @@ module _ (lines number : ℕ) (few : lines + 1 ≤ MAX_LINE) (is_line : IsLine n
           (All-append IsOne (info_refusals info request) _ (info_told info request) (one_told _ refusal.TooMany ((omega arith, omega arith), refl))) is
       by None none = told_served request quantity within some (live_may state request stands.running.kept within.listed (none_in_both (info_refusals info request) _ none).0)
 
-  quotes_served : (said : QuotesBody) → QuotesBodyIsWithin said → HasQuoteField said → IsServedText (quotes_reply_line number (quotes_reply_to state said).0 ++ 10 ∷ [])
-  quotes_served (quotes.Plain said) within field = run_served said within field
-  quotes_served (quotes.Quote request) within field = request_served request None within tt
-  quotes_served (quotes.Price request) within field = request_served request.quote (Some request.quantity) within.0 within.1
-
-  plain_served : (said : Body) → BodyIsWithin said → HasField said → IsServedText (guarded_reply_line number (guarded_reply_to state (guarded.Plain said)).0 ++ 10 ∷ [])
+  plain_served : (said : Body) → BodyIsWithin said → HasField said → IsServedText (guarded_reply_line number (covered_reply_to state said).0 ++ 10 ∷ [])
   plain_served said within field = by (uncovered_by state said) (said_need state said)
     where
       by : (need : Option Need) → IfSome need IsNeedWithin
@@ -214,7 +202,7 @@ module _ (lines number : ℕ) (few : lines + 1 ≤ MAX_LINE) (is_line : IsLine n
       by None is = run_served said within field
       by (Some need) is = asked_text number (told.Uncovered need) (is_line, is)
 
-  margin_served : (request : MarginRequest) → IsMarginRequest request → IsServedText (guarded_reply_line number (guarded_reply_to state (guarded.Margin request)).0 ++ 10 ∷ [])
+  margin_served : (request : MarginRequest) → IsMarginWithin request → IsServedText (guarded_reply_line number (guarded_reply_to state (Ok (asks.Margin request))).0 ++ 10 ∷ [])
   margin_served request within = by (first_of (margin_refusals state request)) refl
     where
       margin_of : ToldMargin
@@ -231,13 +219,13 @@ module _ (lines number : ℕ) (few : lines + 1 ≤ MAX_LINE) (is_line : IsLine n
           (asked_text number (told.Margin request.account request.market margin_of)
           (is_line, (within.account, within.market, margin_within state request.account request.market request.budget stands.owed)))
 
-  guarded_served : (said : GuardedBody) → GuardedBodyIsWithin said → HasMarginField said → IsServedText (guarded_reply_line number (guarded_reply_to state said).0 ++ 10 ∷ [])
-  guarded_served (guarded.Plain said) within field = plain_served said within field
-  guarded_served (guarded.Margin request) within field = margin_served request within
-
-  pub other_served : (line : List ℕ) → IsServedText (all_line number state line).0
-  other_served line = by (asking_word line)
-    where
-      by : (word : Option AskingWord) → IsServedText (line_of word number state line).0
-      by (Some word) = quotes_served (body_by word line) (requests_are_within word line) (quotes_field word line)
-      by None = guarded_served (guarded_body_of line) (margin_requests line) (guarded_field line)
+  pub said_served : (said : Result Request Fault) → IfOk said RequestIsWithin → IsPlacedIn said → IsServedText (said_line number state said).0
+  said_served (Ok (asks.Command command)) within placed = plain_served (body.Command command) within tt
+  said_served (Ok (asks.Quote request)) within placed = request_served request None within tt
+  said_served (Ok (asks.Price request)) within placed = request_served request.quote (Some request.quantity) within.0 within.1
+  said_served (Ok (asks.Margin request)) within placed = margin_served request within
+  said_served (Ok (asks.Book market)) within placed = plain_served body.Syntax tt tt
+  said_served (Ok (asks.Positions account market)) within placed = plain_served body.Syntax tt tt
+  said_served (Ok (asks.Propose request)) within placed = plain_served body.Syntax tt tt
+  said_served (Err Syntax) within placed = plain_served body.Syntax tt tt
+  said_served (Err (Range field)) within placed = plain_served (body.Range field) tt placed

@@ -1,9 +1,8 @@
 -- The lines of proposals, of what is read, and of clears are sound.
-use Rattle.std.proofs.Common.{◌≡◌, ℕ, ◌+◌, ◌≤◌, List, [], ◌∷◌, ◌++◌, Bool, true, false, ◌&&◌, ◌==◌, nat_eq, length, take, drop, position, if◌then◌else◌, Option, Some, None, Result, Ok, Err, IfOk, codes, refl, sym, ap, ◌∙◌, subst, arith}
+use Rattle.std.proofs.Common.{◌≡◌, ℕ, ◌+◌, ◌≤◌, List, [], ◌∷◌, ◌++◌, Bool, true, false, ◌&&◌, ◌==◌, nat_eq, drop, if◌then◌else◌, Option, Some, None, Result, Ok, Err, IfOk, refl, sym, ap, ◌∙◌, subst, arith}
 use Rattle.std.specs.Prelude.{IfSome}
 use Rattle.std.specs.List.{All}
 use Rattle.std.specs.Option.{option_map_or}
-use Rattle.std.specs.Str.{bytes_eq}
 use Rattle.std.proofs.lemmas.Bool.{and_parts}
 use Rattle.std.proofs.lemmas.Int.{ints}
 use Rattle.std.proofs.lemmas.List.Elements.{All-nil, All-cons, All-head, All-tail, All-append, recursion_from_All}
@@ -17,12 +16,9 @@ use Rattle.command_text.specs.declared.asked.Fault.{Fault}
 use Rattle.command_text.specs.declared.asked.Fault.TheVariants.{Syntax, Range}
 use Rattle.command_text.specs.declared.command.Body.TheVariants as body
 use Rattle.command_text.specs.declared.command.Command.TheVariants.{Clear}
-use Rattle.command_text.specs.declared.ranges.TheConstants.{MARKET}
-use Rattle.command_text.specs.Asked.{fault_in, natural_in, text_of, value_in}
-use Rattle.command_text.specs.Fields.{fields_of_line}
-use Rattle.command_text.specs.Trades.{unless, with_some}
-use Rattle.command_text.specs.Within.{IsBudget, IsMarket}
-use Rattle.command_text.proofs.Bounds.{either, natural_between, ok_some, ok_unless, one_asked}
+use Rattle.command_text.specs.declared.requests.ProposeRequest.{ProposeRequest}
+use Rattle.command_text.specs.Trades.{with_some}
+use Rattle.command_text.specs.Within.{IsAccount, IsBudget, IsMarket}
 use Rattle.exact_num.specs.Fraction.{Fraction}
 use Rattle.exact_num.specs.Tests.{is_lowest}
 use Rattle.exact_num.proofs.Tested.{same_passes}
@@ -34,7 +30,6 @@ use Rattle.exchange_core.specs.Kept.{IsPositionKept}
 use Rattle.exchange_core.specs.Refusals.{by_book, by_ledger, refusal_of}
 use Rattle.exchange_core.specs.Step.{batch_in, clear_effect, refusal_effect}
 use Rattle.exchange_core.proofs.FirstRefusal.{batch_none, live_none}
-use Rattle.form.specs.Between.{Between}
 use Rattle.form.specs.declared.orders.Batch.{Batch}
 use Rattle.frac.specs.Range.{limit}
 use Rattle.frac.specs.Value.{fraction_of}
@@ -51,7 +46,7 @@ use Rattle.settlement.specs.declared.position.Position.{Position}
 use Rattle.reply_print.specs.ReplyPieces.{reply_line}
 use Rattle.reply_print.specs.Within.{IsLine}
 use Rattle.reply_print.specs.Within as reply
-use Rattle.reply_print.specs.declared.limits.TheConstants.{MAX_ACCOUNT, MAX_LINE, MAX_MARKET}
+use Rattle.reply_print.specs.declared.limits.TheConstants.{MAX_LINE}
 use Rattle.proposal_text.specs.declared.replies.BoundedOutcome.{BoundedOutcome}
 use Rattle.proposal_text.specs.declared.replies.Failed.TheVariants as failed
 use Rattle.proposal_text.specs.declared.replies.ProposalReply.TheVariants as told
@@ -66,12 +61,10 @@ use Rattle.proposal_lines.specs.Clears.{better_in, bounded_effect, charge_effect
 use Rattle.proposal_lines.specs.KeptByMarket.{best_in, bounded_by, bounded_in, kept_in, stop_of}
 use Rattle.proposal_lines.specs.Laws.{IsClearedAs, IsSound}
 use Rattle.proposal_lines.specs.Output.{proposing_reply_line}
-use Rattle.proposal_lines.specs.Proposed.{judged_effect, kept_by, offered, proposed_at, proposed_by, proposed_of, proposed_reply, stale_effect, unproved_effect}
+use Rattle.proposal_lines.specs.Proposed.{for_market, judged_effect, kept_by, offered, proposed_by, proposed_of, proposed_reply, stale_effect, unproved_effect}
 use Rattle.proposal_lines.specs.ProposingState.{ProposingState}
-use Rattle.proposal_lines.specs.Reads.{book_of, positions_asked, read_of, read_of_line, read_refusals, read_reply, refused_by, refused_by_fault, told_by}
+use Rattle.proposal_lines.specs.Reads.{book_refusals, book_reply, positions_refusals, positions_reply, refused_by, refused_by_fault, unless_refused}
 use Rattle.proposal_lines.specs.declared.proposed.Proposed.{Proposed}
-use Rattle.proposal_lines.specs.declared.reads.ReadRequest.{ReadRequest}
-use Rattle.proposal_lines.specs.declared.reads.ReadRequest.TheVariants.{Book, Positions}
 use Rattle.proposal_lines.specs.declared.replies.ProposingReply.{ProposingReply}
 use Rattle.proposal_lines.specs.declared.replies.ProposingReply.TheVariants.{Told}
 use Rattle.proposal_lines.proofs.Clearing.{batch_is, chosen, clears_are_proved}
@@ -79,62 +72,27 @@ use Rattle.proposal_lines.proofs.Kept.{best_proved, offered_proved, without_has}
 use Rattle.reply_ranges.proofs.Outcomes.{outcomes_are_ranged}
 use Rattle.reply_ranges.proofs.Refusals.{IsOne, IsTold, of_book, of_ledger, refusal_is_told}
 use Rattle.reply_ranges.proofs.States.{IsNumbered, batch_is_within, batch_ranged, live_ranged}
-use Rattle.reply_ranges.proofs.ServedFields.{IsPlaced, IsPlacedIn, number_at, positions_fields}
+use Rattle.reply_ranges.proofs.Fields.{IsPlaced, IsPlacedIn}
 use Rattle.reply_ranges.proofs.InOrder.{told_in_order}
 use Rattle.reply_ranges.proofs.Kept.{AreKeptWithin, IsBestWithin, best_within, offer_within}
 use Rattle.reply_ranges.proofs.Others.{IsStanding, first_served, refusal_served, run_served}
 use Rattle.reply_ranges.proofs.Texts.{IsServedText, proposal_text}
 
--- ---- what is asked is within its ranges
-abbrev pub IsReadWithin : ReadRequest → Type 0
-IsReadWithin (Book market) = IsMarket market
-IsReadWithin (Positions account market) = Between 1 MAX_ACCOUNT account × IsMarket market
-
-abbrev pub IsReadIn : Result ReadRequest Fault → Type 0
-IsReadIn asked = IfOk asked IsReadWithin
-
-book_within : (fields : List (List ℕ)) → IsReadIn (book_of fields)
-book_within fields =
-    either IsReadWithin (length fields == 2) _ _ (λ is. ok_unless IsReadWithin (fault_in 0 (MARKET ∷ []) fields) _ (λ e.
-    natural_between 1 MAX_MARKET (value_in fields MARKET) (one_asked MARKET fields [] e).0)) tt
-
-positions_within : (fields : List (List ℕ)) → IsReadIn (positions_asked fields)
-positions_within fields =
-    either IsReadWithin (length fields == 3) _ _ (λ is. ok_unless IsReadWithin (fault_in 0 positions_fields fields) _ (λ e.
-    let account = one_asked (number_at 2 MAX_ACCOUNT) fields (number_at 3 MAX_MARKET ∷ []) e in
-    let market = one_asked (number_at 3 MAX_MARKET) fields [] account.1 in
-    (natural_between 1 MAX_ACCOUNT (value_in fields (number_at 2 MAX_ACCOUNT)) account.0, natural_between 1 MAX_MARKET (value_in fields (number_at 3 MAX_MARKET)) market.0))) tt
-
-read_by_word : (fields : List (List ℕ)) (book positions : Bool)
-    → IfSome (if book then Some (book_of fields) else if positions then Some (positions_asked fields) else None) IsReadIn
-read_by_word fields true positions = book_within fields
-read_by_word fields false true = positions_within fields
-read_by_word fields false false = tt
-
-pub reads_within : (line : List ℕ) → IfSome (read_of_line line) IsReadIn
-reads_within line =
-    elim (fields_of_line line) as (λ o. IfSome (option_map_or read_of o None) IsReadIn) [
-      | None ↦ tt
-      | Some fields ↦ read_by_word fields (bytes_eq (text_of fields 1) (codes "book")) (bytes_eq (text_of fields 1) (codes "positions"))
-    ]
-
--- what is proposed
+-- ---- what is proposed is within its ranges
 abbrev pub IsProposedWithin : Proposed → Type 0
 IsProposedWithin proposed = IsMarket proposed.market × IsProposalWithin proposed.submission.proposal
 
 abbrev pub IsProposedIn : Result Proposed Fault → Type 0
-IsProposedIn said = IfOk said IsProposedWithin
+IsProposedIn said = IfOk said IsProposedWithin × IsPlacedIn said
 
-submitted_within : (text : List ℕ) (fields : List (List ℕ)) (value : Option Submission) → IfSome value (IsTextOf text)
-    → IfOk (with_some value (λ submission. unless (fault_in 0 (MARKET ∷ []) fields) (record { market = natural_in fields MARKET; submission = submission }))) IsProposedWithin
-submitted_within text fields None h = tt
-submitted_within text fields (Some submission) h =
-    ok_unless IsProposedWithin (fault_in 0 (MARKET ∷ []) fields) _ (λ e. (natural_between 1 MAX_MARKET (value_in fields MARKET) (one_asked MARKET fields [] e).0, h.0.0))
+for_market_in : (text : List ℕ) (market : Option ℕ) (value : Option Submission) → IfSome value (IsTextOf text) → IfSome market IsMarket → IsProposedIn (with_some value (for_market market))
+for_market_in text market None h listed = (tt, tt)
+for_market_in text None (Some submission) h listed = (tt, (omega arith, omega arith))
+for_market_in text (Some market) (Some submission) h listed = ((listed, h.0.0), tt)
 
-pub proposed_within : (text : List ℕ) → IsProposedIn (proposed_of text)
-proposed_within text =
-    ok_some IsProposedWithin (position (λ b. b == 44) text) (proposed_at text) (λ place.
-    submitted_within (drop (place + 1) text) ([] ∷ take place text ∷ []) (submission_of (drop (place + 1) text)) (some_text (drop (place + 1) text)))
+pub proposed_in : (line : List ℕ) (request : ProposeRequest) → IfSome request.market IsMarket → IsProposedIn (proposed_of line request)
+proposed_in line request listed =
+    let text = drop request.from line in for_market_in text request.market (submission_of text) (some_text text) listed
 
 -- ---- positions
 module _ (state : ExchangeState) (finished : state.book.finished ≤ MAX_BATCHES) (accepted : state.book.accepted ≤ MAX_ACCEPTED) (account market : ℕ) where
@@ -229,31 +187,29 @@ module _ (lines number : ℕ) (few : lines + 1 ≤ MAX_LINE) (is_line : IsLine n
       held_within exchange book.finished book.accepted account market exchange.positions stands.ranged.positions stands.running.kept.positions
 
   -- what is read
-  told_served : (request : ReadRequest) → IsReadWithin request → first_of (read_refusals exchange request) ≡ None → IsServedReply (Told (told_by exchange request))
-  told_served (Book market) within none =
-      let live = live_within market none in
-      proposal_text number (told.Book market (batch_in exchange market)) (is_line, (within, live.0, live.1)) tt
-  told_served (Positions account market) within none =
-      proposal_text number (told.Positions account market (positions_of account market exchange.positions))
-      (is_line, (within.0, within.1, recursion_from_All (IsPositionWithin account market) (positions_of account market exchange.positions) (held_all account market))) tt
+  unless_served : (refusals : List (Bool × Refusal)) (reply : ProposingReply) → All IsOne refusals → (first_of refusals ≡ None → IsServedReply reply) → IsServedReply (unless_refused refusals reply)
+  unless_served refusals reply are_told is = by (first_of refusals) refl
+    where
+      by : (r : Option Refusal) → first_of refusals ≡ r → IsServedReply (option_map_or refused_by r reply)
+      by (Some first) e = one_served refusals first are_told e
+      by None none = is none
 
-  refusals_told : (request : ReadRequest) → All IsOne (read_refusals exchange request)
-  refusals_told (Book market) = of_book (live_refusals exchange.book market)
-  refusals_told (Positions account market) =
-      All-append IsOne (by_book (live_refusals exchange.book market)) (by_ledger (account_refusals exchange.accounts account))
-      (of_book (live_refusals exchange.book market)) (of_ledger (account_refusals exchange.accounts account))
+  pub book_served : (market : ℕ) → IsMarket market → IsServedReply (book_reply exchange market)
+  book_served market listed =
+      unless_served (book_refusals exchange market) (Told (told.Book market (batch_in exchange market))) (of_book (live_refusals exchange.book market))
+      (λ none. let live = live_within market none in proposal_text number (told.Book market (batch_in exchange market)) (is_line, (listed, live.0, live.1)) tt)
+
+  pub positions_served : (account market : ℕ) → IsAccount account → IsMarket market → IsServedReply (positions_reply exchange account market)
+  positions_served account market some listed =
+      let held = positions_of account market exchange.positions in
+      let own = account_refusals exchange.accounts account in
+      unless_served (positions_refusals exchange account market) (Told (told.Positions account market held))
+      (All-append IsOne (book_refusals exchange market) (by_ledger own) (of_book (live_refusals exchange.book market)) (of_ledger own))
+      (λ none. proposal_text number (told.Positions account market held) (is_line, (some, listed, recursion_from_All (IsPositionWithin account market) held (held_all account market))) tt)
 
   fault_served : (fault : Fault) → IsPlaced fault → IsServedReply (refused_by_fault fault)
   fault_served Syntax is = refused_served refusal.Syntax ((omega arith, omega arith), refl)
   fault_served (Range place) is = refused_served (refusal.Range place) ((omega arith, omega arith), is)
-
-  pub read_served : (asked : Result ReadRequest Fault) → IsPlacedIn asked → IsReadIn asked → IsServedReply (read_reply exchange asked)
-  read_served (Err fault) placed within = fault_served fault placed
-  read_served (Ok request) placed within = by (first_of (read_refusals exchange request)) refl
-    where
-      by : (r : Option Refusal) → first_of (read_refusals exchange request) ≡ r → IsServedReply (option_map_or refused_by r (Told (told_by exchange request)))
-      by (Some first) is = one_served (read_refusals exchange request) first (refusals_told request) is
-      by None none = told_served request within none
 
   -- what is proposed
   module _ (proposed : Proposed) (within : IsProposedWithin proposed) (m : MarketState) (found : market_of exchange.book proposed.market ≡ Some m) where
@@ -288,9 +244,9 @@ module _ (lines number : ℕ) (few : lines + 1 ≤ MAX_LINE) (is_line : IsLine n
   abbrev IsServedNow : ProposingReply × ProposingState → Type 0
   IsServedNow now = IsServedReply now.0 × AreKeptWithin now.1.kept
 
-  pub proposed_served : (said : Result Proposed Fault) → IsPlacedIn said → IsProposedIn said → IsServedNow (proposed_reply state said)
-  proposed_served (Err fault) placed within = (fault_served fault placed, are)
-  proposed_served (Ok proposed) placed within = by (first_of refusals) refl
+  pub proposed_served : (said : Result Proposed Fault) → IsProposedIn said → IsServedNow (proposed_reply state said)
+  proposed_served (Err fault) within = (fault_served fault within.1, are)
+  proposed_served (Ok proposed) within = by (first_of refusals) refl
     where
       refusals : List (Bool × Refusal)
       refusals = by_book (live_refusals exchange.book proposed.market)
@@ -300,7 +256,7 @@ module _ (lines number : ℕ) (few : lines + 1 ≤ MAX_LINE) (is_line : IsLine n
       by None none =
           let batch = batch_in exchange proposed.market in
           let (m, found, unsettled) = listing_live exchange.book proposed.market (live_none exchange.book proposed.market none) in
-          (offered_served proposed within m found batch (batch_is state proposed.market m found), offer_within state.kept are proposed within.1 batch)
+          (offered_served proposed within.0 m found batch (batch_is state proposed.market m found), offer_within state.kept are proposed within.0.1 batch)
 
   -- a clear
   module _ (market budget : ℕ) (listed : IsMarket market) (units : IsBudget budget) (accepted : refusal_of exchange (Clear market budget) ≡ None) where

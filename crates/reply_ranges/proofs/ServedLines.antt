@@ -1,19 +1,19 @@
 -- Each line that is served is sound, and what is left stands before the next one.
 use Rattle.std.proofs.Common.{◌≡◌, ℕ, ◌+◌, ◌-◌, ◌≤◌, List, map, zip, Option, Some, None, Result, inl, refl, sym, subst, arith}
-use Rattle.std.specs.Option.{option_map_or}
-use Rattle.std.specs.Prelude.{IfSome}
+use Rattle.std.specs.Prelude.{IfOk}
 use Rattle.std.specs.List.{All}
 use Rattle.std.proofs.lemmas.List.Elements.{All-nil}
 use Rattle.cert_check.specs.Laws.{IsCovered}
 use Rattle.cert_check.specs.Proposals.{as_optimal}
 use Rattle.clearing_model.specs.Certificate.{IsFill}
 use Rattle.command_text.specs.declared.asked.Fault.{Fault}
-use Rattle.command_text.specs.declared.command.Body.{Body}
-use Rattle.command_text.specs.declared.command.Body.TheVariants as body
-use Rattle.command_text.specs.declared.command.Command.TheVariants.{Open, Deposit, Withdraw, Market, Trade, Bundle, Cancel, Clear, Settle, Balance}
+use Rattle.command_text.specs.declared.command.Command.TheVariants.{Clear}
+use Rattle.command_text.specs.declared.requests.Request.{Request}
+use Rattle.command_text.specs.declared.words.TheConstants.{SERVED}
+use Rattle.command_text.specs.Said.{said_in}
+use Rattle.command_text.specs.Within.{RequestIsWithin}
 use Rattle.command_text.specs.Commands.{body_of_line}
-use Rattle.command_text.specs.Within.{BodyIsWithin}
-use Rattle.command_text.proofs.ReadWithin.{lines_are_within}
+use Rattle.command_text.proofs.ReadWithin.{lines_are_within, said_is_within}
 use Rattle.exchange_core.specs.ExchangeState.{ExchangeState}
 use Rattle.exchange_core.specs.LineReplies.{reply_to}
 use Rattle.exchange_core.specs.Refusals.{refusal_of}
@@ -31,21 +31,20 @@ use Rattle.proposal_text.specs.declared.replies.BoundedOutcome.{BoundedOutcome}
 use Rattle.reply_print.specs.Within.{IsLine}
 use Rattle.reply_print.specs.declared.limits.TheConstants.{MAX_LINE}
 use Rattle.proposal_lines.specs.Laws.{IsSound}
-use Rattle.proposal_lines.specs.Output.{body_line, other_line, proposing_line, unproposed_line, written_reply}
+use Rattle.proposal_lines.specs.Output.{proposing_line, served_line}
 use Rattle.proposal_lines.specs.Promises.{IsToldFor, KeepsProposalPromises, ProposalAnswer, beside, bounded, charged, replied, taken}
-use Rattle.proposal_lines.specs.Proposed.{after_word, proposed_of, proposed_reply}
+use Rattle.proposal_lines.specs.Proposed.{proposed_of}
 use Rattle.proposal_lines.specs.ProposingState.{ProposingState, empty_state}
-use Rattle.proposal_lines.specs.Reads.{read_of_line, read_reply}
-use Rattle.proposal_lines.specs.declared.reads.ReadRequest.{ReadRequest}
 use Rattle.proposal_lines.proofs.Kept.{Has}
+use Rattle.proposal_lines.proofs.SaidKinds.{by_kind}
 use Rattle.proposal_lines.proofs.Telling.{charged_covered, empty_is_sound, line_told}
 use Rattle.reply_ranges.proofs.States.{charged_ranged, empty_is_ranged, more_lines}
 use Rattle.reply_ranges.proofs.Within.{line_ranged}
-use Rattle.reply_ranges.proofs.ServedFields.{IsPlacedIfRead, proposed_placed, reads_placed}
+use Rattle.reply_ranges.proofs.Fields.{IsPlacedIn, said_is_placed}
 use Rattle.reply_ranges.proofs.Kept.{AreKeptWithin, IsBestWithin}
-use Rattle.reply_ranges.proofs.Others.{IsStanding, other_served}
+use Rattle.reply_ranges.proofs.Others.{IsStanding, said_served}
 use Rattle.reply_ranges.proofs.Owed.{IsOwedWithin, charged_owed, reply_owed}
-use Rattle.reply_ranges.proofs.Proposals.{IsReadIn, clear_served, proposed_served, proposed_within, read_served, reads_within}
+use Rattle.reply_ranges.proofs.Proposals.{book_served, clear_served, positions_served, proposed_in, proposed_served}
 use Rattle.reply_ranges.proofs.Runs.{IsAnswered}
 use Rattle.reply_ranges.proofs.Texts.{IsServedText}
 
@@ -134,37 +133,25 @@ module _ (number : ℕ) (state : ProposingState) (few : number ≤ count_limit) 
   abbrev IsServedNow : List ℕ × ProposingState → Type 0
   IsServedNow now = IsServedText now.0 × AreKeptWithin now.1.kept
 
-  other_now : (line : List ℕ) → IsServedNow (other_line number state line)
-  other_now line = (other_served stands.lines number some_room is_line state.exchange stands.exchange line, stands.kept)
+  -- by what it says
+  abbrev IsSaidNow : List ℕ → Result Request Fault → Type 0
+  IsSaidNow line said = IfOk said RequestIsWithin → IsPlacedIn said → IsServedNow (served_line number state line said)
 
-  body_now : (line : List ℕ) (said : Body) → BodyIsWithin said → IsServedNow (body_line number state line said)
-  body_now line body.Syntax within = other_now line
-  body_now line (body.Range field) within = other_now line
-  body_now line (body.Command (Open account)) within = other_now line
-  body_now line (body.Command (Deposit account amount)) within = other_now line
-  body_now line (body.Command (Withdraw account amount)) within = other_now line
-  body_now line (body.Command (Market market underlyings)) within = other_now line
-  body_now line (body.Command (Trade side account market kind strike price quantity count weights)) within = other_now line
-  body_now line (body.Command (Bundle side account market price quantity bundle)) within = other_now line
-  body_now line (body.Command (Cancel account order)) within = other_now line
-  body_now line (body.Command (Clear market budget)) within = clear_served stands.lines number some_room is_line state stands.exchange stands.sound stands.kept market budget within.0 within.1
-  body_now line (body.Command (Settle market count prices)) within = other_now line
-  body_now line (body.Command (Balance account)) within = other_now line
-
-  unproposed_now : (line : List ℕ) → IsServedNow (unproposed_line number state line)
-  unproposed_now line = by (read_of_line line) (reads_placed line) (reads_within line)
-    where
-      by : (o : Option (Result ReadRequest Fault)) → IsPlacedIfRead o → IfSome o IsReadIn
-          → IsServedNow (option_map_or (λ asked. written_reply number (read_reply state.exchange asked, state)) o (body_line number state line (body_of_line line)))
-      by None placed within = body_now line (body_of_line line) (lines_are_within line)
-      by (Some asked) placed within = (read_served stands.lines number some_room is_line state stands.exchange stands.sound stands.kept asked placed within, stands.kept)
+  said_now : (line : List ℕ) (said : Result Request Fault) → IsSaidNow line said
+  said_now line =
+      by_kind (IsSaidNow line)
+      (λ request within placed.
+      proposed_served stands.lines number some_room is_line state stands.exchange stands.sound stands.kept (proposed_of line request) (proposed_in line request within))
+      (λ market budget within placed. clear_served stands.lines number some_room is_line state stands.exchange stands.sound stands.kept market budget within.0 within.1)
+      (λ market within placed. (book_served stands.lines number some_room is_line state stands.exchange stands.sound stands.kept market within, stands.kept))
+      (λ account market within placed.
+      (positions_served stands.lines number some_room is_line state stands.exchange stands.sound stands.kept account market within.0 within.1, stands.kept))
+      (λ said other within placed.
+      subst IsServedNow (sym (other.served number state line))
+      (said_served stands.lines number some_room is_line state.exchange stands.exchange said within placed, stands.kept))
 
   line_now : (line : List ℕ) → IsServedNow (proposing_line number state line)
-  line_now line =
-      elim (after_word line) as (λ o. IsServedNow (option_map_or (λ text. written_reply number (proposed_reply state (proposed_of text))) o (unproposed_line number state line))) [
-        | None ↦ unproposed_now line
-        | Some text ↦ proposed_served stands.lines number some_room is_line state stands.exchange stands.sound stands.kept (proposed_of text) (proposed_placed text) (proposed_within text)
-      ]
+  line_now line = said_now line (said_in SERVED line) (said_is_within SERVED line) (said_is_placed SERVED line)
 
   pub answers : (line : List ℕ) → IsServedText (proposing_line number state line).0 × Stands (number + 1) (proposing_line number state line).1
   answers line =

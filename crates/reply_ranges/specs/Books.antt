@@ -1,6 +1,9 @@
 -- What is told of a market's live orders where lines are served, and what becomes of what is
 -- proposed for them.
-use Rattle.std.specs.Prelude.{ℕ, ◌≡◌, Bool, List, [], ◌∷◌, ◌++◌, true, Some, None, Ok}
+use Rattle.std.specs.Prelude.{ℕ, ◌≡◌, Bool, List, [], ◌∷◌, ◌++◌, true, None, Ok}
+use Rattle.command_text.specs.declared.requests.Request.TheVariants.{Book}
+use Rattle.command_text.specs.declared.words.TheConstants.{SERVED}
+use Rattle.command_text.specs.Said.{said_in}
 use Rattle.exchange_core.specs.Step.{batch_in}
 use Rattle.exchange_lines.specs.LineSteps.{InputLine, input_lines}
 use Rattle.form.specs.declared.orders.Batch.{Batch}
@@ -11,15 +14,14 @@ use Rattle.proposal_lines.specs.Laws.{IsRefused}
 use Rattle.proposal_lines.specs.Output.{proposing_line, proposing_reply_line}
 use Rattle.proposal_lines.specs.Promises.{state_by_lines}
 use Rattle.proposal_lines.specs.ProposingState.{ProposingState, empty_state}
-use Rattle.proposal_lines.specs.Reads.{read_of_line, read_refusals}
-use Rattle.proposal_lines.specs.declared.reads.ReadRequest.TheVariants.{Book}
+use Rattle.proposal_lines.specs.Reads.{book_refusals}
 use Rattle.proposal_lines.specs.declared.replies.ProposingReply.{ProposingReply}
 use Rattle.book_proposals.specs.Answers.{IsAnswerTo, IsBookOf}
 use Rattle.book_proposals.specs.Laws.{IsShortLine}
 
 -- nothing refuses that the live orders of the market are told: it is there, and not settled
 abbrev pub TellsLive : ProposingState → ℕ → Type 0
-TellsLive state market = first_of (read_refusals state.exchange (Book market)) ≡ None
+TellsLive state market = first_of (book_refusals state.exchange market) ≡ None
 
 -- nothing of the line is passed over where it is read: neither a mark at its start nor a carriage
 -- return at its end
@@ -36,7 +38,7 @@ IsReadAsBook line market batch = IsOneLine line × IsWholeText line × IsBookOf 
 abbrev pub BooksAreTold : Type 0
 BooksAreTold =
     (input : List ℕ) (before later : List InputLine) (line : InputLine) (market : ℕ) → IsInputWithin true input
-    → input_lines input ≡ before ++ line ∷ later → read_of_line line.bytes ≡ Some (Ok (Book market))
+    → input_lines input ≡ before ++ line ∷ later → said_in SERVED line.bytes ≡ Ok (Book market)
     → (let state = state_by_lines empty_state before in
     TellsLive state market
     → (told : List ℕ) × ((proposing_line line.number state line.bytes).0 ≡ told ++ 10 ∷ []) × IsReadAsBook told market (batch_in state.exchange market))

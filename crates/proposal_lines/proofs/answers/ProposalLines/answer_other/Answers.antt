@@ -1,10 +1,11 @@
-use Rattle.std.proofs.Common.{◌≡◌, ℕ, List, sym, subst, ◌∙◌}
-use Rattle.std.specs.Prelude.{IfOk}
-use Rattle.proposal_lines.specs.ProposingState.{ProposingState}
-use Rattle.proposal_lines.proofs.Others.{reads_not}
+use Rattle.std.proofs.Common.{ℕ, List, sym, ap, subst}
+use Rattle.exchange_core.specs.ExchangeState.{ExchangeState}
+use Rattle.proposal_lines.specs.Proved.{AreProvedIn}
+use Rattle.proposal_lines.proofs.SaidProved.{said_proved}
 use Rattle.proposal_lines.proofs.answers.ProposalLines.answer_other.Goals as goal
 
-pub returns-in-None : goal.returns-in-None
-returns-in-None c =
-    subst (λ (now : List ℕ × ProposingState). IfOk c.answer_plain.result (λ text. ◌≡◌ {A = List ℕ × ProposingState} (text.items, c.answer_plain.new.self) now))
-    (sym (reads_not c.args.number c.args.self.now c.args.line.now (sym c.in_ok-asked.ensures ∙ c.in-None.is) c.requires.no_command)) c.answer_plain.ensures
+pub invariant_of-self : goal.invariant_of-self
+invariant_of-self c =
+    let own = c.self.inside in
+    subst (λ (e : ExchangeState). AreProvedIn e.book own.kept) (sym (ap (λ (r : List ℕ × ExchangeState). r.1) c.in-Ok.ensures))
+    (said_proved c.args.number own.exchange c.args.said own.kept c.self.invariant)
