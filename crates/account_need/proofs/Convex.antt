@@ -20,7 +20,7 @@ use Rattle.form.specs.Payoff.{BundleLeg, bundle_legs, bundle_payoff, payoff, sca
 use Rattle.form.specs.Vector.{strike_entry}
 use Rattle.clearing_model.specs.Line.{weight_entry}
 use Rattle.market_laws.proofs.Payoff.{bundle_payoff-scale, dot-scale, part-scale}
-use Rattle.settlement.specs.declared.limits.TheConstants.{MAX_SETTLEMENT_PRICE}
+use Rattle.limits.specs.declared.TheConstants.{MAX_SETTLEMENT_PRICE}
 use Rattle.account_need.specs.Exposure.{cost_at, cost_by, losses_at, loss_at}
 use Rattle.account_need.specs.Rounded.{OptionSum, Summed, option_in, options_of, owed_of, rounded_exposure, unit}
 use Rattle.account_need.specs.Line.{bend_of, bends, bends_in, exposure_at, greatest_exposure, highest_state, lowest_state, options_in}

@@ -10,7 +10,7 @@ use Rattle.arithmetic.proofs.Products.{products}
 use Rattle.form.specs.Vector.{dot, strike_entry}
 use Rattle.clearing_model.specs.Line.{weight_entry}
 use Rattle.market_laws.proofs.Line.{Agree, Each, at}
-use Rattle.settlement.specs.declared.limits.TheConstants.{MAX_SETTLEMENT_PRICE}
+use Rattle.limits.specs.declared.TheConstants.{MAX_SETTLEMENT_PRICE}
 
 at_combined : (a b : ℤ) (i j t s t' s' : ℕ) → at a b (i * t + j * t') (i * s + j * s') ≡ (at a b t s *ℤ pos i) +ℤ (at a b t' s' *ℤ pos j)
 at_combined a b i j t s t' s' = omega (arith, ints, products)

@@ -19,7 +19,7 @@ use Rattle.clearing_model.specs.Clearing.{Filled}
 use Rattle.clearing_model.specs.Line.{weight_entry}
 use Rattle.portfolio_margin.specs.Owed.{owed_over}
 use Rattle.portfolio_margin.proofs.Rounded.{liabilities_are_rounded_up}
-use Rattle.settlement.specs.declared.limits.TheConstants.{MAX_SETTLEMENT_PRICE}
+use Rattle.limits.specs.declared.TheConstants.{MAX_SETTLEMENT_PRICE}
 use Rattle.account_need.specs.Exposure.{Covers, Portfolio, IsInBox, cost_at, losses_at}
 use Rattle.account_need.specs.Rounded.{Summed, owed_of, rounded_exposure, summed, unit}
 use Rattle.account_need.specs.Line.{bend_of, bends, bends_in, exposure_at, greatest, greatest_exposure, highest_state, line_bound, lowest_state, options_in}

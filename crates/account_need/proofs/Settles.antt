@@ -16,7 +16,7 @@ use Rattle.form.specs.declared.orders.Side.{Side}
 use Rattle.form.specs.declared.orders.Side.TheVariants.{Buy, Sell}
 use Rattle.form.specs.Payoff.{bundle_legs, bundle_payoff}
 use Rattle.clearing_model.specs.Clearing.{for_side}
-use Rattle.settlement.specs.declared.limits.TheConstants.{MAX_SETTLEMENT_PRICE}
+use Rattle.limits.specs.declared.TheConstants.{MAX_SETTLEMENT_PRICE}
 use Rattle.settlement.specs.declared.position.Position.{Position}
 use Rattle.settlement.specs.Payout.{worth_at}
 use Rattle.settlement.specs.Positions.{gain_at}

@@ -8,7 +8,7 @@ use Rattle.form.specs.declared.orders.Order.{Order}
 use Rattle.form.specs.Payoff.{bundle_legs, scale_of}
 use Rattle.form.specs.Vector.{strike_entry}
 use Rattle.clearing_model.specs.Line.{weight_entry}
-use Rattle.settlement.specs.declared.limits.TheConstants.{MAX_SETTLEMENT_PRICE}
+use Rattle.limits.specs.declared.TheConstants.{MAX_SETTLEMENT_PRICE}
 use Rattle.portfolio_margin.specs.Need.{ceil_of}
 use Rattle.account_need.specs.Exposure.{asked_for}
 use Rattle.account_need.specs.Rounded.{Summed, option_in, options_of, rounded_exposure, unit}

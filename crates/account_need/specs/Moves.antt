@@ -9,7 +9,7 @@ use Rattle.form.specs.declared.orders.Side.{Side}
 use Rattle.frac.specs.declared.frac128.Frac128.{Frac128}
 use Rattle.frac.specs.Value.{fraction_of}
 use Rattle.clearing_model.specs.Certificate.{IsFill}
-use Rattle.settlement.specs.declared.limits.TheConstants.{MAX_SETTLEMENT_PRICE}
+use Rattle.limits.specs.declared.TheConstants.{MAX_SETTLEMENT_PRICE}
 use Rattle.settlement.specs.declared.position.Position.{Position}
 use Rattle.settlement.specs.Positions.{gain_at}
 use Rattle.settlement.specs.Premium.{premium_of}

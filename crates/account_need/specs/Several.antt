@@ -15,7 +15,7 @@ use Rattle.form.specs.BundleOf.{bundle_one}
 use Rattle.form.specs.FormOf.{form_of}
 use Rattle.form.specs.Payoff.{BundleLeg, bundle_legs}
 use Rattle.form.specs.Vector.{call_of}
-use Rattle.settlement.specs.declared.limits.TheConstants.{MAX_SETTLEMENT_PRICE}
+use Rattle.limits.specs.declared.TheConstants.{MAX_SETTLEMENT_PRICE}
 use Rattle.settlement.specs.declared.position.Position.{Position}
 use Rattle.table_run.specs.Ending.{Ending, done, unbounded, wide_at, no_unit_left}
 use Rattle.portfolio_margin.specs.Need.{ceil_of}

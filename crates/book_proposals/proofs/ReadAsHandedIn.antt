@@ -14,7 +14,7 @@ use Rattle.command_text.specs.declared.ranges.TheConstants.{MARKET}
 use Rattle.command_text.specs.Numbers.{number_in, placed_in}
 use Rattle.command_text.specs.Requests.{proposed_for}
 use Rattle.command_text.specs.Trades.{with_some}
-use Rattle.live_lines.specs.Open.{line_limit}
+use Rattle.limits.specs.declared.TheConstants.{MAX_BYTES}
 use Rattle.reply_print.specs.Within.{IsMarket}
 use Rattle.reply_text.proofs.Digits.{digits-decimal, is_natural-decimal, natural_value-decimal}
 use Rattle.proposal_lines.specs.Proposed.{for_market}
@@ -84,7 +84,7 @@ proposing_is_read market s is within =
     )
 
 -- behind a line feed
-line_short : (line text : List ℕ) → text ≡ line ++ 10 ∷ [] → length text ≤ line_limit + 1 → length line ≤ line_limit
+line_short : (line text : List ℕ) → text ≡ line ++ 10 ∷ [] → length text ≤ MAX_BYTES + 1 → length line ≤ MAX_BYTES
 line_short line text is short = omega (arith, ap length is, length-append line (10 ∷ []), short)
 
 pub proposals_are_submissions : ProposalsAreSubmissions

@@ -17,7 +17,8 @@ use Rattle.cert_check.specs.declared.outcome.Cover.{Cover}
 use Rattle.cert_check.specs.declared.outcome.Cover.TheVariants.{Line, Tree}
 use Rattle.cert_check.specs.declared.outcome.Proposal.{Proposal}
 use Rattle.proposals.specs.Judged.{IsBareCover, ProposesNothing}
-use Rattle.live_lines.specs.Open.{IsOneLine, line_limit}
+use Rattle.live_lines.specs.Open.{IsOneLine}
+use Rattle.limits.specs.declared.TheConstants.{MAX_BYTES}
 use Rattle.live_lines.proofs.OneLine.{one_append}
 use Rattle.reply_print.specs.BatchPieces.{each, fraction, natural, pieces_of, whole_words}
 use Rattle.reply_print.specs.Numbers.{fraction_text}
@@ -165,7 +166,7 @@ module _ (batch : Batch) (proposal : Proposal) (ranges : IsBatchWithin batch) (n
         fields_size true (codes "surplus") (fraction claim.surplus) no_fields,
       )
 
-  pub nothing_short : (market : ℕ) (text : List ℕ) → market < 2 ^ 128 → text ≡ proposing_text market (submission_for batch proposal) ++ 10 ∷ [] → length text ≤ line_limit + 1
+  pub nothing_short : (market : ℕ) (text : List ℕ) → market < 2 ^ 128 → text ≡ proposing_text market (submission_for batch proposal) ++ 10 ∷ [] → length text ≤ MAX_BYTES + 1
   nothing_short market text small is =
       let proposed = submission_text (submission_for batch proposal) in
       let line = proposing_text market (submission_for batch proposal) in

@@ -6,7 +6,7 @@ use Rattle.form.specs.declared.orders.Order.{Order}
 use Rattle.form.specs.Limits.{IsWithinLimits}
 use Rattle.cert_check.specs.declared.outcome.Proposal.{Proposal}
 use Rattle.proposals.specs.Judged.{IsJudgedBound}
-use Rattle.live_lines.specs.Open.{line_limit}
+use Rattle.limits.specs.declared.TheConstants.{MAX_BYTES}
 use Rattle.proposal_text.specs.declared.submissions.Submission.{Submission}
 use Rattle.proposal_text.specs.declared.replies.ProposalReply.TheVariants.{Book}
 use Rattle.proposal_text.specs.Pieces.{submission_text}
@@ -37,7 +37,7 @@ pub record IsProposed (market : ℕ) (batch : Batch) (text : List ℕ) : Type 0 
   pub judged : IsJudgedBound batch proposal
   pub within : IsSubmissionWithin (submission_for batch proposal)
   pub is : text ≡ proposing_text market (submission_for batch proposal) ++ 10 ∷ []
-  pub short : length text ≤ line_limit + 1
+  pub short : length text ≤ MAX_BYTES + 1
 
 -- the line tells no market's live orders
 abbrev pub IsNoBook : List ℕ → Type 0

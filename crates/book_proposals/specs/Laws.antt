@@ -9,7 +9,8 @@ use Rattle.exchange_core.specs.Step.{batch_in}
 use Rattle.form.specs.declared.orders.Batch.{Batch}
 use Rattle.cert_check.specs.declared.outcome.Proposal.{Proposal}
 use Rattle.proposals.specs.Judged.{IsJudgedBound}
-use Rattle.live_lines.specs.Open.{IsOneLine, line_limit}
+use Rattle.live_lines.specs.Open.{IsOneLine}
+use Rattle.limits.specs.declared.TheConstants.{MAX_BYTES}
 use Rattle.reply_print.specs.Within.{IsMarket}
 use Rattle.order_book.specs.Refusals.{live_refusals}
 use Rattle.proposal_lines.specs.Laws.{IsRefused}
@@ -32,7 +33,7 @@ ProposingIsRead =
 
 -- one line, as short as an exchange takes it
 abbrev pub IsShortLine : List ℕ → Type 0
-IsShortLine line = IsOneLine line × (length line ≤ line_limit)
+IsShortLine line = IsOneLine line × (length line ≤ MAX_BYTES)
 
 -- what is written for a book is one such line that is read as a proposal for the book's market and
 -- orders, and it is judged a bound for them

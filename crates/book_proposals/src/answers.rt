@@ -2,7 +2,7 @@
 ghost use Rattle.std.specs.Prelude.{◌≡◌, ◌≤◌, ◌+◌, ◌++◌, [], ◌∷◌, IfOk, IfSome, IsTrue, length, map};
 ghost use Rattle.form.specs.declared.orders.Order.{Order};
 ghost use Rattle.form.specs.Limits.{IsWithinLimits};
-ghost use Rattle.live_lines.specs.Open.{line_limit};
+ghost use Rattle.limits.specs.declared.TheConstants.{MAX_BYTES};
 ghost use Rattle.reply_print.specs.Within.{IsBatchWithin};
 ghost use Rattle.book_proposals.specs.Answers.{IsAnswerTo, IsProposed, proposing_text, submission_for};
 
@@ -10,7 +10,7 @@ use crate::books::book_of;
 use cert_check::Proposal;
 use form::{Batch, Order};
 use itoa::Buffer;
-use live_lines::MAX_LINE;
+use limits::MAX_BYTES;
 use near_solver::propose;
 use proposal_text::{Submission, print_submission};
 use proposals::{OrderNumbers, nothing};
@@ -63,9 +63,9 @@ fn found_line(alloc: Global, market: u32, batch: &Batch) -> Result<Option<Vec<u8
 
 // Whether an exchange takes a line with its line feed.
 fn is_short(line: &[u8]) -> bool
-    ensures { IsTrue result → length line.now ≤ line_limit + 1 }
+    ensures { IsTrue result → length line.now ≤ MAX_BYTES + 1 }
 {
-    line.len() <= MAX_LINE + 1
+    line.len() <= MAX_BYTES + 1
 }
 
 // The line of a proposal for a market's live orders, and a line feed.

@@ -3,7 +3,7 @@ ghost use Rattle.std.specs.Prelude.{◌≡◌, IfOk, IfSome};
 ghost use Rattle.proposal_text.specs.Within.{IsProposalReplyWithin};
 ghost use Rattle.book_proposals.specs.Found.{IsBookIn, IsFound, reply_in};
 
-use crate::limits::is_within_limits;
+use crate::batch_limits::is_within_limits;
 use form::Batch;
 use proposal_text::{ProposalReply, read_proposal_reply};
 use reply_text::LineFault;

@@ -3,9 +3,9 @@
 #![tactic(auto)]
 
 pub mod answers;
+mod batch_limits;
 mod books;
 pub mod laws;
-mod limits;
 mod live;
 
 pub use answers::propose_for;

@@ -3,9 +3,10 @@
 ghost use Rattle.command_text.specs.Within.{BodyIsWithin};
 
 use anyhow::{Context, Result, bail};
-use command_text::{Body, Command, MAX_INPUT, commands};
+use command_text::{Body, Command, commands};
 use exchange_core::{Exchange, Reply};
 use frac::Frac64;
+use limits::MAX_BYTES;
 use narrow_clearing::{Pass, clear_first};
 use port_io::{StdSource, SureSink, read_all};
 use std::alloc::Global;
@@ -39,7 +40,7 @@ fn word_of(pass: &Pass) -> &'static str {
 pub fn print_passes(rt: &HostRuntime) -> Result<()> {
     let alloc = rt.alloc();
     let mut source = StdSource::new(rt.reader());
-    let input = read_all(alloc, &mut source, &SureSink::new(), MAX_INPUT)
+    let input = read_all(alloc, &mut source, &SureSink::new(), MAX_BYTES)
         .ok()
         .context("an input")?;
     let mut exchange = Exchange::new(alloc);

@@ -6,9 +6,10 @@ ghost use Rattle.command_text.specs.Within.{BodyIsWithin};
 
 use crate::cases::PASSES;
 use anyhow::{Context, Result, bail, ensure};
-use command_text::{Body, Command, MAX_INPUT, commands};
+use command_text::{Body, Command, commands};
 use exact_num::Exact;
 use form::Batch;
+use limits::MAX_BYTES;
 use narrow_clearing::{Pass, Room, clear_in};
 use order_book::{Book, NewOrder};
 use std::alloc::{AllocError, Global};
@@ -82,7 +83,7 @@ fn line_pass(alloc: Global, book: &mut Book, said: &Body) -> Result<Option<Strin
 
 // The text of the pass in which the lines clear their batch.
 fn cleared_pass(alloc: Global, book: &mut Book, lines: &str) -> Result<String> {
-    ensure!(lines.len() <= MAX_INPUT, "a text");
+    ensure!(lines.len() <= MAX_BYTES, "a text");
     for line in &commands(alloc, lines.as_bytes())? {
         if let Some(pass) = line_pass(alloc, book, &line.body)? {
             return Ok(pass);

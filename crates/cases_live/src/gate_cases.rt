@@ -2,7 +2,8 @@
 ghost use Rattle.std.specs.Prelude.{◌≡◌, false, length, OnOk};
 
 use crate::list_server::ListServer;
-use session_gate::{Gate, MAX_BODIES, Server};
+use limits::MAX_LINES;
+use session_gate::{Gate, Server};
 use session_lines::messages::message;
 use std::alloc::{AllocError, Global};
 use std::test::Fail;
@@ -34,7 +35,7 @@ fn told<V: Server>(
     let Some(sent) = message(line.as_bytes()) else {
         return format!(in alloc; "no message");
     };
-    if gate.served() >= MAX_BODIES {
+    if u64::from(gate.served()) >= MAX_LINES {
         return format!(in alloc; "no body more");
     }
     let answer = gate.accept(server, sent.session, sent.number, sent.body)?;

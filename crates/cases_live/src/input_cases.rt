@@ -1,5 +1,5 @@
-use command_text::MAX_INPUT;
 use exchange_sessions::answer_messages;
+use limits::MAX_BYTES;
 use port_io::{MemSink, Stop};
 use std::alloc::{AllocError, Global};
 use std::test::Fail;
@@ -55,7 +55,7 @@ fn written(
 ) -> Result<Vec<u8>, AllocError> {
     let mut sink = MemSink::new(alloc, 1_000_000, 64, vec![in alloc; write]?)?;
     let input = input.as_bytes();
-    if input.len() > MAX_INPUT || answer_messages(alloc, input, &mut sink) != end {
+    if input.len() > MAX_BYTES || answer_messages(alloc, input, &mut sink) != end {
         return Ok(Vec::new(alloc));
     }
     sink.written().to_vec(alloc)

@@ -1,6 +1,7 @@
 // Faults of reads and writes, and words that ask for nothing.
 use crate::running::{MATCHED, MATCHED_REPLIES, assert_lines, run};
-use exchange_program::{MAX_INPUT, Status, exchange};
+use exchange_program::{Status, exchange};
+use limits::MAX_BYTES;
 use port_io::{SureSink, SureSource};
 use std::test::Fail;
 
@@ -63,7 +64,7 @@ fn the_first_fault_ends_the_call(rt: HostRuntime) -> Result<(), Fail> {
 #[test]
 fn inputs_are_read_to_the_limit(rt: HostRuntime) -> Result<(), Fail> {
     let alloc = rt.alloc();
-    let mut bytes = vec![in alloc; b'x'; MAX_INPUT]?;
+    let mut bytes = vec![in alloc; b'x'; MAX_BYTES]?;
     let words = vec![in alloc; String::from_str(alloc, "run")?]?;
     let mut source = SureSource::new(bytes.clone()?);
     let status = exchange(alloc, &words, &mut source, &mut SureSink::new());

@@ -5,7 +5,7 @@ use Rattle.std.proofs.Math.IntN.{+ℤ_assoc, +ℤ_comm}
 use Rattle.cash_ledger.specs.Entries.{amount_for, balance_of, IsBounded, AreBounded}
 use Rattle.cash_ledger.specs.Laws.{BalancesFit}
 use Rattle.cash_ledger.specs.declared.entry.Entry.{Entry}
-use Rattle.cash_ledger.specs.declared.limits.TheConstants.{MAX_MOVE}
+use Rattle.limits.specs.declared.TheConstants.{MAX_GAIN}
 
 pub balance_of-push : (account : ℕ) (entries : List Entry) (entry : Entry) → balance_of account (entries ++ entry ∷ []) ≡ balance_of account entries +ℤ amount_for account entry
 balance_of-push account [] entry = +ℤ_comm (amount_for account entry) (pos 0)
@@ -20,9 +20,9 @@ pub AreBounded-push : (entries : List Entry) (entry : Entry) → AreBounded entr
 AreBounded-push [] entry all one = (one, tt)
 AreBounded-push (e ∷ entries) entry all one = (all.0, AreBounded-push entries entry all.1 one)
 
-amount_for_bound : (account : ℕ) (entry : Entry) → IsBounded entry → (neg_ℤ (pos MAX_MOVE) ≤ℤ amount_for account entry) × (amount_for account entry ≤ℤ pos MAX_MOVE)
+amount_for_bound : (account : ℕ) (entry : Entry) → IsBounded entry → (neg_ℤ (pos MAX_GAIN) ≤ℤ amount_for account entry) × (amount_for account entry ≤ℤ pos MAX_GAIN)
 amount_for_bound account entry h =
-    elim (nat_eq account entry.account) as (λ b. (neg_ℤ (pos MAX_MOVE) ≤ℤ (if b then entry.amount else pos 0)) × ((if b then entry.amount else pos 0) ≤ℤ pos MAX_MOVE)) [
+    elim (nat_eq account entry.account) as (λ b. (neg_ℤ (pos MAX_GAIN) ≤ℤ (if b then entry.amount else pos 0)) × ((if b then entry.amount else pos 0) ≤ℤ pos MAX_GAIN)) [
       | true ↦ h
       | false ↦ (omega (arith, ints), omega (arith, ints))
     ]

@@ -9,7 +9,7 @@ use Rattle.cash_ledger.specs.Kept.{AreKept, total_or_zero, reserve_or_zero}
 use Rattle.cash_ledger.specs.Entries.{balance_of, IsBounded}
 use Rattle.cash_ledger.specs.declared.holding.Holding.{Holding}
 use Rattle.cash_ledger.specs.declared.entry.Entry.{Entry}
-use Rattle.cash_ledger.specs.declared.limits.TheConstants.{MAX_RESERVE, MAX_RESERVED}
+use Rattle.limits.specs.declared.TheConstants.{MAX_RESERVE, MAX_RESERVED}
 use Rattle.cash_ledger.proofs.Balances.{balance_of-push, AreBounded-push, balance_size}
 
 module _ (holding_of : ℕ → Option Holding) (entries : List Entry) (kept : AreKept holding_of entries) where

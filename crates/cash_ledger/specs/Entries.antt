@@ -4,7 +4,7 @@ use Rattle.std.specs.Prelude.{ℕ, ℤ, pos, neg_ℤ, ◌+ℤ◌, ◌≤ℤ◌, 
 use Rattle.cash_ledger.specs.declared.entry.Cause.{Cause}
 use Rattle.cash_ledger.specs.declared.entry.Cause.TheVariants.{Deposit, Withdraw}
 use Rattle.cash_ledger.specs.declared.entry.Entry.{Entry}
-use Rattle.cash_ledger.specs.declared.limits.TheConstants.{MAX_MOVE}
+use Rattle.limits.specs.declared.TheConstants.{MAX_GAIN}
 
 -- what an entry adds to an account
 abbrev pub amount_for : ℕ → Entry → ℤ
@@ -17,7 +17,7 @@ balance_of account (entry ∷ entries) = amount_for account entry +ℤ balance_o
 
 -- the amount is at most the limit in size
 abbrev pub IsBounded : Entry → Type 0
-IsBounded entry = (neg_ℤ (pos MAX_MOVE) ≤ℤ entry.amount) × (entry.amount ≤ℤ pos MAX_MOVE)
+IsBounded entry = (neg_ℤ (pos MAX_GAIN) ≤ℤ entry.amount) × (entry.amount ≤ℤ pos MAX_GAIN)
 
 -- each amount is
 abbrev pub AreBounded : List Entry → Type 0

@@ -2,7 +2,7 @@
 use Rattle.std.specs.Prelude.{ℕ, ℤ, pos, ◌≡◌, ◌+◌, ◌≤◌, List, map, Option, Some, None}
 use Rattle.cash_ledger.specs.declared.holding.Holding.{Holding}
 use Rattle.cash_ledger.specs.declared.entry.Entry.{Entry}
-use Rattle.cash_ledger.specs.declared.limits.TheConstants.{MAX_RESERVE, MAX_RESERVED}
+use Rattle.limits.specs.declared.TheConstants.{MAX_RESERVE, MAX_RESERVED}
 use Rattle.cash_ledger.specs.Entries.{balance_of, AreBounded}
 
 -- of an account without entries

@@ -2,7 +2,7 @@
 use Rattle.std.specs.Prelude.{ℕ, ℤ, pos, List, [], ◌∷◌, ◌++◌, Bool, not, int_lt, nat_lt, length, Option, Some, None}
 use Rattle.cash_ledger.specs.declared.ledger.LedgerRefusal.{LedgerRefusal}
 use Rattle.cash_ledger.specs.declared.ledger.LedgerRefusal.TheVariants.{NoAccount, AccountExists, Funds, TooMany, Memory}
-use Rattle.cash_ledger.specs.declared.limits.TheConstants.{MAX_ACCOUNTS}
+use Rattle.limits.specs.declared.TheConstants.{MAX_ACCOUNTS}
 use Rattle.cash_ledger.specs.Ledger.{LedgerState, is_open, free_of}
 
 -- the refusal; want of memory is none

@@ -1,7 +1,7 @@
 // What is kept of an open account beside the entries.
 ghost use Rattle.std.specs.Prelude.{◌≡◌, ◌+◌, ◌≤◌, pos, ◌+ℤ◌, ◌-ℤ◌, FitsSigned};
 ghost use Rattle.std.specs.Int.{w128};
-ghost use Rattle.cash_ledger.specs.declared.limits.TheConstants.{MAX_RESERVE, MAX_RESERVED};
+ghost use Rattle.limits.specs.declared.TheConstants.{MAX_RESERVE, MAX_RESERVED};
 ghost use Rattle.cash_ledger.specs.Kept.{no_holding};
 
 use crate::entry::Entry;

@@ -1,5 +1,5 @@
 ghost use Rattle.std.specs.Prelude.{◌≡◌, ℕ, ◌+◌, ◌-◌, ◌≤◌, ◌<◌, ◌^◌, ◌++◌, [], ◌∷◌, true, pos, ◌≢◌, length, Err, IfOk, OnOk, OnErr, IfErr};
-ghost use Rattle.cash_ledger.specs.declared.limits.TheConstants.{MAX_ACCOUNT, MAX_ACCOUNTS, MAX_AMOUNT, MAX_MOVE, MAX_RESERVE, MAX_RESERVED};
+ghost use Rattle.limits.specs.declared.TheConstants.{MAX_ACCOUNT, MAX_ACCOUNTS, MAX_AMOUNT, MAX_GAIN, MAX_RESERVE, MAX_RESERVED};
 ghost use Rattle.cash_ledger.specs.declared.ledger.LedgerRefusal.TheVariants as LedgerRefusal;
 ghost use Rattle.cash_ledger.specs.Entries.{balance_of, deposit_of, withdrawal_of, transfer_of, IsBounded, AreBounded};
 ghost use Rattle.cash_ledger.specs.Ledger.{is_open, if_open, balance_in, reserved_of, free_of, KeepsReserves, SetsReserve};
@@ -8,7 +8,7 @@ ghost use Rattle.lists.specs.Refusals.{TellsFirst};
 
 use crate::accounts::Accounts;
 use crate::entry::{Cause, Entry};
-use crate::limits::MAX_ACCOUNTS;
+use limits::MAX_ACCOUNTS;
 use std::alloc::{AllocError, Global};
 use std::marker::Model;
 use thiserror::Error;
@@ -276,7 +276,7 @@ impl Ledger {
         requires from { is_open self.old.accounts from ≡ true }
         requires to { is_open self.old.accounts to ≡ true }
         requires room { 2 ≤ self.old.spare }
-        requires within { amount ≤ MAX_MOVE }
+        requires within { amount ≤ MAX_GAIN }
         ensures entries { self.new.entries ≡ self.old.entries ++ transfer_of from to amount cause }
         ensures accounts { self.new.accounts ≡ self.old.accounts }
         ensures reserves { KeepsReserves self.old self.new }

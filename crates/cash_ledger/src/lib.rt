@@ -9,8 +9,6 @@ mod entry;
 mod holding;
 pub mod laws;
 mod ledger;
-mod limits;
 
 pub use entry::{Cause, Entry};
 pub use ledger::{Ledger, LedgerRefusal};
-pub use limits::{MAX_ACCOUNT, MAX_ACCOUNTS, MAX_AMOUNT, MAX_MOVE, MAX_RESERVE, MAX_RESERVED};

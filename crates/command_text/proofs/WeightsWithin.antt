@@ -11,7 +11,7 @@ use Rattle.std.specs.Ordering.{int_eq}
 use Rattle.form.specs.declared.limits.TheConstants.{MAX_WEIGHT}
 use Rattle.command_text.specs.declared.asked.Asked.{Asked}
 use Rattle.command_text.specs.declared.asked.Fault.TheVariants.{Range}
-use Rattle.command_text.specs.declared.limits.TheConstants.{MAX_SETTLEMENT}
+use Rattle.limits.specs.declared.TheConstants.{MAX_SETTLEMENT_PRICE}
 use Rattle.command_text.specs.Asked.{text_of, value_in, value_or_zero}
 use Rattle.command_text.specs.Trades.{weight_in, weights_in, weightless, is_weighted, price_in, prices_in}
 use Rattle.command_text.proofs.Bounds.{around_zero, natural_between, size_within}
@@ -22,14 +22,14 @@ all_eight P a b c d e f g h ha hb hc hd he hf hg hh = All-cons P a (b ∷ c ∷ 
 
 -- ---- prices and weights
 
-pub price_small : (fields : List (List ℕ)) (place : ℕ) → price_in fields place ≤ MAX_SETTLEMENT
+pub price_small : (fields : List (List ℕ)) (place : ℕ) → price_in fields place ≤ MAX_SETTLEMENT_PRICE
 price_small fields place =
-    let asked : Asked = record { place = place; low = pos 0; high = pos MAX_SETTLEMENT; zero = true } in
+    let asked : Asked = record { place = place; low = pos 0; high = pos MAX_SETTLEMENT_PRICE; zero = true } in
     (natural_between 0 1000000000 (value_in fields asked) (around_zero fields asked (record { le = tt }) (record { le = tt }))).1
 
-pub prices_small : (fields : List (List ℕ)) → All (λ p. p ≤ MAX_SETTLEMENT) (prices_in fields)
+pub prices_small : (fields : List (List ℕ)) → All (λ p. p ≤ MAX_SETTLEMENT_PRICE) (prices_in fields)
 prices_small fields =
-    let P : ℕ → Type 0 = λ p. p ≤ MAX_SETTLEMENT in
+    let P : ℕ → Type 0 = λ p. p ≤ MAX_SETTLEMENT_PRICE in
     all_eight P (price_in fields 3) (price_in fields 4) (price_in fields 5) (price_in fields 6) (price_in fields 7) (price_in fields 8) (price_in fields 9) (price_in fields 10) (price_small fields 3) (price_small fields 4) (price_small fields 5) (price_small fields 6) (price_small fields 7) (price_small fields 8) (price_small fields 9) (price_small fields 10)
 
 pub weight_small : (fields : List (List ℕ)) (place : ℕ) → unsigned_abs (weight_in fields place) ≤ MAX_WEIGHT
@@ -101,7 +101,7 @@ no_price fields k past = elim (cases_Bool (nat_le 8 k)) [
   | inl large ↦ get_or_past (prices_in fields) k 0 (leb-true 8 k large)
   | inr small ↦
       let lt : k < 8 = grind (arith, nat_tests) in
-      price_at fields k lt ∙ ap unsigned_abs (no_value fields (record { place = 3 + k; low = pos 0; high = pos MAX_SETTLEMENT; zero = true }) past)
+      price_at fields k lt ∙ ap unsigned_abs (no_value fields (record { place = 3 + k; low = pos 0; high = pos MAX_SETTLEMENT_PRICE; zero = true }) past)
 ]
 
 same_default : (xs : List ℤ) (k : ℕ) (d e : ℤ) → k < length xs → get_or xs k d ≡ get_or xs k e

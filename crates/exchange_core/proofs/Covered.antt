@@ -13,7 +13,7 @@ pub use Rattle.clearing.proofs.Yes.{outcomes_are_judged_yes}
 use Rattle.clearing.proofs.Outcomes.{outcomes_are_covered, outcomes_are_measured, optimal_is_greatest}
 use Rattle.form.specs.declared.orders.Batch.{Batch}
 use Rattle.form.specs.Limits.{IsWithinLimits}
-use Rattle.order_book.specs.declared.limits.TheConstants.{MAX_BATCHES}
+use Rattle.limits.specs.declared.TheConstants.{MAX_BATCHES}
 use Rattle.order_book.specs.Book.{BookState, batch_of, info_of, market_of}
 use Rattle.order_book.specs.Kept.{IsBookKept}
 use Rattle.order_book.specs.Markets.{MarketState}

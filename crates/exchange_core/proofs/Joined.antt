@@ -3,7 +3,7 @@
 use Rattle.std.proofs.Common.{◌≡◌, ℕ, ◌+◌, ◌≤◌, [], ◌∷◌, ◌++◌, true, None, Some, IsSome, refl, sym, ap, ◌∙◌, subst, arith}
 use Rattle.std.proofs.lemmas.Bool.Decides.{nat_tests}
 use Rattle.cash_ledger.specs.Ledger.{LedgerState, is_open, reserved_of}
-use Rattle.cash_ledger.specs.declared.limits.TheConstants.{MAX_RESERVED}
+use Rattle.limits.specs.declared.TheConstants.{MAX_RESERVED}
 use Rattle.form.specs.declared.orders.Order.{Order}
 use Rattle.order_book.specs.declared.new_order.NewOrder.{NewOrder}
 use Rattle.order_book.specs.Book.{BookState, market_of, live_of, order_of, with_number, with_market, with_order, without_order, after_batch, after_close}

@@ -8,7 +8,7 @@ use Rattle.frac.specs.Value.{fraction_of}
 use Rattle.order_book.specs.Book.{BookState, market_of}
 use Rattle.order_book.specs.Markets.{MarketState}
 use Rattle.order_book.proofs.MarketLists.{same_number}
-use Rattle.settlement.specs.declared.limits.TheConstants.{MAX_SETTLEMENT_PRICE}
+use Rattle.limits.specs.declared.TheConstants.{MAX_SETTLEMENT_PRICE}
 use Rattle.settlement.specs.declared.position.Position.{Position}
 use Rattle.settlement.specs.Payout.{IsSettledAt}
 use Rattle.settlement.specs.Positions.{AreSettledAt, held_in, paid_out, payouts_of}

@@ -14,7 +14,7 @@ use Rattle.frac.specs.Value.{fraction_of}
 use Rattle.order_book.specs.Book.{BookState}
 use Rattle.order_book.specs.Kept.{IsBookKept}
 use Rattle.order_book.specs.Markets.{MarketState, Markets, live_orders}
-use Rattle.settlement.specs.declared.limits.TheConstants.{MAX_GAIN}
+use Rattle.limits.specs.declared.TheConstants.{MAX_GAIN}
 use Rattle.settlement.specs.declared.position.PaidOut.{PaidOut}
 use Rattle.settlement.specs.declared.position.Position.{Position}
 use Rattle.settlement.specs.Payout.{IsHolding}

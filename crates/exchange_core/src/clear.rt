@@ -7,7 +7,7 @@ ghost use Rattle.clearing_model.specs.Certificate.{AreFractionFills};
 ghost use Rattle.form.specs.Limits.{IsWithinLimits};
 ghost use Rattle.frac.specs.Value.{fraction_of};
 ghost use Rattle.order_book.specs.Book.{batch_of, is_trading, market_of};
-ghost use Rattle.order_book.specs.declared.limits.TheConstants.{MAX_BATCHES};
+ghost use Rattle.limits.specs.declared.TheConstants.{MAX_BATCHES};
 ghost use Rattle.settlement.specs.Premium.{IsOrderFill};
 ghost use Rattle.exchange_core.specs.ExchangeState.{state_of};
 ghost use Rattle.exchange_core.specs.Kept.{IsPayable, AreJoined, ArePositionsKept};

@@ -10,7 +10,7 @@ ghost use Rattle.form.specs.Limits.{IsWithinLimits};
 ghost use Rattle.order_book.specs.Book.{batch_of, info_in, is_trading, market_of};
 ghost use Rattle.order_book.specs.Refusals.{batch_refusals, live_refusals, unless_memory as unless_no_memory};
 ghost use Rattle.order_book.specs.Within.{IsNewOrderWithin};
-ghost use Rattle.order_book.specs.declared.limits.TheConstants.{MAX_BATCHES};
+ghost use Rattle.limits.specs.declared.TheConstants.{MAX_BATCHES};
 ghost use Rattle.lists.specs.Refusals.{TellsFirst};
 ghost use Rattle.command_text.specs.declared.command.Command.TheVariants as Command;
 ghost use Rattle.exchange_core.specs.Covered.{IfCleared, IsMarkedFor};

@@ -18,11 +18,9 @@ mod reserve;
 mod settle;
 mod trade;
 
-pub use cash_ledger::{MAX_ACCOUNT, MAX_AMOUNT};
-pub use command_text::{Command, Kind, MAX_MARKET};
+pub use command_text::{Command, Kind};
 pub use exchange::Exchange;
 pub use failure::Failure;
 pub use line_replies::reply_to;
-pub use order_book::{MAX_ACCEPTED, MAX_BATCHES};
 pub use refusal::Refusal;
 pub use reply_print::Reply;

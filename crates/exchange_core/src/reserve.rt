@@ -1,7 +1,7 @@
 // What is reserved for live orders: a buy's quantity times its price, and nothing for a sell.
 ghost use Rattle.std.specs.Prelude.{◌≡◌, ◌*◌, ◌≤◌, ◌≢◌, ℕ, Err, IfOk, OnOk, OnErr};
 ghost use Rattle.std.specs.List.{All};
-ghost use Rattle.cash_ledger.specs.declared.limits.TheConstants.{MAX_RESERVED};
+ghost use Rattle.limits.specs.declared.TheConstants.{MAX_RESERVED};
 ghost use Rattle.cash_ledger.specs.declared.ledger.LedgerRefusal.TheVariants as LedgerRefusal;
 ghost use Rattle.cash_ledger.specs.Ledger.{reserved_of};
 ghost use Rattle.cash_ledger.specs.Refusals.{unless_memory};

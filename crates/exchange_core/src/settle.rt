@@ -12,7 +12,7 @@ ghost use Rattle.exchange_core.specs.Payoffs.{payoff_of, payoff_entries};
 ghost use Rattle.exchange_core.specs.Refusals.{by_book};
 ghost use Rattle.exchange_core.specs.Reserves.{reserve_of, FreesReserves};
 ghost use Rattle.exchange_core.specs.Step.{settle_effect, Does};
-ghost use Rattle.settlement.specs.declared.limits.TheConstants.{MAX_SETTLEMENT_PRICE};
+ghost use Rattle.limits.specs.declared.TheConstants.{MAX_SETTLEMENT_PRICE};
 
 use crate::Reply;
 use crate::failure::Failure;

@@ -7,7 +7,6 @@ use Rattle.exchange_sessions.specs.Answers.{sessions_output}
 use Rattle.exchange_sessions.specs.Laws.{TellOnce}
 use Rattle.journal_check.specs.declared.reports.Report.{Report}
 use Rattle.journal_check.specs.declared.reports.Report.TheVariants.{Sound, Faulty}
-use Rattle.live_lines.specs.Open.{line_limit}
 use Rattle.live_lines.specs.Serving as live_input
 use Rattle.live_lines.specs.Serving.{IsServedInTime}
 use Rattle.book_proposals.specs.LiveAnswers.{IsWrittenFor}
@@ -22,7 +21,7 @@ use Rattle.program_words.specs.Requests.{request_of}
 use Rattle.exchange_program.specs.Journals.{report_in, report_line}
 use Rattle.exchange_program.specs.Live.{AnswerFirst, ServedTell, WroteAnswers, served_output, skips_mark}
 use Rattle.exchange_program.specs.Modes.{IsBesideIn, mode_output, step_in}
-use Rattle.command_text.specs.declared.limits.TheConstants.{MAX_INPUT}
+use Rattle.limits.specs.declared.TheConstants.{MAX_BYTES}
 use Rattle.exchange_program.specs.declared.check.TheConstants.{MAX_JOURNAL}
 use Rattle.exchange_program.specs.declared.status.Status.{Status}
 use Rattle.exchange_program.specs.declared.status.Status.TheVariants.{Done, CheckNo}
@@ -31,9 +30,9 @@ use Rattle.exchange_program.specs.declared.status.Status.TheVariants.{Done, Chec
 -- how many bytes are read at most, all of them before anything is written: none for a demo. There
 -- is no such limit where lines are answered between two reads
 abbrev pub limit_of : Request → Option ℕ
-limit_of (Lines mode) = Some MAX_INPUT
+limit_of (Lines mode) = Some MAX_BYTES
 limit_of (Check journal) = Some MAX_JOURNAL
-limit_of Sessions = Some MAX_INPUT
+limit_of Sessions = Some MAX_BYTES
 limit_of (Serve served) = None
 limit_of Propose = None
 limit_of (Demo seed count) = Some 0
@@ -87,7 +86,7 @@ IsPastLimit request input = MatchOption (limit_of request) (¬ live_input.IsInpu
 
 -- so many bytes at least are taken before that is known
 abbrev pub past_size : Request → ℕ
-past_size request = option_map_or (λ limit. limit + 1) (limit_of request) (line_limit + 1)
+past_size request = option_map_or (λ limit. limit + 1) (limit_of request) (MAX_BYTES + 1)
 
 -- ---- the output
 -- a fact of what is written, the input being these bytes, where they define it: which proposals are

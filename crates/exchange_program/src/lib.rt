@@ -11,6 +11,5 @@ mod serving;
 mod status;
 
 pub use check::MAX_JOURNAL;
-pub use command_text::MAX_INPUT;
 pub use program::exchange;
 pub use status::Status;

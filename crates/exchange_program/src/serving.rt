@@ -15,8 +15,8 @@ use crate::check::{MAX_JOURNAL, report_on};
 use crate::demo::write_demo;
 use crate::mode_lines::ModeLines;
 use crate::status::Status;
-use command_text::MAX_INPUT;
 use exchange_sessions::answer_messages;
+use limits::MAX_BYTES;
 use live_lines::answer_whole;
 use port_io::{Sink, Source, Stop, read_all};
 use program_words::Request;
@@ -54,7 +54,7 @@ fn input_of<S: Source, K: Sink>(
         last.written ≡ K.written sink.now) }
 {
     match request {
-        Request::Lines(_) | Request::Sessions => read_all(alloc, source, sink, MAX_INPUT),
+        Request::Lines(_) | Request::Sessions => read_all(alloc, source, sink, MAX_BYTES),
         Request::Check(_) => read_all(alloc, source, sink, MAX_JOURNAL),
         Request::Demo { .. } => Ok(Vec::new(alloc)),
         Request::Serve(_) | Request::Propose => unreachable!(),

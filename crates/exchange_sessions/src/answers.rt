@@ -4,7 +4,7 @@ ghost use Rattle.std.specs.Io.KnownBytes.{Appends};
 ghost use Rattle.port_io.specs.Faults.{Rose};
 ghost use Rattle.port_io.specs.Writes.{AppendsFront};
 ghost use Rattle.exchange_sessions.specs.Answers.{sessions_output};
-ghost use Rattle.command_text.specs.declared.limits.TheConstants.{MAX_INPUT};
+ghost use Rattle.limits.specs.declared.TheConstants.{MAX_BYTES};
 
 use crate::run_lines::RunLines;
 use live_lines::answer_whole;
@@ -22,7 +22,7 @@ use std::alloc::Global;
 /// `WriteFault` at the first fault of the sink, and `Memory` where there was none. A front of the
 /// output was then written.
 pub fn answer_messages<K: Sink>(alloc: Global, input: &[u8], sink: &mut K) -> Result<(), Stop>
-    requires { length input.now ≤ MAX_INPUT }
+    requires { length input.now ≤ MAX_BYTES }
     ensures ok { OnOk result
         (Appends (K.written sink.old) (K.written sink.new) (sessions_output input.now)) }
     ensures front { OnErr result

@@ -6,7 +6,7 @@ use Rattle.std.proofs.Math.Seq.{take-append_seam, drop-append_seam}
 use Rattle.form.specs.Between.{Between}
 use Rattle.serde_json.specs.Data.{Data}
 use Rattle.session_gate.specs.Heads.{accepted_head}
-use Rattle.session_gate.specs.declared.limits.TheConstants.{MAX_SESSION, MAX_NUMBER}
+use Rattle.limits.specs.declared.TheConstants.{MAX_SESSION, MAX_MESSAGE}
 use Rattle.reply_print.specs.declared.replies.Reply.{Reply}
 use Rattle.reply_print.specs.declared.replies.Reply.TheVariants.{Opened, Deposited, Withdrawn, Listed, Placed, Cancelled, Cleared as ClearedReply, Settled, Balance, Refused}
 use Rattle.reply_print.specs.BatchPieces.{natural}
@@ -327,7 +327,7 @@ abbrev message_piece : ℕ → ℕ → Piece → Piece
 message_piece number session p =
     object (field (codes "number") (natural number) (field (codes "of") p (field (codes "session") (natural session) no_fields)))
 
-module _ (number session : ℕ) (n : Between 1 MAX_NUMBER number) (s : IsSessionNumber session) (p : Piece) (is : IsObject p) (plain : HasPlainTexts p) (levels : IsWritten 6 p) where
+module _ (number session : ℕ) (n : Between 1 MAX_MESSAGE number) (s : IsSessionNumber session) (p : Piece) (is : IsObject p) (plain : HasPlainTexts p) (levels : IsWritten 6 p) where
   message_text : accepted_line number session (piece_text p) ≡ piece_text (message_piece number session p)
   message_text = ap (λ l. codes "{\"number\":" ++ l) (append_assoc (decimal number) (codes ",\"of\":") (piece_text p ++ tail_text session))
 
@@ -342,7 +342,7 @@ module _ (number session : ℕ) (n : Between 1 MAX_NUMBER number) (s : IsSession
 
   message_taken : message_from (piece_data (message_piece number session p)) ≡ Some (number, session)
   message_taken =
-      then_taken _ _ number _ (natural_taken 1 MAX_NUMBER number n) (ap (option_map {U = ℕ × ℕ} (λ (k : ℕ). (number, k))) (natural_taken 1 MAX_SESSION session s))
+      then_taken _ _ number _ (natural_taken 1 MAX_MESSAGE number n) (ap (option_map {U = ℕ × ℕ} (λ (k : ℕ). (number, k))) (natural_taken 1 MAX_SESSION session s))
 
   reply_within : (text : List ℕ) → text ≡ accepted_line number session (piece_text p) → reply_in text (number, session) ≡ Some (piece_text p)
   reply_within text e =

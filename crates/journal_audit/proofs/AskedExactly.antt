@@ -17,7 +17,7 @@ use Rattle.guarded_lines.specs.Told.{margin_piece, margin_with}
 use Rattle.guarded_lines.proofs.PlainLines.{margin_plain, need_plain, uncovered_plain}
 use Rattle.quote_lines.specs.declared.prices.QuotedPrice.TheVariants as price
 use Rattle.quote_lines.proofs.QuotedPlain.{price_plain, priced_plain, quoted_plain}
-use Rattle.reply_print.specs.declared.limits.TheConstants.{MAX_ACCOUNT, MAX_MARKET}
+use Rattle.limits.specs.declared.TheConstants.{MAX_ACCOUNT, MAX_MARKET}
 use Rattle.reply_print.specs.Within.{IsLine, IsAccount, IsMarket, IsSmall}
 use Rattle.reply_print.specs.BatchPieces.{whole_words}
 use Rattle.reply_print.specs.Numbers.{fraction_text}

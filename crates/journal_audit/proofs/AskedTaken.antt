@@ -13,7 +13,7 @@ use Rattle.frac.specs.Value.{fraction_of}
 use Rattle.form.specs.declared.limits.TheConstants.{MAX_PRICE, MAX_QUANTITY}
 use Rattle.form.specs.declared.states.State.{State}
 use Rattle.serde_json.specs.Data.{string}
-use Rattle.reply_print.specs.declared.limits.TheConstants.{MAX_ACCOUNT, MAX_MARKET}
+use Rattle.limits.specs.declared.TheConstants.{MAX_ACCOUNT, MAX_MARKET}
 use Rattle.guarded_lines.specs.Told.{need_text}
 use Rattle.guarded_lines.specs.declared.told.Need.{Need}
 use Rattle.guarded_lines.specs.declared.told.Need.TheVariants as need

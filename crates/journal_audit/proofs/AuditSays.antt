@@ -7,7 +7,7 @@ use Rattle.std.proofs.lemmas.Slice.Eq.{bytes_eq-Decides}
 use Rattle.form.specs.Between.{Between}
 use Rattle.serde_json.specs.Data.{Data}
 use Rattle.session_gate.specs.Heads.{accepted_head}
-use Rattle.session_gate.specs.declared.limits.TheConstants.{MAX_SESSION, MAX_NUMBER}
+use Rattle.limits.specs.declared.TheConstants.{MAX_SESSION, MAX_MESSAGE}
 use Rattle.reply_print.specs.Look.{word_at, number_at}
 use Rattle.reply_text.specs.declared.faults.LineFault.{LineFault}
 use Rattle.reply_text.specs.declared.faults.LineFault.TheVariants.{Memory}
@@ -93,11 +93,11 @@ reply_stands text message =
     after P P if_braced (between (accepted_head message.0) (tail_text message.1) text) (stands _ (accepted_head message.0) (tail_text message.1) text refl) (λ reply h. braced P reply h)
 
 abbrev IsMessage : ℕ × ℕ → Type 0
-IsMessage message = Between 1 MAX_NUMBER message.0 × IsSessionNumber message.1
+IsMessage message = Between 1 MAX_MESSAGE message.0 × IsSessionNumber message.1
 
 message_sound : (d : Data) → Sound IsMessage (message_from d)
 message_sound d =
-    after (Between 1 MAX_NUMBER) IsMessage _ _ (natural_sound 1 MAX_NUMBER (codes "number") d)
+    after (Between 1 MAX_MESSAGE) IsMessage _ _ (natural_sound 1 MAX_MESSAGE (codes "number") d)
     (λ number n. mapped IsSessionNumber IsMessage _ _ (natural_sound 1 MAX_SESSION (codes "session") d) (λ session s. (n, s)))
 
 module _ (text : List ℕ) (message : ℕ × ℕ) (m : IsMessage message) (reply : List ℕ) (stands_in : text ≡ accepted_line message.0 message.1 reply) where

@@ -1,7 +1,7 @@
 -- What a gate refuses is read from its line again.
 use Rattle.std.proofs.Common.{◌≡◌, ℕ, ◌+◌, Some, Ok, option_map, codes, refl, ap, arith}
 use Rattle.serde_json.specs.Data.{Data}
-use Rattle.session_gate.specs.declared.limits.TheConstants.{MAX_SESSION, MAX_NUMBER}
+use Rattle.limits.specs.declared.TheConstants.{MAX_SESSION, MAX_MESSAGE}
 use Rattle.reply_print.specs.PieceData.{piece_data}
 use Rattle.reply_print.specs.Within.{IsLine}
 use Rattle.reply_print.specs.Written.{IsWritten}
@@ -34,7 +34,7 @@ module _ (line session expected : ℕ) (l : IsLine line) (s : IsSessionNumber se
   expecting_written Changed =
       (refl, (refl, short expected (omega arith), (refl, short line (omega arith), (refl, refl, (refl, refl, (refl, refl, (refl, short session (omega arith), tt)))))))
 
-  expecting_found : (why : Why) (d : Data) → session_at d ≡ Some session → natural_at 1 (MAX_NUMBER + 1) (codes "expected") d ≡ Some expected
+  expecting_found : (why : Why) (d : Data) → session_at d ≡ Some session → natural_at 1 (MAX_MESSAGE + 1) (codes "expected") d ≡ Some expected
       → expecting_from why d ≡ Some (Expecting session expected why)
   expecting_found why d a b = then_taken _ (session_at d) session _ a (ap (option_map (λ (n : ℕ). Expecting session n why)) b)
 
@@ -54,19 +54,19 @@ expecting_taken line session expected Old h = record {
   shape = refl;
   numbers = refl;
   taken = paired _ _ line _ (line_taken line h.0)
-      (expecting_found line session expected h.0 h.1.0 h.1.1 Old (piece_data (gate_piece line (Expecting session expected Old))) (natural_taken 1 MAX_SESSION session h.1.0) (natural_taken 1 (MAX_NUMBER + 1) expected h.1.1));
+      (expecting_found line session expected h.0 h.1.0 h.1.1 Old (piece_data (gate_piece line (Expecting session expected Old))) (natural_taken 1 MAX_SESSION session h.1.0) (natural_taken 1 (MAX_MESSAGE + 1) expected h.1.1));
 }
 expecting_taken line session expected Ahead h = record {
   shape = refl;
   numbers = refl;
   taken = paired _ _ line _ (line_taken line h.0)
-      (expecting_found line session expected h.0 h.1.0 h.1.1 Ahead (piece_data (gate_piece line (Expecting session expected Ahead))) (natural_taken 1 MAX_SESSION session h.1.0) (natural_taken 1 (MAX_NUMBER + 1) expected h.1.1));
+      (expecting_found line session expected h.0 h.1.0 h.1.1 Ahead (piece_data (gate_piece line (Expecting session expected Ahead))) (natural_taken 1 MAX_SESSION session h.1.0) (natural_taken 1 (MAX_MESSAGE + 1) expected h.1.1));
 }
 expecting_taken line session expected Changed h = record {
   shape = refl;
   numbers = refl;
   taken = paired _ _ line _ (line_taken line h.0)
-      (expecting_found line session expected h.0 h.1.0 h.1.1 Changed (piece_data (gate_piece line (Expecting session expected Changed))) (natural_taken 1 MAX_SESSION session h.1.0) (natural_taken 1 (MAX_NUMBER + 1) expected h.1.1));
+      (expecting_found line session expected h.0 h.1.0 h.1.1 Changed (piece_data (gate_piece line (Expecting session expected Changed))) (natural_taken 1 MAX_SESSION session h.1.0) (natural_taken 1 (MAX_MESSAGE + 1) expected h.1.1));
 }
 
 gate_taken : (line : ℕ) (refused : GateLine) → IsGateLineWithin line refused → IsTakenFrom line refused

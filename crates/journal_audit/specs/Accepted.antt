@@ -3,7 +3,7 @@ use Rattle.std.specs.Prelude.{ℕ, ◌-◌, ◌++◌, ◌∷◌, [], List, lengt
 use Rattle.std.specs.Str.{bytes_eq}
 use Rattle.serde_json.specs.Data.{Data}
 use Rattle.serde_json.specs.Find.{as_object}
-use Rattle.session_gate.specs.declared.limits.TheConstants.{MAX_SESSION, MAX_NUMBER}
+use Rattle.limits.specs.declared.TheConstants.{MAX_SESSION, MAX_MESSAGE}
 use Rattle.session_gate.specs.Heads.{accepted_head}
 use Rattle.reply_print.specs.Look.{has_members, has_at, is_whole}
 use Rattle.reply_text.specs.Taking.{natural_at}
@@ -29,7 +29,7 @@ is_accepted d =
 -- the numbers of the message and of its session, within their ranges
 abbrev pub message_from : Data → Option (ℕ × ℕ)
 message_from d =
-    option_and_then (λ number. option_map (λ session. (number, session)) (natural_at 1 MAX_SESSION (codes "session") d)) (natural_at 1 MAX_NUMBER (codes "number") d)
+    option_and_then (λ number. option_map (λ session. (number, session)) (natural_at 1 MAX_SESSION (codes "session") d)) (natural_at 1 MAX_MESSAGE (codes "number") d)
 
 -- what stands before an end
 abbrev pub before_end : List ℕ → List ℕ → Option (List ℕ)

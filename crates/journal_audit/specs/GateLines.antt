@@ -2,7 +2,7 @@
 use Rattle.std.specs.Prelude.{ℕ, ◌≡◌, ◌+◌, ⊤, List, Bool, true, ◌&&◌, ◌==◌, Option, Some, option_map, option_and_then, codes, if◌then◌else◌}
 use Rattle.form.specs.Between.{Between}
 use Rattle.serde_json.specs.Data.{Data}
-use Rattle.session_gate.specs.declared.limits.TheConstants.{MAX_SESSION, MAX_NUMBER}
+use Rattle.limits.specs.declared.TheConstants.{MAX_SESSION, MAX_MESSAGE}
 use Rattle.reply_print.specs.BatchPieces.{natural}
 use Rattle.reply_print.specs.Piece.{Piece, words, object, Fields, no_fields, field, piece_text}
 use Rattle.reply_print.specs.Within.{IsLine}
@@ -52,7 +52,7 @@ IsSessionNumber session = Between 1 MAX_SESSION session
 
 -- one more than a number of a message
 abbrev pub IsExpected : ℕ → Type 0
-IsExpected expected = Between 1 (MAX_NUMBER + 1) expected
+IsExpected expected = Between 1 (MAX_MESSAGE + 1) expected
 
 abbrev pub IsGateWithin : GateLine → Type 0
 IsGateWithin Malformed = ⊤
@@ -91,7 +91,7 @@ session_at d = natural_at 1 MAX_SESSION (codes "session") d
 
 abbrev pub expecting_from : Why → Data → Option GateLine
 expecting_from why d =
-    option_and_then (λ session. option_map (λ expected. Expecting session expected why) (natural_at 1 (MAX_NUMBER + 1) (codes "expected") d)) (session_at d)
+    option_and_then (λ session. option_map (λ expected. Expecting session expected why) (natural_at 1 (MAX_MESSAGE + 1) (codes "expected") d)) (session_at d)
 
 abbrev pub gate_by : ℕ → Data → Option GateLine
 gate_by number d =

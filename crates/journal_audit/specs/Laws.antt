@@ -8,7 +8,7 @@ use Rattle.cert_check.specs.declared.outcome.Judgement.TheVariants as judgement
 use Rattle.cert_check.specs.Laws.{IsCovered}
 use Rattle.cert_check.specs.ProposalLaws.{BoundSurplus, HasBound}
 use Rattle.cert_check.specs.Proposals.{as_optimal, bounded_verdict_of}
-use Rattle.session_gate.specs.declared.limits.TheConstants.{MAX_NUMBER}
+use Rattle.limits.specs.declared.TheConstants.{MAX_MESSAGE}
 use Rattle.reply_print.specs.declared.replies.Reply.{Reply}
 use Rattle.proposal_text.specs.declared.replies.BoundedOutcome.{BoundedOutcome}
 use Rattle.proposal_text.specs.declared.replies.ProposalReply.{ProposalReply}
@@ -73,7 +73,7 @@ pub record IsAcceptedLineOf (text : List ℕ) (reply : ServedReply) : Type 0 whe
   pub number : ℕ
   pub session : ℕ
   pub inner : List ℕ
-  pub message : Between 1 MAX_NUMBER number × IsSessionNumber session
+  pub message : Between 1 MAX_MESSAGE number × IsSessionNumber session
   pub served : IsServedLineOf inner reply
   pub is_line : text ≡ accepted_line number session inner
 

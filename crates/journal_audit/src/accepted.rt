@@ -4,10 +4,10 @@ ghost use Rattle.serde_json.specs.View.{view};
 ghost use Rattle.session_gate.specs.Heads.{accepted_head};
 ghost use Rattle.journal_audit.specs.Accepted.{before_end, between, if_braced, is_accepted as accepted_is, is_braced as braced_is, is_object as object_is, message_from as message_found, reply_in as reply_found, tail_text};
 
+use limits::{MAX_MESSAGE, MAX_SESSION};
 use reply_print::look::{has_at, has_members, has_whole};
 use reply_text::taking::natural_at;
 use serde_json::Value;
-use session_gate::{MAX_NUMBER, MAX_SESSION};
 use std::alloc::{AllocError, Global};
 
 fn is_object(value: &Value) -> bool
@@ -30,7 +30,7 @@ pub(crate) fn is_accepted(value: &Value) -> bool
 pub(crate) fn message_from(value: &Value) -> Option<(u32, u32)>
     ensures { option_map (λ p. (p.0, p.1)) result ≡ message_found (view value.now) }
 {
-    let number = natural_at(value, 1, u64::from(MAX_NUMBER), "number")? as u32;
+    let number = natural_at(value, 1, u64::from(MAX_MESSAGE), "number")? as u32;
     let session = natural_at(value, 1, u64::from(MAX_SESSION), "session")? as u32;
     Some((number, session))
 }

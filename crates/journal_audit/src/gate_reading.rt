@@ -8,14 +8,13 @@ ghost use Rattle.journal_audit.specs.declared.gate_lines.GateLine.TheVariants as
 ghost use Rattle.journal_audit.specs.GateLines.{expecting_from as expecting_found, expecting_shape as expecting_is, gate_by as refused_found, gate_line, gate_lines, gate_piece, gate_shape_by as shape_is, gate_tests, has_reason as reason_is, session_at as session_found, sessions_shape as sessions_are, why_number as number_is, why_word as word_is};
 
 use crate::gate_lines::{GateLine, Why};
-use reply_print::limits::MAX_LINE;
+use limits::{MAX_MESSAGE, MAX_SESSION};
 use reply_print::look::{has_members, has_whole, has_word, number_at};
 use reply_print::printing::{add_number, add_words, append};
 use reply_text::taking::natural_at;
 use reply_text::tested::read_value;
 use reply_text::{LineFault, TestedReply};
 use serde_json::Value;
-use session_gate::{MAX_NUMBER, MAX_SESSION};
 use std::alloc::{AllocError, Global};
 
 fn number(why: Why) -> u64
@@ -151,7 +150,7 @@ fn expecting_from(value: &Value, why: Why) -> Option<GateLine>
     ensures { result ≡ expecting_found why (view value.now) }
 {
     let session = session_at(value)?;
-    let expected = natural_at(value, 1, u64::from(MAX_NUMBER) + 1, "expected")? as u32;
+    let expected = natural_at(value, 1, u64::from(MAX_MESSAGE) + 1, "expected")? as u32;
     Some(GateLine::Expecting {
         session,
         expected,

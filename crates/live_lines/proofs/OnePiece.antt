@@ -5,7 +5,8 @@ use Rattle.std.specs.Io.KnownBytes.{Appends}
 use Rattle.port_io.specs.Writes.{AppendsFront}
 use Rattle.command_text.proofs.LineParts.{cut}
 use Rattle.live_lines.specs.Answering.{Answering, IsLastAnswer}
-use Rattle.live_lines.specs.Open.{Open, line_limit, new_open}
+use Rattle.live_lines.specs.Open.{Open, new_open}
+use Rattle.limits.specs.declared.TheConstants.{MAX_BYTES}
 use Rattle.live_lines.specs.Output.{output_of}
 use Rattle.live_lines.specs.Taken.{Completes, Stops, Took}
 use Rattle.live_lines.specs.Turns.{BeganLast, WroteLast}
@@ -25,7 +26,7 @@ module _ {S : Type 0} (Answers : Answering S) (skips : Bool) (start first : S) (
   stands_first Stands h = subst (λ (o : Open). Stands o.number first) (sym fresh) (subst (Stands 1) (sym new) h)
 
   -- no line of it is too long, nor are there too many
-  pub none_too_long : (text : List ℕ) → length input ≤ line_limit → Stops Answers first begun input text → ⊥
+  pub none_too_long : (text : List ℕ) → length input ≤ MAX_BYTES → Stops Answers first begun input text → ⊥
   none_too_long text few stops =
       let h = from_start (λ s o. Stops Answers s o input text) stops in
       omega (arith, few, ap length h.0.split, more_than_limit skips h.0.lines h.0.rest h.1)

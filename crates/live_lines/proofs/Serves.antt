@@ -10,7 +10,8 @@ use Rattle.command_text.specs.Fields.{begins_with_mark}
 use Rattle.command_text.specs.Lines.{mark_size}
 use Rattle.command_text.proofs.LineParts.{cut}
 use Rattle.live_lines.specs.Answering.{Answering, IsLastAnswer, IsOutput}
-use Rattle.live_lines.specs.Open.{Open, count_limit, line_limit, new_open, unmarked}
+use Rattle.live_lines.specs.Open.{Open, new_open, unmarked}
+use Rattle.limits.specs.declared.TheConstants.{MAX_BYTES, MAX_LINES}
 use Rattle.live_lines.specs.Serving.{AnsweredAll, AnsweredBefore, AnsweredLines, AnsweredSome, Counts, Ends, IsInputWithin, IsServed, IsServedInTime, Known, OfAll, OfBefore, OfLines, OfSome, TookAll, Wrote, WroteFirst, WroteSome, piece_limit}
 use Rattle.live_lines.specs.Taken.{AreWithin, IsOpenWithin, Took, with_feeds}
 use Rattle.port_io.specs.declared.stop.Stop.{Stop}
@@ -97,7 +98,7 @@ module _ {S : Type 0} (Answers : Answering S) (skips : Bool) (start state : S) (
     (read reads write writers taken takes : ℕ) (came : Came Answers start (new_open skips) state line (known_of left still written writes) (counts_of read reads write writers taken takes)) where
   long_after : (stays adds : Option (List ℕ)) (r w t limit : ℕ) → limit ≤ piece_limit
       → TellsTooLong Answers state line limit (known_of still stays writes adds) (counts_of reads r writers w takes t)
-      → AnsweredBefore Answers skips start (known_of left stays written adds) × (raised_by taken (line_limit + 1) ≤ t)
+      → AnsweredBefore Answers skips start (known_of left stays written adds) × (raised_by taken (MAX_BYTES + 1) ≤ t)
   long_after stays adds r w t limit low told =
       let piece = told.0 in
       let stops = stops_more Answers start state (new_open skips) line came.bytes came.text came.took piece told.1 told.6 in
@@ -114,7 +115,7 @@ module _ {S : Type 0} (Answers : Answering S) (skips : Bool) (start state : S) (
           (text, lines_alone Answers skips start all.lines text all.after all.within all.answers, Appends-trans written writes adds came.text told.1 came.wrote told.5),
           (came.bytes, piece, sym all.split, omega (arith, told.3, low), took_within Answers skips start state line came.bytes came.text came.took),
         ),
-        counted_less taken t (line_limit + 1) (length came.bytes + length piece) (omega (arith, many, ap length all.split, length-append came.bytes piece)) now,
+        counted_less taken t (MAX_BYTES + 1) (length came.bytes + length piece) (omega (arith, many, ap length all.split, length-append came.bytes piece)) now,
       )
 
   -- all that was left was taken
@@ -210,8 +211,8 @@ bare_size : (skips : Bool) (number : ℕ) (line : List ℕ) → length line ≤ 
 bare_size true number line = size_if (number == 1) (mark_size line) line (mark_small_if (begins_with_mark line))
 bare_size false number line = omega arith
 
-count_within : (skips : Bool) (number : ℕ) (lines : List (List ℕ)) → AreWithin skips number lines → number ≤ count_limit + 1
-    → number + length lines ≤ count_limit + 1
+count_within : (skips : Bool) (number : ℕ) (lines : List (List ℕ)) → AreWithin skips number lines → number ≤ MAX_LINES + 1
+    → number + length lines ≤ MAX_LINES + 1
 count_within skips number [] within le = omega arith
 count_within skips number (line ∷ lines) within le = omega (arith, count_within skips (number + 1) lines within.3 (omega (arith, within.0)))
 

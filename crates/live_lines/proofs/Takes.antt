@@ -1,7 +1,8 @@
 -- Bytes that come piece by piece.
 use Rattle.std.proofs.Common.{◌≡◌, ◌≤◌, ◌<◌, ℕ, suc, ◌+◌, List, [], ◌∷◌, ◌++◌, Bool, length, refl, sym, ap, ◌∙◌, subst, inl, inr, arith, append_assoc, append-nil, length-append}
 use Rattle.live_lines.specs.Answering.{Answering, AnswersLine, AnswersLines}
-use Rattle.live_lines.specs.Open.{FitsLine, IsOneLine, Open, count_limit, line_limit, line_text, unmarked}
+use Rattle.live_lines.specs.Open.{FitsLine, IsOneLine, Open, line_text, unmarked}
+use Rattle.limits.specs.declared.TheConstants.{MAX_BYTES, MAX_LINES}
 use Rattle.live_lines.specs.Taken.{AreWithin, Completes, IsOpenWithin, IsTooLong, Stops, Took, with_feeds}
 use Rattle.live_lines.proofs.Cuts.{feeds_append}
 
@@ -73,7 +74,7 @@ module _ {S : Type 0} (Answers : Answering S) where
   -- bytes that end one line, with its line feed
   pub ended : (state after : S) (line whole next : Open) (front text : List ℕ) → whole ≡ record line { rest = line.rest ++ front }
       → next ≡ record whole { number = whole.number + 1; rest = [] }
-      → line.number ≤ count_limit → IsOneLine whole.rest → FitsLine whole.skips whole.number whole.rest
+      → line.number ≤ MAX_LINES → IsOneLine whole.rest → FitsLine whole.skips whole.number whole.rest
       → AnswersLine Answers whole.number state (line_text whole.skips whole.number whole.rest) text after
       → Took Answers state line after next (front ++ 10 ∷ []) text
   ended state after line whole next front text is then few one fits answer =
@@ -96,7 +97,7 @@ module _ {S : Type 0} (Answers : Answering S) where
   none_complete state line bytes = record { lines = []; rest = line.rest ++ bytes; split = refl; within = tt; after = state; answers = (refl, refl) }
 
   -- a line is one too many
-  pub too_many : (state : S) (line : Open) (bytes : List ℕ) → count_limit < line.number → 0 < length bytes → Stops Answers state line bytes []
+  pub too_many : (state : S) (line : Open) (bytes : List ℕ) → MAX_LINES < line.number → 0 < length bytes → Stops Answers state line bytes []
   too_many state line bytes many some = (none_complete state line bytes, inl (omega (arith), omega (arith, length-append line.rest bytes)))
 
   -- a line is too long
@@ -108,14 +109,14 @@ module _ {S : Type 0} (Answers : Answering S) where
       let long : ¬ (FitsLine line.skips line.number (line.rest ++ front)) = subst P is wide in
       let rest : next.rest ≡ line.rest ++ front = ap (λ (l : Open). l.rest) is in
       let same : line.number ≡ line.number + 0 = omega arith in
-      let greater : line_limit < length (unmarked line.skips line.number (line.rest ++ front)) = omega arith in (
+      let greater : MAX_BYTES < length (unmarked line.skips line.number (line.rest ++ front)) = omega arith in (
         none_complete state line bytes,
         inr (
           line.rest ++ front,
           more,
           ap (λ l. line.rest ++ l) parts ∙ sym (append_assoc line.rest front more),
           subst IsOneLine rest one,
-          subst (λ n. line_limit < length (unmarked line.skips n (line.rest ++ front))) same greater,
+          subst (λ n. MAX_BYTES < length (unmarked line.skips n (line.rest ++ front))) same greater,
         ),
       )
 

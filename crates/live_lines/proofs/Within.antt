@@ -5,7 +5,8 @@ use Rattle.std.specs.Prelude.{nat_eq}
 use Rattle.command_text.specs.Lines.{mark_size, without_last_empty}
 use Rattle.command_text.proofs.LineParts.{cut, cut_feed, cut_other, cut_parts}
 use Rattle.live_lines.specs.Answering.{Answering}
-use Rattle.live_lines.specs.Open.{FitsLine, IsOneLine, Open, count_limit, line_limit, new_open}
+use Rattle.live_lines.specs.Open.{FitsLine, IsOneLine, Open, new_open}
+use Rattle.limits.specs.declared.TheConstants.{MAX_BYTES, MAX_LINES}
 use Rattle.live_lines.specs.Serving.{IsInputWithin}
 use Rattle.live_lines.specs.Taken.{AreWithin, IsTooLong, Took, with_feeds}
 use Rattle.live_lines.proofs.Cuts.{cut_front, cut_lines, cut_one}
@@ -25,12 +26,12 @@ without_append (line ∷ next ∷ a) first rest = ap (λ l. line ∷ l) (without
 
 -- the first line of bytes that are not empty is a line
 first_within : (skips : Bool) (number b : ℕ) (line : List ℕ) (rest : List (List ℕ)) → AreWithin skips number (without_last_empty ((b ∷ line) ∷ rest))
-    → (number ≤ count_limit) × FitsLine skips number (b ∷ line)
+    → (number ≤ MAX_LINES) × FitsLine skips number (b ∷ line)
 first_within skips number b line [] w = (w.0, w.2)
 first_within skips number b line (next ∷ rest) w = (w.0, w.2)
 
 number_within : (skips : Bool) (number : ℕ) (line : List ℕ) (rest : List (List ℕ)) → 0 < length line ⊎ (0 < length rest)
-    → AreWithin skips number (without_last_empty (line ∷ rest)) → number ≤ count_limit
+    → AreWithin skips number (without_last_empty (line ∷ rest)) → number ≤ MAX_LINES
 number_within skips number [] [] some w = absurd (elim some [ inl lt ↦ omega arith | inr lt ↦ omega arith ])
 number_within skips number [] (next ∷ rest) some w = w.0
 number_within skips number (b ∷ line) rest some w = (first_within skips number b line rest w).0
@@ -51,8 +52,8 @@ some_cut (b ∷ bytes) lt =
       | inr other ↦ (b ∷ p.0, p.1, cut_other b bytes p.0 p.1 other p.2, inl (omega arith))
     ]
 
-wider_if : (b : Bool) (line more : List ℕ) → line_limit < length (if b then drop (mark_size line) line else line)
-    → line_limit < length (if b then drop (mark_size (line ++ more)) (line ++ more) else (line ++ more))
+wider_if : (b : Bool) (line more : List ℕ) → MAX_BYTES < length (if b then drop (mark_size line) line else line)
+    → MAX_BYTES < length (if b then drop (mark_size (line ++ more)) (line ++ more) else (line ++ more))
 wider_if true [] more lt = absurd (omega arith)
 wider_if true (a ∷ []) more lt = absurd (omega arith)
 wider_if true (a ∷ b ∷ []) more lt = absurd (omega arith)
@@ -82,7 +83,7 @@ tells_none skips lines rest more within too_long all = elim too_long [
   | inl many ↦
       let some : 0 < length (rest ++ more) = omega (arith, many.1, length-append rest more) in
       let p = some_cut (rest ++ more) some in
-      let few : 1 + length lines ≤ count_limit = number_within skips (1 + length lines) p.0 p.1 p.3 (behind skips lines (rest ++ more) p.0 p.1 within p.2 all) in
+      let few : 1 + length lines ≤ MAX_LINES = number_within skips (1 + length lines) p.0 p.1 p.3 (behind skips lines (rest ++ more) p.0 p.1 within p.2 all) in
       omega (arith, many.0, few)
   | inr long ↦
       let line = long.0 in
@@ -96,7 +97,7 @@ tells_none skips lines rest more within too_long all = elim too_long [
 ]
 
 -- ---- what was taken is within the limits
-last_within : (skips : Bool) (number : ℕ) (rest : List ℕ) → IsOneLine rest → FitsLine skips number rest → (0 < length rest → number ≤ count_limit)
+last_within : (skips : Bool) (number : ℕ) (rest : List ℕ) → IsOneLine rest → FitsLine skips number rest → (0 < length rest → number ≤ MAX_LINES)
     → AreWithin skips number (without_last_empty (rest ∷ []))
 last_within skips number [] one fits few = tt
 last_within skips number (b ∷ rest) one fits few = (few (omega arith), one, fits, tt)
@@ -118,7 +119,7 @@ feeds_size [] = omega arith
 feeds_size (line ∷ lines) = omega (arith, feeds_size lines, length-append line (10 ∷ with_feeds lines))
 
 pub more_than_limit : (skips : Bool) (lines : List (List ℕ)) (rest : List ℕ) → IsTooLong skips (1 + length lines) rest
-    → line_limit + 1 ≤ length (with_feeds lines ++ rest)
+    → MAX_BYTES + 1 ≤ length (with_feeds lines ++ rest)
 more_than_limit skips lines rest too_long = elim too_long [
   | inl many ↦ omega (arith, many.0, many.1, feeds_size lines, length-append (with_feeds lines) rest)
   | inr long ↦

@@ -3,12 +3,13 @@ ghost use Rattle.std.specs.Prelude.{◌≡◌, ◌≤◌, ◌<◌, ◌++◌, ℕ
 ghost use Rattle.std.specs.Io.KnownBytes.{Appends};
 ghost use Rattle.port_io.specs.Faults.{Rose};
 ghost use Rattle.port_io.specs.Writes.{AppendsFront};
-ghost use Rattle.live_lines.specs.Open.{IsOneLine, count_limit};
+ghost use Rattle.live_lines.specs.Open.{IsOneLine};
+ghost use Rattle.limits.specs.declared.TheConstants.{MAX_LINES};
 ghost use Rattle.live_lines.specs.Turns.{AddsAnswer, Turned};
 
 use crate::answers::LineAnswers;
-use crate::limits::MAX_LINES;
 use crate::open_line::OpenLine;
+use limits::MAX_LINES;
 use memchr::memchr;
 use port_io::{Sink, Stop, write_all};
 use std::alloc::{AllocError, Global};
@@ -23,7 +24,7 @@ pub(crate) fn add_answer<A: LineAnswers>(
     line: &OpenLine,
     replies: &mut Vec<u8>,
 ) -> Result<(), AllocError>
-    requires few { 0 < length line.now.rest → line.now.number ≤ count_limit }
+    requires few { 0 < length line.now.rest → line.now.number ≤ MAX_LINES }
     requires next { A.stands line.now.number answers.old }
     ensures { OnOk result (AddsAnswer A.answers answers.old line.now answers.new replies.old.items
         replies.new.items) }
@@ -51,7 +52,7 @@ pub(crate) fn take_line<A: LineAnswers>(
     ensures { IfOk result (λ used. Turned A.answers answers.old line.old answers.new line.new
         bytes.now replies.old.items replies.new.items used) }
 {
-    if line.number() > MAX_LINES {
+    if u64::from(line.number()) > MAX_LINES {
         return Ok(None);
     }
     match memchr(b'\n', bytes) {

@@ -3,7 +3,7 @@ ghost use Rattle.std.specs.Prelude.{◌≡◌, ◌≢◌, ◌≤◌, Err, length
 ghost use Rattle.std.specs.Io.KnownBytes.{Appends};
 ghost use Rattle.port_io.specs.Faults.{Rose};
 ghost use Rattle.port_io.specs.Writes.{AppendsFront};
-ghost use Rattle.live_lines.specs.Open.{line_limit};
+ghost use Rattle.limits.specs.declared.TheConstants.{MAX_BYTES};
 ghost use Rattle.live_lines.specs.Output.{output_of};
 
 use crate::answers::LineSteps;
@@ -26,7 +26,7 @@ pub fn answer_whole<A: LineSteps + Drop, K: Sink>(
     sink: &mut K,
 ) -> Result<(), Stop>
     requires first { A.stands 1 answers }
-    requires few { length input.now ≤ line_limit }
+    requires few { length input.now ≤ MAX_BYTES }
     ensures ok { OnOk result (Appends (K.written sink.old) (K.written sink.new)
         (output_of A.step skips_mark answers input.now)) }
     ensures front { OnErr result (AppendsFront (K.written sink.old) (K.written sink.new)

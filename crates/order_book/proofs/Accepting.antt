@@ -3,10 +3,10 @@ use Rattle.std.proofs.Common.{◌≡◌, ℕ, ◌+◌, ◌<◌, Bool, true, fals
 use Rattle.std.specs.Prelude.{nat_le}
 use Rattle.std.specs.Option.{option_map, option_map_or}
 use Rattle.std.proofs.lemmas.Bool.Decides.{nat_tests}
-use Rattle.form.specs.declared.limits.TheConstants.{MAX_ORDERS}
+use Rattle.form.specs.declared.limits.TheConstants.{MAX_ORDERS, MAX_ORDER}
 use Rattle.form.specs.Bundles.{IsOnCount, is_on_count}
 use Rattle.form.proofs.BundleLegs.{on_count-from}
-use Rattle.order_book.specs.declared.limits.TheConstants.{MAX_MARKETS, MAX_ACCEPTED, MAX_BATCHES}
+use Rattle.limits.specs.declared.TheConstants.{MAX_MARKETS, MAX_BATCHES}
 use Rattle.order_book.specs.declared.new_order.NewOrder.{NewOrder}
 use Rattle.order_book.specs.declared.refusal.BookRefusal.{BookRefusal}
 use Rattle.order_book.specs.declared.refusal.BookRefusal.TheVariants.{NoMarket, MarketExists, Settled, WeightCount, BookFull, TooMany}
@@ -22,7 +22,7 @@ pub record Accepts (book : BookState) (order : NewOrder) : Type 0 where
   pub unsettled : market.settled ≡ false
   pub fits : IsOnCount (market.underlyings + 1) order.bundle
   pub room : length market.live < MAX_ORDERS
-  pub more : book.accepted < MAX_ACCEPTED
+  pub more : book.accepted < MAX_ORDER
 
 -- a test that lets a call pass did not hold
 passes : (test : Bool) (refusal : BookRefusal) (rest : Option BookRefusal) → (if test then Some refusal else rest) ≡ None → (test ≡ false) × (rest ≡ None)
@@ -54,20 +54,20 @@ accepts book order none = by (market_of book order.market) refl none
         ∷ (option_map_or (λ (found : MarketInfo). found.settled) (option_map info_of r) false, Settled)
         ∷ (option_map_or (λ (found : MarketInfo). not (has_form_for found order)) (option_map info_of r) false, WeightCount)
         ∷ (option_map_or is_full (option_map info_of r) false, BookFull)
-        ∷ (nat_le MAX_ACCEPTED book.accepted, TooMany) ∷ []) ≡ None → Accepts book order
+        ∷ (nat_le MAX_ORDER book.accepted, TooMany) ∷ []) ≡ None → Accepts book order
     by None e h = cc
     by (Some m) e h =
         let open_market = passes m.settled Settled _ h in
         let right_form = passes (not (is_on_count (m.underlyings + 1) order.bundle)) WeightCount _ open_market.1 in
         let not_full = passes (nat_le MAX_ORDERS (length m.live)) BookFull _ right_form.1 in
-        let not_many = passes (nat_le MAX_ACCEPTED book.accepted) TooMany _ not_full.1 in
+        let not_many = passes (nat_le MAX_ORDER book.accepted) TooMany _ not_full.1 in
         record {
           market = m;
           found = e;
           unsettled = open_market.0;
           fits = on_count-from (m.underlyings + 1) order.bundle (holds (is_on_count (m.underlyings + 1) order.bundle) right_form.0);
           room = less MAX_ORDERS (length m.live) not_full.0;
-          more = less MAX_ACCEPTED book.accepted not_many.0;
+          more = less MAX_ORDER book.accepted not_many.0;
         }
 
 -- a market whose batch may be finished: it is there and not settled, and there is room for one

@@ -10,11 +10,11 @@ use Rattle.std.proofs.lemmas.List.Elements.{All-nil, All-head, All-tail, All-pus
 use Rattle.std.proofs.lemmas.Map.Keys.{IsDistinct-push}
 use Rattle.std.proofs.lemmas.Map.Made.{is_some-lookup}
 use Rattle.arithmetic.proofs.Lists.{rise_push}
-use Rattle.form.specs.declared.limits.TheConstants.{MAX_UNDERLYINGS}
+use Rattle.form.specs.declared.limits.TheConstants.{MAX_UNDERLYINGS, MAX_ORDER}
 use Rattle.form.specs.declared.orders.Order.{Order}
 use Rattle.form.specs.Bundles.{IsOnCount}
 use Rattle.form.specs.Limits.{IsOrderWithin, IsWithinLimits}
-use Rattle.order_book.specs.declared.limits.TheConstants.{MAX_MARKETS, MAX_ACCEPTED, MAX_BATCHES}
+use Rattle.limits.specs.declared.TheConstants.{MAX_MARKETS, MAX_BATCHES}
 use Rattle.order_book.specs.declared.new_order.NewOrder.{NewOrder}
 use Rattle.order_book.specs.Markets.{MarketState, Markets, settled_market, has_number, changed_in, live_in, live_orders, with_live, with_live_in, without, without_in_each}
 use Rattle.order_book.specs.Numbers.{number_count, AreNumberedApart}
@@ -96,7 +96,7 @@ module _ (book : BookState) (kept : IsBookKept book) where
         all_changed market IsOneKept (λ e. IsMarketKept accepted e.1) (λ e ne k. later_kept book.accepted accepted le e.1 k)
         change book.markets m kept.distinct found (λ _. one) kept.markets
 
-    changed_book : (change : MarketState → MarketState) (accepted finished : ℕ) → book.accepted ≤ accepted → accepted ≤ MAX_ACCEPTED → finished ≤ MAX_BATCHES → IsMarketKept accepted (change m)
+    changed_book : (change : MarketState → MarketState) (accepted finished : ℕ) → book.accepted ≤ accepted → accepted ≤ MAX_ORDER → finished ≤ MAX_BATCHES → IsMarketKept accepted (change m)
         → AreNumberedApart (live_orders (changed_in change market book.markets))
         → IsBookKept (record { markets = changed_in change market book.markets; accepted = accepted; finished = finished })
     changed_book change accepted finished le few few_batches one apart =

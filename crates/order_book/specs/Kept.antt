@@ -3,11 +3,11 @@ use Rattle.std.specs.Prelude.{ℕ, ◌+◌, ◌≤◌, ◌≡◌, true, [], leng
 use Rattle.std.specs.List.{All, IsDistinct}
 use Rattle.std.specs.List.Sorted.{IsStrictlyIncreasing}
 use Rattle.std.specs.Map.{keys_of}
-use Rattle.form.specs.declared.limits.TheConstants.{MAX_ORDERS, MAX_UNDERLYINGS}
+use Rattle.form.specs.declared.limits.TheConstants.{MAX_ORDERS, MAX_UNDERLYINGS, MAX_ORDER}
 use Rattle.form.specs.declared.orders.Order.{Order}
 use Rattle.form.specs.Bundles.{IsOnCount}
 use Rattle.form.specs.Limits.{IsOrderWithin}
-use Rattle.order_book.specs.declared.limits.TheConstants.{MAX_MARKETS, MAX_ACCEPTED, MAX_BATCHES}
+use Rattle.limits.specs.declared.TheConstants.{MAX_MARKETS, MAX_BATCHES}
 use Rattle.order_book.specs.Markets.{MarketState, live_orders}
 use Rattle.order_book.specs.Numbers.{numbers_of, AreNumberedApart}
 use Rattle.order_book.specs.Book.{BookState}
@@ -35,5 +35,5 @@ pub record IsBookKept (book : BookState) : Type 0 where
   pub distinct : IsDistinct nat_eq (keys_of book.markets)
   pub markets : All (λ (m : ℕ × MarketState). IsMarketKept book.accepted m.1) book.markets
   pub numbers : AreNumberedApart (live_orders book.markets)
-  pub accepted : book.accepted ≤ MAX_ACCEPTED
+  pub accepted : book.accepted ≤ MAX_ORDER
   pub finished : book.finished ≤ MAX_BATCHES

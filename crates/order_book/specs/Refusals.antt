@@ -1,10 +1,10 @@
 -- The refusals of each call, each with its condition, in the order in which they are tried.
 use Rattle.std.specs.Prelude.{ℕ, ◌+◌, List, [], ◌∷◌, ◌++◌, Bool, false, not, Option, Some, None, is_some, nat_eq, nat_le, length}
 use Rattle.std.specs.Option.{option_map_or}
-use Rattle.form.specs.declared.limits.TheConstants.{MAX_ORDERS}
+use Rattle.form.specs.declared.limits.TheConstants.{MAX_ORDERS, MAX_ORDER}
 use Rattle.form.specs.declared.orders.Order.{Order}
 use Rattle.form.specs.Bundles.{is_on_count}
-use Rattle.order_book.specs.declared.limits.TheConstants.{MAX_MARKETS, MAX_ACCEPTED, MAX_BATCHES}
+use Rattle.limits.specs.declared.TheConstants.{MAX_MARKETS, MAX_BATCHES}
 use Rattle.order_book.specs.declared.market.MarketInfo.{MarketInfo}
 use Rattle.order_book.specs.declared.new_order.NewOrder.{NewOrder}
 use Rattle.order_book.specs.declared.refusal.BookRefusal.{BookRefusal}
@@ -60,7 +60,7 @@ order_refusals book order =
 abbrev pub room_refusals : BookState → ℕ → List (Bool × BookRefusal)
 room_refusals book market =
     (market_has book market is_full, BookFull)
-    ∷ (nat_le MAX_ACCEPTED book.accepted, TooMany)
+    ∷ (nat_le MAX_ORDER book.accepted, TooMany)
     ∷ []
 
 abbrev pub place_refusals : BookState → NewOrder → List (Bool × BookRefusal)

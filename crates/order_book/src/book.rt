@@ -2,7 +2,7 @@ ghost use Rattle.std.specs.Prelude.{◌≡◌, ◌+◌, ◌≤◌, ◌<◌, ◌�
 ghost use Rattle.std.specs.Option.{option_map};
 ghost use Rattle.form.specs.declared.limits.TheConstants.{MAX_ORDERS, MAX_UNDERLYINGS};
 ghost use Rattle.form.specs.Limits.{IsOrderWithin, IsWithinLimits};
-ghost use Rattle.order_book.specs.declared.limits.TheConstants.{MAX_BATCHES};
+ghost use Rattle.limits.specs.declared.TheConstants.{MAX_BATCHES};
 ghost use Rattle.order_book.specs.declared.refusal.BookRefusal.TheVariants as BookRefusal;
 ghost use Rattle.order_book.specs.Book.{empty_book, market_of, live_of, order_of, info_in, is_trading, batch_of, with_number, with_market, with_order, without_order, after_batch, after_close};
 ghost use Rattle.order_book.specs.Refusals.{unless_memory, market_refusals, order_refusals, room_refusals, place_refusals, live_refusals, batch_refusals, close_refusals, cancel_refusals};
@@ -10,12 +10,12 @@ ghost use Rattle.order_book.specs.Within.{IsNewOrderWithin};
 ghost use Rattle.order_book.specs.Kept.{IsBookKept};
 ghost use Rattle.lists.specs.Refusals.{TellsFirst};
 
-use crate::limits::{MAX_ACCEPTED, MAX_BATCHES, MAX_MARKETS};
 use crate::market::MarketInfo;
 use crate::markets::Markets;
 use crate::new_order::NewOrder;
 use crate::refusal::BookRefusal;
-use form::{Batch, MAX_ORDERS, Order};
+use form::{Batch, MAX_ORDER, MAX_ORDERS, Order};
+use limits::{MAX_BATCHES, MAX_MARKETS};
 use std::alloc::{AllocError, Global};
 use std::marker::Model;
 
@@ -128,7 +128,7 @@ impl Book {
                 return Err(BookRefusal::BookFull);
             }
         }
-        if self.accepted >= MAX_ACCEPTED {
+        if self.accepted >= MAX_ORDER {
             return Err(BookRefusal::TooMany);
         }
         Ok(())
@@ -238,7 +238,7 @@ impl Book {
         if found.is_settled() {
             return Err(BookRefusal::Settled);
         }
-        if self.finished >= MAX_BATCHES {
+        if u64::from(self.finished) >= MAX_BATCHES {
             return Err(BookRefusal::TooMany);
         }
         Ok(found.batch(self.alloc)?)

@@ -5,7 +5,6 @@
 #![tactic(auto)]
 
 mod book;
-mod limits;
 mod live_orders;
 mod market;
 mod markets;
@@ -13,7 +12,6 @@ mod new_order;
 mod refusal;
 
 pub use book::Book;
-pub use limits::{MAX_ACCEPTED, MAX_BATCHES, MAX_MARKETS};
 pub use market::MarketInfo;
 pub use new_order::NewOrder;
 pub use refusal::BookRefusal;

@@ -9,7 +9,7 @@ ghost use Rattle.exchange_core.specs.Refusals.{refusals};
 ghost use Rattle.form.specs.Limits.{IsWithinLimits};
 ghost use Rattle.frac.specs.Value.{fraction_of};
 ghost use Rattle.order_book.specs.Book.{batch_of, is_trading, market_of};
-ghost use Rattle.order_book.specs.declared.limits.TheConstants.{MAX_BATCHES};
+ghost use Rattle.limits.specs.declared.TheConstants.{MAX_BATCHES};
 ghost use Rattle.lists.specs.Refusals.{TellsFirst};
 ghost use Rattle.proposal_lines.specs.Clears.{better_in, better_than, charge_effect, cleared_by};
 ghost use Rattle.proposal_lines.specs.Proved.{AreProvedIn};

@@ -14,7 +14,7 @@ use Rattle.cert_check.specs.declared.outcome.Mark.{Mark}
 use Rattle.cert_check.specs.declared.outcome.Mark.TheVariants as mark
 use Rattle.serde_json.specs.Data.{Data}
 use Rattle.serde_json.specs.Find.{as_number, as_u64}
-use Rattle.reply_print.specs.declared.limits.TheConstants.{MAX_ACCOUNT, MAX_MARKET, MAX_BATCH}
+use Rattle.limits.specs.declared.TheConstants.{MAX_ACCOUNT, MAX_MARKET, MAX_BATCHES}
 use Rattle.reply_print.specs.Within.{IsAccount, IsMarket, IsOrderNumber, IsBatchNumber, IsBatchWithin, IsMarkWithin}
 use Rattle.reply_text.specs.BatchValues.{fraction_from, side_at}
 use Rattle.reply_text.specs.OutcomeValues.{certificate_from, claim_from}
@@ -89,7 +89,7 @@ fill_sound d =
 position_sound : (account market : ℕ) (d : Data) → Sound (IsPositionWithin account market) (position_from account market d)
 position_sound account market d =
     let P = IsPositionWithin account market in
-    after IsBatchNumber P _ _ (natural_sound 1 MAX_BATCH (codes "batch") d)
+    after IsBatchNumber P _ _ (natural_sound 1 MAX_BATCHES (codes "batch") d)
     (λ batch b. after IsFilled P _ _ (fill_sound d)
     (λ fill f. after IsBundleListed P _ _ (bundle_sound false d)
     (λ bundle l. after IsOrderNumber P _ _ (natural_sound 1 MAX_ORDER (codes "order") d)

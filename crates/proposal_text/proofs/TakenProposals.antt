@@ -14,7 +14,7 @@ use Rattle.settlement.specs.declared.position.Position.{Position}
 use Rattle.cert_check.specs.declared.outcome.Mark.TheVariants as mark
 use Rattle.cert_check.specs.declared.outcome.Proposal.{Proposal}
 use Rattle.serde_json.specs.Data.{Data, string}
-use Rattle.reply_print.specs.declared.limits.TheConstants.{MAX_ACCOUNT, MAX_MARKET, MAX_BATCH}
+use Rattle.limits.specs.declared.TheConstants.{MAX_ACCOUNT, MAX_MARKET, MAX_BATCHES}
 use Rattle.reply_print.specs.BatchPieces.{natural, fraction, pieces_of, leg_piece, order_piece}
 use Rattle.reply_print.specs.PieceData.{piece_data, pieces_data}
 use Rattle.reply_print.specs.Within.{IsOrderNumber, IsOrderWithin}
@@ -130,7 +130,7 @@ module _ (account market : ℕ) where
 
   position_taken : (p : Position) → IsPositionWithin account market p → position_from account market (piece_data (position_piece p)) ≡ Some p
   position_taken p h =
-      then_taken _ _ p.batch _ (natural_taken 1 MAX_BATCH p.batch h.batch)
+      then_taken _ _ p.batch _ (natural_taken 1 MAX_BATCHES p.batch h.batch)
       (then_taken _ _ p.fill _ (fill_taken p.fill h.filled)
       (then_taken _ _ p.bundle _
       (then_taken _ _ (legs_in p.bundle) _ (items_taken IsLegWithin leg_piece leg_from leg_taken (legs_in p.bundle) (legs_within p.bundle h.listed)) (bundle_made_of p.bundle))
@@ -224,7 +224,7 @@ bounded_taken line number market batch outcome h =
           (and_from _ _ (fills_are_fractions p.fills) (and_from _ _ (fraction_number p.claim.liability) (fraction_number p.claim.surplus))));
       taken = paired _ _ line _ (line_taken line h.0)
           (then_taken _ _ (cleared_batch_of number market batch) _
-          (cleared_batch_taken d number market batch (natural_taken 1 MAX_BATCH number h.1.0) (natural_taken 1 MAX_MARKET market h.1.1) (natural_taken 1 8 batch.underlyings b.0) (orders_taken batch.orders b.1 b.2))
+          (cleared_batch_taken d number market batch (natural_taken 1 MAX_BATCHES number h.1.0) (natural_taken 1 MAX_MARKET market h.1.1) (natural_taken 1 8 batch.underlyings b.0) (orders_taken batch.orders b.1 b.2))
           (ap (option_map (Bounded number market batch))
           (then_taken _ _ outcome.bound _ (fraction_taken outcome.bound)
           (then_taken _ _ outcome.units _ (natural_taken 0 MAX_BUDGET outcome.units (omega arith, h.1.3.0))

@@ -14,7 +14,7 @@ use Rattle.settlement.specs.declared.position.Position.{Position}
 use Rattle.serde_json.specs.Data.{Data}
 use Rattle.cert_check.specs.declared.outcome.Proposal.{Proposal}
 use Rattle.form.specs.declared.limits.TheConstants.{MAX_BUDGET, MAX_ORDER}
-use Rattle.reply_print.specs.declared.limits.TheConstants.{MAX_BATCH}
+use Rattle.limits.specs.declared.TheConstants.{MAX_BATCHES}
 use Rattle.reply_print.specs.Look.{word_at, number_at}
 use Rattle.reply_text.specs.BatchValues.{fraction_from, bundle_from, side_at}
 use Rattle.reply_text.specs.declared.batch_values.ClearedBatch.{ClearedBatch}
@@ -71,7 +71,7 @@ position_from account market d =
     (natural_at 1 MAX_ORDER (codes "order") d))
     (bundle_from false d))
     (fill_at d))
-    (natural_at 1 MAX_BATCH (codes "batch") d)
+    (natural_at 1 MAX_BATCHES (codes "batch") d)
 
 abbrev pub positions_from : Data → Option ProposalReply
 positions_from d =

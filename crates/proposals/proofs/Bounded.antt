@@ -19,7 +19,7 @@ use Rattle.form.specs.declared.orders.Side.TheVariants.{Buy, Sell}
 use Rattle.form.specs.Limits.{IsOrderWithin}
 use Rattle.form.specs.Payoff.{bundle_of, bundle_payoff}
 use Rattle.cert_check.specs.MeasureSums.{add_gain, bound_of, gain_at, has_unit_mass, plus_gain, price_of}
-use Rattle.settlement.specs.declared.limits.TheConstants.{MAX_PAYOFF}
+use Rattle.limits.specs.declared.TheConstants.{MAX_PAYOFF}
 use Rattle.settlement.proofs.Worth.{plus_fits}
 use Rattle.proposals.specs.Judged.{zero_prices}
 use Rattle.proposals.proofs.Payoffs.{pays, small_at_zero}

@@ -12,7 +12,7 @@ use Rattle.form.specs.Limits.{IsListed, IsOrderWithin}
 use Rattle.form.specs.Payoff.{bundle_of, bundle_payoff, leg_of, legs_in, option_of}
 use Rattle.form.specs.Steps.{bundle_payoff_of}
 use Rattle.form.proofs.SameBundle.{length-legs_in}
-use Rattle.settlement.specs.declared.limits.TheConstants.{MAX_PAYOFF}
+use Rattle.limits.specs.declared.TheConstants.{MAX_PAYOFF}
 use Rattle.settlement.proofs.Worth.{IsSmall, legs_fit, legs_small, reach, sizes_few, sizes_of}
 
 -- what a bundle pays at a state, which fits and is small

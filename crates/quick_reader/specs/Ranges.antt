@@ -10,7 +10,7 @@ use Rattle.form.specs.declared.orders.Order.{Order}
 use Rattle.form.specs.declared.orders.Batch.{Batch}
 use Rattle.form.specs.Bundles.{legs_in, count_sizes}
 use Rattle.form.specs.Payoff.{option_of}
-use Rattle.settlement.specs.declared.limits.TheConstants.{MAX_GAIN}
+use Rattle.limits.specs.declared.TheConstants.{MAX_GAIN, MAX_ACCOUNT, MAX_MARKET, MAX_BATCHES, MAX_PLACE, MAX_LAPSED, MAX_REFUSAL, MIN_FIELD, MAX_FIELD}
 use Rattle.settlement.specs.declared.position.PaidOut.{PaidOut}
 use Rattle.cert_check.specs.declared.measures.Measure.{Measure}
 use Rattle.cert_check.specs.declared.measures.Weighted.{Weighted}
@@ -22,7 +22,6 @@ use Rattle.cert_check.specs.declared.outcome.Cover.TheVariants.{Line, Tree}
 use Rattle.cert_check.specs.declared.outcome.Mark.{Mark}
 use Rattle.cert_check.specs.declared.outcome.Mark.TheVariants as mark
 use Rattle.cert_check.specs.declared.outcome.Outcome.{Outcome}
-use Rattle.reply_print.specs.declared.limits.TheConstants.{MAX_ACCOUNT, MAX_MARKET, MAX_BATCH, MAX_PLACE, MAX_LAPSED, MAX_REFUSAL, MIN_FIELD, MAX_FIELD}
 use Rattle.reply_print.specs.declared.replies.Reply.{Reply}
 use Rattle.reply_print.specs.declared.replies.Reply.TheVariants.{Opened, Deposited, Withdrawn, Listed, Placed, Cancelled, Cleared, Settled, Balance, Refused}
 use Rattle.reply_print.specs.OutcomePieces.{state_entries}
@@ -93,7 +92,7 @@ has_its_side Sell amount = nat_le 1 amount
 
 abbrev pub is_paid : PaidOut → Bool
 is_paid paid =
-    is_from_to 1 MAX_BATCH paid.batch && (is_from_to 1 MAX_ORDER paid.order
+    is_from_to 1 MAX_BATCHES paid.batch && (is_from_to 1 MAX_ORDER paid.order
     && (is_from_to 1 MAX_ACCOUNT paid.account && (nat_le paid.amount MAX_GAIN && has_its_side paid.side paid.amount)))
 
 abbrev pub is_field : ℕ → Bool → Bool
@@ -101,7 +100,7 @@ is_field place true = is_from_to MIN_FIELD MAX_FIELD place
 is_field place false = place == 0
 
 abbrev pub is_cleared : ℕ → ℕ → Batch → Outcome → Bool
-is_cleared number market batch outcome = is_from_to 1 MAX_BATCH number && (is_from_to 1 MAX_MARKET market && (is_batch batch && is_outcome outcome))
+is_cleared number market batch outcome = is_from_to 1 MAX_BATCHES number && (is_from_to 1 MAX_MARKET market && (is_batch batch && is_outcome outcome))
 
 abbrev pub is_balance : ℕ → ℤ → ℤ → Bool
 is_balance account balance reserved = nat_le account MAX_ACCOUNT && (is_small balance && (is_small reserved && int_le (pos 0) reserved))

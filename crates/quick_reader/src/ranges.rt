@@ -13,12 +13,12 @@ use form::{
     Batch, Bundle, Leg, MAX_BUDGET, MAX_OPTIONS, MAX_ORDER, MAX_ORDERS, MAX_PRICE, MAX_QUANTITY,
     MAX_STRIKE, MAX_UNDERLYINGS, MAX_WEIGHT, Order, Side,
 };
-use reply_print::Reply;
-use reply_print::limits::{
-    MAX_ACCOUNT, MAX_BATCH, MAX_FIELD, MAX_LAPSED, MAX_LINE, MAX_MARKET, MAX_PLACE, MAX_REFUSAL,
-    MIN_FIELD,
+use limits::{
+    MAX_ACCOUNT, MAX_BATCHES, MAX_FIELD, MAX_GAIN, MAX_LAPSED, MAX_LINES, MAX_MARKET, MAX_PLACE,
+    MAX_REFUSAL, MIN_FIELD,
 };
-use settlement::{MAX_GAIN, PaidOut};
+use reply_print::Reply;
+use settlement::PaidOut;
 use sign_tree::{Multiplier, Node};
 
 fn is_from_to(low: u64, high: u64, n: u64) -> bool
@@ -251,7 +251,7 @@ fn has_its_side(side: Side, amount: u64) -> bool
 fn is_paid(paid: &PaidOut) -> bool
     ensures { result ≡ tests.is_paid paid.now }
 {
-    is_from_to(1, MAX_BATCH, u64::from(paid.batch))
+    is_from_to(1, MAX_BATCHES, u64::from(paid.batch))
         && is_from_to(1, MAX_ORDER, paid.order)
         && is_from_to(1, MAX_ACCOUNT, u64::from(paid.account))
         && paid.amount <= MAX_GAIN
@@ -290,7 +290,7 @@ fn is_field(field: u8, is_range: bool) -> bool
 fn is_cleared(number: u32, market: u32, batch: &Batch, outcome: &Outcome) -> bool
     ensures { result ≡ tests.is_cleared number market batch.now outcome.now }
 {
-    is_from_to(1, MAX_BATCH, u64::from(number))
+    is_from_to(1, MAX_BATCHES, u64::from(number))
         && is_market(market)
         && is_batch(batch)
         && is_outcome(outcome)
@@ -345,5 +345,5 @@ fn is_reply(reply: &Reply) -> bool
 pub fn is_within(line: u32, reply: &Reply) -> bool
     ensures { IsTrue result → IsWithin line reply.now }
 {
-    is_from_to(1, MAX_LINE, u64::from(line)) && is_reply(reply)
+    is_from_to(1, MAX_LINES, u64::from(line)) && is_reply(reply)
 }

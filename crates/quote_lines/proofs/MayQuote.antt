@@ -7,7 +7,7 @@ use Rattle.form.specs.declared.orders.Batch.{Batch}
 use Rattle.form.specs.declared.orders.Order.{Order}
 use Rattle.form.specs.Limits.{IsListed}
 use Rattle.form.specs.Payoff.{option_of}
-use Rattle.order_book.specs.declared.limits.TheConstants.{MAX_BATCHES}
+use Rattle.limits.specs.declared.TheConstants.{MAX_BATCHES}
 use Rattle.order_book.specs.declared.market.MarketInfo.{MarketInfo}
 use Rattle.order_book.specs.declared.refusal.BookRefusal.TheVariants as book
 use Rattle.order_book.specs.Book.{batch_of, info_in, info_of, market_of}

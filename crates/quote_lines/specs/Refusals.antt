@@ -1,7 +1,7 @@
 -- The refusals of a request for a quote, each with its condition, in the order in which they are
 -- tried.
 use Rattle.std.specs.Prelude.{◌+◌, Bool, true, not, List, [], ◌∷◌, ◌++◌, Option, Some, None, nat_eq, nat_le}
-use Rattle.order_book.specs.declared.limits.TheConstants.{MAX_BATCHES}
+use Rattle.limits.specs.declared.TheConstants.{MAX_BATCHES}
 use Rattle.order_book.specs.declared.market.MarketInfo.{MarketInfo}
 use Rattle.order_book.specs.Book.{BookState, info_in}
 use Rattle.order_book.specs.Refusals.{is_full}

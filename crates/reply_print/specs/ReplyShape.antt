@@ -4,7 +4,7 @@ use Rattle.std.specs.Str.{bytes_eq}
 use Rattle.serde_json.specs.Data.{Data}
 use Rattle.reply_print.specs.ClearedShape.{cleared_shape}
 use Rattle.reply_print.specs.Look.{has_members, has_at, is_whole, is_text, is_word, is_list, number_at}
-use Rattle.reply_print.specs.declared.limits.TheConstants.{MAX_REFUSAL}
+use Rattle.limits.specs.declared.TheConstants.{MAX_REFUSAL}
 use Rattle.reply_print.specs.Words.{is_range_refusal, reason_word}
 
 abbrev pub opened_shape : Data → Bool

@@ -6,7 +6,7 @@ use Rattle.form.specs.declared.orders.Side.{Side}
 use Rattle.form.specs.declared.orders.Side.TheVariants.{Buy, Sell}
 use Rattle.form.specs.declared.limits.TheConstants.{MAX_BUDGET, MAX_ORDER, MAX_ORDERS, MAX_UNDERLYINGS}
 use Rattle.form.specs.Limits as limits
-use Rattle.settlement.specs.declared.limits.TheConstants.{MAX_GAIN}
+use Rattle.limits.specs.declared.TheConstants.{MAX_GAIN, MAX_LINES, MAX_ACCOUNT, MAX_MARKET, MAX_BATCHES, MAX_PLACE, MAX_LAPSED, MAX_REFUSAL, MIN_FIELD, MAX_FIELD}
 use Rattle.cert_check.specs.declared.measures.Weighted.{Weighted}
 use Rattle.sign_tree.specs.declared.trees.Node.{Node}
 use Rattle.sign_tree.specs.declared.trees.Node.TheVariants.{Split, Leaf}
@@ -16,7 +16,6 @@ use Rattle.cert_check.specs.declared.outcome.Cover.TheVariants.{Line, Tree}
 use Rattle.cert_check.specs.declared.outcome.Mark.{Mark}
 use Rattle.cert_check.specs.declared.outcome.Mark.TheVariants as mark
 use Rattle.cert_check.specs.declared.outcome.Outcome.{Outcome}
-use Rattle.reply_print.specs.declared.limits.TheConstants.{MAX_LINE, MAX_ACCOUNT, MAX_MARKET, MAX_BATCH, MAX_PLACE, MAX_LAPSED, MAX_REFUSAL, MIN_FIELD, MAX_FIELD}
 use Rattle.reply_print.specs.Words.{is_range_refusal}
 use Rattle.reply_print.specs.OutcomePieces.{state_entries, count_of}
 use Rattle.form.specs.declared.orders.Batch.{Batch}
@@ -27,7 +26,7 @@ use Rattle.reply_print.specs.declared.replies.Reply.TheVariants.{Opened, Deposit
 use Rattle.form.specs.Between.{Between}
 
 abbrev pub IsLine : ℕ → Type 0
-IsLine line = Between 1 MAX_LINE line
+IsLine line = Between 1 MAX_LINES line
 
 abbrev pub IsAccount : ℕ → Type 0
 IsAccount account = Between 1 MAX_ACCOUNT account
@@ -39,7 +38,7 @@ abbrev pub IsOrderNumber : ℕ → Type 0
 IsOrderNumber order = Between 1 MAX_ORDER order
 
 abbrev pub IsBatchNumber : ℕ → Type 0
-IsBatchNumber number = Between 1 MAX_BATCH number
+IsBatchNumber number = Between 1 MAX_BATCHES number
 
 abbrev pub IsMarketSize : ℕ → Type 0
 IsMarketSize underlyings = Between 1 MAX_UNDERLYINGS underlyings

@@ -2,6 +2,7 @@
 ghost use Rattle.reply_print.specs.Laws.{LinesAreCompact, LinesAreRead};
 
 /// A line is the compact text of its value.
+#[tactic(auto, using(crate::proofs::LineLaws::line_is_compact))]
 pub fn lines_are_compact()
     ensures { LinesAreCompact }
 {}

@@ -7,7 +7,6 @@ pub mod cleared_numbers;
 pub mod cleared_shape;
 pub mod fraction_texts;
 pub mod laws;
-pub mod limits;
 mod lines;
 pub mod look;
 pub mod number_texts;

@@ -5,9 +5,9 @@ ghost use Rattle.reply_print.specs.Look.{is_list as list_passes};
 ghost use Rattle.reply_print.specs.ReplyShape.{opened_shape as opened_is, moved_shape as moved_is, listed_shape as listed_is, ordered_shape as ordered_is, paid_shape as paid_is, settled_shape as settled_is, balance_shape as balance_is, refused_shape as refused_is, has_its_field, shape_by as shape_is};
 
 use crate::cleared_shape::cleared_shape;
-use crate::limits::MAX_REFUSAL;
 use crate::look::{has_at, has_members, has_text, has_whole, has_word, is_list, number_at};
 use crate::words::reason;
+use limits::MAX_REFUSAL;
 use serde_json::Value;
 
 fn opened_shape(value: &Value) -> bool

@@ -13,7 +13,7 @@ use Rattle.command_text.proofs.ReadWithin.{said_is_within}
 use Rattle.exchange_core.specs.Step.{batch_in}
 use Rattle.exchange_lines.specs.LineSteps.{InputLine}
 use Rattle.form.specs.declared.orders.Batch.{Batch}
-use Rattle.live_lines.specs.Open.{count_limit}
+use Rattle.limits.specs.declared.TheConstants.{MAX_LINES}
 use Rattle.reply_print.specs.Within.{IsMarket}
 use Rattle.reply_print.proofs.Ascii.{piece_has_no_feed}
 use Rattle.proposal_text.specs.Pieces.{proposal_line, proposal_piece}
@@ -44,7 +44,7 @@ use Rattle.reply_ranges.proofs.States.{batch_is_within, live_ranged}
 
 -- ---- before a line of an input
 reached : (low : ℕ) (state : ProposingState) (before later : List InputLine) (line : InputLine) → Stands (low + 1) state → AreCounted low (before ++ line ∷ later)
-    → Stands line.number (state_by_lines state before) × (line.number ≤ count_limit)
+    → Stands line.number (state_by_lines state before) × (line.number ≤ MAX_LINES)
 reached low state [] later line stands counted = let above = counted.0 in (still (low + 1) line.number state (omega (arith, above)) stands, counted.1)
 reached low state (first ∷ before) later line stands counted =
     let above = counted.0 in
@@ -52,7 +52,7 @@ reached low state (first ∷ before) later line stands counted =
     reached first.number (proposing_line first.number state first.bytes).1 before later line (answers first.number state counted.1 here first.bytes).1 counted.2
 
 -- ---- what is told
-module _ (number : ℕ) (state : ProposingState) (few : number ≤ count_limit) (stands : Stands number state) (market : ℕ) (tells : TellsLive state market) where
+module _ (number : ℕ) (state : ProposingState) (few : number ≤ MAX_LINES) (stands : Stands number state) (market : ℕ) (tells : TellsLive state market) where
   abbrev live : Batch
   live = batch_in state.exchange market
 

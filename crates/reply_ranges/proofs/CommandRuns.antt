@@ -6,7 +6,7 @@ use Rattle.command_text.specs.declared.command.Command.{Command}
 use Rattle.command_text.specs.Within.{IsWithin}
 use Rattle.reply_print.specs.declared.replies.Reply.{Reply}
 use Rattle.reply_print.specs.Within.{IsReplyWithin}
-use Rattle.reply_print.specs.declared.limits.TheConstants.{MAX_LINE}
+use Rattle.limits.specs.declared.TheConstants.{MAX_LINES}
 use Rattle.exchange_core.specs.ExchangeState.{ExchangeState, empty_exchange}
 use Rattle.exchange_core.specs.Step.{step}
 use Rattle.exchange_lines.specs.GainRuns.{replies_by}
@@ -16,7 +16,7 @@ use Rattle.reply_ranges.specs.Laws.{RepliesAreWithin}
 use Rattle.reply_ranges.proofs.States.{IsRanged, empty_is_ranged, step_ranged}
 use Rattle.reply_ranges.proofs.StepReplies.{step_within}
 
-run_within : (commands : List Command) (lines : ℕ) (state : ExchangeState) → lines + length commands ≤ MAX_LINE → All IsWithin commands → IsRunning state → IsRanged lines state
+run_within : (commands : List Command) (lines : ℕ) (state : ExchangeState) → lines + length commands ≤ MAX_LINES → All IsWithin commands → IsRunning state → IsRanged lines state
     → All IsReplyWithin (replies_by step state commands)
 run_within [] lines state few within running ranged = All-nil IsReplyWithin
 run_within (command ∷ commands) lines state few within running ranged =

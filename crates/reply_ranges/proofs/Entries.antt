@@ -10,7 +10,7 @@ use Rattle.std.proofs.lemmas.Nat.{mul-le}
 use Rattle.cash_ledger.specs.declared.entry.Cause.{Cause}
 use Rattle.cash_ledger.specs.declared.entry.Cause.TheVariants.{Payoff, Premium}
 use Rattle.cash_ledger.specs.declared.entry.Entry.{Entry}
-use Rattle.cash_ledger.specs.declared.limits.TheConstants.{MAX_MOVE}
+use Rattle.limits.specs.declared.TheConstants.{MAX_GAIN}
 use Rattle.cash_ledger.specs.Entries.{AreBounded, balance_of, transfer_of}
 use Rattle.cash_ledger.proofs.Balances.{balance_size}
 use Rattle.clearing_model.specs.Certificate.{IsFill}
@@ -35,26 +35,26 @@ pub AreBounded-append : (xs ys : List Entry) → AreBounded xs → AreBounded ys
 AreBounded-append [] ys a b = b
 AreBounded-append (x ∷ xs) ys a b = (a.0, AreBounded-append xs ys a.1 b)
 
-transfer_bounded : (from to amount : ℕ) (cause : Cause) → amount ≤ MAX_MOVE → AreBounded (transfer_of from to amount cause)
+transfer_bounded : (from to amount : ℕ) (cause : Cause) → amount ≤ MAX_GAIN → AreBounded (transfer_of from to amount cause)
 transfer_bounded from to amount cause small =
     ((omega (arith, ints, small), omega (arith, ints, small)), ((omega (arith, ints, small), omega (arith, ints, small)), tt))
 
-side_bounded : (side : Side) (account amount : ℕ) (cause : Cause) → amount ≤ MAX_MOVE → AreBounded (premium_transfer side account amount cause)
+side_bounded : (side : Side) (account amount : ℕ) (cause : Cause) → amount ≤ MAX_GAIN → AreBounded (premium_transfer side account amount cause)
 side_bounded Buy account amount cause small = transfer_bounded account 0 amount cause small
 side_bounded Sell account amount cause small = transfer_bounded 0 account amount cause small
 
 premium_small : (side : Side) (x : ℤ) (d quantity price : ℕ) → 0 < d → pos 0 ≤ℤ x → x ≤ℤ pos (quantity * d) → quantity ≤ MAX_QUANTITY → price ≤ MAX_PRICE
-    → premium_of side (record { numerator = x; denominator = d }) price ≤ MAX_MOVE
+    → premium_of side (record { numerator = x; denominator = d }) price ≤ MAX_GAIN
 premium_small side (negsuc n) d quantity price some low high few cheap = absurd (omega (arith, ints, low))
 premium_small side (pos n) d quantity price some low high few cheap =
     let options : n ≤ 1000000 * d = omega (arith, ints, high, mul-le-mul_right d few) in
     let most : n * price ≤ 1000000 * d * 1000000000000 = mul-le n price (1000000 * d) 1000000000000 options cheap in
-    let up = ceil_least (n * price) d MAX_MOVE some (omega (arith, most)) in
+    let up = ceil_least (n * price) d MAX_GAIN some (omega (arith, most)) in
     by side up
   where
-    by : (s : Side) → premium_of Buy (record { numerator = pos n; denominator = d }) price ≤ MAX_MOVE → premium_of s (record { numerator = pos n; denominator = d }) price ≤ MAX_MOVE
+    by : (s : Side) → premium_of Buy (record { numerator = pos n; denominator = d }) price ≤ MAX_GAIN → premium_of s (record { numerator = pos n; denominator = d }) price ≤ MAX_GAIN
     by Buy up = up
-    by Sell up = down_fits (n * price) d MAX_MOVE up
+    by Sell up = down_fits (n * price) d MAX_GAIN up
 
 module _ (batch : ℕ) where
   premium_bounded : (order : Order) (fill : Frac128) → IsOrderWithin order → IsFill (order, fraction_of fill) → AreBounded (premiums_of batch order (fraction_of fill))
@@ -75,12 +75,12 @@ module _ (batch : ℕ) where
       (premium_bounded order fill (All-head IsOrderWithin order orders within) (All-head IsFill first (zip orders (map fraction_of fills)) are))
       (premiums_bounded orders fills (All-tail IsOrderWithin order orders within) (All-tail IsFill first (zip orders (map fraction_of fills)) are))
 
-payoff_side_bounded : (side : Side) (account amount : ℕ) (cause : Cause) → amount ≤ MAX_MOVE → AreBounded (payoff_transfer side account amount cause)
+payoff_side_bounded : (side : Side) (account amount : ℕ) (cause : Cause) → amount ≤ MAX_GAIN → AreBounded (payoff_transfer side account amount cause)
 payoff_side_bounded Buy account amount cause small = transfer_bounded 0 account amount cause small
 payoff_side_bounded Sell account amount cause small = transfer_bounded account 0 amount cause small
 
 abbrev pub IsAmountSmall : PaidOut → Type 0
-IsAmountSmall paid = paid.amount ≤ MAX_MOVE
+IsAmountSmall paid = paid.amount ≤ MAX_GAIN
 
 pub payoffs_bounded : (payouts : List PaidOut) → All IsAmountSmall payouts → AreBounded (payoff_entries payouts)
 payoffs_bounded [] small = tt

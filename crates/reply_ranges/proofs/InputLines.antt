@@ -6,20 +6,20 @@ use Rattle.command_text.specs.declared.lines.RawLine.{RawLine}
 use Rattle.command_text.specs.Lines.{mark_size, pieces_of, raw_from, without_last_empty, without_return}
 use Rattle.command_text.proofs.LineParts.{cut, cut_feed, cut_other, cut_parts}
 use Rattle.exchange_lines.specs.LineSteps.{InputLine, input_line, input_lines}
-use Rattle.live_lines.specs.Open.{count_limit}
+use Rattle.limits.specs.declared.TheConstants.{MAX_LINES}
 use Rattle.live_lines.specs.Serving.{IsInputWithin}
 use Rattle.live_lines.specs.Taken.{AreWithin}
 
 -- each number is above the one before it, and none above the limit
 abbrev pub AreCounted : ℕ → List InputLine → Type 0
 AreCounted low [] = Unit {0}
-AreCounted low (line ∷ lines) = (low < line.number) × (line.number ≤ count_limit) × AreCounted line.number lines
+AreCounted low (line ∷ lines) = (low < line.number) × (line.number ≤ MAX_LINES) × AreCounted line.number lines
 
 later_counted : (low next : ℕ) (lines : List InputLine) → low ≤ next → AreCounted next lines → AreCounted low lines
 later_counted low next [] le counted = tt
 later_counted low next (line ∷ lines) le counted = (omega (arith, le, counted.0), counted.1, counted.2)
 
-pieces_counted : (input : List ℕ) (low from : ℕ) (pieces : List (List ℕ)) → low + length pieces ≤ count_limit
+pieces_counted : (input : List ℕ) (low from : ℕ) (pieces : List (List ℕ)) → low + length pieces ≤ MAX_LINES
     → AreCounted low (map (input_line input) (raw_from (low + 1) from pieces))
 pieces_counted input low from [] few = tt
 pieces_counted input low from (piece ∷ pieces) few =
@@ -59,7 +59,7 @@ fewer zero bytes = omega arith
 fewer (suc n) [] = omega arith
 fewer (suc n) (b ∷ bytes) = omega (arith, fewer n bytes, one_less b bytes)
 
-within_few : (skips : Bool) (number : ℕ) (lines : List (List ℕ)) → number ≤ count_limit + 1 → AreWithin skips number lines → number + length lines ≤ count_limit + 1
+within_few : (skips : Bool) (number : ℕ) (lines : List (List ℕ)) → number ≤ MAX_LINES + 1 → AreWithin skips number lines → number + length lines ≤ MAX_LINES + 1
 within_few skips number [] few within = omega (arith, few)
 within_few skips number (line ∷ lines) few within =
     let here = within.0 in omega (arith, within_few skips (number + 1) lines (omega (arith, here)) within.3)

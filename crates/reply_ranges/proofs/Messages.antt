@@ -13,10 +13,9 @@ use Rattle.command_text.specs.Numbers as numbers
 use Rattle.command_text.proofs.Bounds.{natural_between, number_within}
 use Rattle.form.specs.Between.{Between}
 use Rattle.exchange_lines.proofs.RunStates.{same}
-use Rattle.live_lines.specs.Open.{count_limit}
 use Rattle.session_gate.specs.declared.answer.Answer.{Answer}
 use Rattle.session_gate.specs.declared.answer.Answer.TheVariants.{First, Repeat, Old, Ahead, Changed, Sessions}
-use Rattle.session_gate.specs.declared.limits.TheConstants.{MAX_NUMBER, MAX_SESSION}
+use Rattle.limits.specs.declared.TheConstants.{MAX_MESSAGE, MAX_SESSION, MAX_LINES}
 use Rattle.session_gate.specs.Answers.{answer_by, answer_to, has_kept_body, is_ahead, is_last, is_old, is_one_too_many}
 use Rattle.session_gate.specs.Bodies.{is_body}
 use Rattle.session_gate.specs.Gate.{KnownSessions, LastAccepted, Message, accepted_as, kept_of, message_of, next_number, keep}
@@ -48,7 +47,7 @@ use Rattle.reply_print.proofs.Digits.{plain-decimal}
 
 -- ---- what a line says as a message
 abbrev IsMessage : Message → Type 0
-IsMessage message = IsSessionNumber message.session × Between 1 MAX_NUMBER message.number
+IsMessage message = IsSessionNumber message.session × Between 1 MAX_MESSAGE message.number
 
 value_within : (limit : ℕ) (read : NumberRead) → numbers.IsWithin (pos 1) (pos limit) read → IfSome (value_read read) (Between 1 limit)
 value_within limit (Value v) h = natural_between 1 limit v h
@@ -58,19 +57,19 @@ value_within limit Outside h = tt
 number_to_within : (limit : ℕ) (field : List ℕ) → IfSome (number_to limit field) (Between 1 limit)
 number_to_within limit field = value_within limit (number_in (pos 1) (pos limit) field) (number_within (pos 1) (pos limit) field)
 
-with_within : (session number : Option ℕ) (body : List ℕ) → IfSome session IsSessionNumber → IfSome number (Between 1 MAX_NUMBER) → IfSome (message_with session number body) IsMessage
+with_within : (session number : Option ℕ) (body : List ℕ) → IfSome session IsSessionNumber → IfSome number (Between 1 MAX_MESSAGE) → IfSome (message_with session number body) IsMessage
 with_within None number body s n = tt
 with_within (Some session) None body s n = tt
 with_within (Some session) (Some number) body s n =
     elim (is_body body) as (λ b. IfSome (if b then Some (message_of session number body) else None) IsMessage) [ true ↦ (s, n) | false ↦ tt ]
 
 second_within : (session : Option ℕ) (parts : Option (List ℕ × List ℕ)) → IfSome session IsSessionNumber
-    → IfSome (option_and_then (λ second. message_with session (number_to MAX_NUMBER second.0) second.1) parts) IsMessage
+    → IfSome (option_and_then (λ second. message_with session (number_to MAX_MESSAGE second.0) second.1) parts) IsMessage
 second_within session None s = tt
-second_within session (Some second) s = with_within session (number_to MAX_NUMBER second.0) second.1 s (number_to_within MAX_NUMBER second.0)
+second_within session (Some second) s = with_within session (number_to MAX_MESSAGE second.0) second.1 s (number_to_within MAX_MESSAGE second.0)
 
 first_within : (parts : Option (List ℕ × List ℕ))
-    → IfSome (option_and_then (λ first. option_and_then (λ second. message_with (number_to MAX_SESSION first.0) (number_to MAX_NUMBER second.0) second.1) (at_comma first.1)) parts) IsMessage
+    → IfSome (option_and_then (λ first. option_and_then (λ second. message_with (number_to MAX_SESSION first.0) (number_to MAX_MESSAGE second.0) second.1) (at_comma first.1)) parts) IsMessage
 first_within None = tt
 first_within (Some first) = second_within (number_to MAX_SESSION first.0) (at_comma first.1) (number_to_within MAX_SESSION first.0)
 
@@ -92,7 +91,7 @@ expected_if false answer later h k = k
 
 -- what is kept of a session is a sound line of `serve`
 record IsKeptServed (kept : LastAccepted) : Type 0 where
-  number : Between 1 MAX_NUMBER kept.number
+  number : Between 1 MAX_MESSAGE kept.number
   reply : ServedReply
   served : IsServedLineOf kept.reply reply
   one : HasNoFeed kept.reply
@@ -170,7 +169,7 @@ without_it : (text : List ℕ) → without_feed (text ++ 10 ∷ []) ≡ text
 without_it text = take_at text (10 ∷ []) (length (text ++ 10 ∷ []) - 1) (omega (arith, length-append text (10 ∷ [])))
 
 -- ---- what is written for a line
-module _ (number : ℕ) (state : SessionsState ProposingState) (few : number ≤ count_limit) (before : StandsBefore number state) where
+module _ (number : ℕ) (state : SessionsState ProposingState) (few : number ≤ MAX_LINES) (before : StandsBefore number state) where
   abbrev IsTold : List ℕ × SessionsState ProposingState → Type 0
   IsTold = IsAnswered (StandsBefore (number + 1))
 

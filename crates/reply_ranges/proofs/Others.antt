@@ -64,7 +64,7 @@ use Rattle.lists.specs.Refusals.{first_of}
 use Rattle.lists.proofs.FirstRefusal.{none_in_both}
 use Rattle.reply_print.specs.ReplyPieces.{reply_line}
 use Rattle.reply_print.specs.Within.{IsLine}
-use Rattle.reply_print.specs.declared.limits.TheConstants.{MAX_LINE}
+use Rattle.limits.specs.declared.TheConstants.{MAX_LINES}
 use Rattle.reply_ranges.specs.Laws.{HasField}
 use Rattle.reply_ranges.proofs.Fields.{IsPlacedIn}
 use Rattle.reply_ranges.proofs.Refusals.{IsOne, IsTold, first_told}
@@ -146,7 +146,7 @@ same_margin number request margin.Wide = refl
 same_margin number request margin.Budget = refl
 
 -- ---- the lines
-module _ (lines number : ℕ) (few : lines + 1 ≤ MAX_LINE) (is_line : IsLine number) (state : ExchangeState) (stands : IsStanding lines state) where
+module _ (lines number : ℕ) (few : lines + 1 ≤ MAX_LINES) (is_line : IsLine number) (state : ExchangeState) (stands : IsStanding lines state) where
   pub refusal_served : (first : Refusal) → IsTold first → IsServedText (reply_line number (refused_with first) ++ 10 ∷ [])
   refusal_served first is = run_text number (refused_with first) (is_line, is) tt
 

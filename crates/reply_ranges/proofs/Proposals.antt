@@ -40,13 +40,13 @@ use Rattle.order_book.specs.Numbers.{numbers_of}
 use Rattle.order_book.specs.Refusals.{live_refusals}
 use Rattle.order_book.proofs.Accepting.{finishable, listing_live}
 use Rattle.order_book.proofs.MarketLists.{same_number}
-use Rattle.order_book.specs.declared.limits.TheConstants.{MAX_ACCEPTED, MAX_BATCHES}
+use Rattle.form.specs.declared.limits.TheConstants.{MAX_ORDER}
+use Rattle.limits.specs.declared.TheConstants.{MAX_BATCHES, MAX_LINES}
 use Rattle.lists.specs.Refusals.{first_of}
 use Rattle.settlement.specs.declared.position.Position.{Position}
 use Rattle.reply_print.specs.ReplyPieces.{reply_line}
 use Rattle.reply_print.specs.Within.{IsLine}
 use Rattle.reply_print.specs.Within as reply
-use Rattle.reply_print.specs.declared.limits.TheConstants.{MAX_LINE}
 use Rattle.proposal_text.specs.declared.replies.BoundedOutcome.{BoundedOutcome}
 use Rattle.proposal_text.specs.declared.replies.Failed.TheVariants as failed
 use Rattle.proposal_text.specs.declared.replies.ProposalReply.TheVariants as told
@@ -95,7 +95,7 @@ proposed_in line request listed =
     let text = drop request.from line in for_market_in text request.market (submission_of text) (some_text text) listed
 
 -- ---- positions
-module _ (state : ExchangeState) (finished : state.book.finished ≤ MAX_BATCHES) (accepted : state.book.accepted ≤ MAX_ACCEPTED) (account market : ℕ) where
+module _ (state : ExchangeState) (finished : state.book.finished ≤ MAX_BATCHES) (accepted : state.book.accepted ≤ MAX_ORDER) (account market : ℕ) where
   position_within : (p : Position) → IsNumbered state.book p → IsPositionKept state.accounts state.book.markets p → p.account ≡ account → p.market ≡ market → IsPositionWithin account market p
   position_within p numbered kept own there = record {
     account_is = own;
@@ -160,7 +160,7 @@ module _ (state : ProposingState) (sound : IsSound state) (are : AreKeptWithin s
       subst (IsKeptBetter batch outcome) (sym c.is) kept
 
 -- ---- the lines
-module _ (lines number : ℕ) (few : lines + 1 ≤ MAX_LINE) (is_line : IsLine number) (state : ProposingState) (stands : IsStanding lines state.exchange) (sound : IsSound state)
+module _ (lines number : ℕ) (few : lines + 1 ≤ MAX_LINES) (is_line : IsLine number) (state : ProposingState) (stands : IsStanding lines state.exchange) (sound : IsSound state)
     (are : AreKeptWithin state.kept) where
   abbrev exchange : ExchangeState
   exchange = state.exchange

@@ -2,7 +2,8 @@
 use Rattle.std.proofs.Common.{◌≡◌, ◌≤◌, ℕ, ◌+◌, ◌==◌, List, [], ◌∷◌, ◌++◌, Bool, true, false, length, if◌then◌else◌, sym, subst}
 use Rattle.std.specs.List.{slice_split}
 use Rattle.command_text.specs.Lines.{without_last_empty}
-use Rattle.live_lines.specs.Open.{count_limit, line_text}
+use Rattle.live_lines.specs.Open.{line_text}
+use Rattle.limits.specs.declared.TheConstants.{MAX_LINES}
 use Rattle.live_lines.specs.Output.{lines_output, output_of}
 use Rattle.live_lines.specs.Serving.{IsInputWithin}
 use Rattle.live_lines.specs.Taken.{AreWithin}
@@ -20,8 +21,8 @@ pub record IsAnswered {S : Type 0} (Next : S → Type 0) (now : List ℕ × S) :
 -- answered
 module _ {S : Type 0} (step : ℕ → S → List ℕ → List ℕ × S) (Stands : ℕ → S → Type 0)
     (passes : (number : ℕ) (state : S) → Stands number state → Stands (number + 1) state)
-    (answers : (number : ℕ) (state : S) (line : List ℕ) → number ≤ count_limit → Stands number state → IsAnswered (Stands (number + 1)) (step number state line)) where
-  first_accepted : (skips : Bool) (number : ℕ) (state : S) (line : List ℕ) (lines : List (List ℕ)) → number ≤ count_limit → Stands number state
+    (answers : (number : ℕ) (state : S) (line : List ℕ) → number ≤ MAX_LINES → Stands number state → IsAnswered (Stands (number + 1)) (step number state line)) where
+  first_accepted : (skips : Bool) (number : ℕ) (state : S) (line : List ℕ) (lines : List (List ℕ)) → number ≤ MAX_LINES → Stands number state
       → ((next : S) → Stands (number + 1) next → AreAccepted (lines_output step skips (number + 1) next lines).0)
       → AreAccepted (lines_output step skips number state (line ∷ lines)).0
   first_accepted skips number state line lines few h later = by (length text == 0)

@@ -26,10 +26,9 @@ use Rattle.exchange_lines.specs.Moves.{clears}
 use Rattle.exchange_lines.proofs.RunStates.{empty_runs, step_runs}
 use Rattle.exchange_lines.proofs.GainSteps.{body_steps, move_steps}
 use Rattle.journal_audit.specs.Laws.{OfServe}
-use Rattle.live_lines.specs.Open.{count_limit}
 use Rattle.proposal_text.specs.declared.replies.BoundedOutcome.{BoundedOutcome}
 use Rattle.reply_print.specs.Within.{IsLine}
-use Rattle.reply_print.specs.declared.limits.TheConstants.{MAX_LINE}
+use Rattle.limits.specs.declared.TheConstants.{MAX_LINES}
 use Rattle.proposal_lines.specs.Laws.{IsSound}
 use Rattle.proposal_lines.specs.Output.{proposing_line, served_line}
 use Rattle.proposal_lines.specs.Promises.{IsToldFor, KeepsProposalPromises, ProposalAnswer, beside, bounded, charged, replied, taken}
@@ -123,8 +122,8 @@ module _ (lines : ℕ) (state : ProposingState) (line : InputLine) (sound : IsSo
   told_stands (beside number text) after told promise = subst (IsStanding (lines + 1)) (sym told.exchange) (later_exchange lines (lines + 1) exchange (omega arith) stands)
 
 -- ---- what is written for a line
-module _ (number : ℕ) (state : ProposingState) (few : number ≤ count_limit) (stands : Stands number state) where
-  some_room : stands.lines + 1 ≤ MAX_LINE
+module _ (number : ℕ) (state : ProposingState) (few : number ≤ MAX_LINES) (stands : Stands number state) where
+  some_room : stands.lines + 1 ≤ MAX_LINES
   some_room = omega (arith, few, stands.counted)
 
   is_line : IsLine number

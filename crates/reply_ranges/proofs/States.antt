@@ -5,7 +5,7 @@ use Rattle.std.specs.Option.{option_map_or}
 use Rattle.std.proofs.lemmas.Int.{ints}
 use Rattle.std.proofs.lemmas.List.{length-append, length-replicate, length-take}
 use Rattle.std.proofs.lemmas.List.Elements.{All-nil, All-cons, All-head, All-tail, All-append, All-filter, All-push, All-replicate, All-take, All-weaker, recursion_from_All}
-use Rattle.cash_ledger.specs.declared.limits.TheConstants.{MAX_ACCOUNT}
+use Rattle.limits.specs.declared.TheConstants.{MAX_ACCOUNT, MAX_SETTLEMENT_PRICE}
 use Rattle.cash_ledger.specs.declared.entry.Entry.{Entry}
 use Rattle.cash_ledger.specs.Entries.{AreBounded, IsBounded, deposit_of, withdrawal_of}
 use Rattle.cash_ledger.specs.Ledger.{is_open}
@@ -29,7 +29,6 @@ use Rattle.order_book.proofs.Accepting.{closable, finishable, listing_live}
 use Rattle.order_book.proofs.BookKept.{batch_within, market_kept}
 use Rattle.order_book.proofs.MarketLists.{live_found, same_number}
 use Rattle.lists.specs.Refusals.{first_of}
-use Rattle.settlement.specs.declared.limits.TheConstants.{MAX_SETTLEMENT_PRICE}
 use Rattle.settlement.specs.declared.position.PaidOut.{PaidOut}
 use Rattle.settlement.specs.declared.position.Position.{Position}
 use Rattle.settlement.specs.Payout.{floor_of}

@@ -19,13 +19,12 @@ use Rattle.order_book.proofs.Accepting.{accepts, closable, finishable}
 use Rattle.order_book.proofs.BookKept.{market_kept}
 use Rattle.order_book.proofs.MarketLists.{live_found}
 use Rattle.lists.specs.Refusals.{first_of}
-use Rattle.settlement.specs.declared.limits.TheConstants.{MAX_SETTLEMENT_PRICE}
+use Rattle.limits.specs.declared.TheConstants.{MAX_SETTLEMENT_PRICE, MAX_LINES}
 use Rattle.settlement.specs.declared.position.PaidOut.{PaidOut}
 use Rattle.settlement.specs.declared.position.Position.{Position}
 use Rattle.settlement.specs.Positions.{gain_at, held_in, is_of, paid_out, paid_side, payouts_of}
 use Rattle.reply_print.specs.Within as reply
 use Rattle.reply_print.specs.Within.{IsReplyWithin}
-use Rattle.reply_print.specs.declared.limits.TheConstants.{MAX_LINE}
 use Rattle.exchange_core.specs.declared.refusal.Refusal.{Refusal}
 use Rattle.exchange_core.specs.ExchangeState.{ExchangeState}
 use Rattle.exchange_core.specs.Kept.{IsPaidOut}
@@ -58,7 +57,7 @@ record IsPaidFrom (paid : PaidOut) : Type 0 where
   trader : 1 ≤ paid.account
   sided : reply.HasItsSide paid.side paid.amount
 
-module _ (lines : ℕ) (few : lines + 1 ≤ MAX_LINE) (state : ExchangeState) (running : IsRunning state) (ranged : IsRanged lines state) where
+module _ (lines : ℕ) (few : lines + 1 ≤ MAX_LINES) (state : ExchangeState) (running : IsRunning state) (ranged : IsRanged lines state) where
   -- balances after one line more
   balance_ranged : (next : ExchangeState) (account : ℕ) → next.book ≡ state.book → IsRanged (lines + 1) next → reply.IsSmall (balance_of account next.entries)
   balance_ranged next account same after =

@@ -14,7 +14,7 @@ use Rattle.exchange_lines.specs.Replies.{answer_to, answers_from}
 use Rattle.exchange_lines.proofs.GainSteps.{body_steps}
 use Rattle.exchange_lines.proofs.RunStates.{IsRunning, empty_runs, step_runs}
 use Rattle.exchange_core.specs.LineReplies.{reply_to}
-use Rattle.reply_print.specs.declared.limits.TheConstants.{MAX_LINE}
+use Rattle.limits.specs.declared.TheConstants.{MAX_LINES}
 use Rattle.reply_ranges.specs.Laws.{HasField}
 use Rattle.reply_ranges.proofs.Fields.{fields_are_within}
 use Rattle.reply_ranges.proofs.States.{IsRanged, empty_is_ranged, more_lines, step_ranged}
@@ -44,7 +44,7 @@ line_ranged lines state (Command command) within running ranged = step_ranged li
 line_ranged lines state Syntax within running ranged = more_lines lines (lines + 1) state (omega arith) ranged
 line_ranged lines state (Range field) within running ranged = more_lines lines (lines + 1) state (omega arith) ranged
 
-answers_from_within : (low high : ℕ) (state : ExchangeState) (lines : List Line) → high ≤ MAX_LINE → IsRunning state → IsRanged low state → AreNumbered low high lines → All IsLineWithin lines → All HasFieldIn lines
+answers_from_within : (low high : ℕ) (state : ExchangeState) (lines : List Line) → high ≤ MAX_LINES → IsRunning state → IsRanged low state → AreNumbered low high lines → All IsLineWithin lines → All HasFieldIn lines
     → All IsAnswerWithin (answers_from state lines)
 answers_from_within low high state [] most running ranged numbered within fields = All-nil IsAnswerWithin
 answers_from_within low high state (line ∷ lines) most running ranged numbered within fields =

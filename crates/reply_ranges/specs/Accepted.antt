@@ -6,7 +6,7 @@ use Rattle.journal_check.specs.Reports.{sound_report, report_of}
 use Rattle.reply_print.specs.Within.{IsWithin}
 use Rattle.exchange_lines.specs.Output.{output}
 use Rattle.exchange_lines.specs.Replies.{Answer, answers}
-use Rattle.command_text.specs.declared.limits.TheConstants.{MAX_INPUT}
+use Rattle.limits.specs.declared.TheConstants.{MAX_BYTES}
 
 -- the line and its reply are within their ranges
 abbrev pub IsAnswerWithin : Answer → Type 0
@@ -14,7 +14,7 @@ IsAnswerWithin answer = IsWithin answer.line answer.reply
 
 -- an input of at most so many bytes is read
 abbrev pub IsInput : List ℕ → Type 0
-IsInput input = length input ≤ MAX_INPUT
+IsInput input = length input ≤ MAX_BYTES
 
 -- each line that is written for an input is within its ranges
 abbrev pub AnswersAreWithin : Type 0

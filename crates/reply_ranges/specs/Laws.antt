@@ -7,7 +7,7 @@ use Rattle.command_text.specs.declared.command.Body.TheVariants.{Command, Syntax
 use Rattle.command_text.specs.declared.command.Command.{Command as CommandOf}
 use Rattle.command_text.specs.Commands.{body_of_line}
 use Rattle.command_text.specs.Within.{IsWithin}
-use Rattle.command_text.specs.declared.limits.TheConstants.{MAX_INPUT}
+use Rattle.limits.specs.declared.TheConstants.{MAX_BYTES}
 use Rattle.exchange_core.specs.ExchangeState.{empty_exchange}
 use Rattle.exchange_core.specs.Step.{step}
 use Rattle.form.specs.declared.limits.TheConstants.{MAX_BUDGET}
@@ -34,4 +34,4 @@ OutcomesAreRanged = (batch : Batch) (units : ℕ) → IsWithinLimits batch → u
 -- within the ranges of its line
 abbrev pub RepliesAreWithin : Type 0
 RepliesAreWithin =
-    (commands : List CommandOf) → All IsWithin commands → length commands ≤ MAX_INPUT → All IsReplyWithin (replies_by step empty_exchange commands)
+    (commands : List CommandOf) → All IsWithin commands → length commands ≤ MAX_BYTES → All IsReplyWithin (replies_by step empty_exchange commands)

@@ -4,7 +4,7 @@ use Rattle.std.proofs.Common.{◌≡◌, List, ℕ, Bool, true, false, Option, S
 use Rattle.std.specs.Str.{bytes_eq}
 use Rattle.std.proofs.lemmas.Slice.Eq.{bytes_eq-Decides}
 use Rattle.serde_json.specs.Data.{Data}
-use Rattle.reply_print.specs.declared.limits.TheConstants.{MAX_LINE}
+use Rattle.limits.specs.declared.TheConstants.{MAX_LINES}
 use Rattle.reply_print.specs.Piece.{Piece, piece_text}
 use Rattle.reply_print.specs.PieceData.{piece_data}
 use Rattle.reply_print.specs.Within.{IsLine}
@@ -137,5 +137,5 @@ IsPairWithin IsReplyWithin pair = IsLine pair.0 × IsReplyWithin pair.1
 pub pair_sound : {R : Type 0} (kind : ReplyTests R) (IsReplyWithin : R → Type 0) → ((word : List ℕ) (d : Data) → Sound IsReplyWithin (kind.reply_by word d))
     → (d : Data) → Sound (IsPairWithin IsReplyWithin) ((tests_of kind).taken d)
 pair_sound kind IsReplyWithin sound d =
-    after IsLine (IsPairWithin IsReplyWithin) _ _ (natural_sound 1 MAX_LINE (codes "line") d)
+    after IsLine (IsPairWithin IsReplyWithin) _ _ (natural_sound 1 MAX_LINES (codes "line") d)
     (λ line l. mapped IsReplyWithin (IsPairWithin IsReplyWithin) _ _ (sound (word_at (codes "reply") d) d) (λ reply r. (l, r)))

@@ -4,7 +4,7 @@ use Rattle.std.specs.Prelude.{List, ℕ, Bool, Option, Some, None, Result, Ok, E
 use Rattle.std.specs.Str.{bytes_eq, is_utf8}
 use Rattle.serde_json.specs.Data.{Data}
 use Rattle.serde_json.specs.Read.{read}
-use Rattle.reply_print.specs.declared.limits.TheConstants.{MAX_LINE}
+use Rattle.limits.specs.declared.TheConstants.{MAX_LINES}
 use Rattle.reply_print.specs.Look.{word_at}
 use Rattle.reply_text.specs.declared.faults.LineFault.{LineFault}
 use Rattle.reply_text.specs.declared.faults.LineFault.TheVariants.{NotJson, Shape, Number, Range, Spelling}
@@ -57,7 +57,7 @@ by_word named d = named (word_at (codes "reply") d) d
 
 -- the number of the line, and its reply
 abbrev pub pair_by : {R : Type 0} → Data → Option R → Option (ℕ × R)
-pair_by d taken = option_and_then (λ line. option_map (λ reply. (line, reply)) taken) (natural_at 1 MAX_LINE (codes "line") d)
+pair_by d taken = option_and_then (λ line. option_map (λ reply. (line, reply)) taken) (natural_at 1 MAX_LINES (codes "line") d)
 
 -- the tests of their lines
 abbrev pub tests_of : {R : Type 0} → ReplyTests R → Tests (ℕ × R)

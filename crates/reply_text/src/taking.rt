@@ -5,14 +5,14 @@ ghost use Rattle.serde_json.specs.View.{view, items_view};
 ghost use Rattle.reply_print.specs.NumberValues.{whole_value, signed_value};
 ghost use Rattle.frac.specs.Range.{limit};
 ghost use Rattle.form.specs.declared.limits.TheConstants.{MAX_ORDER};
-ghost use Rattle.reply_print.specs.declared.limits.TheConstants.{MAX_BATCH};
+ghost use Rattle.limits.specs.declared.TheConstants.{MAX_BATCHES};
 ghost use Rattle.form.specs.Naturals.{natural_value};
 ghost use Rattle.reply_text.specs.BatchValues.{size_within, whole_from};
 ghost use Rattle.reply_text.specs.ReplyValues.{account_at as account_found, market_at as market_found, size_at as size_found};
 ghost use Rattle.reply_text.specs.Taking.{natural_at as natural_found, take_at, from_to as number_from_to, items_at as items_found, items_map, list_at as list_found};
 
 use form::{MAX_ORDER, MAX_UNDERLYINGS};
-use reply_print::limits::{MAX_ACCOUNT, MAX_BATCH, MAX_MARKET};
+use limits::{MAX_ACCOUNT, MAX_BATCHES, MAX_MARKET};
 use reply_print::numbers::value_of_digits;
 use serde_json::Value;
 use std::alloc::{AllocError, Global};
@@ -93,9 +93,9 @@ pub fn size_at(value: &Value) -> Option<u8>
 
 /// The number of a batch.
 pub fn batch_at(value: &Value) -> Option<u32>
-    ensures { result ≡ natural_found 1 MAX_BATCH (codes "batch") (view value.now) }
+    ensures { result ≡ natural_found 1 MAX_BATCHES (codes "batch") (view value.now) }
 {
-    let batch = natural_at(value, 1, MAX_BATCH, "batch")?;
+    let batch = natural_at(value, 1, MAX_BATCHES, "batch")?;
     Some(batch as u32)
 }
 

@@ -6,7 +6,7 @@ ghost use Rattle.reply_text.specs.declared.faults.LineFault.TheVariants.{Memory}
 
 use crate::LineFault;
 use crate::taking::natural_at;
-use reply_print::limits::MAX_LINE;
+use limits::MAX_LINES;
 use reply_print::look::word_at;
 use serde_json::Value;
 use std::alloc::{AllocError, Global};
@@ -42,7 +42,7 @@ fn pair_from<R: TestedReply>(
     ensures { IfOk result (λ o. option_map (λ p. (p.0, p.1)) o
         ≡ pair_by (view value.now) (R.tests.reply_by word.now (view value.now))) }
 {
-    let Some(line) = natural_at(value, 1, MAX_LINE, "line") else {
+    let Some(line) = natural_at(value, 1, MAX_LINES, "line") else {
         return Ok(None);
     };
     let Some(reply) = R::reply_from(alloc, value, word)? else {

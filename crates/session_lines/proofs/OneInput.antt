@@ -12,7 +12,7 @@ use Rattle.live_lines.specs.Output.{answer_to, lines_output, output_of}
 use Rattle.live_lines.proofs.Places.{no_answer, output_is}
 use Rattle.session_gate.specs.Bodies.{is_body, byte_order_mark}
 use Rattle.session_gate.specs.Runs.{Replies}
-use Rattle.session_gate.specs.declared.limits.TheConstants.{MAX_BODY}
+use Rattle.limits.specs.declared.TheConstants.{MAX_BYTES}
 use Rattle.session_lines.specs.Laws.{as_input}
 use Rattle.session_lines.specs.Served.{EndsLines, reply_by, state_after, without_feed}
 use Rattle.session_lines.proofs.Served.{last_reply-push, state_after-push}
@@ -44,7 +44,7 @@ none_of test (b ∷ bytes) h =
     All-cons (λ c. test c ≡ false) b bytes both.0 (none_of test bytes both.1)
 
 module _ (body : List ℕ) (is : IsBody body) where
-  parts : Five (not (length body == 0)) (nat_le (length body) MAX_BODY) (not (list_any (λ byte. nat_eq byte 13) body)) (not (list_any (λ byte. nat_eq byte 10) body))
+  parts : Five (not (length body == 0)) (nat_le (length body) MAX_BYTES) (not (list_any (λ byte. nat_eq byte 13) body)) (not (list_any (λ byte. nat_eq byte 10) body))
       (not (starts_with nat_eq body byte_order_mark))
   parts = five _ _ _ _ _ is
 

@@ -6,7 +6,7 @@ use Rattle.std.proofs.lemmas.Option.{option_and_then_some}
 use Rattle.std.specs.Option.{option_and_then}
 use Rattle.session_gate.specs.declared.answer.Answer.{Answer}
 use Rattle.session_gate.specs.declared.answer.Answer.TheVariants.{First, Repeat, Old, Ahead, Changed, Sessions}
-use Rattle.session_gate.specs.declared.limits.TheConstants.{MAX_SESSION, MAX_NUMBER}
+use Rattle.limits.specs.declared.TheConstants.{MAX_SESSION, MAX_MESSAGE}
 use Rattle.session_gate.specs.Answers.{answer_to}
 use Rattle.session_gate.specs.Bodies.{is_body}
 use Rattle.session_gate.specs.Gate.{Message, message_of, accepted_as, kept_of}
@@ -70,10 +70,10 @@ with_body (Some session) (Some number) body message e = by (is_body body) refl e
 said_body : (text : List ℕ) (message : Message) → message_in text ≡ Some message → IsBody message.body
 said_body text message e =
     option_and_then_some
-    (λ (first : List ℕ × List ℕ). option_and_then (λ (second : List ℕ × List ℕ). message_with (number_to MAX_SESSION first.0) (number_to MAX_NUMBER second.0) second.1) (at_comma first.1))
+    (λ (first : List ℕ × List ℕ). option_and_then (λ (second : List ℕ × List ℕ). message_with (number_to MAX_SESSION first.0) (number_to MAX_MESSAGE second.0) second.1) (at_comma first.1))
     (at_comma text) message e
-    (λ first is e2. option_and_then_some (λ (second : List ℕ × List ℕ). message_with (number_to MAX_SESSION first.0) (number_to MAX_NUMBER second.0) second.1) (at_comma first.1) message e2
-    (λ second is2 e3. with_body (number_to MAX_SESSION first.0) (number_to MAX_NUMBER second.0) second.1 message e3))
+    (λ first is e2. option_and_then_some (λ (second : List ℕ × List ℕ). message_with (number_to MAX_SESSION first.0) (number_to MAX_MESSAGE second.0) second.1) (at_comma first.1) message e2
+    (λ second is2 e3. with_body (number_to MAX_SESSION first.0) (number_to MAX_MESSAGE second.0) second.1 message e3))
 
 module _ (reply : Replies) where
   bodies_told : (served : Served) (lines : List NumberedLine) → All IsBody (accepted_bodies (answers_from reply served lines))

@@ -4,7 +4,7 @@ use Rattle.std.specs.Option.{option_map, option_and_then}
 use Rattle.command_text.specs.declared.numbers.NumberRead.{NumberRead}
 use Rattle.command_text.specs.declared.numbers.NumberRead.TheVariants.{NotNumber, Outside, Value}
 use Rattle.command_text.specs.Numbers.{number_in}
-use Rattle.session_gate.specs.declared.limits.TheConstants.{MAX_SESSION, MAX_NUMBER}
+use Rattle.limits.specs.declared.TheConstants.{MAX_SESSION, MAX_MESSAGE}
 use Rattle.session_gate.specs.Bodies.{is_body}
 use Rattle.session_gate.specs.Gate.{Message, message_of}
 
@@ -31,4 +31,4 @@ message_with (Some session) (Some number) body = if is_body body then Some (mess
 -- the message of a line that is split at its first two commas
 abbrev pub message_in : List ℕ → Option Message
 message_in line = option_and_then (λ first. option_and_then (λ second.
-    message_with (number_to MAX_SESSION first.0) (number_to MAX_NUMBER second.0) second.1) (at_comma first.1)) (at_comma line)
+    message_with (number_to MAX_SESSION first.0) (number_to MAX_MESSAGE second.0) second.1) (at_comma first.1)) (at_comma line)

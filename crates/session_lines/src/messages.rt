@@ -6,8 +6,9 @@ ghost use Rattle.session_gate.specs.Gate.{IsSession, IsNumber, message_of};
 ghost use Rattle.session_lines.specs.Messages.{at_comma, number_to, message_in};
 
 use command_text::{NumberRead, number};
+use limits::{MAX_MESSAGE, MAX_SESSION};
 use memchr::memchr;
-use session_gate::{MAX_NUMBER, MAX_SESSION, is_body};
+use session_gate::is_body;
 
 /// A message of a session.
 #[derive(Clone, Copy, Debug)]
@@ -50,7 +51,7 @@ pub fn message(line: &[u8]) -> Option<Sent<'_>>
     let (session, rest) = at_comma(line)?;
     let (number, body) = at_comma(rest)?;
     let session = number_to(MAX_SESSION, session)?;
-    let number = number_to(MAX_NUMBER, number)?;
+    let number = number_to(MAX_MESSAGE, number)?;
     if !is_body(body) {
         return None;
     }

@@ -4,7 +4,7 @@ ghost use Rattle.std.specs.List.{list_any};
 ghost use Rattle.live_lines.specs.Answering.{by_step};
 ghost use Rattle.session_gate.specs.Bodies.{is_body};
 ghost use Rattle.session_gate.specs.Gate.{IsNumber, message_of};
-ghost use Rattle.session_gate.specs.declared.limits.TheConstants.{MAX_BODIES};
+ghost use Rattle.limits.specs.declared.TheConstants.{MAX_LINES};
 ghost use Rattle.session_lines.specs.Answers.{kept_reply};
 ghost use Rattle.session_lines.specs.Served.{without_feed};
 ghost use Rattle.session_lines.specs.Sessions.{after_answered, after_message, new_sessions, said_step, session_step};
@@ -65,7 +65,7 @@ impl<A: LineSteps> SessionLines<A> {
 
     // Has the body of a message answered, and keeps the reply.
     fn take(&mut self, alloc: Global, sent: &Sent) -> Result<(), AllocError>
-        requires few { self.old.0.served < MAX_BODIES }
+        requires few { self.old.0.served < MAX_LINES }
         requires next { A.stands (self.old.0.served + 1) self.old.1 }
         requires number { IsNumber sent.now.number }
         requires body { IsTrue (is_body sent.now.body.now) }
@@ -86,7 +86,7 @@ impl<A: LineSteps> SessionLines<A> {
         line: u32,
         sent: &Sent,
     ) -> Result<Vec<u8>, AllocError>
-        requires few { self.old.0.served < MAX_BODIES }
+        requires few { self.old.0.served < MAX_LINES }
         requires next { A.stands (self.old.0.served + 1) self.old.1 }
         requires number { IsNumber sent.now.number }
         requires body { IsTrue (is_body sent.now.body.now) }

@@ -11,7 +11,7 @@ use Rattle.form.specs.declared.limits.TheConstants.{MAX_OPTIONS}
 use Rattle.form.specs.declared.orders.Side.{Side}
 use Rattle.form.specs.declared.orders.Side.TheVariants.{Buy, Sell}
 use Rattle.form.specs.Payoff.{bundle_legs, count_sizes}
-use Rattle.settlement.specs.declared.limits.TheConstants.{MAX_GAIN, MAX_PAYOFF}
+use Rattle.limits.specs.declared.TheConstants.{MAX_GAIN, MAX_PAYOFF}
 use Rattle.settlement.specs.Payout.{IsFloor, IsHolding, IsSettledAt, floor_of, gain_of, worth_at, GainsAreRoundedDown}
 use Rattle.clearing_model.specs.Clearing.{for_side}
 use Rattle.settlement.proofs.Quotients.{above, above_back, ceil_least, floor_greatest}

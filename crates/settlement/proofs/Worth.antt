@@ -20,7 +20,7 @@ use Rattle.form.specs.Limits.{IsListed}
 use Rattle.form.specs.Payoff.{bundle_legs, bundle_payoff, count_sizes, dot, leg_of, legs_in, option_of, payoff, positive_part}
 use Rattle.form.specs.Steps.{add_entry, add_leg, bundle_payoff_of, or_zero, payoff_of}
 use Rattle.form.proofs.SameBundle.{length-legs_in}
-use Rattle.settlement.specs.declared.limits.TheConstants.{MAX_PAYOFF, MAX_SETTLEMENT_PRICE}
+use Rattle.limits.specs.declared.TheConstants.{MAX_PAYOFF, MAX_SETTLEMENT_PRICE}
 use Rattle.settlement.specs.Payout.{IsSettledAt, worth_at}
 
 -- ---- sums of products, of which the sizes are small together

@@ -9,7 +9,7 @@ use Rattle.form.specs.declared.limits.TheConstants.{MAX_OPTIONS}
 use Rattle.form.specs.declared.orders.Side.{Side}
 use Rattle.form.specs.Limits.{IsListed}
 use Rattle.form.specs.Payoff.{BundleLeg, bundle_payoff, count_sizes, IsOnCount, legs_in, option_of}
-use Rattle.settlement.specs.declared.limits.TheConstants.{MAX_SETTLEMENT_PRICE}
+use Rattle.limits.specs.declared.TheConstants.{MAX_SETTLEMENT_PRICE}
 use Rattle.clearing_model.specs.Clearing.{for_side}
 
 -- a fill of a bundle that a position may have: not below 0, and at most 1,000,000 options

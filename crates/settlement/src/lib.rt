@@ -2,14 +2,12 @@
 #![tactic(auto)]
 
 pub mod laws;
-mod limits;
 pub mod payouts;
 mod position;
 mod positions;
 pub mod premiums;
 mod rounding;
 
-pub use limits::{MAX_GAIN, MAX_PAYOFF, MAX_SETTLEMENT_PRICE};
 pub use payouts::payout;
 pub use position::{PaidOut, Payouts, Position};
 pub use positions::Positions;

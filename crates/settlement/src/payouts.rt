@@ -6,7 +6,7 @@ ghost use Rattle.exact_num.specs.Limit.{limit};
 ghost use Rattle.form.specs.Payoff.{bundle_legs, count_sizes};
 ghost use Rattle.form.specs.States.{vector_of};
 ghost use Rattle.frac.specs.Value.{fraction_of};
-ghost use Rattle.settlement.specs.declared.limits.TheConstants.{MAX_GAIN, MAX_PAYOFF};
+ghost use Rattle.limits.specs.declared.TheConstants.{MAX_GAIN, MAX_PAYOFF};
 ghost use Rattle.settlement.specs.Payout.{IsHolding, IsSettledAt, floor_of, gain_of, worth_at};
 
 use crate::rounding::{rounded_down, rounded_up};

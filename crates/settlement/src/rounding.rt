@@ -3,7 +3,7 @@
 ghost use Rattle.std.specs.Prelude.{◌≡◌, ◌^◌, ◌<◌, ◌≤◌, ◌≤ℤ◌, pos};
 ghost use Rattle.exact_num.specs.Fraction.{AtMost, plain_product, whole};
 ghost use Rattle.frac.specs.Value.{fraction_of};
-ghost use Rattle.settlement.specs.declared.limits.TheConstants.{MAX_GAIN};
+ghost use Rattle.limits.specs.declared.TheConstants.{MAX_GAIN};
 ghost use Rattle.settlement.specs.Premium.{rounded_down, rounded_up};
 
 use exact_num::Exact;

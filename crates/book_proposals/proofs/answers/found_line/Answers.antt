@@ -1,16 +1,16 @@
 use Rattle.std.proofs.Common.{ℕ, ◌+◌, ◌≤◌, List, length, rules, subst}
-use Rattle.live_lines.specs.Open.{line_limit}
+use Rattle.limits.specs.declared.TheConstants.{MAX_BYTES}
 use Rattle.book_proposals.proofs.ProposalsWithin.{submission_within}
 use Rattle.book_proposals.proofs.answers.found_line.Goals as goal
 
 pub returns-then-is_short : goal.returns-then-is_short
 returns-then-is_short c =
     let proposal = c.in_ok-proposal.proposal in
-    let short : length c.deref.result.now ≤ line_limit + 1 = c.is_short.ensures c.if-is_short.true in
+    let short : length c.deref.result.now ≤ MAX_BYTES + 1 = c.is_short.ensures c.if-is_short.true in
     record {
       proposal = proposal;
       judged = c.in_ok-proposal.ensures.judged;
       within = submission_within c.args.batch.now proposal c.requires.ranges (c.is_certificate_within.ensures (search rules));
       is = c.in_ok-line.ensures;
-      short = subst (λ (line : List ℕ). length line ≤ line_limit + 1) c.deref.ensures.value short;
+      short = subst (λ (line : List ℕ). length line ≤ MAX_BYTES + 1) c.deref.ensures.value short;
     }

@@ -1,5 +1,5 @@
 use Rattle.std.proofs.Common.{◌≡◌, ◌≤◌, ◌<◌, length, rules, sym, subst}
-use Rattle.live_lines.specs.Open.{count_limit}
+use Rattle.limits.specs.declared.TheConstants.{MAX_LINES}
 use Rattle.live_lines.proofs.Pieces.{none_added}
 use Rattle.live_lines.proofs.Standing.{some_bytes}
 use Rattle.live_lines.proofs.answering.add_answer.Goals as goal
@@ -8,7 +8,7 @@ pub answer-requires-clause-few : goal.answer-requires-clause-few
 answer-requires-clause-few g c =
     let line = c.args.line.now in
     let some : 0 < length c.text-text.result.now = search rules in
-    subst (λ number. number ≤ count_limit) (sym c.number.ensures)
+    subst (λ number. number ≤ MAX_LINES) (sym c.number.ensures)
     (c.requires.few (some_bytes line.skips line.number line.rest (subst (λ text. 0 < length text) c.text-text.ensures.text some)))
 
 pub answer-requires-clause-next : goal.answer-requires-clause-next

@@ -10,8 +10,8 @@ use Rattle.live_lines.proofs.answering.take_line.Goals as goal
 still_one : (line next : Open) (bytes : List ℕ) → next ≡ record line { rest = line.rest ++ bytes } → IsOneLine line.rest → IsOneLine bytes → IsOneLine next.rest
 still_one line next bytes is p q = subst IsOneLine (sym (ap (λ (l : Open). l.rest) is)) (one_append line.rest bytes p q)
 
-pub returns-then-number-gt-MAX_LINES : goal.returns-then-number-gt-MAX_LINES
-returns-then-number-gt-MAX_LINES g c = (search rules, too_many _ _ _ _ (omega arith) c.requires.some)
+pub returns-then-from-gt-MAX_LINES : goal.returns-then-from-gt-MAX_LINES
+returns-then-from-gt-MAX_LINES g c = (search rules, too_many _ _ _ _ (omega arith) c.requires.some)
 
 pub add-requires : goal.add-requires
 add-requires g c = front_one _ _ c.in-Some.ensures

@@ -3,7 +3,7 @@ use Rattle.std.proofs.lemmas.Int.{ints, to_z-of_z}
 use mir.Syntax.{w128}
 use Rattle.form.specs.Payoff.{count_sizes}
 use Rattle.frac.specs.Value.{fraction_of}
-use Rattle.settlement.specs.declared.limits.TheConstants.{MAX_PAYOFF}
+use Rattle.limits.specs.declared.TheConstants.{MAX_PAYOFF}
 use Rattle.settlement.proofs.Gains.{gain_fits}
 use Rattle.settlement.proofs.payouts.payout.Goals as goal
 

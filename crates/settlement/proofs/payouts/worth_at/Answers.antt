@@ -5,7 +5,7 @@ use mir.Syntax.{w128}
 use Rattle.exact_num.specs.Limit.{limit}
 use Rattle.form.specs.Payoff.{bundle_legs, count_sizes}
 use Rattle.form.specs.Steps.{bundle_payoff_of}
-use Rattle.settlement.specs.declared.limits.TheConstants.{MAX_PAYOFF}
+use Rattle.limits.specs.declared.TheConstants.{MAX_PAYOFF}
 use Rattle.settlement.specs.Payout.{worth_at}
 use Rattle.settlement.proofs.Worth.{prices_few, worth_fits, worth_small, whole_found}
 use Rattle.settlement.proofs.payouts.worth_at.Goals as goal

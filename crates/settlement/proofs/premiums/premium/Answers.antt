@@ -3,7 +3,7 @@ use Rattle.std.specs.Prelude.{pos}
 use Rattle.exact_num.specs.Fraction.{plain_product, whole}
 use Rattle.form.specs.declared.limits.TheConstants.{MAX_QUANTITY}
 use Rattle.frac.specs.Value.{fraction_of}
-use Rattle.settlement.specs.declared.limits.TheConstants.{MAX_GAIN}
+use Rattle.limits.specs.declared.TheConstants.{MAX_GAIN}
 use Rattle.settlement.proofs.Quotients.{at_most_more, premium_fits}
 use Rattle.settlement.proofs.premiums.premium.Goals as goal
 

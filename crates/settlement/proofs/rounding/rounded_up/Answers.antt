@@ -1,7 +1,7 @@
 use Rattle.std.proofs.Common.{◌≡◌, rules, arith}
 use Rattle.form.specs.Vector.{positive_part}
 use Rattle.frac.specs.Value.{fraction_of}
-use Rattle.settlement.specs.declared.limits.TheConstants.{MAX_GAIN}
+use Rattle.limits.specs.declared.TheConstants.{MAX_GAIN}
 use Rattle.settlement.proofs.Quotients.{up_fits}
 use Rattle.settlement.proofs.rounding.rounded_up.Goals as goal
 

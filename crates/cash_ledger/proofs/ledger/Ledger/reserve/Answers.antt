@@ -1,6 +1,6 @@
 use Rattle.std.proofs.Common.{◌≡◌, ◌+◌, ◌≤◌, ℕ, if◌then◌else◌, nat_eq, sym, ap, ap₂, ◌∙◌, subst, arith}
 use Rattle.cash_ledger.specs.Ledger.{LedgerState, reserved_of}
-use Rattle.cash_ledger.specs.declared.limits.TheConstants.{MAX_RESERVE, MAX_RESERVED}
+use Rattle.limits.specs.declared.TheConstants.{MAX_RESERVE, MAX_RESERVED}
 use Rattle.cash_ledger.proofs.KeptTotals.{AreKept-reserve}
 use Rattle.cash_ledger.proofs.Reserves.{reserved_by, reserved_by-set, reserved_by-there}
 use Rattle.cash_ledger.proofs.ledger.Ledger.reserve.Goals as goal

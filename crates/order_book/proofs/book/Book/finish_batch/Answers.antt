@@ -1,5 +1,5 @@
 use Rattle.std.proofs.Common.{◌≡◌, ◌<◌, true, sym, subst}
-use Rattle.order_book.specs.declared.limits.TheConstants.{MAX_BATCHES}
+use Rattle.limits.specs.declared.TheConstants.{MAX_BATCHES}
 use Rattle.order_book.specs.Book.{BookState, book_of, is_trading}
 use Rattle.order_book.proofs.Accepting.{trading_found}
 use Rattle.order_book.proofs.BookKept.{kept-after_batch}

@@ -1,7 +1,7 @@
 use Rattle.std.proofs.Common.{◌≡◌, ◌+◌, rules, ap, sym, ◌∙◌}
 use Rattle.cert_check.specs.Shape.{forms_have}
 use Rattle.book_proposals.proofs.LiveOrders.{live, live_forms}
-use Rattle.book_proposals.proofs.limits.is_within_limits.Goals as goal
+use Rattle.book_proposals.proofs.batch_limits.is_within_limits.Goals as goal
 
 pub returns : goal.returns
 returns c =
