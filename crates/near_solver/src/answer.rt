@@ -102,15 +102,13 @@ pub struct Solved<'a> {
     pub measure: &'a WholeMeasure,
 }
 
-// The numbers of a solution in fractions.
-#[derive(Drop)]
-struct Fractions {
-    fills: Fills,
-    claim: Claim,
-    measure: Measure,
-}
-
-fn fractions_of(alloc: Global, solved: &Solved) -> Result<Option<Fractions>, AllocError> {
+/// The proposal of what was solved, with this cover. None where a number does not fit its fraction
+/// or its state; the error is want of memory.
+pub fn answer_of(
+    alloc: Global,
+    solved: &Solved,
+    cover: Cover,
+) -> Result<Option<Proposal>, AllocError> {
     let Some(claim) = claim_of(solved.liability, solved.surplus) else {
         return Ok(None);
     };
@@ -121,28 +119,11 @@ fn fractions_of(alloc: Global, solved: &Solved) -> Result<Option<Fractions>, All
     else {
         return Ok(None);
     };
-    Ok(Some(Fractions {
+    Ok(Some(Proposal {
         fills,
         claim,
-        measure,
-    }))
-}
-
-/// The proposal of what was solved, with this cover. None where a number does not fit its fraction
-/// or its state; the error is want of memory.
-pub fn answer_of(
-    alloc: Global,
-    solved: &Solved,
-    cover: Cover,
-) -> Result<Option<Proposal>, AllocError> {
-    let Some(numbers) = fractions_of(alloc, solved)? else {
-        return Ok(None);
-    };
-    Ok(Some(Proposal {
-        fills: numbers.fills,
-        claim: numbers.claim,
         cover,
-        measure: numbers.measure,
+        measure,
     }))
 }
 
