@@ -6,9 +6,10 @@ ghost use Rattle.journal_check.specs.Laws.{Says};
 ghost use Rattle.journal_check.specs.Reports.{report_by, report_of};
 
 use crate::Report;
-use crate::findings::{Finding, found_in};
+use crate::findings::{Finding, fault_finding, reply_finding};
 use crate::journal_lines::cut_line;
 use crate::judges::LineJudge;
+use reply_text::read_line;
 use std::alloc::{AllocError, Global};
 
 /// The report on a journal by what judges its lines: the first line that is found faulty and why,
@@ -57,7 +58,10 @@ impl LineJudge for RunLines {
     ghost finding = { finding_of };
 
     fn judge(alloc: Global, line: &[u8]) -> Result<Finding, AllocError> {
-        found_in(alloc, line)
+        match read_line(alloc, line) {
+            Ok((_, reply)) => reply_finding(alloc, &reply),
+            Err(fault) => fault_finding(fault),
+        }
     }
 }
 

@@ -1,6 +1,6 @@
 //! What is found of one line.
 ghost use Rattle.std.specs.Prelude.{◌≡◌, ◌≢◌, ◌≤◌, IfOk, length};
-ghost use Rattle.journal_check.specs.Findings.{bounded_finding as bounded_is, cleared_finding as cleared_is, fault_finding as fault_is, finding_of, is_marked as is_marked_by, no_reason as reason_is, reply_finding as reply_is};
+ghost use Rattle.journal_check.specs.Findings.{bounded_finding as bounded_is, cleared_finding as cleared_is, fault_finding as fault_is, is_marked as is_marked_by, no_reason as reason_is, reply_finding as reply_is};
 ghost use Rattle.reply_print.specs.Within.{IsBatchWithin, IsReplyWithin};
 ghost use Rattle.frac.specs.Range.{limit};
 ghost use Rattle.frac.specs.Value.{fraction_of};
@@ -12,7 +12,7 @@ use crate::Reason;
 use cert_check::{Judgement, Mark, No, Outcome, Proposal, bounded_verdict, verdict};
 use form::{Batch, Order};
 use frac::Frac128;
-use reply_text::{LineFault, Reply, read_line};
+use reply_text::{LineFault, Reply};
 use std::alloc::{AllocError, Global};
 
 /// What a line is found to be.
@@ -134,15 +134,5 @@ pub fn fault_finding(fault: LineFault) -> Result<Finding, AllocError>
         LineFault::Range => Ok(Finding::Faulty(Reason::Range)),
         LineFault::Spelling => Ok(Finding::Faulty(Reason::Spelling)),
         LineFault::Memory => Err(AllocError),
-    }
-}
-
-// What a line is found to be.
-pub(crate) fn found_in(alloc: Global, line: &[u8]) -> Result<Finding, AllocError>
-    ensures { IfOk result (λ f. f ≡ finding_of line.now) }
-{
-    match read_line(alloc, line) {
-        Ok((_, reply)) => reply_finding(alloc, &reply),
-        Err(fault) => fault_finding(fault),
     }
 }

@@ -2,7 +2,7 @@ use Rattle.std.proofs.Common.{refl}
 use Rattle.reply_text.specs.Reading.{reading}
 use Rattle.journal_check.specs.Findings.{read_finding}
 use Rattle.journal_check.proofs.Found.{by_read}
-use Rattle.journal_check.proofs.findings.found_in.Goals as goal
+use Rattle.journal_check.proofs.checking.RunLinesLineJudge.judge.Goals as goal
 
 pub returns-in-Err : goal.returns-in-Err
 returns-in-Err c =
