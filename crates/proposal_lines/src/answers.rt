@@ -13,7 +13,7 @@ ghost use Rattle.proposal_lines.specs.ProposingState.{empty_state};
 
 use crate::all_kinds::answer_said;
 use crate::clears::clear;
-use crate::judging::offer;
+use crate::judging::judge;
 use crate::kept_by_market::KeptByMarket;
 use crate::proposed::{Proposed, proposed_of};
 use crate::reads::{book_reply, positions_reply};
@@ -72,13 +72,13 @@ impl ProposalLines {
             Err(fault) => return Ok(refused_by_fault(fault)),
         };
         match self.exchange.orders(proposed.market) {
-            Ok(batch) => self.offer(alloc, proposed, &batch),
+            Ok(batch) => self.take_proposal(alloc, proposed, &batch),
             Err(failure) => refused(failure),
         }
     }
 
     // Takes in a proposal for the batch of its market. Where memory is refused nothing is kept.
-    fn offer(
+    fn take_proposal(
         &mut self,
         alloc: Global,
         proposed: Proposed,
@@ -90,7 +90,7 @@ impl ProposalLines {
         requires within { IsWithinLimits batch.now }
         ensures { IfOk result (λ reply. (reply, self.new) ≡ proposed_by self.old proposed) }
     {
-        match offer(alloc, &mut self.kept, proposed, batch) {
+        match judge(alloc, &mut self.kept, proposed, batch) {
             Ok(reply) => Ok(ProposingReply::Told(reply)),
             Err(error) => {
                 self.kept.clear();

@@ -58,7 +58,7 @@ fn keep(
 {
     let surplus = proposed.submission.proposal.claim.surplus;
     let market = proposed.market;
-    let (best_surplus, least_bound) = kept.offer(market, proposed.submission, bound)?;
+    let (best_surplus, least_bound) = kept.take_in(market, proposed.submission, bound)?;
     Ok(ProposalReply::Proposed {
         market,
         surplus,
@@ -70,7 +70,7 @@ fn keep(
 
 // Keeps a proposal for the batch of its market where it is for just its orders and proves a bound.
 // The only error is want of memory.
-pub(crate) fn offer(
+pub(crate) fn judge(
     alloc: Global,
     kept: &mut KeptByMarket,
     proposed: Proposed,

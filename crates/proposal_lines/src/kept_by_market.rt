@@ -101,7 +101,7 @@ impl KeptByMarket {
 
     // Takes in a proposal that proves this bound, and answers the surplus and the bound that are
     // kept after it.
-    pub(crate) fn offer(
+    pub(crate) fn take_in(
         &mut self,
         market: u32,
         submission: Submission,
@@ -117,7 +117,7 @@ impl KeptByMarket {
             Some(kept) => kept,
             None => Kept::new(),
         };
-        kept.offer(submission.orders, submission.proposal, bound);
+        kept.keep_better(submission.orders, submission.proposal, bound);
         let told = numbers_of(&kept);
         self.by_market.insert(market, kept)?;
         Ok(told)

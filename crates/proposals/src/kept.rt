@@ -36,7 +36,7 @@ impl Kept {
     /// Takes in a proposal that proves this bound for the batch of these orders: for the list that
     /// is kept its fills where their surplus is above that of those kept, and its measure where its
     /// bound is below; for another list both. Takes no memory.
-    pub fn offer(&mut self, orders: OrderNumbers, proposal: Proposal, bound: Frac128)
+    pub fn keep_better(&mut self, orders: OrderNumbers, proposal: Proposal, bound: Frac128)
         ensures kept { self.new ≡ Some (after_offer self.old orders proposal bound) }
         ensures better { LosesNothing self.old orders (after_offer self.old orders proposal bound) }
     {

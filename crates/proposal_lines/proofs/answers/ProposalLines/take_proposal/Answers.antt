@@ -7,7 +7,7 @@ use Rattle.proposal_lines.specs.KeptByMarket.{KeptProposals}
 use Rattle.proposal_lines.specs.ProposingState.{ProposingState}
 use Rattle.proposal_lines.specs.Proved.{AreProvedIn}
 use Rattle.proposal_lines.proofs.Charging.{offer_keeps}
-use Rattle.proposal_lines.proofs.answers.ProposalLines.offer.Goals as goal
+use Rattle.proposal_lines.proofs.answers.ProposalLines.take_proposal.Goals as goal
 
 pub invariant_of-self : goal.invariant_of-self
 invariant_of-self c =

@@ -6,7 +6,7 @@ use Rattle.order_book.specs.Numbers.{numbers_of}
 use Rattle.proposals.specs.Best.{are_same_orders}
 use Rattle.proposal_lines.specs.Proposed.{IsJudged}
 use Rattle.proposal_lines.proofs.Charging.{offered_bound, offered_failed}
-use Rattle.proposal_lines.proofs.judging.offer.Goals as goal
+use Rattle.proposal_lines.proofs.judging.judge.Goals as goal
 
 pub returns-in-Ok : goal.returns-in-Ok
 returns-in-Ok c =
