@@ -68,7 +68,7 @@ fn pay_all(ledger: &mut Ledger, batch: u32, orders: &[Order], fills: &[Frac128])
 // Clears the live orders of a market with these fills: moves their premiums, gives free what the
 // orders reserve, and the fills are positions from then on. Answers the number of the batch.
 // Whatever found the fills, they are charged here. It fails for want of memory alone.
-pub(crate) fn clear_as(
+pub(crate) fn charge_fills(
     ledger: &mut Ledger,
     book: &mut Book,
     positions: &mut Positions,

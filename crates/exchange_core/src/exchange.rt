@@ -27,7 +27,7 @@ ghost use Rattle.form.specs.Between.{Between};
 ghost use Rattle.form.specs.declared.limits.TheConstants.{MAX_ORDERS, MAX_UNDERLYINGS};
 
 use crate::Reply;
-use crate::clear::clear_as;
+use crate::clear::charge_fills;
 use crate::failure::Failure;
 use crate::held::in_order;
 use crate::place::{cancel, place};
@@ -174,7 +174,7 @@ impl Exchange {
         ensures cleared { OnOk result (self.new ≡ cleared_with self.old market fills.now) }
         ensures err { OnErr result (self.new ≡ self.old) }
     {
-        match clear_as(
+        match charge_fills(
             &mut self.ledger,
             &mut self.book,
             &mut self.positions,

@@ -9,7 +9,7 @@ use Rattle.exchange_core.proofs.PositionsKept.{positions-at, positions-same}
 use Rattle.exchange_core.specs.Reserves.{reserve_of}
 use Rattle.exchange_core.proofs.Batches.{batch_found, batch_payable, fills_paid}
 use Rattle.exchange_core.proofs.Joined.{joined-batch, reserve_live}
-use Rattle.exchange_core.proofs.clear.clear_as.Goals as goal
+use Rattle.exchange_core.proofs.clear.charge_fills.Goals as goal
 
 pub pay_all-requires-clause-payable : goal.pay_all-requires-clause-payable
 pay_all-requires-clause-payable c =
