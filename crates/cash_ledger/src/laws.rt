@@ -3,6 +3,7 @@
 ghost use Rattle.cash_ledger.specs.Laws.{BalancesFit};
 
 /// The balances of fewer than 2^64 entries, none of them above the limit in size, fit 128 bits.
+#[tactic(auto, using(crate::proofs::Balances::balances_fit))]
 pub fn balances_fit()
     ensures { BalancesFit }
 {}

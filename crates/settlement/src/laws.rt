@@ -11,6 +11,7 @@ pub fn premiums_are_rounded()
 {}
 
 /// The premium of a whole fill is fill times price, on both sides.
+#[tactic(auto, using(crate::proofs::Quotients::whole_premiums_are_products))]
 pub fn whole_premiums_are_products()
     ensures { WholePremiumsAreProducts }
 {}
