@@ -16,6 +16,7 @@ import math
 import re
 import sys
 from fractions import Fraction
+from itertools import pairwise
 
 from ragvismo_tools.ending import ended
 
@@ -232,14 +233,20 @@ def is_option(form: Sequence[int]) -> bool:
     )
 
 
-def is_one(legs: Sequence[Value]) -> bool:
-    """Whether the legs are those of one bundle."""
-    return len({len(leg["form"]) for leg in legs}) == 1
+def has_few_options(order: Value) -> bool:
+    return order["quantity"] * sum(abs(leg["count"]) for leg in order["legs"]) <= 10**6
 
 
-def is_bundle(order: Value) -> bool:
-    legs = order["legs"]
-    return is_one(legs) and order["quantity"] * sum(abs(leg["count"]) for leg in legs) <= 10**6
+def do_rise(orders: Sequence[Value]) -> bool:
+    """Whether the numbers of a book's orders rise."""
+    return all(order["order"] < after["order"] for order, after in pairwise(orders))
+
+
+def is_in_order(proposed: Value) -> bool:
+    """Whether what is told of a proposal does not fall from 0 to its bound."""
+    names = ("surplus", "best_surplus", "least_bound", "bound")
+    told = [Fraction(0), *(Fraction(proposed[name]) for name in names)]
+    return all(one <= after for one, after in pairwise(told))
 
 
 ANY = Number(-(2**63), 2**64)
@@ -260,10 +267,12 @@ ABOUT: dict[str, Any] = {
     "side": Word("buy", "sell"),
 }
 LEG = Keys(count=Number(-1000, 1000), form=FORM, test=lambda leg: bool(leg["count"]))
+BUNDLE = Keys(legs=Many(LEG, 1, 4), test=has_few_options, **ABOUT)
 ORDERS = {
     1: Many(Keys(form=FORM, **ABOUT), range_most=256),
-    2: Many(Keys(legs=Many(LEG, 1, 4), test=is_bundle, **ABOUT), range_most=256),
+    2: Many(BUNDLE, range_most=256),
 }
+BOOK = Many(BUNDLE, range_most=256, test=do_rise)
 LEAF = Keys(leaf=Many(Keys(at=PLACE, by=FRACTIONS)))
 NODE = Either(lambda value: LEAF if type(value) is dict and "leaf" in value else Keys(split=PLACE))
 LINE_COVER, TREE_COVER = Word("line"), Many(NODE)
@@ -287,7 +296,7 @@ POSITION = Keys(
     legs=Many(LEG, 1, 4),
     order=ORDER,
     side=Word("buy", "sell"),
-    test=lambda held: is_one(held["legs"]) and Fraction(held["fill"]) > 0,
+    test=lambda held: Fraction(held["fill"]) > 0,
 )
 PRICE = Told(Text(False, least=0, size=10**12), "never", "unmarked")
 NEED = Told(Text(False, least=0), "positions", "unbounded", "wide", "budget", "sum")
@@ -394,7 +403,7 @@ REPLIES: dict[str, Shapes] = {
 }
 
 SERVED: dict[str, Shapes] = {
-    "book": lambda _: {"market": MARKET, "orders": ORDERS[2], "underlyings": UNDERLYINGS},
+    "book": lambda _: {"market": MARKET, "orders": BOOK, "underlyings": UNDERLYINGS},
     "positions": lambda _: {"account": ACCOUNT, "market": MARKET, "positions": Many(POSITION)},
     "proposed": lambda _: {
         "best_surplus": FRACTIONS,
@@ -480,8 +489,10 @@ def read(line: bytes, value: Any, replies: Mapping[str, Shapes]) -> Value:
         type(value) is dict and type(value.get("reply")) is str and value["reply"] in replies,
         "Shape",
     )
-    told: dict[str, Any] = {**replies[value["reply"]](value)}
-    kind = Keys(line=LINE, reply=Word(value["reply"]), **told)
+    word = value["reply"]
+    told: dict[str, Any] = {**replies[word](value)}
+    test = is_in_order if word == "proposed" else None
+    kind = Keys(test, line=LINE, reply=Word(word), **told)
     kind.shape(value)
     kind.grammar(value)
     kind.ranges(value)

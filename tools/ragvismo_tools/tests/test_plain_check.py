@@ -5,10 +5,14 @@ from __future__ import annotations
 from typing import Any
 import json
 import os
+import random
 import re
+import subprocess
 
-from ragvismo_tools.places import TOP
-from ragvismo_tools.tests.common import JOURNALS, Folder, run
+from ragvismo_tools import plain_check
+from ragvismo_tools.hostile import changes
+from ragvismo_tools.places import PROGRAM, TOP
+from ragvismo_tools.tests.common import JOURNALS, Folder, built, run
 
 
 # The butterfly, half of it filled by a proposal, with a bound.
@@ -23,6 +27,12 @@ BOUNDED = (
     '"order":3,"price":4,"quantity":1,"side":"sell"}],'
     '"reply":"cleared","run":"budget","surplus":"3/7","underlyings":1,"units":1,"version":3}'
 )
+
+
+def audited(line: str) -> Any:
+    """The program's report of a line."""
+    ran = subprocess.run([PROGRAM, "audit"], input=line.encode(), capture_output=True)
+    return json.loads(ran.stdout)
 
 
 class PlainCheck(Folder):
@@ -62,6 +72,56 @@ class PlainCheck(Folder):
                 ).returncode,
                 0,
             )
+
+    def test_ranges_of_whole_lines(self) -> None:
+        """Numbers of a book rise, what is told of a proposal does not fall, and legs of different
+        lengths are read: a batch of them has no shape."""
+        replies = (TOP / "examples/proposals.replies").read_text().splitlines()
+        held, more = '"legs":[{"count":1,', '"legs":[{"count":2,"form":[-7,1,0]},{"count":1,'
+        book, proposed, positions = (
+            next(line for line in replies if f'"reply":"{word}"' in line)
+            for word in ("book", "proposed", "positions")
+        )
+        for line, reason in (
+            (book, None),
+            (book.replace('"order":2', '"order":1'), "Range"),
+            (book.replace('"order":2', '"order":4'), "Range"),
+            (book.replace('"order":3', '"order":1000000'), None),
+            (book.replace(held, more), None),
+            (proposed, None),
+            (proposed.replace('"surplus":"3/7"}', '"surplus":"-1/7"}'), "Range"),
+            (proposed.replace('"best_surplus":"3/7"', '"best_surplus":"2/7"'), "Range"),
+            (proposed.replace('"best_surplus":"3/7"', '"best_surplus":"6/7"'), None),
+            (proposed.replace('"best_surplus":"3/7"', '"best_surplus":"1"'), "Range"),
+            (proposed.replace('"least_bound":"6/7"', '"least_bound":"1"'), "Range"),
+            (proposed.replace('"bound":"6/7"', '"bound":"1"', 1), None),
+            (positions, None),
+            (positions.replace(held, more), None),
+            (BOUNDED.replace(held, more), "BatchShape"),
+        ):
+            found = plain_check.report(line.encode(), "audit")
+            self.assertEqual(found.get("reason"), reason, line)
+            if os.access(PROGRAM, os.X_OK):
+                self.assertEqual(audited(line), found, line)
+
+    @built
+    def test_changed_values_are_judged_as_by_the_program(self) -> None:
+        """One value in each line of serve, or of its messages, is another."""
+        draw = random.Random("values")
+        lines = [
+            line
+            for name in ("proposals", "serve", "serve-sessions", "spread", "guarded")
+            for line in (TOP / f"examples/{name}.replies").read_text().splitlines()
+        ]
+        for line in lines * 6:
+            reply = json.loads(line)
+            *way, last = draw.choice([path for path in changes.inner(reply) if path])
+            place = changes.value_at(reply, tuple(way))
+            place[last] = changes.other_value(draw, place[last])
+            changed = json.dumps(reply, separators=(",", ":"), sort_keys=True)
+            told, found = audited(changed), plain_check.report(changed.encode(), "audit")
+            if told.get("reason") != "Wide":
+                self.assertEqual(told, found, changed)
 
     def test_changed_lines_are_named(self) -> None:
         text = "".join((TOP / "examples/butterfly.replies").read_text().splitlines(True)[:8])
