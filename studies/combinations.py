@@ -2,7 +2,7 @@
 """Combinations: options on weighted sums of several underlyings in one market, or in many.
 
     studies/combinations.py [--batches N] [--workers N] [--out FOLDER] [--journals FOLDER]
-                            [--program FILE] [--seconds]
+                            [--scheduler ADDRESS] [--program FILE] [--seconds]
 
 Two kinds of books (studies/books.py), both of calls and puts that are bid and asked by beliefs of
 their traders: random ones, on one to three of the underlyings with weights -1, 1 and 2; and names,
@@ -29,9 +29,11 @@ over orders and underlyings. Not mirrored: their way of drawing orders, and thei
 a solver of floats, in place of which stand the exchange's two.
 
 --out writes combinations.md and combinations.svg into FOLDER, over tracked files in the whole study
-alone. --journals keeps the cleared lines in FOLDER, --workers are processes at once, and --seconds
-tells on standard error what each case took. The program is FILE, or what RAGVISMO_EXCHANGE names,
-or what ./build makes.
+alone. --journals keeps the cleared lines in FOLDER, and --seconds tells on standard error what each
+case took. --workers are processes at once, and --scheduler is the address of one of
+dask.distributed, each of whose workers has a checkout with the program, and its folders studies,
+python and tools in PYTHONPATH; the bytes are the same. The program is FILE, or what
+RAGVISMO_EXCHANGE names, or what ./build makes.
 """
 from __future__ import annotations
 

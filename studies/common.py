@@ -3,6 +3,7 @@ tables, figures."""
 from __future__ import annotations
 
 import argparse
+import importlib
 import json
 import logging
 import pathlib
@@ -29,6 +30,8 @@ BUDGET = 20_000
 FUNDS = 10**15
 # So many samples with replacement, of which the middle 95 percent are an interval.
 SAMPLES = 2_000
+# So many seconds a scheduler has to answer.
+PATIENCE = 10
 # Twice the width of a column: set into one, letters have half this size.
 WIDTH, HEIGHT, LETTERS = 6.8, 2.7, 13
 CaseOf = TypeVar("CaseOf", bound=Hashable)
@@ -41,8 +44,8 @@ class BadInput(Exception):
 
 class Given(NamedTuple):
     """How a study is asked for: the program, or None for the usual one, the folders for the cleared
-    lines and for the results, or None, the batches of each case, the processes, and whether it is
-    told what each case took.
+    lines and for the results, or None, the batches of each case, the processes, whether it is told
+    what each case took, and the scheduler of other machines, or None.
     """
 
     program: pathlib.Path | None
@@ -51,6 +54,7 @@ class Given(NamedTuple):
     workers: int = 1
     out: pathlib.Path | None = None
     seconds: bool = False
+    scheduler: str | None = None
 
 
 class Pair(NamedTuple):
@@ -102,12 +106,15 @@ def trials(
     given: Given,
     name: str,
 ) -> dict[CaseOf, list[Found]]:
-    """What is found in each case with the number of each batch, over processes: in one order and
-    with the same seeds however many there are. `exchange audit` judges every line that was cleared.
+    """What is found in each case with the number of each batch, over processes or machines: in one
+    order and with the same seeds however many there are. `exchange audit` judges every line that
+    was cleared.
     """
     asked = [(case, number) for case in cases for number in range(given.batches)]
     do = partial(_trial, one, given)
-    if given.workers == 1:
+    if given.scheduler:
+        made = _by_machines(do, asked, given.scheduler)
+    elif given.workers == 1:
         made = list(map(do, asked))
     else:
         with ProcessPoolExecutor(given.workers) as pool:
@@ -135,6 +142,18 @@ def _trial(
     texts = [it.text for it in lines]
     program.check("".join(f"{it}\n" for it in texts), given.program)
     return Trial(found, texts, time.perf_counter() - start)
+
+
+def _by_machines(do: Callable[[Any], Trial], asked: Sequence[Any], scheduler: str) -> list[Trial]:
+    """The trials by the workers of a scheduler of dask.distributed, in the order of what is asked
+    for."""
+    try:
+        distributed = importlib.import_module("distributed")
+    except ImportError:
+        raise BadInput("--scheduler wants python3-distributed; tools/setup installs it") from None
+    with distributed.Client(scheduler, timeout=PATIENCE) as client:
+        made: list[Trial] = client.gather(client.map(do, asked, pure=False))
+    return made
 
 
 def audit(found: Iterable[Cleared], given: Given, name: str) -> None:
@@ -246,9 +265,12 @@ def asked(about: str | None, batches: int) -> Given:
     words.add_argument("--workers", type=int, default=1, metavar="N")
     words.add_argument("--out", type=pathlib.Path, metavar="FOLDER")
     words.add_argument("--seconds", action="store_true")
+    words.add_argument("--scheduler", metavar="ADDRESS")
     given = Given(**vars(words.parse_args()))
     if given.batches < 2 or given.workers < 1:
         raise BadInput("--batches is at least 2, and --workers at least 1")
+    if given.scheduler and given.workers > 1:
+        raise BadInput("--workers are processes here, and --scheduler has its own")
     for file in results(given):
         if given.batches != batches and tracked.is_tracked(file):
             raise BadInput(f"{file} is tracked, and this is not the whole study")
@@ -266,7 +288,7 @@ def run(about: str | None, batches: int, study: Callable[[Given], Report]) -> No
 
     def main() -> None:
         given = asked(about, batches)
-        report = study(given)
+        report = (importable(study) if given.scheduler else study)(given)
         text = "\n".join(map(str, report.tables))
         print(text, end="")
         if given.out:
@@ -275,6 +297,14 @@ def run(about: str | None, batches: int, study: Callable[[Given], Report]) -> No
             save(report, figure)
 
     end_by(main)
+
+
+def importable(study: Callable[[Given], Report]) -> Callable[[Given], Report]:
+    """The study by its module's name, by which workers elsewhere find what it sends: their
+    `__main__` is another one."""
+    module = importlib.import_module(pathlib.Path(sys.argv[0]).stem)
+    found: Callable[[Given], Report] = getattr(module, study.__name__)
+    return found
 
 
 def end_by(main: Callable[[], None]) -> NoReturn:

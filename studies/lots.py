@@ -2,7 +2,7 @@
 """Lots: what it is worth that orders may be filled by any fraction.
 
     studies/lots.py [--batches N] [--workers N] [--out FOLDER] [--journals FOLDER]
-                    [--program FILE] [--seconds]
+                    [--scheduler ADDRESS] [--program FILE] [--seconds]
 
 The exchange fills any fraction of an order. Beside it stand whole lots, where each fill is a whole
 number of options, and all or nothing, where an order is filled whole or not at all. 60 orders for
@@ -20,8 +20,10 @@ resampling. The paper of Wang, Pennock, Devanur, Rothschild, Tao and Wellman (EC
 over fractions, as the exchange does; that it tells what whole lots lose is not known here.
 
 --out writes lots.md and lots.svg into FOLDER, over tracked files in the whole study alone.
---journals keeps the cleared lines in FOLDER, --workers are processes at once, and --seconds tells
-on standard error what each case took. The program is FILE, or what RAGVISMO_EXCHANGE names, or what
+--journals keeps the cleared lines in FOLDER, and --seconds tells on standard error what each case
+took. --workers are processes at once, and --scheduler is the address of one of dask.distributed,
+each of whose workers has a checkout with the program, and its folders studies, python and tools in
+PYTHONPATH; the bytes are the same. The program is FILE, or what RAGVISMO_EXCHANGE names, or what
 ./build makes.
 """
 from __future__ import annotations

@@ -2,7 +2,7 @@
 """One market or many: option chains matched jointly, and each option alone.
 
     studies/one_market.py [--batches N] [--workers N] [--out FOLDER] [--journals FOLDER]
-                          [--program FILE] [--seconds]
+                          [--scheduler ADDRESS] [--program FILE] [--seconds]
 
 Orders for calls and puts of one expiry: each for an option drawn from the chain, by a belief
 around a model's price, less or plus half a spread. One of noise of the beliefs, strikes and orders
@@ -16,9 +16,11 @@ consolidating the strikes of one expiry, and the mechanism. Not mirrored: their 
 real stocks. Here all is made, from fixed seeds.
 
 --out writes one_market.md and one_market.svg into FOLDER, over tracked files in the whole study
-alone. --journals keeps the cleared lines in FOLDER, --workers are processes at once, and --seconds
-tells on standard error what each case took. The program is FILE, or what RAGVISMO_EXCHANGE names,
-or what ./build makes.
+alone. --journals keeps the cleared lines in FOLDER, and --seconds tells on standard error what each
+case took. --workers are processes at once, and --scheduler is the address of one of
+dask.distributed, each of whose workers has a checkout with the program, and its folders studies,
+python and tools in PYTHONPATH; the bytes are the same. The program is FILE, or what
+RAGVISMO_EXCHANGE names, or what ./build makes.
 """
 from __future__ import annotations
 

@@ -2,7 +2,7 @@
 """Over time: one auction a day, or many, each in one market or option by option.
 
     studies/over_time.py [--batches N] [--workers N] [--out FOLDER] [--journals FOLDER]
-                         [--program FILE] [--seconds]
+                         [--scheduler ADDRESS] [--program FILE] [--seconds]
 
 128 orders for the calls and puts of nine strikes come at times of a day, by beliefs around the
 model's price with noise of 8 ticks. There are 1, 2, 4, .. 64 auctions a day, at equal distances,
@@ -20,9 +20,11 @@ of auctions stands in no part of it that is known here. No order is cancelled or
 do not change within the day, so waiting has no cost here but time.
 
 --out writes over_time.md and over_time.svg into FOLDER, over tracked files in the whole study
-alone. --journals keeps the cleared lines in FOLDER, --workers are processes at once, and --seconds
-tells on standard error what each case took. The program is FILE, or what RAGVISMO_EXCHANGE names,
-or what ./build makes.
+alone. --journals keeps the cleared lines in FOLDER, and --seconds tells on standard error what each
+case took. --workers are processes at once, and --scheduler is the address of one of
+dask.distributed, each of whose workers has a checkout with the program, and its folders studies,
+python and tools in PYTHONPATH; the bytes are the same. The program is FILE, or what
+RAGVISMO_EXCHANGE names, or what ./build makes.
 """
 from __future__ import annotations
 

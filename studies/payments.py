@@ -2,7 +2,7 @@
 """Payments: each filled order at its own limit, or at the prices of the measure.
 
     studies/payments.py [--batches N] [--workers N] [--out FOLDER] [--journals FOLDER]
-                        [--program FILE] [--seconds]
+                        [--scheduler ADDRESS] [--program FILE] [--seconds]
 
 The fills are the same; what is paid differs. At limits, as the exchange does it, the house keeps
 the surplus and no trader gains over its limit. At the measure's prices, of the certificate, each
@@ -25,8 +25,10 @@ numbers here are of these made markets alone. A best reply is not an equilibrium
 has several orders.
 
 --out writes payments.md and payments.svg into FOLDER, over tracked files in the whole study alone.
---journals keeps the cleared lines in FOLDER, --workers are processes at once, and --seconds tells
-on standard error what each case took. The program is FILE, or what RAGVISMO_EXCHANGE names, or what
+--journals keeps the cleared lines in FOLDER, and --seconds tells on standard error what each case
+took. --workers are processes at once, and --scheduler is the address of one of dask.distributed,
+each of whose workers has a checkout with the program, and its folders studies, python and tools in
+PYTHONPATH; the bytes are the same. The program is FILE, or what RAGVISMO_EXCHANGE names, or what
 ./build makes.
 """
 from __future__ import annotations

@@ -2,7 +2,7 @@
 """Spreads: how far what a whole book bids and asks lies within its own quotes.
 
     studies/spreads.py [--batches N] [--workers N] [--out FOLDER] [--journals FOLDER]
-                       [--program FILE] [--seconds]
+                       [--scheduler ADDRESS] [--program FILE] [--seconds]
 
 A bid and an ask stand for each call and each put of a chain, around a middle of its own: the
 model's price and noise. One of noise and strikes is varied at a time, with N chains for each value
@@ -25,8 +25,10 @@ consolidated book says of bids and asks that no single option has. Not mirrored:
 of real stocks. Here all is made, from fixed seeds.
 
 --out writes spreads.md and spreads.svg into FOLDER, over tracked files in the whole study alone.
---journals keeps the cleared lines in FOLDER, --workers are processes at once, and --seconds tells
-on standard error what each case took. The program is FILE, or what RAGVISMO_EXCHANGE names, or what
+--journals keeps the cleared lines in FOLDER, and --seconds tells on standard error what each case
+took. --workers are processes at once, and --scheduler is the address of one of dask.distributed,
+each of whose workers has a checkout with the program, and its folders studies, python and tools in
+PYTHONPATH; the bytes are the same. The program is FILE, or what RAGVISMO_EXCHANGE names, or what
 ./build makes.
 """
 from __future__ import annotations

@@ -2,7 +2,7 @@
 """Any strike: what free strikes add over a grid, matched jointly and each option alone.
 
     studies/strikes.py [--batches N] [--workers N] [--out FOLDER] [--journals FOLDER]
-                       [--program FILE] [--seconds]
+                       [--scheduler ADDRESS] [--program FILE] [--seconds]
 
 The same 40 traders a batch, with the same beliefs, place their orders on 1, 2, 4, .. 64 listed
 strikes, and then each on the very strike that it wished. Each believes the price at settlement to
@@ -18,8 +18,10 @@ experiment, and what a trader gains from the very strike that it wished is count
 made, from fixed seeds.
 
 --out writes strikes.md and strikes.svg into FOLDER, over tracked files in the whole study alone.
---journals keeps the cleared lines in FOLDER, --workers are processes at once, and --seconds tells
-on standard error what each case took. The program is FILE, or what RAGVISMO_EXCHANGE names, or what
+--journals keeps the cleared lines in FOLDER, and --seconds tells on standard error what each case
+took. --workers are processes at once, and --scheduler is the address of one of dask.distributed,
+each of whose workers has a checkout with the program, and its folders studies, python and tools in
+PYTHONPATH; the bytes are the same. The program is FILE, or what RAGVISMO_EXCHANGE names, or what
 ./build makes.
 """
 from __future__ import annotations

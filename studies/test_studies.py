@@ -1,12 +1,15 @@
 """Tests the studies in small form, as a part of tools/test: `tools/test Studies` is one class."""
 from __future__ import annotations
 
+import importlib.util
+import json
 import os
 import pathlib
 import random
 import subprocess
 import sys
 import tempfile
+import time
 import unittest
 from collections.abc import Callable, Hashable
 from typing import TypeVar
@@ -26,7 +29,7 @@ import spreads
 import strikes
 from ragvismo import Cleared, call, price_bounds, program, put
 from ragvismo_tools import tracked
-from test_ragvismo import wants, wants_program
+from test_ragvismo import PYTHON, TOP, wants, wants_program
 
 NAMES = ("one_market", "spreads", "strikes", "combinations", "payments", "over_time", "lots")
 PLAIN = common.Given(None, None)
@@ -165,6 +168,98 @@ class Studies(unittest.TestCase):
         for name in NAMES:
             self.assertIn(f"studies/{name}.py", (HERE / f"{name}.py").read_text())
             self.assertTrue(os.access(HERE / f"{name}.py", os.X_OK), name)
+
+
+# Each trial is sent and answered as bytes, the last one first.
+STAND_IN = """
+import pickle
+
+
+class Client:
+    def __init__(self, address, timeout):
+        assert (address, timeout) == ("tcp://here:8786", 10)
+
+    def __enter__(self):
+        return self
+
+    def __exit__(self, *fault):
+        pass
+
+    def map(self, do, asked, pure):
+        return [pickle.dumps((do, it)) for it in asked]
+
+    def gather(self, sent):
+        answers = {}
+        for it in reversed(sent):
+            do, asked = pickle.loads(it)
+            answers[it] = pickle.dumps(do(asked))
+        return [pickle.loads(answers[it]) for it in sent]
+"""
+
+
+class Machines(unittest.TestCase):
+    """Studies by the workers of dask.distributed, and by what stands in for it."""
+
+    def setUp(self) -> None:
+        held = tempfile.TemporaryDirectory()
+        self.addCleanup(held.cleanup)
+        self.folder = pathlib.Path(held.name)
+
+    def ran(self, *words: str, path: str = "") -> "subprocess.CompletedProcess[str]":
+        command = [PYTHON, "-B", str(HERE / "strikes.py"), "--batches", "2", *words]
+        environment = {**os.environ, "PYTHONPATH": path}
+        return subprocess.run(command, capture_output=True, text=True, env=environment)
+
+    def written(self, name: str, *words: str, path: str = "") -> dict[str, bytes]:
+        """The files that a study writes."""
+        out = self.folder / name
+        out.mkdir()
+        ran = self.ran("--out", str(out), "--journals", str(out), *words, path=path)
+        self.assertEqual(ran.returncode, 0, ran.stderr)
+        return {it.name: it.read_bytes() for it in sorted(out.iterdir())}
+
+    def begun(self, name: str, *words: object) -> "subprocess.Popen[bytes]":
+        """A part of dask, ended after the test."""
+        paths = os.pathsep.join(str(TOP / it) for it in ("studies", "python", "tools"))
+        module = ["-m", f"distributed.cli.{name}", "--no-dashboard"]
+        command = [PYTHON, "-B", *module, *map(str, words)]
+        process = subprocess.Popen(
+            command, stderr=subprocess.DEVNULL, env={**os.environ, "PYTHONPATH": paths}
+        )
+        self.addCleanup(process.wait)
+        self.addCleanup(process.terminate)
+        return process
+
+    def scheduler(self) -> str:
+        """The address of a scheduler with two workers."""
+        told = self.folder / "scheduler.json"
+        self.begun("dask_scheduler", "--host", "127.0.0.1", "--port", 0, "--scheduler-file", told)
+        for _ in range(2):
+            self.begun("dask_worker", "--scheduler-file", told, "--nthreads", 1, "--no-nanny")
+        for _ in range(300):
+            if told.exists() and told.read_text().endswith("}"):
+                break
+            time.sleep(0.1)
+        return str(json.loads(told.read_text())["address"])
+
+    @wants_program
+    @wants("matplotlib")
+    @wants("scipy")
+    def test_other_machines_give_the_same_bytes(self) -> None:
+        (self.folder / "distributed.py").write_text(STAND_IN)
+        here = self.written("here", "--workers", "2")
+        there = self.written("there", "--scheduler", "tcp://here:8786", path=str(self.folder))
+        self.assertEqual(there, here)
+        if importlib.util.find_spec("distributed"):
+            self.assertEqual(self.written("dask", "--scheduler", self.scheduler()), here)
+
+    def test_what_is_missing_is_told(self) -> None:
+        (self.folder / "distributed.py").write_text("raise ImportError")
+        one, other = ["--scheduler", "tcp://here:8786"], ["--workers", "2"]
+        for words, said in ((one, "wants python3-distributed"), (one + other, "has its own")):
+            ran = self.ran(*words, path=str(self.folder))
+            self.assertEqual((ran.returncode, ran.stdout, ran.stderr.count("\n")), (2, "", 1))
+            self.assertIn(said, ran.stderr)
 
 
 class ChainData(unittest.TestCase):

@@ -234,7 +234,8 @@ def is_option(form: Sequence[int]) -> bool:
 
 
 def has_few_options(order: Value) -> bool:
-    return order["quantity"] * sum(abs(leg["count"]) for leg in order["legs"]) <= 10**6
+    options: int = order["quantity"] * sum(abs(leg["count"]) for leg in order["legs"])
+    return options <= 10**6
 
 
 def do_rise(orders: Sequence[Value]) -> bool:
