@@ -269,7 +269,7 @@ class Ends(Service):
         self.assertEqual({int(it) for it in told.split()}, set(NOT_AGAIN))
         document = (HERE.parent / "docs/OPERATING.md").read_text()
         known = {
-            int(number): bold for bold, number in re.findall(r"(?m)^\| (\**)status (\d+)", document)
+            int(number): bold for bold, number in re.findall(r"(?m)^- (\**)status (\d+)", document)
         }
         self.assertEqual(set(known), set(Status) - {Status.DONE, Status.NO})
         self.assertEqual({number for number, bold in known.items() if bold}, set(NOT_AGAIN))

@@ -87,7 +87,7 @@ class Script(Folder):
             "demo SEED COUNT",
         ):
             self.assertRegex(text, rf"(?m)^  exchange {word}\b.*  \S")
-        statuses = re.findall(r"(?m)^\| (\d+) \|", (TOP / "docs/OPERATING.md").read_text())
+        statuses = re.findall(r"(?m)^- (\d+), ", (TOP / "docs/OPERATING.md").read_text())
         self.assertEqual(re.findall(r"(?m)^  (\d+)  ", text), sorted([*statuses, "69"], key=int))
         documents = re.findall(r"(?m)^  (\S+\.md)\b", text)
         self.assertEqual(
