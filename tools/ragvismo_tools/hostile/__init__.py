@@ -1,4 +1,4 @@
-"""Runs the program on faults and malicious input, and prints the table of docs/RELIABILITY.md.
+"""Runs the program on faults and malicious input, and prints what docs/RELIABILITY.md tells.
 
     tools/hostile [NAME..] [--program FILE] [--quick]
 
