@@ -44,6 +44,12 @@ def long_legs() -> Cleared:
     return cleared.read(reply)
 
 
+def untraded_map() -> Cleared:
+    """Two underlyings, with a measure though nothing traded."""
+    orders = json.loads(example("basket").text)["orders"]
+    return changed("basket", fills=["0"] * len(orders), surplus="0", liability="0")
+
+
 def bounded_map() -> Cleared:
     """Two underlyings, with a bound above the surplus."""
     reply = json.loads(example("demo", 3).text)
@@ -66,6 +72,7 @@ KINDS: dict[str, Callable[[], Any]] = {
     "map-page": lambda: picture(example("demo", 3)),
     "map-column": lambda: picture(example("basket"), "column"),
     "map-bounded": lambda: picture(bounded_map(), "column"),
+    "map-untraded": lambda: picture(untraded_map(), "column"),
     "states-page": lambda: picture(example("basket_of_three")),
     "states-column": lambda: picture(long_legs(), "column"),
     "untraded": lambda: picture(untraded(), "column"),
@@ -172,20 +179,64 @@ class Figures(unittest.TestCase):
                         self.assertLess(wide, width * 0.99 * layout.width)
 
     def test_no_number_stands_on_a_circle(self) -> None:
-        """Of the map of seven states each number is nearest to its own circle."""
+        """On maps each number is nearest to its own circle, off it, and within the map; rays, which
+        stand at its edges, are within the picture."""
         from matplotlib import pyplot
 
-        figure = picture(example("demo", 3))
-        figure.draw_without_rendering()
-        axes = next(it for it in figure.findobj(pyplot.Axes) if "first" in it.get_xlabel())
-        states = example("demo", 3).certificate.measure
-        ends = axes.get_xlim()[1]
-        points = [axes.transData.transform(maps._point(it, ends)) for it in states]
-        for text in axes.texts:
-            box = text.get_window_extent()
-            middle = (box.x0 + box.x1) / 2, (box.y0 + box.y1) / 2
-            far = [((middle[0] - x) ** 2 + (middle[1] - y) ** 2) ** 0.5 for x, y in points]
-            self.assertEqual(far.index(min(far)) + 1, int(text.get_text()))
+        for found in (example("demo", 3), example("basket"), untraded_map()):
+            figure = picture(found, "column")
+            figure.draw_without_rendering()
+            axes = next(it for it in figure.findobj(pyplot.Axes) if "first" in it.get_xlabel())
+            drawn = [it for it in axes.lines if str(it.get_gid()).startswith("state")]
+            ends = axes.get_xlim()[1]
+            states = found.certificate.measure
+            points = [axes.transData.transform(maps._point(it, ends)) for it in states]
+            radii = [it.get_markersize() / 144 * figure.dpi for it in drawn]
+            for number, text in enumerate(axes.texts[-len(states) :]):
+                box = text.get_window_extent()
+                middle = (box.x0 + box.x1) / 2, (box.y0 + box.y1) / 2
+                far = [
+                    ((middle[0] - x) ** 2 + (middle[1] - y) ** 2) ** 0.5 - radius
+                    for (x, y), radius in zip(points, radii)
+                ]
+                self.assertEqual(far.index(min(far)), number)
+                self.assertGreater(far[number], 0)
+                self.assertTrue(axes.bbox.contains(*middle))
+            for it in drawn:
+                box = it.get_window_extent()
+                self.assertTrue(figure.bbox.contains(box.x0, box.y0), it)
+                self.assertTrue(figure.bbox.contains(box.x1, box.y1), it)
+
+    def test_an_empty_batch_in_given_axes_says_so(self) -> None:
+        from matplotlib import pyplot
+
+        figure, axes = pyplot.subplots()
+        picture(empty(), axes=axes)
+        self.assertEqual([it.get_text() for it in axes.texts], ["the batch has no orders"])
+        pyplot.close(figure)
+
+    def test_limits_are_the_ends_of_the_axes(self) -> None:
+        from matplotlib import pyplot
+
+        figure, axes = pyplot.subplots()
+        for limits, ends in (((4, 14), (4, 14)), ((0, 40), (-1, 40))):
+            picture(example("butterfly"), axes=axes, limits=limits)
+            self.assertEqual(axes.get_xlim(), ends)
+        pyplot.close(figure)
+
+    def test_no_amount_stands_on_a_bar(self) -> None:
+        """Of two bars at one place the lighter one is in front, and has no amount on the other."""
+        from matplotlib import pyplot
+
+        reply = json.loads(example("butterfly").text)
+        states = [("1", "3/10"), ("2", "7/10"), ("900", "0"), ("1000", "0")]
+        measure = [{"state": ["1", at], "weight": weight} for at, weight in states]
+        found = cleared.read({**reply, "certificate": {"cover": "line", "measure": measure}})
+        figure = picture(found, "column")
+        axes = next(it for it in figure.findobj(pyplot.Axes) if "mass" in it.get_ylabel())
+        told = [it.get_text() for it in axes.texts]
+        self.assertEqual((told[0], "3/10" in told), ("7/10", False))
+        self.assertEqual([it.get_gid() for it in axes.patches][:2], ["state-2", "state-1"])
 
     def test_every_size_and_kind_of_file(self) -> None:
         with tempfile.TemporaryDirectory() as folder:

@@ -15,6 +15,7 @@ MOST_LINES = 48
 GRID = 301
 LEAST_SIZE, SIZE_OF_MASS = 20.0, 160.0  # of a circle, in square points
 RAY_SIZE = 60.0
+TICK_PAD = 4.5  # so that no circle on an axis meets its labels
 
 
 class Bend(NamedTuple):
@@ -55,9 +56,10 @@ def draw(axes: Any, cleared: Cleared, limits: Limits | None) -> Any:
     for number, it in enumerate(cleared.certificate.measure, 1):
         x, y = _point(it, end)
         marker = "o" if not it.is_ray else ">" if it.entries[1] >= it.entries[2] else "^"
-        look: dict[str, Any] = {"c": "k" if it.is_ray else "w", "edgecolors": "k", "zorder": 3}
-        about = {"s": _size(it), "marker": marker, "gid": f"state-{number}", "clip_on": limits}
-        axes.scatter([x], [y], **about, **look)
+        look: dict[str, Any] = {"mfc": "k" if it.is_ray else "w", "mec": "k", "zorder": 3}
+        about = {"ms": _size(it) ** 0.5, "marker": marker, "gid": f"state-{number}"}
+        axes.plot([x], [y], clip_on=bool(limits), **about, **look)
+    axes.tick_params(pad=TICK_PAD)
     axes.set(xlim=(start, end), ylim=(start, end))
     axes.set(xlabel="price of the first underlying (ticks)")
     axes.set(ylabel="price of the second underlying (ticks)")
@@ -204,49 +206,70 @@ def _show_bend(axes: Any, bend: Bend, end: float, gid: str) -> None:
         axes.axvline(-bend.a / bend.b, **look)
 
 
+class Mark(NamedTuple):
+    """A state on the map: its number in the measure, its prices, and its place and radius in
+    inches from the map's lower left corner."""
+
+    number: int
+    prices: Point
+    at: Point
+    radius: float
+
+    @property
+    def box(self) -> Box:
+        (x, y), by = self.at, self.radius
+        return Box(x - by, y - by, x + by, y + by)
+
+    def far(self, x: float, y: float) -> float:
+        """How far a place is from the circle."""
+        return float(((self.at[0] - x) ** 2 + (self.at[1] - y) ** 2) ** 0.5 - self.radius)
+
+
 def number_states(axes: Any, cleared: Cleared, layout: Layout) -> None:
-    """Gives each state its number in the measure, where no circle and no other number is; the place
-    of the axes in the figure must stand."""
+    """Gives each state its number in the measure, where no other circle and no other number is; the
+    place of the axes in the figure must stand."""
     start, end = axes.get_xlim()
     extent = axes.get_window_extent()
-    wide, high = extent.width / axes.figure.dpi, extent.height / axes.figure.dpi
-    taken: list[Box] = []
-    points: list[tuple[int, Point, Point, float]] = []
+    ends = extent.width / axes.figure.dpi, extent.height / axes.figure.dpi
+    marks = []
     for number, it in enumerate(cleared.certificate.measure, 1):
         x, y = point = _point(it, end)
-        if not start <= min(x, y) <= max(x, y) <= end:
-            continue
-        radius = _size(it) ** 0.5 / 144
-        at = wide * (x - start) / (end - start), high * (y - start) / (end - start)
-        taken.append(Box(at[0] - radius, at[1] - radius, at[0] + radius, at[1] + radius))
-        points.append((number, point, at, radius))
+        if start <= min(x, y) <= max(x, y) <= end:
+            at = ends[0] * (x - start) / (end - start), ends[1] * (y - start) / (end - start)
+            marks.append(Mark(number, point, at, _size(it) ** 0.5 / 144))
     box = {"boxstyle": "round,pad=0.1", "fc": "w", "ec": "none", "alpha": 0.8}
     text: dict[str, Any] = {"ha": "center", "va": "center", "fontsize": layout.letters - 1}
     about = {"textcoords": "offset points", "zorder": 4, "bbox": box, "annotation_clip": False}
-    for number, point, at, radius in points:
-        place = _free_place(str(number), at, radius, taken, (wide, high), layout)
-        offset = 72 * (place[0] - at[0]), 72 * (place[1] - at[1])
-        axes.annotate(str(number), point, offset, **about, **text).set_in_layout(False)
+    numbers: list[Box] = []
+    for mark in marks:
+        others = [it for it in marks if it is not mark]
+        place = _free_place(mark, others, numbers, ends, layout)
+        numbers.append(place)
+        offset = [36 * (low + high) for low, high in (place[::2], place[1::2])]
+        offset = [to - 72 * of for to, of in zip(offset, mark.at)]
+        named = axes.annotate(str(mark.number), mark.prices, offset, **about, **text)
+        named.set_in_layout(False)
 
 
 def _free_place(
-    text: str, at: Point, radius: float, taken: list[Box], ends: Point, layout: Layout
-) -> Point:
-    """The middle of a number beside a point: of eight places the first that is free, else the one
-    that meets least; it is taken then."""
-    wide, high = layout.inches(text) / 2 + 0.03, layout.letter / 2
-    best: tuple[float, Point, Box] | None = None
+    mark: Mark, others: list[Mark], numbers: list[Box], ends: Point, layout: Layout
+) -> Box:
+    """The place of a number beside its circle: of eight the first that is free, on the map, and
+    nearer to no other circle, else the one that is least at fault."""
+    taken = [*(it.box for it in others), *numbers]
+    wide, high = layout.inches(str(mark.number)) / 2 + 0.03, layout.letter / 2
+    best: tuple[float, Box] | None = None
     for across, along in ((1, 1), (-1, 1), (1, -1), (-1, -1), (1, 0), (-1, 0), (0, 1), (0, -1)):
-        slant = 0.75 if across and along else 1.0
-        x = at[0] + across * slant * (radius + wide)
-        y = at[1] + along * slant * (radius + high)
+        radius = mark.radius * (0.75 if across and along else 1.0)
+        x = mark.at[0] + across * (radius + wide)
+        y = mark.at[1] + along * (radius + high)
         box = Box(x - wide, y - high, x + wide, y + high)
         cost = float(sum(map(box.meets, taken)))
         cost += 0.5 * (x - wide < 0 or y - high < 0 or x + wide > ends[0] or y + high > ends[1])
+        cost += 0.6 * any(it.far(x, y) < mark.far(x, y) for it in others)
         if best is None or cost < best[0]:
-            best = cost, (x, y), box
+            best = cost, box
     assert best
-    taken.append(best[2])
     return best[1]
 
 
@@ -257,12 +280,14 @@ def show_scale(figure: Any, axes: Any, shades: Any, cleared: Cleared) -> None:
     low, high = scale.get_ylim()
     for name, amount, look in _levels(cleared):
         if low <= amount <= high:
-            line = scale.axhline(amount, color="k", ls=look, lw=1.2, gid=name)
+            # It begins beside the bar, since it may lie on the bar's end.
+            line = scale.axhline(amount, -0.35, color="k", ls=look, lw=1.2, gid=name)
             line.set_clip_on(False)
 
 
-def _levels(cleared: Cleared) -> Iterator[tuple[str, float, str]]:
-    """The surplus, and the bound where it is another: name, amount and kind of line."""
-    yield "surplus", float(cleared.surplus), "--"
+def _levels(cleared: Cleared) -> Iterator[tuple[str, float, Any]]:
+    """The surplus, and the bound where it is another: name, amount and kind of line, of pieces that
+    are short beside the bar's width."""
+    yield "surplus", float(cleared.surplus), (0, (2.5, 1))
     if cleared.bound not in (None, cleared.surplus):
-        yield "bound", float(cleared.bound or 0), "-."
+        yield "bound", float(cleared.bound or 0), (0, (2.5, 1, 0.7, 1))

@@ -29,6 +29,7 @@ LOOK: dict[str, Any] = {
     "savefig.dpi": 300,
     "figure.dpi": 100,
 }
+BARS = 60  # so many bars would fill an axis of prices
 LAYOUTS: dict[Size, Layout] = {"page": Layout(7.0, 8, 14), "column": Layout(3.4, 6.5, 8)}
 
 
@@ -112,6 +113,9 @@ def _into(
         maps.number_states(axes, cleared, layout)
     else:
         raise ValueError("a batch on more than two underlyings has no curve and no map")
+    if not traded(cleared):
+        told = {"ha": "center", "va": "top", "transform": axes.transAxes}
+        axes.text(0.5, 0.96, tables.of_orders(cleared).below, **told)
     if title:
         axes.set_title(title)
     return figure
@@ -137,12 +141,12 @@ def _legend(part: Any, handles: Sequence[Any], columns: int) -> None:
     axes = part.subplots()
     axes.axis("off")
     if handles:
-        look: dict[str, Any] = {"fontsize": "small", "frameon": False, "labelspacing": 0.8}
+        look: dict[str, Any] = {"fontsize": "small", "frameon": False, "labelspacing": 1.2}
         axes.legend(handles=handles, loc="center", ncols=columns, **look)
 
 
 def _legend_height(most: int, layout: Layout, columns: int) -> float:
-    return (0.4 + 1.7 * -(-most // columns)) * layout.letter
+    return (0.4 + 2.0 * -(-most // columns)) * layout.letter
 
 
 # One underlying.
@@ -177,7 +181,8 @@ def _draw_line(cleared: Cleared, layout: Layout, title: str | None, limits: Limi
     charts = [0.4 * layout.width] * bool(traded(cleared))
     charts += [0.24 * layout.width + 0.5] * bool(measure)
     columns = 4 if layout.width > 5 else 2
-    heights = [_legend_height(4, layout, columns), sum(charts)] * bool(charts)
+    told = 4 if traded(cleared) else 0
+    heights = [_legend_height(told, layout, columns), sum(charts)] * bool(charts)
     if not charts:
         table = table._replace(below=f"{table.below}; {_no_measure(cleared)}")
     heights.append(table.height(layout) + 0.1)
@@ -203,7 +208,7 @@ def _draw_line(cleared: Cleared, layout: Layout, title: str | None, limits: Limi
     if has_rays:
         _show_rays(parts[1].add_subplot(grid[-1, 1]), cleared)
     upper.tick_params(labelbottom=upper is lower)
-    lower.set(xlabel="price at settlement (ticks)", xlim=(start - (end - start) / 40, end))
+    lower.set(xlabel="price at settlement (ticks)", xlim=(_left(start, end), end))
     _label_prices(lower, [Fraction(0), *_places(cleared)], start, end, layout)
     figure.draw_without_rendering()
     _label_masses(lower, cleared, layout)
@@ -219,9 +224,10 @@ def _show_kept(axes: Any, cleared: Cleared, start: float, end: float) -> None:
     bends = [it for it in _bends(cleared) if start < it < end]
     prices = [Fraction(start), *bends, Fraction(end)]
     kept = [float(cleared.kept((1, price))) for price in prices]
-    axes.plot(list(map(float, prices)), kept, "k-", lw=1.4, label="kept", gid="curve")
+    curve: dict[str, Any] = {"color": "0.55", "lw": 2.0, "label": "kept", "gid": "curve"}
+    axes.plot(list(map(float, prices)), kept, **curve)
     levels = [float(cleared.surplus)]
-    look: dict[str, Any] = {"color": "k", "lw": 0.9}
+    look: dict[str, Any] = {"color": "k", "lw": 0.9, "zorder": 3}  # seen where the curve is at it
     proved = "surplus, the greatest" if cleared.bound == cleared.surplus else "surplus"
     axes.axhline(levels[0], ls="--", label=proved, gid="surplus", **look)
     if cleared.bound is not None and cleared.bound != cleared.surplus:
@@ -232,7 +238,12 @@ def _show_kept(axes: Any, cleared: Cleared, start: float, end: float) -> None:
         gid = f"breakpoint-{number}"
         axes.axvline(float(price), color="0.6", ls=":", lw=0.8, label=label, gid=gid)
     axes.set(ylabel="premium less\nnet payoff (ticks)", ylim=_range([*kept, *levels]))
-    axes.set_xlim(start - (end - start) / 40, end)
+    axes.set_xlim(_left(start, end), end)
+
+
+def _left(start: float, end: float) -> float:
+    """Where the axis of prices begins: with room for a bar at 0."""
+    return start if start else -end / 40
 
 
 def _range(values: Sequence[float]) -> tuple[float, float]:
@@ -263,24 +274,28 @@ def _show_masses(axes: Any, cleared: Cleared, start: float, end: float) -> None:
     axes.set(ylabel="mass (sums to 1)", ylim=(0, top))
     axes.set_yticks([it for it in axes.get_yticks() if it <= min(top, 1)])
     look: dict[str, Any] = {"color": "0.75", "edgecolor": "k", "linewidth": 0.6}
-    for number, it in states:
+    for number, it in sorted(states, key=lambda it: -it[1].mass):  # the lighter ones in front
         at = float(it.prices[0]), float(it.mass)
-        axes.bar(*at, width=(end - start) / 60, gid=f"state-{number}", **look)
+        axes.bar(*at, width=(end - start) / BARS, gid=f"state-{number}", **look)
 
 
 def _label_masses(axes: Any, cleared: Cleared, layout: Layout) -> None:
-    """The amounts above the bars, of the heaviest first, where no other amount is; the place of the
-    axes in the figure must stand."""
+    """The amounts above the bars, of the heaviest first, where no other bar or amount is; the place
+    of the axes in the figure must stand."""
     (left, right), (_, top) = axes.get_xlim(), axes.get_ylim()
     extent = axes.get_window_extent()
     wide, high = extent.width / axes.figure.dpi, extent.height / axes.figure.dpi
-    taken: list[maps.Box] = []
     states = [it for it in cleared.certificate.measure if not it.is_ray]
-    for it in sorted(states, key=lambda it: -it.mass):
+    states.sort(key=lambda it: -it.mass)
+    ends = [
+        (wide * (float(it.prices[0]) - left) / (right - left), high * float(it.mass) / top)
+        for it in states
+    ]
+    bar = wide * (right - max(left, 0)) / (right - left) / BARS / 2
+    taken = [maps.Box(x - bar, 0, x + bar, y) for x, y in ends]
+    for it, (x, y) in zip(states, ends):
         text = brief(it.mass, 7)
         half = layout.inches(text, 0) / 2 + 0.02
-        x = wide * (float(it.prices[0]) - left) / (right - left)
-        y = high * float(it.mass) / top
         middle = min(max(x, half), wide - half)
         box = maps.Box(middle - half, y, middle + half, y + layout.letter)
         if 0 <= x <= wide and not any(map(box.meets, taken)):

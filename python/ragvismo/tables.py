@@ -12,6 +12,7 @@ from ragvismo.orders import FilledOrder
 
 MOST_ROWS = 10
 PADDING = 1.2  # of letters, left and right of a cell's text together
+NEAR = 1e-6  # by which sums of inches may be off
 
 
 class Layout(NamedTuple):
@@ -98,7 +99,7 @@ def _broken(text: str, width: float, layout: Layout) -> str:
         lines.append(parts[0])
         for part in parts[1:]:
             longer = f"{lines[-1]} {part}"
-            if layout.inches(longer) <= width:
+            if layout.inches(longer) <= width + NEAR:
                 lines[-1] = longer
             else:
                 lines.append(part)
