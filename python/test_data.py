@@ -103,6 +103,30 @@ class Chains(unittest.TestCase):
             path.write_bytes(gzip.compress(text.upper().encode()))
             self.assertEqual(import_chain(path)[0].batch, by_file.batch)
 
+    @wants("pandas")
+    def test_cells_of_frames_name_chains_as_those_of_files(self) -> None:
+        """Days, and numbers that are floats since one of them is missing; a root that is told by
+        the contract alone keeps its options apart."""
+        import pandas
+
+        rows = {
+            "secid": [108105.0, 108105.0, 108105.0],
+            "symbol": ["SPX 190118C2500000", "SPXW 190118C2500000", "SPXW 190118P2500000"],
+            "exdate": pandas.to_datetime(["2019-01-18"] * 3),
+            "root": [None, None, None],
+            "cp_flag": ["C", "C", "P"],
+            "strike_price": [2500000.0] * 3,
+            "best_bid": [31.5, 31.25, float("nan")],
+            "best_offer": [32.5, 32.0, 31.0],
+        }
+        frame = pandas.DataFrame(rows)
+        of_frame = import_chain(frame)
+        text = frame.assign(secid=108105).to_csv(index=False).splitlines()
+        of_file = self.read(text[0], *text[1:])
+        self.assertEqual(of_frame, of_file)
+        names = [it.name for it in of_frame]
+        self.assertEqual(names, ["108105 SPX 2019-01-18", "108105 SPXW 2019-01-18"])
+
     def test_cboe_as_it_comes(self) -> None:
         """Sizes are contracts, two times of a day stand in a row, and the underlying is a call."""
         rows = [
@@ -196,6 +220,7 @@ class Chains(unittest.TestCase):
         )
         self.assertEqual((len(chain.batch.orders), sum(chain.left_out.values())), (2, 7))
         wrongs: list[dict[str, Any]] = [{"tick": 0}, {"tick": "x"}, {"most": 0}, {"discount": 0}]
+        wrongs.append({"at": "noon"})
         for wrong in wrongs:
             with self.assertRaises(ValueError):
                 self.read("cp_flag,strike,best_bid,best_offer", "C,5,1,2", **wrong)
@@ -215,9 +240,10 @@ class Frames(unittest.TestCase):
         }
         batch = Batch.from_frame(pandas.DataFrame(rows))
         self.assertEqual(batch.orders, (buy(call(10), 6), sell(put(12), 4, 2)))
-        weighted = {**rows, "weights": [(1, -1), "(1, -1)"]}
-        found = Batch.from_frame(pandas.DataFrame(weighted)).orders
-        self.assertEqual(found, (buy(call(10, 1, -1), 6), sell(put(12, 1, -1), 4, 2)))
+        for text in ("(1, -1)", "[ 1 -1]", "1,-1"):
+            weighted = {**rows, "weights": [(1, -1), text]}
+            found = Batch.from_frame(pandas.DataFrame(weighted)).orders
+            self.assertEqual(found, (buy(call(10, 1, -1), 6), sell(put(12, 1, -1), 4, 2)))
         nothing = float("nan")
         for name, wrong, why in (
             ("strike", [10, 10.5], "10.5 is no whole number"),
@@ -228,17 +254,22 @@ class Frames(unittest.TestCase):
             ("side", ["buy", None], "None is missing"),
             ("price", [6, "x"], "'x' is no whole number"),
             ("weights", [(1,), (0,)], "a weight that is not 0"),
+            ("weights", ["(1)", "(1.5)"], "'(1.5)' is no sequence of whole numbers"),
+            ("weights", [(1,), ()], "there is no weight"),
+            ("weights", [(1,), (1, 1)], "2 underlyings, and the first row is on 1"),
             ("options", ["call 5", "call"], "'call' is no option in words"),
+            ("options", ["call 5", "call 5 on (1, 1)"], "2 underlyings, and the first row is on 1"),
+            ("options", ["call 5", nothing], "nan is missing"),
             ("legs", [[(1, call(5))], [(1, "call")]], "a leg has an option"),
+            ("legs", [[(1, call(5))], []], "are all on as many underlyings"),
+            ("legs", [[(1, call(5))], [(nothing, call(5))]], "nan is no whole number"),
         ):
             frame = pandas.DataFrame({**rows, name: wrong}, index=["first", "second"])
             with self.assertRaises(BadFrame) as caught:
                 Batch.from_frame(frame)
             self.assertTrue(isinstance(caught.exception, ValueError))
             told = str(caught.exception)
-            column = "legs" if name == "options" else name
-            self.assertEqual(told[: len("row 'second', column ")], "row 'second', column ", told)
-            self.assertIn(f"{column}: ", told)
+            self.assertTrue(told.startswith(f"row 'second', column {name}: "), told)
             self.assertIn(why, told)
         with self.assertRaises(KeyError):
             Batch.from_frame(pandas.DataFrame(rows).drop(columns="price"))

@@ -44,7 +44,7 @@ from dataclasses import dataclass
 from decimal import Decimal, InvalidOperation
 from fractions import Fraction
 from math import ceil, floor
-from typing import IO, TYPE_CHECKING, Any, Literal, NamedTuple, cast
+from typing import IO, TYPE_CHECKING, Any, Literal, NamedTuple, cast, get_args
 
 from ragvismo.faults import BadChain
 from ragvismo.orders import KINDS, Batch, Option, Order, Side, buy, call, put, sell
@@ -85,6 +85,8 @@ SIDES: tuple[tuple[Side, str, str], ...] = (
     ("sell", "offer", "offer_size"),
 )
 Cells = dict[str, str]
+# The times of a day at which CBOE tells quotes.
+Time = Literal["1545", "eod"]
 # A number, or what gives one for the cells that name a chain.
 ByChain = Decimal | float | str | Callable[[Cells], "Decimal | float | str"]
 
@@ -118,7 +120,7 @@ class Chain:
 
     @property
     def name(self) -> str:
-        return " ".join(self.about.values())
+        return " ".join(filter(None, self.about.values()))
 
     def money(self, ticks: Fraction | int) -> Fraction:
         """An amount of a batch in money of the quote: ticks times the tick, the multiplier (1 where
@@ -131,7 +133,7 @@ def import_chain(
     *,
     tick: Decimal | float | str = "0.01",
     discount: ByChain = 1,
-    at: Literal["1545", "eod"] = "1545",
+    at: Time = "1545",
     between: tuple[Decimal | float | str, Decimal | float | str] = (0, "1e9"),
     underlying: bool = False,
     dividends: ByChain = 0,
@@ -158,11 +160,13 @@ def import_chain(
     )
     if rules.tick <= 0 or most < 1:
         raise ValueError("a tick is above 0, and a chain has at least one order")
-    chains: dict[tuple[str, ...], _Making] = {}
+    if at not in get_args(Time):
+        raise ValueError(f"the quotes of a day are of {' or '.join(get_args(Time))}, not {at!r}")
+    chains: dict[tuple[tuple[str, str], ...], _Making] = {}
     with _Rows(source, at) as rows:
         for cells in rows:
             about = rows.about(cells)
-            key = tuple(about.values())
+            key = tuple(about.items())
             if key not in chains:
                 chains[key] = _Making(about, rules)
             chains[key].take(rows.named(cells), thousandths=rows.thousandths)
@@ -222,13 +226,14 @@ class _Rows:
     def about(self, cells: Cells) -> dict[str, str]:
         """What names a row's chain."""
         about = {it: cells.get(it, "") for it in self.named_by}
-        if "symbol" in self.head:
-            contract = CONTRACT.fullmatch(cells.get("symbol", ""))
-            if contract and "root" not in self.head:
-                about["root"] = contract[1]
-            elif not contract and not self.named_by:
-                about["symbol"] = cells.get("symbol", "")
-        about |= {it: cells.get(it, "") for it in APART if it in self.head}
+        contract = CONTRACT.fullmatch(cells.get("symbol", ""))
+        if contract and not cells.get("root"):
+            about["root"] = contract[1]
+        elif "symbol" in self.head and not contract and not self.named_by:
+            about["symbol"] = cells.get("symbol", "")
+        for it in APART:
+            if it in self.head and it not in about:
+                about[it] = cells.get(it, "")
         return about or {"file": self.name}
 
     def named(self, cells: Cells) -> Cells:
@@ -356,8 +361,11 @@ def _middle(of_strike: dict[int, list[Quote]]) -> int:
 
 
 def _text(cell: object) -> str:
-    """A cell as a text, empty where it is missing."""
-    text = str(cell).strip()
+    """A cell as a text, empty where it is missing; of a frame, whole numbers and days as files have
+    them."""
+    if isinstance(cell, float) and cell.is_integer():
+        return str(int(cell))
+    text = str(cell).strip().removesuffix(" 00:00:00")
     return "" if text in ("nan", "NaN", "NaT", "<NA>", "None") else text
 
 

@@ -21,6 +21,8 @@ KINDS: dict[str, Kind] = {"call": "call", "put": "put", "c": "call", "p": "put"}
 WORDS = re.compile(
     r"(?:(-?\d+) of )?(call|put) (-?\d+)(?: with weight (-?\d+)| on \((-?\d+(?:, -?\d+)+)\))?"
 )
+# Weights in words, as tuples, lists and arrays are written into files.
+WEIGHTS = re.compile(r"[\[(]?\s*-?\d+(?:[\s,]+-?\d+)*[\s,]*[\])]?")
 
 
 class Option(NamedTuple):
@@ -292,41 +294,51 @@ class Row:
             raise self.fault(column, f"{cell!r} is none of {', '.join(words)}")
         return words[str(cell).lower()]
 
-    def legs(self) -> tuple[Leg, ...]:
+    @property
+    def bundle(self) -> str:
+        """The column by which the bundle is told."""
+        return next((it for it in ("legs", "options") if it in self.cells), "weights")
+
+    def order(self) -> Order:
+        about = {
+            "side": self.word("side", {side: side for side in get_args(Side)}),
+            "price": self.whole("price"),
+            "quantity": self.whole("quantity"),
+            "account": self.whole("account", 1),
+        }
         try:
-            if "legs" in self.cells:
-                return tuple(
-                    Leg(self.as_whole("legs", count), option)
-                    for count, option in self.present("legs")
-                )
-            if "options" in self.cells:
-                return legs_of(str(self.present("options")))
+            return Order(legs=self.legs(), **about)
         except (TypeError, ValueError) as fault:
-            raise fault if isinstance(fault, BadFrame) else self.fault("legs", str(fault)) from None
-        return (Leg(1, self.option()),)
+            raise fault if isinstance(fault, BadFrame) else self.fault(self.bundle, str(fault))
+
+    def legs(self) -> tuple[Leg, ...]:
+        if self.bundle == "weights":
+            return (Leg(1, self.option()),)
+        cell = self.present(self.bundle)
+        if self.bundle == "options":
+            return legs_of(str(cell))
+        return tuple(Leg(self.as_whole("legs", count), option) for count, option in cell)
 
     def option(self) -> Option:
         made = call if self.word("kind", dict(KINDS)) == "call" else put
         weights = self.present("weights", (1,))
         if isinstance(weights, str):
+            if not WEIGHTS.fullmatch(weights):
+                raise ValueError(f"{weights!r} is no sequence of whole numbers, such as (1, -1)")
             weights = [int(it) for it in re.findall(r"-?\d+", weights)]
-        try:
-            whole = [self.as_whole("weights", it) for it in weights]
-            return made(self.whole("strike"), *whole)
-        except (TypeError, ValueError) as fault:
-            if isinstance(fault, BadFrame):
-                raise
-            raise self.fault("weights", str(fault)) from None
+        whole = [self.as_whole("weights", it) for it in weights]
+        if not whole:
+            raise ValueError("there is no weight")
+        return made(self.whole("strike"), *whole)
 
 
 def _orders_of(frame: "pandas.DataFrame") -> Iterator[Order]:
-    sides = {side: side for side in get_args(Side)}
+    first = 0
     for label, cells in zip(frame.index, frame.to_dict("records")):
         row = Row(label, cells)
-        yield Order(
-            side=row.word("side", sides),
-            price=row.whole("price"),
-            quantity=row.whole("quantity"),
-            legs=row.legs(),
-            account=row.whole("account", 1),
-        )
+        order = row.order()
+        first = first or order.underlyings
+        if order.underlyings != first:
+            told = f"{order.underlyings} underlyings, and the first row is on {first}"
+            raise row.fault(row.bundle, told)
+        yield order
