@@ -102,8 +102,23 @@ impl Ledger {
         Some(self.accounts.holding(account)?.free())
     }
 
-    // Looks whether an account is open and may still pay an amount.
-    fn check_funds(&self, account: u32, amount: u64) -> Result<(), LedgerRefusal>
+    /// Looks whether an account is open: `NoAccount` where it is not. Takes no memory.
+    pub fn check_account(&self, account: u32) -> Result<(), LedgerRefusal>
+        ensures refused { TellsFirst unless_memory result
+            (account_refusals self.now.accounts account) }
+        ensures no_memory { result ≢ Err LedgerRefusal.Memory }
+    {
+        if self.accounts.holding(account).is_none() {
+            return Err(LedgerRefusal::NoAccount);
+        }
+        Ok(())
+    }
+
+    /// Looks whether an account may pay an amount, or have it reserved.
+    ///
+    /// `NoAccount` where the account is not open, and else `Funds` where its balance less what is
+    /// reserved is below the amount. Takes no memory.
+    pub fn check_payment(&self, account: u32, amount: u64) -> Result<(), LedgerRefusal>
         ensures refused { TellsFirst unless_memory result (funds_refusals self.now account amount) }
         ensures no_memory { result ≢ Err LedgerRefusal.Memory }
     {
@@ -200,9 +215,7 @@ impl Ledger {
             (account_refusals self.old.accounts account) }
         ensures err { OnErr result (self.new ≡ self.old) }
     {
-        if self.balance(account).is_none() {
-            return Err(LedgerRefusal::NoAccount);
-        }
+        self.check_account(account)?;
         self.post(Entry {
             account,
             amount: i128::from(amount),
@@ -210,10 +223,7 @@ impl Ledger {
         })
     }
 
-    /// Takes an amount from an account, and answers its new balance.
-    ///
-    /// `NoAccount` where the account is not open, and else `Funds` where its balance less what is
-    /// reserved is below the amount.
+    /// Takes an amount from an account, and answers its new balance. As `check_payment` refuses.
     pub fn withdraw(&mut self, account: u32, amount: u64) -> Result<i128, LedgerRefusal>
         requires some { 1 ≤ amount }
         requires within { amount ≤ MAX_AMOUNT }
@@ -225,7 +235,7 @@ impl Ledger {
         ensures refused { TellsFirst unless_memory result (funds_refusals self.old account amount) }
         ensures err { OnErr result (self.new ≡ self.old) }
     {
-        self.check_funds(account, amount)?;
+        self.check_payment(account, amount)?;
         self.post(Entry {
             account,
             amount: -i128::from(amount),
@@ -233,27 +243,20 @@ impl Ledger {
         })
     }
 
-    /// Reserves an amount of an account's balance, beside what is reserved already.
-    ///
-    /// `NoAccount` where the account is not open, and else `Funds` where its balance less what is
-    /// reserved is below the amount.
-    pub fn reserve(&mut self, account: u32, amount: u64) -> Result<(), LedgerRefusal>
+    /// Reserves an amount of an open account's balance, beside what is reserved already.
+    pub fn reserve(&mut self, account: u32, amount: u64)
+        requires open { is_open self.old.accounts account ≡ true }
         requires within { amount ≤ MAX_RESERVE }
         requires reserved { reserved_of self.old account ≤ MAX_RESERVED }
-        ensures reserves { OnOk result
-            (SetsReserve self.old self.new account (reserved_of self.old account + amount)) }
+        ensures reserves { SetsReserve self.old self.new account
+            (reserved_of self.old account + amount) }
         ensures accounts { self.new.accounts ≡ self.old.accounts }
         ensures entries { self.new.entries ≡ self.old.entries }
         ensures spare { self.new.spare ≡ self.old.spare }
-        ensures refused { TellsFirst unless_memory result (funds_refusals self.old account amount) }
-        ensures no_memory { result ≢ Err LedgerRefusal.Memory }
-        ensures err { OnErr result (self.new ≡ self.old) }
     {
-        self.check_funds(account, amount)?;
         let holding = self.accounts.holding(account).unwrap();
         let more = holding.reserved + u128::from(amount);
         self.accounts.set(account, holding.reserving(more));
-        Ok(())
     }
 
     /// Gives an amount of an account free again. As much is reserved.

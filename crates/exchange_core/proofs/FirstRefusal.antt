@@ -17,6 +17,7 @@ use Rattle.lists.proofs.FirstRefusal.{IsAlike, first_behind, none_in_both, none_
 use Rattle.exchange_core.specs.declared.refusal.Refusal.TheVariants.{NoAccount, AccountExists, NoMarket, MarketExists, Settled, WeightCount, Funds, BookFull, NoOrder, NotOwner, TooMany}
 use Rattle.exchange_core.specs.ExchangeState.{ExchangeState, without_positions}
 use Rattle.exchange_core.specs.Failures.{ledger_failure, book_failure, unless_memory}
+use Rattle.exchange_core.specs.declared.failure.Failure.TheVariants as failure
 use Rattle.exchange_core.specs.Kept.{AreJoined}
 use Rattle.exchange_core.specs.Refusals.{ledger_name, book_name, by_ledger, by_book, cost_refusals, order_cost_refusals, by_account, place_refusals}
 use Rattle.exchange_core.specs.Reserves.{free_in}
@@ -39,6 +40,37 @@ book_alike from_book.NoOrder = record { alike = inr (refl, NoOrder, refl) }
 book_alike from_book.NotOwner = record { alike = inr (refl, NotOwner, refl) }
 book_alike from_book.TooMany = record { alike = inr (refl, TooMany, refl) }
 book_alike from_book.Memory = record { alike = inl (refl, refl, refl) }
+
+-- ---- want of memory above is want of memory below
+pub ledger_memory : (error : LedgerRefusal) → ledger_failure error ≡ failure.Memory → error ≡ from_ledger.Memory
+ledger_memory from_ledger.NoAccount is = cc
+ledger_memory from_ledger.AccountExists is = cc
+ledger_memory from_ledger.Funds is = cc
+ledger_memory from_ledger.TooMany is = cc
+ledger_memory from_ledger.Memory is = refl
+
+pub book_memory : (error : BookRefusal) → book_failure error ≡ failure.Memory → error ≡ from_book.Memory
+book_memory from_book.NoMarket is = cc
+book_memory from_book.MarketExists is = cc
+book_memory from_book.Settled is = cc
+book_memory from_book.WeightCount is = cc
+book_memory from_book.BookFull is = cc
+book_memory from_book.NoOrder is = cc
+book_memory from_book.NotOwner is = cc
+book_memory from_book.TooMany is = cc
+book_memory from_book.Memory is = refl
+
+-- and where the book refuses nothing, no more than that is left
+pub only_memory : (error : BookRefusal) → book_refusals.unless_memory error ≡ None → book_failure error ≡ failure.Memory
+only_memory from_book.NoMarket none = cc
+only_memory from_book.MarketExists none = cc
+only_memory from_book.Settled none = cc
+only_memory from_book.WeightCount none = cc
+only_memory from_book.BookFull none = cc
+only_memory from_book.NoOrder none = cc
+only_memory from_book.NotOwner none = cc
+only_memory from_book.TooMany none = cc
+only_memory from_book.Memory none = refl
 
 -- ---- what is free of a balance, by ledger and exchange
 module _ (ledger : LedgerState) (book : BookState) (joined : AreJoined ledger book) where

@@ -8,6 +8,7 @@ ghost use Rattle.clearing_model.specs.Certificate.{AreFractionFills};
 ghost use Rattle.frac.specs.Value.{fraction_of};
 ghost use Rattle.form.specs.Limits.{IsWithinLimits};
 ghost use Rattle.order_book.specs.Book.{batch_of, info_in, is_trading, market_of};
+ghost use Rattle.order_book.specs.Markets.{holder_of};
 ghost use Rattle.order_book.specs.Refusals.{batch_refusals, live_refusals, unless_memory as unless_no_memory};
 ghost use Rattle.order_book.specs.Within.{IsNewOrderWithin};
 ghost use Rattle.limits.specs.declared.TheConstants.{MAX_BATCHES};
@@ -26,13 +27,14 @@ ghost use Rattle.command_text.specs.Within.{IsWithin, IsAccount, IsAmount, IsBud
 ghost use Rattle.form.specs.Between.{Between};
 ghost use Rattle.form.specs.declared.limits.TheConstants.{MAX_ORDERS, MAX_UNDERLYINGS};
 
-use crate::Reply;
+use crate::checks::{check_cancel, check_place, check_withdrawal};
 use crate::clear::charge_fills;
-use crate::failure::Failure;
+use crate::failure::{Failure, refusal_of};
 use crate::held::in_order;
 use crate::place::{cancel, place};
 use crate::settle::settle;
 use crate::trade::order_of;
+use crate::{Refusal, Reply};
 use cash_ledger::{Ledger, LedgerRefusal};
 use cert_check::{Fills, Outcome};
 use command_text::Command;
@@ -108,6 +110,40 @@ impl Exchange {
         ensures kept { IsKept self.now }
     {
         self.book.info(market)
+    }
+
+    /// The market with a live order of the number. `None` where no live order has the number. Takes
+    /// no memory.
+    pub fn market_of_order(&self, order: u64) -> Option<u32>
+        ensures { result ≡ holder_of order self.now.book.markets }
+    {
+        self.book.market_of_order(order)
+    }
+
+    /// Looks whether an order may be placed. The refusals are those of the command that places it.
+    /// Takes no memory.
+    pub fn check_order(&self, order: &NewOrder) -> Result<(), Refusal>
+        requires { IsNewOrderWithin order.now }
+        ensures { TellsFirst (λ r. Some r) result (place_refusals self.now order.now) }
+    {
+        refusal_of(check_place(&self.ledger, &self.book, order))
+    }
+
+    /// Looks whether an account may cancel an order. The refusals are those of the command
+    /// `cancel`. Takes no memory.
+    pub fn check_cancel(&self, account: u32, order: u64) -> Result<(), Refusal>
+        ensures { TellsFirst (λ r. Some r) result (refusals self.now (Command.Cancel account order)) }
+    {
+        refusal_of(check_cancel(&self.ledger, &self.book, account, order))
+    }
+
+    /// Looks whether an account may withdraw an amount. The refusals are those of the command
+    /// `withdraw`. Takes no memory.
+    pub fn check_withdrawal(&self, account: u32, amount: u64) -> Result<(), Refusal>
+        ensures { TellsFirst (λ r. Some r) result
+            (refusals self.now (Command.Withdraw account amount)) }
+    {
+        refusal_of(check_withdrawal(&self.ledger, account, amount))
     }
 
     /// The live orders of a market as a batch, or why there is none.
@@ -213,9 +249,7 @@ impl Exchange {
             positions.items ≡ positions_of account market self.now.positions) }
     {
         self.book.check_live(market)?;
-        self.ledger
-            .balance(account)
-            .ok_or(LedgerRefusal::NoAccount)?;
+        self.ledger.check_account(account)?;
         Ok(self.positions_of(account, market)?)
     }
 
@@ -286,6 +320,7 @@ impl Exchange {
         ensures ok { Does result self.new (place_effect self.old order.now) }
         ensures err { OnErr result (self.new ≡ self.old) }
     {
+        self.check_order(order)?;
         let order = place(&mut self.ledger, &mut self.book, order)?;
         Ok(Reply::Placed { order })
     }

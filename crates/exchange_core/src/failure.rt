@@ -1,7 +1,8 @@
 // Why a command has no effect.
-ghost use Rattle.std.specs.Prelude.{◌≡◌};
+ghost use Rattle.std.specs.Prelude.{◌≡◌, ◌≢◌, Some, Err};
 ghost use Rattle.exchange_core.specs.declared.failure.Failure.TheVariants as Failure;
-ghost use Rattle.exchange_core.specs.Failures.{ledger_failure, book_failure};
+ghost use Rattle.exchange_core.specs.Failures.{ledger_failure, book_failure, unless_memory};
+ghost use Rattle.lists.specs.Refusals.{refusal_in};
 
 use crate::Refusal;
 use cash_ledger::LedgerRefusal;
@@ -15,6 +16,14 @@ pub enum Failure {
     Refused(Refusal),
     /// There is no memory for it.
     Memory,
+}
+
+impl From<Refusal> for Failure {
+    ghost from_gives = { λ refusal failure. failure ≡ Failure.Refused refusal };
+
+    fn from(refusal: Refusal) -> Self {
+        Failure::Refused(refusal)
+    }
 }
 
 impl From<AllocError> for Failure {
@@ -54,5 +63,17 @@ impl From<BookRefusal> for Failure {
             BookRefusal::TooMany => Failure::Refused(Refusal::TooMany),
             BookRefusal::Memory => Failure::Memory,
         }
+    }
+}
+
+// What a check that takes no memory refuses.
+pub(crate) fn refusal_of(checked: Result<(), Failure>) -> Result<(), Refusal>
+    requires { checked ≢ Err Failure.Memory }
+    ensures { refusal_in (λ r. Some r) result ≡ refusal_in unless_memory checked }
+{
+    match checked {
+        Ok(()) => Ok(()),
+        Err(Failure::Refused(refusal)) => Err(refusal),
+        Err(Failure::Memory) => unreachable!(),
     }
 }

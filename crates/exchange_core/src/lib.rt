@@ -4,6 +4,7 @@
 //! A call takes memory only where it may answer want of it.
 #![tactic(auto)]
 
+mod checks;
 mod clear;
 mod exchange;
 mod failure;
@@ -22,5 +23,7 @@ pub use command_text::{Command, Kind};
 pub use exchange::Exchange;
 pub use failure::Failure;
 pub use line_replies::reply_to;
+pub use order_book::NewOrder;
 pub use refusal::Refusal;
 pub use reply_print::Reply;
+pub use trade::order_of;

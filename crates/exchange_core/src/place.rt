@@ -1,6 +1,6 @@
 // How an order is placed and taken out again: the book holds it, and the ledger reserves what it
 // costs.
-ghost use Rattle.std.specs.Prelude.{◌≡◌, ◌+◌, IfOk, OnOk, OnErr};
+ghost use Rattle.std.specs.Prelude.{◌≡◌, ◌+◌, None, IfErr, IfOk, OnOk, OnErr};
 ghost use Rattle.order_book.specs.Book.{with_order, without_order};
 ghost use Rattle.order_book.specs.Within.{IsNewOrderWithin};
 ghost use Rattle.command_text.specs.declared.command.Command.TheVariants as Command;
@@ -8,19 +8,22 @@ ghost use Rattle.exchange_core.specs.ExchangeState.{without_positions};
 ghost use Rattle.exchange_core.specs.Kept.{AreJoined};
 ghost use Rattle.exchange_core.specs.Refusals.{refusals, place_refusals};
 ghost use Rattle.exchange_core.specs.Failures.{unless_memory};
-ghost use Rattle.lists.specs.Refusals.{TellsFirst};
+ghost use Rattle.exchange_core.specs.declared.failure.Failure.TheVariants as Failure;
+ghost use Rattle.lists.specs.Refusals.{first_of, TellsFirst};
 
 use crate::failure::Failure;
 use crate::reserve::{release_cost, reserve_cost};
-use cash_ledger::{Ledger, LedgerRefusal};
+use cash_ledger::Ledger;
 use order_book::{Book, NewOrder};
 
-// Places an order and reserves what it costs, and answers its number.
+// Places an order that is not refused and reserves what it costs, and answers its number. It fails
+// for want of memory alone.
 pub(crate) fn place(ledger: &mut Ledger, book: &mut Book, order: &NewOrder) -> Result<u64, Failure>
     requires joined { AreJoined ledger.old book.old }
     requires within { IsNewOrderWithin order.now }
-    ensures refused { TellsFirst unless_memory result
-        (place_refusals (without_positions ledger.old book.old) order.now) }
+    requires accepted { first_of
+        (place_refusals (without_positions ledger.old book.old) order.now) ≡ None }
+    ensures only { IfErr result (λ failure. failure ≡ Failure.Memory) }
     ensures number { IfOk result (λ number. number ≡ book.old.accepted + 1) }
     ensures ok { OnOk result (book.new ≡ with_order book.old order.now) }
     ensures accounts { ledger.new.accounts ≡ ledger.old.accounts }
@@ -28,15 +31,9 @@ pub(crate) fn place(ledger: &mut Ledger, book: &mut Book, order: &NewOrder) -> R
     ensures joined { AreJoined ledger.new book.new }
     ensures err { OnErr result (book.new ≡ book.old) }
 {
-    book.check_order(order)?;
-    let cost = reserve_cost(ledger, order)?;
-    match book.place(order) {
-        Ok(number) => Ok(number),
-        Err(refusal) => {
-            ledger.release(order.account, cost);
-            Err(refusal.into())
-        }
-    }
+    let number = book.place(order)?;
+    reserve_cost(ledger, order);
+    Ok(number)
 }
 
 // Takes a live order of an account out, and gives free what it reserves.
@@ -55,7 +52,7 @@ pub(crate) fn cancel(
     ensures joined { AreJoined ledger.new book.new }
     ensures err { OnErr result (book.new ≡ book.old) }
 {
-    ledger.balance(account).ok_or(LedgerRefusal::NoAccount)?;
+    ledger.check_account(account)?;
     let order = book.cancel(account, number)?;
     release_cost(ledger, &order);
     Ok(())

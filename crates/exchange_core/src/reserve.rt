@@ -1,9 +1,9 @@
 // What is reserved for live orders: a buy's quantity times its price, and nothing for a sell.
-ghost use Rattle.std.specs.Prelude.{◌≡◌, ◌*◌, ◌≤◌, ◌≢◌, ℕ, Err, IfOk, OnOk, OnErr};
+ghost use Rattle.std.specs.Prelude.{◌≡◌, ◌*◌, ◌≤◌, ◌≢◌, ℕ, true, Err};
 ghost use Rattle.std.specs.List.{All};
 ghost use Rattle.limits.specs.declared.TheConstants.{MAX_RESERVED};
 ghost use Rattle.cash_ledger.specs.declared.ledger.LedgerRefusal.TheVariants as LedgerRefusal;
-ghost use Rattle.cash_ledger.specs.Ledger.{reserved_of};
+ghost use Rattle.cash_ledger.specs.Ledger.{is_open, reserved_of};
 ghost use Rattle.cash_ledger.specs.Refusals.{unless_memory};
 ghost use Rattle.form.specs.declared.limits.TheConstants.{MAX_PRICE, MAX_QUANTITY};
 ghost use Rattle.exchange_core.specs.Kept.{IsPayable};
@@ -25,33 +25,32 @@ fn cost(quantity: u32, price: u64) -> u64
     u64::from(quantity) * price
 }
 
-// Looks whether the account of an order is open, and reserves what a buy costs. Answers what it
-// reserved, in ticks.
-pub(crate) fn reserve_cost(ledger: &mut Ledger, order: &NewOrder) -> Result<u64, LedgerRefusal>
+// Looks whether the account of an order is open, and may pay what a buy costs.
+pub(crate) fn check_cost(ledger: &Ledger, order: &NewOrder) -> Result<(), LedgerRefusal>
+    requires quantity { order.now.quantity ≤ MAX_QUANTITY }
+    requires price { order.now.price ≤ MAX_PRICE }
+    ensures refused { TellsFirst unless_memory result (order_cost_refusals ledger.now order.now) }
+    ensures no_memory { result ≢ Err LedgerRefusal.Memory }
+{
+    match order.side {
+        Side::Buy => ledger.check_payment(order.account, cost(order.quantity, order.price)),
+        Side::Sell => ledger.check_account(order.account),
+    }
+}
+
+// Reserves what an order of an open account costs.
+pub(crate) fn reserve_cost(ledger: &mut Ledger, order: &NewOrder)
+    requires open { is_open ledger.old.accounts order.now.account ≡ true }
     requires quantity { order.now.quantity ≤ MAX_QUANTITY }
     requires price { order.now.price ≤ MAX_PRICE }
     requires reserved { reserved_of ledger.old order.now.account ≤ MAX_RESERVED }
-    ensures refused { TellsFirst unless_memory result (order_cost_refusals ledger.old order.now) }
-    ensures no_memory { result ≢ Err LedgerRefusal.Memory }
-    ensures cost { IfOk result (λ cost. cost ≡ cost_of_new order.now) }
-    ensures reserves { OnOk result
-        (AddsReserve ledger.old ledger.new order.now.account (cost_of_new order.now)) }
+    ensures reserves { AddsReserve ledger.old ledger.new
+        order.now.account (cost_of_new order.now) }
     ensures accounts { ledger.new.accounts ≡ ledger.old.accounts }
     ensures entries { ledger.new.entries ≡ ledger.old.entries }
-    ensures err { OnErr result (ledger.new ≡ ledger.old) }
 {
-    match order.side {
-        Side::Buy => {
-            let amount = cost(order.quantity, order.price);
-            ledger.reserve(order.account, amount)?;
-            Ok(amount)
-        }
-        Side::Sell => {
-            ledger
-                .balance(order.account)
-                .ok_or(LedgerRefusal::NoAccount)?;
-            Ok(0)
-        }
+    if order.side == Side::Buy {
+        ledger.reserve(order.account, cost(order.quantity, order.price));
     }
 }
 

@@ -21,8 +21,8 @@ pub(crate) fn one_option(kind: Kind, strike: i64, count: u8, weights: &[i16; 8])
     Bundle::one(option_form(kind, strike, count, weights))
 }
 
-// The order that a command places, if it places one.
-pub(crate) fn order_of(command: &Command) -> Option<NewOrder>
+/// The order that a command places, if it places one.
+pub fn order_of(command: &Command) -> Option<NewOrder>
     requires { IsWithin command.now }
     ensures { result ≡ order_of command.now }
 {

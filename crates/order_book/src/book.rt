@@ -8,6 +8,7 @@ ghost use Rattle.order_book.specs.Book.{empty_book, market_of, live_of, order_of
 ghost use Rattle.order_book.specs.Refusals.{unless_memory, market_refusals, order_refusals, room_refusals, place_refusals, live_refusals, batch_refusals, close_refusals, cancel_refusals};
 ghost use Rattle.order_book.specs.Within.{IsNewOrderWithin};
 ghost use Rattle.order_book.specs.Kept.{IsBookKept};
+ghost use Rattle.order_book.specs.Markets.{holder_of};
 ghost use Rattle.lists.specs.Refusals.{TellsFirst};
 
 use crate::market::MarketInfo;
@@ -118,8 +119,11 @@ impl Book {
         Ok(())
     }
 
-    // Looks whether a market that is there has room for an order more, and the book too.
-    fn check_room(&self, market: u32) -> Result<(), BookRefusal>
+    /// Looks whether a market that is there has room for an order more, and the book too.
+    ///
+    /// The first of these: `BookFull` where the market has 256 live orders; `TooMany` where
+    /// 1,000,000 orders were accepted. Takes no memory.
+    pub fn check_room(&self, market: u32) -> Result<(), BookRefusal>
         ensures refused { TellsFirst unless_memory result (room_refusals self.now market) }
         ensures no_memory { result ≢ Err BookRefusal.Memory }
     {
@@ -147,8 +151,7 @@ impl Book {
     /// number, which is one more than the orders accepted before. It goes last among the live
     /// orders of its market.
     ///
-    /// As `check_order` refuses, and then the first of these: `BookFull` where the market has 256
-    /// live orders; `TooMany` where 1,000,000 orders were accepted.
+    /// As `check_order` refuses, and then as `check_room`.
     pub fn place(&mut self, order: &NewOrder) -> Result<u64, BookRefusal>
         requires { IsNewOrderWithin order.now }
         ensures refused { TellsFirst unless_memory result (place_refusals self.old order.now) }
@@ -164,10 +167,47 @@ impl Book {
         Ok(number)
     }
 
-    /// Takes a live order out, and answers it. The others keep their places.
+    /// The market with a live order of the number.
+    ///
+    /// `None` where no live order has the number. Takes no memory.
+    pub fn market_of_order(&self, order: u64) -> Option<u32>
+        ensures { result ≡ holder_of order self.now.markets }
+    {
+        self.markets.holder(placed_in(&self.placed, order), order)
+    }
+
+    // The live order that an account may cancel, behind its market.
+    fn own_order(&self, account: u32, order: u64) -> Result<(u32, Order), BookRefusal>
+        ensures refused { TellsFirst unless_memory result (cancel_refusals self.now account order) }
+        ensures no_memory { result ≢ Err BookRefusal.Memory }
+        ensures market { IfOk result (λ r. holder_of order self.now.markets ≡ Some r.0) }
+        ensures order { IfOk result (λ r. order_of self.now order ≡ Some r.1) }
+    {
+        let Some(market) = self.market_of_order(order) else {
+            return Err(BookRefusal::NoOrder);
+        };
+        let found = self.markets.order(market, order).unwrap();
+        if found.account != account {
+            return Err(BookRefusal::NotOwner);
+        }
+        Ok((market, found))
+    }
+
+    /// Looks whether an account may cancel a live order.
     ///
     /// `NoOrder` where no live order has the number, and else `NotOwner` where it is another
-    /// account's.
+    /// account's. Takes no memory.
+    pub fn check_cancel(&self, account: u32, order: u64) -> Result<(), BookRefusal>
+        ensures refused { TellsFirst unless_memory result (cancel_refusals self.now account order) }
+        ensures no_memory { result ≢ Err BookRefusal.Memory }
+    {
+        self.own_order(account, order)?;
+        Ok(())
+    }
+
+    /// Takes a live order out, and answers it. The others keep their places.
+    ///
+    /// As `check_cancel` refuses.
     pub fn cancel(&mut self, account: u32, order: u64) -> Result<Order, BookRefusal>
         ensures refused { TellsFirst unless_memory result (cancel_refusals self.old account order) }
         ensures no_memory { result ≢ Err BookRefusal.Memory }
@@ -176,14 +216,7 @@ impl Book {
         ensures err { OnErr result (self.new ≡ self.old) }
         ensures within { IfOk result IsOrderWithin }
     {
-        let placed = placed_in(&self.placed, order);
-        let Some(market) = self.markets.holder(placed, order) else {
-            return Err(BookRefusal::NoOrder);
-        };
-        let found = self.markets.order(market, order).unwrap();
-        if found.account != account {
-            return Err(BookRefusal::NotOwner);
-        }
+        let (market, found) = self.own_order(account, order)?;
         self.markets.remove(market, order);
         Ok(found)
     }
