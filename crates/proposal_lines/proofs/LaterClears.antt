@@ -284,9 +284,12 @@ module _ (market : ℕ) (exchange : ExchangeState) (one other : KeptProposals) (
             (others_removed cleared market (other_way cleared market apart))
 
     -- what is no clear of the market
-    said_both : (said : Result Request Fault) → ((budget : ℕ) → said ≡ Ok (asks.Command (Clear market budget)) → ⊥) → Both (λ state. served_line number state line said)
+    abbrev ClearsNot : Result Request Fault → Type 0
+    ClearsNot said = (budget : ℕ) → said ≡ Ok (asks.Command (Clear market budget)) → ⊥
+
+    said_both : (said : Result Request Fault) → ClearsNot said → Both (λ state. served_line number state line said)
     said_both =
-        by_kind (λ said. ((budget : ℕ) → said ≡ Ok (asks.Command (Clear market budget)) → ⊥) → Both (λ state. served_line number state line said))
+        by_kind (λ said. ClearsNot said → Both (λ state. served_line number state line said))
         (λ request none stay. proposed_both (proposed_of line request))
         (λ cleared budget none. by cleared budget (nat_eq cleared market) refl none)
         (λ read none stay. unchanged)
@@ -296,7 +299,7 @@ module _ (market : ℕ) (exchange : ExchangeState) (one other : KeptProposals) (
         λ i state. sym (other.served number state line) i in
         subst Both same (other_both said))
       where
-        by : (cleared budget : ℕ) (b : Bool) → nat_eq cleared market ≡ b → ((budget' : ℕ) → Ok (asks.Command (Clear cleared budget)) ≡ Ok (asks.Command (Clear market budget')) → ⊥)
+        by : (cleared budget : ℕ) (b : Bool) → nat_eq cleared market ≡ b → ClearsNot (Ok (asks.Command (Clear cleared budget)))
             → Both (λ state. written_reply number (clear_reply state cleared budget))
         by cleared budget true own none = absurd (none budget (ap (λ (q : ℕ). Ok (asks.Command (Clear q budget))) (same_number cleared market own)))
         by cleared budget false apart none = clear_both cleared budget apart
