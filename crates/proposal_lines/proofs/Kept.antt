@@ -26,7 +26,7 @@ use Rattle.proposals.specs.Laws.{IsProvedBest}
 use Rattle.proposals.specs.declared.best.Best.{Best}
 use Rattle.proposals.proofs.Offers.{offers_stay_proved}
 use Rattle.proposal_lines.specs.KeptByMarket.{KeptProposals, best_in, kept_in, with_kept, without_kept}
-use Rattle.proposal_lines.specs.Proved.{AgreesWith, AreProvedIn, IsEntryProved, IsProvedIn}
+use Rattle.proposal_lines.specs.Proved.{AgreesWith, AreProvedIn, IsProvedIn}
 use Rattle.proposal_lines.proofs.Numbered.{agree_all, same_orders}
 
 pub same_numbers : (xs ys : List ℕ) → are_same_orders xs ys ≡ true → xs ≡ ys

@@ -1,5 +1,5 @@
 -- What is kept stays proved by what is said otherwise.
-use Rattle.std.proofs.Common.{◌≡◌, ℕ, List, Result, inl, inr, sym, ap, subst}
+use Rattle.std.proofs.Common.{ℕ, List, Result, inl, inr, sym, ap, subst}
 use Rattle.command_text.specs.declared.asked.Fault.{Fault}
 use Rattle.command_text.specs.declared.requests.Request.{Request}
 use Rattle.command_text.specs.Commands.{body_of_said}

@@ -1,9 +1,8 @@
 -- A proposal is taken, judged a bound for the live orders of its market, or nothing changes.
-use Rattle.std.proofs.Common.{◌≡◌, ◌&&◌, ◌⊎◌, ℕ, List, Bool, true, false, if◌then◌else◌, Option, Some, None, Result, Ok, Err, inl, inr, refl, sym, ap, ◌∙◌, subst}
+use Rattle.std.proofs.Common.{◌≡◌, ◌&&◌, ◌⊎◌, ℕ, List, Bool, true, false, if◌then◌else◌, Some, None, Result, Ok, Err, inl, inr, refl, sym, ap, ◌∙◌, subst}
 use Rattle.std.specs.Prelude.{IfSome}
 use Rattle.std.specs.Option.{option_map_or}
 use Rattle.cert_check.specs.Proposals.{proposal_bound}
-use Rattle.cert_check.specs.declared.outcome.Proposal.{Proposal}
 use Rattle.cert_check.specs.declared.outcome.Unproved.{Unproved as Reason}
 use Rattle.clearing.proofs.Values.{fraction_is}
 use Rattle.exact_num.specs.Fraction.{Fraction}
@@ -17,13 +16,12 @@ use Rattle.frac.specs.Value.{fraction_of}
 use Rattle.frac.specs.ValueOf.{has_128_bits, value_of}
 use Rattle.frac.specs.declared.frac128.Frac128.{Frac128}
 use Rattle.lists.specs.Refusals.{first_of}
-use Rattle.order_book.specs.Book.{batch_of}
 use Rattle.order_book.specs.Numbers.{numbers_of}
 use Rattle.order_book.specs.Refusals.{live_refusals}
 use Rattle.order_book.proofs.Accepting.{listing_live}
 use Rattle.proposal_text.specs.declared.replies.Failed.TheVariants as failed
 use Rattle.proposal_text.specs.declared.replies.ProposalReply.{ProposalReply}
-use Rattle.proposals.specs.Best.{after_offer, are_same_orders, best_for}
+use Rattle.proposals.specs.Best.{are_same_orders, best_for}
 use Rattle.proposals.specs.Laws.{IsProvedBest}
 use Rattle.proposals.proofs.Offers.{offers_stay_proved}
 use Rattle.proposal_lines.specs.KeptByMarket.{KeptProposals, best_in, kept_in}
