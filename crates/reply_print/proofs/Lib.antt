@@ -2,7 +2,6 @@ pub mod Plain
 pub mod PlainPieces
 pub mod Compact
 pub mod ReadBack
-pub mod SmallLines
 pub mod Digits
 pub mod Ascii
 pub mod WrittenReplies

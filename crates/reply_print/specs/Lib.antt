@@ -13,4 +13,3 @@ pub mod NumberValues
 pub mod ReplyShape
 pub mod ClearedShape
 pub mod NumberTexts
-pub mod LineParts

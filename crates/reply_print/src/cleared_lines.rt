@@ -1,5 +1,5 @@
 // The lines of cleared batches and of settlements.
-ghost use Rattle.std.specs.Prelude.{true, ◌≡◌, ◌++◌, IfOk, OnOk};
+ghost use Rattle.std.specs.Prelude.{true, ◌≡◌, ◌++◌, OnOk};
 ghost use Rattle.reply_print.specs.BatchPieces.{are_single, is_single, version_of};
 ghost use Rattle.reply_print.specs.Piece.{fields_text, no_fields, piece_text};
 ghost use Rattle.reply_print.specs.ReplyPieces.{cleared_end, cleared_middle, cleared_piece, settled_piece};
@@ -11,7 +11,7 @@ use crate::words::mark;
 use cert_check::Outcome;
 use form::{Batch, Leg, Order};
 use settlement::PaidOut;
-use std::alloc::{AllocError, Global};
+use std::alloc::AllocError;
 
 // Whether each order is one leg of count 1.
 fn is_version_1(orders: &[Order]) -> bool
@@ -78,7 +78,7 @@ fn add_middle(
 }
 
 // Adds a cleared batch.
-fn add_cleared(
+pub(crate) fn add_cleared(
     line: &mut Vec<u8>,
     at: u32,
     number: u32,
@@ -96,24 +96,8 @@ fn add_cleared(
     append(line, "}")
 }
 
-pub(crate) fn cleared_line(
-    alloc: Global,
-    line: u32,
-    number: u32,
-    market: u32,
-    batch: &Batch,
-    outcome: &Outcome,
-) -> Result<Vec<u8>, AllocError>
-    ensures { IfOk result (λ text.
-        text.items ≡ piece_text (cleared_piece line number market batch.now outcome.now)) }
-{
-    let mut text = Vec::new(alloc);
-    add_cleared(&mut text, line, number, market, batch, outcome)?;
-    Ok(text)
-}
-
 // Adds a settlement.
-fn add_settled(
+pub(crate) fn add_settled(
     line: &mut Vec<u8>,
     at: u32,
     market: u32,
@@ -130,19 +114,4 @@ fn add_settled(
     add_items(line, true, "payouts", payouts)?;
     add_words(line, true, "reply", "settled")?;
     append(line, "}")
-}
-
-pub(crate) fn settled_line(
-    alloc: Global,
-    line: u32,
-    market: u32,
-    lapsed: u32,
-    payouts: &[PaidOut],
-) -> Result<Vec<u8>, AllocError>
-    ensures { IfOk result (λ text.
-        text.items ≡ piece_text (settled_piece line market lapsed payouts.now)) }
-{
-    let mut text = Vec::new(alloc);
-    add_settled(&mut text, line, market, lapsed, payouts)?;
-    Ok(text)
 }

@@ -1,48 +1,60 @@
 // The lines of replies.
-ghost use Rattle.std.specs.Prelude.{◌≡◌, IfOk};
+ghost use Rattle.std.specs.Prelude.{◌≡◌, ◌++◌, IfOk, OnOk};
 ghost use Rattle.reply_print.specs.ReplyPieces.{reply_line};
 
 use crate::Reply;
-use crate::cleared_lines::{cleared_line, settled_line};
+use crate::cleared_lines::{add_cleared, add_settled};
 use crate::small_lines::{
-    balance_line, listed_line, moved_line, opened_line, ordered_line, refused_line,
+    add_balance, add_listed, add_moved, add_opened, add_ordered, add_refused,
 };
 use std::alloc::{AllocError, Global};
 
-/// The line of a reply, without its line feed.
-pub fn print(alloc: Global, line: u32, reply: &Reply) -> Result<Vec<u8>, AllocError>
-    ensures { IfOk result (λ text. text.items ≡ reply_line line reply.now) }
+// A line without lists is shorter, so its text is taken at once.
+const ROOM: usize = 192;
+
+// Adds a reply.
+fn add_reply(text: &mut Vec<u8>, line: u32, reply: &Reply) -> Result<(), AllocError>
+    ensures { OnOk result (text.new.items ≡ text.old.items ++ reply_line line reply.now) }
 {
     match reply {
-        Reply::Opened { account } => opened_line(alloc, line, *account),
+        Reply::Opened { account } => add_opened(text, line, *account),
         Reply::Deposited { account, balance } => {
-            moved_line(alloc, "deposited", line, *account, *balance)
+            add_moved(text, "deposited", line, *account, balance)
         }
         Reply::Withdrawn { account, balance } => {
-            moved_line(alloc, "withdrawn", line, *account, *balance)
+            add_moved(text, "withdrawn", line, *account, balance)
         }
         Reply::Listed {
             market,
             underlyings,
-        } => listed_line(alloc, line, *market, *underlyings),
-        Reply::Placed { order } => ordered_line(alloc, "placed", line, *order),
-        Reply::Cancelled { order } => ordered_line(alloc, "cancelled", line, *order),
+        } => add_listed(text, line, *market, *underlyings),
+        Reply::Placed { order } => add_ordered(text, "placed", line, *order),
+        Reply::Cancelled { order } => add_ordered(text, "cancelled", line, *order),
         Reply::Cleared {
             number,
             market,
             batch,
             outcome,
-        } => cleared_line(alloc, line, *number, *market, batch, outcome),
+        } => add_cleared(text, line, *number, *market, batch, outcome),
         Reply::Settled {
             market,
             lapsed,
             payouts,
-        } => settled_line(alloc, line, *market, *lapsed, payouts.as_slice()),
+        } => add_settled(text, line, *market, *lapsed, payouts.as_slice()),
         Reply::Balance {
             account,
             balance,
             reserved,
-        } => balance_line(alloc, line, *account, *balance, *reserved),
-        Reply::Refused { number, field } => refused_line(alloc, line, *number, *field),
+        } => add_balance(text, line, *account, balance, reserved),
+        Reply::Refused { number, field } => add_refused(text, line, *number, *field),
     }
+}
+
+/// The line of a reply, without its line feed.
+pub fn print(alloc: Global, line: u32, reply: &Reply) -> Result<Vec<u8>, AllocError>
+    ensures { IfOk result (λ text. text.items ≡ reply_line line reply.now) }
+{
+    let mut text = Vec::with_capacity(alloc, ROOM)?;
+    add_reply(&mut text, line, reply)?;
+    Ok(text)
 }

@@ -1,5 +1,6 @@
 //! Pieces that are added to a line, one behind another. The only error of each call is want of
-//! memory.
+//! memory. Keys are known where a piece is added, and with them how much each call copies, so these
+//! calls go in line.
 ghost use Rattle.std.specs.Prelude.{true, ◌≡◌, ◌++◌, ◌∷◌, [], ℤ, OnOk};
 ghost use Rattle.exact_num.specs.Fraction.{over};
 ghost use Rattle.reply_print.specs.BatchPieces.{each, fraction, natural, pieces_of, whole_words};
@@ -21,6 +22,7 @@ pub trait Printed {
 }
 
 /// Adds a text.
+#[inline(always)]
 pub fn append(line: &mut Vec<u8>, text: &str) -> Result<(), AllocError>
     ensures { OnOk result (line.new.items ≡ line.old.items ++ text.now) }
 {
@@ -77,6 +79,7 @@ impl Printed for Frac128 {
 }
 
 // What stands before the key of a field, or before the first.
+#[inline(always)]
 fn opening(later: bool) -> &'static str
     ensures { result.now ≡ comma_after later ++ 34 ∷ [] }
 {
@@ -84,6 +87,7 @@ fn opening(later: bool) -> &'static str
 }
 
 /// Adds the key of a field, whose piece goes behind it.
+#[inline(always)]
 pub fn add_key(line: &mut Vec<u8>, later: bool, key: &str) -> Result<(), AllocError>
     ensures { OnOk result ((p : Piece) (fs : Fields)
         → line.new.items ++ (piece_text p ++ fields_text true fs)
@@ -95,6 +99,7 @@ pub fn add_key(line: &mut Vec<u8>, later: bool, key: &str) -> Result<(), AllocEr
 }
 
 /// Adds a field.
+#[inline(always)]
 pub fn add_field<P: Printed>(
     line: &mut Vec<u8>,
     later: bool,
@@ -109,6 +114,7 @@ pub fn add_field<P: Printed>(
 }
 
 /// Adds a field of a natural number.
+#[inline(always)]
 pub fn add_number(line: &mut Vec<u8>, later: bool, key: &str, n: u64) -> Result<(), AllocError>
     ensures { OnOk result ((fs : Fields) → line.new.items ++ fields_text true fs
         ≡ line.old.items ++ fields_text later (field key.now (natural n) fs)) }
@@ -117,6 +123,7 @@ pub fn add_number(line: &mut Vec<u8>, later: bool, key: &str, n: u64) -> Result<
 }
 
 /// Adds a field of a plain text.
+#[inline(always)]
 pub fn add_words(line: &mut Vec<u8>, later: bool, key: &str, text: &str) -> Result<(), AllocError>
     ensures { OnOk result ((fs : Fields) → line.new.items ++ fields_text true fs
         ≡ line.old.items ++ fields_text later (field key.now (words text.now) fs)) }

@@ -1,218 +1,122 @@
-//! The lines of replies without lists, each put together from its pieces: a value of the JSON
-//! library for each would cost a stream of commands more than reading and carrying them out.
-ghost use Rattle.std.specs.Prelude.{◌≡◌, ◌==◌, ◌++◌, false, true, IfOk, OnOk};
-ghost use Rattle.std.specs.List.{flat_map};
-ghost use Rattle.reply_print.specs.LineParts.{part_text};
-ghost use Rattle.reply_print.specs.Piece.{piece_text};
-ghost use Rattle.reply_print.specs.ReplyPieces.{balance_piece, listed_piece, moved_piece, opened_piece, ordered_piece, refused_piece, refused_with};
+// Replies without lists, added to a line.
+ghost use Rattle.std.specs.Prelude.{◌≡◌, ◌++◌, OnOk, false, true};
+ghost use Rattle.reply_print.specs.Piece.{Fields, fields_text, piece_text};
+ghost use Rattle.reply_print.specs.ReplyPieces.{balance_piece, field_field, listed_piece, moved_piece, opened_piece, ordered_piece, refused_piece};
 
-use crate::printing::append;
+use crate::printing::{add_field, add_number, add_words, append};
 use crate::words::reason;
-use itoa::Buffer;
-use std::alloc::{AllocError, Global};
+use std::alloc::AllocError;
 
-// Each of these lines is shorter, so its text is taken at once.
-const ROOM: usize = 192;
-
-// What stands in a line as it is, and the numbers between.
-#[derive(Drop)]
-enum Part<'a> {
-    Text(&'a str),
-    Natural(u64),
-    Whole(i128),
-}
-
-fn add_part(text: &mut Vec<u8>, part: &Part<'_>) -> Result<(), AllocError>
-    ensures { OnOk result (text.new.items ≡ text.old.items ++ part_text part.now) }
+pub(crate) fn add_opened(text: &mut Vec<u8>, line: u32, account: u32) -> Result<(), AllocError>
+    ensures { OnOk result (text.new.items
+        ≡ text.old.items ++ piece_text (opened_piece line account)) }
 {
-    match part {
-        Part::Text(words) => append(text, words),
-        Part::Natural(n) => append(text, Buffer::new().format(*n)),
-        Part::Whole(n) => append(text, Buffer::new().format(*n)),
-    }
-}
-
-// These parts one behind another.
-fn line_of(alloc: Global, parts: &[Part<'_>]) -> Result<Vec<u8>, AllocError>
-    ensures { IfOk result (λ text. text.items ≡ flat_map part_text parts.now) }
-{
-    let mut text = Vec::with_capacity(alloc, ROOM)?;
-    for part in parts {
-        add_part(&mut text, part)?;
-    }
-    Ok(text)
-}
-
-pub(crate) fn opened_line(alloc: Global, line: u32, account: u32) -> Result<Vec<u8>, AllocError>
-    ensures { IfOk result (λ text. text.items ≡ piece_text (opened_piece line account)) }
-{
-    line_of(
-        alloc,
-        &[
-            Part::Text("{\"account\":"),
-            Part::Natural(u64::from(account)),
-            Part::Text(",\"line\":"),
-            Part::Natural(u64::from(line)),
-            Part::Text(",\"reply\":\"opened\"}"),
-        ],
-    )
+    append(text, "{")?;
+    add_number(text, false, "account", u64::from(account))?;
+    add_number(text, true, "line", u64::from(line))?;
+    add_words(text, true, "reply", "opened")?;
+    append(text, "}")
 }
 
 // An account's new balance, under the word of the reply.
-pub(crate) fn moved_line(
-    alloc: Global,
+pub(crate) fn add_moved(
+    text: &mut Vec<u8>,
     reply: &str,
     line: u32,
     account: u32,
-    balance: i128,
-) -> Result<Vec<u8>, AllocError>
-    ensures { IfOk result (λ text.
-        text.items ≡ piece_text (moved_piece reply.now line account balance)) }
+    balance: &i128,
+) -> Result<(), AllocError>
+    ensures { OnOk result (text.new.items
+        ≡ text.old.items ++ piece_text (moved_piece reply.now line account balance.now)) }
 {
-    line_of(
-        alloc,
-        &[
-            Part::Text("{\"account\":"),
-            Part::Natural(u64::from(account)),
-            Part::Text(",\"balance\":\""),
-            Part::Whole(balance),
-            Part::Text("\",\"line\":"),
-            Part::Natural(u64::from(line)),
-            Part::Text(",\"reply\":\""),
-            Part::Text(reply),
-            Part::Text("\"}"),
-        ],
-    )
+    append(text, "{")?;
+    add_number(text, false, "account", u64::from(account))?;
+    add_field(text, true, "balance", balance)?;
+    add_number(text, true, "line", u64::from(line))?;
+    add_words(text, true, "reply", reply)?;
+    append(text, "}")
 }
 
-pub(crate) fn listed_line(
-    alloc: Global,
+pub(crate) fn add_listed(
+    text: &mut Vec<u8>,
     line: u32,
     market: u32,
     underlyings: u8,
-) -> Result<Vec<u8>, AllocError>
-    ensures { IfOk result (λ text. text.items ≡ piece_text (listed_piece line market underlyings)) }
+) -> Result<(), AllocError>
+    ensures { OnOk result (text.new.items
+        ≡ text.old.items ++ piece_text (listed_piece line market underlyings)) }
 {
-    line_of(
-        alloc,
-        &[
-            Part::Text("{\"line\":"),
-            Part::Natural(u64::from(line)),
-            Part::Text(",\"market\":"),
-            Part::Natural(u64::from(market)),
-            Part::Text(",\"reply\":\"listed\",\"underlyings\":"),
-            Part::Natural(u64::from(underlyings)),
-            Part::Text("}"),
-        ],
-    )
+    append(text, "{")?;
+    add_number(text, false, "line", u64::from(line))?;
+    add_number(text, true, "market", u64::from(market))?;
+    add_words(text, true, "reply", "listed")?;
+    add_number(text, true, "underlyings", u64::from(underlyings))?;
+    append(text, "}")
 }
 
 // What became of an order, under the word of the reply.
-pub(crate) fn ordered_line(
-    alloc: Global,
+pub(crate) fn add_ordered(
+    text: &mut Vec<u8>,
     reply: &str,
     line: u32,
     order: u64,
-) -> Result<Vec<u8>, AllocError>
-    ensures { IfOk result (λ text. text.items ≡ piece_text (ordered_piece reply.now line order)) }
+) -> Result<(), AllocError>
+    ensures { OnOk result (text.new.items
+        ≡ text.old.items ++ piece_text (ordered_piece reply.now line order)) }
 {
-    line_of(
-        alloc,
-        &[
-            Part::Text("{\"line\":"),
-            Part::Natural(u64::from(line)),
-            Part::Text(",\"order\":"),
-            Part::Natural(order),
-            Part::Text(",\"reply\":\""),
-            Part::Text(reply),
-            Part::Text("\"}"),
-        ],
-    )
+    append(text, "{")?;
+    add_number(text, false, "line", u64::from(line))?;
+    add_number(text, true, "order", order)?;
+    add_words(text, true, "reply", reply)?;
+    append(text, "}")
 }
 
-pub(crate) fn balance_line(
-    alloc: Global,
+pub(crate) fn add_balance(
+    text: &mut Vec<u8>,
     line: u32,
     account: u32,
-    balance: i128,
-    reserved: i128,
-) -> Result<Vec<u8>, AllocError>
-    ensures { IfOk result (λ text.
-        text.items ≡ piece_text (balance_piece line account balance reserved)) }
+    balance: &i128,
+    reserved: &i128,
+) -> Result<(), AllocError>
+    ensures { OnOk result (text.new.items
+        ≡ text.old.items ++ piece_text (balance_piece line account balance.now reserved.now)) }
 {
-    line_of(
-        alloc,
-        &[
-            Part::Text("{\"account\":"),
-            Part::Natural(u64::from(account)),
-            Part::Text(",\"balance\":\""),
-            Part::Whole(balance),
-            Part::Text("\",\"line\":"),
-            Part::Natural(u64::from(line)),
-            Part::Text(",\"reply\":\"balance\",\"reserved\":\""),
-            Part::Whole(reserved),
-            Part::Text("\"}"),
-        ],
-    )
+    append(text, "{")?;
+    add_number(text, false, "account", u64::from(account))?;
+    add_field(text, true, "balance", balance)?;
+    add_number(text, true, "line", u64::from(line))?;
+    add_words(text, true, "reply", "balance")?;
+    add_field(text, true, "reserved", reserved)?;
+    append(text, "}")
 }
 
-// A refusal without a field.
-fn reasoned_line(alloc: Global, line: u32, number: u32, reason: &str) -> Result<Vec<u8>, AllocError>
-    ensures { IfOk result (λ text.
-        text.items ≡ piece_text (refused_with false line number 0 reason.now)) }
+// Adds the field that a refusal names, where it names one.
+fn add_place(text: &mut Vec<u8>, is_range: bool, field: u8) -> Result<(), AllocError>
+    ensures { OnOk result ((fs : Fields) → text.new.items ++ fields_text is_range fs
+        ≡ text.old.items ++ fields_text false (field_field is_range field fs)) }
 {
-    line_of(
-        alloc,
-        &[
-            Part::Text("{\"line\":"),
-            Part::Natural(u64::from(line)),
-            Part::Text(",\"number\":"),
-            Part::Natural(u64::from(number)),
-            Part::Text(",\"reason\":\""),
-            Part::Text(reason),
-            Part::Text("\",\"reply\":\"refused\"}"),
-        ],
-    )
-}
-
-// A refusal with its field.
-fn ranged_line(
-    alloc: Global,
-    line: u32,
-    number: u32,
-    field: u8,
-    reason: &str,
-) -> Result<Vec<u8>, AllocError>
-    ensures { IfOk result (λ text.
-        text.items ≡ piece_text (refused_with true line number field reason.now)) }
-{
-    line_of(
-        alloc,
-        &[
-            Part::Text("{\"field\":"),
-            Part::Natural(u64::from(field)),
-            Part::Text(",\"line\":"),
-            Part::Natural(u64::from(line)),
-            Part::Text(",\"number\":"),
-            Part::Natural(u64::from(number)),
-            Part::Text(",\"reason\":\""),
-            Part::Text(reason),
-            Part::Text("\",\"reply\":\"refused\"}"),
-        ],
-    )
-}
-
-pub(crate) fn refused_line(
-    alloc: Global,
-    line: u32,
-    number: u32,
-    field: u8,
-) -> Result<Vec<u8>, AllocError>
-    ensures { IfOk result (λ text. text.items ≡ piece_text (refused_piece line number field)) }
-{
-    if number == 8 {
-        ranged_line(alloc, line, number, field, reason(number))
+    if is_range {
+        add_number(text, false, "field", u64::from(field))
     } else {
-        reasoned_line(alloc, line, number, reason(number))
+        Ok(())
     }
+}
+
+pub(crate) fn add_refused(
+    text: &mut Vec<u8>,
+    line: u32,
+    number: u32,
+    field: u8,
+) -> Result<(), AllocError>
+    ensures { OnOk result (text.new.items
+        ≡ text.old.items ++ piece_text (refused_piece line number field)) }
+{
+    let is_range = number == 8;
+    append(text, "{")?;
+    add_place(text, is_range, field)?;
+    add_number(text, is_range, "line", u64::from(line))?;
+    add_number(text, true, "number", u64::from(number))?;
+    add_words(text, true, "reason", reason(number))?;
+    add_words(text, true, "reply", "refused")?;
+    append(text, "}")
 }
