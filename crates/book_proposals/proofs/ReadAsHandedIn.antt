@@ -1,5 +1,5 @@
 -- A line that hands something in for a market is read as that.
-use Rattle.std.proofs.Common.{◌≡◌, ℕ, suc, ◌+◌, ◌<◌, ◌≤◌, ◌^◌, ◌==◌, ◌&&◌, List, [], ◌∷◌, ◌++◌, Bool, true, false, not, length, take, drop, position, pos, codes, Option, Some, None, Ok, if◌then◌else◌, refl, ap, ◌∙◌, arith, length-append}
+use Rattle.std.proofs.Common.{◌≡◌, ℕ, suc, ◌+◌, ◌<◌, ◌≤◌, ◌^◌, ◌==◌, List, [], ◌∷◌, ◌++◌, true, false, not, length, take, drop, position, pos, codes, Option, Some, refl, ap, ◌∙◌, arith, length-append}
 use Rattle.std.specs.Char.{is_ascii_digit}
 use Rattle.std.specs.Fmt.{decimal}
 use Rattle.std.specs.List.{list_all, prefix_len}
@@ -21,7 +21,6 @@ use Rattle.proposal_lines.specs.Proposed.{for_market}
 use Rattle.proposal_text.specs.declared.submissions.Submission.{Submission}
 use Rattle.proposal_text.specs.Pieces.{submission_text}
 use Rattle.proposal_text.specs.Submissions.{submission_of}
-use Rattle.proposal_text.specs.Within.{IsSubmissionWithin}
 use Rattle.proposal_text.proofs.ReadExactly.{submission_reads}
 use Rattle.book_proposals.specs.Answers.{proposing_text, submission_for}
 use Rattle.book_proposals.specs.Laws.{ProposalsAreSubmissions, ProposingIsRead}
