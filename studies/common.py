@@ -338,6 +338,12 @@ def save(report: Report, path: pathlib.Path) -> None:
         pyplot.close(figure)
 
 
+def beside(places: Iterable[float], at: int, of: int) -> list[float]:
+    """Places a little beside one another for each of several lines, so that no interval stands on
+    another one."""
+    return [place + 0.1 * (at - (of - 1) / 2) for place in places]
+
+
 def show(
     axes: Any, places: Sequence[float], values: Sequence[Sequence[float]], look: str, **more: Any
 ) -> None:

@@ -150,14 +150,15 @@ def draw_cases(found: dict[Case, list[Found]], panels: Sequence[Any]) -> None:
     for axes, mine, name in zip(
         panels, (CASES[:4], (CASES[4], CASES[2], CASES[5])), ("most", "orders")
     ):
-        for kind, look in zip(KINDS, ("k-o", "k--s", "k-.^")):
+        for at, (kind, look) in enumerate(zip(KINDS, ("k-o", "k--s", "k-.^"))):
             losses = [lost(found[case], kind) for case in mine]
-            common.show(axes, range(len(mine)), losses, look, label=kind, markerfacecolor="w")
+            places = common.beside(range(len(mine)), at, len(KINDS))
+            common.show(axes, places, losses, look, label=kind, markerfacecolor="w")
         axes.set_xticks(range(len(mine)), [getattr(case, name) for case in mine])
         axes.set(ylabel="surplus lost (%)", ylim=(0, None))
     panels[0].set_xlabel("greatest quantity of an order (60 orders)")
     panels[1].set_xlabel("orders (quantities of 1 to 10)")
-    panels[0].legend(frameon=False)
+    panels[0].legend(frameon=False, ncols=3, loc="lower center", bbox_to_anchor=(0.5, 1))
 
 
 def study(given: Given) -> Report:

@@ -130,11 +130,12 @@ def row(case: Case, days: Sequence[Day], most: Sequence[Day]) -> list[object]:
 def draw_cases(found: dict[Case, list[Day]], panels: Sequence[Any]) -> None:
     upper, lower = panels
     places = range(len(AUCTIONS))
-    for way, look in zip(WAYS, ("k-o", "k--s")):
+    for at, (way, look) in enumerate(zip(WAYS, ("k-o", "k--s"))):
         days = [found[Case(count, way)] for count in AUCTIONS]
         about = {"label": NAMES[way], "markerfacecolor": "w"}
-        common.show(upper, places, [[it.surplus for it in of] for of in days], look, **about)
-        common.show(lower, places, [[it.waited for it in of] for of in days], look, **about)
+        stand = common.beside(places, at, len(WAYS))
+        common.show(upper, stand, [[it.surplus for it in of] for of in days], look, **about)
+        common.show(lower, stand, [[it.waited for it in of] for of in days], look, **about)
     upper.set(ylabel="surplus of a day (ticks)", ylim=(0, None))
     upper.legend(frameon=False)
     lower.set(ylabel="waited (% of the day)", ylim=(0, None), xlabel="auctions a day")

@@ -183,9 +183,10 @@ def other_row(shade: int, of: Sequence[Found], truth: Sequence[Found]) -> list[o
 def draw_cases(found: dict[Case, list[Found]], panels: Sequence[Any]) -> None:
     upper, lower = panels
     of_values = [found[Case(orders, 0)] for orders in ORDERS]
-    for rule, look in zip(RULES, ("k-o", "k--s")):
+    for at, (rule, look) in enumerate(zip(RULES, ("k-o", "k--s"))):
         replies = [shades(of, rule) for of in of_values]
-        common.show(upper, range(len(ORDERS)), replies, look, label=rule, markerfacecolor="w")
+        places = common.beside(range(len(ORDERS)), at, len(RULES))
+        common.show(upper, places, replies, look, label=rule, markerfacecolor="w")
     upper.set_xticks(range(len(ORDERS)), ORDERS)
     upper.set(
         xlabel="orders, all others at their values", ylabel="best reply (ticks off)", ylim=(0, None)
