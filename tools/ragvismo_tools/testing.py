@@ -25,7 +25,7 @@ from ragvismo_tools.places import TOP
 # Folders whose modules test_*.py are the tests, and what stands before their names.
 FOLDERS = {"python": "", "studies": "", "tools/ragvismo_tools/tests": "ragvismo_tools.tests."}
 # Their tests take long and are begun first, so that no processor waits for them at the end.
-LONG = ("Style", "Studies", "CheckMany", "Package")
+LONG = ("Style", "Studies", "Machines", "CheckMany", "Package")
 
 
 def modules() -> Iterator[str]:
