@@ -82,7 +82,7 @@ one_more o r g G k D first rest =
     add : (o r a b : ℤ) → neg_ℤ o ≤ℤ a → neg_ℤ r ≤ℤ b → neg_ℤ (o +ℤ r) ≤ℤ (a +ℤ b)
     add o r a b first rest = omega (arith, ints, first, rest)
 
-all_lose : (D : ℕ) (prices : List ℕ) (ps : List Position) → All (Divides D) (fills_of ps)
+pub all_lose : (D : ℕ) (prices : List ℕ) (ps : List Position) → All (Divides D) (fills_of ps)
     → neg_ℤ (owed_over D ps (1 ∷ prices)) ≤ℤ ((total (gain_at prices) ps +ℤ pos (length ps)) *ℤ pos D)
 all_lose D prices [] divides = omega (arith, ints)
 all_lose D prices (p ∷ ps) divides =

@@ -27,7 +27,7 @@ use Rattle.portfolio_margin.specs.declared.least_margin.LeastMargin.TheVariants.
 use Rattle.portfolio_margin.specs.declared.turn.Turn.TheVariants.{Ends, Goes}
 use Rattle.portfolio_margin.specs.declared.turn.Wanted.{Wanted}
 use Rattle.portfolio_margin.specs.Run.{MarginQuestion, Margin, Turn, asked_for, margin_run, net_at, on_turn, order_of, orders_of, turn_at, turns_from}
-use Rattle.portfolio_margin.specs.Answers.{EndsAs, IsMarginOf, StopsAs, TurnsAs, asked_in}
+use Rattle.portfolio_margin.specs.Answers.{EndsAs, IsMarginOf, IsMarginWith, StopsAs, TurnsAs, asked_in}
 use Rattle.portfolio_margin.specs.Owed.{fill_of, fills_of}
 use Rattle.portfolio_margin.proofs.Exactly.{wanted_is_lowest}
 use Rattle.portfolio_margin.proofs.Runs.{Keeps, turns_say}
@@ -130,17 +130,24 @@ run_stops a orders z w same zero is =
     ap (λ (r : Result Fraction Misfit). on_steps 0 r (λ M. turns_from a (a.budget + 1) M first 0)) net
 
 -- ---- the answer
-pub margin_of : (ending : Ending Margin) (margin : LeastMargin) (spent : ℕ) → EndsAs ending margin spent → IsMarginOf ending margin
-margin_of ending (Least L at tree) spent (written, is, ended) = (written, spent, is, ended)
-margin_of ending (Unbounded ray) spent ended = (spent, ended)
+pub margin_of : (ending : Ending Margin) (margin : LeastMargin) (spent : ℕ) → EndsAs ending margin spent → IsMarginWith ending margin spent
+margin_of ending (Least L at tree) spent ended = ended
+margin_of ending (Unbounded ray) spent ended = ended
 margin_of ending (Wide unit wide) spent ended = absurd ended
 margin_of ending Budget spent ended = absurd ended
 
-pub wide_of : (ending : Ending Margin) (stop : Stop) (unit : ℕ) (w : Misfit) (spent : ℕ) → stop ≡ WideStop unit w → StopsAs ending stop spent → IsMarginOf ending (Wide unit w)
-wide_of ending stop unit w spent is said = (subst (λ (s : Stop). StopsAs ending s spent) is said).0
+pub wide_of : (ending : Ending Margin) (stop : Stop) (unit : ℕ) (w : Misfit) (spent units : ℕ) → stop ≡ WideStop unit w → StopsAs ending stop spent → IsMarginWith ending (Wide unit w) units
+wide_of ending stop unit w spent units is said = (subst (λ (s : Stop). StopsAs ending s spent) is said).0
 
-pub budget_of : (ending : Ending Margin) (stop : Stop) (spent : ℕ) → stop ≡ BudgetStop → StopsAs ending stop spent → IsMarginOf ending Budget
-budget_of ending stop spent is said = (spent, subst (λ (s : Stop). StopsAs ending s spent) is said)
+pub budget_of : (ending : Ending Margin) (stop : Stop) (spent : ℕ) → stop ≡ BudgetStop → StopsAs ending stop spent → IsMarginWith ending Budget spent
+budget_of ending stop spent is said = subst (λ (s : Stop). StopsAs ending s spent) is said
+
+-- whatever units are spent
+pub with_some : (ending : Ending Margin) (margin : LeastMargin) (units : ℕ) → IsMarginWith ending margin units → IsMarginOf ending margin
+with_some ending (Least L at tree) units (written, is, ended) = (written, units, is, ended)
+with_some ending (Unbounded ray) units ended = (units, ended)
+with_some ending (Wide unit wide) units ended = ended
+with_some ending Budget units ended = (units, ended)
 
 -- ---- the batch of positions
 pub fills_are : (ps : List Position) (xs ys : List Frac128) → xs ≡ ys → ys ≡ map (λ (p : Position). p.fill) ps → map fraction_of xs ≡ fills_of ps

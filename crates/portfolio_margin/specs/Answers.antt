@@ -32,6 +32,14 @@ IsMarginOf ending (Unbounded ray) = (units : ℕ) × (ending ≡ done (endless (
 IsMarginOf ending (Wide unit wide) = ending ≡ wide_at unit wide
 IsMarginOf ending Budget = (units : ℕ) × (ending ≡ no_unit_left units)
 
+-- and so many units are spent by then
+abbrev pub IsMarginWith : Ending Margin → LeastMargin → ℕ → Type 0
+IsMarginWith ending (Least L at tree) units =
+    (written : WrittenTree) × IsTreeAs written tree × (ending ≡ done (least (fraction_of L) (vector_of at) written) units)
+IsMarginWith ending (Unbounded ray) units = ending ≡ done (endless (vector_of ray)) units
+IsMarginWith ending (Wide unit wide) units = ending ≡ wide_at unit wide
+IsMarginWith ending Budget units = ending ≡ no_unit_left units
+
 -- the least liability, with a tree that closes for the batch of the positions; or that there is
 -- none
 abbrev pub IsTrueOf : ℕ → List Position → LeastMargin → Type 0

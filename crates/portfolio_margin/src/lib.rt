@@ -10,5 +10,5 @@ pub mod needs;
 mod turn;
 
 pub use least_margin::LeastMargin;
-pub use margins::margin;
+pub use margins::{margin, margin_with_units};
 pub use needs::{Needed, need};

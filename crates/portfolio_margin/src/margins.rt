@@ -10,7 +10,7 @@ ghost use Rattle.form.specs.States.{vector_of};
 ghost use Rattle.form.specs.declared.limits.TheConstants.{MAX_ORDERS, MAX_UNDERLYINGS};
 ghost use Rattle.master_program.specs.Master.{zero_prices};
 ghost use Rattle.settlement.specs.Positions.{IsHeldPosition};
-ghost use Rattle.portfolio_margin.specs.Answers.{IsEndOf, IsMarginOf, IsTrueOf, asked_in};
+ghost use Rattle.portfolio_margin.specs.Answers.{IsEndOf, IsMarginOf, IsMarginWith, IsTrueOf, asked_in};
 ghost use Rattle.portfolio_margin.specs.Run.{asked_for, margin_run, turns_from};
 
 use crate::batch::{fills_of, orders_of};
@@ -49,6 +49,7 @@ fn turns(
     ensures end { IsEndOf (turns_from (asked_in budget.old.limit batch.now fills.now)
         (budget.old.limit + 1) (fraction_of first.liability) (vector_of first.at)
         budget.old.spent) result budget.new.spent }
+    ensures limit { budget.new.limit ≡ budget.old.limit }
 {
     let mut wanted = first;
     // Each search spends a unit, so that the last one here wants more than the budget has.
@@ -75,6 +76,7 @@ fn least(
     requires unspent { budget.old.spent ≡ 0 }
     ensures end { IsEndOf (margin_run (asked_in budget.old.limit batch.now fills.now))
         result budget.new.spent }
+    ensures limit { budget.new.limit ≡ budget.old.limit }
 {
     let orders = batch.orders.as_slice();
     let at = zero_prices(batch.underlyings);
@@ -84,6 +86,37 @@ fn least(
             turns(alloc, batch, fills, first, budget)
         }
         Err(wide) => Err(Stop::Wide { unit: 0, wide }),
+    }
+}
+
+/// The margin of the positions, as `margin` says it, and how many units its run spent. The only
+/// error is want of memory.
+pub fn margin_with_units(
+    alloc: Global,
+    positions: &[Position],
+    underlyings: u8,
+    limit: u32,
+) -> Result<(LeastMargin, u32), AllocError>
+    requires few { length positions.now ≤ MAX_ORDERS }
+    requires underlyings { (1 ≤ underlyings) × (underlyings ≤ MAX_UNDERLYINGS) }
+    requires forms { All (λ p. IsOnCount (underlyings + 1) p.bundle) positions.now }
+    requires held { All IsHeldPosition positions.now }
+    ensures run { IfOk result (λ told. IsMarginWith
+        (margin_run (asked_for largest limit underlyings positions.now)) told.0 told.1) }
+    ensures units { IfOk result (λ told. told.1 ≤ limit) }
+{
+    let orders = orders_of(alloc, positions)?;
+    let fills = fills_of(alloc, positions)?;
+    let batch = Batch {
+        underlyings,
+        orders: Orders::from_vec(orders),
+    };
+    let mut budget = Budget::new(limit);
+    match least(alloc, &batch, fills.as_slice(), &mut budget) {
+        Ok(margin) => Ok((margin, budget.spent)),
+        Err(Stop::Wide { unit, wide }) => Ok((LeastMargin::Wide { unit, wide }, budget.spent)),
+        Err(Stop::Budget) => Ok((LeastMargin::Budget, budget.spent)),
+        Err(Stop::Memory) => Err(AllocError),
     }
 }
 
@@ -105,17 +138,6 @@ pub fn margin(
         (margin_run (asked_for largest limit underlyings positions.now))) }
     ensures least { IfOk result (IsTrueOf underlyings positions.now) }
 {
-    let orders = orders_of(alloc, positions)?;
-    let fills = fills_of(alloc, positions)?;
-    let batch = Batch {
-        underlyings,
-        orders: Orders::from_vec(orders),
-    };
-    let mut budget = Budget::new(limit);
-    match least(alloc, &batch, fills.as_slice(), &mut budget) {
-        Ok(margin) => Ok(margin),
-        Err(Stop::Wide { unit, wide }) => Ok(LeastMargin::Wide { unit, wide }),
-        Err(Stop::Budget) => Ok(LeastMargin::Budget),
-        Err(Stop::Memory) => Err(AllocError),
-    }
+    let (margin, _units) = margin_with_units(alloc, positions, underlyings, limit)?;
+    Ok(margin)
 }

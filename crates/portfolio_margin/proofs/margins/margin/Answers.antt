@@ -1,51 +1,14 @@
-use Rattle.std.proofs.Common.{sym, subst, ◌∙◌, All}
-use Rattle.exact_num.specs.Fraction.{IsNotBelowZero}
-use Rattle.portfolio_margin.specs.declared.least_margin.LeastMargin.TheVariants.{Wide, Budget}
-use Rattle.portfolio_margin.specs.Answers.{IsMarginOf}
-use Rattle.portfolio_margin.specs.Laws.{MayBeAsked}
-use Rattle.portfolio_margin.specs.Run.{MarginQuestion, margin_run}
+use Rattle.frac.specs.Range.{limit as largest}
+use Rattle.portfolio_margin.specs.Run.{asked_for, margin_run}
 use Rattle.portfolio_margin.proofs.LeastMargins.{true_of}
-use Rattle.portfolio_margin.proofs.Turns.{asked_is, budget_of, fills_are, fills_low, forms_are, margin_of, wide_of}
+use Rattle.portfolio_margin.proofs.Turns.{fills_low, with_some}
 use Rattle.portfolio_margin.proofs.margins.margin.Goals as goal
 
-pub least-requires-clause-forms : goal.least-requires-clause-forms
-least-requires-clause-forms c =
-    forms_are c.args.underlyings c.from_vec.result c.args.positions.now c.requires.underlyings.0 c.requires.underlyings.1 (c.from_vec.ensures ∙ c.in_ok-orders.ensures) c.requires.forms
+pub returns-clause-run : goal.returns-clause-run
+returns-clause-run c = with_some (margin_run (asked_for largest c.args.limit c.args.underlyings c.args.positions.now)) c.in_ok-margin.margin c.in_ok-margin._units c.in_ok-margin.ensures.run
 
-pub least-requires-clause-not_below_zero : goal.least-requires-clause-not_below_zero
-least-requires-clause-not_below_zero c =
-    let ps = c.args.positions.now in
-    let fills = fills_are ps c.as_slice.result.now c.in_ok-fills.fills.items c.as_slice.ensures.value c.in_ok-fills.ensures in
-    subst (All IsNotBelowZero) (sym fills) (fills_low ps c.requires.held)
-
-pub returns-in-Ok-clause-run : goal.returns-in-Ok-clause-run
-returns-in-Ok-clause-run c =
-    let ps = c.args.positions.now in
-    let n = c.args.underlyings in
-    let fills = fills_are ps c.as_slice.result.now c.in_ok-fills.fills.items c.as_slice.ensures.value c.in_ok-fills.ensures in
-    let same = asked_is c.new-budget.result.limit c.args.limit n c.from_vec.result c.as_slice.result.now ps c.new-budget.ensures.limit (c.from_vec.ensures ∙ c.in_ok-orders.ensures) fills in
-    subst (λ (a : MarginQuestion). IsMarginOf (margin_run a) c.in-Ok.margin) same (margin_of _ c.in-Ok.margin c.least.new.budget.spent c.in-Ok.ensures.end)
-
-pub returns-in-Ok-clause-least : goal.returns-in-Ok-clause-least
-returns-in-Ok-clause-least c =
-    let ps = c.args.positions.now in
-    let may : MayBeAsked c.args.underlyings ps = record { some = c.requires.underlyings.0; few = c.requires.underlyings.1; not_below_zero = fills_low ps c.requires.held } in
-    true_of c.args.limit c.args.underlyings ps c.in-Ok.margin may (returns-in-Ok-clause-run c)
-
-pub returns-in-Err-Wide-clause-run : goal.returns-in-Err-Wide-clause-run
-returns-in-Err-Wide-clause-run c =
-    let ps = c.args.positions.now in
-    let n = c.args.underlyings in
-    let fills = fills_are ps c.as_slice.result.now c.in_ok-fills.fills.items c.as_slice.ensures.value c.in_ok-fills.ensures in
-    let same = asked_is c.new-budget.result.limit c.args.limit n c.from_vec.result c.as_slice.result.now ps c.new-budget.ensures.limit (c.from_vec.ensures ∙ c.in_ok-orders.ensures) fills in
-    let said = wide_of _ c.in-Err-Wide.field-0 c.in-Err-Wide.unit c.in-Err-Wide.wide _ c.in-Err-Wide.field-0-is c.in-Err-Wide.ensures.end in
-    subst (λ (a : MarginQuestion). IsMarginOf (margin_run a) (Wide c.in-Err-Wide.unit c.in-Err-Wide.wide)) same said
-
-pub returns-in-Err-Budget-clause-run : goal.returns-in-Err-Budget-clause-run
-returns-in-Err-Budget-clause-run c =
-    let ps = c.args.positions.now in
-    let n = c.args.underlyings in
-    let fills = fills_are ps c.as_slice.result.now c.in_ok-fills.fills.items c.as_slice.ensures.value c.in_ok-fills.ensures in
-    let same = asked_is c.new-budget.result.limit c.args.limit n c.from_vec.result c.as_slice.result.now ps c.new-budget.ensures.limit (c.from_vec.ensures ∙ c.in_ok-orders.ensures) fills in
-    let said = budget_of _ c.in-Err-Budget.field-0 _ c.in-Err-Budget.field-0-is c.in-Err-Budget.ensures.end in
-    subst (λ (a : MarginQuestion). IsMarginOf (margin_run a) Budget) same said
+pub returns-clause-least : goal.returns-clause-least
+returns-clause-least c =
+    true_of c.args.limit c.args.underlyings c.args.positions.now c.in_ok-margin.margin
+    (record { some = c.requires.underlyings.0; few = c.requires.underlyings.1; not_below_zero = fills_low c.args.positions.now c.requires.held })
+    (returns-clause-run c)

@@ -25,7 +25,10 @@ returns-in_err-margin c =
     λ j. turn_at (asked_in (l.invariant.limit j) batch fills) L at l.budget.spent in
     let was : StopsAs (turn_at a L at l.budget.spent) stop later = subst (λ e. StopsAs e stop later) same c.in_err-margin.ensures.turn in
     let low : l._turn ≤ budget.limit = omega (arith, c.loop-turn-test.true, c.from-turn-end.ensures) in
-    record { end = rw (q.1, q.2) (turns_stop a all l._turn L at l.budget.spent later stop low l.invariant.left was) }
+    record {
+      end = rw (q.1, q.2) (turns_stop a all l._turn L at l.budget.spent later stop low l.invariant.left was);
+      limit = c.take_turn.ensures.limit ∙ l.invariant.limit;
+    }
 
 pub returns-in-Ends : goal.returns-in-Ends
 returns-in-Ends c =
@@ -43,7 +46,10 @@ returns-in-Ends c =
     let was : TurnsAs (turn_at a L at l.budget.spent) (Ends c.in-Ends.margin) later =
     subst (λ x. TurnsAs (turn_at a L at l.budget.spent) x later) c.in-Ends.is (subst (λ e. TurnsAs e c.in_ok-margin.field-0 later) same c.in_ok-margin.ensures.turn) in
     let low : l._turn ≤ budget.limit = omega (arith, c.loop-turn-test.true, c.from-turn-end.ensures) in
-    record { end = turns_end a all l._turn L at l.budget.spent later c.in-Ends.margin low l.invariant.left was }
+    record {
+      end = turns_end a all l._turn L at l.budget.spent later c.in-Ends.margin low l.invariant.left was;
+      limit = c.take_turn.ensures.limit ∙ l.invariant.limit;
+    }
 
 pub loop-turn-preserved : goal.loop-turn-preserved
 loop-turn-preserved c =
@@ -74,4 +80,5 @@ returns c =
     record {
       end = absurd (never_none budget.limit c.args.batch.now c.args.fills.now c.args.first budget.spent l._turn (fraction_of l.wanted.liability) (vector_of l.wanted.at) l.budget.spent
           c.requires.forms c.requires.fills c.requires.not_below_zero budget.within high l.invariant.left);
+      limit = l.invariant.limit;
     }
