@@ -1,27 +1,15 @@
 -- A settlement: the positions lose at most what they owe there, and a tick more for each.
-use Rattle.std.proofs.Common.{◌≡◌, ℕ, suc, ◌+◌, ◌*◌, ◌/◌, ◌≤◌, Bool, true, false, List, [], ◌∷◌, length, All, arith, ℤ, pos, neg_ℤ, ◌+ℤ◌, ◌*ℤ◌, ◌≤ℤ◌, refl, ap, sym, subst, ◌∙◌}
-use Rattle.std.specs.Prelude.{int_lt}
+use Rattle.std.proofs.Common.{◌≡◌, ℕ, ◌+◌, ◌*◌, ◌≤◌, List, [], length, All, arith, ℤ, pos, neg_ℤ, ◌+ℤ◌, ◌*ℤ◌, ◌≤ℤ◌, ◌∷◌, refl, sym, subst}
 use Rattle.std.proofs.lemmas.Int.{ints}
-use native.Mathlib.Nat.{mul-div_cancel'}
 use Rattle.arithmetic.specs.Sums.{positive_part, total}
-use Rattle.arithmetic.proofs.Integers.{*ℤ_cancel_le, *ℤ_mono}
+use Rattle.arithmetic.proofs.Integers.{*ℤ_cancel_le}
 use Rattle.arithmetic.proofs.Parts.{positive_part_above}
 use Rattle.arithmetic.proofs.Products.{products}
-use Rattle.arithmetic.proofs.Signed.{factor_out}
-use Rattle.arithmetic.proofs.Sums.{All-head, All-tail}
-use Rattle.arithmetic.proofs.Tests.{int_lt-yes, int_lt-no}
-use Rattle.exact_num.specs.CommonDenominator.{amount_over, common_denominator}
+use Rattle.exact_num.specs.CommonDenominator.{common_denominator}
 use Rattle.exact_num.proofs.Fractions.{common_positive, divides}
-use Rattle.form.specs.declared.orders.Side.{Side}
-use Rattle.form.specs.declared.orders.Side.TheVariants.{Buy, Sell}
-use Rattle.form.specs.Payoff.{bundle_legs, bundle_payoff}
-use Rattle.clearing_model.specs.Clearing.{for_side}
 use Rattle.limits.specs.declared.TheConstants.{MAX_SETTLEMENT_PRICE}
-use Rattle.settlement.specs.declared.position.Position.{Position}
-use Rattle.settlement.specs.Payout.{worth_at}
 use Rattle.settlement.specs.Positions.{gain_at}
-use Rattle.settlement.proofs.Gains.{gains_are_rounded_down}
-use Rattle.portfolio_margin.specs.Owed.{fill_of, fills_of, owed_by, owed_over}
+use Rattle.portfolio_margin.specs.Owed.{fills_of, owed_over}
 use Rattle.portfolio_margin.proofs.NeedCovers.{all_lose}
 use Rattle.portfolio_margin.proofs.Owing.{fills_defined}
 use Rattle.account_need.specs.Exposure.{Portfolio, IsEnough, losses_at, reserve_of}

@@ -43,7 +43,8 @@ fn owed(sums: &[FormSum], at: &Price) -> Owing
 // What one sum comes to, whatever its sign.
 fn amount_of(item: &FormSum, at: &Price) -> u128
     requires { IsLineSum item.now }
-    ensures amount { result ≡ unsigned_abs item.now.sum * payoff (option_of item.now.form) (price_vector at.now) }
+    ensures amount { result
+        ≡ unsigned_abs item.now.sum * payoff (option_of item.now.form) (price_vector at.now) }
     ensures small { result ≤ 144115188075855872000000000000000000 }
 {
     item.sum.unsigned_abs() * u128::from(pays(&item.form, at))
