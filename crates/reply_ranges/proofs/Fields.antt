@@ -1,7 +1,7 @@
 -- The field that is told where a number is out of its range is one of a line.
 use Rattle.std.proofs.Common.{◌≡◌, ℕ, ◌+◌, ◌-◌, ◌*◌, ◌/◌, ◌%◌, ◌≤◌, List, [], ◌∷◌, length, take, Bool, true, false, not, ◌&&◌, ◌||◌, ◌==◌, Option, Some, None, Result, Ok, Err, IfSome, if◌then◌else◌, refl, subst, sym, arith}
 use Rattle.std.specs.Prelude.{nat_le, option_map, position}
-use Rattle.std.specs.List.{All, list_all}
+use Rattle.std.specs.List.{All, AllByRecursion, list_all}
 use Rattle.std.specs.Option.{option_map_or}
 use Rattle.std.proofs.lemmas.Bool.{and_parts, leb-true}
 use Rattle.std.proofs.lemmas.List.Elements.{All-nil, All-cons, All-head, All-tail, All-append, All-from_recursion, All-take}
@@ -9,7 +9,7 @@ use Rattle.command_text.specs.declared.asked.Asked.{Asked}
 use Rattle.command_text.specs.declared.asked.Fault.{Fault}
 use Rattle.command_text.specs.declared.asked.Fault.TheVariants.{Syntax, Range}
 use Rattle.command_text.specs.declared.numbers.NumberRead.{NumberRead}
-use Rattle.command_text.specs.declared.ranges.TheConstants.{ACCOUNT, AMOUNT, ANY_ACCOUNT, BUDGET, LISTED, MARGIN_BUDGET, MARKET, ORDER, PRICED, QUOTED, UNDERLYINGS}
+use Rattle.command_text.specs.declared.ranges.TheConstants.{MARKET}
 use Rattle.command_text.specs.declared.requests.Request.{Request}
 use Rattle.command_text.specs.declared.requests.Request.TheVariants as asks
 use Rattle.command_text.specs.declared.words.LineWord.{LineWord}
@@ -20,7 +20,7 @@ use Rattle.command_text.specs.Bundles.{has_leg, leg_fields, fields_each}
 use Rattle.command_text.specs.Commands.{body_of_said}
 use Rattle.command_text.specs.Fields.{fields_of_line}
 use Rattle.command_text.specs.Numbers.{number_in}
-use Rattle.command_text.specs.Refused.{Shape, reads_in, plain_shape, settle_shape, weight_place, trade_shape, option_shape, or_else, leg_reads, leg_weight_place, legs_reads, legs_beyond, head_reads, legs_shape, bundle_shape, shape_by, is_outside, is_unread, first_outside, has_unread, fault_of_shape, fault_of_words, fault_of_proposal, fault_by, fault_of_said, word_read}
+use Rattle.command_text.specs.Refused.{Shape, reads_in, settle_shape, weight_place, trade_shape, option_shape, or_else, leg_reads, leg_weight_place, legs_reads, legs_beyond, head_reads, legs_shape, bundle_shape, shape_by, is_outside, is_unread, first_outside, has_unread, fault_of_shape, fault_of_words, fault_of_proposal, fault_by, fault_of_said, word_read}
 use Rattle.command_text.specs.Said.{proposed_in, said_in}
 use Rattle.command_text.specs.Trades.{kind_in, is_weighted, weights_in}
 use Rattle.command_text.specs.Words.{word_among}
@@ -156,30 +156,39 @@ bundle_places fields = counted_places _ _ fields
 option_places : (place : ℕ) (asked : List Asked) (fields : List (List ℕ)) → IsPlace place → IsPlace (place + 2) → list_all (is_between 2 51) asked ≡ true → HasPlaces (option_shape place asked fields)
 option_places place asked fields is first are = record {
   reads = All-cons IsRead (place, word_read (kind_in (text_of fields place))) _ is (some_reads (length fields - 2) asked fields are);
-  beyond = weight_is 0 (place + 2) fields first;
+  beyond = weight_is 0 (place + 2) fields (omega (arith, first.0), omega (arith, first.1));
 }
 
 -- ---- by the word
-plain_places : (count : ℕ) (asked : List Asked) (fields : List (List ℕ)) → list_all (is_between 2 51) asked ≡ true → HasPlaces (plain_shape count asked fields)
-plain_places count asked fields are = record { reads = reads_are 0 2 51 asked fields (omega arith) (omega arith) (all_between 2 51 asked are); beyond = tt }
+places_are : (shape : Shape) → AllByRecursion IsRead shape.reads → IfSome shape.beyond IsPlace → HasPlaces shape
+places_are shape reads beyond = record { reads = All-from_recursion IsRead shape.reads reads; beyond = beyond }
+
+second : IsPlace 2
+second = (omega arith, omega arith)
+
+third : IsPlace 3
+third = (omega arith, omega arith)
+
+fourth : IsPlace 4
+fourth = (omega arith, omega arith)
 
 shapes_have : (w : LineWord) (fields : List (List ℕ)) → HasPlaces (shape_by w fields)
-shapes_have word.Open fields = plain_places 2 (ACCOUNT ∷ []) fields refl
-shapes_have word.Deposit fields = plain_places 3 (ACCOUNT ∷ AMOUNT ∷ []) fields refl
-shapes_have word.Withdraw fields = plain_places 3 (ACCOUNT ∷ AMOUNT ∷ []) fields refl
-shapes_have word.Market fields = plain_places 3 (MARKET ∷ UNDERLYINGS ∷ []) fields refl
+shapes_have word.Open fields = places_are (shape_by word.Open fields) (second, tt) tt
+shapes_have word.Deposit fields = places_are (shape_by word.Deposit fields) (second, (third, tt)) tt
+shapes_have word.Withdraw fields = places_are (shape_by word.Withdraw fields) (second, (third, tt)) tt
+shapes_have word.Market fields = places_are (shape_by word.Market fields) (second, (third, tt)) tt
 shapes_have word.Buy fields = trade_places fields
 shapes_have word.Sell fields = trade_places fields
 shapes_have word.Bundle fields = bundle_places fields
-shapes_have word.Cancel fields = plain_places 3 (ACCOUNT ∷ ORDER ∷ []) fields refl
-shapes_have word.Clear fields = plain_places 3 (MARKET ∷ BUDGET ∷ []) fields refl
+shapes_have word.Cancel fields = places_are (shape_by word.Cancel fields) (second, (third, tt)) tt
+shapes_have word.Clear fields = places_are (shape_by word.Clear fields) (second, (third, tt)) tt
 shapes_have word.Settle fields = settle_places fields
-shapes_have word.Balance fields = plain_places 2 (ANY_ACCOUNT ∷ []) fields refl
-shapes_have word.Quote fields = option_places 4 QUOTED fields (omega arith, omega arith) (omega arith, omega arith) refl
-shapes_have word.Price fields = option_places 5 PRICED fields (omega arith, omega arith) (omega arith, omega arith) refl
-shapes_have word.Margin fields = plain_places 4 (ACCOUNT ∷ LISTED ∷ MARGIN_BUDGET ∷ []) fields refl
-shapes_have word.Book fields = plain_places 2 (MARKET ∷ []) fields refl
-shapes_have word.Positions fields = plain_places 3 (ACCOUNT ∷ LISTED ∷ []) fields refl
+shapes_have word.Balance fields = places_are (shape_by word.Balance fields) (second, tt) tt
+shapes_have word.Quote fields = option_places 4 _ fields (omega arith, omega arith) (omega arith, omega arith) refl
+shapes_have word.Price fields = option_places 5 _ fields (omega arith, omega arith) (omega arith, omega arith) refl
+shapes_have word.Margin fields = places_are (shape_by word.Margin fields) (second, (third, (fourth, tt))) tt
+shapes_have word.Book fields = places_are (shape_by word.Book fields) (second, tt) tt
+shapes_have word.Positions fields = places_are (shape_by word.Positions fields) (second, (third, tt)) tt
 shapes_have word.Propose fields = record { reads = All-nil IsRead; beyond = tt }
 
 -- ---- what is told
