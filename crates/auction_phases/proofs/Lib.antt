@@ -1,0 +1,4 @@
+pub mod Barred
+pub mod ClosedLists
+pub mod LiveElsewhere
+pub mod StandingStill

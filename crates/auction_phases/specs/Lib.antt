@@ -1,0 +1,4 @@
+pub mod Laws
+pub mod Phases
+pub mod Refusals
+pub mod Worked
