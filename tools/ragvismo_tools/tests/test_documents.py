@@ -37,9 +37,14 @@ def anchors(text: str) -> set[str]:
 
 @functools.cache
 def sources(crate: str) -> str:
-    """The code and the definitions of a crate; of all crates, where a star names them."""
+    """The code and the definitions of a crate, or of all crates by a star."""
     kinds = ("src/**/*.rt", "specs/**/*.antt")
     return "\n".join(written(it) for kind in kinds for it in CRATES.glob(f"{crate}/{kind}"))
+
+
+@functools.cache
+def words(crate: str) -> frozenset[str]:
+    return frozenset(re.findall(r"\w+", sources(crate)))
 
 
 class Documents(Folder):
@@ -67,7 +72,13 @@ class Documents(Folder):
         self.assertGreater(len(named), 40)
         for crate, names in (it.split(" ", 1) for group in named for it in group.split("; ")):
             for name in re.findall(r"`(\w+)`", names):
-                self.assertRegex(sources(crate), rf"\b{name}\b", crate)
+                self.assertIn(name, words(crate), crate)
+
+    def test_definitions_and_laws_are_in_the_sources(self) -> None:
+        for name in ("MODEL", "CERTIFICATES"):
+            text = re.sub(r"(?ms)^```.*?^```$", "", written(TOP / f"docs/{name}.md"))
+            for told in set(re.findall(r"`([A-Z]\w+|\w+_\w+)`", text)):
+                self.assertTrue((CRATES / told).is_dir() or told in words("*"), (name, told))
 
     def test_refusals_are_those_of_the_schema_and_the_plain_check(self) -> None:
         told = {
