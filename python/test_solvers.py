@@ -21,6 +21,7 @@ from ragvismo import (
     buy,
     bundle,
     call,
+    covers,
     put,
     sell,
     solvers,
@@ -205,6 +206,40 @@ class Highs(unittest.TestCase):
             found.check(batch)
             gap = found.bound(batch) - found.surplus(batch)
             self.assertLessEqual(float(gap), 1e-6 * float(found.bound(batch) + 1))
+
+    def test_spreads_owe_nothing_on_rays(self) -> None:
+        """Bundles whose legs come to nothing there meet to the last fraction, and so do prices that
+        are far above their difference."""
+        legs = [(1000, call(5)), (-1000, call(6)), (1, put(3)), (-1, put(2))]
+        spread, most = [(1, call(2)), (-1, call(7))], 10**9
+        for orders, surplus in (
+            ([bundle("buy", legs, 12, 5), bundle("sell", legs, 10, 3)], 6),
+            ([bundle("buy", spread, 5, 2), bundle("sell", spread, 1, 2)], 8),
+            (
+                [buy(call(most), 10**12, 10**6), sell(call(most - 1), 10**12 - 5, 10**6)],
+                5 * 10**6,
+            ),
+        ):
+            found = solvers.highs(Batch(orders))
+            self.assertEqual(found.surplus(Batch(orders)), surplus)
+            self.assertEqual(found.bound(Batch(orders)), surplus)
+
+    def test_leaves_that_close_with_a_little_more(self) -> None:
+        """A batch on four underlyings, for which floats close a leaf that fractions close only with
+        more liability."""
+        draw = random.Random(77)
+        for _ in range(7):
+            number = draw.choice([1, 1, 2, 2, 3, 4, 8])
+            if number == 1 and draw.random() < 0.5:
+                batch = options(draw, draw.randint(1, 60))
+            else:
+                batch = basket(draw, number, draw.randint(1, 24))
+        found = solvers.highs(batch)
+        self.assertEqual((len(batch.orders), batch.underlyings), (21, 4))
+        gap = found.bound(batch) - found.surplus(batch)
+        self.assertLess(gap, found.bound(batch) / 10**6)
+        with mock.patch.object(covers, "ROOMS", (0.0,)):
+            self.assertEqual(solvers.highs(batch).surplus(batch), 0)
 
     def test_what_a_run_gave_up(self) -> None:
         """100 orders on three underlyings: at least the fills that were proposed then, and near."""

@@ -22,6 +22,8 @@ MOST_NODES = 20_000
 NEAR = 1e-9
 # Denominators that multipliers are rounded to, the shortest first.
 GRIDS = (1, 2**4, 2**12, 2**26, 2**40)
+# By how much more than the least liability leaves are tried to be closed, in parts of the money.
+ROOMS = (0.0, 2.0**-24, 2.0**-16)
 Numbers = Any  # arrays of numpy
 
 
@@ -134,11 +136,11 @@ class _Search:
             yield at
             ahead += [{**signs, at: -1}, {**signs, at: 1}]
 
-    def solved(self, signs: dict[int, int]) -> Node:
-        """The multipliers that bring a node nearest to being closed."""
+    def solved(self, signs: dict[int, int], room: float = 0.0) -> Node:
+        """The multipliers that bring a node nearest to being closed, with so much more liability."""
         self.deadline.left()
         base = self.numpy.zeros(self.forms.shape[1])
-        base[0] = -self.liability
+        base[0] = -self.liability - room
         columns, ends, places = [], [], []
         for place in self.held:
             form, sign = self.forms[place], signs.get(place, 0)
@@ -177,18 +179,20 @@ class _Search:
 
     def leaf(self, signs: dict[int, int]) -> tuple[dict[int, Fraction], Fraction]:
         """The multipliers of a leaf that close it, and the liability that it needs."""
-        node = self.solved(signs)
-        fixed, free = self.at_bounds(node.multipliers, signs)
-        tries = ({**fixed, **self.rounded(free, grid)} for grid in GRIDS)
-        for multipliers in (*tries, self.eliminated(signs, fixed, free)):
-            needed = self.needed(signs, multipliers)
-            if needed is not None and needed <= max(self.least, self.within()):
-                return multipliers, needed
+        for room in ROOMS:
+            most = max(self.least, Fraction((self.liability + room + 10 * NEAR) * self.money))
+            for multipliers in self.tries(signs, room):
+                needed = self.needed(signs, multipliers)
+                if needed is not None and needed <= most:
+                    return multipliers, needed
         raise NoCover(f"a leaf below {len(signs)} splits closes in floats, but not in fractions")
 
-    def within(self) -> Fraction:
-        """The liability with what floats may be off by."""
-        return Fraction((self.liability + 10 * NEAR) * self.money)
+    def tries(self, signs: dict[int, int], room: float) -> Iterator[dict[int, Fraction]]:
+        """Multipliers near those in floats: rounded, and by elimination."""
+        fixed, free = self.at_bounds(self.solved(signs, room).multipliers, signs)
+        for grid in GRIDS:
+            yield {**fixed, **self.rounded(free, grid)}
+        yield self.eliminated(signs, fixed, free)
 
     def at_bounds(
         self, multipliers: dict[int, float], signs: dict[int, int]

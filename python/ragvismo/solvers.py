@@ -8,6 +8,7 @@ from __future__ import annotations
 
 import random
 from collections.abc import Iterable, Iterator, Sequence
+from dataclasses import replace
 from fractions import Fraction
 from typing import NamedTuple
 
@@ -21,8 +22,9 @@ from ragvismo.proposals import Proposal, check_fills, check_measure, line_states
 
 Entries = tuple[int, ...]
 ROUNDS, STARTS = 400, 12
-# Rays have no slack: bought payoffs count so much more there, so that rounded fills owe nothing.
-MORE_ON_RAYS = 1 + 2.0**-26
+# Rays have no slack: orders that owe there count so much more, so that rounded fills owe nothing.
+# Where that costs more than a small part of the bound, it is tried without.
+MORE_ON_RAYS, SMALL = 1 + 2.0**-26, 1e-6
 FILL, MASS = 2**40, 2**40
 # By how much orders that are owed something are filled less, where a cover is not found.
 LESS = (Fraction(0), Fraction(1, 2**24), Fraction(1, 2**16), Fraction(1, 2**8))
@@ -73,7 +75,17 @@ def highs(batch: Batch, *, timeout: float | None = None) -> Proposal:
     if not batch.orders:
         return certify(batch, [], [State((1, *[0] * batch.underlyings), Fraction(1))])
     deadline = Deadline(timeout)
-    master = _Master(batch)
+    found = _solved(batch, MORE_ON_RAYS, deadline)
+    if found.bound(batch) - found.surplus(batch) <= SMALL * found.bound(batch):
+        return found
+    both = found, _solved(batch, 1.0, deadline)
+    best = max(both, key=lambda it: it.surplus(batch))
+    return replace(best, measure=min(both, key=lambda it: it.bound(batch)).measure)
+
+
+def _solved(batch: Batch, more: float, deadline: Deadline) -> Proposal:
+    """The proposal of the rounds, in which what is owed on rays counts so much more."""
+    master = _Master(batch, more)
     try:
         master.solve(deadline)
     except (TimedOut, NoCover):  # the states so far give a bound all the same
@@ -145,10 +157,10 @@ class _Master:
     on this scale, money is in units of the greatest limit, fills in parts of their quantities.
     """
 
-    def __init__(self, batch: Batch) -> None:
+    def __init__(self, batch: Batch, more: float) -> None:
         import numpy
 
-        self.numpy, self.batch = numpy, batch
+        self.numpy, self.batch, self.more = numpy, batch, more
         self.unit = unit_of(batch)
         self.signs = numpy.array([it.sign for it in batch.orders], dtype=float)
         self.quantities = numpy.array([it.quantity for it in batch.orders], dtype=float)
@@ -175,11 +187,10 @@ class _Master:
         return scaled / scaled.sum()
 
     def pays(self, scaled: Numbers) -> Numbers:
-        """What each order owes at a state, for one bundle, bought payoffs with the room on rays."""
-        paid = self.counts * self.numpy.maximum(self.forms @ scaled, 0)
-        if scaled[0] == 0:
-            paid = self.numpy.where(paid > 0, paid * MORE_ON_RAYS, paid)
-        return self.numpy.bincount(self.owners, paid, len(self.fills))
+        """What each order owes at a state, for one bundle, with the room on rays."""
+        legs = self.counts * self.numpy.maximum(self.forms @ scaled, 0)
+        paid = self.numpy.bincount(self.owners, legs, len(self.fills))
+        return self.numpy.where(paid > NEAR, paid * self.more, paid) if scaled[0] == 0 else paid
 
     def add(self, state: Entries) -> bool:
         """Adds the row of a state, where it is not there."""
