@@ -21,7 +21,6 @@ from ragvismo import (
     buy,
     bundle,
     call,
-    covers,
     put,
     sell,
     solvers,
@@ -238,7 +237,7 @@ class Highs(unittest.TestCase):
         self.assertEqual((len(batch.orders), batch.underlyings), (21, 4))
         gap = found.bound(batch) - found.surplus(batch)
         self.assertLess(gap, found.bound(batch) / 10**6)
-        with mock.patch.object(covers, "ROOMS", (0.0,)):
+        with mock.patch.object(ragvismo.covers, "ROOMS", (0.0,)):
             self.assertEqual(solvers.highs(batch).surplus(batch), 0)
 
     def test_what_a_run_gave_up(self) -> None:

@@ -137,7 +137,7 @@ class _Search:
             ahead += [{**signs, at: -1}, {**signs, at: 1}]
 
     def solved(self, signs: dict[int, int], room: float = 0.0) -> Node:
-        """The multipliers that bring a node nearest to being closed, with so much more liability."""
+        """The multipliers that bring a node nearest to being closed, at `room` more liability."""
         self.deadline.left()
         base = self.numpy.zeros(self.forms.shape[1])
         base[0] = -self.liability - room
