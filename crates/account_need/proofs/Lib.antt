@@ -19,3 +19,7 @@ pub mod Listed
 pub mod HeldSums
 pub mod WorkedRules
 pub mod Accounts
+pub mod Entered
+pub mod Bounded
+pub mod Asked
+pub mod Runs

@@ -6,5 +6,6 @@ pub mod Prices
 pub mod Laws
 pub mod Several
 pub mod Account
+pub mod Given
 pub mod Worked
 pub mod WorkedAccounts

@@ -17,23 +17,33 @@ use Rattle.account_need.specs.Rounded.{OptionSum, Summed, rounded_exposure, unit
 use Rattle.account_need.specs.Line.{bend_of, bends}
 
 -- ---- what the code is given
--- a bundle of options within the limits on one underlying, and such an order
-pub record IsLineBundle (bundle : Bundle) : Type 0 where
+-- a bundle of options within the limits, each with so many entries, and such an order
+pub record IsBundleOn (count : ℕ) (bundle : Bundle) : Type 0 where
   pub options : All (λ (leg : Leg). IsListed (option_of leg.form)) (legs_in bundle)
-  pub on : IsOnCount 2 bundle
+  pub on : IsOnCount count bundle
 
-pub record IsLineOrder (order : Order) : Type 0 where
+pub record IsOrderOn (count : ℕ) (order : Order) : Type 0 where
   pub within : IsOrderWithin order
-  pub on : IsOnCount 2 order.bundle
+  pub on : IsOnCount count order.bundle
 
-abbrev pub IsLinePosition : Position → Type 0
-IsLinePosition p = IsLineBundle p.bundle
+abbrev pub IsPositionOn : ℕ → Position → Type 0
+IsPositionOn count p = IsBundleOn count p.bundle
 
 -- a sum of such an option, as 2^24 positions have it at most
-pub record IsLineSum (s : FormSum) : Type 0 where
+pub record IsSumOn (count : ℕ) (s : FormSum) : Type 0 where
   pub option : IsListed (option_of s.form)
-  pub on : s.form.count ≡ 2
+  pub on : s.form.count ≡ count
   pub small : unsigned_abs s.sum ≤ 72057594037927936000000
+
+-- on one underlying
+abbrev pub IsLineBundle : Bundle → Type 0
+IsLineBundle bundle = IsBundleOn 2 bundle
+
+abbrev pub IsLineOrder : Order → Type 0
+IsLineOrder order = IsOrderOn 2 order
+
+abbrev pub IsLineSum : FormSum → Type 0
+IsLineSum s = IsSumOn 2 s
 
 abbrev pub option_sum : FormSum → OptionSum
 option_sum s = record { option = option_of s.form; sum = s.sum }

@@ -99,8 +99,11 @@ abbrev pub if_buy_then : Side → Bool → Bool
 if_buy_then Buy b = b
 if_buy_then Sell b = false
 
+abbrev pub has_plain_legs : List BundleLeg → Bool
+has_plain_legs legs = list_all (λ (leg : BundleLeg). int_lt (pos 0) leg.count) legs
+
 abbrev pub is_plain_buy : Order → Bool
-is_plain_buy o = if_buy_then o.side (list_all (λ (leg : BundleLeg). int_lt (pos 0) leg.count) (bundle_legs o.bundle))
+is_plain_buy o = if_buy_then o.side (has_plain_legs (bundle_legs o.bundle))
 
 abbrev pub is_by_itself : Order → Bool
 is_by_itself o = not (is_single_sell o) && not (is_plain_buy o)
@@ -120,10 +123,13 @@ own_loss o L = o.quantity * positive_part (less_price o.side o.price L)
 abbrev pub within : ℤ → ℕ → Bounded
 within S spent = if nat_le (unsigned_abs S) largest then Ok (S, spent) else Err Sum
 
+abbrev pub with_one : ℕ → Order → ℤ → ℕ → Bounded
+with_one n o S spent =
+    and_then (run_over n spent (owing_one n o)) (λ L later. within (S +ℤ pos (own_loss o L)) later)
+
 abbrev pub with_own : ℕ → List Order → ℤ → ℕ → Bounded
 with_own n [] S spent = Ok (S, spent)
-with_own n (o ∷ live) S spent =
-    and_then (run_over n spent (owing_one n o)) (λ L later. and_then (within (S +ℤ pos (own_loss o L)) later) (with_own n live))
+with_own n (o ∷ live) S spent = and_then (with_one n o S spent) (with_own n live)
 
 abbrev pub several_bound : ℕ → ℕ → Summed → Bounded
 several_bound n spent p = and_then (run_over n spent (owing_in n p)) (with_own n (filter is_by_itself p.live))

@@ -1,6 +1,7 @@
 //! What live orders may lose at a price, and what is reserved for them.
 ghost use Rattle.std.specs.Prelude.{◌≡◌, ◌≤◌, ◌+◌, ◌*◌, length, pos, ◌-ℤ◌};
 ghost use Rattle.std.specs.List.{All};
+ghost use Rattle.form.specs.Limits.{IsOrderWithin};
 ghost use Rattle.form.specs.Payoff.{bundle_legs, bundle_payoff};
 ghost use Rattle.form.specs.declared.limits.TheConstants.{MAX_ORDERS};
 ghost use Rattle.account_need.specs.Exposure.{loss_at, losses_at, reserve_for, reserve_of};
@@ -73,7 +74,7 @@ pub(crate) fn losses(live: &[Order], at: &Price) -> u128
 
 // What is reserved for an order: for a buy its quantity times its price.
 fn reserve_for(order: &Order) -> u128
-    requires { IsLineOrder order.now }
+    requires { IsOrderWithin order.now }
     ensures reserve { result ≡ reserve_for order.now }
     ensures small { result ≤ 1000000000000000000 }
 {
@@ -85,7 +86,7 @@ fn reserve_for(order: &Order) -> u128
 
 // What is reserved for all of them.
 pub(crate) fn reserve(live: &[Order]) -> u128
-    requires within { All IsLineOrder live.now }
+    requires within { All IsOrderWithin live.now }
     requires few { length live.now ≤ MAX_ORDERS }
     ensures reserve { result ≡ reserve_of live.now }
     ensures small { result ≤ length live.now * 1000000000000000000 }

@@ -5,12 +5,13 @@ ghost use Rattle.form.specs.declared.limits.TheConstants.{MAX_ORDERS};
 ghost use Rattle.account_need.specs.Prices.{IsLineOrder, IsLineSum, bound_at, in_code, option_sum, price_vector};
 ghost use Rattle.form.specs.Payoff.{option_of, payoff};
 ghost use Rattle.portfolio_margin.specs.Need.{ceil_of};
-ghost use Rattle.account_need.specs.Rounded.{owed_of};
+ghost use Rattle.account_need.specs.Rounded.{owed_of, rounded_exposure, unit};
 
 use crate::costs::losses;
 use crate::options::pays;
 use crate::price::Price;
 use crate::sums::FormSum;
+use crate::ticks::ceil_of;
 use form::Order;
 
 // What is owed of the sums above 0, and what is to come of those below, in 2^-32 of a tick.
@@ -50,18 +51,28 @@ fn amount_of(item: &FormSum, at: &Price) -> u128
     item.sum.unsigned_abs() * u128::from(pays(&item.form, at))
 }
 
-// The difference by the unit, rounded up.
-fn rounded_up(above: u128, below: u128, unit: u128) -> i128
-    requires some { 1 ≤ unit }
-    requires small { above + below ≤ 2 ^ 126 }
-    ensures bound { result ≡ ceil_of (pos above -ℤ pos below) unit }
+// The exposure, in 2^-32 of a tick.
+pub(crate) fn exposure(sums: &[FormSum], live: &[Order], at: &Price) -> i128
+    requires sums { All IsLineSum sums.now }
+    requires few_sums { length sums.now ≤ MAX_ORDERS }
+    requires live { All IsLineOrder live.now }
+    requires few { length live.now ≤ MAX_ORDERS }
+    ensures exposure { (positions : ℕ) → result
+        ≡ rounded_exposure (in_code sums.now positions live.now) (price_vector at.now) }
     ensures small { unsigned_abs result ≤ 2 ^ 126 }
 {
-    if above > below {
-        (above - below).div_ceil(unit) as i128
-    } else {
-        -(((below - above) / unit) as i128)
-    }
+    let owed = owed(sums, at);
+    let above = owed.above + losses(live, at) * 4_294_967_296;
+    above as i128 - owed.below as i128
+}
+
+// Rounded up to whole ticks, at a price over t.
+pub(crate) fn in_ticks(exposure: i128, at: &Price) -> i128
+    requires small { unsigned_abs exposure ≤ 2 ^ 126 }
+    ensures ceil { result ≡ ceil_of exposure (unit * at.now.t) }
+    ensures small { unsigned_abs result ≤ 2 ^ 126 }
+{
+    ceil_of(exposure, u128::from(at.t) * 4_294_967_296)
 }
 
 // The exposure, rounded up to whole ticks.
@@ -74,7 +85,5 @@ pub(crate) fn bound(sums: &[FormSum], live: &[Order], at: &Price) -> i128
         ≡ bound_at (in_code sums.now positions live.now) (price_vector at.now) }
     ensures small { unsigned_abs result ≤ 2 ^ 126 }
 {
-    let owed = owed(sums, at);
-    let above = owed.above + losses(live, at) * 4_294_967_296;
-    rounded_up(above, owed.below, u128::from(at.t) * 4_294_967_296)
+    in_ticks(exposure(sums, live, at), at)
 }

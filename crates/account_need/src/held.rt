@@ -5,7 +5,7 @@ ghost use Rattle.arithmetic.specs.Sums.{total};
 ghost use Rattle.form.specs.Payoff.{bundle_legs, option_of};
 ghost use Rattle.form.specs.Vector.{is_same_option};
 ghost use Rattle.settlement.specs.Positions.{IsHeldPosition};
-ghost use Rattle.account_need.specs.Prices.{IsLinePosition, IsLineSum, option_sum};
+ghost use Rattle.account_need.specs.Prices.{IsPositionOn, IsSumOn, option_sum};
 ghost use Rattle.account_need.specs.Rounded.{each_once, options_held, options_of, part_owed, sums_of};
 
 use crate::shares::{is_same, part_owed};
@@ -74,8 +74,8 @@ pub fn form_sums(alloc: Global, positions: &[Position]) -> Result<Vec<FormSum>, 
     requires held { All IsHeldPosition positions.now }
     requires few { length positions.now ≤ 2 ^ 24 }
     ensures sums { IfOk result (λ sums. map option_sum sums.items ≡ sums_of positions.now) }
-    ensures on_line { All IsLinePosition positions.now
-        → IfOk result (λ sums. All IsLineSum sums.items) }
+    ensures on { (count : ℕ) → All (IsPositionOn count) positions.now
+        → IfOk result (λ sums. All (IsSumOn count) sums.items) }
 {
     let forms = forms_held(alloc, positions)?;
     let mut sums = Vec::new(alloc);

@@ -2,6 +2,7 @@
 ghost use Rattle.std.specs.Prelude.{◌≡◌, ◌≤◌, ◌+◌, ◌^◌, ℕ, length, map, unsigned_abs, ◌*◌, pos, ◌+ℤ◌};
 ghost use Rattle.arithmetic.specs.Sums.{positive_part};
 ghost use Rattle.std.specs.List.{All, flat_map};
+ghost use Rattle.frac.specs.Range.{limit as largest};
 ghost use Rattle.form.specs.Limits.{IsListed};
 ghost use Rattle.form.specs.Payoff.{bundle_legs, option_of};
 ghost use Rattle.form.specs.declared.limits.TheConstants.{MAX_ORDERS};
@@ -81,7 +82,7 @@ fn with_live(sums: &[FormSum], live: &[Order], first: i128) -> i128
 }
 
 // The greatest exposure, rounded up to whole ticks.
-fn line_bound(sums: &[FormSum], live: &[Order]) -> i128
+pub(crate) fn line_bound(sums: &[FormSum], live: &[Order]) -> i128
     requires exposed { AreExposed sums.now live.now }
     ensures bound { (positions : ℕ) → result ≡ line_bound (in_code sums.now positions live.now) }
     ensures small { unsigned_abs result ≤ 2 ^ 126 }
@@ -99,11 +100,11 @@ fn line_bound(sums: &[FormSum], live: &[Order]) -> i128
 }
 
 // The bound and what is asked for rounding, or 0 where that is below 0.
-fn asked(bound: i128, positions: u32, live: usize) -> u128
-    requires bound { unsigned_abs bound ≤ 2 ^ 126 }
+pub(crate) fn asked(bound: i128, positions: u32, live: usize) -> u128
+    requires bound { unsigned_abs bound ≤ largest }
     requires few { live ≤ MAX_ORDERS }
     ensures asked { result ≡ positive_part (bound +ℤ pos (positions + 2 * live)) }
-    ensures small { result ≤ 2 ^ 126 + 2 ^ 33 }
+    ensures small { result ≤ largest + 2 ^ 33 }
 {
     let rounding = u128::from(positions) + 2 * live as u128;
     if bound < 0 {

@@ -8,7 +8,7 @@ use Rattle.account_need.specs.declared.sums.FormSum.{FormSum}
 use Rattle.account_need.specs.Prices.{option_sum}
 use Rattle.account_need.specs.Rounded.{is_some_sum, sum_of}
 use Rattle.account_need.proofs.HeldSums.{is_zero, not_zero, sum_added, sum_left_out}
-use Rattle.account_need.proofs.Listed.{sums_on_line}
+use Rattle.account_need.proofs.Listed.{sums_on}
 use Rattle.account_need.proofs.held.form_sums.Goals as goal
 use Rattle.account_need.proofs.held.form_sums.Goals.{then-sum-ne0+in_ok-push, else-sum-ne0}
 
@@ -48,5 +48,5 @@ returns-clause-sums c =
     c.loop-form.invariant
     ∙ ap (λ (vs : List (List ℤ)). filter is_some_sum (map (sum_of ps) vs)) (take_all c.loop-form.form-index os end ∙ ap (map option_of) c.deref-form-items.ensures.value ∙ c.in_ok-forms.ensures)
 
-pub returns-clause-on_line : goal.returns-clause-on_line
-returns-clause-on_line c = λ on. sums_on_line c.args.positions.now c.loop-form.sums.items c.requires.held c.requires.few on (returns-clause-sums c)
+pub returns-clause-on : goal.returns-clause-on
+returns-clause-on c = λ count on. sums_on count c.args.positions.now c.loop-form.sums.items c.requires.held c.requires.few on (returns-clause-sums c)
