@@ -1,8 +1,7 @@
 -- The need of an account, market by market, as the code comes to it.
-use Rattle.std.proofs.Common.{◌≡◌, ℕ, ◌+◌, ◌<◌, ◌≤◌, nat_le, Bool, true, false, List, [], ◌∷◌, length, Ok, Err, ℤ, pos, ◌-ℤ◌, ◌≤ℤ◌, arith, refl, ap, sym, subst, ◌∙◌}
-use Rattle.std.specs.Prelude.{int_le, if◌then◌else◌}
+use Rattle.std.proofs.Common.{◌≡◌, ℕ, ◌+◌, ◌<◌, ◌≤◌, Bool, List, ◌∷◌, length, Ok, Err, ap, sym, ◌∙◌}
+use Rattle.std.specs.Prelude.{if◌then◌else◌}
 use Rattle.std.proofs.lemmas.Bool.{le-leb, lt-leb}
-use Rattle.std.proofs.lemmas.Int.{ints}
 use Rattle.frac.specs.Range.{limit as largest}
 use Rattle.account_need.specs.declared.need.NoNeed.{NoNeed}
 use Rattle.account_need.specs.declared.need.NoNeed.TheVariants.{Sum}

@@ -1,21 +1,17 @@
 -- The bound of a market, as the code comes to it: entry by entry, and one live order after another.
-use Rattle.std.proofs.Common.{◌≡◌, ◌≢◌, ℕ, zero, suc, ◌+◌, ◌-◌, ◌*◌, ◌<◌, ◌≤◌, ◌++◌, ◌&&◌, ◌||◌, nat_eq, nat_lt, Bool, true, false, not, cond, List, [], ◌∷◌, length, map, filter, take, drop, get_or, Result, Ok, Err, arith, ℤ, pos, append_assoc, refl, ap, sym, subst, ◌∙◌}
+use Rattle.std.proofs.Common.{◌≡◌, ℕ, suc, ◌+◌, ◌-◌, ◌<◌, ◌++◌, ◌&&◌, ◌||◌, nat_eq, nat_lt, Bool, true, false, not, List, [], ◌∷◌, length, map, take, get_or, Err, arith, pos, append_assoc, refl, ap, sym, ◌∙◌}
 use Rattle.std.specs.Prelude.{int_lt}
 use Rattle.std.specs.List.{list_all, list_any}
-use Rattle.std.proofs.lemmas.List.{append-nil, map-append}
-use Rattle.std.proofs.lemmas.List.Elements.{filter-append}
-use Rattle.arithmetic.proofs.Lists.{item_first}
+use Rattle.std.proofs.lemmas.List.{map-append}
 use Rattle.exact_num.specs.Fraction.{whole}
 use Rattle.form.specs.declared.legs.Leg.{Leg}
 use Rattle.form.specs.declared.limits.TheConstants.{MAX_ORDERS}
 use Rattle.form.specs.Payoff.{leg_of}
-use Rattle.form.specs.declared.orders.Order.{Order}
 use Rattle.form.specs.declared.orders.Side.TheVariants.{Buy}
-use Rattle.settlement.specs.declared.position.Position.{Position}
 use Rattle.account_need.specs.declared.need.NoNeed.TheVariants.{Positions}
 use Rattle.account_need.specs.Account.{bound_of, bound_on, bound_unless, is_crowded, is_large}
 use Rattle.account_need.specs.Rounded.{Summed}
-use Rattle.account_need.specs.Several.{Bounded, and_then, has_plain_legs, is_by_itself, option_owing, owing_in, top_call, tops_from, with_one, with_own}
+use Rattle.account_need.specs.Several.{Bounded, has_plain_legs, option_owing, owing_in, top_call, tops_from}
 use Rattle.account_need.proofs.HeldSums.{one_taken}
 
 -- ---- entries

@@ -1,5 +1,5 @@
 -- The entries of a run: their fills, their bundles, and what the code may ask of them.
-use Rattle.std.proofs.Common.{◌≡◌, ◌≢◌, ℕ, zero, suc, ◌+◌, ◌-◌, ◌*◌, ◌/◌, ◌<◌, ◌≤◌, ◌^◌, ◌++◌, Bool, true, false, cond, List, [], ◌∷◌, length, map, filter, take, replicate, set, length-append, append_assoc, All, arith, sum, ℤ, pos, negsuc, ◌*ℤ◌, ◌≤ℤ◌, unsigned_abs, int_div, Ok, Err, refl, ap, ap₂, sym, subst, ◌∙◌}
+use Rattle.std.proofs.Common.{◌≡◌, ◌≢◌, ℕ, zero, suc, ◌+◌, ◌-◌, ◌*◌, ◌/◌, ◌<◌, ◌≤◌, ◌^◌, ◌++◌, true, List, [], ◌∷◌, length, map, filter, take, replicate, set, length-append, append_assoc, All, arith, sum, ℤ, pos, ◌*ℤ◌, ◌≤ℤ◌, unsigned_abs, int_div, Ok, Err, refl, ap, sym, subst, ◌∙◌}
 use Rattle.std.proofs.Math.Nat.{div-le_self, mul-le-mul_right}
 use Rattle.std.proofs.lemmas.Bool.{le-leb}
 use Rattle.std.proofs.lemmas.Int.{ints, unsigned_abs-mul}
@@ -13,7 +13,7 @@ use Rattle.arithmetic.proofs.Quotients.{unsigned_abs-int_div}
 use Rattle.arithmetic.proofs.Sums.{All-head, All-tail}
 use Rattle.arithmetic.proofs.Tests.{and_true}
 use Rattle.exact_num.specs.declared.misfit.Wide.{Wide}
-use Rattle.exact_num.specs.Fraction.{AtMost, Fraction, IsLowest, over, plain_product, reduced, whole}
+use Rattle.exact_num.specs.Fraction.{AtMost, Fraction, IsLowest, plain_product, reduced, whole}
 use Rattle.exact_num.specs.Fits.{div_of, inverse, product_above, product_below, product_fits, product_value}
 use Rattle.exact_num.proofs.Exactness.{product_within}
 use Rattle.exact_num.proofs.ProductValues.{inverse_is_lowest, product_is, product_is_lowest}
@@ -32,7 +32,7 @@ use Rattle.form.specs.declared.orders.Side.{Side}
 use Rattle.form.specs.declared.orders.Side.TheVariants.{Buy, Sell}
 use Rattle.form.specs.BundleOf.{bundle_one}
 use Rattle.form.specs.FormOf.{form_of}
-use Rattle.form.specs.Payoff.{IsOnCount, count_sizes, legs_in, option_of}
+use Rattle.form.specs.Payoff.{IsOnCount, count_sizes, option_of}
 use Rattle.form.proofs.MadeBundles.{legs_in-bundle_one}
 use Rattle.form.proofs.SameForm.{option-form_of}
 use Rattle.form.proofs.Vectors.{length-option_of}

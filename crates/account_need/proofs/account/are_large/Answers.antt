@@ -1,10 +1,9 @@
-use Rattle.std.proofs.Common.{◌≡◌, Bool, true, List, ◌+◌, drop, map, rules, ap, sym, ◌∙◌}
+use Rattle.std.proofs.Common.{◌≡◌, Bool, true, ◌+◌, drop, map, rules, ap, sym, ◌∙◌}
 use Rattle.std.specs.Prelude.{◌||◌}
 use Rattle.std.specs.List.{list_any}
 use Rattle.arithmetic.proofs.Lists.{drop_map}
 use Rattle.account_need.specs.Account.{is_large}
 use Rattle.account_need.specs.Prices.{option_sum}
-use Rattle.account_need.specs.Rounded.{OptionSum}
 use Rattle.account_need.proofs.account.are_large.Goals as goal
 
 pub returns-then-is_large : goal.returns-then-is_large

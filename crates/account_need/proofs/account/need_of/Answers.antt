@@ -1,7 +1,6 @@
-use Rattle.std.proofs.Common.{◌≡◌, ◌+◌, ◌<◌, ◌≤◌, Ok, Err, List, drop, map, arith, rules, ap, sym, ◌∙◌}
+use Rattle.std.proofs.Common.{◌≡◌, ◌+◌, ◌<◌, ◌≤◌, Ok, Err, drop, arith, rules, ap, sym, ◌∙◌}
 use Rattle.frac.specs.Range.{limit as largest}
 use Rattle.account_need.specs.Account.{Numbered, need_from, portfolios}
-use Rattle.account_need.specs.Exposure.{Portfolio}
 use Rattle.account_need.specs.Given.{asked_in, numbered, numbered_of, portfolio_of}
 use Rattle.account_need.proofs.Asked.{need_goes, need_passes, need_stops}
 use Rattle.account_need.proofs.LineBounds.{drop_maps}

@@ -1,4 +1,4 @@
-use Rattle.std.proofs.Common.{◌≡◌, ◌≤◌, drop, map}
+use Rattle.std.proofs.Common.{◌≡◌, ◌≤◌, drop}
 use Rattle.frac.specs.Range.{limit as largest}
 use Rattle.account_need.specs.Account.{need_from, need_of, portfolios}
 use Rattle.account_need.specs.Given.{numbered}

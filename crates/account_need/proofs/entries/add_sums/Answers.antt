@@ -1,7 +1,6 @@
-use Rattle.std.proofs.Common.{◌≡◌, ◌+◌, ◌<◌, ◌++◌, List, [], ◌∷◌, length, map, rules, arith, ◌∙◌}
+use Rattle.std.proofs.Common.{◌<◌, ◌++◌, [], ◌∷◌, length, map, rules, arith, ◌∙◌}
 use Rattle.std.proofs.lemmas.List.{length-map}
 use Rattle.arithmetic.proofs.Lists.{item_of}
-use Rattle.settlement.specs.declared.position.Position.{Position}
 use Rattle.account_need.specs.Prices.{option_sum}
 use Rattle.account_need.specs.Several.{owing_sum}
 use Rattle.account_need.proofs.Bounded.{mapped_more}

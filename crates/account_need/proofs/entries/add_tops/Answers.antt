@@ -1,4 +1,4 @@
-use Rattle.std.proofs.Common.{◌≡◌, ◌+◌, ◌-◌, ◌++◌, List, [], ◌∷◌, append_assoc, rules, ap, sym, ◌∙◌}
+use Rattle.std.proofs.Common.{◌+◌, ◌-◌, ◌++◌, List, [], ◌∷◌, append_assoc, rules, ap, sym, ◌∙◌}
 use Rattle.settlement.specs.declared.position.Position.{Position}
 use Rattle.account_need.specs.Several.{tops_from}
 use Rattle.account_need.proofs.Bounded.{tops_step}

@@ -1,10 +1,8 @@
-use Rattle.std.proofs.Common.{◌≡◌, ◌-◌, List, ℤ, pos, take, set, replicate, rules, ap, ◌∙◌}
-use Rattle.form.specs.declared.bundles.Bundle.{Bundle}
+use Rattle.std.proofs.Common.{◌≡◌, ◌-◌, rules, ap, ◌∙◌}
 use Rattle.form.specs.declared.orders.Side.TheVariants.{Buy}
 use Rattle.form.specs.BundleOf.{bundle_one}
 use Rattle.form.specs.FormOf.{form_of}
 use Rattle.form.specs.Payoff.{option_of}
-use Rattle.form.specs.Vector.{call_of}
 use Rattle.form.proofs.MadeBundles.{bundle_is_one}
 use Rattle.form.proofs.SameForm.{form_is_form_of}
 use Rattle.account_need.specs.Several.{owing, top_call}

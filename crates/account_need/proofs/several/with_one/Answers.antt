@@ -1,4 +1,4 @@
-use Rattle.std.proofs.Common.{◌≡◌, ◌≤◌, ◌+◌, All, List, length, sym, subst, ◌∙◌}
+use Rattle.std.proofs.Common.{◌≤◌, ◌+◌, All, List, length, sym, subst, ◌∙◌}
 use Rattle.form.specs.declared.limits.TheConstants.{MAX_ORDERS}
 use Rattle.settlement.specs.Positions.{IsHeldPosition}
 use Rattle.settlement.specs.declared.position.Position.{Position}
