@@ -15,7 +15,15 @@ from ragvismo_tools.tests.common import Folder, run
 CRATES = TOP / "crates"
 DOCUMENTS = (TOP / "README.md", *sorted((TOP / "docs").glob("*.md")))
 LINK = re.compile(r"\]\(([^)\s]+)\)|(?:href|src)=\"([^\"]+)\"")
-# What PROMISES.md names in brackets: a crate, then names that its sources have.
+# What is read for its facts, and no page of one reader.
+LONGER = {"MODEL", "REFERENCE_RUN", "DECISIONS", "PERFORMANCE"}
+# A figure of time or of a study, which is measured; a command that measures; the day.
+MEASURED = re.compile(
+    r"\d\s+(?:s|ms|ns|microseconds|(?:processor )?(?:seconds|minutes|hours))\b|\d a second|\d ± \d"
+)
+COMMAND = re.compile(r"\b(?:tools|studies|service)/\w|`rt check")
+DAY = re.compile(r"\b20\d\d-\d\d-\d\d\b")
+# What PROMISES.md and CRATES.md name in brackets: a crate, then names that its sources have.
 NAMED = re.compile(r"\(([a-z_]+ `[^()]*)\)")
 LARGE = re.compile(r"\b\d{1,3}(?:,\d{3})+\b")
 LIMIT = re.compile(r"const [A-Z_]+: u(?:8|16|32|64|128|size) = ([0-9_]+);")
@@ -58,6 +66,21 @@ class Documents(Folder):
                 longest = max(map(len, parts), default=0)
                 self.assertLessEqual(longest, 200 if is_row else 120, f"{path.name}: {line}")
 
+    def test_pages_of_a_reader_are_shorter(self) -> None:
+        for path in DOCUMENTS:
+            if path.stem not in LONGER:
+                self.assertLessEqual(len(written(path).split()), 1_500, path.name)
+
+    def test_measured_figures_have_a_day_and_a_command(self) -> None:
+        found = 0
+        for name in ("PERFORMANCE", "RELIABILITY", "PROVING", "SCALE", "RESEARCH"):
+            for section in re.split(r"(?m)^(?=#+ )", written(TOP / f"docs/{name}.md")):
+                if MEASURED.search(section):
+                    found += 1
+                    for sign in (COMMAND, DAY):
+                        self.assertRegex(section, sign, name)
+        self.assertGreater(found, 10)
+
     def test_links_lead_somewhere(self) -> None:
         for path in (*DOCUMENTS, TOP / "python/README.md"):
             for link in LINK.findall(written(path)):
@@ -68,7 +91,8 @@ class Documents(Folder):
                     self.assertIn(anchor, anchors(written(led)), f"{path.name}: {link}")
 
     def test_promises_are_in_the_sources(self) -> None:
-        named = NAMED.findall(" ".join(written(TOP / "docs/PROMISES.md").split()))
+        texts = (written(TOP / f"docs/{name}.md") for name in ("PROMISES", "CRATES"))
+        named = NAMED.findall(" ".join(" ".join(texts).split()))
         self.assertGreater(len(named), 40)
         for crate, names in (it.split(" ", 1) for group in named for it in group.split("; ")):
             for name in re.findall(r"`(\w+)`", names):
