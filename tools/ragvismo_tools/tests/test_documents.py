@@ -19,7 +19,8 @@ LINK = re.compile(r"\]\(([^)\s]+)\)|(?:href|src)=\"([^\"]+)\"")
 LONGER = {"MODEL", "REFERENCE_RUN", "DECISIONS", "PERFORMANCE"}
 # A figure of time or of a study, which is measured; a command that measures; the day.
 MEASURED = re.compile(
-    r"\d\s+(?:s|ms|ns|microseconds|(?:processor )?(?:seconds|minutes|hours))\b|\d a second|\d ± \d"
+    r"\d\s+(?:s|ms|ns|microseconds|(?:processor )?(?:seconds|minutes|hours))\b"
+    r"|Seconds\b|Mean seconds|\d a\s+second\b|\d ± \d"
 )
 COMMAND = re.compile(r"\b(?:tools|studies|service)/\w|`rt check")
 DAY = re.compile(r"\b20\d\d-\d\d-\d\d\b")
