@@ -47,6 +47,8 @@ is_for (asks.Price request) word.Price = true
 is_for (asks.Margin request) word.Margin = true
 is_for (asks.Book market) word.Book = true
 is_for (asks.Positions account market) word.Positions = true
+is_for (asks.Close number) word.Close = true
+is_for (asks.Reopen number) word.Reopen = true
 is_for (asks.Propose request) word.Propose = true
 is_for request w = false
 
@@ -103,6 +105,8 @@ module _ (request : Request) where
   by_word word.Margin fields e = by_test word.Margin _ _ _ refl e
   by_word word.Book fields e = by_test word.Book _ _ _ refl e
   by_word word.Positions fields e = by_test word.Positions _ _ _ refl e
+  by_word word.Close fields e = by_test word.Close _ _ _ refl e
+  by_word word.Reopen fields e = by_test word.Reopen _ _ _ refl e
   by_word word.Propose fields e = absurd (cc)
 
 -- ---- among the words
@@ -149,6 +153,8 @@ proposes word.Price e = absurd (true≢false (sym e))
 proposes word.Margin e = absurd (true≢false (sym e))
 proposes word.Book e = absurd (true≢false (sym e))
 proposes word.Positions e = absurd (true≢false (sym e))
+proposes word.Close e = absurd (true≢false (sym e))
+proposes word.Reopen e = absurd (true≢false (sym e))
 proposes word.Propose e = refl
 
 first_proposes : (test : LineWord → Bool) (first : LineWord) (words : List LineWord) (b : Bool) → is_propose first ≡ b → test word.Propose ≡ true
@@ -198,6 +204,8 @@ of_run c word.Price is = absurd (true≢false (sym is))
 of_run c word.Margin is = absurd (true≢false (sym is))
 of_run c word.Book is = absurd (true≢false (sym is))
 of_run c word.Positions is = absurd (true≢false (sym is))
+of_run c word.Close is = absurd (true≢false (sym is))
+of_run c word.Reopen is = absurd (true≢false (sym is))
 of_run c word.Propose is = absurd (true≢false (sym is))
 
 -- a line that says a command says it to a run

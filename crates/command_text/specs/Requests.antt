@@ -71,6 +71,16 @@ positions_request fields =
     then unless (fault_in 0 (ACCOUNT ∷ LISTED ∷ []) fields) (request.Positions (natural_in fields ACCOUNT) (natural_in fields LISTED))
     else Err Syntax
 
+-- close,MARKET
+abbrev pub close_request : List (List ℕ) → Result Request Fault
+close_request fields =
+    if length fields == 2 then unless (fault_in 0 (MARKET ∷ []) fields) (request.Close (natural_in fields MARKET)) else Err Syntax
+
+-- reopen,MARKET
+abbrev pub reopen_request : List (List ℕ) → Result Request Fault
+reopen_request fields =
+    if length fields == 2 then unless (fault_in 0 (MARKET ∷ []) fields) (request.Reopen (natural_in fields MARKET)) else Err Syntax
+
 -- ---- what is proposed, which is no list of fields
 -- what stands behind the word and its comma
 abbrev pub proposed_text : List ℕ → Option (List ℕ)

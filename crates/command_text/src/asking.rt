@@ -3,11 +3,12 @@ ghost use Rattle.std.specs.Prelude.{◌≡◌, ◌≤◌, ◌<◌, ◌+◌, ◌=
 ghost use Rattle.std.specs.List.{All};
 ghost use Rattle.command_text.specs.Asked.{IsAsked};
 ghost use Rattle.command_text.specs.Numbers.{IsWithin};
-ghost use Rattle.command_text.specs.Requests.{book_request, margin_request, option_request, positions_request, price_request, propose_request, proposed_for, proposed_text, quote_request, strike_at};
+ghost use Rattle.command_text.specs.Requests.{book_request, close_request, margin_request, option_request, positions_request, price_request, propose_request, proposed_for, proposed_text, quote_request, reopen_request, strike_at};
 
 use crate::asked::{Asked, Fault, first_fault, first_of, natural, text_at, value};
 use crate::numbers::{NumberRead, number};
 use crate::options::option_form;
+use crate::plain::one_number;
 use crate::ranges::{
     ACCOUNT, BUDGET, LISTED, MARGIN_BUDGET, MARKET, PRICED, PRICED_QUANTITY, QUOTED, STRIKE,
 };
@@ -92,15 +93,8 @@ pub(crate) fn margin_request(fields: &[&[u8]]) -> Result<Request, Fault>
 pub(crate) fn book_request(fields: &[&[u8]]) -> Result<Request, Fault>
     ensures { result ≡ book_request (map (λ f. f.now) fields.now) }
 {
-    if fields.len() != 2 {
-        return Err(Fault::Syntax);
-    }
-    match first_fault(fields, &[MARKET], 0) {
-        Some(fault) => Err(fault),
-        None => Ok(Request::Book {
-            market: natural(fields, MARKET) as u32,
-        }),
-    }
+    let market = one_number(fields, MARKET)? as u32;
+    Ok(Request::Book { market })
 }
 
 pub(crate) fn positions_request(fields: &[&[u8]]) -> Result<Request, Fault>
@@ -116,6 +110,20 @@ pub(crate) fn positions_request(fields: &[&[u8]]) -> Result<Request, Fault>
             market: natural(fields, LISTED) as u32,
         }),
     }
+}
+
+pub(crate) fn close_request(fields: &[&[u8]]) -> Result<Request, Fault>
+    ensures { result ≡ close_request (map (λ f. f.now) fields.now) }
+{
+    let market = one_number(fields, MARKET)? as u32;
+    Ok(Request::Close { market })
+}
+
+pub(crate) fn reopen_request(fields: &[&[u8]]) -> Result<Request, Fault>
+    ensures { result ≡ reopen_request (map (λ f. f.now) fields.now) }
+{
+    let market = one_number(fields, MARKET)? as u32;
+    Ok(Request::Reopen { market })
 }
 
 // What stands behind the word of a proposal and its comma.

@@ -39,6 +39,8 @@ said_ends number state (Ok (asks.Command c)) = guarded_ends number state (Ok (as
 said_ends number state (Ok (asks.Margin request)) = guarded_ends number state (Ok (asks.Margin request))
 said_ends number state (Ok (asks.Book market)) = guarded_ends number state (Ok (asks.Book market))
 said_ends number state (Ok (asks.Positions account market)) = guarded_ends number state (Ok (asks.Positions account market))
+said_ends number state (Ok (asks.Close market)) = guarded_ends number state (Ok (asks.Close market))
+said_ends number state (Ok (asks.Reopen market)) = guarded_ends number state (Ok (asks.Reopen market))
 said_ends number state (Ok (asks.Propose request)) = guarded_ends number state (Ok (asks.Propose request))
 said_ends number state (Err fault) = guarded_ends number state (Err fault)
 
