@@ -45,9 +45,10 @@ use Rattle.exchange_lines.specs.Replies.{answer_to}
 use Rattle.exchange_lines.proofs.Answered.{answer_keeps, promises_kept}
 use Rattle.form.specs.declared.orders.Batch.{Batch}
 use Rattle.exchange_lines.specs.Moves.{AreMoves, Move, clears, move, says}
-use Rattle.exchange_lines.specs.GainRuns.{HouseGains, replies_by, state_by}
+use Rattle.exchange_lines.specs.GainRuns.{HouseGains, replies_by}
+use Rattle.exchange_lines.specs.GainRuns as gains
 use Rattle.exchange_lines.proofs.RunGains.{moves_gain}
-use Rattle.live_lines.specs.Output.{places_output}
+use Rattle.live_lines.specs.Output.{output_of, places_output}
 use Rattle.proposal_text.specs.declared.replies.BoundedOutcome.{BoundedOutcome}
 use Rattle.reply_print.specs.ReplyPieces.{reply_line}
 use Rattle.reply_print.specs.declared.replies.Reply.{Reply}
@@ -55,7 +56,7 @@ use Rattle.proposal_lines.specs.Clears.{better_in, bounded_effect, clear_reply, 
 use Rattle.proposal_lines.specs.KeptByMarket.{KeptProposals, without_kept}
 use Rattle.proposal_lines.specs.Laws.{IsBetter, IsClearedAs, IsSound}
 use Rattle.proposal_lines.specs.Output.{other_line, proposing_line, served_line, written_reply}
-use Rattle.proposal_lines.specs.Promises.{AreToldFor, IsBesideProposals, IsToldFor, KeepsProposalPromises, OutputsTellProposals, ProposalAnswer, TellsAsked, beside, bounded, charged, replied, replies_in, state_by_lines, taken, told_text, told_texts}
+use Rattle.proposal_lines.specs.Promises.{AreToldFor, IsBesideProposals, IsToldFor, KeepsProposalPromises, OutputsTellProposals, ProposalAnswer, TellsAsked, TellsBy, beside, bounded, charged, replied, replies_in, state_by, taken, told_text, told_texts}
 use Rattle.proposal_lines.specs.Proposed.{after_proposed, kept_by, offered, proposed_by, proposed_of, proposed_reply}
 use Rattle.proposal_lines.specs.ProposingState.{ProposingState, empty_state}
 use Rattle.proposal_lines.specs.Proved.{AreProvedIn, IsEntryProved}
@@ -69,18 +70,21 @@ use Rattle.proposal_lines.proofs.Moving.{after_batch_proved, entries_moved, repl
 use Rattle.proposal_lines.proofs.Sound.{proposed_proved}
 use Rattle.proposal_lines.proofs.Taking.{offer_becomes, taken_is_proved}
 
+pub empty_is_sound : IsSound empty_state
+empty_is_sound = record { kept = empty_is_kept; proved = All-nil (IsEntryProved empty_exchange.book) }
+
 module _ (state : ProposingState) (line : InputLine) where
   -- what a line is told and the moves of the exchange, none or one
   pub record IsTold (now : List ℕ × ProposingState) : Type 0 where
     pub answer : ProposalAnswer
     pub told : IsToldFor state line answer now.1
-    text : now.0 ≡ told_text answer
+    pub text : now.0 ≡ told_text answer
     pub promise : KeepsProposalPromises answer
     pub sound : IsSound now.1
     moves : List Move
     may : AreMoves state.exchange moves
     replies : (more : List ProposalAnswer) → replies_in (answer ∷ more) ≡ replies_by move state.exchange moves ++ replies_in more
-    end : now.1.exchange ≡ state_by move state.exchange moves
+    end : now.1.exchange ≡ gains.state_by move state.exchange moves
 
 -- ---- one line
 module _ (state : ProposingState) (line : InputLine) (sound : IsSound state) where
@@ -273,71 +277,90 @@ module _ (state : ProposingState) (line : InputLine) (sound : IsSound state) whe
       told_beside : (reply : ProposingReply) → IsBeside reply → Told (written_reply line.number (reply, state))
       told_beside reply is = beside_told (written_reply line.number (reply, state)) (beside_text line.number reply is) refl refl
 
--- ---- all lines
-record AreTold (state : ProposingState) (lines : List InputLine) : Type 0 where
-  answers : List ProposalAnswer
-  to_lines : AreToldFor state lines answers
-  promises : All KeepsProposalPromises answers
-  moves : List Move
-  may : AreMoves state.exchange moves
-  replies : replies_in answers ≡ replies_by move state.exchange moves
-  end : (state_by_lines state lines).exchange ≡ state_by move state.exchange moves
-  sound : IsSound (state_by_lines state lines)
-
--- moves behind moves
-moves_join : (first next : List Move) (state : ExchangeState) → AreMoves state first → AreMoves (state_by move state first) next → AreMoves state (first ++ next)
+-- ---- moves behind moves
+moves_join : (first next : List Move) (state : ExchangeState) → AreMoves state first → AreMoves (gains.state_by move state first) next → AreMoves state (first ++ next)
 moves_join [] next state may then = then
 moves_join (m ∷ first) next state may then = (may.0, moves_join first next (move state m).1 may.1 then)
 
-replies_join : (first next : List Move) (state : ExchangeState) → replies_by move state (first ++ next) ≡ replies_by move state first ++ replies_by move (state_by move state first) next
+replies_join : (first next : List Move) (state : ExchangeState)
+    → replies_by move state (first ++ next) ≡ replies_by move state first ++ replies_by move (gains.state_by move state first) next
 replies_join [] next state = refl
 replies_join (m ∷ first) next state = ap (λ l. (move state m).0 ∷ l) (replies_join first next (move state m).1)
 
-states_join : (first next : List Move) (state : ExchangeState) → state_by move state (first ++ next) ≡ state_by move (state_by move state first) next
+states_join : (first next : List Move) (state : ExchangeState) → gains.state_by move state (first ++ next) ≡ gains.state_by move (gains.state_by move state first) next
 states_join [] next state = refl
 states_join (m ∷ first) next state = states_join first next (move state m).1
 
-all_told : (lines : List InputLine) (state : ProposingState) → IsSound state → AreTold state lines
-all_told [] state sound = record { answers = []; to_lines = refl; promises = All-nil KeepsProposalPromises; moves = []; may = tt; replies = refl; end = refl; sound = sound }
-all_told (line ∷ lines) state sound =
-    let now = proposing_line line.number state line.bytes in
-    let one = line_told state line sound in
-    let later = all_told lines now.1 one.sound in
-    let next : ExchangeState = state_by move state.exchange one.moves in
-    record {
-      answers = one.answer ∷ later.answers;
-      to_lines = (one.told, one.text, subst (λ (text : List ℕ). TellsAsked state line (text, now.1.exchange)) one.text (asked_told state line sound), later.to_lines);
-      promises = All-cons KeepsProposalPromises one.answer later.answers one.promise later.promises;
-      moves = one.moves ++ later.moves;
-      may = moves_join one.moves later.moves state.exchange one.may (subst (λ e. AreMoves e later.moves) one.end later.may);
-      replies = one.replies later.answers ∙ ap (λ l. replies_by move state.exchange one.moves ++ l) (later.replies ∙ ap (λ e. replies_by move e later.moves) one.end)
-          ∙ sym (replies_join one.moves later.moves state.exchange);
-      end = later.end ∙ ap (λ e. state_by move e later.moves) one.end ∙ sym (states_join one.moves later.moves state.exchange);
-      sound = later.sound;
-    }
+-- ---- all lines, by a way of answering each of which tells what is promised
+module _ {S : Type 0} (proposing : S → ProposingState) (step : ℕ → S → List ℕ → List ℕ × S) where
+  -- what it tells for one line
+  pub record TellsLine (line : InputLine) (state : S) : Type 0 where
+    pub line_is : IsTold (proposing state) line ((step line.number state line.bytes).0, proposing (step line.number state line.bytes).1)
+    pub asked_is : TellsAsked (proposing state) line ((step line.number state line.bytes).0, (proposing (step line.number state line.bytes).1).exchange)
 
--- ---- the whole output
-texts_told : (input : List ℕ) (places : List RawLine) (state : ProposingState) (answers : List ProposalAnswer) → AreToldFor state (map (input_line input) places) answers
-    → places_output proposing_line input state places ≡ told_texts answers
-texts_told input [] state answers are = ap told_texts (sym are)
-texts_told input (place ∷ places) state [] are = absurd are
-texts_told input (place ∷ places) state (answer ∷ answers) are =
-    let line = input_line input place in
-    let now = proposing_line line.number state line.bytes in
-    ap (λ l. l ++ places_output proposing_line input now.1 places) are.1 ∙ ap (λ l. told_text answer ++ l) (texts_told input places now.1 answers are.3)
+  record AreTold (state : S) (lines : List InputLine) : Type 0 where
+    answers : List ProposalAnswer
+    to_lines : AreToldFor proposing step state lines answers
+    promises : All KeepsProposalPromises answers
+    moves : List Move
+    may : AreMoves (proposing state).exchange moves
+    replies : replies_in answers ≡ replies_by move (proposing state).exchange moves
+    end : (proposing (state_by step state lines)).exchange ≡ gains.state_by move (proposing state).exchange moves
+    sound : IsSound (proposing (state_by step state lines))
 
-pub empty_is_sound : IsSound empty_state
-empty_is_sound = record { kept = empty_is_kept; proved = All-nil (IsEntryProved empty_exchange.book) }
+  module _ (each : (line : InputLine) (state : S) → IsSound (proposing state) → TellsLine line state) where
+    all_told : (lines : List InputLine) (state : S) → IsSound (proposing state) → AreTold state lines
+    all_told [] state sound =
+        record { answers = []; to_lines = refl; promises = All-nil KeepsProposalPromises; moves = []; may = tt; replies = refl; end = refl; sound = sound }
+    all_told (line ∷ lines) state sound =
+        let told = each line state sound in
+        let one = told.line_is in
+        let now = step line.number state line.bytes in
+        let exchange = (proposing state).exchange in
+        let later = all_told lines now.1 one.sound in
+        let next : ExchangeState = gains.state_by move exchange one.moves in
+        record {
+          answers = one.answer ∷ later.answers;
+          to_lines = (one.told, one.text, subst (λ (text : List ℕ). TellsAsked (proposing state) line (text, (proposing now.1).exchange)) one.text told.asked_is, later.to_lines);
+          promises = All-cons KeepsProposalPromises one.answer later.answers one.promise later.promises;
+          moves = one.moves ++ later.moves;
+          may = moves_join one.moves later.moves exchange one.may (subst (λ e. AreMoves e later.moves) one.end later.may);
+          replies = one.replies later.answers ∙ ap (λ l. replies_by move exchange one.moves ++ l) (later.replies ∙ ap (λ e. replies_by move e later.moves) one.end)
+              ∙ sym (replies_join one.moves later.moves exchange);
+          end = later.end ∙ ap (λ e. gains.state_by move e later.moves) one.end ∙ sym (states_join one.moves later.moves exchange);
+          sound = later.sound;
+        }
+
+    -- ---- the whole output
+    texts_told : (input : List ℕ) (places : List RawLine) (state : S) (answers : List ProposalAnswer) → AreToldFor proposing step state (map (input_line input) places) answers
+        → places_output step input state places ≡ told_texts answers
+    texts_told input [] state answers are = ap told_texts (sym are)
+    texts_told input (place ∷ places) state [] are = absurd are
+    texts_told input (place ∷ places) state (answer ∷ answers) are =
+        let line = input_line input place in
+        let now = step line.number state line.bytes in
+        ap (λ l. l ++ places_output step input now.1 places) are.1 ∙ ap (λ l. told_text answer ++ l) (texts_told input places now.1 answers are.3)
+
+    pub outputs_tell_by : (first : S) → proposing first ≡ empty_state → (input : List ℕ) → TellsBy proposing step first input (output_of step true first input)
+    outputs_tell_by first empty input =
+        let told = all_told (input_lines input) first (subst IsSound (sym empty) empty_is_sound) in
+        let may : AreMoves empty_exchange told.moves = subst (λ (s : ProposingState). AreMoves s.exchange told.moves) empty told.may in
+        let replies : replies_in told.answers ≡ replies_by move empty_exchange told.moves = told.replies ∙ ap (λ (s : ProposingState). replies_by move s.exchange told.moves) empty in
+        let end : (proposing (state_by step first (input_lines input))).exchange ≡ gains.state_by move empty_exchange told.moves =
+        told.end ∙ ap (λ (s : ProposingState). gains.state_by move s.exchange told.moves) empty in
+        record {
+          answers = told.answers;
+          to_lines = told.to_lines;
+          text = texts_told input (raw_lines_in input) first told.answers told.to_lines;
+          promises = told.promises;
+          gains = subst (λ (e : ExchangeState). HouseGains e.entries (replies_in told.answers)) (sym end)
+              (subst (HouseGains (gains.state_by move empty_exchange told.moves).entries) (sym replies) (moves_gain told.moves may));
+          kept = told.sound;
+        }
+
+-- an exchange that takes proposals, and no more
+proposing_told : (line : InputLine) (state : ProposingState) → IsSound state → TellsLine (λ state. state) proposing_line line state
+proposing_told line state sound = record { line_is = line_told state line sound; asked_is = asked_told state line sound }
 
 pub outputs_tell_proposals : OutputsTellProposals
-outputs_tell_proposals input =
-    let told = all_told (input_lines input) empty_state empty_is_sound in
-    record {
-      answers = told.answers;
-      to_lines = told.to_lines;
-      text = texts_told input (raw_lines_in input) empty_state told.answers told.to_lines;
-      promises = told.promises;
-      gains = subst (λ (e : ExchangeState). HouseGains e.entries (replies_in told.answers)) (sym told.end)
-          (subst (HouseGains (state_by move empty_exchange told.moves).entries) (sym told.replies) (moves_gain told.moves told.may));
-      kept = told.sound;
-    }
+outputs_tell_proposals = outputs_tell_by (λ state. state) proposing_line proposing_told empty_state refl

@@ -194,29 +194,39 @@ pub record TellsAsked (state : ProposingState) (line : InputLine) (written : Lis
   pub prices : (request : PriceRequest) → said_in SERVED line.bytes ≡ Ok (asks.Price request) → first_of (quote_refusals state.exchange.book request.quote) ≡ None
       → TellsPrices line.number state.exchange request written
 
--- one for each line, in order, each in the state that the lines before it left
-abbrev pub AreToldFor : ProposingState → List InputLine → List ProposalAnswer → Type 0
-AreToldFor state [] answers = answers ≡ []
-AreToldFor state (line ∷ lines) [] = ⊥
-AreToldFor state (line ∷ lines) (answer ∷ answers) =
-    let now = proposing_line line.number state line.bytes in
-    IsToldFor state line answer now.1 × (now.0 ≡ told_text answer) × TellsAsked state line (told_text answer, now.1.exchange) × AreToldFor now.1 lines answers
+-- the state after lines, from one on, by a way of answering
+abbrev pub state_by : {S : Type 0} → (ℕ → S → List ℕ → List ℕ × S) → S → List InputLine → S
+state_by step state [] = state
+state_by step state (line ∷ lines) = state_by step (step line.number state line.bytes).1 lines
 
--- the state after lines, from one on
 abbrev pub state_by_lines : ProposingState → List InputLine → ProposingState
-state_by_lines state [] = state
-state_by_lines state (line ∷ lines) = state_by_lines (proposing_line line.number state line.bytes).1 lines
+state_by_lines = state_by proposing_line
 
--- the bytes are the text of the answers to the lines of the input. Each keeps what is promised,
--- they leave the house its gains, batches that were cleared as proposals had it among them, and the
--- state is one that an exchange which takes proposals may be in
-pub record TellProposals (input bytes : List ℕ) : Type 0 where
-  pub answers : List ProposalAnswer
-  pub to_lines : AreToldFor empty_state (input_lines input) answers
-  pub text : bytes ≡ told_texts answers
-  pub promises : All KeepsProposalPromises answers
-  pub gains : HouseGains (state_by_lines empty_state (input_lines input)).exchange.entries (replies_in answers)
-  pub kept : IsSound (state_by_lines empty_state (input_lines input))
+-- a way of answering over states in which an exchange stands that takes proposals
+module _ {S : Type 0} (proposing : S → ProposingState) (step : ℕ → S → List ℕ → List ℕ × S) where
+  -- one answer for each line, in order, each in the state that the lines before it left
+  abbrev pub AreToldFor : S → List InputLine → List ProposalAnswer → Type 0
+  AreToldFor state [] answers = answers ≡ []
+  AreToldFor state (line ∷ lines) [] = ⊥
+  AreToldFor state (line ∷ lines) (answer ∷ answers) =
+      let now = step line.number state line.bytes in
+      IsToldFor (proposing state) line answer (proposing now.1) × (now.0 ≡ told_text answer)
+      × TellsAsked (proposing state) line (told_text answer, (proposing now.1).exchange) × AreToldFor now.1 lines answers
+
+  -- the bytes are the text of the answers to the lines of the input. Each keeps what is promised,
+  -- they leave the house its gains, batches that were cleared as proposals had it among them, and the
+  -- state is one that an exchange which takes proposals may be in
+  pub record TellsBy (first : S) (input bytes : List ℕ) : Type 0 where
+    pub answers : List ProposalAnswer
+    pub to_lines : AreToldFor first (input_lines input) answers
+    pub text : bytes ≡ told_texts answers
+    pub promises : All KeepsProposalPromises answers
+    pub gains : HouseGains (proposing (state_by step first (input_lines input))).exchange.entries (replies_in answers)
+    pub kept : IsSound (proposing (state_by step first (input_lines input)))
+
+-- an exchange that takes proposals, and no more
+abbrev pub TellProposals : List ℕ → List ℕ → Type 0
+TellProposals = TellsBy (λ state. state) proposing_line empty_state
 
 -- what is written for an input, whose mark is skipped
 abbrev pub proposing_output : List ℕ → List ℕ
