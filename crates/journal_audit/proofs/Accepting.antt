@@ -27,7 +27,7 @@ use Rattle.reply_text.proofs.RoundTrip.{reading-reply_line}
 use Rattle.reply_text.proofs.Taken.{natural_taken}
 use Rattle.reply_text.proofs.TakenReplies.{then_taken}
 use Rattle.proposal_text.specs.declared.replies.ProposalReply.{ProposalReply}
-use Rattle.proposal_text.specs.declared.replies.ProposalReply.TheVariants.{Book, Positions, Proposed, Bounded as BoundedReply, Stale, Unproved}
+use Rattle.proposal_text.specs.declared.replies.ProposalReply.TheVariants.{Book, Positions, Proposed, Bounded as BoundedReply, Stale, Unproved, Closed, Reopened, MarketIsClosed, MarketIsOpen}
 use Rattle.proposal_text.specs.Pieces.{proposal_piece}
 use Rattle.proposal_text.specs.ReplyValues.{proposal_tests}
 use Rattle.proposal_text.proofs.PlainProposals.{reply_plain as proposal_plain}
@@ -77,6 +77,10 @@ proposal_sound (Proposed market surplus bound best_surplus least_bound) h = refl
 proposal_sound (BoundedReply number market batch outcome) h = ap (λ j. fault_in (bounded_finding j)) h.yes
 proposal_sound Stale h = refl
 proposal_sound (Unproved f) h = refl
+proposal_sound (Closed market orders) h = refl
+proposal_sound (Reopened market) h = refl
+proposal_sound MarketIsClosed h = refl
+proposal_sound MarketIsOpen h = refl
 
 -- ---- values of lines that are none of a run
 
@@ -99,6 +103,10 @@ proposal_beside line (Proposed market surplus bound best_surplus least_bound) = 
 proposal_beside line (BoundedReply number market batch outcome) = record { shape = refl; accepted = refl; gate = refl }
 proposal_beside line Stale = record { shape = refl; accepted = refl; gate = refl }
 proposal_beside line (Unproved f) = record { shape = refl; accepted = refl; gate = refl }
+proposal_beside line (Closed market orders) = record { shape = refl; accepted = refl; gate = refl }
+proposal_beside line (Reopened market) = record { shape = refl; accepted = refl; gate = refl }
+proposal_beside line MarketIsClosed = record { shape = refl; accepted = refl; gate = refl }
+proposal_beside line MarketIsOpen = record { shape = refl; accepted = refl; gate = refl }
 
 asked_beside : (line : ℕ) (reply : AskedReply) → IsBeside (piece_data (asked_piece line reply))
 asked_beside line (Quoted market bid ask) = record { shape = refl; accepted = refl; gate = refl }
@@ -159,6 +167,10 @@ proposal_object line (Proposed market surplus bound best_surplus least_bound) = 
 proposal_object line (BoundedReply number market batch outcome) = tt
 proposal_object line Stale = tt
 proposal_object line (Unproved f) = tt
+proposal_object line (Closed market orders) = tt
+proposal_object line (Reopened market) = tt
+proposal_object line MarketIsClosed = tt
+proposal_object line MarketIsOpen = tt
 
 asked_object : (line : ℕ) (reply : AskedReply) → IsObject (asked_piece line reply)
 asked_object line (Quoted market bid ask) = tt
@@ -249,6 +261,10 @@ proposal_tells line (Proposed market surplus bound best_surplus least_bound) = r
 proposal_tells line (BoundedReply number market batch outcome) = refl
 proposal_tells line Stale = refl
 proposal_tells line (Unproved f) = refl
+proposal_tells line (Closed market orders) = refl
+proposal_tells line (Reopened market) = refl
+proposal_tells line MarketIsClosed = refl
+proposal_tells line MarketIsOpen = refl
 
 proposal_found_sound : (text : List ℕ) (reply : ProposalReply) → IsProposedLineOf text reply → IsFoundSound text
 proposal_found_sound text reply h =

@@ -16,7 +16,7 @@ use Rattle.reply_text.specs.Tests.{Tests, json_by, json_of, read_by, value_by}
 use Rattle.reply_text.proofs.FiveTests.{never_memory, never_memory_in}
 use Rattle.proposal_text.specs.declared.replies.BoundedOutcome.{BoundedOutcome}
 use Rattle.proposal_text.specs.declared.replies.ProposalReply.{ProposalReply}
-use Rattle.proposal_text.specs.declared.replies.ProposalReply.TheVariants.{Book, Positions, Proposed, Bounded as BoundedReply, Stale, Unproved}
+use Rattle.proposal_text.specs.declared.replies.ProposalReply.TheVariants.{Book, Positions, Proposed, Bounded as BoundedReply, Stale, Unproved, Closed, Reopened, MarketIsClosed, MarketIsOpen}
 use Rattle.proposal_text.specs.ReplyValues.{IsProposalLineOf, proposal_tests}
 use Rattle.proposal_text.proofs.ReadExactly.{line_of}
 use Rattle.journal_audit.specs.declared.asked_replies.AskedReply.{AskedReply}
@@ -111,6 +111,10 @@ proposal_says text line (BoundedReply number market batch outcome) h =
     judged text line number market batch outcome (bounded_verdict_of limit batch outcome.proposal (fraction_of outcome.bound)) refl h
 proposal_says text line Stale h = told_plain text line Stale h tt refl
 proposal_says text line (Unproved f) h = told_plain text line (Unproved f) h tt refl
+proposal_says text line (Closed market orders) h = told_plain text line (Closed market orders) h tt refl
+proposal_says text line (Reopened market) h = told_plain text line (Reopened market) h tt refl
+proposal_says text line MarketIsClosed h = told_plain text line MarketIsClosed h tt refl
+proposal_says text line MarketIsOpen h = told_plain text line MarketIsOpen h tt refl
 
 module _ (text : List ℕ) (d : Data) (json : json_of text ≡ Some d) where
   proposal_read : (r : Result (ℕ × ProposalReply) LineFault) → value_by proposal_tests text d ≡ r → IsSoundAs text (proposal_found r)

@@ -38,12 +38,17 @@ abbrev pub plain_found : {A : Type 0} → Result A LineFault → Finding
 plain_found (Ok a) = Plain
 plain_found (Err f) = fault_finding f
 
--- whether the value is that of a line about proposals
+-- whether a refusal is one of a proposal, or of a closed market
+abbrev pub is_served_refusal : ℕ → Bool
+is_served_refusal number = (number == 20 || number == 21) || (number == 23 || number == 24)
+
+-- whether the value is that of a line about proposals or phases
 abbrev pub tells_proposal : List ℕ → Data → Bool
 tells_proposal word d =
     (bytes_eq word (codes "book") || (bytes_eq word (codes "positions") || bytes_eq word (codes "proposed")))
     || ((bytes_eq word (codes "cleared") && number_at (codes "version") d == 3)
-    || (bytes_eq word (codes "refused") && (number_at (codes "number") d == 20 || number_at (codes "number") d == 21)))
+    || ((bytes_eq word (codes "closed") || bytes_eq word (codes "reopened"))
+    || (bytes_eq word (codes "refused") && is_served_refusal (number_at (codes "number") d))))
 
 -- or of one that tells quotes, prices or margins
 abbrev pub tells_asked : List ℕ → Data → Bool

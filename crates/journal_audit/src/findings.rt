@@ -8,7 +8,7 @@ ghost use Rattle.proposal_text.specs.ReplyValues.{proposal_tests};
 ghost use Rattle.proposal_text.specs.Within.{IsProposalReplyWithin};
 ghost use Rattle.journal_audit.specs.Accepted.{message_from as message_found};
 ghost use Rattle.journal_audit.specs.GateLines.{gate_tests};
-ghost use Rattle.journal_audit.specs.Findings.{accepted_finding as accepted_is, plain_found as plain_read, proposal_found as proposal_read, audit_finding as audit_is, beside as beside_is, proposal_finding as proposal_is, reply_found as reply_is, served_finding as served_is, session_beside as session_beside_is, session_value_finding as session_value_is, tells_asked as asked_is_told, tells_proposal as proposal_is_told, unspelled as unspelled_is, value_finding as value_is};
+ghost use Rattle.journal_audit.specs.Findings.{accepted_finding as accepted_is, plain_found as plain_read, proposal_found as proposal_read, audit_finding as audit_is, beside as beside_is, is_served_refusal as served_refusal_is, proposal_finding as proposal_is, reply_found as reply_is, served_finding as served_is, session_beside as session_beside_is, session_value_finding as session_value_is, tells_asked as asked_is_told, tells_proposal as proposal_is_told, unspelled as unspelled_is, value_finding as value_is};
 
 use crate::accepted::{is_accepted, message_from, reply_in};
 use crate::asked_reading::read_asked_value;
@@ -35,13 +35,20 @@ fn proposal_finding(alloc: Global, reply: &ProposalReply) -> Result<Finding, All
     }
 }
 
+// Whether a refusal is one of a proposal, or of a closed market.
+fn is_served_refusal(number: u64) -> bool
+    ensures { result ≡ served_refusal_is number }
+{
+    (number == 20 || number == 21) || (number == 23 || number == 24)
+}
+
 fn tells_proposal(value: &Value, word: &str) -> bool
     ensures { result ≡ proposal_is_told word.now (view value.now) }
 {
-    let number = number_at(value, "number");
     (word == "book" || word == "positions" || word == "proposed")
         || (word == "cleared" && number_at(value, "version") == 3)
-        || (word == "refused" && (number == 20 || number == 21))
+        || (word == "closed" || word == "reopened")
+        || (word == "refused" && is_served_refusal(number_at(value, "number")))
 }
 
 fn tells_asked(value: &Value, word: &str) -> bool

@@ -82,6 +82,10 @@ IsRefused (Told (told.Proposed market surplus bound best_surplus least_bound)) =
 IsRefused (Told (told.Book market batch)) = ⊥
 IsRefused (Told (told.Positions account market positions)) = ⊥
 IsRefused (Told (told.Bounded number market batch outcome)) = ⊥
+IsRefused (Told (told.Closed market orders)) = ⊥
+IsRefused (Told (told.Reopened market)) = ⊥
+IsRefused (Told told.MarketIsClosed) = ⊥
+IsRefused (Told told.MarketIsOpen) = ⊥
 
 -- by such a proposal nothing changes
 abbrev pub RefusedChangeNothing : Type 0

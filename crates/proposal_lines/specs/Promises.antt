@@ -119,7 +119,7 @@ KeepsProposalPromises (taken answer) = ProvesTaken answer
 KeepsProposalPromises (beside line text) = ⊤
 
 -- ---- texts beside these
--- a reply that tells what is read, or that a proposal is not taken
+-- a reply that tells what is read, that a proposal is not taken, or what a market's phase is
 abbrev pub TakesNothing : ProposalReply → Type 0
 TakesNothing (told.Book market batch) = ⊤
 TakesNothing (told.Positions account market positions) = ⊤
@@ -127,6 +127,10 @@ TakesNothing (told.Proposed market surplus bound best_surplus least_bound) = ⊥
 TakesNothing (told.Bounded number market batch outcome) = ⊥
 TakesNothing told.Stale = ⊤
 TakesNothing (told.Unproved failed) = ⊤
+TakesNothing (told.Closed market orders) = ⊤
+TakesNothing (told.Reopened market) = ⊤
+TakesNothing told.MarketIsClosed = ⊤
+TakesNothing told.MarketIsOpen = ⊤
 
 -- a text is the line of such a reply, with its line feed
 abbrev pub IsToldText : ℕ → List ℕ → Type 0

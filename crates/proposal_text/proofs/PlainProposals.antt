@@ -14,7 +14,7 @@ use Rattle.proposal_text.specs.declared.replies.BoundedOutcome.{BoundedOutcome}
 use Rattle.proposal_text.specs.declared.replies.Failed.{Failed}
 use Rattle.proposal_text.specs.declared.replies.Failed.TheVariants as failed
 use Rattle.proposal_text.specs.declared.replies.ProposalReply.{ProposalReply}
-use Rattle.proposal_text.specs.declared.replies.ProposalReply.TheVariants.{Book, Positions, Proposed, Bounded, Stale, Unproved}
+use Rattle.proposal_text.specs.declared.replies.ProposalReply.TheVariants.{Book, Positions, Proposed, Bounded, Stale, Unproved, Closed, Reopened, MarketIsClosed, MarketIsOpen}
 use Rattle.reply_print.specs.ReplyPieces.{position_piece}
 use Rattle.proposal_text.specs.Pieces.{submission_piece, stop_word, bounded_end, bounded_middle, failed_word, proposal_piece}
 
@@ -65,3 +65,7 @@ reply_plain line (Bounded number market batch outcome) =
     (refl, tt, (refl, fraction_plain outcome.bound, (refl, certificate_plain outcome.proposal.cover outcome.proposal.measure, middle_plain line market batch outcome)))
 reply_plain line Stale = refused_plain false line 20 0 (codes "Stale") refl
 reply_plain line (Unproved f) = (refl, failed_plain f, (refl, tt, (refl, tt, (refl, refl, (refl, refl, tt)))))
+reply_plain line (Closed market orders) = (refl, tt, (refl, tt, (refl, tt, (refl, refl, tt))))
+reply_plain line (Reopened market) = (refl, tt, (refl, tt, (refl, refl, tt)))
+reply_plain line MarketIsClosed = refused_plain false line 23 0 (codes "Closed") refl
+reply_plain line MarketIsOpen = refused_plain false line 24 0 (codes "Open") refl

@@ -19,13 +19,13 @@ use Rattle.reply_print.specs.Within.{IsAccount, IsMarket, IsOrderNumber, IsBatch
 use Rattle.reply_text.specs.BatchValues.{fraction_from, side_at}
 use Rattle.reply_text.specs.OutcomeValues.{certificate_from, claim_from}
 use Rattle.reply_text.specs.ReplyValues.{account_at, market_at, batch_from, cleared_batch_from}
-use Rattle.reply_text.specs.Taking.{from_to, list_at, take_at}
+use Rattle.reply_text.specs.Taking.{from_to, list_at, natural_at, take_at}
 use Rattle.reply_text.proofs.Sound.{Sound, any, after, mapped, either, where_true, at_key, list_sound, natural_sound, from_sound}
 use Rattle.reply_text.proofs.SoundCleared.{IsBundleListed, IsClearedWithin, batch_sound, bundle_sound, certificate_sound, cleared_batch_sound}
 use Rattle.form.specs.Between.{Between}
 use Rattle.proposal_text.specs.declared.replies.ProposalReply.{ProposalReply}
-use Rattle.proposal_text.specs.declared.replies.ProposalReply.TheVariants.{Book, Positions, Proposed, Stale, Unproved}
-use Rattle.proposal_text.specs.ReplyValues.{are_bounds, are_in_order, are_surpluses, book_from, do_rise, filled, fill_at, position_of, position_from, positions_from, proposed_from, bounded_of, bounded_with, stop_by_word, outcome_from, bounded_from, failed_by_word, reply_by, rising}
+use Rattle.proposal_text.specs.declared.replies.ProposalReply.TheVariants.{Book, Positions, Proposed, Stale, Unproved, Closed, Reopened, MarketIsClosed, MarketIsOpen}
+use Rattle.proposal_text.specs.ReplyValues.{are_bounds, are_in_order, are_surpluses, book_from, do_rise, filled, fill_at, position_of, position_from, positions_from, proposed_from, bounded_of, bounded_with, stop_by_word, outcome_from, bounded_from, closed_from, reopened_from, failed_by_word, refused_by, reply_by, rising}
 use Rattle.proposal_text.specs.Submissions.{proposal_of, proposal_from, order_number_from, few_numbers, order_numbers_at, submission_with, submission_from}
 use Rattle.proposal_text.specs.Within.{AreInOrder, AreRising, IsProposalWithin, IsSubmissionWithin, IsPositionWithin, IsBoundedWithin, IsProposalReplyWithin}
 use Rattle.proposal_text.proofs.RisingNumbers.{rise_are}
@@ -133,9 +133,23 @@ bounded_sound d =
     after IsClearedWithin IsProposalReplyWithin _ (cleared_batch_from d) (cleared_batch_sound d)
     (λ cleared c. mapped IsBoundedWithin IsProposalReplyWithin (bounded_with cleared) (outcome_from d) (outcome_sound d) (λ outcome o. (c.0, c.1, c.2, o)))
 
-refused_sound : (b : Bool) (y : ProposalReply) → IsProposalReplyWithin y → (x : ProposalReply) → IsProposalReplyWithin x → IsProposalReplyWithin (if b then x else y)
-refused_sound true y k x h = h
-refused_sound false y k x h = k
+closed_sound : (d : Data) → IsSoundReply (closed_from d)
+closed_sound d =
+    after IsMarket IsProposalReplyWithin _ (market_at d) (natural_sound 1 MAX_MARKET (codes "market") d)
+    (λ market m. mapped (Between 0 MAX_ORDERS) IsProposalReplyWithin (Closed market) (natural_at 0 MAX_ORDERS (codes "orders") d) (natural_sound 0 MAX_ORDERS (codes "orders") d)
+    (λ orders o. (m, o.1)))
+
+reopened_sound : (d : Data) → IsSoundReply (reopened_from d)
+reopened_sound d = mapped IsMarket IsProposalReplyWithin Reopened (market_at d) (natural_sound 1 MAX_MARKET (codes "market") d) (λ market m. m)
+
+one_within : (b : Bool) (x y : ProposalReply) → IsProposalReplyWithin x → IsProposalReplyWithin y → IsProposalReplyWithin (if b then x else y)
+one_within true x y h k = h
+one_within false x y h k = k
+
+refused_sound : (number : ℕ) (d : Data) → IsProposalReplyWithin (refused_by number d)
+refused_sound number d =
+    let unproved : ProposalReply = Unproved (failed_by_word (word_at (codes "failed") d)) in
+    one_within (number == 20) Stale _ tt (one_within (number == 23) MarketIsClosed _ tt (one_within (number == 24) MarketIsOpen unproved tt tt))
 
 pub reply_sound : (word : List ℕ) (d : Data) → IsSoundReply (reply_by word d)
 reply_sound word d =
@@ -143,4 +157,5 @@ reply_sound word d =
     (either IsProposalReplyWithin (bytes_eq word (codes "positions")) _ _ (positions_sound d)
     (either IsProposalReplyWithin (bytes_eq word (codes "proposed")) _ _ (proposed_sound d)
     (either IsProposalReplyWithin (bytes_eq word (codes "cleared")) _ _ (bounded_sound d)
-    (refused_sound (number_at (codes "number") d == 20) (Unproved (failed_by_word (word_at (codes "failed") d))) tt Stale tt))))
+    (either IsProposalReplyWithin (bytes_eq word (codes "closed")) _ _ (closed_sound d)
+    (either IsProposalReplyWithin (bytes_eq word (codes "reopened")) _ _ (reopened_sound d) (refused_sound (number_at (codes "number") d) d))))))

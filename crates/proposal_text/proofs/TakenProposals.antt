@@ -38,7 +38,7 @@ use Rattle.proposal_text.specs.declared.replies.BoundedOutcome.{BoundedOutcome}
 use Rattle.proposal_text.specs.declared.replies.Failed.{Failed}
 use Rattle.proposal_text.specs.declared.replies.Failed.TheVariants as failed
 use Rattle.proposal_text.specs.declared.replies.ProposalReply.{ProposalReply}
-use Rattle.proposal_text.specs.declared.replies.ProposalReply.TheVariants.{Book, Positions, Proposed, Bounded, Stale, Unproved}
+use Rattle.proposal_text.specs.declared.replies.ProposalReply.TheVariants.{Book, Positions, Proposed, Bounded, Stale, Unproved, Closed, Reopened, MarketIsClosed, MarketIsOpen}
 use Rattle.reply_print.specs.ReplyPieces.{position_piece}
 use Rattle.proposal_text.specs.Pieces.{submission_piece, stop_word, failed_word, proposal_piece}
 use Rattle.proposal_text.specs.ReplyShapes.{position_shape, position_numbers, is_stop, is_failed}
@@ -236,6 +236,24 @@ bounded_taken line number market batch outcome h =
 stale_taken : (line : ℕ) → IsProposalLineWithin line Stale → IsTakenFrom line Stale
 stale_taken line h = record { shape = refl; numbers = refl; taken = paired _ _ line Stale (line_taken line h.0) refl }
 
+closed_taken : (line market orders : ℕ) → IsProposalLineWithin line (Closed market orders) → IsTakenFrom line (Closed market orders)
+closed_taken line market orders h = record {
+  shape = refl;
+  numbers = refl;
+  taken = paired _ _ line _ (line_taken line h.0)
+      (then_taken _ _ market _ (natural_taken 1 MAX_MARKET market h.1.0) (ap (option_map (Closed market)) (natural_taken 0 MAX_ORDERS orders (omega arith, h.1.1))));
+}
+
+reopened_taken : (line market : ℕ) → IsProposalLineWithin line (Reopened market) → IsTakenFrom line (Reopened market)
+reopened_taken line market h =
+    record { shape = refl; numbers = refl; taken = paired _ _ line _ (line_taken line h.0) (ap (option_map Reopened) (natural_taken 1 MAX_MARKET market h.1)) }
+
+is_closed_taken : (line : ℕ) → IsProposalLineWithin line MarketIsClosed → IsTakenFrom line MarketIsClosed
+is_closed_taken line h = record { shape = refl; numbers = refl; taken = paired _ _ line MarketIsClosed (line_taken line h.0) refl }
+
+is_open_taken : (line : ℕ) → IsProposalLineWithin line MarketIsOpen → IsTakenFrom line MarketIsOpen
+is_open_taken line h = record { shape = refl; numbers = refl; taken = paired _ _ line MarketIsOpen (line_taken line h.0) refl }
+
 unproved_taken : (line : ℕ) (f : Failed) → IsProposalLineWithin line (Unproved f) → IsTakenFrom line (Unproved f)
 unproved_taken line f h = record {
   shape = and_from _ _ (failed_is f) refl;
@@ -250,3 +268,7 @@ reply_taken line (Proposed market surplus bound best_surplus least_bound) h = pr
 reply_taken line (Bounded number market batch outcome) h = bounded_taken line number market batch outcome h
 reply_taken line Stale h = stale_taken line h
 reply_taken line (Unproved f) h = unproved_taken line f h
+reply_taken line (Closed market orders) h = closed_taken line market orders h
+reply_taken line (Reopened market) h = reopened_taken line market h
+reply_taken line MarketIsClosed h = is_closed_taken line h
+reply_taken line MarketIsOpen h = is_open_taken line h

@@ -14,7 +14,7 @@ use Rattle.reply_print.proofs.WrittenReplies.{short, each_written, fills_written
 use Rattle.proposal_text.specs.declared.submissions.Submission.{Submission}
 use Rattle.proposal_text.specs.declared.replies.BoundedOutcome.{BoundedOutcome}
 use Rattle.proposal_text.specs.declared.replies.ProposalReply.{ProposalReply}
-use Rattle.proposal_text.specs.declared.replies.ProposalReply.TheVariants.{Book, Positions, Proposed, Bounded, Stale, Unproved}
+use Rattle.proposal_text.specs.declared.replies.ProposalReply.TheVariants.{Book, Positions, Proposed, Bounded, Stale, Unproved, Closed, Reopened, MarketIsClosed, MarketIsOpen}
 use Rattle.reply_print.specs.ReplyPieces.{position_piece}
 use Rattle.proposal_text.specs.Pieces.{submission_piece, bounded_end, bounded_middle, proposal_piece}
 use Rattle.proposal_text.specs.Within.{IsSubmissionWithin, IsPositionWithin, IsBoundedWithin, IsProposalLineWithin}
@@ -162,3 +162,8 @@ reply_written line (Bounded number market batch outcome) h = (
 )
 reply_written line Stale h = (refl, (refl, short line (omega arith), (refl, refl, (refl, refl, (refl, refl, tt)))))
 reply_written line (Unproved f) h = (refl, (refl, failed_plain f, (refl, short line (omega arith), (refl, refl, (refl, refl, (refl, refl, tt))))))
+reply_written line (Closed market orders) h =
+    (refl, (refl, short line (omega arith), (refl, short market (omega arith), (refl, short orders (omega arith), (refl, refl, tt)))))
+reply_written line (Reopened market) h = (refl, (refl, short line (omega arith), (refl, short market (omega arith), (refl, refl, tt))))
+reply_written line MarketIsClosed h = (refl, (refl, short line (omega arith), (refl, refl, (refl, refl, (refl, refl, tt)))))
+reply_written line MarketIsOpen h = (refl, (refl, short line (omega arith), (refl, refl, (refl, refl, (refl, refl, tt)))))

@@ -17,7 +17,7 @@ use Rattle.proposal_text.specs.declared.replies.BoundedOutcome.{BoundedOutcome}
 use Rattle.proposal_text.specs.declared.replies.Failed.{Failed}
 use Rattle.proposal_text.specs.declared.replies.Failed.TheVariants as failed
 use Rattle.proposal_text.specs.declared.replies.ProposalReply.{ProposalReply}
-use Rattle.proposal_text.specs.declared.replies.ProposalReply.TheVariants.{Book, Positions, Proposed, Bounded, Stale, Unproved}
+use Rattle.proposal_text.specs.declared.replies.ProposalReply.TheVariants.{Book, Positions, Proposed, Bounded, Stale, Unproved, Closed, Reopened, MarketIsClosed, MarketIsOpen}
 
 -- ---- proposals
 
@@ -116,6 +116,19 @@ unproved_piece line f =
     (field (codes "reason") (words (codes "Unproved"))
     (field (codes "reply") (words (codes "refused")) no_fields)))))
 
+abbrev pub closed_piece : ℕ → ℕ → ℕ → Piece
+closed_piece line market orders =
+    object (field (codes "line") (natural line)
+    (field (codes "market") (natural market)
+    (field (codes "orders") (natural orders)
+    (field (codes "reply") (words (codes "closed")) no_fields))))
+
+abbrev pub reopened_piece : ℕ → ℕ → Piece
+reopened_piece line market =
+    object (field (codes "line") (natural line)
+    (field (codes "market") (natural market)
+    (field (codes "reply") (words (codes "reopened")) no_fields)))
+
 abbrev pub proposal_piece : ℕ → ProposalReply → Piece
 proposal_piece line (Book market batch) = book_piece line market batch
 proposal_piece line (Positions account market positions) = positions_piece line account market positions
@@ -123,6 +136,10 @@ proposal_piece line (Proposed market surplus bound best_surplus least_bound) = p
 proposal_piece line (Bounded number market batch outcome) = bounded_piece line number market batch outcome
 proposal_piece line Stale = refused_with false line 20 0 (codes "Stale")
 proposal_piece line (Unproved f) = unproved_piece line f
+proposal_piece line (Closed market orders) = closed_piece line market orders
+proposal_piece line (Reopened market) = reopened_piece line market
+proposal_piece line MarketIsClosed = refused_with false line 23 0 (codes "Closed")
+proposal_piece line MarketIsOpen = refused_with false line 24 0 (codes "Open")
 
 -- the line of a reply, without its line feed
 abbrev pub proposal_line : ℕ → ProposalReply → List ℕ

@@ -59,8 +59,15 @@ is_failed d =
     is_word (codes "BatchShape") d
     || (is_word (codes "Fill") d || (is_word (codes "Cover") d || (is_word (codes "Measure") d || is_word (codes "Wide") d)))
 
-abbrev pub stale_shape : Data → Bool
-stale_shape d = has_members 4 d && (has_at (codes "line") is_whole d && has_at (codes "reason") (is_word (codes "Stale")) d)
+abbrev pub closed_shape : Data → Bool
+closed_shape d = has_members 4 d && (has_at (codes "line") is_whole d && (has_at (codes "market") is_whole d && has_at (codes "orders") is_whole d))
+
+abbrev pub reopened_shape : Data → Bool
+reopened_shape d = has_members 3 d && (has_at (codes "line") is_whole d && has_at (codes "market") is_whole d)
+
+-- a refusal of which nothing more is told
+abbrev pub plain_refused_shape : List ℕ → Data → Bool
+plain_refused_shape reason d = has_members 4 d && (has_at (codes "line") is_whole d && has_at (codes "reason") (is_word reason) d)
 
 abbrev pub unproved_shape : Data → Bool
 unproved_shape d =
@@ -69,7 +76,11 @@ unproved_shape d =
 
 -- by the number of the refusal
 abbrev pub refused_shape : ℕ → Data → Bool
-refused_shape number d = if number == 20 then stale_shape d else number == 21 && unproved_shape d
+refused_shape number d =
+    if number == 20 then plain_refused_shape (codes "Stale") d
+    else if number == 21 then unproved_shape d
+    else if number == 23 then plain_refused_shape (codes "Closed") d
+    else number == 24 && plain_refused_shape (codes "Open") d
 
 -- by the word of the reply
 abbrev pub shape_by : List ℕ → Data → Bool
@@ -78,6 +89,8 @@ shape_by word d =
     else if bytes_eq word (codes "positions") then positions_shape d
     else if bytes_eq word (codes "proposed") then proposed_shape d
     else if bytes_eq word (codes "cleared") then bounded_shape d
+    else if bytes_eq word (codes "closed") then closed_shape d
+    else if bytes_eq word (codes "reopened") then reopened_shape d
     else bytes_eq word (codes "refused") && refused_shape (number_at (codes "number") d) d
 
 -- ---- texts of numbers

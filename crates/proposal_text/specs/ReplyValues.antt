@@ -13,7 +13,7 @@ use Rattle.frac.specs.declared.frac128.Frac128.{Frac128}
 use Rattle.settlement.specs.declared.position.Position.{Position}
 use Rattle.serde_json.specs.Data.{Data}
 use Rattle.cert_check.specs.declared.outcome.Proposal.{Proposal}
-use Rattle.form.specs.declared.limits.TheConstants.{MAX_BUDGET, MAX_ORDER}
+use Rattle.form.specs.declared.limits.TheConstants.{MAX_BUDGET, MAX_ORDER, MAX_ORDERS}
 use Rattle.limits.specs.declared.TheConstants.{MAX_BATCHES}
 use Rattle.reply_print.specs.Look.{word_at, number_at}
 use Rattle.reply_text.specs.BatchValues.{fraction_from, bundle_from, side_at}
@@ -28,7 +28,7 @@ use Rattle.proposal_text.specs.declared.replies.BoundedOutcome.{BoundedOutcome}
 use Rattle.proposal_text.specs.declared.replies.Failed.{Failed}
 use Rattle.proposal_text.specs.declared.replies.Failed.TheVariants as failed
 use Rattle.proposal_text.specs.declared.replies.ProposalReply.{ProposalReply}
-use Rattle.proposal_text.specs.declared.replies.ProposalReply.TheVariants.{Book, Positions, Proposed, Bounded, Stale, Unproved}
+use Rattle.proposal_text.specs.declared.replies.ProposalReply.TheVariants.{Book, Positions, Proposed, Bounded, Stale, Unproved, Closed, Reopened, MarketIsClosed, MarketIsOpen}
 use Rattle.proposal_text.specs.Pieces.{proposal_line}
 use Rattle.proposal_text.specs.ReplyShapes.{numbers_by, shape_by}
 use Rattle.proposal_text.specs.Submissions.{proposal_from}
@@ -130,6 +130,14 @@ bounded_with cleared outcome = Bounded cleared.number cleared.market cleared.bat
 abbrev pub bounded_from : Data → Option ProposalReply
 bounded_from d = option_and_then (λ cleared. option_map (bounded_with cleared) (outcome_from d)) (cleared_batch_from d)
 
+-- ---- phases
+
+abbrev pub closed_from : Data → Option ProposalReply
+closed_from d = option_and_then (λ market. option_map (Closed market) (natural_at 0 MAX_ORDERS (codes "orders") d)) (market_at d)
+
+abbrev pub reopened_from : Data → Option ProposalReply
+reopened_from d = option_map Reopened (market_at d)
+
 -- ---- refusals
 
 abbrev pub failed_by_word : List ℕ → Failed
@@ -140,8 +148,16 @@ failed_by_word word =
     else if bytes_eq word (codes "Measure") then failed.Measure
     else failed.Wide
 
+-- by the number of the refusal
+abbrev pub refused_by : ℕ → Data → ProposalReply
+refused_by number d =
+    if number == 20 then Stale
+    else if number == 23 then MarketIsClosed
+    else if number == 24 then MarketIsOpen
+    else Unproved (failed_by_word (word_at (codes "failed") d))
+
 abbrev pub refused_from : Data → ProposalReply
-refused_from d = if number_at (codes "number") d == 20 then Stale else Unproved (failed_by_word (word_at (codes "failed") d))
+refused_from d = refused_by (number_at (codes "number") d) d
 
 -- ---- the whole line
 
@@ -151,6 +167,8 @@ reply_by word d =
     else if bytes_eq word (codes "positions") then positions_from d
     else if bytes_eq word (codes "proposed") then proposed_from d
     else if bytes_eq word (codes "cleared") then bounded_from d
+    else if bytes_eq word (codes "closed") then closed_from d
+    else if bytes_eq word (codes "reopened") then reopened_from d
     else Some (refused_from d)
 
 abbrev pub proposal_replies : ReplyTests ProposalReply

@@ -17,7 +17,7 @@ use Rattle.reply_print.specs.Within.{IsLine, IsAccount, IsMarket, IsOrderNumber,
 use Rattle.proposal_text.specs.declared.submissions.Submission.{Submission}
 use Rattle.proposal_text.specs.declared.replies.BoundedOutcome.{BoundedOutcome}
 use Rattle.proposal_text.specs.declared.replies.ProposalReply.{ProposalReply}
-use Rattle.proposal_text.specs.declared.replies.ProposalReply.TheVariants.{Book, Positions, Proposed, Bounded, Stale, Unproved}
+use Rattle.proposal_text.specs.declared.replies.ProposalReply.TheVariants.{Book, Positions, Proposed, Bounded, Stale, Unproved, Closed, Reopened, MarketIsClosed, MarketIsOpen}
 
 -- a cover and a measure of numbers of 128 bits
 abbrev pub IsProposalWithin : Proposal → Type 0
@@ -57,6 +57,10 @@ IsProposalReplyWithin (Proposed market surplus bound best_surplus least_bound) =
 IsProposalReplyWithin (Bounded number market batch outcome) = IsBatchNumber number × IsMarket market × IsBatchWithin batch × IsBoundedWithin outcome
 IsProposalReplyWithin Stale = ⊤
 IsProposalReplyWithin (Unproved f) = ⊤
+IsProposalReplyWithin (Closed market orders) = IsMarket market × (orders ≤ MAX_ORDERS)
+IsProposalReplyWithin (Reopened market) = IsMarket market
+IsProposalReplyWithin MarketIsClosed = ⊤
+IsProposalReplyWithin MarketIsOpen = ⊤
 
 -- a line and its reply
 abbrev pub IsProposalLineWithin : ℕ → ProposalReply → Type 0

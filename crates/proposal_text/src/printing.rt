@@ -1,8 +1,8 @@
 // The lines of replies, put together from their pieces.
-ghost use Rattle.std.specs.Prelude.{◌≡◌, ◌++◌, IfOk, OnOk, codes, false};
+ghost use Rattle.std.specs.Prelude.{◌≡◌, ◌++◌, IfOk, OnOk, false};
 ghost use Rattle.reply_print.specs.Piece.{piece_text};
 ghost use Rattle.reply_print.specs.ReplyPieces.{refused_with};
-ghost use Rattle.proposal_text.specs.Pieces.{book_piece, failed_word, positions_piece, proposal_line, proposal_piece, proposed_piece, unproved_piece};
+ghost use Rattle.proposal_text.specs.Pieces.{book_piece, closed_piece, failed_word, positions_piece, proposal_line, proposal_piece, proposed_piece, reopened_piece, unproved_piece};
 
 use crate::bounded_lines::add_bounded;
 use crate::replies::{Failed, ProposalReply};
@@ -67,15 +67,39 @@ fn add_proposed(
     append(line, "}")
 }
 
-fn add_stale(line: &mut Vec<u8>, at: u32) -> Result<(), AllocError>
+// A refusal of which nothing more is told.
+fn add_refused(line: &mut Vec<u8>, at: u32, number: u64, reason: &str) -> Result<(), AllocError>
     ensures { OnOk result (line.new.items
-        ≡ line.old.items ++ piece_text (refused_with false at 20 0 (codes "Stale"))) }
+        ≡ line.old.items ++ piece_text (refused_with false at number 0 reason.now)) }
 {
     append(line, "{")?;
     add_number(line, false, "line", u64::from(at))?;
-    add_number(line, true, "number", 20)?;
-    add_words(line, true, "reason", "Stale")?;
+    add_number(line, true, "number", number)?;
+    add_words(line, true, "reason", reason)?;
     add_words(line, true, "reply", "refused")?;
+    append(line, "}")
+}
+
+fn add_closed(line: &mut Vec<u8>, at: u32, market: u32, orders: u32) -> Result<(), AllocError>
+    ensures { OnOk result (line.new.items
+        ≡ line.old.items ++ piece_text (closed_piece at market orders)) }
+{
+    append(line, "{")?;
+    add_number(line, false, "line", u64::from(at))?;
+    add_number(line, true, "market", u64::from(market))?;
+    add_number(line, true, "orders", u64::from(orders))?;
+    add_words(line, true, "reply", "closed")?;
+    append(line, "}")
+}
+
+fn add_reopened(line: &mut Vec<u8>, at: u32, market: u32) -> Result<(), AllocError>
+    ensures { OnOk result (line.new.items
+        ≡ line.old.items ++ piece_text (reopened_piece at market)) }
+{
+    append(line, "{")?;
+    add_number(line, false, "line", u64::from(at))?;
+    add_number(line, true, "market", u64::from(market))?;
+    add_words(line, true, "reply", "reopened")?;
     append(line, "}")
 }
 
@@ -135,8 +159,12 @@ fn add_reply(line: &mut Vec<u8>, at: u32, reply: &ProposalReply) -> Result<(), A
             batch,
             outcome,
         } => add_bounded(line, at, *number, *market, batch, outcome),
-        ProposalReply::Stale => add_stale(line, at),
+        ProposalReply::Stale => add_refused(line, at, 20, "Stale"),
         ProposalReply::Unproved { failed } => add_unproved(line, at, *failed),
+        ProposalReply::Closed { market, orders } => add_closed(line, at, *market, *orders),
+        ProposalReply::Reopened { market } => add_reopened(line, at, *market),
+        ProposalReply::MarketIsClosed => add_refused(line, at, 23, "Closed"),
+        ProposalReply::MarketIsOpen => add_refused(line, at, 24, "Open"),
     }
 }
 

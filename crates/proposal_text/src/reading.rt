@@ -8,10 +8,13 @@ ghost use Rattle.proposal_text.specs.ReplyValues.{IsProposalLineOf, proposal_rep
 use crate::printing::print_proposal_reply;
 use crate::replies::ProposalReply;
 use crate::reply_shapes::{
-    are_numbered, book_shape, bounded_shape, positions_shape, proposed_numbers, proposed_shape,
-    refused_shape,
+    are_numbered, book_shape, bounded_shape, closed_shape, positions_shape, proposed_numbers,
+    proposed_shape, refused_shape, reopened_shape,
 };
-use crate::reply_values::{book_from, bounded_from, positions_from, proposed_from, refused_from};
+use crate::reply_values::{
+    book_from, bounded_from, closed_from, positions_from, proposed_from, refused_from,
+    reopened_from,
+};
 use crate::submission_text::proposal_numbers;
 use reply_print::cleared_numbers::has_fraction;
 use reply_print::look::{has_at, number_at};
@@ -30,6 +33,8 @@ impl TestedReply for ProposalReply {
             "positions" => positions_shape(value),
             "proposed" => proposed_shape(value),
             "cleared" => bounded_shape(value),
+            "closed" => closed_shape(value),
+            "reopened" => reopened_shape(value),
             "refused" => refused_shape(value, number_at(value, "number")),
             _ => false,
         }
@@ -50,6 +55,8 @@ impl TestedReply for ProposalReply {
             "positions" => positions_from(alloc, value),
             "proposed" => Ok(proposed_from(value)),
             "cleared" => bounded_from(alloc, value),
+            "closed" => Ok(closed_from(value)),
+            "reopened" => Ok(reopened_from(value)),
             _ => Ok(Some(refused_from(value))),
         }
     }

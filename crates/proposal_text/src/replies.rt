@@ -1,4 +1,5 @@
-//! The replies that `serve` has to lines of proposals, and to a clear whose outcome was proposed.
+//! The replies that `serve` has to lines of proposals and of phases, and to a clear whose outcome
+//! was proposed.
 ghost use Rattle.std.specs.Prelude.{◌≡◌, ◌≢◌};
 ghost use Rattle.cert_check.specs.declared.outcome.No.TheVariants as no;
 ghost use Rattle.cert_check.specs.declared.outcome.Unproved.TheVariants as unproved;
@@ -51,7 +52,7 @@ pub enum Failed {
     Wide,
 }
 
-/// What a line about proposals is answered, and a clear whose outcome was proposed.
+/// What a line about proposals or phases is answered, and a clear whose outcome was proposed.
 #[derive(Debug, Drop)]
 pub enum ProposalReply {
     /// The live orders of a market, by rising number.
@@ -87,6 +88,19 @@ pub enum ProposalReply {
     Unproved {
         failed: Failed,
     },
+    /// The market is closed from here on, with so many live orders.
+    Closed {
+        market: u32,
+        orders: u32,
+    },
+    /// The market is open again.
+    Reopened {
+        market: u32,
+    },
+    /// The market is closed, so that it is not closed again, and no order comes or goes in it.
+    MarketIsClosed,
+    /// The market is not closed, so that it is not opened again.
+    MarketIsOpen,
 }
 
 /// What a proposal fails that is judged no bound, which is never the bound itself.

@@ -2,7 +2,7 @@
 ghost use Rattle.std.specs.Prelude.{◌≡◌};
 ghost use Rattle.serde_json.specs.View.{view};
 ghost use Rattle.reply_print.specs.Look.{is_list as list_passes};
-ghost use Rattle.proposal_text.specs.ReplyShapes.{are_orders as orders_are, book_shape as book_is, bounded_shape as bounded_is, counts_shape as counts_are, is_failed as failed_is, is_stop as stop_is, position_numbers as position_is_numbered, position_shape as position_is, positions_shape as positions_are, proposed_numbers as proposed_is_numbered, proposed_shape as proposed_is, refused_shape as refused_is, stale_shape as stale_is, unproved_shape as unproved_is};
+ghost use Rattle.proposal_text.specs.ReplyShapes.{are_orders as orders_are, book_shape as book_is, bounded_shape as bounded_is, closed_shape as closed_is, counts_shape as counts_are, is_failed as failed_is, is_stop as stop_is, plain_refused_shape as plain_refused_is, position_numbers as position_is_numbered, position_shape as position_is, positions_shape as positions_are, proposed_numbers as proposed_is_numbered, proposed_shape as proposed_is, refused_shape as refused_is, reopened_shape as reopened_is, unproved_shape as unproved_is};
 
 use crate::submission_text::proposal_shape;
 use reply_print::cleared_numbers::has_fraction;
@@ -106,10 +106,26 @@ fn is_failed(value: &Value) -> bool
         || is_word(value, "Wide")
 }
 
-fn stale_shape(value: &Value) -> bool
-    ensures { result ≡ stale_is (view value.now) }
+pub(crate) fn closed_shape(value: &Value) -> bool
+    ensures { result ≡ closed_is (view value.now) }
 {
-    has_members(value, 4) && has_whole(value, "line") && has_word(value, "reason", "Stale")
+    has_members(value, 4)
+        && has_whole(value, "line")
+        && has_whole(value, "market")
+        && has_whole(value, "orders")
+}
+
+pub(crate) fn reopened_shape(value: &Value) -> bool
+    ensures { result ≡ reopened_is (view value.now) }
+{
+    has_members(value, 3) && has_whole(value, "line") && has_whole(value, "market")
+}
+
+// A refusal of which nothing more is told.
+fn plain_refused_shape(value: &Value, reason: &str) -> bool
+    ensures { result ≡ plain_refused_is reason.now (view value.now) }
+{
+    has_members(value, 4) && has_whole(value, "line") && has_word(value, "reason", reason)
 }
 
 fn unproved_shape(value: &Value) -> bool
@@ -125,9 +141,13 @@ pub(crate) fn refused_shape(value: &Value, number: u64) -> bool
     ensures { result ≡ refused_is number (view value.now) }
 {
     if number == 20 {
-        stale_shape(value)
+        plain_refused_shape(value, "Stale")
+    } else if number == 21 {
+        unproved_shape(value)
+    } else if number == 23 {
+        plain_refused_shape(value, "Closed")
     } else {
-        number == 21 && unproved_shape(value)
+        number == 24 && plain_refused_shape(value, "Open")
     }
 }
 

@@ -3,12 +3,12 @@ ghost use Rattle.std.specs.Prelude.{◌≡◌, IfOk};
 ghost use Rattle.exact_num.specs.Tests.{is_not_below_zero};
 ghost use Rattle.frac.specs.Value.{fraction_of};
 ghost use Rattle.serde_json.specs.View.{view};
-ghost use Rattle.proposal_text.specs.ReplyValues.{are_bounds as bounds_are, are_in_order as is_ordered, are_surpluses as surpluses_are, book_from as book_is, bounded_from as bounded_is, do_rise, failed_by_word as failed_named, fill_at as fill_found, outcome_from as outcome_is, position_from as position_is, positions_from as positions_are, proposed_from as proposed_is, refused_from as refused_is, stop_by_word as stop_named};
+ghost use Rattle.proposal_text.specs.ReplyValues.{are_bounds as bounds_are, are_in_order as is_ordered, are_surpluses as surpluses_are, book_from as book_is, bounded_from as bounded_is, closed_from as closed_is, do_rise, failed_by_word as failed_named, fill_at as fill_found, outcome_from as outcome_is, position_from as position_is, positions_from as positions_are, proposed_from as proposed_is, refused_from as refused_is, reopened_from as reopened_is, stop_by_word as stop_named};
 
 use crate::replies::{BoundedOutcome, Failed, Positions, ProposalReply, RunStop};
 use crate::submission_text::proposal_from;
 use exact_num::Exact;
-use form::{MAX_BUDGET, Order};
+use form::{MAX_BUDGET, MAX_ORDERS, Order};
 use frac::Frac128;
 use reply_print::look::{number_at, word_at};
 use reply_text::batch_values::{batch_from, bundle_from, cleared_batch_from, side_at};
@@ -218,6 +218,24 @@ pub(crate) fn bounded_from(
     }))
 }
 
+pub(crate) fn closed_from(value: &Value) -> Option<ProposalReply>
+    ensures { result ≡ closed_is (view value.now) }
+{
+    let market = market_at(value)?;
+    let orders = natural_at(value, 0, MAX_ORDERS as u64, "orders")?;
+    Some(ProposalReply::Closed {
+        market,
+        orders: orders as u32,
+    })
+}
+
+pub(crate) fn reopened_from(value: &Value) -> Option<ProposalReply>
+    ensures { result ≡ reopened_is (view value.now) }
+{
+    let market = market_at(value)?;
+    Some(ProposalReply::Reopened { market })
+}
+
 fn failed(word: &str) -> Failed
     ensures { result ≡ failed_named word.now }
 {
@@ -237,8 +255,13 @@ fn failed(word: &str) -> Failed
 pub(crate) fn refused_from(value: &Value) -> ProposalReply
     ensures { result ≡ refused_is (view value.now) }
 {
-    if number_at(value, "number") == 20 {
+    let number = number_at(value, "number");
+    if number == 20 {
         ProposalReply::Stale
+    } else if number == 23 {
+        ProposalReply::MarketIsClosed
+    } else if number == 24 {
+        ProposalReply::MarketIsOpen
     } else {
         ProposalReply::Unproved {
             failed: failed(word_at(value, "failed")),
