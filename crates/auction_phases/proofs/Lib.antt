@@ -1,4 +1,5 @@
 pub mod Barred
 pub mod ClosedLists
+pub mod Ends
 pub mod LiveElsewhere
 pub mod StandingStill

@@ -22,7 +22,7 @@ use Rattle.auction_phases.proofs.LiveElsewhere.{live-cancelled, live-changed, li
 
 module _ (market : ℕ) (closed : List ℕ) (shut : is_closed closed market ≡ true) where
   -- ---- the closed markets
-  open_other : (other : Option ℕ) → option_map_or (nat_eq market) other false ≡ false → is_closed (option_map_or (with_open closed) other closed) market ≡ true
+  pub open_other : (other : Option ℕ) → option_map_or (nat_eq market) other false ≡ false → is_closed (option_map_or (with_open closed) other closed) market ≡ true
   open_other None apart = shut
   open_other (Some other) apart = stays_closed market other apart closed shut
 
@@ -62,7 +62,7 @@ module _ (market : ℕ) (closed : List ℕ) (shut : is_closed closed market ≡ 
     live_left (Balance account) elsewhere meanwhile = refl
 
     -- whether it is accepted or not
-    live_stepped : (command : Command) → bars closed state command ≡ false → option_map_or (nat_eq market) (ended_by (step state command).0) false ≡ false
+    pub live_stepped : (command : Command) → bars closed state command ≡ false → option_map_or (nat_eq market) (ended_by (step state command).0) false ≡ false
         → live_of (step state command).1.book market ≡ live_of state.book market
     live_stepped command through meanwhile = by (refusal_of state command) through meanwhile
       where

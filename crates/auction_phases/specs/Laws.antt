@@ -13,7 +13,7 @@ use Rattle.exchange_core.specs.ExchangeState.{ExchangeState}
 use Rattle.exchange_core.specs.Kept.{IsKept}
 use Rattle.exchange_core.specs.Refusals.{by_book}
 use Rattle.exchange_core.specs.Step.{batch_in, cleared_with, step}
-use Rattle.auction_phases.specs.Phases.{after_reply, bars, ended_by, is_closed, with_closed, with_open}
+use Rattle.auction_phases.specs.Phases.{after_reply, bars, ended_by, ended_in, is_closed, with_closed, with_open}
 use Rattle.auction_phases.specs.Refusals.{close_refusals, reopen_refusals}
 
 -- an exchange, and its closed markets
@@ -80,6 +80,10 @@ AreMeanwhile market state (event ∷ events) =
 pub record StandsStill (market : ℕ) (before after : Phased) : Type 0 where
   pub closed : is_closed after.closed market ≡ true
   pub live : live_of after.exchange.book market ≡ live_of before.exchange.book market
+
+-- what a command clears or settles is told by its reply as before it
+abbrev pub EndsAreTold : Type 0
+EndsAreTold = (state : ExchangeState) (command : Command) → ended_by (step state command).0 ≡ ended_in state command
 
 abbrev pub ClosedMarketStandsStill : Type 0
 ClosedMarketStandsStill =

@@ -7,6 +7,7 @@ use Rattle.command_text.specs.declared.command.Command.TheVariants.{Open, Deposi
 use Rattle.order_book.specs.Markets.{holder_of}
 use Rattle.reply_print.specs.declared.replies.Reply.{Reply}
 use Rattle.reply_print.specs.declared.replies.Reply.TheVariants as reply
+use Rattle.exchange_core.specs.declared.refusal.Refusal.{Refusal}
 use Rattle.exchange_core.specs.ExchangeState.{ExchangeState}
 use Rattle.exchange_core.specs.Refusals.{refusal_of}
 
@@ -52,5 +53,26 @@ ended_by (reply.Settled market lapsed payouts) = Some market
 ended_by (reply.Balance account balance reserved) = None
 ended_by (reply.Refused number field) = None
 
+-- where a market is cleared or settled, it is open again
+abbrev pub after_end : List ℕ → Option ℕ → List ℕ
+after_end closed ended = option_map_or (with_open closed) ended closed
+
 abbrev pub after_reply : List ℕ → Reply → List ℕ
-after_reply closed reply = option_map_or (with_open closed) (ended_by reply) closed
+after_reply closed reply = after_end closed (ended_by reply)
+
+-- ---- the same, before the reply
+abbrev pub unless_refused : Option Refusal → ℕ → Option ℕ
+unless_refused refused market = option_map_or (λ first. None) refused (Some market)
+
+-- the market that a command clears or settles, where nothing refuses it
+abbrev pub ended_in : ExchangeState → Command → Option ℕ
+ended_in state (Open account) = None
+ended_in state (Deposit account amount) = None
+ended_in state (Withdraw account amount) = None
+ended_in state (Market market underlyings) = None
+ended_in state (Trade side account market kind strike price quantity count weights) = None
+ended_in state (Bundle side account market price quantity bundle) = None
+ended_in state (Cancel account order) = None
+ended_in state (Clear market budget) = unless_refused (refusal_of state (Clear market budget)) market
+ended_in state (Settle market count prices) = unless_refused (refusal_of state (Settle market count prices)) market
+ended_in state (Balance account) = None

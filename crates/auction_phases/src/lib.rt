@@ -8,5 +8,5 @@ pub mod laws;
 mod phases;
 mod refusal;
 
-pub use phases::Phases;
+pub use phases::{Phases, ended_in};
 pub use refusal::{PhaseFailure, PhaseRefusal};

@@ -2,15 +2,15 @@
 ghost use Rattle.std.specs.Prelude.{◌≡◌, [], ◌&&◌, length, is_none, Some, IfOk, OnOk, OnErr};
 ghost use Rattle.command_text.specs.Within.{IsWithin};
 ghost use Rattle.command_text.specs.declared.command.Command.TheVariants as Command;
-ghost use Rattle.lists.specs.Refusals.{TellsFirst, first_of};
+ghost use Rattle.lists.specs.Refusals.{TellsFirst, first_of, refusal_in};
 ghost use Rattle.order_book.specs.Book.{live_of};
 ghost use Rattle.order_book.specs.Within.{IsNewOrderWithin};
 ghost use Rattle.exchange_core.specs.Refusals.{place_refusals};
-ghost use Rattle.auction_phases.specs.Phases.{after_reply, bars, is_closed, with_closed, with_open};
+ghost use Rattle.auction_phases.specs.Phases.{after_end, bars, ended_in, is_closed, unless_refused, with_closed, with_open};
 ghost use Rattle.auction_phases.specs.Refusals.{close_refusals, reopen_refusals, trading_refusals, unless_memory};
 
 use crate::refusal::{PhaseFailure, PhaseRefusal};
-use exchange_core::{Command, Exchange, NewOrder, Refusal, Reply, order_of};
+use exchange_core::{Command, Exchange, NewOrder, Refusal, order_of};
 use std::alloc::Global;
 use std::marker::Model;
 
@@ -41,6 +41,29 @@ fn trading(exchange: &Exchange, market: u32) -> Result<u32, PhaseRefusal>
         return Err(PhaseRefusal::Exchange(Refusal::Settled));
     }
     Ok(info.live)
+}
+
+// The market, where nothing is refused.
+fn unless_refused(checked: Result<(), Refusal>, market: u32) -> Option<u32>
+    ensures { result ≡ unless_refused (refusal_in (λ refusal. Some refusal) checked) market }
+{
+    match checked {
+        Ok(()) => Some(market),
+        Err(_) => None,
+    }
+}
+
+/// The market that a command clears or settles, where the exchange accepts it. Takes no memory.
+pub fn ended_in(exchange: &Exchange, command: &Command) -> Option<u32>
+    ensures { result ≡ ended_in exchange.now command.now }
+{
+    match command {
+        Command::Clear { market, .. } => unless_refused(exchange.check_clear(*market), *market),
+        Command::Settle { market, count, .. } => {
+            unless_refused(exchange.check_settlement(*market, *count), *market)
+        }
+        _ => None,
+    }
 }
 
 impl Phases {
@@ -106,14 +129,12 @@ impl Phases {
         self.closed.retain(|closed| *closed != market);
     }
 
-    /// Opens the market that a reply tells as cleared, whatever the mark, or as settled.
-    pub fn after(&mut self, reply: &Reply)
-        ensures { self.new ≡ after_reply self.old reply.now }
+    /// Opens the market that was cleared or settled, where one was.
+    pub fn after_end(&mut self, ended: Option<u32>)
+        ensures { self.new ≡ after_end self.old ended }
     {
-        match reply {
-            Reply::Cleared { market, .. } => self.open(*market),
-            Reply::Settled { market, .. } => self.open(*market),
-            _ => {}
+        if let Some(market) = ended {
+            self.open(market);
         }
     }
 

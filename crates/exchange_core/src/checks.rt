@@ -1,11 +1,12 @@
 // What is looked at before a command has an effect. It takes no memory.
 ghost use Rattle.std.specs.Prelude.{◌≡◌, ◌≢◌, Err};
 ghost use Rattle.cash_ledger.specs.Refusals.{funds_refusals};
+ghost use Rattle.order_book.specs.Refusals.{batch_refusals, close_refusals};
 ghost use Rattle.order_book.specs.Within.{IsNewOrderWithin};
 ghost use Rattle.command_text.specs.declared.command.Command.TheVariants as Command;
 ghost use Rattle.exchange_core.specs.ExchangeState.{without_positions};
 ghost use Rattle.exchange_core.specs.Kept.{AreJoined};
-ghost use Rattle.exchange_core.specs.Refusals.{by_ledger, refusals, place_refusals};
+ghost use Rattle.exchange_core.specs.Refusals.{by_book, by_ledger, refusals, place_refusals};
 ghost use Rattle.exchange_core.specs.Failures.{unless_memory};
 ghost use Rattle.exchange_core.specs.declared.failure.Failure.TheVariants as Failure;
 ghost use Rattle.lists.specs.Refusals.{TellsFirst};
@@ -42,6 +43,26 @@ pub(crate) fn check_cancel(
 {
     ledger.check_account(account)?;
     book.check_cancel(account, number)?;
+    Ok(())
+}
+
+// Looks whether a market may be cleared.
+pub(crate) fn check_clear(book: &Book, market: u32) -> Result<(), Failure>
+    ensures refused { TellsFirst unless_memory result
+        (by_book (batch_refusals book.now market)) }
+    ensures no_memory { result ≢ Err Failure.Memory }
+{
+    book.check_batch(market)?;
+    Ok(())
+}
+
+// Looks whether a market may be settled at this number of prices.
+pub(crate) fn check_settlement(book: &Book, market: u32, count: u8) -> Result<(), Failure>
+    ensures refused { TellsFirst unless_memory result
+        (by_book (close_refusals book.now market count)) }
+    ensures no_memory { result ≢ Err Failure.Memory }
+{
+    book.check_close(market, count)?;
     Ok(())
 }
 

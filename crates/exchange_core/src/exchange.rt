@@ -9,7 +9,7 @@ ghost use Rattle.frac.specs.Value.{fraction_of};
 ghost use Rattle.form.specs.Limits.{IsWithinLimits};
 ghost use Rattle.order_book.specs.Book.{batch_of, info_in, is_trading, market_of};
 ghost use Rattle.order_book.specs.Markets.{holder_of};
-ghost use Rattle.order_book.specs.Refusals.{batch_refusals, live_refusals, unless_memory as unless_no_memory};
+ghost use Rattle.order_book.specs.Refusals.{batch_refusals, close_refusals, live_refusals, unless_memory as unless_no_memory};
 ghost use Rattle.order_book.specs.Within.{IsNewOrderWithin};
 ghost use Rattle.limits.specs.declared.TheConstants.{MAX_BATCHES};
 ghost use Rattle.lists.specs.Refusals.{TellsFirst};
@@ -27,7 +27,7 @@ ghost use Rattle.command_text.specs.Within.{IsWithin, IsAccount, IsAmount, IsBud
 ghost use Rattle.form.specs.Between.{Between};
 ghost use Rattle.form.specs.declared.limits.TheConstants.{MAX_ORDERS, MAX_UNDERLYINGS};
 
-use crate::checks::{check_cancel, check_place, check_withdrawal};
+use crate::checks::{check_cancel, check_clear, check_place, check_settlement, check_withdrawal};
 use crate::clear::charge_fills;
 use crate::failure::{Failure, refusal_of};
 use crate::held::in_order;
@@ -144,6 +144,23 @@ impl Exchange {
             (refusals self.now (Command.Withdraw account amount)) }
     {
         refusal_of(check_withdrawal(&self.ledger, account, amount))
+    }
+
+    /// Looks whether a market may be cleared. The refusals are those of the command `clear`. Takes
+    /// no memory.
+    pub fn check_clear(&self, market: u32) -> Result<(), Refusal>
+        ensures { TellsFirst (λ r. Some r) result (by_book (batch_refusals self.now.book market)) }
+    {
+        refusal_of(check_clear(&self.book, market))
+    }
+
+    /// Looks whether a market may be settled at this number of prices. The refusals are those of
+    /// the command `settle`. Takes no memory.
+    pub fn check_settlement(&self, market: u32, count: u8) -> Result<(), Refusal>
+        ensures { TellsFirst (λ r. Some r) result
+            (by_book (close_refusals self.now.book market count)) }
+    {
+        refusal_of(check_settlement(&self.book, market, count))
     }
 
     /// The live orders of a market as a batch, or why there is none.

@@ -255,6 +255,24 @@ impl Book {
         Ok(found.batch(self.alloc)?)
     }
 
+    /// Looks whether a batch of a market may be finished.
+    ///
+    /// The first of these: `NoMarket` where no market has the number; `Settled` where it is
+    /// settled; `TooMany` where 2,000,000 batches were finished. Takes no memory.
+    pub fn check_batch(&self, market: u32) -> Result<(), BookRefusal>
+        ensures refused { TellsFirst unless_memory result (batch_refusals self.now market) }
+        ensures no_memory { result ≢ Err BookRefusal.Memory }
+    {
+        let market = self.info(market).ok_or(BookRefusal::NoMarket)?;
+        if market.settled {
+            return Err(BookRefusal::Settled);
+        }
+        if u64::from(self.finished) >= MAX_BATCHES {
+            return Err(BookRefusal::TooMany);
+        }
+        Ok(())
+    }
+
     /// The live orders of a market, in rising number: the next batch.
     ///
     /// The first of these: `NoMarket` where no market has the number; `Settled` where it is
