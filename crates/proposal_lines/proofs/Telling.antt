@@ -91,7 +91,7 @@ module _ (state : ProposingState) (line : InputLine) (sound : IsSound state) whe
   abbrev pub Told : List ℕ × ProposingState → Type 0
   Told = IsTold state line
 
-  beside_told : (now : List ℕ × ProposingState) → IsBesideProposals line.number now.0 → now.1.exchange ≡ state.exchange → now.1.kept ≡ state.kept → Told now
+  pub beside_told : (now : List ℕ × ProposingState) → IsBesideProposals line.number now.0 → now.1.exchange ≡ state.exchange → now.1.kept ≡ state.kept → Told now
   beside_told now text same kept = record {
     answer = beside line.number now.0;
     told = record { of_line = refl; of_kind = text; exchange = same; kept = kept };

@@ -167,8 +167,15 @@ impl ProposalLines {
         }
     }
 
-    // The answer to a line of these bytes that says this.
-    fn answer_line(
+    /// The exchange, of which may be asked what it would answer.
+    pub fn exchange(&self) -> &Exchange
+        ensures { result.now ≡ self.now.exchange }
+    {
+        &self.exchange
+    }
+
+    /// The answer to a line of these bytes that says this. The only error is want of memory.
+    pub fn answer_line(
         &mut self,
         alloc: Global,
         number: u32,

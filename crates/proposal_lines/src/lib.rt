@@ -18,4 +18,4 @@ mod replies;
 
 pub use answers::ProposalLines;
 pub use proposed::Proposed;
-pub use replies::ProposingReply;
+pub use replies::{ProposingReply, print_line};

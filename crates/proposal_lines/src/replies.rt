@@ -39,12 +39,8 @@ pub(crate) fn refused(failure: Failure) -> Result<ProposingReply, AllocError>
     }
 }
 
-// The line of a reply and a line feed.
-pub(crate) fn print_line(
-    alloc: Global,
-    line: u32,
-    reply: &ProposingReply,
-) -> Result<Vec<u8>, AllocError>
+/// The line of a reply and a line feed. The only error is want of memory.
+pub fn print_line(alloc: Global, line: u32, reply: &ProposingReply) -> Result<Vec<u8>, AllocError>
     ensures { IfOk result (λ text. text.items ≡ proposing_reply_line line reply.now ++ 10 ∷ []) }
 {
     let mut text = match reply {
