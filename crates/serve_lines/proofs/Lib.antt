@@ -1,0 +1,4 @@
+pub mod Ends
+pub mod StandingStill
+pub mod Telling
+pub mod Without

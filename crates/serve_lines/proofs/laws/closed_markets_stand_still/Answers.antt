@@ -1,0 +1,5 @@
+use Rattle.serve_lines.proofs.StandingStill.{closed_markets_stand_still}
+use Rattle.serve_lines.proofs.laws.closed_markets_stand_still.Goals as goal
+
+pub returns : goal.returns
+returns c = closed_markets_stand_still

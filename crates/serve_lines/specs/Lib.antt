@@ -1,0 +1,5 @@
+pub mod ServingState
+pub mod Phased
+pub mod Output
+pub mod Promises
+pub mod Laws
