@@ -1,21 +1,21 @@
--- Messages whose bodies are lines of any kind, proposals among them, each answered between two
--- reads.
+-- Messages whose bodies are lines of any kind, proposals and phases among them, each answered
+-- between two reads.
 use Rattle.std.specs.Prelude.{ℕ, List, false}
 use Rattle.exchange_sessions.specs.Laws.{SessionsTold}
 use Rattle.live_lines.specs.Output.{output_of}
-use Rattle.proposal_lines.specs.Output.{proposing_line}
-use Rattle.proposal_lines.specs.Promises.{TellProposals, proposing_output}
-use Rattle.proposal_lines.specs.ProposingState.{empty_state}
+use Rattle.serve_lines.specs.Output.{serving_line, serving_output}
+use Rattle.serve_lines.specs.Promises.{TellServing}
+use Rattle.serve_lines.specs.ServingState.{empty_serving}
 use Rattle.session_lines.specs.Served.{reply_by}
 use Rattle.session_lines.specs.Sessions.{new_sessions, session_step}
 
 -- what is written for messages, of which no bytes are skipped
 abbrev pub all_sessions_output : List ℕ → List ℕ
-all_sessions_output input = output_of (session_step proposing_line) false (new_sessions empty_state) input
+all_sessions_output input = output_of (session_step serving_line) false (new_sessions empty_serving) input
 
 -- bytes tell each message once, and the bodies are answered as lines of any kind
 abbrev pub TellAllOnce : List ℕ → List ℕ → Type 0
-TellAllOnce input bytes = SessionsTold (reply_by proposing_line empty_state) proposing_output TellProposals input bytes
+TellAllOnce input bytes = SessionsTold (reply_by serving_line empty_serving) serving_output TellServing input bytes
 
 abbrev pub SessionsTellOnce : Type 0
 SessionsTellOnce = (input : List ℕ) → TellAllOnce input (all_sessions_output input)

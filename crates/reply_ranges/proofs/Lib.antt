@@ -19,6 +19,7 @@ pub mod InOrder
 pub mod Kept
 pub mod Proposals
 pub mod ServedLines
+pub mod ServingLines
 pub mod Messages
 pub mod Audited
 pub mod InputLines

@@ -1,5 +1,6 @@
--- Each line that is served is sound, and what is left stands before the next one.
-use Rattle.std.proofs.Common.{◌≡◌, ℕ, ◌+◌, ◌-◌, ◌≤◌, List, map, zip, None, Result, inl, refl, sym, subst, arith}
+-- Each line that is served where there are no phases is sound, and what is left stands before the
+-- next one.
+use Rattle.std.proofs.Common.{◌≡◌, ℕ, ◌+◌, ◌-◌, ◌≤◌, List, map, zip, None, Result, refl, sym, subst, arith}
 use Rattle.std.specs.Prelude.{IfOk}
 use Rattle.std.specs.List.{All}
 use Rattle.std.proofs.lemmas.List.Elements.{All-nil}
@@ -25,7 +26,6 @@ use Rattle.frac.specs.Value.{fraction_of}
 use Rattle.exchange_lines.specs.Moves.{clears}
 use Rattle.exchange_lines.proofs.RunStates.{empty_runs, step_runs}
 use Rattle.exchange_lines.proofs.GainSteps.{body_steps, move_steps}
-use Rattle.journal_audit.specs.Laws.{OfServe}
 use Rattle.proposal_text.specs.declared.replies.BoundedOutcome.{BoundedOutcome}
 use Rattle.reply_print.specs.Within.{IsLine}
 use Rattle.limits.specs.declared.TheConstants.{MAX_LINES}
@@ -44,7 +44,6 @@ use Rattle.reply_ranges.proofs.Kept.{AreKeptWithin, IsBestWithin}
 use Rattle.reply_ranges.proofs.Others.{IsStanding, said_served}
 use Rattle.reply_ranges.proofs.Owed.{IsOwedWithin, charged_owed, reply_owed}
 use Rattle.reply_ranges.proofs.Proposals.{book_served, clear_served, positions_served, proposed_in, proposed_served}
-use Rattle.reply_ranges.proofs.Runs.{IsAnswered}
 use Rattle.reply_ranges.proofs.Texts.{IsServedText}
 
 -- before the line of a number
@@ -166,15 +165,3 @@ module _ (number : ℕ) (state : ProposingState) (few : number ≤ MAX_LINES) (s
           kept = now.1;
         },
       )
-
-  -- as one of many
-  pub line_answers : (line : List ℕ) → IsAnswered (Stands (number + 1)) (proposing_line number state line)
-  line_answers line =
-      let answer = answers line in
-      let own = answer.0 in
-      record {
-        text = own.text;
-        is = own.is;
-        accepted = record { sound = record { reply = OfServe own.reply; is_line = inl own.served }; one = own.one };
-        stands = answer.1;
-      }

@@ -1,0 +1,142 @@
+-- Each line of `serve` is sound, and what is left stands before the next one.
+use Rattle.std.proofs.Common.{◌≡◌, ℕ, ◌+◌, ◌≤◌, List, [], ◌∷◌, ◌++◌, Bool, true, false, not, length, if◌then◌else◌, Option, Some, None, Result, Ok, Err, inl, refl, subst, arith}
+use Rattle.std.specs.Prelude.{IfOk}
+use Rattle.std.specs.Option.{option_map_or}
+use Rattle.command_text.specs.declared.asked.Fault.{Fault}
+use Rattle.command_text.specs.declared.requests.Request.{Request}
+use Rattle.command_text.specs.declared.requests.Request.TheVariants as asks
+use Rattle.command_text.specs.declared.words.TheConstants.{SERVED}
+use Rattle.command_text.specs.Said.{said_in}
+use Rattle.command_text.specs.Within.{IsMarket, RequestIsWithin}
+use Rattle.command_text.proofs.ReadWithin.{said_is_within}
+use Rattle.exchange_core.specs.ExchangeState.{ExchangeState}
+use Rattle.exchange_core.specs.declared.refusal.Refusal.TheVariants as refusal
+use Rattle.form.specs.declared.limits.TheConstants.{MAX_ORDERS}
+use Rattle.limits.specs.declared.TheConstants.{MAX_LINES}
+use Rattle.lists.specs.Refusals.{first_of}
+use Rattle.order_book.specs.Book.{live_of, market_of}
+use Rattle.order_book.specs.Markets.{MarketState}
+use Rattle.order_book.specs.Refusals.{is_market, is_settled}
+use Rattle.order_book.proofs.BookKept.{market_kept}
+use Rattle.reply_print.specs.Within.{IsLine}
+use Rattle.proposal_text.specs.declared.replies.ProposalReply.TheVariants as told
+use Rattle.journal_audit.specs.Laws.{OfServe}
+use Rattle.auction_phases.specs.Phases.{bars, ended_in, is_closed}
+use Rattle.auction_phases.specs.declared.refusal.PhaseRefusal.{PhaseRefusal}
+use Rattle.auction_phases.specs.declared.refusal.PhaseRefusal.TheVariants.{Exchange, Closed, Open}
+use Rattle.proposal_lines.specs.Output.{proposing_reply_line, served_line}
+use Rattle.proposal_lines.specs.declared.replies.ProposingReply.{ProposingReply}
+use Rattle.proposal_lines.specs.declared.replies.ProposingReply.TheVariants.{Told}
+use Rattle.serve_lines.specs.Output.{handed_on, serving_line, serving_said, written_reply}
+use Rattle.serve_lines.specs.Phased.{close_reply, closed_effect, exchange_of, refused_by, reopen_reply, reopened_effect, with_phases}
+use Rattle.serve_lines.specs.ServingState.{ServingState}
+use Rattle.reply_ranges.proofs.Others.{refusal_served}
+use Rattle.reply_ranges.proofs.Runs.{IsAnswered}
+use Rattle.reply_ranges.proofs.ServedLines.{Stands, answers, passes}
+use Rattle.reply_ranges.proofs.Texts.{IsServedText, proposal_text}
+
+-- before the line of a number
+abbrev pub StandsServing : ℕ → ServingState → Type 0
+StandsServing number state = Stands number state.proposing
+
+-- behind an empty line
+pub passes_serving : (number : ℕ) (state : ServingState) → StandsServing number state → StandsServing (number + 1) state
+passes_serving number state = passes number state.proposing
+
+-- ---- what is written for a line
+module _ (number : ℕ) (state : ServingState) (few : number ≤ MAX_LINES) (stands : StandsServing number state) where
+  abbrev exchange : ExchangeState
+  exchange = exchange_of state
+
+  some_room : stands.lines + 1 ≤ MAX_LINES
+  some_room = omega (arith, few, stands.counted)
+
+  is_line : IsLine number
+  is_line = (omega (arith, stands.counted), few)
+
+  abbrev IsServedReply : ProposingReply → Type 0
+  IsServedReply reply = IsServedText (proposing_reply_line number reply ++ 10 ∷ [])
+
+  abbrev IsServedNow : List ℕ × ServingState → Type 0
+  IsServedNow now = IsServedText now.0 × StandsServing (number + 1) now.1
+
+  -- ---- by phases
+  few_live : (market : ℕ) → length (live_of exchange.book market) ≤ MAX_ORDERS
+  few_live market = by (market_of exchange.book market) refl
+    where
+      by : (found : Option MarketState) → market_of exchange.book market ≡ found → length (option_map_or (λ (m : MarketState). m.live) found []) ≤ MAX_ORDERS
+      by None e = omega arith
+      by (Some m) e = (market_kept exchange.book stands.sound.kept.orders.book market m e).room
+
+  phased_served : (now : ProposingReply × List ℕ) → IsServedReply now.0 → IsServedNow (written_reply number (with_phases state now))
+  phased_served now text = (text, passes number state.proposing stands)
+
+  no_market : IsServedReply (refused_by (Exchange refusal.NoMarket))
+  no_market = refusal_served stands.lines number some_room is_line exchange stands.exchange refusal.NoMarket ((omega arith, omega arith), refl)
+
+  settled : IsServedReply (refused_by (Exchange refusal.Settled))
+  settled = refusal_served stands.lines number some_room is_line exchange stands.exchange refusal.Settled ((omega arith, omega arith), refl)
+
+  is_closed_served : IsServedReply (Told told.MarketIsClosed)
+  is_closed_served = proposal_text number told.MarketIsClosed (is_line, tt) tt
+
+  is_open_served : IsServedReply (Told told.MarketIsOpen)
+  is_open_served = proposal_text number told.MarketIsOpen (is_line, tt) tt
+
+  -- refused by the market, or by its phase, or done
+  by_refusal : (missing over phase : Bool) (last : PhaseRefusal) → IsServedReply (refused_by last) → (done : ProposingReply × List ℕ) → IsServedReply done.0
+      → IsServedNow (written_reply number (with_phases state
+      (option_map_or (λ first. (refused_by first, state.closed)) (first_of ((missing, Exchange refusal.NoMarket) ∷ (over, Exchange refusal.Settled) ∷ (phase, last) ∷ [])) done)))
+  by_refusal true over phase last is done served = phased_served (refused_by (Exchange refusal.NoMarket), state.closed) no_market
+  by_refusal false true phase last is done served = phased_served (refused_by (Exchange refusal.Settled), state.closed) settled
+  by_refusal false false true last is done served = phased_served (refused_by last, state.closed) is
+  by_refusal false false false last is done served = phased_served done served
+
+  close_served : (market : ℕ) → IsMarket market → IsServedNow (written_reply number (close_reply state market))
+  close_served market listed =
+      by_refusal (not (is_market exchange.book market)) (is_settled exchange.book market) (is_closed state.closed market) Closed is_closed_served
+      (closed_effect exchange state.closed market)
+      (proposal_text number (told.Closed market (length (live_of exchange.book market))) (is_line, (listed, few_live market)) tt)
+
+  reopen_served : (market : ℕ) → IsMarket market → IsServedNow (written_reply number (reopen_reply state market))
+  reopen_served market listed =
+      by_refusal (not (is_market exchange.book market)) (is_settled exchange.book market) (not (is_closed state.closed market)) Open is_open_served
+      (reopened_effect state.closed market) (proposal_text number (told.Reopened market) (is_line, listed) tt)
+
+  -- ---- by what it says
+  module _ (line : List ℕ) where
+    handed_served : (said : Result Request Fault) → said_in SERVED line ≡ said → (ended : Option ℕ) → IsServedNow (handed_on number state line said ended)
+    handed_served said is ended =
+        subst (λ (said : Result Request Fault). IsServedText (served_line number state.proposing line said).0 × Stands (number + 1) (served_line number state.proposing line said).1) is
+        (answers number state.proposing few stands line)
+
+    command_served : (said : Result Request Fault) → said_in SERVED line ≡ said → (ended : Option ℕ) (barred : Bool)
+        → IsServedNow (if barred then written_reply number (Told told.MarketIsClosed, state) else handed_on number state line said ended)
+    command_served said is ended true = (is_closed_served, passes number state.proposing stands)
+    command_served said is ended false = handed_served said is ended
+
+    said_serving : (said : Result Request Fault) → said_in SERVED line ≡ said → IfOk said RequestIsWithin → IsServedNow (serving_said number state line said)
+    said_serving (Ok (asks.Close market)) is within = close_served market within
+    said_serving (Ok (asks.Reopen market)) is within = reopen_served market within
+    said_serving (Ok (asks.Command command)) is within = command_served (Ok (asks.Command command)) is (ended_in exchange command) (bars state.closed exchange command)
+    said_serving (Ok (asks.Quote request)) is within = handed_served (Ok (asks.Quote request)) is None
+    said_serving (Ok (asks.Price request)) is within = handed_served (Ok (asks.Price request)) is None
+    said_serving (Ok (asks.Margin request)) is within = handed_served (Ok (asks.Margin request)) is None
+    said_serving (Ok (asks.Book market)) is within = handed_served (Ok (asks.Book market)) is None
+    said_serving (Ok (asks.Positions account market)) is within = handed_served (Ok (asks.Positions account market)) is None
+    said_serving (Ok (asks.Propose request)) is within = handed_served (Ok (asks.Propose request)) is None
+    said_serving (Err fault) is within = handed_served (Err fault) is None
+
+    pub serving_answers : IsServedText (serving_line number state line).0 × StandsServing (number + 1) (serving_line number state line).1
+    serving_answers = said_serving (said_in SERVED line) refl (said_is_within SERVED line)
+
+    -- as one of many
+    pub line_answers : IsAnswered (StandsServing (number + 1)) (serving_line number state line)
+    line_answers =
+        let own = serving_answers.0 in
+        record {
+          text = own.text;
+          is = own.is;
+          accepted = record { sound = record { reply = OfServe own.reply; is_line = inl own.served }; one = own.one };
+          stands = serving_answers.1;
+        }
