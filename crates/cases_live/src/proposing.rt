@@ -3,7 +3,7 @@ use std::alloc::{AllocError, Global};
 use std::test::Fail;
 
 // One trader bids for a call whose payoff two calls that are asked cover.
-static BUTTERFLY: &str = "open,1
+pub(crate) static BUTTERFLY: &str = "open,1
 open,2
 deposit,1,100
 market,1,1
