@@ -277,6 +277,25 @@ class Clearing(unittest.TestCase):
         self.assertEqual((found.surplus, found.bound), proposed[2:])
         found.certificate.check()
 
+    def test_a_closed_market_of_a_live_exchange(self) -> None:
+        with Exchange() as exchange:
+            self.live(exchange)
+            self.assertEqual(exchange.close_market(market=1), 3)
+            refusals: list[Callable[[], object]] = [
+                lambda: exchange.buy(account=1, market=1, option=call(10), price=7),
+                lambda: exchange.cancel(account=2, order=3),
+                lambda: exchange.close_market(market=1),
+            ]
+            for asked in refusals:
+                with self.assertRaises(ragvismo.Refused) as caught:
+                    asked()
+                self.assertEqual((caught.exception.number, caught.exception.reason), (23, "Closed"))
+            exchange.reopen_market(market=1)
+            with self.assertRaises(ragvismo.Refused) as caught:
+                exchange.reopen_market(market=1)
+            self.assertEqual((caught.exception.number, caught.exception.reason), (24, "Open"))
+            exchange.cancel(account=2, order=3)
+
     def test_solvers_where_the_run_gives_up(self) -> None:
         """Each solver's fills hold for audit, and none is above another's bound."""
         draw = random.Random(5)

@@ -265,6 +265,15 @@ class Exchange:
             for it in reply["positions"]
         ]
 
+    def close_market(self, *, market: int) -> int:
+        """Closes a market: no order comes or goes in it until it is cleared, settled or opened
+        again. How many live orders it has."""
+        return int(self.ask(_line("close", market))["orders"])
+
+    def reopen_market(self, *, market: int) -> None:
+        """Opens a closed market again."""
+        self.ask(_line("reopen", market))
+
     def propose(
         self,
         *,

@@ -19,7 +19,17 @@ from ragvismo.faults import BadJournal
 
 HOUSE = 0
 # Replies that move nothing.
-BESIDE = ("refused", "quoted", "priced", "margin", "book", "positions", "proposed")
+BESIDE = (
+    "refused",
+    "quoted",
+    "priced",
+    "margin",
+    "book",
+    "positions",
+    "proposed",
+    "closed",
+    "reopened",
+)
 Path = str | os.PathLike[str]
 FAULTS = (
     KeyError,

@@ -167,6 +167,8 @@ LAYOUTS = {
     "margin": Layout((ACCOUNT, MARKET, BUDGET)),
     "book": Layout((MARKET,)),
     "positions": Layout((ACCOUNT, MARKET)),
+    "close": Layout((MARKET,)),
+    "reopen": Layout((MARKET,)),
 }
 OF_RUN = (
     "open",
@@ -185,7 +187,17 @@ KNOWN = {
     "run": OF_RUN,
     "quotes": (*OF_RUN, "quote"),
     "guarded": (*OF_RUN, "margin"),
-    "serve": (*OF_RUN, "quote", "price", "margin", "book", "positions", "propose"),
+    "serve": (
+        *OF_RUN,
+        "quote",
+        "price",
+        "margin",
+        "book",
+        "positions",
+        "close",
+        "reopen",
+        "propose",
+    ),
 }
 # A line of serve that begins so is a proposal, and is not parted at its other commas.
 PROPOSES = b"propose,"

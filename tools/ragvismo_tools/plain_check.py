@@ -36,7 +36,7 @@ REASONS = (
     "NotOwner",
     "TooMany",
 )
-BESIDE = {14: "Margin", 20: "Stale", 21: "Unproved"}
+BESIDE = {14: "Margin", 20: "Stale", 21: "Unproved", 23: "Closed", 24: "Open"}
 GATE = {15: "Malformed", 16: "Old", 17: "Ahead", 18: "Changed", 19: "Sessions"}
 WHOLE = re.compile(r"0|-?[1-9][0-9]*")
 FRACTION = re.compile(r"(0|-?[1-9][0-9]*)|(-?[1-9][0-9]*)/([2-9]|[1-9][0-9]+)")
@@ -367,6 +367,8 @@ def beside(value: Any) -> Kinds:
         14: {"need": NEED},
         20: {},
         21: {"failed": Word("BatchShape", "Fill", "Cover", "Measure", "Wide")},
+        23: {},
+        24: {},
     }
     return {"number": Word(number), "reason": Word(BESIDE[number]), **more[number]}
 
@@ -413,6 +415,8 @@ SERVED: dict[str, Shapes] = {
         "market": MARKET,
         "surplus": FRACTIONS,
     },
+    "closed": lambda _: {"market": MARKET, "orders": Number(0, 256)},
+    "reopened": lambda _: {"market": MARKET},
     "cleared": lambda value: (
         bounded(value) if is_number(value.get("version"), 3) else cleared(value)
     ),

@@ -136,7 +136,8 @@ const numbered = (first, reasons) => reasons.map((reason, place) => [`${first + 
 
 const OF_RUN = new Map(numbered(1, RUN_REASONS));
 const OF_SERVE = new Map(
-    [...OF_RUN, ...numbered(14, ["Margin"]), ...numbered(20, ["Stale", "Unproved"])]);
+    [...OF_RUN, ...numbered(14, ["Margin"]), ...numbered(20, ["Stale", "Unproved"]),
+        ...numbered(23, ["Closed", "Open"])]);
 const OF_GATE = new Map(numbered(15, ["Malformed", "Old", "Ahead", "Changed", "Sessions"]));
 
 /** The keys of a refusal with one of these numbers.
@@ -185,6 +186,8 @@ const SERVE = {
     positions: () => ({account: ACCOUNT, market: MARKET, positions: list(POSITION)}),
     proposed: () => ({best_surplus: fraction, bound: fraction, least_bound: fraction,
         market: MARKET, surplus: fraction}),
+    closed: () => ({market: MARKET, orders: number(0n, 256n)}),
+    reopened: () => ({market: MARKET}),
     cleared: reply => isJust(reply.get("version"), 3) ? BOUNDED : cleared(reply),
     refused: refusal(OF_SERVE),
     quoted: () => ({ask: PRICE, bid: PRICE, market: MARKET}),

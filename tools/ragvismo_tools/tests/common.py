@@ -21,6 +21,7 @@ EXAMPLES = {
     "sessions": "sessions",
     "serve": "serve",
     "proposals": "serve",
+    "phases": "serve",
     "hundred": "serve",
     "serve-sessions": "serve-sessions",
 }

@@ -110,7 +110,7 @@ class PlainCheck(Folder):
         draw = random.Random("values")
         lines = [
             line
-            for name in ("proposals", "serve", "serve-sessions", "spread", "guarded")
+            for name in ("proposals", "phases", "serve", "serve-sessions", "spread", "guarded")
             for line in (TOP / f"examples/{name}.replies").read_text().splitlines()
         ]
         for line in lines * 6:

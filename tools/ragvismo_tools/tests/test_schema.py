@@ -53,6 +53,7 @@ class Schema(unittest.TestCase):
             "sessions": {"answer", "gate"},
             "serve": {"quoted", "priced", "margin", "refused"},
             "proposals": {"book", "proposed", "cleared", "positions"},
+            "phases": {"closed", "refused", "proposed", "cleared"},
             "hundred": {"book", "proposed", "cleared"},
             "serve-sessions": {"answer", "gate"},
         }
