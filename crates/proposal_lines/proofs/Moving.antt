@@ -33,7 +33,7 @@ module _ (q : ℕ) where
   abbrev on_or : Bool → MarketState → Markets → Option ℕ
   on_or c m markets = option_map (λ (m : MarketState). m.underlyings) (cond c (Some m) (lookup (nat_eq q) markets))
 
-  on-changed : (change : MarketState → MarketState) → ((m : MarketState) → (change m).underlyings ≡ m.underlyings) → (market : ℕ) (markets : Markets)
+  pub on-changed : (change : MarketState → MarketState) → ((m : MarketState) → (change m).underlyings ≡ m.underlyings) → (market : ℕ) (markets : Markets)
       → on_in (changed_in change market markets) ≡ on_in markets
   on-changed change same market [] = refl
   on-changed change same market (m ∷ markets) =
@@ -42,7 +42,7 @@ module _ (q : ℕ) where
         | false ↦ elim (nat_eq q m.0) as (λ c. on_or c m.1 (changed_in change market markets) ≡ on_or c m.1 markets) [ true ↦ refl | false ↦ on-changed change same market markets ]
       ]
 
-  on-without : (number : ℕ) (markets : Markets) → on_in (without_in_each number markets) ≡ on_in markets
+  pub on-without : (number : ℕ) (markets : Markets) → on_in (without_in_each number markets) ≡ on_in markets
   on-without number [] = refl
   on-without number (m ∷ markets) =
       elim (nat_eq q m.0) as (λ c. on_or c (with_live m.1 (without number m.1.live)) (without_in_each number markets) ≡ on_or c m.1 markets) [
@@ -50,7 +50,7 @@ module _ (q : ℕ) where
         | false ↦ on-without number markets
       ]
 
-  on-more : (n : ℕ) (new : ℕ × MarketState) (markets : Markets) → on_in markets ≡ Some n → on_in (markets ++ new ∷ []) ≡ Some n
+  pub on-more : (n : ℕ) (new : ℕ × MarketState) (markets : Markets) → on_in markets ≡ Some n → on_in (markets ++ new ∷ []) ≡ Some n
   on-more n new [] there = cc
   on-more n new (m ∷ markets) there =
       (elim (nat_eq q m.0) as (λ c. on_or c m.1 markets ≡ Some n → on_or c m.1 (markets ++ new ∷ []) ≡ Some n) [

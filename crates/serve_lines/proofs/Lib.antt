@@ -1,3 +1,4 @@
+pub mod Batches
 pub mod Ends
 pub mod StandingStill
 pub mod Telling

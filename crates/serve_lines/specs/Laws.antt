@@ -6,7 +6,9 @@ use Rattle.command_text.specs.declared.requests.Request.{Request}
 use Rattle.command_text.specs.declared.requests.Request.TheVariants.{Command, Reopen}
 use Rattle.command_text.specs.declared.words.TheConstants.{SERVED}
 use Rattle.command_text.specs.Said.{said_in}
+use Rattle.exchange_core.specs.Step.{batch_in}
 use Rattle.exchange_lines.specs.LineSteps.{InputLine}
+use Rattle.order_book.specs.Refusals.{is_market}
 use Rattle.auction_phases.specs.Laws.{Phased, StandsStill, phased}
 use Rattle.auction_phases.specs.Phases.{ended_in, is_closed}
 use Rattle.proposal_lines.specs.Laws.{IsSound}
@@ -36,3 +38,11 @@ abbrev pub ClosedMarketsStandStill : Type 0
 ClosedMarketsStandStill =
     (market : ℕ) (state : ServingState) (lines : List InputLine) → IsSound state.proposing → is_closed state.closed market ≡ true
     → AreMeanwhile market state lines → StandsStill market (phased_of state) (phased_of (state_by_lines state lines))
+
+-- one that is there has the same batch after them: so what is proposed for it stays for its live
+-- orders
+abbrev pub ClosedBatchesStay : Type 0
+ClosedBatchesStay =
+    (market : ℕ) (state : ServingState) (lines : List InputLine) → IsSound state.proposing → is_closed state.closed market ≡ true
+    → is_market (exchange_of state).book market ≡ true → AreMeanwhile market state lines
+    → batch_in (exchange_of (state_by_lines state lines)) market ≡ batch_in (exchange_of state) market
