@@ -62,7 +62,7 @@ cleared_shaped n c a pivot l s pa wide = step (nat_eq (unsigned_abs (number_at l
     step true = s
     step false = wide_shaped n _ mixed_line
 
-rows_shaped : (n c e r a i : ℕ) (pivot : List ℤ) (rows : List WholeRow) → AreShaped n rows → 0 < a → length pivot ≡ n → AreShaped n (labelled_rows_after c e r a pivot i rows)
+pub rows_shaped : (n c e r a i : ℕ) (pivot : List ℤ) (rows : List WholeRow) → AreShaped n rows → 0 < a → length pivot ≡ n → AreShaped n (labelled_rows_after c e r a pivot i rows)
 unfolding labelled_rows_after
 rows_shaped n c e r a i pivot [] g pa wide = tt
 rows_shaped n c e r a i pivot (row ∷ rows) g pa wide = (step (nat_eq i r), rows_shaped n c e r a (i + 1) pivot rows g.1 pa wide)

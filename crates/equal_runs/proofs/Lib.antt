@@ -20,3 +20,5 @@ pub mod CompactFirst
 pub mod CompactRuns
 pub mod LeftOut
 pub mod WorkedCompact
+pub mod DictionaryLines
+pub mod DictionaryRuns

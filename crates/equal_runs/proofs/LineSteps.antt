@@ -92,7 +92,7 @@ fraction_at d (z ∷ zs) zero p = refl
 fraction_at d (z ∷ zs) (suc j) p = fraction_at d zs j p
 
 -- ---- the pivot row: its numbers stay, over the one in column e
-quotients_of : (limit d a : ℕ) (f : Fraction) (zs : List ℤ) → 0 < d → 0 < a → IsLowest f → IsRatio f (pos a) d → a ≤ limit → AreSizes limit zs → each (λ x. div_of limit x f) (fractions_over d zs) ≡ Ok (fractions_over a zs)
+pub quotients_of : (limit d a : ℕ) (f : Fraction) (zs : List ℤ) → 0 < d → 0 < a → IsLowest f → IsRatio f (pos a) d → a ≤ limit → AreSizes limit zs → each (λ x. div_of limit x f) (fractions_over d zs) ≡ Ok (fractions_over a zs)
 unfolding each fractions_over
 quotients_of limit d a f [] pd pa lf rf la h = refl
 quotients_of limit d a f (z ∷ zs) pd pa lf rf la h =
@@ -115,12 +115,12 @@ size_of_sum : (x y : ℤ) (a b limit : ℕ) → unsigned_abs x ≤ a → unsigne
 size_of_sum x y a b limit p q h = omega (arith, ints, p, q, h)
 
 -- what the number in column e and the pivot have in common goes away: x is f * g, and a is p * g
-record IsShared (x f : ℤ) (a p g : ℕ) : Type 0 where
-  above : f *ℤ pos g ≡ x
-  below : p * g ≡ a
-  positive : 0 < p
+pub record IsShared (x f : ℤ) (a p g : ℕ) : Type 0 where
+  pub above : f *ℤ pos g ≡ x
+  pub below : p * g ≡ a
+  pub positive : 0 < p
 
-shared_by : (x : ℤ) (a : ℕ) → 0 < a → IsShared x (int_div x (pos (gcd (unsigned_abs x) a))) a (a / gcd (unsigned_abs x) a) (gcd (unsigned_abs x) a)
+pub shared_by : (x : ℤ) (a : ℕ) → 0 < a → IsShared x (int_div x (pos (gcd (unsigned_abs x) a))) a (a / gcd (unsigned_abs x) a) (gcd (unsigned_abs x) a)
 shared_by x a pa =
     let g = gcd (unsigned_abs x) a in
     let divides = gcd_dvd_right (unsigned_abs x) a in
@@ -150,7 +150,7 @@ entry_cleared limit size most d a p g r x f z q room pd pa ld s lr rr sz sq =
     (omega (arith, small_z, room)) (omega (arith, small_neg, room)) (size_of_sum (z *ℤ pos p) (neg_ℤ (f *ℤ q)) (size * p) (unsigned_abs f * most) limit small_z small_neg room) (omega (arith, small_M, room)) in
     rw (product, turned) sum
 
-entries_cleared : (limit size most d a p g : ℕ) (r : Fraction) (x f : ℤ) (zs qs : List ℤ) → size * p + unsigned_abs f * most ≤ limit → 0 < d → 0 < a → d ≤ size → IsShared x f a p g → IsLowest r → IsRatio r x d → AreSizes size zs → AreSizes most qs
+pub entries_cleared : (limit size most d a p g : ℕ) (r : Fraction) (x f : ℤ) (zs qs : List ℤ) → size * p + unsigned_abs f * most ≤ limit → 0 < d → 0 < a → d ≤ size → IsShared x f a p g → IsLowest r → IsRatio r x d → AreSizes size zs → AreSizes most qs
     → each_pair (less_product limit r) (fractions_over d zs) (fractions_over a qs) ≡ Ok (fractions_over (d * p) (cross_difference p f zs qs))
 unfolding each_pair fractions_over cross_difference
 entries_cleared limit size most d a p g r x f [] qs room pd pa ld s lr rr hz hq = refl
@@ -161,7 +161,7 @@ entries_cleared limit size most d a p g r x f (z ∷ zs) (q ∷ qs) room pd pa l
     rw (first, others) refl
 
 -- with 0 in column e nothing changes
-mixed_none : (d a : ℕ) (zs qs : List ℤ) → 0 < d → 0 < a → length zs ≡ length qs → fractions_over (d * a) (cross_difference a (pos 0) zs qs) ≡ fractions_over d zs
+pub mixed_none : (d a : ℕ) (zs qs : List ℤ) → 0 < d → 0 < a → length zs ≡ length qs → fractions_over (d * a) (cross_difference a (pos 0) zs qs) ≡ fractions_over d zs
 unfolding fractions_over cross_difference
 mixed_none d a [] qs pd pa h = refl
 mixed_none d a (z ∷ zs) [] pd pa h = absurd (omega (arith, h))
@@ -272,7 +272,7 @@ pub zero_of_size : (x : ℤ) → unsigned_abs x ≡ 0 → x ≡ pos 0
 zero_of_size x h = omega (arith, ints, h)
 
 -- the size of what the number in column e is without what it has in common with the pivot
-factor_size : (size x a most limit : ℕ) (f : ℤ) → unsigned_abs f ≡ x / gcd x a → step_size size x a most ≤ limit → size * (a / gcd x a) + unsigned_abs f * most ≤ limit
+pub factor_size : (size x a most limit : ℕ) (f : ℤ) → unsigned_abs f ≡ x / gcd x a → step_size size x a most ≤ limit → size * (a / gcd x a) + unsigned_abs f * most ≤ limit
 factor_size size x a most limit f e room = subst (λ w. size * (a / gcd x a) + w * most ≤ limit) (sym e) room
 
 pub cleared_is : (limit size most n e a : ℕ) (pivot : List ℤ) (l : Line) → step_size size (unsigned_abs (number_at l.numbers e)) a most ≤ limit → IsLine size n l → 0 < a → length pivot ≡ n → AreSizes most pivot

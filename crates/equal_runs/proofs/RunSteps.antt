@@ -30,7 +30,7 @@ use Rattle.equal_runs.proofs.LineSteps.{fraction_at}
 use Rattle.equal_runs.proofs.TurnSteps.{taken_over, AreShaped, IsWhole, within_of_fit, entering_same, turns_agree, unlimited_fits, turned_whole}
 
 -- ---- reading off
-where_same : (bound n : ℕ) (f : Row → Fraction) (g : WholeRow → Fraction) (j : ℕ) (rows : List WholeRow) → ((row : WholeRow) → 0 < row.line.denominator → f (row_for row) ≡ g row) → AreLines bound n rows → where_basic f j (map row_for rows) ≡ whole_where_basic g j rows
+pub where_same : (bound n : ℕ) (f : Row → Fraction) (g : WholeRow → Fraction) (j : ℕ) (rows : List WholeRow) → ((row : WholeRow) → 0 < row.line.denominator → f (row_for row) ≡ g row) → AreLines bound n rows → where_basic f j (map row_for rows) ≡ whole_where_basic g j rows
 unfolding where_basic whole_where_basic
 where_same bound n f g j [] h s = refl
 where_same bound n f g j (row ∷ rows) h s =
@@ -114,7 +114,7 @@ amounts_same D (f ∷ fs) p h k =
     let others = amounts_same D fs p h.1 k.1 in
     λ i. first i ∷ others i
 
-taken_same : (fs : List Fraction) → AllLowest fs → fractions_of (taken_in fs) ≡ fs
+pub taken_same : (fs : List Fraction) → AllLowest fs → fractions_of (taken_in fs) ≡ fs
 taken_same fs h = amounts_same (least_multiple fs) fs (least_positive fs h) h (all_divide fs)
 
 pub taken_shaped : (n : ℕ) (fs : List Fraction) → AllLowest fs → length fs ≡ n → IsShaped n (taken_in fs)

@@ -41,7 +41,7 @@ pub record IsWhole (n : ℕ) (w : WholeTable) : Type 0 where
   pub rows : AreShaped n w.rows
   pub objective : IsShaped n w.objective
 
-lines_of_fit : (bound n : ℕ) (rows : List WholeRow) → AreShaped n rows → rows_fit bound rows ≡ true → AreLines bound n rows
+pub lines_of_fit : (bound n : ℕ) (rows : List WholeRow) → AreShaped n rows → rows_fit bound rows ≡ true → AreLines bound n rows
 unfolding rows_fit
 lines_of_fit bound n [] s h = tt
 lines_of_fit bound n (row ∷ rows) s h =
@@ -51,14 +51,14 @@ lines_of_fit bound n (row ∷ rows) s h =
 pub within_of_fit : (bound n : ℕ) (w : WholeTable) → IsWhole n w → rows_fit bound w.rows ≡ true → IsWithin bound n w
 within_of_fit bound n w s h = record { rows = lines_of_fit bound n w.rows s.rows h; objective = s.objective }
 
-shaped_line : (bound n : ℕ) (l : Line) → IsLine bound n l → IsShaped n l
+pub shaped_line : (bound n : ℕ) (l : Line) → IsLine bound n l → IsShaped n l
 shaped_line bound n l g = record { positive = g.positive; count = g.count }
 
-shaped_rows : (bound n : ℕ) (rows : List WholeRow) → AreLines bound n rows → AreShaped n rows
+pub shaped_rows : (bound n : ℕ) (rows : List WholeRow) → AreLines bound n rows → AreShaped n rows
 shaped_rows bound n [] g = tt
 shaped_rows bound n (row ∷ rows) g = (shaped_line bound n row.line g.0, shaped_rows bound n rows g.1)
 
-line_at_is : (bound n : ℕ) (rows : List WholeRow) (r : ℕ) → AreLines bound n rows → r < length rows → IsLine bound n (line_at rows r)
+pub line_at_is : (bound n : ℕ) (rows : List WholeRow) (r : ℕ) → AreLines bound n rows → r < length rows → IsLine bound n (line_at rows r)
 line_at_is bound n [] r g h = absurd (omega (arith, h))
 line_at_is bound n (row ∷ rows) zero g h = g.0
 line_at_is bound n (row ∷ rows) (suc r) g h = line_at_is bound n rows r g.1 (omega (arith, h))
@@ -84,7 +84,7 @@ above_same z d p =
     let m = multiple_of (reduced z d) z d (reduced_is_lowest z d p) (reduced_is z d) in
     sym (sign_above (reduced z d).numerator m.by (by_positive (reduced z d) z d m p)) ∙ ap (int_lt (pos 0)) (sym m.above)
 
-below_same : (z : ℤ) (d : ℕ) → 0 < d → int_lt (reduced z d).numerator (pos 0) ≡ int_lt z (pos 0)
+pub below_same : (z : ℤ) (d : ℕ) → 0 < d → int_lt (reduced z d).numerator (pos 0) ≡ int_lt z (pos 0)
 below_same z d p =
     let m = multiple_of (reduced z d) z d (reduced_is_lowest z d p) (reduced_is z d) in
     sym (sign_below (reduced z d).numerator m.by (by_positive (reduced z d) z d m p)) ∙ ap (λ w. int_lt w (pos 0)) (sym m.above)
@@ -195,7 +195,7 @@ abbrev pub AllOf : (Ratio → Type 0) → List Ratio → Type 0
 AllOf P [] = Unit {0}
 AllOf P (q ∷ qs) = P q × AllOf P qs
 
-all_of : (P R : Ratio → Type 0) → ((q : Ratio) → P q → R q) → (qs : List Ratio) → AllOf P qs → AllOf R qs
+pub all_of : (P R : Ratio → Type 0) → ((q : Ratio) → P q → R q) → (qs : List Ratio) → AllOf P qs → AllOf R qs
 all_of P R f [] h = tt
 all_of P R f (q ∷ qs) h = (f q h.0, all_of P R f qs h.1)
 
@@ -235,7 +235,7 @@ cmp_lowered x y p q =
     cmp_cross x.numerator y.numerator r.numerator s.numerator x.denominator y.denominator r.denominator s.denominator p q
     (reduced_is_lowest x.numerator x.denominator p).positive (reduced_is_lowest y.numerator y.denominator q).positive (reduced_is x.numerator x.denominator) (reduced_is y.numerator y.denominator)
 
-abbrev IsOver : Ratio → Type 0
+abbrev pub IsOver : Ratio → Type 0
 IsOver q = 0 < q.value.denominator
 
 lesser_lowered : (a b : Ratio) → IsOver a → IsOver b → lesser (lowered a) (lowered b) ≡ lowered (lesser a b)
@@ -252,7 +252,7 @@ lesser_lowered a b p q =
     step Equal t = choose t
     step Greater t = refl
 
-least_lowered : (a : Ratio) (qs : List Ratio) → IsOver a → AllOf IsOver qs → least (lowered a) (map lowered qs) ≡ lowered (least a qs)
+pub least_lowered : (a : Ratio) (qs : List Ratio) → IsOver a → AllOf IsOver qs → least (lowered a) (map lowered qs) ≡ lowered (least a qs)
 unfolding least
 least_lowered a [] p h = refl
 least_lowered a (b ∷ qs) p h =

@@ -277,7 +277,7 @@ entering_none m n t g h j p =
     subst (λ (f : Fraction). pos 0 ≤ℤ f.numerator) (get_or-take t.columns t.objective j (whole (pos 0)) (omega (arith, p, g.columns))) (first_none 0 (take t.columns t.objective) h j (omega (arith, p, long)))
 
 -- ---- the choice of a turn
-above_value : (x : Fraction) → IsLowest x → pos 0 <ℤ x.numerator → IsAbove0 (value x)
+pub above_value : (x : Fraction) → IsLowest x → pos 0 <ℤ x.numerator → IsAbove0 (value x)
 above_value x p h = subst (λ (f : Fraction). pos 0 <ℤ f.numerator) (sym (value_of_lowest x p)) h
 
 pub value_above : (x : Fraction) → IsLowest x → IsAbove0 (value x) → pos 0 <ℤ x.numerator

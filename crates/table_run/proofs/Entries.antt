@@ -31,7 +31,7 @@ pub by_first : (P : ℕ → Type 0) → P zero → ((j : ℕ) → P (suc j)) →
 by_first P z s zero = z
 by_first P z s (suc j) = s j
 
-each_out : (f : Fraction → Result Fraction Wide) (xs ys : List Fraction) → each f xs ≡ Ok ys → (length ys ≡ length xs) × ((j : ℕ) → j < length xs → f (at xs j) ≡ Ok (at ys j))
+pub each_out : (f : Fraction → Result Fraction Wide) (xs ys : List Fraction) → each f xs ≡ Ok ys → (length ys ≡ length xs) × ((j : ℕ) → j < length xs → f (at xs j) ≡ Ok (at ys j))
 unfolding each
 each_out f [] ys h = let e : [] ≡ ys = cc in (ap length (sym e), λ j p. absurd (omega (arith, p)))
 each_out f (x ∷ xs) ys h =
@@ -42,7 +42,7 @@ each_out f (x ∷ xs) ys h =
     subst (λ (zs : List Fraction). (length zs ≡ length (x ∷ xs)) × ((j : ℕ) → j < length (x ∷ xs) → f (at (x ∷ xs) j) ≡ Ok (at zs j))) e
     (ap suc rest.0, by_first (λ j. j < length (x ∷ xs) → f (at (x ∷ xs) j) ≡ Ok (at (a.value ∷ b.value) j)) (λ p. a.first) (λ j p. rest.1 j (omega (arith, p))))
 
-pair_out : (f : Fraction → Fraction → Result Fraction Wide) (xs ps ys : List Fraction) → length xs ≡ length ps → each_pair f xs ps ≡ Ok ys → (length ys ≡ length xs) × ((j : ℕ) → j < length xs → f (at xs j) (at ps j) ≡ Ok (at ys j))
+pub pair_out : (f : Fraction → Fraction → Result Fraction Wide) (xs ps ys : List Fraction) → length xs ≡ length ps → each_pair f xs ps ≡ Ok ys → (length ys ≡ length xs) × ((j : ℕ) → j < length xs → f (at xs j) (at ps j) ≡ Ok (at ys j))
 unfolding each_pair
 pair_out f [] ps ys same h = let e : [] ≡ ys = cc in (ap length (sym e), λ j p. absurd (omega (arith, p)))
 pair_out f (x ∷ xs) [] ys same h = absurd (omega (arith, same))

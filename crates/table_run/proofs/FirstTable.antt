@@ -97,7 +97,7 @@ lowest-one : (x : Fraction) → IsLowest x → (j : ℕ) → IsLowest (at (x ∷
 lowest-one x h zero = h
 lowest-one x h (suc j) = lowest-zero
 
-lowest-negated : (xs : List Fraction) → ((j : ℕ) → IsLowest (at xs j)) → (j : ℕ) → IsLowest (at (map negated xs) j)
+pub lowest-negated : (xs : List Fraction) → ((j : ℕ) → IsLowest (at xs j)) → (j : ℕ) → IsLowest (at (map negated xs) j)
 lowest-negated [] h j = lowest-zero
 lowest-negated (x ∷ xs) h zero = negated_is_lowest x (h 0)
 lowest-negated (x ∷ xs) h (suc j) = lowest-negated xs (λ i. h (suc i)) j

@@ -14,3 +14,12 @@ pub mod Ended
 pub mod Counted
 pub mod WorkedPrograms
 pub mod Endings
+pub mod Columns
+pub mod StepsOf
+pub mod WrittenOut
+pub mod FirstWritten
+pub mod DictionaryTurn
+pub mod DictionaryChoice
+pub mod DictionaryKeeps
+pub mod WrittenRun
+pub mod FirstDictionary
