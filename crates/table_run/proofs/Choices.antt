@@ -1,34 +1,33 @@
 -- The entering column and the leaving row, as facts of the table.
-use Rattle.std.proofs.Common.{◌≡◌, ℕ, zero, suc, ◌+◌, ◌<◌, ◌≤◌, List, [], ◌∷◌, length, take, arith, refl, sym, ◌∙◌, ap, subst, ℤ, pos, ◌<ℤ◌, ◌≤ℤ◌, ◌*ℤ◌, Bool, true, false, ◌⊎◌, inl, inr}
+use Rattle.std.proofs.Common.{◌≡◌, ℕ, suc, ◌+◌, ◌<◌, ◌≤◌, List, [], ◌∷◌, length, arith, refl, sym, ◌∙◌, ap, subst, ℤ, pos, ◌<ℤ◌, ◌≤ℤ◌, ◌*ℤ◌, Bool, true, false, ◌⊎◌, inl, inr}
 use Rattle.std.specs.Prelude.{Result, Ok, Err, if◌then◌else◌, Option, Some, None, int_lt, nat_lt}
 use Rattle.std.specs.declared.cmp.Ordering.{Ordering}
 use Rattle.std.specs.declared.cmp.Ordering.TheVariants.{Less, Equal, Greater}
 use Rattle.std.specs.Ordering.{int_cmp}
-use Rattle.std.proofs.lemmas.Int.{ints}
+use Rattle.std.proofs.lemmas.Int.{ints, by_lt_z}
 use Rattle.std.proofs.lemmas.Bool.Decides.{nat_tests}
-use Rattle.std.proofs.lemmas.List.{get_or-take}
+use Rattle.arithmetic.proofs.Comparisons.{equal_int_cmp}
 use Rattle.exact_num.specs.declared.misfit.Wide.{Wide}
-use Rattle.exact_num.specs.Fraction.{Fraction, IsLowest, whole, fraction_cmp}
+use Rattle.exact_num.specs.Fraction.{Fraction, IsLowest, fraction_cmp}
 use Rattle.exact_num.specs.Fits.{div_of, after}
-use Rattle.exact_num.proofs.Rationals.{quotient_step, at_most_refl, at_most_trans, at_most_value, at_most_antisymm, value_same, value_of_lowest}
-use Rattle.exact_num.specs.Rationals.{Q, ◌*Q◌, inv_Q, value, IsAtMost, IsAbove0, IsBelow0}
-use Rattle.table_run.specs.Places.{at}
-use Rattle.table_run.specs.Table.{Row, Table, entries_at, right_side, basic_at}
-use Rattle.table_run.specs.Choice.{Ratio, first_below, entering, ratio_in, ratios, join_ratio, lesser, least, by_order}
 use Rattle.exact_num.specs.Tests.{is_below_zero, is_above_zero}
+use Rattle.exact_num.proofs.After.{after_value}
+use Rattle.exact_num.proofs.Rationals.{quotient_step, at_most_refl, at_most_trans, at_most_value, at_most_antisymm, value_same, value_of_lowest, value_zero, not_below_value, zero_not_below}
+use Rattle.exact_num.specs.Rationals.{Q, ◌*Q◌, inv_Q, value, IsAtMost, IsAbove0, IsBelow0, IsNotBelow0}
+use Rattle.table_run.specs.Places.{at}
+use Rattle.table_run.specs.Table.{Row, Table, label_at, with_right, entries_at, right_side, basic_at, entry_for, own_entry, no_entry}
+use Rattle.table_run.specs.Choice.{Column, smaller, least_below, entering, Ratio, ratio_in, ratios, join_ratio, lesser, least, by_order}
 use Rattle.table_run.specs.Pivot.{after_pivot}
 use Rattle.table_run.specs.Run.{turn, moved, unlimited, moved_or_stopped, on_ratios, leave}
-use Rattle.table_run.specs.Tableau.{IsPivot, tableau_of}
-use Rattle.table_run.proofs.Entries.{IsTable, by_first}
-use Rattle.exact_num.proofs.After.{after_value}
-use Rattle.arithmetic.proofs.Comparisons.{equal_int_cmp}
+use Rattle.table_run.specs.Tableau.{ratio, IsAfterPivot, IsBlandTurn, tableau_of}
+use Rattle.table_run.proofs.Listed.{by_first}
+use Rattle.table_run.proofs.Columns.{find, entry_none}
+use Rattle.table_run.proofs.Entries.{IsTable, place_is, named, named_right, column_entry, right_entry}
+use Rattle.table_run.proofs.Turning.{turn_out}
 
 -- ---- the entering column
 test_below : (z : ℤ) → int_lt z (pos 0) ≡ true → z <ℤ pos 0
 test_below z h = grind (arith, ints)
-
-test_not_below : (z : ℤ) → int_lt z (pos 0) ≡ false → pos 0 ≤ℤ z
-test_not_below z h = grind (arith, ints)
 
 test_above : (z : ℤ) → int_lt (pos 0) z ≡ true → pos 0 <ℤ z
 test_above z h = grind (arith, ints)
@@ -36,34 +35,68 @@ test_above z h = grind (arith, ints)
 above_test : (z : ℤ) → pos 0 <ℤ z → int_lt (pos 0) z ≡ true
 above_test z h = grind (arith, ints)
 
--- the first entry below 0, and none before it
-pub first_out : (i : ℕ) (xs : List Fraction) (e : ℕ) → first_below i xs ≡ Some e → (k : ℕ) × (e ≡ i + k) × (k < length xs) × ((at xs k).numerator <ℤ pos 0) × ((j : ℕ) → j < k → pos 0 ≤ℤ (at xs j).numerator)
-unfolding first_below
-first_out i [] e h = cc
-first_out i (x ∷ xs) e h = step (is_below_zero x) refl h (first_out (i + 1) xs e)
-  where
-    step : (b : Bool) → is_below_zero x ≡ b → (if b then Some i else first_below (i + 1) xs) ≡ Some e → (first_below (i + 1) xs ≡ Some e → (k : ℕ) × (e ≡ i + 1 + k) × (k < length xs) × ((at xs k).numerator <ℤ pos 0) × ((j : ℕ) → j < k → pos 0 ≤ℤ (at xs j).numerator))
-        → (k : ℕ) × (e ≡ i + k) × (k < length (x ∷ xs)) × ((at (x ∷ xs) k).numerator <ℤ pos 0) × ((j : ℕ) → j < k → pos 0 ≤ℤ (at (x ∷ xs) j).numerator)
-    step true t k later =
-        let same : i ≡ e = cc in
-        (0, omega (arith, same), omega arith, test_below x.numerator t, λ j p. absurd (omega (arith, p)))
-    step false t k later =
-        let r = later k in
-        (suc r.0, omega (arith, r.1), omega (arith, r.2), r.3, by_first (λ j. j < suc r.0 → pos 0 ≤ℤ (at (x ∷ xs) j).numerator) (λ p. test_not_below x.numerator t) (λ j p. r.4 j (omega (arith, p))))
+below_test : (z : ℤ) → z <ℤ pos 0 → int_lt z (pos 0) ≡ true
+below_test z h = grind (arith, ints)
 
-first_none : (i : ℕ) (xs : List Fraction) → first_below i xs ≡ None → (j : ℕ) → j < length xs → pos 0 ≤ℤ (at xs j).numerator
-unfolding first_below
-first_none i [] h j p = absurd (omega (arith, p))
-first_none i (x ∷ xs) h j p = step (is_below_zero x) refl h (first_none (i + 1) xs) j p
-  where
-    step : (b : Bool) → is_below_zero x ≡ b → (if b then Some i else first_below (i + 1) xs) ≡ None → (first_below (i + 1) xs ≡ None → (j : ℕ) → j < length xs → pos 0 ≤ℤ (at xs j).numerator) → (j : ℕ) → j < length (x ∷ xs) → pos 0 ≤ℤ (at (x ∷ xs) j).numerator
-    step true t k later = cc
-    step false t k later = by_first (λ j. j < length (x ∷ xs) → pos 0 ≤ℤ (at (x ∷ xs) j).numerator) (λ p. test_not_below x.numerator t) (λ j p. later k j (omega (arith, p)))
+-- of the columns from place k on
+record IsLeast (k : ℕ) (vs : List ℕ) (xs : List Fraction) (c : Column) : Type 0 where
+  row : ℕ
+  place : c.place ≡ k + row
+  inside : row < length vs
+  labelled : c.label ≡ label_at vs row
+  below : is_below_zero (at xs row) ≡ true
+  least : (j : ℕ) → j < length vs → is_below_zero (at xs j) ≡ true → c.label ≤ label_at vs j
 
-length_taken : (k : ℕ) (xs : List Fraction) → k ≤ length xs → length (take k xs) ≡ k
-length_taken zero xs h = refl
-length_taken (suc k) [] h = absurd (omega (arith, h))
-length_taken (suc k) (x ∷ xs) h = ap suc (length_taken k xs (omega (arith, h)))
+abbrev NoneBelow : List ℕ → List Fraction → Type 0
+NoneBelow vs xs = (j : ℕ) → j < length vs → is_below_zero (at xs j) ≡ false
+
+abbrev Found : ℕ → List ℕ → List Fraction → Option Column → Type 0
+Found k vs xs None = NoneBelow vs xs
+Found k vs xs (Some c) = IsLeast k vs xs c
+
+both : (b : Bool) → b ≡ true → b ≡ false → ⊥
+both b h k = cc
+
+found : (k : ℕ) (vs : List ℕ) (xs : List Fraction) → Found k vs xs (least_below k vs xs)
+unfolding least_below
+found k [] xs = λ j p. absurd (omega (arith, p))
+found k (v ∷ vs) [] = λ j p. refl
+found k (v ∷ vs) (x ∷ xs) = step (is_below_zero x) refl (least_below (k + 1) vs xs) (found (k + 1) vs xs)
+  where
+    here : Column
+    here = record { place = k; label = v }
+
+    first : is_below_zero x ≡ true → ((j : ℕ) → j < length vs → is_below_zero (at xs j) ≡ true → v ≤ label_at vs j) → IsLeast k (v ∷ vs) (x ∷ xs) (record { place = k; label = v })
+    first t later =
+        record {
+          row = 0;
+          place = omega arith;
+          inside = omega arith;
+          labelled = refl;
+          below = t;
+          least = by_first (λ j. j < length (v ∷ vs) → is_below_zero (at (x ∷ xs) j) ≡ true → v ≤ label_at (v ∷ vs) j) (λ p h. omega arith) (λ j p h. later j (omega (arith, p)) h);
+        }
+
+    shifted : (c : Column) → IsLeast (k + 1) vs xs c → (is_below_zero x ≡ true → c.label ≤ v) → IsLeast k (v ∷ vs) (x ∷ xs) c
+    shifted c l low =
+        record {
+          row = suc l.row;
+          place = l.place ∙ omega arith;
+          inside = (let p = l.inside in omega (arith, p));
+          labelled = l.labelled;
+          below = l.below;
+          least = by_first (λ j. j < length (v ∷ vs) → is_below_zero (at (x ∷ xs) j) ≡ true → c.label ≤ label_at (v ∷ vs) j) (λ p h. low h) (λ j p h. l.least j (omega (arith, p)) h);
+        }
+
+    choose : is_below_zero x ≡ true → (c : Column) → IsLeast (k + 1) vs xs c → (b : Bool) → nat_lt c.label v ≡ b → IsLeast k (v ∷ vs) (x ∷ xs) (if b then c else record { place = k; label = v })
+    choose t c l true q = let less : c.label < v = grind (arith, nat_tests) in shifted c l (λ h. omega (arith, less))
+    choose t c l false q = let more : v ≤ c.label = grind (arith, nat_tests) in first t (λ j p h. let up = l.least j p h in omega (arith, up, more))
+
+    step : (b : Bool) → is_below_zero x ≡ b → (o : Option Column) → Found (k + 1) vs xs o → Found k (v ∷ vs) (x ∷ xs) (if b then Some (smaller (record { place = k; label = v }) o) else o)
+    step true t None f = first t (λ j p h. absurd (both (is_below_zero (at xs j)) h (f j p)))
+    step true t (Some c) f = choose t c f (nat_lt c.label v) refl
+    step false t None f = by_first (λ j. j < length (v ∷ vs) → is_below_zero (at (x ∷ xs) j) ≡ false) (λ p. t) (λ j p. f j (omega (arith, p)))
+    step false t (Some c) f = shifted c f (λ h. absurd (both (is_below_zero x) h t))
 
 -- ---- the ratios
 -- q is one of the ratios
@@ -230,100 +263,150 @@ least_limits limit columns e rows q qs low h =
     (omega (arith, is_row, best.inside), subst (λ r. pos 0 <ℤ (at (entries_at rows r) e).numerator) (sym is_row) best.above)
 
 -- ---- what a turn says
-pub moved_out : (limit e : ℕ) (t u : Table) → turn limit e t ≡ moved u → (q : Ratio) × (qs : List Ratio) × (ratios limit t.columns e 0 t.rows ≡ Ok (q ∷ qs)) × (after_pivot limit e (least q qs).place t ≡ Ok u)
+pub moved_out : (limit c : ℕ) (t u : Table) → turn limit c t ≡ moved u → (q : Ratio) × (qs : List Ratio) × (ratios limit (length t.labels) c 0 t.rows ≡ Ok (q ∷ qs)) × (after_pivot limit c (least q qs).place t ≡ Ok u)
 unfolding turn
-moved_out limit e t u h = step (ratios limit t.columns e 0 t.rows) refl h
+moved_out limit c t u h = step (ratios limit (length t.labels) c 0 t.rows) refl h
   where
     moved_ok : (r : Result Table Wide) → moved_or_stopped r ≡ moved u → r ≡ Ok u
     moved_ok (Ok next) k = cc
     moved_ok (Err w) k = cc
 
-    step : (r : Result (List Ratio) Wide) → ratios limit t.columns e 0 t.rows ≡ r → on_ratios r (λ qs. leave limit e t qs) ≡ moved u → (q : Ratio) × (qs : List Ratio) × (ratios limit t.columns e 0 t.rows ≡ Ok (q ∷ qs)) × (after_pivot limit e (least q qs).place t ≡ Ok u)
+    step : (r : Result (List Ratio) Wide) → ratios limit (length t.labels) c 0 t.rows ≡ r → on_ratios r (λ qs. leave limit c t qs) ≡ moved u → (q : Ratio) × (qs : List Ratio) × (ratios limit (length t.labels) c 0 t.rows ≡ Ok (q ∷ qs)) × (after_pivot limit c (least q qs).place t ≡ Ok u)
     step (Ok []) f k = cc
     step (Ok (q ∷ qs)) f k = (q, qs, f, moved_ok _ k)
     step (Err w) f k = cc
 
-pub unlimited_out : (limit e : ℕ) (t : Table) → turn limit e t ≡ unlimited → ratios limit t.columns e 0 t.rows ≡ Ok []
+pub unlimited_out : (limit c : ℕ) (t : Table) → turn limit c t ≡ unlimited → ratios limit (length t.labels) c 0 t.rows ≡ Ok []
 unfolding turn
-unlimited_out limit e t h = step (ratios limit t.columns e 0 t.rows) refl h
+unlimited_out limit c t h = step (ratios limit (length t.labels) c 0 t.rows) refl h
   where
     not_ray : (r : Result Table Wide) → moved_or_stopped r ≡ unlimited → ⊥
     not_ray (Ok next) k = cc
     not_ray (Err w) k = cc
 
-    step : (r : Result (List Ratio) Wide) → ratios limit t.columns e 0 t.rows ≡ r → on_ratios r (λ qs. leave limit e t qs) ≡ unlimited → ratios limit t.columns e 0 t.rows ≡ Ok []
+    step : (r : Result (List Ratio) Wide) → ratios limit (length t.labels) c 0 t.rows ≡ r → on_ratios r (λ qs. leave limit c t qs) ≡ unlimited → ratios limit (length t.labels) c 0 t.rows ≡ Ok []
     step (Ok []) f k = f
     step (Ok (q ∷ qs)) f k = absurd (not_ray _ k)
     step (Err w) f k = cc
 
 -- ---- the entering column of a table
-pub entering_out : (m n e : ℕ) (t : Table) → IsTable m n t → entering t ≡ Some e → (e < n) × ((at t.objective e).numerator <ℤ pos 0) × ((j : ℕ) → j < e → pos 0 ≤ℤ (at t.objective j).numerator)
-unfolding entering
-entering_out m n e t g h =
-    let r = first_out 0 (take t.columns t.objective) e h in
-    let same : e ≡ r.0 = r.1 ∙ omega arith in
-    let long : length (take t.columns t.objective) ≡ n = length_taken t.columns t.objective (omega (arith, g.columns, g.width)) ∙ g.columns in
-    let low : r.0 < n = omega (arith, r.2, long) in
-    let taken : (j : ℕ) → j < n → at (take t.columns t.objective) j ≡ at t.objective j = λ j p. get_or-take t.columns t.objective j (whole (pos 0)) (omega (arith, p, g.columns)) in (
-      omega (arith, low, same),
-      subst (λ w. (at t.objective w).numerator <ℤ pos 0) (sym same) (subst (λ (f : Fraction). f.numerator <ℤ pos 0) (taken r.0 low) r.3),
-      λ j p. subst (λ (f : Fraction). pos 0 ≤ℤ f.numerator) (taken j (omega (arith, p, low, same))) (r.4 j (omega (arith, p, same))),
-    )
-
-pub entering_none : (m n : ℕ) (t : Table) → IsTable m n t → entering t ≡ None → (j : ℕ) → j < n → pos 0 ≤ℤ (at t.objective j).numerator
-unfolding entering
-entering_none m n t g h j p =
-    let long : length (take t.columns t.objective) ≡ n = length_taken t.columns t.objective (omega (arith, g.columns, g.width)) ∙ g.columns in
-    subst (λ (f : Fraction). pos 0 ≤ℤ f.numerator) (get_or-take t.columns t.objective j (whole (pos 0)) (omega (arith, p, g.columns))) (first_none 0 (take t.columns t.objective) h j (omega (arith, p, long)))
-
--- ---- the choice of a turn
 pub above_value : (x : Fraction) → IsLowest x → pos 0 <ℤ x.numerator → IsAbove0 (value x)
 above_value x p h = subst (λ (f : Fraction). pos 0 <ℤ f.numerator) (sym (value_of_lowest x p)) h
 
 pub value_above : (x : Fraction) → IsLowest x → IsAbove0 (value x) → pos 0 <ℤ x.numerator
 value_above x p h = subst (λ (f : Fraction). pos 0 <ℤ f.numerator) (value_of_lowest x p) h
 
-pub below_value : (x : Fraction) → IsLowest x → x.numerator <ℤ pos 0 → IsBelow0 (value x)
+below_value : (x : Fraction) → IsLowest x → x.numerator <ℤ pos 0 → IsBelow0 (value x)
 below_value x p h = subst (λ (f : Fraction). f.numerator <ℤ pos 0) (sym (value_of_lowest x p)) h
 
-pub choice_out : (limit m n e : ℕ) (t : Table) (q : Ratio) (qs : List Ratio) → IsTable m n t → entering t ≡ Some e → ratios limit t.columns e 0 t.rows ≡ Ok (q ∷ qs) → IsPivot m n e (least q qs).place (tableau_of t)
-choice_out limit m n e t q qs g enters h =
-    let a = ratios_out limit t.columns e 0 t.rows (q ∷ qs) g.lowest h in
-    let lows : (c : Ratio) → Has c (q ∷ qs) → IsLowest c.value = λ c w. (a.each_is c w).lowest in
-    let l = least_out q qs (lows q (inl refl)) (λ c w. lows c (inr w)) in
-    let best = a.each_is (least q qs) l.0 in
-    let is_row : (least q qs).place ≡ best.row = best.place ∙ omega arith in
-    let column = entering_out m n e t g enters in
-    subst (λ r. IsPivot m n e r (tableau_of t)) (sym is_row)
-    (record {
-      row = omega (arith, best.inside, g.count);
-      column = column.0;
-      above = above_value _ (g.lowest best.row e) best.above;
-      below = below_value _ (g.lowest_price e) column.1;
-      least = λ i p above.
-          let other = a.each_has i (omega (arith, p, g.count)) (value_above _ (g.lowest i e) above) in
-          let before = (l.1 other.0 other.1).0 in
-          subst (λ c. IsAtMost (value (at (entries_at t.rows best.row) c) *Q inv_Q (value (at (entries_at t.rows best.row) e))) (value (at (entries_at t.rows i) c) *Q inv_Q (value (at (entries_at t.rows i) e)))) g.columns
-          (subst (λ w. IsAtMost w (value (at (entries_at t.rows i) t.columns) *Q inv_Q (value (at (entries_at t.rows i) e)))) best.is_value (subst (λ w. IsAtMost (value (least q qs).value) w) other.5 before));
-    })
+-- the column that enters is that of the smallest variable whose objective entry is below 0
+pub record Enters (n : ℕ) (t : Table) (c : Column) : Type 0 where
+  pub inside : c.place < n
+  pub labelled : c.label ≡ label_at t.labels c.place
+  pub below : (at t.objective c.place).numerator <ℤ pos 0
+  pub least : (k : ℕ) → k < n → (at t.objective k).numerator <ℤ pos 0 → c.label ≤ label_at t.labels k
 
--- of equal ratios the smallest basic variable leaves
-pub ties_out : (limit m n e : ℕ) (t : Table) (q : Ratio) (qs : List Ratio) → IsTable m n t → ratios limit t.columns e 0 t.rows ≡ Ok (q ∷ qs) → (i : ℕ) → i < m → IsAbove0 (value (at (entries_at t.rows i) e))
-    → value (at (entries_at t.rows (least q qs).place) n) *Q inv_Q (value (at (entries_at t.rows (least q qs).place) e)) ≡ value (at (entries_at t.rows i) n) *Q inv_Q (value (at (entries_at t.rows i) e)) → basic_at t.rows (least q qs).place ≤ basic_at t.rows i
-ties_out limit m n e t q qs g h i p above same =
-    let a = ratios_out limit t.columns e 0 t.rows (q ∷ qs) g.lowest h in
-    let lows : (c : Ratio) → Has c (q ∷ qs) → IsLowest c.value = λ c w. (a.each_is c w).lowest in
-    let l = least_out q qs (lows q (inl refl)) (λ c w. lows c (inr w)) in
+pub entering_out : (n m : ℕ) (t : Table) (c : Column) → IsTable n m t → entering t ≡ Some c → Enters n t c
+unfolding entering
+entering_out n m t c g h = step (least_below 0 t.labels t.objective) (found 0 t.labels t.objective) h
+  where
+    step : (o : Option Column) → Found 0 t.labels t.objective o → o ≡ Some c → Enters n t c
+    step None f q = cc
+    step (Some x) f q =
+        let same : x ≡ c = cc in
+        let is_row : f.row ≡ x.place = omega (arith, f.place) in
+        let in_row = f.inside in
+        subst (Enters n t) same (record {
+          inside = omega (arith, is_row, in_row, g.labels);
+          labelled = f.labelled ∙ ap (label_at t.labels) is_row;
+          below = test_below _ (ap (λ k. is_below_zero (at t.objective k)) (sym is_row) ∙ f.below);
+          least = λ k p below. f.least k (omega (arith, p, g.labels)) (below_test _ below);
+        })
+
+pub entering_none : (n m : ℕ) (t : Table) → IsTable n m t → entering t ≡ None → (k : ℕ) → k < n → (at t.objective k).numerator <ℤ pos 0 → ⊥
+unfolding entering
+entering_none n m t g h k p below = step (least_below 0 t.labels t.objective) (found 0 t.labels t.objective) h
+  where
+    step : (o : Option Column) → Found 0 t.labels t.objective o → o ≡ None → ⊥
+    step None f q = both (is_below_zero (at t.objective k)) (below_test _ below) (f k (omega (arith, p, g.labels)))
+    step (Some x) f q = cc
+
+pub label_inside : (n m : ℕ) (t : Table) (c : Column) → IsTable n m t → Enters n t c → c.label < n + m
+label_inside n m t c g e = subst (λ w. w < n + m) (sym e.labelled) (g.columns_inside c.place e.inside)
+
+pub entry_entering : (n m : ℕ) (t : Table) (c : Column) (own : ℕ → Fraction) (es : List Fraction) → IsTable n m t → Enters n t c → length es ≡ suc n → value (entry_for own (with_right t.columns t.labels) es c.label) ≡ value (at es c.place)
+entry_entering n m t c own es g e wide = ap (λ j. value (entry_for own (with_right t.columns t.labels) es j)) e.labelled ∙ ap value (column_entry n m c.place t own es g e.inside wide)
+
+pub price_entering : (n m : ℕ) (t : Table) (c : Column) → IsTable n m t → Enters n t c → IsBelow0 ((tableau_of t).price c.label)
+price_entering n m t c g e = subst IsBelow0 (sym (entry_entering n m t c no_entry t.objective g e g.width)) (below_value _ (g.lowest_price c.place) e.below)
+
+-- ---- the choice of a turn
+-- the sign of a price, where no column of that variable has an entry below 0
+pub price_sign : (n m : ℕ) (t : Table) → IsTable n m t → (j : ℕ) → j < n + m → ((k : ℕ) → k < n → label_at t.labels k ≡ j → (at t.objective k).numerator <ℤ pos 0 → ⊥) → IsNotBelow0 ((tableau_of t).price j)
+price_sign n m t g j low h =
+    elim (find (with_right t.columns t.labels) j) [
+      | inl k ↦ elim (place_is n m k.place t g k.inside) [
+        | inl in_k ↦
+            let is_j : label_at t.labels k.place ≡ j = sym (named n m k.place t g in_k) ∙ k.labelled in
+            subst IsNotBelow0 (sym (ap (tableau_of t).price (sym is_j) ∙ ap value (column_entry n m k.place t no_entry t.objective g in_k g.width)))
+            (not_below_value (at t.objective k.place) (g.lowest_price k.place).positive (by_lt_z (at t.objective k.place).numerator (pos 0) (λ below. absurd (h k.place in_k is_j below)) (λ up. up)))
+        | inr is_n ↦
+            let same : n + m ≡ j = sym (ap (label_at (with_right t.columns t.labels)) is_n ∙ named_right n m t g) ∙ k.labelled in
+            absurd (omega (arith, same, low))
+      ]
+      | inr none ↦ subst IsNotBelow0 (sym (ap value (entry_none no_entry (with_right t.columns t.labels) t.objective j none) ∙ value_zero)) zero_not_below
+    ]
+
+-- a turn that fits is one by Bland's rule
+pub bland_turn : (limit n m : ℕ) (t u : Table) (c : Column) (q : Ratio) (qs : List Ratio) → IsTable n m t → entering t ≡ Some c → ratios limit (length t.labels) c.place 0 t.rows ≡ Ok (q ∷ qs) → after_pivot limit c.place (least q qs).place t ≡ Ok u
+    → IsTable n m u × IsBlandTurn m (n + m) c.label (least q qs).place (tableau_of t) (tableau_of u)
+bland_turn limit n m t u c q qs g enters is_ratios is_u =
+    let T = tableau_of t in
+    let e = entering_out n m t c g enters in
+    let h = c.place in
+    let a = ratios_out limit (length t.labels) h 0 t.rows (q ∷ qs) g.lowest is_ratios in
+    let lows : (x : Ratio) → Has x (q ∷ qs) → IsLowest x.value = λ x w. (a.each_is x w).lowest in
+    let l = least_out q qs (lows q (inl refl)) (λ x w. lows x (inr w)) in
     let best = a.each_is (least q qs) l.0 in
-    let is_row : (least q qs).place ≡ best.row = best.place ∙ omega arith in
-    let other = a.each_has i (omega (arith, p, g.count)) (value_above _ (g.lowest i e) above) in
-    let ratio : ℕ → ℕ → Q = λ c k. value (at (entries_at t.rows k) c) *Q inv_Q (value (at (entries_at t.rows k) e)) in
-    let equal : value (least q qs).value ≡ value other.0.value =
-    best.is_value ∙ ap (λ c. ratio c best.row) g.columns ∙ ap (ratio n) (sym is_row) ∙ same ∙ ap (λ c. ratio c i) (sym g.columns) ∙ sym other.5 in
-    subst (λ w. w ≤ basic_at t.rows i) (best.basic ∙ ap (basic_at t.rows) (sym is_row)) (subst (λ w. (least q qs).basic ≤ w) other.3 ((l.1 other.0 other.1).1 equal))
+    let r = (least q qs).place in
+    let is_row : r ≡ best.row = best.place ∙ omega arith in
+    let best_in = best.inside in
+    let in_r : r < m = omega (arith, is_row, best_in, g.count) in
+    let in_c = e.inside in
+    let E : ℕ → Q = λ i. value (at (entries_at t.rows i) h) in
+    let B : ℕ → Q = λ i. value (at (entries_at t.rows i) n) in
+    let at_e : (i : ℕ) → i < m → T.entry i c.label ≡ E i = λ i p. entry_entering n m t c (own_entry (basic_at t.rows i)) (entries_at t.rows i) g e (g.widths i p) in
+    let at_n : (i : ℕ) → i < m → T.entry i (n + m) ≡ B i = λ i p. ap value (right_entry n m t (own_entry (basic_at t.rows i)) (entries_at t.rows i) g (g.widths i p)) in
+    let is_ratio : (i : ℕ) → i < m → ratio T (n + m) c.label i ≡ B i *Q inv_Q (E i) = λ i p k. at_n i p k *Q inv_Q (at_e i p k) in
+    let above : IsAbove0 (E r) = above_value _ (g.lowest r h) (subst (λ w. pos 0 <ℤ (at (entries_at t.rows w) h).numerator) (sym is_row) best.above) in
+    let value_r : value (least q qs).value ≡ B r *Q inv_Q (E r) = best.is_value ∙ ap (λ w. value (at (entries_at t.rows best.row) w) *Q inv_Q (E best.row)) g.labels ∙ ap (λ w. B w *Q inv_Q (E w)) (sym is_row) in
+    let other : (i : ℕ) → i < m → IsAbove0 (T.entry i c.label) → (x : Ratio) × Has x (q ∷ qs) × (x.basic ≡ basic_at t.rows i) × (value x.value ≡ B i *Q inv_Q (E i)) = λ i p up.
+    let w = a.each_has i (omega (arith, p, g.count)) (value_above _ (g.lowest i h) (subst IsAbove0 (at_e i p) up)) in
+    (w.0, w.1, w.3, w.5 ∙ ap (λ k. value (at (entries_at t.rows i) k) *Q inv_Q (E i)) g.labels) in
+    let is_inside = label_inside n m t c g e in
+    let o = turn_out limit n m h r t u g in_c in_r (λ z. let up = value_above _ (g.lowest r h) above in omega (arith, ints, z, up)) is_u in (
+      o.0,
+      record {
+        choice = record {
+          row = in_r;
+          column = is_inside;
+          above = subst IsAbove0 (sym (at_e r in_r)) above;
+          below = price_entering n m t c g e;
+          least = λ i p up.
+              let w = other i p up in
+              subst (λ x. IsAtMost x (ratio T (n + m) c.label i)) (value_r ∙ sym (is_ratio r in_r)) (subst (IsAtMost (value (least q qs).value)) (w.3 ∙ sym (is_ratio i p)) (l.1 w.0 w.1).0);
+        };
+        turn = subst (λ w. IsAfterPivot m (n + m) w r T (tableau_of u)) (sym e.labelled) o.1;
+        first = λ j l. price_sign n m t g j (omega (arith, l, is_inside)) (λ k in_k is_j below. let up = e.least k in_k below in omega (arith, up, is_j, l));
+        ties = λ i p up same.
+            let w = other i p up in
+            let equal : value (least q qs).value ≡ value w.0.value = value_r ∙ sym (is_ratio r in_r) ∙ same ∙ is_ratio i p ∙ sym w.3 in
+            subst (λ x. x ≤ basic_at t.rows i) (best.basic ∙ ap (basic_at t.rows) (sym is_row)) (subst (λ x. (least q qs).basic ≤ x) w.2 ((l.1 w.0 w.1).1 equal));
+      },
+    )
 
 -- no row limits the column
-pub unlimited_is : (limit m n e : ℕ) (t : Table) → IsTable m n t → ratios limit t.columns e 0 t.rows ≡ Ok [] → (i : ℕ) → i < m → (IsAbove0 (value (at (entries_at t.rows i) e))) → ⊥
-unlimited_is limit m n e t g h i p above =
-    let a = ratios_out limit t.columns e 0 t.rows [] g.lowest h in
-    (a.each_has i (omega (arith, p, g.count)) (value_above _ (g.lowest i e) above)).1
+pub unlimited_is : (limit n m c : ℕ) (t : Table) → IsTable n m t → ratios limit (length t.labels) c 0 t.rows ≡ Ok [] → (i : ℕ) → i < m → IsAbove0 (value (at (entries_at t.rows i) c)) → ⊥
+unlimited_is limit n m c t g h i p above =
+    let a = ratios_out limit (length t.labels) c 0 t.rows [] g.lowest h in
+    (a.each_has i (omega (arith, p, g.count)) (value_above _ (g.lowest i c) above)).1

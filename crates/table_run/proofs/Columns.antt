@@ -4,8 +4,7 @@ use Rattle.std.specs.Prelude.{if◌then◌else◌, slice_index_or}
 use Rattle.std.proofs.lemmas.Bool.{eqb-true, eq-eqb}
 use Rattle.std.proofs.lemmas.List.{length-set, length-append, set-append_left, get_or_append_left, get_or-append-add, get_or-set_same, get_or-set_other}
 use Rattle.std.proofs.Math.Decide.{ℕ_discrete}
-use Rattle.table_run.specs.Dictionary.{label_at, with_right}
-use Rattle.table_run.specs.WrittenOut.{entry_for}
+use Rattle.table_run.specs.Table.{label_at, with_right, entry_for}
 
 pub record HasColumn (ls : List ℕ) (j : ℕ) : Type 0 where
   pub place : ℕ

@@ -2,7 +2,7 @@
 use Rattle.std.proofs.Common.{ℕ, zero, suc, ◌+◌, arith}
 use Rattle.std.specs.Prelude.{Option, Some, None}
 use Rattle.table_run.specs.Table.{Table, first_table}
-use Rattle.table_run.specs.Choice.{entering}
+use Rattle.table_run.specs.Choice.{Column, entering}
 use Rattle.table_run.specs.Ending.{Ending, done, unbounded, wide_at, no_unit_left}
 use Rattle.table_run.specs.Run.{Optimum, optimum, Turn, moved, unlimited, stopped, turn, on_entering, on_turn, read_off, direction, run_from, run}
 use Rattle.table_run.specs.Units.{IsCounted, UnitsAreCounted}
@@ -22,21 +22,21 @@ counted : (limit n m left spent : ℕ) (t : Table) → IsCounted left spent (run
 unfolding run_from
 counted limit n m zero spent t = step (entering t)
   where
-    step : (o : Option ℕ) → IsCounted 0 spent (on_entering o (read_off n m t spent) (λ e. no_unit_left spent))
+    step : (o : Option Column) → IsCounted 0 spent (on_entering o (read_off n m t spent) (λ c. no_unit_left spent))
     step None = read_counted 0 n m t spent
-    step (Some e) = omega arith
+    step (Some c) = omega arith
 counted limit n m (suc left) spent t = step (entering t) (λ u. counted limit n m left (spent + 1) u)
   where
-    act : (e : ℕ) (w : Turn) → ((u : Table) → IsCounted left (spent + 1) (run_from limit n m left (spent + 1) u))
-        → IsCounted (suc left) spent (on_turn w (λ next. run_from limit n m left (spent + 1) next) (unbounded (direction n e t) (spent + 1)) (λ w. wide_at (spent + 1) w))
-    act e (moved u) later = more left spent (run_from limit n m left (spent + 1) u) (later u)
-    act e unlimited later = (omega arith, omega arith)
-    act e (stopped w) later = (omega arith, omega arith)
+    act : (c : Column) (w : Turn) → ((u : Table) → IsCounted left (spent + 1) (run_from limit n m left (spent + 1) u))
+        → IsCounted (suc left) spent (on_turn w (λ next. run_from limit n m left (spent + 1) next) (unbounded (direction n c t) (spent + 1)) (λ w. wide_at (spent + 1) w))
+    act c (moved u) later = more left spent (run_from limit n m left (spent + 1) u) (later u)
+    act c unlimited later = (omega arith, omega arith)
+    act c (stopped w) later = (omega arith, omega arith)
 
-    step : (o : Option ℕ) → ((u : Table) → IsCounted left (spent + 1) (run_from limit n m left (spent + 1) u))
-        → IsCounted (suc left) spent (on_entering o (read_off n m t spent) (λ e. on_turn (turn limit e t) (λ next. run_from limit n m left (spent + 1) next) (unbounded (direction n e t) (spent + 1)) (λ w. wide_at (spent + 1) w)))
+    step : (o : Option Column) → ((u : Table) → IsCounted left (spent + 1) (run_from limit n m left (spent + 1) u))
+        → IsCounted (suc left) spent (on_entering o (read_off n m t spent) (λ c. on_turn (turn limit c.place t) (λ next. run_from limit n m left (spent + 1) next) (unbounded (direction n c t) (spent + 1)) (λ w. wide_at (spent + 1) w)))
     step None later = read_counted (suc left) n m t spent
-    step (Some e) later = act e (turn limit e t) later
+    step (Some c) later = act c (turn limit c.place t) later
 
 pub units_are_counted : UnitsAreCounted
 unfolding run

@@ -13,35 +13,35 @@ use Rattle.exact_num.specs.Rationals.{Q, ◌+Q◌, ◌*Q◌, value, total, unit}
 use Rattle.exact_num.proofs.Totals.{total-zero, total-front, unit-same, unit-other}
 use Rattle.table_run.specs.Places.{at}
 use Rattle.table_run.specs.Table.{Row, Table, entries_at, where_basic, basic_at}
-use Rattle.table_run.specs.Choice.{entering}
+use Rattle.table_run.specs.Choice.{Column, entering}
 use Rattle.table_run.specs.Ending.{Ending, unbounded, wide_at, no_unit_left}
 use Rattle.table_run.specs.Run.{Optimum, Turn, moved, unlimited, stopped, turn, on_turn, on_entering, run_from, read_off, direction}
 use Rattle.table_run.specs.Tableau.{Tableau, IsFeasible}
 
 -- ---- a property of tables that each turn keeps, and what it makes of the end
 pub run_keeps : (P : Table → Type 0) (E : Ending Optimum → Type 0) (limit n m : ℕ)
-    → ((t u : Table) (e : ℕ) → P t → entering t ≡ Some e → turn limit e t ≡ moved u → P u)
+    → ((t u : Table) (c : Column) → P t → entering t ≡ Some c → turn limit c.place t ≡ moved u → P u)
     → ((t : Table) (spent : ℕ) → P t → entering t ≡ None → E (read_off n m t spent))
-    → ((t : Table) (e spent : ℕ) → P t → entering t ≡ Some e → turn limit e t ≡ unlimited → E (unbounded (direction n e t) spent))
+    → ((t : Table) (c : Column) (spent : ℕ) → P t → entering t ≡ Some c → turn limit c.place t ≡ unlimited → E (unbounded (direction n c t) spent))
     → ((spent : ℕ) (w : Wide) → E (wide_at spent w))
     → ((spent : ℕ) → E (no_unit_left spent))
     → (left spent : ℕ) (t : Table) → P t → E (run_from limit n m left spent t)
 unfolding run_from
 run_keeps P E limit n m kept ends rays stops outs zero spent t p = step (entering t) refl
   where
-    step : (o : Option ℕ) → entering t ≡ o → E (on_entering o (read_off n m t spent) (λ e. no_unit_left spent))
+    step : (o : Option Column) → entering t ≡ o → E (on_entering o (read_off n m t spent) (λ c. no_unit_left spent))
     step None h = ends t spent p h
-    step (Some e) h = outs spent
+    step (Some c) h = outs spent
 run_keeps P E limit n m kept ends rays stops outs (suc left) spent t p = step (entering t) refl (λ u q. run_keeps P E limit n m kept ends rays stops outs left (spent + 1) u q)
   where
-    act : (e : ℕ) → entering t ≡ Some e → ((u : Table) → P u → E (run_from limit n m left (spent + 1) u)) → (w : Turn) → turn limit e t ≡ w → E (on_turn w (λ next. run_from limit n m left (spent + 1) next) (unbounded (direction n e t) (spent + 1)) (λ w. wide_at (spent + 1) w))
-    act e h later (moved u) k = later u (kept t u e p h k)
-    act e h later unlimited k = rays t e (spent + 1) p h k
-    act e h later (stopped w) k = stops (spent + 1) w
+    act : (c : Column) → entering t ≡ Some c → ((u : Table) → P u → E (run_from limit n m left (spent + 1) u)) → (w : Turn) → turn limit c.place t ≡ w → E (on_turn w (λ next. run_from limit n m left (spent + 1) next) (unbounded (direction n c t) (spent + 1)) (λ w. wide_at (spent + 1) w))
+    act c h later (moved u) k = later u (kept t u c p h k)
+    act c h later unlimited k = rays t c (spent + 1) p h k
+    act c h later (stopped w) k = stops (spent + 1) w
 
-    step : (o : Option ℕ) → entering t ≡ o → ((u : Table) → P u → E (run_from limit n m left (spent + 1) u)) → E (on_entering o (read_off n m t spent) (λ e. on_turn (turn limit e t) (λ next. run_from limit n m left (spent + 1) next) (unbounded (direction n e t) (spent + 1)) (λ w. wide_at (spent + 1) w)))
+    step : (o : Option Column) → entering t ≡ o → ((u : Table) → P u → E (run_from limit n m left (spent + 1) u)) → E (on_entering o (read_off n m t spent) (λ c. on_turn (turn limit c.place t) (λ next. run_from limit n m left (spent + 1) next) (unbounded (direction n c t) (spent + 1)) (λ w. wide_at (spent + 1) w)))
     step None h later = ends t spent p h
-    step (Some e) h later = act e h later (turn limit e t) refl
+    step (Some c) h later = act c h later (turn limit c.place t) refl
 
 -- what holds of the items of a list and of 0
 pub holds_at : (P : Fraction → Type 0) (xs : List Fraction) → P (whole (pos 0)) → ((j : ℕ) → j < length xs → P (at xs j)) → (j : ℕ) → P (at xs j)

@@ -1,172 +1,184 @@
--- The lists of a table as functions, and a turn of them that fits.
-use Rattle.std.proofs.Common.{◌≡◌, ◌≢◌, ℕ, zero, suc, ◌+◌, ◌<◌, ◌≤◌, List, [], ◌∷◌, length, inl, inr, arith, refl, sym, ◌∙◌, ap, subst, pos, Bool, true, false, nat_eq}
-use Rattle.std.specs.Prelude.{Result, Ok, if◌then◌else◌}
-use Rattle.std.proofs.lemmas.List.{get_or_past}
-use Rattle.std.proofs.Math.Decide.{ℕ_discrete}
-use Rattle.std.proofs.lemmas.Bool.{cases_lt}
+-- The entries of a table, by places and by variables.
+use Rattle.std.proofs.Common.{◌≡◌, ℕ, zero, suc, ◌+◌, ◌<◌, ◌≤◌, List, [], ◌∷◌, length, set, ◌⊎◌, inl, inr, arith, refl, sym, ◌∙◌, ap, subst, pos, Bool, true, false, nat_eq}
+use Rattle.std.specs.Prelude.{if◌then◌else◌}
+use Rattle.std.proofs.lemmas.Bool.{cases_lt, eq-eqb}
 use Rattle.std.proofs.lemmas.Bool.Decides.{nat_tests}
-use Rattle.table_run.specs.Tableau.{tableau_of, IsAfterPivot}
-use Rattle.exact_num.specs.declared.misfit.Wide.{Wide}
+use Rattle.std.proofs.lemmas.List.{get_or_past, get_or-set_same, get_or-set_other, length-set}
+use Rattle.std.proofs.Math.Decide.{ℕ_discrete}
 use Rattle.exact_num.specs.Fraction.{Fraction, IsLowest, whole}
-use Rattle.exact_num.specs.Fits.{mul_of, sub_of, div_of, after}
-use Rattle.exact_num.proofs.After.{after_value}
 use Rattle.exact_num.proofs.Values.{whole_is_lowest}
-use Rattle.exact_num.proofs.Rationals.{difference_step, product_step, quotient_step}
-use Rattle.exact_num.specs.Rationals.{◌+Q◌, ◌*Q◌, neg_Q, inv_Q, value}
-use Rattle.table_run.specs.Places.{at}
-use Rattle.table_run.specs.Table.{Row, Table, basic_at, entries_at, row_of}
-use Rattle.table_run.specs.Pivot.{each, each_pair, less_product, over_pivot, less_pivot_row, row_after, rows_after, after_pivot}
+use Rattle.exact_num.proofs.Rationals.{value_zero, value_one}
+use Rattle.exact_num.specs.Rationals.{value, IsNotBelow0}
+use Rattle.exact_num.proofs.Totals.{unit-same, unit-other}
+use Rattle.table_run.specs.Places.{at, fraction_zero}
+use Rattle.table_run.specs.Table.{Row, Table, label_at, with_right, entries_at, basic_at, entry_for, own_entry, no_entry}
+use Rattle.table_run.specs.Tableau.{tableau_of, IsFeasible}
+use Rattle.table_run.proofs.Columns.{HasNone, Distinct, IsSwap, entry_none, entry_where, label_other, label_own, distinct_after, none_before, right_count, right_label, right_own, right_set}
 
--- m rows and the objective row, of n + 1 fractions in lowest terms
-pub record IsTable (m n : ℕ) (t : Table) : Type 0 where
-  pub columns : t.columns ≡ n
+-- n columns and m rows: each variable is either basic, in one row, or has one column; the fractions
+-- are in lowest terms
+pub record IsTable (n m : ℕ) (t : Table) : Type 0 where
+  pub total : t.columns ≡ n + m
+  pub labels : length t.labels ≡ n
   pub count : length t.rows ≡ m
+  pub columns_differ : (k l : ℕ) → k < n → l < n → label_at t.labels k ≡ label_at t.labels l → k ≡ l
+  pub columns_inside : (k : ℕ) → k < n → label_at t.labels k < n + m
+  pub basics_differ : (i k : ℕ) → i < m → k < m → basic_at t.rows i ≡ basic_at t.rows k → i ≡ k
+  pub basics_inside : (i : ℕ) → i < m → basic_at t.rows i < n + m
+  pub apart : (k i : ℕ) → k < n → i < m → label_at t.labels k ≡ basic_at t.rows i → ⊥
   pub widths : (i : ℕ) → i < m → length (entries_at t.rows i) ≡ suc n
   pub width : length t.objective ≡ suc n
   pub lowest : (i j : ℕ) → IsLowest (at (entries_at t.rows i) j)
   pub lowest_price : (j : ℕ) → IsLowest (at t.objective j)
-
--- ---- what an answer Ok says of the steps before it
-pub by_first : (P : ℕ → Type 0) → P zero → ((j : ℕ) → P (suc j)) → (j : ℕ) → P j
-by_first P z s zero = z
-by_first P z s (suc j) = s j
-
-pub each_out : (f : Fraction → Result Fraction Wide) (xs ys : List Fraction) → each f xs ≡ Ok ys → (length ys ≡ length xs) × ((j : ℕ) → j < length xs → f (at xs j) ≡ Ok (at ys j))
-unfolding each
-each_out f [] ys h = let e : [] ≡ ys = cc in (ap length (sym e), λ j p. absurd (omega (arith, p)))
-each_out f (x ∷ xs) ys h =
-    let a = after_value (f x) _ ys h in
-    let b = after_value (each f xs) _ ys a.rest in
-    let e : a.value ∷ b.value ≡ ys = cc in
-    let rest = each_out f xs b.value b.first in
-    subst (λ (zs : List Fraction). (length zs ≡ length (x ∷ xs)) × ((j : ℕ) → j < length (x ∷ xs) → f (at (x ∷ xs) j) ≡ Ok (at zs j))) e
-    (ap suc rest.0, by_first (λ j. j < length (x ∷ xs) → f (at (x ∷ xs) j) ≡ Ok (at (a.value ∷ b.value) j)) (λ p. a.first) (λ j p. rest.1 j (omega (arith, p))))
-
-pub pair_out : (f : Fraction → Fraction → Result Fraction Wide) (xs ps ys : List Fraction) → length xs ≡ length ps → each_pair f xs ps ≡ Ok ys → (length ys ≡ length xs) × ((j : ℕ) → j < length xs → f (at xs j) (at ps j) ≡ Ok (at ys j))
-unfolding each_pair
-pair_out f [] ps ys same h = let e : [] ≡ ys = cc in (ap length (sym e), λ j p. absurd (omega (arith, p)))
-pair_out f (x ∷ xs) [] ys same h = absurd (omega (arith, same))
-pair_out f (x ∷ xs) (q ∷ ps) ys same h =
-    let a = after_value (f x q) _ ys h in
-    let b = after_value (each_pair f xs ps) _ ys a.rest in
-    let e : a.value ∷ b.value ≡ ys = cc in
-    let rest = pair_out f xs ps b.value (omega (arith, same)) b.first in
-    subst (λ (zs : List Fraction). (length zs ≡ length (x ∷ xs)) × ((j : ℕ) → j < length (x ∷ xs) → f (at (x ∷ xs) j) (at (q ∷ ps) j) ≡ Ok (at zs j))) e
-    (ap suc rest.0, by_first (λ j. j < length (x ∷ xs) → f (at (x ∷ xs) j) (at (q ∷ ps) j) ≡ Ok (at (a.value ∷ b.value) j)) (λ p. a.first) (λ j p. rest.1 j (omega (arith, p))))
-
-turned_out : (limit e r : ℕ) (pivot : List Fraction) (i : ℕ) (rows us : List Row) → rows_after limit e r pivot i rows ≡ Ok us → (length us ≡ length rows) × ((k : ℕ) → k < length rows → row_after limit e r pivot (i + k) (row_of (basic_at rows k) (entries_at rows k)) ≡ Ok (row_of (basic_at us k) (entries_at us k)))
-unfolding rows_after
-turned_out limit e r pivot i [] us h = let q : [] ≡ us = cc in (ap length (sym q), λ j p. absurd (omega (arith, p)))
-turned_out limit e r pivot i (row ∷ rows) us h =
-    let a = after_value (row_after limit e r pivot i row) _ us h in
-    let b = after_value (rows_after limit e r pivot (i + 1) rows) _ us a.rest in
-    let q : a.value ∷ b.value ≡ us = cc in
-    let rest = turned_out limit e r pivot (i + 1) rows b.value b.first in
-    let first : i + 0 ≡ i = omega arith in
-    let next : (k : ℕ) → i + 1 + k ≡ i + suc k = λ k. omega arith in
-    subst (λ (zs : List Row). (length zs ≡ length (row ∷ rows)) × ((k : ℕ) → k < length (row ∷ rows) → row_after limit e r pivot (i + k) (row_of (basic_at (row ∷ rows) k) (entries_at (row ∷ rows) k)) ≡ Ok (row_of (basic_at zs k) (entries_at zs k)))) q (
-      ap suc rest.0,
-      by_first (λ k. k < length (row ∷ rows) → row_after limit e r pivot (i + k) (row_of (basic_at (row ∷ rows) k) (entries_at (row ∷ rows) k)) ≡ Ok (row_of (basic_at (a.value ∷ b.value) k) (entries_at (a.value ∷ b.value) k)))
-          (λ p. ap (λ k. row_after limit e r pivot k row) first ∙ a.first)
-          (λ k p. ap (λ h. row_after limit e r pivot h (row_of (basic_at rows k) (entries_at rows k))) (sym (next k)) ∙ rest.1 k (omega (arith, p))),
-    )
-
--- a row after a turn
-row_after_out : (limit e r : ℕ) (pivot : List Fraction) (i : ℕ) (row u : Row) → row_after limit e r pivot i row ≡ Ok u → (i ≡ r → u ≡ row_of e pivot) × ((i ≡ r → ⊥) → (u.basic ≡ row.basic) × (less_pivot_row limit e pivot row.entries ≡ Ok u.entries))
-row_after_out limit e r pivot i row u h = step (nat_eq i r) refl h
-  where
-    step : (b : Bool) → nat_eq i r ≡ b → (if b then Ok (row_of e pivot) else after (less_pivot_row limit e pivot row.entries) (λ es. Ok (row_of row.basic es))) ≡ Ok u → (i ≡ r → u ≡ row_of e pivot) × ((i ≡ r → ⊥) → (u.basic ≡ row.basic) × (less_pivot_row limit e pivot row.entries ≡ Ok u.entries))
-    step true t k = (λ same. cc, λ ne. absurd (ne (grind (arith, nat_tests))))
-    step false t k =
-        let a = after_value (less_pivot_row limit e pivot row.entries) _ u k in
-        let q : row_of row.basic a.value ≡ u = cc in
-        (λ same. absurd (grind (arith, nat_tests)), λ ne. (sym (ap (λ (w : Row). w.basic) q), a.first ∙ ap Ok (ap (λ (w : Row). w.entries) q)))
 
 pub no_row : (rows : List Row) (k : ℕ) → length rows ≤ k → entries_at rows k ≡ []
 no_row [] k h = refl
 no_row (row ∷ rows) zero h = absurd (omega (arith, h))
 no_row (row ∷ rows) (suc k) h = no_row rows k (omega (arith, h))
 
--- ---- the steps of a row, as values
-lowest_all : (xs : List Fraction) → ((j : ℕ) → j < length xs → IsLowest (at xs j)) → (j : ℕ) → IsLowest (at xs j)
-lowest_all xs h j =
-    elim (cases_lt j (length xs)) [
-      | inl p ↦ h j p
-      | inr p ↦ subst IsLowest (sym (get_or_past xs j (whole (pos 0)) p)) (whole_is_lowest (pos 0))
+-- ---- the own entries of a row
+pub own_same : (b j : ℕ) → b ≡ j → own_entry b j ≡ whole (pos 1)
+own_same b j e = let t = eq-eqb b j e in ap (λ (x : Bool). if x then whole (pos 1) else fraction_zero) t
+
+other_test : (j k : ℕ) → (j ≡ k → ⊥) → nat_eq j k ≡ false
+other_test j k h = grind (arith, nat_tests)
+
+pub own_other : (b j : ℕ) → (b ≡ j → ⊥) → own_entry b j ≡ fraction_zero
+own_other b j ne = let t = other_test b j ne in ap (λ (x : Bool). if x then whole (pos 1) else fraction_zero) t
+
+-- ---- the labels, with the right side
+pub labels_count : (n m : ℕ) (t : Table) → IsTable n m t → length (with_right t.columns t.labels) ≡ suc n
+labels_count n m t g = right_count t.columns t.labels ∙ ap suc g.labels
+
+pub named : (n m k : ℕ) (t : Table) → IsTable n m t → k < n → label_at (with_right t.columns t.labels) k ≡ label_at t.labels k
+named n m k t g p = right_label t.columns t.labels k (omega (arith, p, g.labels))
+
+pub named_right : (n m : ℕ) (t : Table) → IsTable n m t → label_at (with_right t.columns t.labels) n ≡ n + m
+named_right n m t g = ap (label_at (with_right t.columns t.labels)) (sym g.labels) ∙ right_own t.columns t.labels ∙ g.total
+
+-- a place is that of a column, or of the right side
+pub place_is : (n m k : ℕ) (t : Table) → IsTable n m t → k < length (with_right t.columns t.labels) → (k < n) ⊎ (k ≡ n)
+place_is n m k t g p =
+    elim (cases_lt k n) [
+      | inl q ↦ inl q
+      | inr q ↦ inr (omega (arith, p, q, labels_count n m t g))
     ]
 
-less_step : (limit : ℕ) (f x p y : Fraction) → IsLowest f → IsLowest x → IsLowest p → less_product limit f x p ≡ Ok y → IsLowest y × (value y ≡ value x +Q neg_Q (value f *Q value p))
-less_step limit f x p y lf lx lp h =
-    let a = after_value (mul_of limit f p) (λ product. sub_of limit x product) y h in
-    let m = product_step limit f p a.value lf lp a.first in
-    let s = difference_step limit x a.value y lx m.0 a.rest in
-    (s.0, s.1 ∙ ap (λ w. value x +Q neg_Q w) m.1)
+pub right_distinct : (n m : ℕ) (t : Table) → IsTable n m t → Distinct (with_right t.columns t.labels)
+right_distinct n m t g k l p q h =
+    let apart : (k l : ℕ) → k < n → l ≡ n → label_at (with_right t.columns t.labels) k ≡ label_at (with_right t.columns t.labels) l → ⊥ = λ k l a b e.
+    let low = g.columns_inside k a in
+    let same : label_at t.labels k ≡ n + m = sym (named n m k t g a) ∙ e ∙ ap (label_at (with_right t.columns t.labels)) b ∙ named_right n m t g in
+    omega (arith, low, same) in
+    elim (place_is n m k t g p) [
+      | inl a ↦ elim (place_is n m l t g q) [
+        | inl b ↦ g.columns_differ k l a b (sym (named n m k t g a) ∙ h ∙ named n m l t g b)
+        | inr b ↦ absurd (apart k l a b h)
+      ]
+      | inr a ↦ elim (place_is n m l t g q) [
+        | inl b ↦ absurd (apart l k b a (sym h))
+        | inr b ↦ a ∙ sym b
+      ]
+    ]
 
--- a row or the objective that is cleared
-pub cleared_out : (limit e n : ℕ) (pivot xs ys : List Fraction) → length xs ≡ suc n → length pivot ≡ suc n → ((j : ℕ) → IsLowest (at xs j)) → ((j : ℕ) → IsLowest (at pivot j)) → less_pivot_row limit e pivot xs ≡ Ok ys
-    → (length ys ≡ suc n) × ((j : ℕ) → IsLowest (at ys j)) × ((j : ℕ) → j ≤ n → value (at ys j) ≡ value (at xs j) +Q neg_Q (value (at xs e) *Q value (at pivot j)))
-unfolding less_pivot_row
-cleared_out limit e n pivot xs ys wx wp lx lp h =
-    let out = pair_out (less_product limit (at xs e)) xs pivot ys (wx ∙ sym wp) h in
-    let step : (j : ℕ) → j < length xs → IsLowest (at ys j) × (value (at ys j) ≡ value (at xs j) +Q neg_Q (value (at xs e) *Q value (at pivot j))) = λ j p. less_step limit (at xs e) (at xs j) (at pivot j) (at ys j) (lx e) (lx j) (lp j) (out.1 j p) in
-    (out.0 ∙ wx, lowest_all ys (λ j p. (step j (omega (arith, p, out.0))).0), λ j p. (step j (omega (arith, p, wx))).1)
+right_fresh : (n m r : ℕ) (t : Table) → IsTable n m t → r < m → HasNone (with_right t.columns t.labels) (basic_at t.rows r)
+right_fresh n m r t g in_r k p h =
+    let low = g.basics_inside r in_r in
+    elim (place_is n m k t g p) [
+      | inl a ↦ g.apart k r a in_r (sym (named n m k t g a) ∙ h)
+      | inr a ↦
+          let same : n + m ≡ basic_at t.rows r = sym (ap (label_at (with_right t.columns t.labels)) a ∙ named_right n m t g) ∙ h in
+          omega (arith, low, same)
+    ]
 
--- the pivot row
-pub divided_out : (limit e n : ℕ) (xs ys : List Fraction) → length xs ≡ suc n → ((j : ℕ) → IsLowest (at xs j)) → (at xs e).numerator ≢ pos 0 → over_pivot limit e xs ≡ Ok ys
-    → (length ys ≡ suc n) × ((j : ℕ) → IsLowest (at ys j)) × ((j : ℕ) → j ≤ n → value (at ys j) ≡ value (at xs j) *Q inv_Q (value (at xs e)))
-unfolding over_pivot
-divided_out limit e n xs ys wx lx ne h =
-    let out = each_out (λ x. div_of limit x (at xs e)) xs ys h in
-    let step : (j : ℕ) → j < length xs → IsLowest (at ys j) × (value (at ys j) ≡ value (at xs j) *Q inv_Q (value (at xs e))) = λ j p. quotient_step limit (at xs j) (at xs e) (at ys j) (lx j) (lx e) ne (out.1 j p) in
-    (out.0 ∙ wx, lowest_all ys (λ j p. (step j (omega (arith, p, out.0))).0), λ j p. (step j (omega (arith, p, wx))).1)
+-- ---- the entries, by variables
+pub entry_has : (P : Fraction → Type 0) (own : ℕ → Fraction) (ls : List ℕ) (xs : List Fraction) (j : ℕ) → P (own j) → ((k : ℕ) → P (at xs k)) → P (entry_for own ls xs j)
+unfolding entry_for
+entry_has P own [] xs j o h = o
+entry_has P own (v ∷ vs) [] j o h = o
+entry_has P own (v ∷ vs) (x ∷ xs) j o h = step (nat_eq v j) (entry_has P own vs xs j o (λ k. h (suc k)))
+  where
+    step : (b : Bool) → P (entry_for own vs xs j) → P (if b then x else entry_for own vs xs j)
+    step true later = h 0
+    step false later = later
 
--- the rows after a turn
-rows_out : (limit e r : ℕ) (pivot : List Fraction) (rows us : List Row) → rows_after limit e r pivot 0 rows ≡ Ok us → (length us ≡ length rows) × ((k : ℕ) → k < length rows → (k ≡ r → row_of (basic_at us k) (entries_at us k) ≡ row_of e pivot) × ((k ≡ r → ⊥) → (basic_at us k ≡ basic_at rows k) × (less_pivot_row limit e pivot (entries_at rows k) ≡ Ok (entries_at us k))))
-rows_out limit e r pivot rows us h =
-    let q = turned_out limit e r pivot 0 rows us h in
-    (q.0, λ k l. let zero : 0 + k ≡ k = omega arith in row_after_out limit e r pivot k (row_of (basic_at rows k) (entries_at rows k)) (row_of (basic_at us k) (entries_at us k)) (subst (λ w. row_after limit e r pivot w (row_of (basic_at rows k) (entries_at rows k)) ≡ Ok (row_of (basic_at us k) (entries_at us k))) zero (q.1 k l)))
+pub column_entry : (n m k : ℕ) (t : Table) (own : ℕ → Fraction) (es : List Fraction) → IsTable n m t → k < n → length es ≡ suc n → entry_for own (with_right t.columns t.labels) es (label_at t.labels k) ≡ at es k
+column_entry n m k t own es g in_k wide =
+    let count = labels_count n m t g in
+    entry_where fraction_zero own (with_right t.columns t.labels) es (label_at t.labels k) k (right_distinct n m t g) (wide ∙ sym count) (omega (arith, in_k, count)) (named n m k t g in_k)
 
--- ---- a turn that fits
-turn_parts : (limit m n e r : ℕ) (t : Table) (pivot : List Fraction) (rows : List Row) (objective : List Fraction) → IsTable m n t → r < m → (at (entries_at t.rows r) e).numerator ≢ pos 0 → over_pivot limit e (entries_at t.rows r) ≡ Ok pivot → rows_after limit e r pivot 0 t.rows ≡ Ok rows → less_pivot_row limit e pivot t.objective ≡ Ok objective
-    → IsTable m n (record { columns = t.columns; rows = rows; objective = objective }) × IsAfterPivot m n e r (tableau_of t) (tableau_of (record { columns = t.columns; rows = rows; objective = objective }))
-turn_parts limit m n e r t pivot rows objective g low ne is_pivot_row are_rows is_objective =
-    let p = divided_out limit e n (entries_at t.rows r) pivot (g.widths r low) (g.lowest r) ne is_pivot_row in
-    let q = rows_out limit e r pivot t.rows rows are_rows in
-    let o = cleared_out limit e n pivot t.objective objective g.width p.0 g.lowest_price p.1 is_objective in
-    let is_pivot : entries_at rows r ≡ pivot = ap (λ (w : Row). w.entries) ((q.1 r (omega (arith, low, g.count))).0 refl) in
-    let other : (k : ℕ) → k < m → (k ≡ r → ⊥) → (length (entries_at rows k) ≡ suc n) × ((j : ℕ) → IsLowest (at (entries_at rows k) j)) × ((j : ℕ) → j ≤ n → value (at (entries_at rows k) j) ≡ value (at (entries_at t.rows k) j) +Q neg_Q (value (at (entries_at t.rows k) e) *Q value (at pivot j))) = λ k l apart. cleared_out limit e n pivot (entries_at t.rows k) (entries_at rows k) (g.widths k l) p.0 (g.lowest k) p.1 ((q.1 k (omega (arith, l, g.count))).1 apart).1 in
-    let same_count : length rows ≡ m = q.0 ∙ g.count in (
-      record {
-        columns = g.columns;
-        count = same_count;
-        widths = λ k l. elim (ℕ_discrete k r) [
-          | yes is_r ↦ ap (λ w. length (entries_at rows w)) is_r ∙ ap length is_pivot ∙ p.0
-          | no apart ↦ (other k l apart).0
-        ];
-        width = o.0;
-        lowest = λ k j. elim (cases_lt k m) [
-          | inl l ↦ elim (ℕ_discrete k r) [
-            | yes is_r ↦ subst (λ w. IsLowest (at w j)) (sym (ap (λ w. entries_at rows w) is_r ∙ is_pivot)) (p.1 j)
-            | no apart ↦ (other k l apart).1 j
-          ]
-          | inr l ↦ subst (λ w. IsLowest (at w j)) (sym (no_row rows k (omega (arith, l, same_count)))) (whole_is_lowest (pos 0))
-        ];
-        lowest_price = o.1;
-      },
-      record {
-        pivot = λ j l. ap (λ w. value (at w j)) is_pivot ∙ p.2 j l;
-        others = λ k j l apart l'. (other k l apart).2 j l' ∙ ap (λ w. value (at (entries_at t.rows k) j) +Q neg_Q (value (at (entries_at t.rows k) e) *Q value (at w j))) (sym is_pivot);
-        prices = λ j l. o.2 j l ∙ ap (λ w. value (at t.objective j) +Q neg_Q (value (at t.objective e) *Q value (at w j))) (sym is_pivot);
-        enters = ap (λ (w : Row). w.basic) ((q.1 r (omega (arith, low, g.count))).0 refl);
-        stays = λ k l apart. ((q.1 k (omega (arith, l, g.count))).1 apart).0;
-      },
-    )
+pub right_entry : (n m : ℕ) (t : Table) (own : ℕ → Fraction) (es : List Fraction) → IsTable n m t → length es ≡ suc n → entry_for own (with_right t.columns t.labels) es (n + m) ≡ at es n
+right_entry n m t own es g wide =
+    let count = labels_count n m t g in
+    entry_where fraction_zero own (with_right t.columns t.labels) es (n + m) n (right_distinct n m t g) (wide ∙ sym count) (omega (arith, count)) (named_right n m t g)
 
-pub turn_out : (limit m n e r : ℕ) (t u : Table) → IsTable m n t → r < m → (at (entries_at t.rows r) e).numerator ≢ pos 0 → after_pivot limit e r t ≡ Ok u → IsTable m n u × IsAfterPivot m n e r (tableau_of t) (tableau_of u)
-unfolding after_pivot
-turn_out limit m n e r t u g low ne h =
-    let a = after_value (over_pivot limit e (entries_at t.rows r)) _ u h in
-    let b = after_value (rows_after limit e r a.value 0 t.rows) _ u a.rest in
-    let c = after_value (less_pivot_row limit e a.value t.objective) _ u b.rest in
-    let is_u : record { columns = t.columns; rows = b.value; objective = c.value } ≡ u = cc in
-    subst (λ (w : Table). IsTable m n w × IsAfterPivot m n e r (tableau_of t) (tableau_of w)) is_u (turn_parts limit m n e r t a.value b.value c.value g low ne a.first b.first c.first)
+pub basic_entry : (n m i : ℕ) (t : Table) (own : ℕ → Fraction) (es : List Fraction) → IsTable n m t → i < m → entry_for own (with_right t.columns t.labels) es (basic_at t.rows i) ≡ own (basic_at t.rows i)
+basic_entry n m i t own es g in_i = entry_none own (with_right t.columns t.labels) es (basic_at t.rows i) (right_fresh n m i t g in_i)
+
+-- whose right sides are not below 0
+pub is_feasible : (n m : ℕ) (t : Table) → IsTable n m t → ((i : ℕ) → i < m → IsNotBelow0 ((tableau_of t).entry i (n + m))) → IsFeasible m (n + m) (tableau_of t)
+is_feasible n m t g right =
+    record {
+      unit_columns = λ i k p q.
+          ap value (basic_entry n m k t (own_entry (basic_at t.rows i)) (entries_at t.rows i) g q)
+          ∙ elim (ℕ_discrete i k) [
+            | yes e ↦ ap value (own_same (basic_at t.rows i) (basic_at t.rows k) (ap (basic_at t.rows) e)) ∙ value_one ∙ sym (unit-same i k e)
+            | no ne ↦ ap value (own_other (basic_at t.rows i) (basic_at t.rows k) (λ h. ne (g.basics_differ i k p q h))) ∙ value_zero ∙ sym (unit-other i k ne)
+          ];
+      priced = λ k q. ap value (basic_entry n m k t no_entry t.objective g q) ∙ value_zero;
+      inside = g.basics_inside;
+      right = right;
+    }
+
+-- ---- the columns before and after a pivot in column c, where e enters and v leaves
+pub record Swapped (ls ks : List ℕ) (c e v : ℕ) : Type 0 where
+  pub swap : IsSwap ls c e v
+  pub count : length ks ≡ length ls
+  pub distinct : Distinct ks
+  pub own : label_at ks c ≡ v
+  pub other : (k : ℕ) → (k ≡ c → ⊥) → label_at ks k ≡ label_at ls k
+  pub none : (j : ℕ) → HasNone ks j → (e ≡ j → ⊥) → (v ≡ j → ⊥) × HasNone ls j
+
+swapped_set : (ls : List ℕ) (c e v : ℕ) → IsSwap ls c e v → Swapped ls (set ls c v) c e v
+swapped_set ls c e v s =
+    record {
+      swap = s;
+      count = length-set ls c v;
+      distinct = distinct_after ls c e v s;
+      own = label_own ls c v s.inside;
+      other = λ k ne. label_other ls c v k ne;
+      none = λ j h ne. none_before ls c e v j s h ne;
+    }
+
+pub swapped_of : (n m c r : ℕ) (t : Table) → IsTable n m t → c < n → r < m → Swapped (with_right t.columns t.labels) (with_right t.columns (set t.labels c (basic_at t.rows r))) c (label_at t.labels c) (basic_at t.rows r)
+swapped_of n m c r t g in_c in_r =
+    let ls = with_right t.columns t.labels in
+    let v = basic_at t.rows r in
+    subst (λ ks. Swapped ls ks c (label_at t.labels c) v) (sym (right_set t.columns t.labels c v (omega (arith, in_c, g.labels))))
+    (swapped_set ls c (label_at t.labels c) v
+    (record {
+      inside = omega (arith, in_c, labels_count n m t g);
+      entering = named n m c t g in_c;
+      distinct = right_distinct n m t g;
+      fresh = right_fresh n m r t g in_r;
+    }))
+
+-- an entry that is set where the variable that leaves comes in: x there, as own says
+pub set_entry : (ls ks : List ℕ) (c e v : ℕ) (own : ℕ → Fraction) (es : List Fraction) (x : Fraction) → Swapped ls ks c e v → length es ≡ length ls → own v ≡ x → (k : ℕ) → k < length ks → entry_for own ls es (label_at ks k) ≡ at (set es c x) k
+set_entry ls ks c e v own es x s wide is_x k p =
+    let in_c = s.swap.inside in
+    elim (ℕ_discrete k c) [
+      | yes is_c ↦
+          ap (λ w. entry_for own ls es (label_at ks w)) is_c ∙ ap (entry_for own ls es) s.own ∙ entry_none own ls es v s.swap.fresh ∙ is_x
+          ∙ sym (ap (at (set es c x)) is_c ∙ get_or-set_same es c x fraction_zero (omega (arith, in_c, wide)))
+      | no ne ↦
+          ap (entry_for own ls es) (s.other k ne) ∙ entry_where fraction_zero own ls es (label_at ls k) k s.swap.distinct wide (omega (arith, p, s.count)) refl
+          ∙ sym (get_or-set_other es c k x fraction_zero ne)
+    ]
+
+pub set_lowest : (es : List Fraction) (c : ℕ) (x : Fraction) → c < length es → IsLowest x → ((j : ℕ) → IsLowest (at es j)) → (k : ℕ) → IsLowest (at (set es c x) k)
+set_lowest es c x p lx h k =
+    elim (ℕ_discrete k c) [
+      | yes is_c ↦ subst IsLowest (sym (ap (at (set es c x)) is_c ∙ get_or-set_same es c x fraction_zero p)) lx
+      | no ne ↦ subst IsLowest (sym (get_or-set_other es c k x fraction_zero ne)) (h k)
+    ]

@@ -16,10 +16,5 @@ pub mod WorkedPrograms
 pub mod Endings
 pub mod Columns
 pub mod StepsOf
-pub mod WrittenOut
-pub mod FirstWritten
-pub mod DictionaryTurn
-pub mod DictionaryChoice
-pub mod DictionaryKeeps
-pub mod WrittenRun
-pub mod FirstDictionary
+pub mod UnitRows
+pub mod Turning

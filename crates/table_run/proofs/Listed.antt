@@ -48,6 +48,10 @@ map_listed h f i zero = refl
 map_listed h f i (suc n) = ap (λ xs. h (f i) ∷ xs) (map_listed h f (i + 1) n)
 
 -- ---- by place
+pub by_first : (P : ℕ → Type 0) → P zero → ((j : ℕ) → P (suc j)) → (j : ℕ) → P j
+by_first P z s zero = z
+by_first P z s (suc j) = s j
+
 pub listed_item : {A : Type 0} (d : A) (f : ℕ → A) (i n j : ℕ) → j < n → slice_index_or (values_at f i n) j d ≡ f (i + j)
 unfolding values_at
 listed_item d f i zero j h = absurd (omega (arith, h))

@@ -1,17 +1,13 @@
--- The steps of a row of a dictionary, and those of the row of its table.
-use Rattle.std.proofs.Common.{◌≡◌, ℕ, zero, suc, ◌+◌, ◌<◌, ◌≤◌, List, [], ◌∷◌, length, arith, refl, sym, ◌∙◌, ap, inl, inr, Bool, true, false}
+-- The steps of a row: what they give, and which that does not fit is told.
+use Rattle.std.proofs.Common.{◌≡◌, ℕ, zero, suc, ◌+◌, ◌<◌, ◌≤◌, List, [], ◌∷◌, length, arith, refl, sym, ◌∙◌, ap, subst, Bool, true, false}
 use Rattle.std.specs.Prelude.{Result, Ok, Err, if◌then◌else◌, nat_lt}
-use Rattle.std.proofs.Math.Decide.{ℕ_discrete}
 use Rattle.std.proofs.lemmas.Bool.Decides.{nat_tests}
 use Rattle.exact_num.specs.declared.misfit.Wide.{Wide}
 use Rattle.exact_num.specs.Fraction.{Fraction}
-use Rattle.exact_num.specs.Fits.{after, meaning}
-use Rattle.table_run.specs.Places.{at, fraction_zero, values_at}
-use Rattle.table_run.specs.Pivot.{each, each_pair}
-use Rattle.table_run.specs.Dictionary.{Stop, stop_of, beside, steps_of, told, label_at}
-use Rattle.table_run.specs.WrittenOut.{entry_for, written}
-use Rattle.table_run.proofs.Entries.{by_first}
-use Rattle.table_run.proofs.Columns.{HasColumn, HasNone, find, Distinct, entry_none, entry_where}
+use Rattle.table_run.specs.Places.{at}
+use Rattle.table_run.specs.Table.{label_at}
+use Rattle.table_run.specs.Pivot.{Stop, stop_of, beside, steps_of, told}
+use Rattle.table_run.proofs.Listed.{by_first}
 
 -- ---- what the steps give
 pub record AreSteps (f : ℕ → Result Fraction Wide) (k : ℕ) (vs : List ℕ) (xs : List Fraction) : Type 0 where
@@ -109,69 +105,17 @@ steps_told f vs xs w h =
     let on : (i : ℕ) → 0 + i ≡ i = λ i. omega arith in
     ap told (steps_fit f 0 vs xs w (λ i p. ap f (on i) ∙ h i p))
 
--- ---- the steps of a table's row, one after another
-unfoldable pub scan : (ℕ → Result Fraction Wide) → ℕ → ℕ → Result (List Fraction) Wide
-scan R j zero = Ok []
-scan R j (suc n) = after (R j) (λ y. after (scan R (j + 1) n) (λ ys. Ok (y ∷ ys)))
-
-pub each_scan : (f : Fraction → Result Fraction Wide) (g : ℕ → Fraction) (j n : ℕ) → each f (values_at g j n) ≡ scan (λ i. f (g i)) j n
-unfolding each values_at scan
-each_scan f g j zero = refl
-each_scan f g j (suc n) = ap (λ r. after (f (g j)) (λ y. after r (λ ys. Ok (y ∷ ys)))) (each_scan f g (j + 1) n)
-
-pub pair_scan : (f : Fraction → Fraction → Result Fraction Wide) (g h : ℕ → Fraction) (j n : ℕ) → each_pair f (values_at g j n) (values_at h j n) ≡ scan (λ i. f (g i) (h i)) j n
-unfolding each_pair values_at scan
-pair_scan f g h j zero = refl
-pair_scan f g h j (suc n) = ap (λ r. after (f (g j) (h j)) (λ y. after r (λ ys. Ok (y ∷ ys)))) (pair_scan f g h (j + 1) n)
-
-scan_ok : (R : ℕ → Result Fraction Wide) (y : ℕ → Fraction) (j n : ℕ) → ((i : ℕ) → i < j + n → R i ≡ Ok (y i)) → scan R j n ≡ Ok (values_at y j n)
-unfolding scan values_at
-scan_ok R y j zero h = refl
-scan_ok R y j (suc n) h =
-    let first = h j (omega arith) in
-    let later = scan_ok R y (j + 1) n (λ i q. h i (omega (arith, q))) in
-    rw (first, later) refl
-
-scan_err : (R : ℕ → Result Fraction Wide) (j n i : ℕ) (w : Wide) → j ≤ i → i < j + n → R i ≡ Err w → ((l : ℕ) → l < i → (y : Fraction) × (R l ≡ Ok y)) → scan R j n ≡ Err w
-unfolding scan
-scan_err R j zero i w p q stops fits = absurd (omega (arith, p, q))
-scan_err R j (suc n) i w p q stops fits =
-    elim (ℕ_discrete j i) [
-      | yes e ↦ let here : R j ≡ Err w = ap R e ∙ stops in rw here refl
-      | no ne ↦
-          let here = (fits j (omega (arith, p, ne))).1 in
-          let later = scan_err R (j + 1) n i w (omega (arith, p, ne)) (omega (arith, q)) stops fits in
-          rw (here, later) refl
-    ]
-
--- ---- the two are the same, where a variable without a column has a step that fits
-pub record AreSame (N : ℕ) (ls : List ℕ) (own : ℕ → Fraction) (f R : ℕ → Result Fraction Wide) : Type 0 where
-  pub distinct : Distinct ls
-  pub inside : (k : ℕ) → k < length ls → label_at ls k ≤ N
-  pub columns : (k : ℕ) → k < length ls → R (label_at ls k) ≡ f k
-  pub others : (j : ℕ) → HasNone ls j → R j ≡ Ok (own j)
-
-pub scan_steps : (N : ℕ) (ls : List ℕ) (own : ℕ → Fraction) (f R : ℕ → Result Fraction Wide) → AreSame N ls own f R → scan R 0 (N + 1) ≡ meaning (written N ls own) (told (steps_of f 0 ls))
-scan_steps N ls own f R s = step (steps_of f 0 ls) (steps_are f 0 ls)
+-- the steps of a row that fit
+pub told_steps : (f : ℕ → Result Fraction Wide) (vs : List ℕ) (xs : List Fraction) → told (steps_of f 0 vs) ≡ Ok xs → (length xs ≡ length vs) × ((k : ℕ) → k < length vs → f k ≡ Ok (at xs k))
+told_steps f vs xs h = step (steps_of f 0 vs) (steps_are f 0 vs) h
   where
-    zero_on : (i : ℕ) → 0 + i ≡ i
-    zero_on i = omega arith
+    step : (rs : Result (List Fraction) Stop) → Outcome f 0 vs rs → told rs ≡ Ok xs → (length xs ≡ length vs) × ((k : ℕ) → k < length vs → f k ≡ Ok (at xs k))
+    step (Ok ys) o q =
+        let e : ys ≡ xs = cc in
+        let on : (k : ℕ) → 0 + k ≡ k = λ k. omega arith in
+        subst (λ (zs : List Fraction). (length zs ≡ length vs) × ((k : ℕ) → k < length vs → f k ≡ Ok (at zs k))) e (o.count, λ k p. ap f (sym (on k)) ∙ o.each_is k p)
+    step (Err s) o q = cc
 
-    step : (rs : Result (List Fraction) Stop) → Outcome f 0 ls rs → scan R 0 (N + 1) ≡ meaning (written N ls own) (told rs)
-    step (Ok xs) o =
-        scan_ok R (entry_for own ls xs) 0 (N + 1) (λ j p. elim (find ls j) [
-          | inl c ↦ ap R (sym c.labelled) ∙ s.columns c.place c.inside ∙ ap f (sym (zero_on c.place)) ∙ o.each_is c.place c.inside ∙ ap Ok (sym (entry_where fraction_zero own ls xs j c.place s.distinct o.count c.inside c.labelled))
-          | inr none ↦ s.others j none ∙ ap Ok (sym (entry_none own ls xs j none))
-        ])
-    step (Err x) o =
-        let in_N : label_at ls o.place ≤ N = s.inside o.place o.inside in
-        let same = o.labelled in
-        scan_err R 0 (N + 1) x.label x.wide (omega arith) (omega (arith, in_N, same)) (ap R o.labelled ∙ s.columns o.place o.inside ∙ ap f (sym (zero_on o.place)) ∙ o.stops)
-        (λ l low. elim (find ls l) [
-          | inl c ↦ fits l low c (f c.place) refl
-          | inr none ↦ (own l, s.others l none)
-        ])
-      where
-        fits : (l : ℕ) → l < x.label → (c : HasColumn ls l) → (r : Result Fraction Wide) → f c.place ≡ r → (y : Fraction) × (R l ≡ Ok y)
-        fits l low c (Ok y) t = (y, ap R (sym c.labelled) ∙ s.columns c.place c.inside ∙ t)
-        fits l low c (Err w) t = absurd (let up : x.label ≤ label_at ls c.place = o.least c.place w c.inside (ap f (zero_on c.place) ∙ t) in let same = c.labelled in omega (arith, up, low, same))
+-- with other steps that fit where these do
+pub steps_more : (f g : ℕ → Result Fraction Wide) → ((k : ℕ) (x : Fraction) → f k ≡ Ok x → g k ≡ Ok x) → (vs : List ℕ) (xs : List Fraction) → told (steps_of f 0 vs) ≡ Ok xs → told (steps_of g 0 vs) ≡ Ok xs
+steps_more f g h vs xs k = let o = told_steps f vs xs k in steps_told g vs xs o.0 (λ i p. h i (at xs i) (o.1 i p))

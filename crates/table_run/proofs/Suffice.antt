@@ -5,7 +5,7 @@ use Rattle.std.proofs.Math.Decide.{ℕ_discrete}
 use Rattle.std.proofs.lemmas.Bool.{cases_lt}
 use Rattle.table_run.specs.Program.{LinearProgram}
 use Rattle.table_run.specs.Table.{Table, first_table, basic_at}
-use Rattle.table_run.specs.Choice.{entering}
+use Rattle.table_run.specs.Choice.{Column, entering}
 use Rattle.table_run.specs.Ending.{no_unit_left, unbounded, wide_at}
 use Rattle.table_run.specs.Run.{Turn, moved, unlimited, stopped, turn, run, run_from, read_off, on_entering, on_turn, direction}
 use Rattle.table_run.specs.Optimum.{IsProgram}
@@ -22,23 +22,23 @@ no_optimum : (n m : ℕ) (t : Table) (spent u : ℕ) → read_off n m t spent �
 unfolding read_off
 no_optimum n m t spent u h = cc
 
-next_is : (limit : ℕ) (p : LinearProgram) (k e : ℕ) (t v : Table) → table_after limit p k ≡ Some t → entering t ≡ Some e → turn limit e t ≡ moved v → table_after limit p (suc k) ≡ Some v
-next_is limit p k e t v here enters step = sym (after_suc limit p k) ∙ rw (here, enters, step) refl
+next_is : (limit : ℕ) (p : LinearProgram) (k : ℕ) (c : Column) (t v : Table) → table_after limit p k ≡ Some t → entering t ≡ Some c → turn limit c.place t ≡ moved v → table_after limit p (suc k) ≡ Some v
+next_is limit p k c t v here enters step = sym (after_suc limit p k) ∙ rw (here, enters, step) refl
 
 budget_out : (limit : ℕ) (p : LinearProgram) (left spent k : ℕ) (t : Table) (u : ℕ) → table_after limit p k ≡ Some t → run_from limit p.variables p.rows left spent t ≡ no_unit_left u → (v : Table) × (table_after limit p (k + left) ≡ Some v)
 unfolding run_from
 budget_out limit p zero spent k t u here h = let e : k + 0 ≡ k = omega arith in (t, ap (table_after limit p) e ∙ here)
 budget_out limit p (suc left) spent k t u here h = step (entering t) refl h (λ v there goes. budget_out limit p left (spent + 1) (suc k) v u there goes)
   where
-    act : (e : ℕ) → entering t ≡ Some e → (w : Turn) → turn limit e t ≡ w → on_turn w (λ next. run_from limit p.variables p.rows left (spent + 1) next) (unbounded (direction p.variables e t) (spent + 1)) (λ w. wide_at (spent + 1) w) ≡ no_unit_left u → (v : Table) × (table_after limit p (suc k) ≡ Some v) × (run_from limit p.variables p.rows left (spent + 1) v ≡ no_unit_left u)
-    act e enters (moved v) turns goes = (v, next_is limit p k e t v here enters turns, goes)
-    act e enters unlimited turns goes = cc
-    act e enters (stopped w) turns goes = cc
+    act : (c : Column) → entering t ≡ Some c → (w : Turn) → turn limit c.place t ≡ w → on_turn w (λ next. run_from limit p.variables p.rows left (spent + 1) next) (unbounded (direction p.variables c t) (spent + 1)) (λ w. wide_at (spent + 1) w) ≡ no_unit_left u → (v : Table) × (table_after limit p (suc k) ≡ Some v) × (run_from limit p.variables p.rows left (spent + 1) v ≡ no_unit_left u)
+    act c enters (moved v) turns goes = (v, next_is limit p k c t v here enters turns, goes)
+    act c enters unlimited turns goes = cc
+    act c enters (stopped w) turns goes = cc
 
-    step : (o : Option ℕ) → entering t ≡ o → on_entering o (read_off p.variables p.rows t spent) (λ e. on_turn (turn limit e t) (λ next. run_from limit p.variables p.rows left (spent + 1) next) (unbounded (direction p.variables e t) (spent + 1)) (λ w. wide_at (spent + 1) w)) ≡ no_unit_left u → ((v : Table) → table_after limit p (suc k) ≡ Some v → run_from limit p.variables p.rows left (spent + 1) v ≡ no_unit_left u → (z : Table) × (table_after limit p (suc k + left) ≡ Some z)) → (v : Table) × (table_after limit p (k + suc left) ≡ Some v)
+    step : (o : Option Column) → entering t ≡ o → on_entering o (read_off p.variables p.rows t spent) (λ c. on_turn (turn limit c.place t) (λ next. run_from limit p.variables p.rows left (spent + 1) next) (unbounded (direction p.variables c t) (spent + 1)) (λ w. wide_at (spent + 1) w)) ≡ no_unit_left u → ((v : Table) → table_after limit p (suc k) ≡ Some v → run_from limit p.variables p.rows left (spent + 1) v ≡ no_unit_left u → (z : Table) × (table_after limit p (suc k + left) ≡ Some z)) → (v : Table) × (table_after limit p (k + suc left) ≡ Some v)
     step None enters goes later = absurd (no_optimum p.variables p.rows t spent u goes)
-    step (Some e) enters goes later =
-        let w = act e enters (turn limit e t) refl goes in
+    step (Some c) enters goes later =
+        let w = act c enters (turn limit c.place t) refl goes in
         let r = later w.0 w.1 w.2 in
         let same : k + suc left ≡ suc k + left = omega arith in
         (r.0, ap (table_after limit p) same ∙ r.1)
@@ -61,15 +61,15 @@ key_tells p t u k l same j =
     let n = p.variables + p.rows in
     let agree = rank_tells n (among m (basic_at t.rows)) (among m (basic_at u.rows)) m (counted p t k) (counted p u l) same in (
       λ w.
-          let a = contains_in m n t k.table j w in
+          let a = contains_in p.variables m t k.table j w in
           let low : j < n = subst (λ z. z < n) a.2 (k.good.inside a.0 a.1) in
           let here : among m (basic_at t.rows) j ≡ true = subst (λ z. among m (basic_at t.rows) z ≡ true) a.2 (among_is m (basic_at t.rows) a.0 a.1) in
-          in_contains m n u l.table j (among_out m (basic_at u.rows) j (sym (agree j low) ∙ here)),
+          in_contains p.variables m u l.table j (among_out m (basic_at u.rows) j (sym (agree j low) ∙ here)),
       λ w.
-          let a = contains_in m n u l.table j w in
+          let a = contains_in p.variables m u l.table j w in
           let low : j < n = subst (λ z. z < n) a.2 (l.good.inside a.0 a.1) in
           let here : among m (basic_at u.rows) j ≡ true = subst (λ z. among m (basic_at u.rows) z ≡ true) a.2 (among_is m (basic_at u.rows) a.0 a.1) in
-          in_contains m n t k.table j (among_out m (basic_at t.rows) j (agree j low ∙ here)),
+          in_contains p.variables m t k.table j (among_out m (basic_at t.rows) j (agree j low ∙ here)),
     )
 
 back_same : (t u : Table) → HaveSameBasics t u → HaveSameBasics u t

@@ -5,24 +5,22 @@ use Rattle.std.proofs.Math.Decide.{ℕ_discrete}
 use Rattle.std.specs.List.{Contains}
 use Rattle.std.proofs.lemmas.List.{length-map}
 use Rattle.exact_num.specs.declared.misfit.Wide.{Wide}
-use Rattle.exact_num.proofs.Rationals.{not_below_value}
-use Rattle.table_run.specs.Places.{at}
 use Rattle.table_run.specs.Program.{LinearProgram}
 use Rattle.table_run.specs.Table.{Row, Table, first_table, basic_at}
-use Rattle.table_run.specs.Choice.{Ratio, entering, ratios, least}
+use Rattle.table_run.specs.Choice.{Ratio, Column, entering, ratios, least}
 use Rattle.table_run.specs.Run.{Turn, moved, unlimited, stopped, turn}
-use Rattle.table_run.specs.Tableau.{TablesAreFeasible, TurnsAreByBlandsRule, tableau_of, IsPivot, IsBlandTurn}
+use Rattle.table_run.specs.Tableau.{TablesAreFeasible, TurnsAreByBlandsRule, tableau_of, IsBlandTurn}
 use Rattle.table_run.specs.Optimum.{IsProgram}
 use Rattle.table_run.specs.Turns.{moved_to, turned_by, next_table, table_after, basics, HaveSameBasics}
-use Rattle.table_run.proofs.Entries.{IsTable, turn_out}
-use Rattle.table_run.proofs.Choices.{moved_out, choice_out, ties_out, entering_out, value_above}
-use Rattle.table_run.proofs.Optima.{Keeps, keeps_first, keeps_turn, above_apart}
+use Rattle.table_run.proofs.Entries.{IsTable}
+use Rattle.table_run.proofs.Choices.{moved_out, bland_turn}
+use Rattle.table_run.proofs.Optima.{Keeps, keeps_first, keeps_turn}
 use Rattle.table_run.proofs.Bland.{IsIn, HaveSame, Turns, no_cycle}
 
 -- ---- a turn of the run is one by Bland's rule
-abbrev pub column_of : Option ℕ → ℕ
-column_of None = 0
-column_of (Some e) = e
+abbrev pub column_of : Option Column → Column
+column_of None = record { place = 0; label = 0 }
+column_of (Some c) = c
 
 abbrev pub place_of : Result (List Ratio) Wide → ℕ
 place_of (Ok []) = 0
@@ -30,30 +28,21 @@ place_of (Ok (q ∷ qs)) = (least q qs).place
 place_of (Err w) = 0
 
 pub enters_at : Table → ℕ
-enters_at t = column_of (entering t)
+enters_at t = (column_of (entering t)).label
 
 pub leaves_at : ℕ → Table → ℕ
-leaves_at limit t = place_of (ratios limit t.columns (column_of (entering t)) 0 t.rows)
+leaves_at limit t = place_of (ratios limit (length t.labels) (column_of (entering t)).place 0 t.rows)
 
-bland_turn : (p : LinearProgram) (limit : ℕ) (t u : Table) (e : ℕ) → Keeps p t → entering t ≡ Some e → turn limit e t ≡ moved u → IsBlandTurn p.rows (p.variables + p.rows) (enters_at t) (leaves_at limit t) (tableau_of t) (tableau_of u)
+table_turn : (p : LinearProgram) (limit : ℕ) (t u : Table) (c : Column) → Keeps p t → entering t ≡ Some c → turn limit c.place t ≡ moved u → IsBlandTurn p.rows (p.variables + p.rows) (enters_at t) (leaves_at limit t) (tableau_of t) (tableau_of u)
 unfolding enters_at leaves_at
-bland_turn p limit t u e k enters h =
-    let m = p.rows in
-    let n = p.variables + p.rows in
-    let w = moved_out limit e t u h in
-    let r = (least w.0 w.1).place in
-    let is_e : column_of (entering t) ≡ e = ap column_of enters in
-    let is_r : place_of (ratios limit t.columns (column_of (entering t)) 0 t.rows) ≡ r = ap (λ c. place_of (ratios limit t.columns c 0 t.rows)) is_e ∙ ap place_of w.2 in
-    let c : IsPivot m n e r (tableau_of t) = choice_out limit m n e t w.0 w.1 k.table enters w.2 in
-    let o = turn_out limit m n e r t u k.table c.row (above_apart _ (value_above _ (k.table.lowest r e) c.above)) w.3 in
-    let first = (entering_out m n e t k.table enters).2 in
-    let turn : IsBlandTurn m n e r (tableau_of t) (tableau_of u) = record {
-      choice = c;
-      turn = o.1;
-      first = λ j l. not_below_value (at t.objective j) (k.table.lowest_price j).positive (first j l);
-      ties = λ i l above same. ties_out limit m n e t w.0 w.1 k.table w.2 i l above same;
-    } in
-    subst (λ c. IsBlandTurn m n c (place_of (ratios limit t.columns (column_of (entering t)) 0 t.rows)) (tableau_of t) (tableau_of u)) (sym is_e) (subst (λ c. IsBlandTurn m n e c (tableau_of t) (tableau_of u)) (sym is_r) turn)
+table_turn p limit t u c k enters h =
+    let w = moved_out limit c.place t u h in
+    let placed : Column → ℕ = λ d. place_of (ratios limit (length t.labels) d.place 0 t.rows) in
+    let is_c : column_of (entering t) ≡ c = ap column_of enters in
+    let is_r : placed (column_of (entering t)) ≡ (least w.0 w.1).place = ap placed is_c ∙ ap place_of w.2 in
+    let turn = (bland_turn limit p.variables p.rows t u c w.0 w.1 k.table enters w.2 w.3).1 in
+    subst (λ (d : Column). IsBlandTurn p.rows (p.variables + p.rows) d.label (placed (column_of (entering t))) (tableau_of t) (tableau_of u)) (sym is_c)
+    (subst (λ r. IsBlandTurn p.rows (p.variables + p.rows) c.label r (tableau_of t) (tableau_of u)) (sym is_r) turn)
 
 -- ---- the tables
 -- the table of an answer, and else the first one
@@ -61,16 +50,16 @@ abbrev pub given : LinearProgram → Option Table → Table
 given p None = first_table p
 given p (Some t) = t
 
-turned_out : (limit : ℕ) (t u : Table) (o : Option ℕ) → entering t ≡ o → turned_by limit t o ≡ Some u → (e : ℕ) × (entering t ≡ Some e) × (turn limit e t ≡ moved u)
+turned_out : (limit : ℕ) (t u : Table) (o : Option Column) → entering t ≡ o → turned_by limit t o ≡ Some u → (c : Column) × (entering t ≡ Some c) × (turn limit c.place t ≡ moved u)
 turned_out limit t u None h k = cc
-turned_out limit t u (Some e) h k = (e, h, step (turn limit e t) refl k)
+turned_out limit t u (Some c) h k = (c, h, step (turn limit c.place t) refl k)
   where
-    step : (w : Turn) → turn limit e t ≡ w → moved_to w ≡ Some u → turn limit e t ≡ moved u
+    step : (w : Turn) → turn limit c.place t ≡ w → moved_to w ≡ Some u → turn limit c.place t ≡ moved u
     step (moved v) f l = cc
     step unlimited f l = cc
     step (stopped w) f l = cc
 
-pub next_out : (limit : ℕ) (o : Option Table) (u : Table) → next_table limit o ≡ Some u → (t : Table) × (o ≡ Some t) × (e : ℕ) × (entering t ≡ Some e) × (turn limit e t ≡ moved u)
+pub next_out : (limit : ℕ) (o : Option Table) (u : Table) → next_table limit o ≡ Some u → (t : Table) × (o ≡ Some t) × (c : Column) × (entering t ≡ Some c) × (turn limit c.place t ≡ moved u)
 next_out limit None u h = cc
 next_out limit (Some t) u h = let w = turned_out limit t u (entering t) refl h in (t, refl, w.0, w.1, w.2)
 
@@ -112,7 +101,7 @@ step_of limit p i k g here next =
     let e : i + suc k ≡ suc (i + k) = omega arith in
     let w = next_out limit (table_after limit p (i + k)) (tables limit p i (suc k)) (after_suc limit p (i + k) ∙ ap (table_after limit p) (sym e) ∙ next) in
     let same : w.0 ≡ tables limit p i k = some_same (sym w.1 ∙ here) in
-    bland_turn p limit (tables limit p i k) (tables limit p i (suc k)) w.2 (tables_keep limit p g (i + k) (tables limit p i k) here) (subst (λ (t : Table). entering t ≡ Some w.2) same w.3) (subst (λ (t : Table). turn limit w.2 t ≡ moved (tables limit p i (suc k))) same w.4)
+    table_turn p limit (tables limit p i k) (tables limit p i (suc k)) w.2 (tables_keep limit p g (i + k) (tables limit p i k) here) (subst (λ (t : Table). entering t ≡ Some w.2) same w.3) (subst (λ (t : Table). turn limit w.2.place t ≡ moved (tables limit p i (suc k))) same w.4)
 
 turns_of : (limit : ℕ) (p : LinearProgram) (i L : ℕ) (u : Table) → IsProgram p → table_after limit p (i + L) ≡ Some u → Turns p.rows (p.variables + p.rows) L (λ k. tableau_of (tables limit p i k))
 turns_of limit p i L u g h =
@@ -128,23 +117,23 @@ basic_is [] k j h = absurd (omega (arith, h))
 basic_is (row ∷ rows) zero j h = refl
 basic_is (row ∷ rows) (suc k) j h = basic_is rows k j (omega (arith, h))
 
-pub contains_in : (m n : ℕ) (t : Table) → IsTable m n t → (j : ℕ) → Contains (basics t) j → IsIn m (tableau_of t) j
-contains_in m n t g j h =
+pub contains_in : (n m : ℕ) (t : Table) → IsTable n m t → (j : ℕ) → Contains (basics t) j → IsIn m (tableau_of t) j
+contains_in n m t g j h =
     let long = length-map t.rows (λ (row : Row). row.basic) in
     let low : h.0 < length t.rows = omega (arith, h.1, long) in
     (h.0, omega (arith, low, g.count), sym (basic_is t.rows h.0 j low) ∙ h.2)
 
-pub in_contains : (m n : ℕ) (t : Table) → IsTable m n t → (j : ℕ) → IsIn m (tableau_of t) j → Contains (basics t) j
-in_contains m n t g j h =
+pub in_contains : (n m : ℕ) (t : Table) → IsTable n m t → (j : ℕ) → IsIn m (tableau_of t) j → Contains (basics t) j
+in_contains n m t g j h =
     let long = length-map t.rows (λ (row : Row). row.basic) in
     let low : h.0 < length t.rows = omega (arith, h.1, g.count) in
     (h.0, omega (arith, low, long), basic_is t.rows h.0 j low ∙ h.2)
 
-pub same_in : (m n : ℕ) (t u : Table) → IsTable m n t → IsTable m n u → HaveSameBasics t u → HaveSame m (tableau_of t) (tableau_of u)
-same_in m n t u g h same =
+pub same_in : (n m : ℕ) (t u : Table) → IsTable n m t → IsTable n m u → HaveSameBasics t u → HaveSame m (tableau_of t) (tableau_of u)
+same_in n m t u g h same =
     record {
-      there = λ j w. contains_in m n u h j ((same j).0 (in_contains m n t g j w));
-      back = λ j w. contains_in m n t g j ((same j).1 (in_contains m n u h j w));
+      there = λ j w. contains_in n m u h j ((same j).0 (in_contains n m t g j w));
+      back = λ j w. contains_in n m t g j ((same j).1 (in_contains n m u h j w));
     }
 
 -- with one limit
@@ -160,7 +149,7 @@ basics_differ_at limit p i j t u g less at_i at_j same =
     let k = (tables_keep limit p g i t at_i).table in
     let l = (tables_keep limit p g j u at_j).table in
     no_cycle p.rows (p.variables + p.rows) L (λ k. tableau_of (tables limit p i k)) (turns_of limit p i L u g there) (omega (arith, less))
-    (subst (λ w. HaveSame p.rows (tableau_of w) (tableau_of (tables limit p i L))) (sym first) (subst (λ w. HaveSame p.rows (tableau_of t) (tableau_of w)) (sym last) (same_in p.rows (p.variables + p.rows) t u k l same)))
+    (subst (λ w. HaveSame p.rows (tableau_of w) (tableau_of (tables limit p i L))) (sym first) (subst (λ w. HaveSame p.rows (tableau_of t) (tableau_of w)) (sym last) (same_in p.variables p.rows t u k l same)))
 
 -- ---- what the run has to do with the tableau
 pub tables_are_feasible : TablesAreFeasible
@@ -172,5 +161,5 @@ turns_are_by_blands_rule limit k p t u g here next =
     let same : w.0 ≡ t = some_same (sym w.1 ∙ here) in (
       enters_at t,
       leaves_at limit t,
-      bland_turn p limit t u w.2 (tables_keep limit p g k t here) (subst (λ (s : Table). entering s ≡ Some w.2) same w.3) (subst (λ (s : Table). turn limit w.2 s ≡ moved u) same w.4),
+      table_turn p limit t u w.2 (tables_keep limit p g k t here) (subst (λ (s : Table). entering s ≡ Some w.2) same w.3) (subst (λ (s : Table). turn limit w.2.place s ≡ moved u) same w.4),
     )

@@ -11,7 +11,4 @@ pub mod Turns
 pub mod Tableau
 pub mod Choose
 pub mod Limits
-pub mod Dictionary
-pub mod WrittenOut
-pub mod DictionaryRun
 pub mod Worked

@@ -2,9 +2,8 @@
 -- of it, and Bland's rule. (Chvatal, Linear Programming, chapters 2, 3 and 8.)
 use Rattle.std.specs.Prelude.{◌≡◌, ℕ, suc, ◌+◌, ◌<◌, ◌≤◌, Some}
 use Rattle.exact_num.specs.Rationals.{Q, ◌+Q◌, ◌*Q◌, neg_Q, inv_Q, 0Q, value, IsNotBelow0, IsAbove0, IsBelow0, IsAtMost, total, unit}
-use Rattle.table_run.specs.Places.{at}
 use Rattle.table_run.specs.Program.{LinearProgram}
-use Rattle.table_run.specs.Table.{Table, entries_at, basic_at, first_table}
+use Rattle.table_run.specs.Table.{Table, entries_at, basic_at, with_right, entry_for, own_entry, no_entry, first_table}
 use Rattle.table_run.specs.Optimum.{IsProgram}
 use Rattle.table_run.specs.Turns.{table_after}
 
@@ -66,9 +65,14 @@ pub record HaveSameSolutions (m n : ℕ) (T U : Tableau) : Type 0 where
   pub same : (z : ℕ → Q) → Solves m n T z → row_at n T.price z ≡ row_at n U.price z
 
 -- ---- what the run has to do with it
--- the tableau of a table
+-- the tableau of a table: the columns of its basic variables written out
 abbrev pub tableau_of : Table → Tableau
-tableau_of t = record { entry = λ i j. value (at (entries_at t.rows i) j); basic = λ i. basic_at t.rows i; price = λ j. value (at t.objective j) }
+tableau_of t =
+    record {
+      entry = λ i j. value (entry_for (own_entry (basic_at t.rows i)) (with_right t.columns t.labels) (entries_at t.rows i) j);
+      basic = λ i. basic_at t.rows i;
+      price = λ j. value (entry_for no_entry (with_right t.columns t.labels) t.objective j);
+    }
 
 -- the tables of a run are feasible, and have the solutions of the first one and on these its
 -- objective

@@ -3,7 +3,7 @@ use Rattle.std.specs.Prelude.{◌≡◌, ℕ, zero, suc, ◌<◌, List, map, Opt
 use Rattle.std.specs.List.{Contains}
 use Rattle.table_run.specs.Program.{LinearProgram}
 use Rattle.table_run.specs.Table.{Table, Row, first_table}
-use Rattle.table_run.specs.Choice.{entering}
+use Rattle.table_run.specs.Choice.{Column, entering}
 use Rattle.table_run.specs.Run.{Turn, moved, unlimited, stopped, turn}
 use Rattle.table_run.specs.Optimum.{IsProgram}
 
@@ -13,9 +13,9 @@ moved_to (moved u) = Some u
 moved_to unlimited = None
 moved_to (stopped w) = None
 
-abbrev pub turned_by : ℕ → Table → Option ℕ → Option Table
+abbrev pub turned_by : ℕ → Table → Option Column → Option Table
 turned_by limit t None = None
-turned_by limit t (Some e) = moved_to (turn limit e t)
+turned_by limit t (Some c) = moved_to (turn limit c.place t)
 
 abbrev pub next_table : ℕ → Option Table → Option Table
 next_table limit None = None

@@ -1,13 +1,11 @@
 //! What the definition of the run implies.
 ghost use Rattle.table_run.specs.Choose.{UnitsSuffice};
-ghost use Rattle.table_run.specs.DictionaryRun.{RunsAreWrittenOut};
 ghost use Rattle.table_run.specs.Limits.{RunsEnd, SameWithGreaterLimit};
 ghost use Rattle.table_run.specs.Optimum.{EndsAreAsSaid};
 ghost use Rattle.table_run.specs.Tableau.{TablesAreFeasible, TurnsAreByBlandsRule};
 ghost use Rattle.table_run.specs.Turns.{BasicsDiffer};
 ghost use Rattle.table_run.specs.Units.{UnitsAreCounted};
 ghost use Rattle.table_run.specs.Worked.{WorkedProgramsEnd};
-ghost use Rattle.table_run.specs.WrittenOut.{FirstIsWrittenOut, TurnIsWrittenOut};
 
 /// Where a run ends with an optimum, that is feasible and has a feasible dual of the same value;
 /// where it ends with a direction, the objective rises along it without an end. Whatever the limit.
@@ -59,22 +57,4 @@ pub fn same_with_greater_limit()
 /// The definitions compute how the runs of the worked programs end.
 pub fn worked_programs_end()
     ensures { WorkedProgramsEnd }
-{}
-
-/// The first dictionary of a program, with the columns of its basic variables written out, is its
-/// first table.
-pub fn first_is_written_out()
-    ensures { FirstIsWrittenOut }
-{}
-
-/// A turn of a dictionary, written out, is the turn of its table, and the same step does not fit.
-/// (Chvatal, Linear Programming, chapters 2 and 3.)
-pub fn turn_is_written_out()
-    ensures { TurnIsWrittenOut }
-{}
-
-/// So the run on the dictionary is the run on the table: the same answer after as many units, or
-/// the same first step that does not fit.
-pub fn runs_are_written_out()
-    ensures { RunsAreWrittenOut }
 {}
