@@ -11,7 +11,7 @@ use Rattle.table_run.specs.Places.{at, fraction_zero, values_at, numbers}
 use Rattle.table_run.specs.Program.{LinearProgram, row}
 use Rattle.table_run.specs.Table.{label_at, entries_at, first_row, first_table, basic_at, own_entry, no_entry}
 use Rattle.table_run.specs.Optimum.{IsProgram}
-use Rattle.table_run.specs.Tableau.{Tableau, tableau_of, IsFeasible}
+use Rattle.table_run.specs.Tableau.{tableau_of, IsFeasible}
 use Rattle.table_run.proofs.Entries.{IsTable, no_row, column_entry, right_entry, is_feasible}
 use Rattle.table_run.proofs.Listed.{listed_count, listed_item, listed_entries, listed_basic}
 

@@ -1,10 +1,9 @@
 -- A turn of a table that fits, as a turn of its tableau over the rationals.
 use Rattle.std.proofs.Common.{◌≡◌, ◌≢◌, ℕ, suc, ◌+◌, ◌<◌, List, [], ◌∷◌, length, set, inl, inr, arith, refl, sym, ◌∙◌, ap, subst, pos, Bool, true, false, nat_eq}
-use Rattle.std.specs.Prelude.{Result, Ok, if◌then◌else◌}
+use Rattle.std.specs.Prelude.{Ok, if◌then◌else◌}
 use Rattle.std.proofs.lemmas.Bool.{eqb-true, eqb-false, cases_lt}
 use Rattle.std.proofs.lemmas.List.{length-set}
 use Rattle.std.proofs.Math.Decide.{ℕ_discrete}
-use Rattle.exact_num.specs.declared.misfit.Wide.{Wide}
 use Rattle.exact_num.specs.Fraction.{Fraction, IsLowest, whole}
 use Rattle.exact_num.specs.Fits.{mul_of, sub_of, div_of, after}
 use Rattle.exact_num.proofs.After.{after_value}

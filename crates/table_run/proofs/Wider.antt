@@ -1,8 +1,7 @@
 -- What fits a limit fits a greater one, with the same value: so a run's tables do not depend on the
 -- limit.
 use Rattle.std.proofs.Common.{◌≡◌, ℕ, zero, suc, ◌+◌, ◌≤◌, List, [], ◌∷◌, length, set, arith, refl, pos, Bool, true, false, nat_eq}
-use Rattle.std.specs.Prelude.{Result, Ok, Option, Some, None, if◌then◌else◌}
-use Rattle.exact_num.specs.declared.misfit.Wide.{Wide}
+use Rattle.std.specs.Prelude.{Ok, Option, Some, None, if◌then◌else◌}
 use Rattle.exact_num.specs.Fraction.{Fraction, whole, negated}
 use Rattle.exact_num.specs.Fits.{sub_of, mul_of, div_of, after}
 use Rattle.table_run.specs.Places.{at, fraction_zero}
