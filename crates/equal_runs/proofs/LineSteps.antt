@@ -1,13 +1,13 @@
 -- A line of whole numbers, and the steps of the run over fractions on what it stands for.
 use Rattle.exact_num.specs.Rationals.{reduced_is_lowest}
-use Rattle.std.proofs.Common.{◌≡◌, ℕ, zero, suc, ◌+◌, ◌*◌, ◌/◌, ◌<◌, ◌≤◌, List, [], ◌∷◌, length, map, arith, refl, sym, ◌∙◌, ap, subst, ℤ, pos, ◌+ℤ◌, ◌*ℤ◌, ◌-ℤ◌, neg_ℤ, unsigned_abs, int_div, Bool, true, false, nat_eq}
+use Rattle.std.proofs.Common.{◌≡◌, ℕ, zero, suc, ◌+◌, ◌*◌, ◌/◌, ◌<◌, ◌≤◌, List, [], ◌∷◌, length, map, set, arith, refl, sym, ◌∙◌, ap, subst, ℤ, pos, ◌+ℤ◌, ◌*ℤ◌, ◌-ℤ◌, neg_ℤ, unsigned_abs, int_div, Bool, true, false, nat_eq}
 use Rattle.std.specs.Prelude.{Ok, if◌then◌else◌, nat_le}
 use Rattle.std.specs.Int.{◌∣◌}
 use Rattle.std.proofs.lemmas.Int.{ints, unsigned_abs-mul}
-use Rattle.std.proofs.lemmas.Bool.{and_parts, leb-true, le-leb, eqb-true}
-use Rattle.std.proofs.lemmas.List.{length-map}
+use Rattle.std.proofs.lemmas.Bool.{and_parts, leb-true, le-leb}
+use Rattle.std.proofs.lemmas.List.{length-map, length-set}
 use Rattle.std.proofs.lemmas.Nat.Gcd.{dvd_antisymm, dvd_refl, dvd_trans, dvd-zero}
-use Rattle.std.proofs.Math.Nat.{mul-pos, mul-le-mul, div-mul_cancel, div-le_self, pos_of_dvd_of_pos}
+use Rattle.std.proofs.Math.Nat.{mul-pos, mul-le-mul, mul-le-mul_left, div-mul_cancel, div-le_self, pos_of_dvd_of_pos}
 use Rattle.arithmetic.specs.Gcd.{gcd}
 use Rattle.arithmetic.proofs.GcdLaws.{dvd_gcd, gcd_dvd_left, gcd_dvd_right, gcd_pos_right, pos_of_quotient}
 use Rattle.arithmetic.proofs.Integers.{unsigned_abs-neg}
@@ -16,15 +16,15 @@ use Rattle.arithmetic.proofs.Ring.{ring, V, K, ◌⊗◌, ◌⊖◌}
 use Rattle.arithmetic.proofs.Tests.{and_true, both_so}
 use Rattle.exact_num.specs.Fraction.{Fraction, IsLowest, whole, reduced, negated}
 use Rattle.exact_num.specs.CommonDenominator.{IsRatio}
-use Rattle.exact_num.specs.Fits.{size_fits, add_of, mul_of, div_of}
+use Rattle.exact_num.specs.Fits.{size_fits, add_of, mul_of}
 use Rattle.exact_num.proofs.Values.{whole_is_lowest}
 use Rattle.table_run.specs.Places.{at}
-use Rattle.table_run.specs.Pivot.{each, each_pair, less_product, over_pivot, less_pivot_row}
+use Rattle.table_run.specs.Pivot.{less_product}
 use Rattle.equal_runs.specs.Lines.{Line, AreSizes, IsShaped, IsLine, number_at, fractions_over, fractions_of, greatest_size, line_size, numbers_fit, line_fits, widest}
-use Rattle.equal_runs.specs.WholeTurning.{common_of, cross_difference, content, cut, cut_where_wide, line_mixed, line_cleared, step_size}
-use Rattle.equal_runs.specs.WholeLaws.{NumbersBetweenFit, StepsWithinRoom, SizesBound, SizesLeast, CrossProductsFit, ContentInOrder}
+use Rattle.equal_runs.specs.WholeTurning.{common_of, cross_difference, content, cut, cut_where_wide, line_mixed, without, line_cleared, step_size}
+use Rattle.equal_runs.specs.WholeLaws.{LinesFit, ClearedLinesFit, NumbersBetweenFit, StepsWithinRoom, SizesBound, SizesLeast, CrossProductsFit, ContentInOrder}
 use Rattle.equal_runs.proofs.Multiples.{reduced_is, is_reduced, ratio_moved, reduced_same, reduced_negated}
-use Rattle.equal_runs.proofs.StepsFit.{sums_fit, products_fit, quotients_fit}
+use Rattle.equal_runs.proofs.StepsFit.{sums_fit, products_fit}
 
 -- ---- sizes of numbers
 pub sizes_of_fit : (bound : ℕ) (zs : List ℤ) → numbers_fit bound zs ≡ true → AreSizes bound zs
@@ -91,22 +91,6 @@ fraction_at d [] j p = sym (reduced_zero d p)
 fraction_at d (z ∷ zs) zero p = refl
 fraction_at d (z ∷ zs) (suc j) p = fraction_at d zs j p
 
--- ---- the pivot row: its numbers stay, over the one in column e
-pub quotients_of : (limit d a : ℕ) (f : Fraction) (zs : List ℤ) → 0 < d → 0 < a → IsLowest f → IsRatio f (pos a) d → a ≤ limit → AreSizes limit zs → each (λ x. div_of limit x f) (fractions_over d zs) ≡ Ok (fractions_over a zs)
-unfolding each fractions_over
-quotients_of limit d a f [] pd pa lf rf la h = refl
-quotients_of limit d a f (z ∷ zs) pd pa lf rf la h =
-    let first : div_of limit (reduced z d) f ≡ Ok (reduced z a) = quotients_fit limit d a (reduced z d) f z (reduced_is_lowest z d pd) lf pd pa (reduced_is z d) rf (h 0) la in
-    let others = quotients_of limit d a f zs pd pa lf rf la (λ j. h (suc j)) in
-    rw (first, others) refl
-
-pub divided_is : (limit e a d : ℕ) (zs : List ℤ) → 0 < d → 0 < a → number_at zs e ≡ pos a → a ≤ limit → AreSizes limit zs → over_pivot limit e (fractions_over d zs) ≡ Ok (fractions_over a zs)
-unfolding over_pivot
-divided_is limit e a d zs pd pa is_a la h =
-    let f : Fraction = at (fractions_over d zs) e in
-    let is_f : f ≡ reduced (pos a) d = fraction_at d zs e pd ∙ ap (λ z. reduced z d) is_a in
-    quotients_of limit d a f zs pd pa (subst IsLowest (sym is_f) (reduced_is_lowest (pos a) d pd)) (subst (λ (w : Fraction). IsRatio w (pos a) d) (sym is_f) (reduced_is (pos a) d)) la h
-
 -- ---- a line cleared
 size_of_product : (x y : ℤ) (size bound : ℕ) → unsigned_abs x ≤ size → unsigned_abs y ≤ bound → unsigned_abs (x *ℤ y) ≤ size * bound
 size_of_product x y size bound p q = subst (λ w. w ≤ size * bound) (sym (unsigned_abs-mul x y)) (mul-le-mul p q)
@@ -114,7 +98,7 @@ size_of_product x y size bound p q = subst (λ w. w ≤ size * bound) (sym (unsi
 size_of_sum : (x y : ℤ) (a b limit : ℕ) → unsigned_abs x ≤ a → unsigned_abs y ≤ b → a + b ≤ limit → unsigned_abs (x +ℤ y) ≤ limit
 size_of_sum x y a b limit p q h = omega (arith, ints, p, q, h)
 
--- what the number in column e and the pivot have in common goes away: x is f * g, and a is p * g
+-- what the number in column c and the pivot have in common goes away: x is f * g, and a is p * g
 pub record IsShared (x f : ℤ) (a p g : ℕ) : Type 0 where
   pub above : f *ℤ pos g ≡ x
   pub below : p * g ≡ a
@@ -127,7 +111,7 @@ shared_by x a pa =
     record { above = int_div-mul_cancel x g (gcd_dvd_left (unsigned_abs x) a); below = div-mul_cancel g divides; positive = pos_of_quotient a g pa (gcd_pos_right (unsigned_abs x) a pa) divides }
 
 -- one entry: z * p - f * q over d * p
-entry_cleared : (limit size most d a p g : ℕ) (r : Fraction) (x f z q : ℤ) → size * p + unsigned_abs f * most ≤ limit → 0 < d → 0 < a → d ≤ size → IsShared x f a p g → IsLowest r → IsRatio r x d → unsigned_abs z ≤ size → unsigned_abs q ≤ most
+pub entry_cleared : (limit size most d a p g : ℕ) (r : Fraction) (x f z q : ℤ) → size * p + unsigned_abs f * most ≤ limit → 0 < d → 0 < a → d ≤ size → IsShared x f a p g → IsLowest r → IsRatio r x d → unsigned_abs z ≤ size → unsigned_abs q ≤ most
     → less_product limit r (reduced z d) (reduced q a) ≡ Ok (reduced ((z *ℤ pos p) -ℤ (f *ℤ q)) (d * p))
 entry_cleared limit size most d a p g r x f z q room pd pa ld s lr rr sz sq =
     let M : ℕ = d * p in
@@ -150,17 +134,15 @@ entry_cleared limit size most d a p g r x f z q room pd pa ld s lr rr sz sq =
     (omega (arith, small_z, room)) (omega (arith, small_neg, room)) (size_of_sum (z *ℤ pos p) (neg_ℤ (f *ℤ q)) (size * p) (unsigned_abs f * most) limit small_z small_neg room) (omega (arith, small_M, room)) in
     rw (product, turned) sum
 
-pub entries_cleared : (limit size most d a p g : ℕ) (r : Fraction) (x f : ℤ) (zs qs : List ℤ) → size * p + unsigned_abs f * most ≤ limit → 0 < d → 0 < a → d ≤ size → IsShared x f a p g → IsLowest r → IsRatio r x d → AreSizes size zs → AreSizes most qs
-    → each_pair (less_product limit r) (fractions_over d zs) (fractions_over a qs) ≡ Ok (fractions_over (d * p) (cross_difference p f zs qs))
-unfolding each_pair fractions_over cross_difference
-entries_cleared limit size most d a p g r x f [] qs room pd pa ld s lr rr hz hq = refl
-entries_cleared limit size most d a p g r x f (z ∷ zs) [] room pd pa ld s lr rr hz hq = refl
-entries_cleared limit size most d a p g r x f (z ∷ zs) (q ∷ qs) room pd pa ld s lr rr hz hq =
-    let first = entry_cleared limit size most d a p g r x f z q room pd pa ld s lr rr (hz 0) (hq 0) in
-    let others = entries_cleared limit size most d a p g r x f zs qs room pd pa ld s lr rr (λ j. hz (suc j)) (λ j. hq (suc j)) in
-    rw (first, others) refl
+-- the number at a place
+pub cross_at : (p : ℕ) (f : ℤ) (zs qs : List ℤ) (k : ℕ) → k < length zs → length zs ≡ length qs → number_at (cross_difference p f zs qs) k ≡ (number_at zs k *ℤ pos p) -ℤ (f *ℤ number_at qs k)
+unfolding cross_difference
+cross_at p f [] qs k h w = absurd (omega (arith, h))
+cross_at p f (z ∷ zs) [] k h w = absurd (omega (arith, w))
+cross_at p f (z ∷ zs) (q ∷ qs) zero h w = refl
+cross_at p f (z ∷ zs) (q ∷ qs) (suc k) h w = cross_at p f zs qs k (omega (arith, h)) (omega (arith, w))
 
--- with 0 in column e nothing changes
+-- with 0 in column c nothing changes
 pub mixed_none : (d a : ℕ) (zs qs : List ℤ) → 0 < d → 0 < a → length zs ≡ length qs → fractions_over (d * a) (cross_difference a (pos 0) zs qs) ≡ fractions_over d zs
 unfolding fractions_over cross_difference
 mixed_none d a [] qs pd pa h = refl
@@ -261,59 +243,22 @@ mixed_line n a x pivot l s pa wide =
       count = length-mixed (a / g) (int_div x (pos g)) l.numbers pivot (s.count ∙ sym wide) ∙ s.count;
     }
 
-pub cleared_shaped : (n e a : ℕ) (pivot : List ℤ) (l : Line) → IsShaped n l → 0 < a → length pivot ≡ n → IsShaped n (line_cleared e a pivot l)
-cleared_shaped n e a pivot l s pa wide = step (nat_eq (unsigned_abs (number_at l.numbers e)) 0)
+pub cleared_shaped : (n c a : ℕ) (pivot : List ℤ) (l : Line) → IsShaped n l → 0 < a → length pivot ≡ n → IsShaped n (line_cleared c a pivot l)
+cleared_shaped n c a pivot l s pa wide = step (nat_eq (unsigned_abs (number_at l.numbers c)) 0)
   where
-    step : (b : Bool) → IsShaped n (if b then l else cut_where_wide (line_mixed a (number_at l.numbers e) (gcd (unsigned_abs (number_at l.numbers e)) a) pivot l))
+    set_line : IsShaped n (without c l)
+    set_line = record { positive = s.positive; count = length-set l.numbers c (pos 0) ∙ s.count }
+
+    step : (b : Bool) → IsShaped n (if b then l else cut_where_wide (line_mixed a (number_at l.numbers c) (gcd (unsigned_abs (number_at l.numbers c)) a) pivot (without c l)))
     step true = s
-    step false = wide_shaped n _ (mixed_line n a (number_at l.numbers e) pivot l s pa wide)
+    step false = wide_shaped n _ (mixed_line n a (number_at l.numbers c) pivot (without c l) set_line pa wide)
 
 pub zero_of_size : (x : ℤ) → unsigned_abs x ≡ 0 → x ≡ pos 0
 zero_of_size x h = omega (arith, ints, h)
 
--- the size of what the number in column e is without what it has in common with the pivot
+-- the size of what the number in column c is without what it has in common with the pivot
 pub factor_size : (size x a most limit : ℕ) (f : ℤ) → unsigned_abs f ≡ x / gcd x a → step_size size x a most ≤ limit → size * (a / gcd x a) + unsigned_abs f * most ≤ limit
 factor_size size x a most limit f e room = subst (λ w. size * (a / gcd x a) + w * most ≤ limit) (sym e) room
-
-pub cleared_is : (limit size most n e a : ℕ) (pivot : List ℤ) (l : Line) → step_size size (unsigned_abs (number_at l.numbers e)) a most ≤ limit → IsLine size n l → 0 < a → length pivot ≡ n → AreSizes most pivot
-    → less_pivot_row limit e (fractions_over a pivot) (fractions_of l) ≡ Ok (fractions_of (line_cleared e a pivot l))
-unfolding less_pivot_row
-cleared_is limit size most n e a pivot l room line pa wide hq =
-    all ∙ ap Ok (step (nat_eq (unsigned_abs x) 0) refl)
-  where
-    x : ℤ
-    x = number_at l.numbers e
-
-    g : ℕ
-    g = gcd (unsigned_abs x) a
-
-    p : ℕ
-    p = a / g
-
-    f : ℤ
-    f = int_div x (pos g)
-
-    size_f : unsigned_abs f ≡ unsigned_abs x / g
-    size_f = unsigned_abs-int_div x g
-
-    s : IsShared x f a p g
-    s = shared_by x a pa
-
-    r : Fraction
-    r = at (fractions_of l) e
-
-    is_r : r ≡ reduced x l.denominator
-    is_r = fraction_at l.denominator l.numbers e line.positive
-
-    all : each_pair (less_product limit r) (fractions_of l) (fractions_over a pivot) ≡ Ok (fractions_over (l.denominator * p) (cross_difference p f l.numbers pivot))
-    all = entries_cleared limit size most l.denominator a p g r x f l.numbers pivot (factor_size size (unsigned_abs x) a most limit f size_f room) line.positive pa line.below s (subst IsLowest (sym is_r) (reduced_is_lowest x l.denominator line.positive)) (subst (λ (w : Fraction). IsRatio w x l.denominator) (sym is_r) (reduced_is x l.denominator)) line.sizes hq
-
-    none : unsigned_abs x ≡ 0 → f ≡ pos 0
-    none h = let less = div-le_self (unsigned_abs x) g in zero_of_size f (omega (arith, size_f, less, h))
-
-    step : (b : Bool) → nat_eq (unsigned_abs x) 0 ≡ b → fractions_over (l.denominator * p) (cross_difference p f l.numbers pivot) ≡ fractions_of (if b then l else cut_where_wide (line_mixed a x g pivot l))
-    step true h = ap (λ w. fractions_over (l.denominator * p) (cross_difference p w l.numbers pivot)) (none (eqb-true _ _ h)) ∙ mixed_none l.denominator p l.numbers pivot line.positive s.positive (line.count ∙ sym wide)
-    step false h = sym (wide_same (line_mixed a x g pivot l) (mul-pos line.positive s.positive))
 
 -- ---- the numbers between the steps
 pub numbers_between_fit : NumbersBetweenFit
@@ -348,8 +293,8 @@ steps_below_twice size x a most hx ha =
     omega (arith, left, right)
 
 pub steps_within_room : StepsWithinRoom
-steps_within_room limit e pivot l room =
-    let twice = steps_below_twice (line_size l) (unsigned_abs (number_at l.numbers e)) (unsigned_abs (number_at pivot.numbers e)) (line_size pivot) (sizes_in l.denominator l.numbers e) (sizes_in pivot.denominator pivot.numbers e) in
+steps_within_room limit c pivot l room =
+    let twice = steps_below_twice (line_size l) (unsigned_abs (number_at l.numbers c)) (unsigned_abs (number_at pivot.numbers c)) (line_size pivot) (sizes_in l.denominator l.numbers c) (sizes_in pivot.denominator pivot.numbers c) in
     le-leb _ limit (omega (arith, twice, room))
 
 mixed_sizes : (limit p : ℕ) (f : ℤ) (zs qs : List ℤ) → ((j : ℕ) → unsigned_abs ((number_at zs j *ℤ pos p) -ℤ (f *ℤ number_at qs j)) ≤ limit) → AreSizes limit (cross_difference p f zs qs)
@@ -384,6 +329,36 @@ mixed_within size most limit n a x pivot l room s hq wide pa = step (line_fits w
 
 pub cross_products_fit : CrossProductsFit
 cross_products_fit bound limit a b room hb ha = let h = size_of_product b (pos a) bound bound hb ha in omega (arith, h, room)
+
+-- ---- the lines that a turn mixes
+pub set_sizes : (bound : ℕ) (zs : List ℤ) (c : ℕ) (z : ℤ) → AreSizes bound zs → unsigned_abs z ≤ bound → AreSizes bound (set zs c z)
+set_sizes bound [] c z h k j = h j
+set_sizes bound (y ∷ zs) zero z h k zero = k
+set_sizes bound (y ∷ zs) zero z h k (suc j) = h (suc j)
+set_sizes bound (y ∷ zs) (suc c) z h k zero = h 0
+set_sizes bound (y ∷ zs) (suc c) z h k (suc j) = set_sizes bound zs c z (λ i. h (suc i)) k j
+
+pub lines_fit : LinesFit
+lines_fit bound n c l s = (
+  record { positive = s.positive; below = s.below; sizes = set_sizes bound l.numbers c (pos 0) s.sizes (omega arith); count = length-set l.numbers c (pos 0) ∙ s.count },
+  set_sizes bound l.numbers c (pos l.denominator) s.sizes s.below,
+)
+
+pub cleared_lines_fit : ClearedLinesFit
+cleared_lines_fit size most limit n c a pivot l room s hq wide pa = step (nat_eq (unsigned_abs (number_at l.numbers c)) 0)
+  where
+    low : size ≤ limit
+    low =
+        let x : ℕ = unsigned_abs (number_at l.numbers c) in
+        let one : 0 < a / gcd x a = pos_of_quotient a (gcd x a) pa (gcd_pos_right x a pa) (gcd_dvd_right x a) in
+        let more : size * 1 ≤ size * (a / gcd x a) = mul-le-mul_left size one in
+        omega (arith, more, room)
+
+    step : (b : Bool) → IsLine limit n (if b then l else cut_where_wide (line_mixed a (number_at l.numbers c) (gcd (unsigned_abs (number_at l.numbers c)) a) pivot (without c l)))
+    step true =
+        let below = s.below in
+        record { positive = s.positive; below = omega (arith, low, below); sizes = λ j. let h = s.sizes j in omega (arith, low, h); count = s.count }
+    step false = mixed_within size most limit n a (number_at l.numbers c) pivot (without c l) room (lines_fit size n c l s).0 hq wide pa
 
 -- ---- what a line has in common, number after number
 pub content_greatest : (d c : ℕ) (zs : List ℤ) → c ∣ d → ((j : ℕ) → c ∣ unsigned_abs (number_at zs j)) → c ∣ content d zs

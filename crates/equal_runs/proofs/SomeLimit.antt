@@ -1,11 +1,11 @@
 -- Some limit is enough for each run over rows of whole numbers.
 use Rattle.exact_num.proofs.GreaterLimit.{le_more}
 use Rattle.arithmetic.proofs.Tests.{and_true}
-use Rattle.std.proofs.Common.{◌≡◌, ℕ, zero, suc, ◌+◌, ◌≤◌, List, [], ◌∷◌, arith, refl, sym, ◌∙◌, subst, unsigned_abs, nat_eq, Bool, true, false, ◌&&◌}
+use Rattle.std.proofs.Common.{◌≡◌, ℕ, zero, suc, ◌+◌, ◌≤◌, List, [], ◌∷◌, length, arith, refl, sym, ◌∙◌, subst, unsigned_abs, nat_eq, Bool, true, false, ◌&&◌}
 use Rattle.std.specs.Prelude.{Option, Some, None, if◌then◌else◌}
 use Rattle.std.proofs.lemmas.Bool.{and_parts, le-leb}
 use Rattle.table_run.specs.Program.{LinearProgram}
-use Rattle.table_run.specs.Choice.{Ratio, least}
+use Rattle.table_run.specs.Choice.{Column, Ratio, least}
 use Rattle.table_run.specs.Choose.{bases_of}
 use Rattle.table_run.specs.Ending.{Ending, done, unbounded, wide_at, no_unit_left, HasNoMisfit}
 use Rattle.table_run.specs.Run.{Optimum, optimum, run}
@@ -13,7 +13,7 @@ use Rattle.table_run.specs.Optimum.{IsProgram}
 use Rattle.table_run.specs.Limits.{IsFound}
 use Rattle.table_run.proofs.Wider.{same_with_greater_limit}
 use Rattle.table_run.proofs.Ended.{runs_end}
-use Rattle.equal_runs.specs.Lines.{Line, WholeRow, WholeTable, number_at, line_at, line_size, line_fits, rows_fit}
+use Rattle.equal_runs.specs.Lines.{Line, WholeRow, LineTable, number_at, line_at, line_size, line_fits, rows_fit}
 use Rattle.equal_runs.specs.WholeTurning.{whole_entering, whole_ratios, cut, whole_turn, step_size, steps_within, row_steps_within, rows_steps_within, leaving_fits, turn_fits}
 use Rattle.equal_runs.specs.WholeRunning.{whole_read_off, whole_direction, on_column, on_whole_turn, whole_run_from, first_whole_table, whole_run}
 use Rattle.equal_runs.specs.WholeLaws.{WholeRunsEnd}
@@ -61,9 +61,9 @@ rows_steps_some e r i pivot (row ∷ rows) =
     step limit h true = refl
     step limit h false = h
 
-turn_some : (e : ℕ) (w : WholeTable) → (limit : ℕ) × (turn_fits limit e w ≡ true)
+turn_some : (e : ℕ) (w : LineTable) → (limit : ℕ) × (turn_fits limit e w ≡ true)
 unfolding turn_fits
-turn_some e w = step (whole_ratios w.columns e 0 w.rows)
+turn_some e w = step (whole_ratios (length w.labels) e 0 w.rows)
   where
     step : (qs : List Ratio) → (limit : ℕ) × (leaving_fits limit e w.objective w.rows qs ≡ true)
     step [] = (0, refl)
@@ -75,69 +75,69 @@ turn_some e w = step (whole_ratios w.columns e 0 w.rows)
         (limit, and_true (steps_within limit e pivot w.objective) (rows_steps_within limit e r pivot 0 w.rows) (steps_some limit e pivot w.objective (omega arith)) (rows_steps_more s.0 limit e r 0 pivot w.rows (omega arith) s.1))
 
 -- ---- a run that is not given up is the same with each greater limit
-run_more : (limit greater n m left spent : ℕ) (w : WholeTable) (end : Ending Optimum) → limit ≤ greater → whole_run_from limit n m left spent w ≡ Some end → whole_run_from greater n m left spent w ≡ Some end
+run_more : (limit greater n m left spent : ℕ) (w : LineTable) (end : Ending Optimum) → limit ≤ greater → whole_run_from limit n m left spent w ≡ Some end → whole_run_from greater n m left spent w ≡ Some end
 unfolding whole_run_from
 run_more limit greater n m zero spent w end more k = k
 run_more limit greater n m (suc left) spent w end more k = step (whole_entering w) (λ u q. run_more limit greater n m left (spent + 1) u end more q) k
   where
-    go : ℕ → ℕ → WholeTable → Option (Ending Optimum)
+    go : ℕ → ℕ → LineTable → Option (Ending Optimum)
     go limit e next = if turn_fits limit e w && rows_fit limit next.rows then whole_run_from limit n m left (spent + 1) next else None
 
-    next_run : (e : ℕ) (u : WholeTable) (t : Bool) → (turn_fits limit e w && rows_fit limit u.rows) ≡ t → (whole_run_from limit n m left (spent + 1) u ≡ Some end → whole_run_from greater n m left (spent + 1) u ≡ Some end)
-        → (if t then whole_run_from limit n m left (spent + 1) u else None) ≡ Some end → go greater e u ≡ Some end
-    next_run e u true f later q =
-        let parts = and_parts (turn_fits limit e w) (rows_fit limit u.rows) f in
-        let t = and_true (turn_fits greater e w) (rows_fit greater u.rows) (turn_more limit greater e w more parts.0) (rows_more limit greater u.rows more parts.1) in
+    next_run : (c : Column) (u : LineTable) (t : Bool) → (turn_fits limit c.place w && rows_fit limit u.rows) ≡ t → (whole_run_from limit n m left (spent + 1) u ≡ Some end → whole_run_from greater n m left (spent + 1) u ≡ Some end)
+        → (if t then whole_run_from limit n m left (spent + 1) u else None) ≡ Some end → go greater c.place u ≡ Some end
+    next_run c u true f later q =
+        let parts = and_parts (turn_fits limit c.place w) (rows_fit limit u.rows) f in
+        let t = and_true (turn_fits greater c.place w) (rows_fit greater u.rows) (turn_more limit greater c.place w more parts.0) (rows_more limit greater u.rows more parts.1) in
         rw t (later q)
-    next_run e u false f later q = absurd cc
+    next_run c u false f later q = absurd cc
 
-    act : (e : ℕ) → ((v : WholeTable) → whole_run_from limit n m left (spent + 1) v ≡ Some end → whole_run_from greater n m left (spent + 1) v ≡ Some end) → (o : Option WholeTable)
-        → on_whole_turn o (Some (unbounded (whole_direction n e w) (spent + 1))) (go limit e) ≡ Some end → on_whole_turn o (Some (unbounded (whole_direction n e w) (spent + 1))) (go greater e) ≡ Some end
-    act e later None q = q
-    act e later (Some u) q = next_run e u (turn_fits limit e w && rows_fit limit u.rows) refl (later u) q
+    act : (c : Column) → ((v : LineTable) → whole_run_from limit n m left (spent + 1) v ≡ Some end → whole_run_from greater n m left (spent + 1) v ≡ Some end) → (o : Option LineTable)
+        → on_whole_turn o (Some (unbounded (whole_direction n c w) (spent + 1))) (go limit c.place) ≡ Some end → on_whole_turn o (Some (unbounded (whole_direction n c w) (spent + 1))) (go greater c.place) ≡ Some end
+    act c later None q = q
+    act c later (Some u) q = next_run c u (turn_fits limit c.place w && rows_fit limit u.rows) refl (later u) q
 
-    step : (o : Option ℕ) → ((v : WholeTable) → whole_run_from limit n m left (spent + 1) v ≡ Some end → whole_run_from greater n m left (spent + 1) v ≡ Some end)
-        → on_column o (Some (whole_read_off n m w spent)) (λ e. on_whole_turn (whole_turn e w) (Some (unbounded (whole_direction n e w) (spent + 1))) (go limit e)) ≡ Some end
-        → on_column o (Some (whole_read_off n m w spent)) (λ e. on_whole_turn (whole_turn e w) (Some (unbounded (whole_direction n e w) (spent + 1))) (go greater e)) ≡ Some end
+    step : (o : Option Column) → ((v : LineTable) → whole_run_from limit n m left (spent + 1) v ≡ Some end → whole_run_from greater n m left (spent + 1) v ≡ Some end)
+        → on_column o (Some (whole_read_off n m w spent)) (λ c. on_whole_turn (whole_turn c.place w) (Some (unbounded (whole_direction n c w) (spent + 1))) (go limit c.place)) ≡ Some end
+        → on_column o (Some (whole_read_off n m w spent)) (λ c. on_whole_turn (whole_turn c.place w) (Some (unbounded (whole_direction n c w) (spent + 1))) (go greater c.place)) ≡ Some end
     step None later q = q
-    step (Some e) later q = act e later (whole_turn e w) q
+    step (Some c) later q = act c later (whole_turn c.place w) q
 
 -- ---- some limit is enough from each table on
-record Enough (n m left spent : ℕ) (w : WholeTable) : Type 0 where
+record Enough (n m left spent : ℕ) (w : LineTable) : Type 0 where
   limit : ℕ
   end : Ending Optimum
   ends : whole_run_from limit n m left spent w ≡ Some end
 
-enough : (k n m left spent : ℕ) (w : WholeTable) → IsWhole k w → Enough n m left spent w
+enough : (k n m left spent : ℕ) (w : LineTable) → IsWhole k w → Enough n m left spent w
 unfolding whole_run_from
 enough k n m zero spent w g = step (whole_entering w) refl
   where
-    step : (o : Option ℕ) → whole_entering w ≡ o → Enough n m zero spent w
+    step : (o : Option Column) → whole_entering w ≡ o → Enough n m zero spent w
     step None f = record { limit = 0; end = whole_read_off n m w spent; ends = rw f refl }
-    step (Some e) f = record { limit = 0; end = no_unit_left spent; ends = rw f refl }
+    step (Some c) f = record { limit = 0; end = no_unit_left spent; ends = rw f refl }
 enough k n m (suc left) spent w g = step (whole_entering w) refl (λ u s. enough k n m left (spent + 1) u s)
   where
-    act : (e : ℕ) → whole_entering w ≡ Some e → ((v : WholeTable) → IsWhole k v → Enough n m left (spent + 1) v) → (o : Option WholeTable) → whole_turn e w ≡ o → Enough n m (suc left) spent w
-    act e f later None t = record { limit = 0; end = unbounded (whole_direction n e w) (spent + 1); ends = rw (f, t) refl }
-    act e f later (Some u) t =
+    act : (c : Column) → whole_entering w ≡ Some c → ((v : LineTable) → IsWhole k v → Enough n m left (spent + 1) v) → (o : Option LineTable) → whole_turn c.place w ≡ o → Enough n m (suc left) spent w
+    act c f later None t = record { limit = 0; end = unbounded (whole_direction n c w) (spent + 1); ends = rw (f, t) refl }
+    act c f later (Some u) t =
         let own = rows_some w.rows in
-        let r = later u (turned_whole own.0 k e w u (within_of_fit own.0 k w g own.1) t) in
+        let r = later u (turned_whole own.0 k c.place w u (within_of_fit own.0 k w g own.1) t) in
         let s = rows_some u.rows in
-        let o = turn_some e w in
+        let o = turn_some c.place w in
         let limit : ℕ = s.0 + o.0 + r.limit in
         let rows = rows_more s.0 limit u.rows (omega arith) s.1 in
-        let steps = turn_more o.0 limit e w (omega arith) o.1 in
+        let steps = turn_more o.0 limit c.place w (omega arith) o.1 in
         let rest = run_more r.limit limit n m left (spent + 1) u r.end (omega arith) r.ends in
         record { limit = limit; end = r.end; ends = rw (f, t, steps, rows) rest }
 
-    step : (o : Option ℕ) → whole_entering w ≡ o → ((v : WholeTable) → IsWhole k v → Enough n m left (spent + 1) v) → Enough n m (suc left) spent w
+    step : (o : Option Column) → whole_entering w ≡ o → ((v : LineTable) → IsWhole k v → Enough n m left (spent + 1) v) → Enough n m (suc left) spent w
     step None f later = record { limit = 0; end = whole_read_off n m w spent; ends = rw f refl }
-    step (Some e) f later = act e f later (whole_turn e w) refl
+    step (Some c) f later = act c f later (whole_turn c.place w) refl
 
 some_limit : (p : LinearProgram) (left spent : ℕ) → IsProgram p → (limit : ℕ) × (end : Ending Optimum) × ((greater : ℕ) → limit ≤ greater → whole_run greater p left spent ≡ Some end)
 unfolding whole_run
 some_limit p left spent g =
-    let r = enough (suc (p.variables + p.rows)) p.variables p.rows left spent (first_whole_table p) (first_whole p g) in
+    let r = enough p.variables p.variables p.rows left spent (first_whole_table p) (first_whole p g) in
     let s = rows_some (first_whole_table p).rows in
     (s.0 + r.limit, r.end, λ greater more. let rows = rows_more s.0 greater (first_whole_table p).rows (omega (arith, more)) s.1 in rw rows (run_more r.limit greater p.variables p.rows left spent (first_whole_table p) r.end (omega (arith, more)) r.ends))
 

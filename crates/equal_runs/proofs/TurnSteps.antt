@@ -2,14 +2,14 @@
 -- for.
 use Rattle.exact_num.specs.Rationals.{reduced_is_lowest}
 use Rattle.exact_num.proofs.GreaterLimit.{le_more}
-use Rattle.std.proofs.Common.{◌≡◌, ℕ, zero, suc, ◌+◌, ◌*◌, ◌/◌, ◌<◌, ◌≤◌, List, [], ◌∷◌, length, map, take, arith, refl, sym, ◌∙◌, ap, subst, ℤ, pos, negsuc, ◌*ℤ◌, unsigned_abs, int_div, Bool, true, false, nat_eq}
+use Rattle.std.proofs.Common.{◌≡◌, ℕ, zero, suc, ◌+◌, ◌*◌, ◌/◌, ◌<◌, ◌≤◌, List, [], ◌∷◌, length, map, set, arith, refl, sym, ◌∙◌, ap, subst, ℤ, pos, negsuc, ◌*ℤ◌, unsigned_abs, int_div, Bool, true, false, nat_eq}
 use Rattle.std.specs.Prelude.{Result, Ok, Option, Some, None, if◌then◌else◌, int_lt, nat_lt}
 use Rattle.std.specs.declared.cmp.Ordering.{Ordering}
 use Rattle.std.specs.declared.cmp.Ordering.TheVariants.{Less, Equal, Greater}
 use Rattle.std.specs.Ordering.{int_cmp}
 use Rattle.std.proofs.lemmas.Int.{ints}
 use Rattle.std.proofs.lemmas.Bool.{and_parts, leb-true}
-use Rattle.std.proofs.lemmas.List.{take-map}
+use Rattle.std.proofs.lemmas.List.{length-set}
 use Rattle.std.proofs.Math.Nat.{mul-pos, pos_of_dvd_of_pos}
 use Rattle.std.specs.Int.{◌∣◌}
 use Rattle.arithmetic.proofs.GcdLaws.{pos_of_quotient}
@@ -21,25 +21,28 @@ use Rattle.exact_num.specs.Fraction.{Fraction, over, reduced, fraction_cmp}
 use Rattle.exact_num.specs.CommonDenominator.{IsRatio}
 use Rattle.exact_num.specs.Fits.{div_of, after}
 use Rattle.table_run.specs.Places.{at}
-use Rattle.table_run.specs.Table.{Row, row_of, entries_at, right_side}
-use Rattle.table_run.specs.Choice.{Ratio, ratio_of, first_below, entering, ratio_in, join_ratio, ratios, by_order, lesser, least}
-use Rattle.table_run.specs.Pivot.{less_pivot_row, row_after, rows_after, after_pivot}
+use Rattle.table_run.specs.Table.{Row, row_of, label_at, with_right, entries_at, basic_at, right_side}
+use Rattle.table_run.specs.Choice.{Column, smaller, least_below, entering, Ratio, ratio_of, ratio_in, join_ratio, ratios, by_order, lesser, least}
+use Rattle.table_run.specs.Pivot.{cleared, row_after, rows_after, after_pivot}
 use Rattle.table_run.specs.Run.{leave, turn, moved_or_stopped}
-use Rattle.equal_runs.specs.Lines.{Line, IsShaped, IsLine, AreLines, IsWithin, WholeRow, WholeTable, line_of, whole_row, number_at, line_at, fractions_over, fractions_of, row_for, table_for, line_size, line_fits, rows_fit}
-use Rattle.equal_runs.specs.WholeTurning.{first_negative, whole_entering, whole_ratios, content, cut, line_cleared, whole_row_after, whole_rows_after, whole_pivoted, whole_leave, whole_turn, steps_within, row_steps_within, rows_steps_within, lines_steps_within, leaving_fits, turn_fits}
+use Rattle.table_run.proofs.Columns.{right_count}
+use Rattle.equal_runs.specs.Lines.{Line, AreSizes, IsShaped, IsLine, AreLines, IsWithin, WholeRow, LineTable, line_of, whole_row, number_at, line_at, basic_of, fractions_over, fractions_of, row_for, table_for, line_size, line_fits, rows_fit}
+use Rattle.equal_runs.specs.WholeTurning.{least_column, whole_entering, whole_ratios, content, cut, turned_in, line_cleared, whole_rows_after, whole_pivoted, whole_leave, whole_turn, step_size, steps_within, row_steps_within, rows_steps_within, lines_steps_within, leaving_fits, turn_fits}
 use Rattle.equal_runs.specs.WholeLaws.{as_turn, TurnsAgree}
 use Rattle.equal_runs.proofs.Multiples.{multiple_of, by_positive, reduced_is}
 use Rattle.equal_runs.proofs.StepsFit.{quotients_fit}
-use Rattle.equal_runs.proofs.LineSteps.{line_of_fit, sizes_bound, fraction_at, divided_is, content_denominator, content_numbers, cut_same, cut_within, cleared_is, cleared_shaped}
+use Rattle.equal_runs.proofs.LineSteps.{line_of_fit, sizes_bound, fraction_at, content_denominator, content_numbers, cut_same, cut_within, cleared_shaped, set_sizes}
+use Rattle.equal_runs.proofs.LineTurns.{divided_is, cleared_is}
 
 -- ---- tables of whole rows, each of n numbers
 abbrev pub AreShaped : ℕ → List WholeRow → Type 0
 AreShaped n [] = Unit {0}
 AreShaped n (row ∷ rows) = IsShaped n row.line × AreShaped n rows
 
-pub record IsWhole (n : ℕ) (w : WholeTable) : Type 0 where
-  pub rows : AreShaped n w.rows
-  pub objective : IsShaped n w.objective
+pub record IsWhole (n : ℕ) (w : LineTable) : Type 0 where
+  pub labels : length w.labels ≡ n
+  pub rows : AreShaped (suc n) w.rows
+  pub objective : IsShaped (suc n) w.objective
 
 pub lines_of_fit : (bound n : ℕ) (rows : List WholeRow) → AreShaped n rows → rows_fit bound rows ≡ true → AreLines bound n rows
 unfolding rows_fit
@@ -48,8 +51,8 @@ lines_of_fit bound n (row ∷ rows) s h =
     let parts = and_parts (line_fits bound row.line) (rows_fit bound rows) h in
     (line_of_fit bound n row.line s.0 parts.0, lines_of_fit bound n rows s.1 parts.1)
 
-pub within_of_fit : (bound n : ℕ) (w : WholeTable) → IsWhole n w → rows_fit bound w.rows ≡ true → IsWithin bound n w
-within_of_fit bound n w s h = record { rows = lines_of_fit bound n w.rows s.rows h; objective = s.objective }
+pub within_of_fit : (bound n : ℕ) (w : LineTable) → IsWhole n w → rows_fit bound w.rows ≡ true → IsWithin bound n w
+within_of_fit bound n w s h = record { labels = s.labels; rows = lines_of_fit bound (suc n) w.rows s.rows h; objective = s.objective }
 
 pub shaped_line : (bound n : ℕ) (l : Line) → IsLine bound n l → IsShaped n l
 shaped_line bound n l g = record { positive = g.positive; count = g.count }
@@ -90,22 +93,47 @@ below_same z d p =
     sym (sign_below (reduced z d).numerator m.by (by_positive (reduced z d) z d m p)) ∙ ap (λ w. int_lt w (pos 0)) (sym m.above)
 
 -- ---- the entering column
-first_same : (i d : ℕ) (zs : List ℤ) → 0 < d → first_below i (fractions_over d zs) ≡ first_negative i zs
-unfolding first_below first_negative fractions_over
-first_same i d [] p = refl
-first_same i d (z ∷ zs) p =
+least_same : (k d : ℕ) (vs : List ℕ) (zs : List ℤ) → 0 < d → least_below k vs (fractions_over d zs) ≡ least_column k vs zs
+unfolding least_below least_column fractions_over
+least_same k d [] zs p = refl
+least_same k d (v ∷ vs) [] p = refl
+least_same k d (v ∷ vs) (z ∷ zs) p =
     let first = below_same z d p in
-    let later = first_same (i + 1) d zs p in
+    let later = least_same (k + 1) d vs zs p in
     rw (first, later) refl
 
-pub taken_over : (d n : ℕ) (zs : List ℤ) → take n (fractions_over d zs) ≡ fractions_over d (take n zs)
-unfolding fractions_over
-taken_over d n zs = take-map (λ z. reduced z d) n zs
-
-pub entering_same : (w : WholeTable) → 0 < w.objective.denominator → whole_entering w ≡ entering (table_for w)
+pub entering_same : (w : LineTable) → 0 < w.objective.denominator → whole_entering w ≡ entering (table_for w)
 unfolding whole_entering entering
-entering_same w p =
-    sym (ap (first_below 0) (taken_over w.objective.denominator w.columns w.objective.numbers) ∙ first_same 0 w.objective.denominator (take w.columns w.objective.numbers) p)
+entering_same w p = sym (least_same 0 w.objective.denominator w.labels w.objective.numbers p)
+
+abbrev Inside : ℕ → ℕ → Option Column → Type 0
+Inside k l None = Unit {0}
+Inside k l (Some c) = (k ≤ c.place) × (c.place < k + l)
+
+inside : (k : ℕ) (vs : List ℕ) (zs : List ℤ) → Inside k (length vs) (least_column k vs zs)
+unfolding least_column
+inside k [] zs = tt
+inside k (v ∷ vs) [] = tt
+inside k (v ∷ vs) (z ∷ zs) = step (int_lt z (pos 0)) (least_column (k + 1) vs zs) (inside (k + 1) vs zs)
+  where
+    more : (o : Option Column) → Inside (k + 1) (length vs) o → Inside k (length (v ∷ vs)) o
+    more None h = tt
+    more (Some c) h = (omega (arith, h.0), omega (arith, h.1))
+
+    choose : (c : Column) → Inside (k + 1) (length vs) (Some c) → (t : Bool) → Inside k (length (v ∷ vs)) (Some (if t then c else record { place = k; label = v }))
+    choose c h true = more (Some c) h
+    choose c h false = (omega arith, omega arith)
+
+    step : (b : Bool) (o : Option Column) → Inside (k + 1) (length vs) o → Inside k (length (v ∷ vs)) (if b then Some (smaller (record { place = k; label = v }) o) else o)
+    step true None h = (omega arith, omega arith)
+    step true (Some c) h = choose c h (nat_lt c.label v)
+    step false o h = more o h
+
+pub entering_inside : (n : ℕ) (w : LineTable) (c : Column) → length w.labels ≡ n → whole_entering w ≡ Some c → c.place < n
+unfolding whole_entering
+entering_inside n w c count h =
+    let within : Inside 0 (length w.labels) (Some c) = subst (Inside 0 (length w.labels)) h (inside 0 w.labels w.objective.numbers) in
+    omega (arith, within.1, count)
 
 -- ---- the ratios
 -- a ratio with its value in lowest terms
@@ -281,72 +309,89 @@ candidates columns e i (row ∷ rows) =
     step false h later = later
 
 -- ---- the rows
-abbrev fits : Row → Result Row Wide
+fits : Row → Result Row Wide
 fits row = Ok row
 
-row_after_is : (limit n e r i : ℕ) (pivot : Line) (row : WholeRow) → IsShaped n pivot → 0 < unsigned_abs (number_at pivot.numbers e) → IsShaped n row.line → row_steps_within limit e r pivot i row.line ≡ true
-    → row_after limit e r (fractions_over (unsigned_abs (number_at pivot.numbers e)) pivot.numbers) i (row_for row) ≡ Ok (row_for (whole_row_after e r (unsigned_abs (number_at pivot.numbers e)) pivot.numbers i row))
-row_after_is limit n e r i pivot row sp pa g = step (nat_eq i r)
+row_after_is : (limit n c e r i a : ℕ) (labels : List ℕ) (before : Line) (pivot : List ℤ) (row : WholeRow) → IsShaped n before → c < n → length labels ≡ n → a ≡ unsigned_abs (number_at before.numbers c) → 0 < a → length pivot ≡ n → AreSizes (line_size before) pivot → IsShaped n row.line → row_steps_within limit c r before i row.line ≡ true
+    → row_after limit c labels e r (fractions_over a pivot) i (row_for row) ≡ Ok (row_for (if nat_eq i r then whole_row e (line_of a pivot) else whole_row row.basic (line_cleared c a pivot row.line)))
+unfolding fits
+row_after_is limit n c e r i a labels before pivot row sp in_c many is_a pa wide hq g = step (nat_eq i r)
   where
-    a : ℕ
-    a = unsigned_abs (number_at pivot.numbers e)
-
-    step : (b : Bool) → (if b then true else steps_within limit e pivot row.line) ≡ true
-        → (if b then fits (row_of e (fractions_over a pivot.numbers)) else after (less_pivot_row limit e (fractions_over a pivot.numbers) (fractions_of row.line)) (λ es. fits (row_of row.basic es)))
-        ≡ fits (row_for (if b then whole_row e (line_of a pivot.numbers) else whole_row row.basic (line_cleared e a pivot.numbers row.line)))
+    step : (b : Bool) → (if b then true else steps_within limit c before row.line) ≡ true
+        → (if b then fits (row_of e (fractions_over a pivot)) else after (cleared limit c labels (fractions_over a pivot) (fractions_of row.line)) (λ es. fits (row_of row.basic es)))
+        ≡ fits (row_for (if b then whole_row e (line_of a pivot) else whole_row row.basic (line_cleared c a pivot row.line)))
     step true h = refl
     step false h =
-        let other = cleared_is limit (line_size row.line) (line_size pivot) n e a pivot.numbers row.line (leb-true _ limit h) (sizes_bound n row.line g) pa sp.count (sizes_bound n pivot sp).sizes in
+        let room : step_size (line_size row.line) (unsigned_abs (number_at row.line.numbers c)) a (line_size before) ≤ limit =
+        subst (λ (w : ℕ). step_size (line_size row.line) (unsigned_abs (number_at row.line.numbers c)) w (line_size before) ≤ limit) (sym is_a) (leb-true _ limit h) in
+        let other = cleared_is limit (line_size row.line) (line_size before) n c a labels pivot row.line room (sizes_bound n row.line g) in_c many pa wide hq in
         rw other refl
 
-rows_after_are : (limit n e r i : ℕ) (pivot : Line) (rows : List WholeRow) → IsShaped n pivot → 0 < unsigned_abs (number_at pivot.numbers e) → AreShaped n rows → rows_steps_within limit e r pivot i rows ≡ true
-    → rows_after limit e r (fractions_over (unsigned_abs (number_at pivot.numbers e)) pivot.numbers) i (map row_for rows) ≡ Ok (map row_for (whole_rows_after e r (unsigned_abs (number_at pivot.numbers e)) pivot.numbers i rows))
+rows_after_are : (limit n c e r i a : ℕ) (labels : List ℕ) (before : Line) (pivot : List ℤ) (rows : List WholeRow) → IsShaped n before → c < n → length labels ≡ n → a ≡ unsigned_abs (number_at before.numbers c) → 0 < a → length pivot ≡ n → AreSizes (line_size before) pivot → AreShaped n rows → rows_steps_within limit c r before i rows ≡ true
+    → rows_after limit c labels e r (fractions_over a pivot) i (map row_for rows) ≡ Ok (map row_for (whole_rows_after c e r a pivot i rows))
 unfolding rows_after whole_rows_after rows_steps_within
-rows_after_are limit n e r i pivot [] sp pa g h = refl
-rows_after_are limit n e r i pivot (row ∷ rows) sp pa g h =
-    let parts = and_parts (row_steps_within limit e r pivot i row.line) (rows_steps_within limit e r pivot (i + 1) rows) h in
-    let first = row_after_is limit n e r i pivot row sp pa g.0 parts.0 in
-    let others = rows_after_are limit n e r (i + 1) pivot rows sp pa g.1 parts.1 in
+rows_after_are limit n c e r i a labels before pivot [] sp in_c many is_a pa wide hq g h = refl
+rows_after_are limit n c e r i a labels before pivot (row ∷ rows) sp in_c many is_a pa wide hq g h =
+    let parts = and_parts (row_steps_within limit c r before i row.line) (rows_steps_within limit c r before (i + 1) rows) h in
+    let first = row_after_is limit n c e r i a labels before pivot row sp in_c many is_a pa wide hq g.0 parts.0 in
+    let others = rows_after_are limit n c e r (i + 1) a labels before pivot rows sp in_c many is_a pa wide hq g.1 parts.1 in
     rw (first, others) refl
 
-rows_shaped : (n e r a i : ℕ) (pivot : List ℤ) (rows : List WholeRow) → AreShaped n rows → 0 < a → length pivot ≡ n → AreShaped n (whole_rows_after e r a pivot i rows)
+pub rows_shaped : (n c e r a i : ℕ) (pivot : List ℤ) (rows : List WholeRow) → AreShaped n rows → 0 < a → length pivot ≡ n → AreShaped n (whole_rows_after c e r a pivot i rows)
 unfolding whole_rows_after
-rows_shaped n e r a i pivot [] g pa wide = tt
-rows_shaped n e r a i pivot (row ∷ rows) g pa wide = (step (nat_eq i r), rows_shaped n e r a (i + 1) pivot rows g.1 pa wide)
+rows_shaped n c e r a i pivot [] g pa wide = tt
+rows_shaped n c e r a i pivot (row ∷ rows) g pa wide = (step (nat_eq i r), rows_shaped n c e r a (i + 1) pivot rows g.1 pa wide)
   where
-    step : (b : Bool) → IsShaped n (if b then whole_row e (line_of a pivot) else whole_row row.basic (line_cleared e a pivot row.line)).line
+    step : (b : Bool) → IsShaped n (if b then whole_row e (line_of a pivot) else whole_row row.basic (line_cleared c a pivot row.line)).line
     step true = record { positive = pa; count = wide }
-    step false = cleared_shaped n e a pivot row.line g.0 pa wide
+    step false = cleared_shaped n c a pivot row.line g.0 pa wide
 
--- ---- the turn
-pub pivoted_is : (limit n e r : ℕ) (w : WholeTable) → lines_steps_within limit e r w.objective w.rows ≡ true → IsWithin limit n w → r < length w.rows → int_lt (pos 0) (number_at (line_at w.rows r).numbers e) ≡ true
-    → after_pivot limit e r (table_for w) ≡ Ok (table_for (whole_pivoted e r w))
+-- ---- the pivot
+basic_for : (rows : List WholeRow) (r : ℕ) → r < length rows → basic_at (map row_for rows) r ≡ basic_of rows r
+basic_for [] r h = absurd (omega (arith, h))
+basic_for (row ∷ rows) zero h = refl
+basic_for (row ∷ rows) (suc r) h = basic_for rows r (omega (arith, h))
+
+pub pivoted_is : (limit n c r : ℕ) (t : LineTable) → lines_steps_within limit c r t.objective t.rows ≡ true → IsWithin limit n t → c < n → r < length t.rows → int_lt (pos 0) (number_at (line_at t.rows r).numbers c) ≡ true
+    → after_pivot limit c r (table_for t) ≡ Ok (table_for (whole_pivoted c r t))
 unfolding after_pivot whole_pivoted
-pivoted_is limit n e r w mixed g inside above =
-    let before = line_at_is limit n w.rows r g.rows inside in
-    let l = cut (line_at w.rows r) in
-    let is_line = cut_within limit n (line_at w.rows r) before in
-    let s = size_above (number_at l.numbers e) (cut_above (line_at w.rows r) e before.positive above) in
-    let a : ℕ = unsigned_abs (number_at l.numbers e) in
-    let entries = entries_for w.rows r ∙ sym (cut_same (line_at w.rows r) before.positive) in
-    let first = divided_is limit e a l.denominator l.numbers is_line.positive s.1 s.0 (is_line.sizes e) is_line.sizes in
-    let parts = and_parts (steps_within limit e l w.objective) (rows_steps_within limit e r l 0 w.rows) mixed in
-    let shaped = shaped_line limit n l is_line in
-    let rows = rows_after_are limit n e r 0 l w.rows shaped s.1 (shaped_rows limit n w.rows g.rows) parts.1 in
-    let objective = cleared_is limit (line_size w.objective) (line_size l) n e a l.numbers w.objective (leb-true _ limit parts.0) (sizes_bound n w.objective g.objective) s.1 is_line.count (sizes_bound n l shaped).sizes in
-    rw (entries, first, rows, objective) refl
+pivoted_is limit n c r t mixed g in_c inside above =
+    let v = basic_of t.rows r in
+    let ks = with_right t.columns (set t.labels c v) in
+    let many : length ks ≡ suc n = right_count t.columns (set t.labels c v) ∙ ap suc (length-set t.labels c v ∙ g.labels) in
+    let in_n : c < suc n = omega (arith, in_c) in
+    let before = line_at_is limit (suc n) t.rows r g.rows inside in
+    let l = cut (line_at t.rows r) in
+    let is_line = cut_within limit (suc n) (line_at t.rows r) before in
+    let s = size_above (number_at l.numbers c) (cut_above (line_at t.rows r) c before.positive above) in
+    let a : ℕ = unsigned_abs (number_at l.numbers c) in
+    let pivot = turned_in c l in
+    let wide : length pivot ≡ suc n = length-set l.numbers c (pos l.denominator) ∙ is_line.count in
+    let shaped = shaped_line limit (suc n) l is_line in
+    let bound = sizes_bound (suc n) l shaped in
+    let hq : AreSizes (line_size l) pivot = set_sizes (line_size l) l.numbers c (pos l.denominator) bound.sizes bound.below in
+    let labels = basic_for t.rows r inside in
+    let entries = entries_for t.rows r ∙ sym (cut_same (line_at t.rows r) before.positive) in
+    let first = divided_is limit (suc n) c a ks l is_line many s.1 s.0 (is_line.sizes c) in
+    let parts = and_parts (steps_within limit c l t.objective) (rows_steps_within limit c r l 0 t.rows) mixed in
+    let rows = rows_after_are limit (suc n) c (label_at t.labels c) r 0 a ks l pivot t.rows shaped in_n many refl s.1 wide hq (shaped_rows limit (suc n) t.rows g.rows) parts.1 in
+    let objective = cleared_is limit (line_size t.objective) (line_size l) (suc n) c a ks pivot t.objective (leb-true _ limit parts.0) (sizes_bound (suc n) t.objective g.objective) in_n many s.1 wide hq in
+    rw (labels, entries, first, rows, objective) refl
 
-pivoted_whole : (bound n e r : ℕ) (w : WholeTable) → IsWithin bound n w → r < length w.rows → int_lt (pos 0) (number_at (line_at w.rows r).numbers e) ≡ true → IsWhole n (whole_pivoted e r w)
+pivoted_whole : (bound n c r : ℕ) (w : LineTable) → IsWithin bound n w → r < length w.rows → int_lt (pos 0) (number_at (line_at w.rows r).numbers c) ≡ true → IsWhole n (whole_pivoted c r w)
 unfolding whole_pivoted
-pivoted_whole bound n e r w g inside above =
-    let before = line_at_is bound n w.rows r g.rows inside in
+pivoted_whole bound n c r w g inside above =
+    let before = line_at_is bound (suc n) w.rows r g.rows inside in
     let l = cut (line_at w.rows r) in
-    let is_line = cut_within bound n (line_at w.rows r) before in
-    let s = size_above (number_at l.numbers e) (cut_above (line_at w.rows r) e before.positive above) in
-    let a : ℕ = unsigned_abs (number_at l.numbers e) in
+    let is_line = cut_within bound (suc n) (line_at w.rows r) before in
+    let s = size_above (number_at l.numbers c) (cut_above (line_at w.rows r) c before.positive above) in
+    let a : ℕ = unsigned_abs (number_at l.numbers c) in
+    let pivot = turned_in c l in
+    let wide : length pivot ≡ suc n = length-set l.numbers c (pos l.denominator) ∙ is_line.count in
     record {
-      rows = rows_shaped n e r a 0 l.numbers w.rows (shaped_rows bound n w.rows g.rows) s.1 is_line.count;
-      objective = cleared_shaped n e a l.numbers w.objective g.objective s.1 is_line.count;
+      labels = length-set w.labels c (basic_of w.rows r) ∙ g.labels;
+      rows = rows_shaped (suc n) c (label_at w.labels c) r a 0 pivot w.rows (shaped_rows bound (suc n) w.rows g.rows) s.1 wide;
+      objective = cleared_shaped (suc n) c a pivot w.objective g.objective s.1 wide;
     }
 
 -- the row of the least ratio is there, and its entry in column e is above 0
@@ -362,9 +407,9 @@ leaves e rows q qs h =
 
 pub turns_agree : TurnsAgree
 unfolding turn whole_turn turn_fits
-turns_agree limit n e w g fits =
-    let all = ratios_are limit n w.columns e 0 w.rows g.rows in
-    rw all (step (whole_ratios w.columns e 0 w.rows) (candidates w.columns e 0 w.rows) fits)
+turns_agree limit n e w g in_c fits =
+    let all = ratios_are limit (suc n) (length w.labels) e 0 w.rows g.rows in
+    rw all (step (whole_ratios (length w.labels) e 0 w.rows) (candidates (length w.labels) e 0 w.rows) fits)
   where
     step : (qs : List Ratio) → AllOf (IsCandidate e 0 w.rows) qs → leaving_fits limit e w.objective w.rows qs ≡ true → leave limit e (table_for w) (map lowered qs) ≡ as_turn (whole_leave e w qs)
     step [] h mixes = refl
@@ -372,13 +417,13 @@ turns_agree limit n e w g fits =
         let over_0 : AllOf IsOver qs = all_of (IsCandidate e 0 w.rows) IsOver (λ c k. k.below) qs h.1 in
         let least_is = least_lowered q qs h.0.below over_0 in
         let l = leaves e w.rows q qs h in
-        let next = pivoted_is limit n e (least q qs).place w mixes g l.inside l.above in
+        let next = pivoted_is limit n e (least q qs).place w mixes g in_c l.inside l.above in
         ap (λ (c : Ratio). moved_or_stopped (after_pivot limit e c.place (table_for w))) least_is ∙ ap moved_or_stopped next
 
 -- where no row limits the column, no step is made
-pub unlimited_fits : (limit e : ℕ) (w : WholeTable) → whole_turn e w ≡ None → turn_fits limit e w ≡ true
+pub unlimited_fits : (limit e : ℕ) (w : LineTable) → whole_turn e w ≡ None → turn_fits limit e w ≡ true
 unfolding whole_turn turn_fits
-unlimited_fits limit e w h = step (whole_ratios w.columns e 0 w.rows) h
+unlimited_fits limit e w h = step (whole_ratios (length w.labels) e 0 w.rows) h
   where
     step : (qs : List Ratio) → whole_leave e w qs ≡ None → leaving_fits limit e w.objective w.rows qs ≡ true
     step [] k = refl
@@ -400,9 +445,9 @@ rows_steps_more limit greater e r i pivot (row ∷ rows) more h =
     and_true (row_steps_within greater e r pivot i row.line) (rows_steps_within greater e r pivot (i + 1) rows)
     (row_steps_more limit greater e r i pivot row.line more parts.0) (rows_steps_more limit greater e r (i + 1) pivot rows more parts.1)
 
-pub turn_more : (limit greater e : ℕ) (w : WholeTable) → limit ≤ greater → turn_fits limit e w ≡ true → turn_fits greater e w ≡ true
+pub turn_more : (limit greater e : ℕ) (w : LineTable) → limit ≤ greater → turn_fits limit e w ≡ true → turn_fits greater e w ≡ true
 unfolding turn_fits
-turn_more limit greater e w more h = step (whole_ratios w.columns e 0 w.rows) h
+turn_more limit greater e w more h = step (whole_ratios (length w.labels) e 0 w.rows) h
   where
     step : (qs : List Ratio) → leaving_fits limit e w.objective w.rows qs ≡ true → leaving_fits greater e w.objective w.rows qs ≡ true
     step [] k = refl
@@ -413,9 +458,9 @@ turn_more limit greater e w more h = step (whole_ratios w.columns e 0 w.rows) h
         and_true (steps_within greater e pivot w.objective) (rows_steps_within greater e r pivot 0 w.rows)
         (le_more _ limit greater more parts.0) (rows_steps_more limit greater e r 0 pivot w.rows more parts.1)
 
-pub turned_whole : (bound n e : ℕ) (w u : WholeTable) → IsWithin bound n w → whole_turn e w ≡ Some u → IsWhole n u
+pub turned_whole : (bound n e : ℕ) (w u : LineTable) → IsWithin bound n w → whole_turn e w ≡ Some u → IsWhole n u
 unfolding whole_turn
-turned_whole bound n e w u g h = step (whole_ratios w.columns e 0 w.rows) (candidates w.columns e 0 w.rows) h
+turned_whole bound n e w u g h = step (whole_ratios (length w.labels) e 0 w.rows) (candidates (length w.labels) e 0 w.rows) h
   where
     step : (qs : List Ratio) → AllOf (IsCandidate e 0 w.rows) qs → whole_leave e w qs ≡ Some u → IsWhole n u
     step [] c h = absurd cc

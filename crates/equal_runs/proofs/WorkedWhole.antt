@@ -19,5 +19,7 @@ whole_programs_end =
       cover_too_dear_ends = refl;
       wide_surplus_ends = refl;
       surplus_too_wide_ends = refl;
+      out_of_order_ends = refl;
+      as_fractions = refl;
       units_end = refl;
     }

@@ -3,12 +3,3 @@ pub mod WholeTurning
 pub mod WholeRunning
 pub mod WholeLaws
 pub mod WorkedWhole
-pub mod Labelled
-pub mod LabelledLaws
-pub mod CompactSteps
-pub mod Compact
-pub mod CompactTurning
-pub mod CompactRunning
-pub mod Expanded
-pub mod CompactLaws
-pub mod WorkedCompact

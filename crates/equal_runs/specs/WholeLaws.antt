@@ -1,5 +1,5 @@
 -- What the run over rows of whole numbers has to do with the run over fractions.
-use Rattle.std.specs.Prelude.{◌≡◌, ℕ, ◌^◌, ◌-◌, ◌*◌, ◌/◌, ◌≤◌, ◌<◌, List, ℤ, pos, ◌+ℤ◌, ◌-ℤ◌, ◌*ℤ◌, int_div, unsigned_abs, Option, Some, None, Ok, true, nat_le}
+use Rattle.std.specs.Prelude.{◌≡◌, ℕ, ◌^◌, ◌-◌, ◌*◌, ◌/◌, ◌≤◌, ◌<◌, List, length, ℤ, pos, ◌+ℤ◌, ◌-ℤ◌, ◌*ℤ◌, int_div, unsigned_abs, Option, Some, None, Ok, true, nat_le}
 use Rattle.arithmetic.specs.Gcd.{gcd}
 use Rattle.exact_num.specs.Fraction.{Fraction, IsLowest, reduced}
 use Rattle.exact_num.specs.CommonDenominator.{IsRatio}
@@ -12,8 +12,8 @@ use Rattle.table_run.specs.Turns.{table_after, IsTableAfter}
 use Rattle.table_run.specs.Optimum.{IsProgram}
 use Rattle.table_run.specs.Limits.{IsFound}
 use Rattle.table_run.specs.Choose.{bases_of}
-use Rattle.equal_runs.specs.Lines.{Line, WholeTable, number_at, table_for, line_size, line_fits, AreSizes, IsShaped, IsLine, IsWithin}
-use Rattle.equal_runs.specs.WholeTurning.{whole_entering, whole_turn, content, common_of, step_size, steps_within, turn_fits}
+use Rattle.equal_runs.specs.Lines.{Line, LineTable, number_at, table_for, line_size, line_fits, AreSizes, IsShaped, IsLine, IsWithin}
+use Rattle.equal_runs.specs.WholeTurning.{whole_entering, turned_in, without, line_cleared, whole_turn, content, common_of, step_size, steps_within, turn_fits}
 use Rattle.equal_runs.specs.WholeRunning.{whole_run, whole_table_after}
 
 -- ---- steps on fractions that stand for whole numbers fit where those do
@@ -53,7 +53,18 @@ NumbersBetweenFit =
 
 -- which it is where twice the product of both sizes is
 abbrev pub StepsWithinRoom : Type 0
-StepsWithinRoom = (limit e : ℕ) (pivot l : Line) → 2 * (line_size l * line_size pivot) ≤ limit → steps_within limit e pivot l ≡ true
+StepsWithinRoom = (limit c : ℕ) (pivot l : Line) → 2 * (line_size l * line_size pivot) ≤ limit → steps_within limit c pivot l ≡ true
+
+-- the lines that a turn mixes are within the same bounds
+abbrev pub LinesFit : Type 0
+LinesFit =
+    (bound n c : ℕ) (l : Line) → IsLine bound n l → IsLine bound n (without c l) × AreSizes bound (turned_in c l)
+
+-- a line cleared is within the limit where the size that no step is above is
+abbrev pub ClearedLinesFit : Type 0
+ClearedLinesFit =
+    (size most limit n c a : ℕ) (pivot : List ℤ) (l : Line) → step_size size (unsigned_abs (number_at l.numbers c)) a most ≤ limit → IsLine size n l → AreSizes most pivot → length pivot ≡ n → 0 < a
+    → IsLine limit n (line_cleared c a pivot l)
 
 -- the size of a line is the least bound that it is within
 abbrev pub SizesBound : Type 0
@@ -74,7 +85,7 @@ ContentInOrder = (d : ℕ) (zs : List ℤ) → common_of d zs ≡ content d zs
 
 -- ---- the tables and the run
 -- what the run over fractions makes of a turn
-abbrev pub as_turn : Option WholeTable → Turn
+abbrev pub as_turn : Option LineTable → Turn
 as_turn None = unlimited
 as_turn (Some u) = moved (table_for u)
 
@@ -82,21 +93,21 @@ as_turn (Some u) = moved (table_for u)
 -- limit: it leaves the same row
 abbrev pub TurnsAgree : Type 0
 TurnsAgree =
-    (limit n e : ℕ) (w : WholeTable) → IsWithin limit n w → turn_fits limit e w ≡ true
-    → turn limit e (table_for w) ≡ as_turn (whole_turn e w)
+    (limit n c : ℕ) (w : LineTable) → IsWithin limit n w → c < n → turn_fits limit c w ≡ true
+    → turn limit c (table_for w) ≡ as_turn (whole_turn c w)
 
 -- each table of the run is, as fractions, that of the run over fractions with the same limit: so no
 -- step before it misfits, the same columns entered and the same rows left
 abbrev pub TablesAgree : Type 0
 TablesAgree =
-    (limit : ℕ) (p : LinearProgram) (k : ℕ) (w : WholeTable) → IsProgram p
+    (limit : ℕ) (p : LinearProgram) (k : ℕ) (w : LineTable) → IsProgram p
     → whole_table_after limit p k ≡ Some w
     → (whole_entering w ≡ entering (table_for w)) × (table_after limit p k ≡ Some (table_for w))
 
 -- without a limit: each is the table of the run after as many turns
 abbrev pub TablesStand : Type 0
 TablesStand =
-    (limit : ℕ) (p : LinearProgram) (k : ℕ) (w : WholeTable) → IsProgram p
+    (limit : ℕ) (p : LinearProgram) (k : ℕ) (w : LineTable) → IsProgram p
     → whole_table_after limit p k ≡ Some w → IsTableAfter p k (table_for w)
 
 -- a run that is not given up ends as the run over fractions does, number for number and unit for
@@ -106,6 +117,16 @@ RunsAgree =
     (limit : ℕ) (p : LinearProgram) (left spent : ℕ) (end : Ending Optimum) → IsProgram p
     → whole_run limit p left spent ≡ Some end
     → run limit p left spent ≡ end
+
+-- the run over fractions where the other is given up: in either case the run over fractions
+abbrev pub or_fractions : Option (Ending Optimum) → Ending Optimum → Ending Optimum
+or_fractions (Some end) other = end
+or_fractions None other = other
+
+abbrev pub EitherWayTheSame : Type 0
+EitherWayTheSame =
+    (limit : ℕ) (p : LinearProgram) (left spent : ℕ) → IsProgram p
+    → or_fractions (whole_run limit p left spent) (run limit p left spent) ≡ run limit p left spent
 
 -- and that met no misfit
 abbrev pub NoStepMisfits : Type 0

@@ -1,6 +1,5 @@
 //! What the definition of the run over rows of whole numbers implies.
-ghost use Rattle.equal_runs.specs.LabelledLaws.{ClearedLinesFit, LabelledLinesFit, LabelledRunsAgree, LabelledRunsEndTheSame, LabelledWorked, EitherWayTheSame};
-ghost use Rattle.equal_runs.specs.WholeLaws.{BoundsInUse, ContentInOrder, CrossProductsFit, NoStepMisfits, NumbersBetweenFit, ProductsFit, QuotientsFit, RunsAgree, SizesBound, SizesLeast, StepsWithinRoom, SumsFit, TablesAgree, TablesStand, TurnsAgree, WholeRunsEnd};
+ghost use Rattle.equal_runs.specs.WholeLaws.{BoundsInUse, ClearedLinesFit, ContentInOrder, CrossProductsFit, EitherWayTheSame, LinesFit, NoStepMisfits, NumbersBetweenFit, ProductsFit, QuotientsFit, RunsAgree, SizesBound, SizesLeast, StepsWithinRoom, SumsFit, TablesAgree, TablesStand, TurnsAgree, WholeRunsEnd};
 ghost use Rattle.equal_runs.specs.WorkedWhole.{WholeProgramsEnd};
 
 /// A step on fractions that stand for whole numbers fits where those, and what is made of them, do.
@@ -67,28 +66,13 @@ pub fn whole_programs_end()
     ensures { WholeProgramsEnd }
 {}
 
-/// The run without the columns of the basic variables is the run with them.
-pub fn labelled_runs_agree()
-    ensures { LabelledRunsAgree }
-{}
-
-/// So it ends as the run over fractions does, where it is not given up.
-pub fn labelled_runs_end_the_same()
-    ensures { LabelledRunsEndTheSame }
-{}
-
 /// Tried first, with the run over fractions where it is given up, it is the run over fractions.
 pub fn either_way_the_same()
     ensures { EitherWayTheSame }
 {}
 
 /// The lines that a turn mixes are within the same bounds, and what it leaves is within the limit.
-pub fn labelled_lines_fit()
-    ensures mixed { LabelledLinesFit }
+pub fn lines_fit()
+    ensures mixed { LinesFit }
     ensures cleared { ClearedLinesFit }
-{}
-
-/// Worked programs end the same, by computation.
-pub fn labelled_programs_end()
-    ensures { LabelledWorked }
 {}

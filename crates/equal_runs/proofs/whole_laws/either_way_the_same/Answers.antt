@@ -1,4 +1,4 @@
-use Rattle.equal_runs.proofs.LabelledFirst.{either_way_the_same}
+use Rattle.equal_runs.proofs.RunSteps.{either_way_the_same}
 use Rattle.equal_runs.proofs.whole_laws.either_way_the_same.Goals as goal
 
 pub returns : goal.returns
