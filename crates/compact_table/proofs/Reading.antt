@@ -6,9 +6,8 @@ use Rattle.std.proofs.lemmas.List.Quantifiers.{position-Some}
 use Rattle.std.proofs.lemmas.Bool.Decides.{nat_tests}
 use Rattle.exact_num.specs.Fraction.{Fraction, whole, negated}
 use Rattle.table_run.specs.Places.{at, fraction_zero}
-use Rattle.table_run.specs.Table.{Row, row_of, where_basic}
-use Rattle.equal_runs.specs.Compact.{CompactTable, variable_at}
-use Rattle.equal_runs.specs.CompactRunning.{looked_up}
+use Rattle.table_run.specs.Table.{Row, Table, row_of, with_right, entry_for, where_basic}
+use Rattle.table_run.specs.Choice.{Column}
 use Rattle.compact_table.specs.Candidates.{beside_basics}
 use Rattle.compact_table.specs.Lists.{front}
 use Rattle.compact_table.specs.Tables.{direction_entry}
@@ -62,42 +61,39 @@ basic_nowhere f j (b ∷ bs) (xs ∷ lists) h = step (b == j) h (basic_nowhere f
 pub basic_missing : (f : Row → Fraction) (j : ℕ) (bs : List ℕ) (lists : List (List Fraction)) → None ≡ position (λ b. b == j) bs → where_basic f j (beside_basics bs lists) ≡ fraction_zero
 basic_missing f j bs lists h = basic_nowhere f j bs lists (past (λ b. b == j) bs h)
 
--- ---- the entry of a variable whose column is kept
-turned_test : (j k : ℕ) (t : Bool) → (k == j) ≡ t → nat_eq j k ≡ t
-turned_test j k true e = grind (arith, nat_tests)
-turned_test j k false e = grind (arith, nat_tests)
+-- ---- the entry of a variable that has a column
+filled_here : {A : Type 0} (d : A) (own : ℕ → A) (j N : ℕ) (vs : List ℕ) (zs : List A) (k : ℕ) → k < length vs → length vs ≤ length zs → (slice_index_or vs k 0 == j) ≡ true → ((i : ℕ) → i < k → (slice_index_or vs i 0 == j) ≡ false) → entry_for own (with_right N vs) zs j ≡ slice_index_or zs k d
+unfolding entry_for
+filled_here d own j N [] zs k low long here before = absurd (omega (arith, low))
+filled_here d own j N (v ∷ vs) [] k low long here before = absurd (omega (arith, long))
+filled_here d own j N (v ∷ vs) (z ∷ zs) zero low long here before = rw here refl
+filled_here d own j N (v ∷ vs) (z ∷ zs) (suc k) low long here before =
+    let first : (v == j) ≡ false = before 0 (omega arith) in
+    rw first (filled_here d own j N vs zs k (omega (arith, low)) (omega (arith, long)) here (λ i p. before (suc i) (omega (arith, p))))
 
-kept_here : (o : ℕ → Fraction) (j : ℕ) (ks : List ℕ) (xs : List Fraction) (h : ℕ) → h < length ks → length ks ≤ length xs → (slice_index_or ks h 0 == j) ≡ true → ((i : ℕ) → i < h → (slice_index_or ks i 0 == j) ≡ false) → looked_up o ks xs j ≡ at xs h
-unfolding looked_up
-kept_here o j [] xs h low long here before = absurd (omega (arith, low))
-kept_here o j (k ∷ ks) [] h low long here before = absurd (omega (arith, long))
-kept_here o j (k ∷ ks) (x ∷ xs) zero low long here before = let test = turned_test j k true here in rw test refl
-kept_here o j (k ∷ ks) (x ∷ xs) (suc h) low long here before =
-    let test = turned_test j k false (before 0 (omega arith)) in
-    rw test (kept_here o j ks xs h (omega (arith, low)) (omega (arith, long)) here (λ i p. before (suc i) (omega (arith, p))))
+pub filled_found : {A : Type 0} (d : A) (own : ℕ → A) (j N : ℕ) (vs : List ℕ) (zs : List A) (k : ℕ) → length vs ≤ length zs → Some k ≡ position (λ v. v == j) vs → entry_for own (with_right N vs) zs j ≡ slice_index_or zs k d
+filled_found d own j N vs zs k long e =
+    let w = position-Some (λ v. v == j) vs k 0 (sym e) in
+    filled_here d own j N vs zs k w.0 long w.1 w.2
 
-pub kept_found : (o : ℕ → Fraction) (j : ℕ) (ks : List ℕ) (xs : List Fraction) (h : ℕ) → length ks ≤ length xs → Some h ≡ position (λ k. k == j) ks → looked_up o ks xs j ≡ at xs h
-kept_found o j ks xs h long e =
-    let w = position-Some (λ k. k == j) ks h 0 (sym e) in
-    kept_here o j ks xs h w.0 long w.1 w.2
-
-kept_nowhere : (o : ℕ → Fraction) (j : ℕ) (ks : List ℕ) (xs : List Fraction) → length ks ≤ position_or_len (λ k. k == j) ks → looked_up o ks xs j ≡ o j
-unfolding looked_up
-kept_nowhere o j [] xs h = refl
-kept_nowhere o j (k ∷ ks) [] h = refl
-kept_nowhere o j (k ∷ ks) (x ∷ xs) h = step (k == j) refl h (kept_nowhere o j ks xs)
+filled_nowhere : {A : Type 0} (own : ℕ → A) (j N : ℕ) (vs : List ℕ) (zs : List A) → j < N → length vs ≤ position_or_len (λ v. v == j) vs → entry_for own (with_right N vs) zs j ≡ own j
+unfolding entry_for
+filled_nowhere own j N [] [] low h = refl
+filled_nowhere own j N [] (z ∷ zs) low h = let other : nat_eq N j ≡ false = grind (arith, nat_tests) in rw other refl
+filled_nowhere own j N (v ∷ vs) [] low h = refl
+filled_nowhere own j N (v ∷ vs) (z ∷ zs) low h = step (v == j) h (filled_nowhere own j N vs zs low)
   where
-    step : (t : Bool) → (k == j) ≡ t → suc (length ks) ≤ cond (not t) (1 + position_or_len (λ k. k == j) ks) 0 → (length ks ≤ position_or_len (λ k. k == j) ks → looked_up o ks xs j ≡ o j)
-        → (if nat_eq j k then x else looked_up o ks xs j) ≡ o j
-    step true e l later = absurd (omega (arith, l))
-    step false e l later = let test = turned_test j k false e in rw test (later (omega (arith, l)))
+    step : (t : Bool) → suc (length vs) ≤ cond (not t) (1 + position_or_len (λ v. v == j) vs) 0 → (length vs ≤ position_or_len (λ v. v == j) vs → entry_for own (with_right N vs) zs j ≡ own j)
+        → (if t then z else entry_for own (with_right N vs) zs j) ≡ own j
+    step true k later = absurd (omega (arith, k))
+    step false k later = later (omega (arith, k))
 
-pub kept_missing : (o : ℕ → Fraction) (j : ℕ) (ks : List ℕ) (xs : List Fraction) → None ≡ position (λ k. k == j) ks → looked_up o ks xs j ≡ o j
-kept_missing o j ks xs e = kept_nowhere o j ks xs (past (λ k. k == j) ks e)
+pub filled_missing : {A : Type 0} (own : ℕ → A) (j N : ℕ) (vs : List ℕ) (zs : List A) → j < N → None ≡ position (λ v. v == j) vs → entry_for own (with_right N vs) zs j ≡ own j
+filled_missing own j N vs zs low e = filled_nowhere own j N vs zs low (past (λ v. v == j) vs e)
 
 -- ---- one entry of a direction
-pub entry_own : (h j : ℕ) (c : CompactTable) → j ≡ variable_at c h → direction_entry h c j ≡ whole (pos 1)
-entry_own h j c e = let same : nat_eq j (variable_at c h) ≡ true = grind (arith, nat_tests) in rw same refl
+pub entry_own : (c : Column) (j : ℕ) (t : Table) → j ≡ c.label → direction_entry c t j ≡ whole (pos 1)
+entry_own c j t e = let same : nat_eq j c.label ≡ true = grind (arith, nat_tests) in rw same refl
 
-pub entry_other : (h j : ℕ) (c : CompactTable) → (j ≡ variable_at c h → ⊥) → direction_entry h c j ≡ where_basic (λ row. negated (at row.entries h)) j c.rows
-entry_other h j c e = let other : nat_eq j (variable_at c h) ≡ false = grind (arith, nat_tests) in rw other refl
+pub entry_other : (c : Column) (j : ℕ) (t : Table) → (j ≡ c.label → ⊥) → direction_entry c t j ≡ where_basic (λ row. negated (at row.entries c.place)) j t.rows
+entry_other c j t e = let other : nat_eq j c.label ≡ false = grind (arith, nat_tests) in rw other refl

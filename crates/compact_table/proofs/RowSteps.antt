@@ -1,35 +1,38 @@
--- One step of a loop that writes each entry of a row over it.
-use Rattle.std.proofs.Common.{◌≡◌, ℕ, suc, ◌+◌, ◌<◌, ◌≤◌, List, [], ◌∷◌, length, map, take, drop, set, refl, sym, ◌∙◌, ap}
-use Rattle.std.proofs.lemmas.List.{drop_all, take_all, length-map, append-nil}
-use Rattle.std.specs.Prelude.{Result, Ok, Err, slice_index_or}
+-- The steps of a row of numbers of the code: those at the places that are not 0 are all of them.
+use Rattle.std.proofs.Common.{◌≡◌, ◌≢◌, ℕ, ◌≤◌, List, length, map, sym, ◌∙◌, ap, pos, true}
+use Rattle.std.proofs.lemmas.List.{length-map}
+use Rattle.std.specs.Prelude.{Result, Ok, Err}
 use Rattle.exact_num.specs.declared.misfit.Wide.{Wide}
 use Rattle.exact_num.specs.Fraction.{Fraction}
-use Rattle.exact_num.specs.Fits.{after}
-use Rattle.table_run.specs.Pivot.{each}
-use Rattle.compact_table.proofs.EntrySteps.{front_of, behind, behind_more, done_more, left_less}
+use Rattle.exact_num.specs.Fits.{div_of}
+use Rattle.table_run.specs.Places.{at}
+use Rattle.table_run.specs.Pivot.{Stop, less_product, steps_of, told}
+use Rattle.table_run.proofs.StepsOf.{steps_told}
+use Rattle.compact_table.specs.Nonzero.{is_zero, nonzero_places}
+use Rattle.compact_table.proofs.Skips.{IsNumber, list_number, zero_over, less_none, less_no_times}
+use Rattle.compact_table.proofs.Sweeps.{steps_at, all_steps}
 
-each_step : {A : Type 0} (value : A → Fraction) (f : Fraction → Result Fraction Wide) (xs : List A) (i : ℕ) (x : A) → i < length xs → x ≡ slice_index_or xs i x
-    → each f (drop i (map value xs)) ≡ after (f (value x)) (λ y. after (each f (drop (suc i) (map value xs))) (λ ys. Ok (y ∷ ys)))
-unfolding each
-each_step value f xs i x low at_x = let front = front_of value xs i x low at_x in rw front refl
+pub told_stop : (r : Result (List Fraction) Stop) (s : Stop) (w : Wide) → w ≡ s.wide → Err s ≡ r → Err w ≡ told r
+told_stop r s w e h = ap Err e ∙ ap told h
 
--- what is done, what is left, and the whole
-abbrev pub Written : {A : Type 0} → (A → Fraction) → (Fraction → Result Fraction Wide) → List A → ℕ → List A → Type 0
-Written value f old i row = behind (take i (map value row)) (each f (drop i (map value row))) ≡ each f (map value old)
+module _ {A : Type 0} (value : A → Fraction) (limit : ℕ) (one : 1 ≤ limit) (numbers : (x : A) → IsNumber limit (value x)) where
+  pub all_divided : (row : List A) (labels places : List ℕ) (d : A) → (value d).numerator ≢ pos 0 → length row ≡ length labels → places ≡ nonzero_places (map value row)
+      → steps_at (λ k x. div_of limit x (value d)) labels places (map value row) ≡ steps_of (λ k. div_of limit (at (map value row) k) (value d)) 0 labels
+  all_divided row labels places d ne wide are =
+      ap (λ ks. steps_at (λ k x. div_of limit x (value d)) labels ks (map value row)) are
+      ∙ all_steps (λ k x. div_of limit x (value d)) (map value row) (map value row) labels (length-map row value ∙ wide) (λ i. length (map value row))
+      (λ k p t. zero_over limit (at (map value row) k) (value d) one (list_number value limit one numbers row k) (numbers d) t ne)
 
-pub written_more : {A : Type 0} (value : A → Fraction) (f : Fraction → Result Fraction Wide) (old row : List A) (i : ℕ) (x y : A) → i < length row → x ≡ slice_index_or row i x → f (value x) ≡ Ok (value y) → Written value f old i row → Written value f old (i + 1) (set row i y)
-written_more value f old row i x y low at_x step h =
-    let done = done_more value row i y low in
-    let left = left_less value row i y in
-    let whole = rw (each_step value f row i x low at_x, step) at h in
-    rw (done, left) (sym (behind_more (take i (map value row)) (value y) (each f (drop (suc i) (map value row)))) ∙ whole)
+  pub all_cleared : (row pivot : List A) (labels places : List ℕ) (f : A) → length row ≡ length labels → length pivot ≡ length labels → places ≡ nonzero_places (map value pivot)
+      → steps_at (λ k x. less_product limit (value f) x (at (map value pivot) k)) labels places (map value row) ≡ steps_of (λ k. less_product limit (value f) (at (map value row) k) (at (map value pivot) k)) 0 labels
+  all_cleared row pivot labels places f wide same are =
+      ap (λ ks. steps_at (λ k x. less_product limit (value f) x (at (map value pivot) k)) labels ks (map value row)) are
+      ∙ all_steps (λ k x. less_product limit (value f) x (at (map value pivot) k)) (map value row) (map value pivot) labels (length-map row value ∙ wide) (length-map row value ∙ wide ∙ sym same ∙ sym (length-map pivot value))
+      (λ k p t. less_none limit (value f) (at (map value row) k) (at (map value pivot) k) one (numbers f) (list_number value limit one numbers row k) (list_number value limit one numbers pivot k) t)
 
-pub written_stop : {A : Type 0} (value : A → Fraction) (f : Fraction → Result Fraction Wide) (old row : List A) (i : ℕ) (x : A) (w : Wide) → i < length row → x ≡ slice_index_or row i x → f (value x) ≡ Err w → Written value f old i row → Err w ≡ each f (map value old)
-written_stop value f old row i x w low at_x step h = rw (each_step value f row i x low at_x, step) at h
-
-pub written_end : {A : Type 0} (value : A → Fraction) (f : Fraction → Result Fraction Wide) (old row : List A) (i : ℕ) → length row ≤ i → Written value f old i row → Ok (map value row) ≡ each f (map value old)
-unfolding each
-written_end value f old row i high h =
-    let none : drop i (map value row) ≡ [] = drop_all i (map value row) (rw length-map high) in
-    let all : take i (map value row) ≡ map value row = take_all i (map value row) (rw length-map high) in
-    ap Ok (sym (append-nil (map value row))) ∙ (rw (none, all) at h)
+  -- a row whose entry in the column is 0 stays
+  pub none_cleared : (row pivot : List A) (labels : List ℕ) (f : A) → length row ≡ length labels → is_zero (value f) ≡ true
+      → told (steps_of (λ k. less_product limit (value f) (at (map value row) k) (at (map value pivot) k)) 0 labels) ≡ Ok (map value row)
+  none_cleared row pivot labels f wide t =
+      steps_told (λ k. less_product limit (value f) (at (map value row) k) (at (map value pivot) k)) labels (map value row) (length-map row value ∙ wide)
+      (λ k p. less_no_times limit (value f) (at (map value row) k) (at (map value pivot) k) one (numbers f) (list_number value limit one numbers row k) (list_number value limit one numbers pivot k) t)

@@ -5,8 +5,7 @@ use Rattle.std.specs.List.{All}
 use Rattle.exact_num.specs.Fraction.{Fraction, negated}
 use Rattle.table_run.specs.Places.{at, fraction_zero, numbers, values_at}
 use Rattle.table_run.specs.Program.{row}
-use Rattle.table_run.specs.Table.{Row}
-use Rattle.equal_runs.specs.Compact.{CompactTable, compact_rows_from}
+use Rattle.table_run.specs.Table.{Row, Table, first_row}
 use Rattle.compact_table.specs.Candidates.{beside_basics}
 use Rattle.compact_table.specs.Lists.{front, fronts}
 use Rattle.compact_table.specs.Programs.{empty_program, with_row, coefficients_in, program_of}
@@ -122,7 +121,7 @@ row_at n done xs lists costs h long =
     rw behind (take_past n (take n xs) (coefficients_in n lists) short)
 
 pub rows_given : (n : ℕ) (costs : List Fraction) (done lists : List (List Fraction)) → AreLong n done → AreLong n lists
-    → compact_rows_from (program_of n (done ++ lists) costs) (length done) (length lists) ≡ beside_basics (numbers (n + length done) (length lists)) lists
+    → values_at (first_row (program_of n (done ++ lists) costs)) (length done) (length lists) ≡ beside_basics (numbers (n + length done) (length lists)) lists
 unfolding values_at
 rows_given n costs done [] h k = refl
 rows_given n costs done (xs ∷ lists) h k =
@@ -152,5 +151,5 @@ none_long n k d low = absurd (omega (arith, low))
 pub first_objective : (objective costs : List Fraction) → objective ≡ costs ++ fraction_zero ∷ [] → map negated objective ≡ map negated costs ++ fraction_zero ∷ []
 first_objective objective costs e = ap (map negated) e ∙ map-append negated costs (fraction_zero ∷ [])
 
-abbrev pub table_with : List ℕ → List Row → List Fraction → CompactTable
-table_with kept rows objective = record { kept = kept; rows = rows; objective = objective }
+abbrev pub table_with : ℕ → List ℕ → List Row → List Fraction → Table
+table_with columns labels rows objective = record { columns = columns; labels = labels; rows = rows; objective = objective }

@@ -1,50 +1,36 @@
--- The parts of a turn.
-use Rattle.std.proofs.Common.{◌≡◌, ℕ, List, [], ◌∷◌, length, set, refl, sym, ◌∙◌, ap}
-use Rattle.std.specs.Prelude.{Result, Ok, Err, Some, None, get_or, slice_index_or}
-use Rattle.std.specs.List.{remove}
+-- A turn by its leaving row.
+use Rattle.std.proofs.Common.{◌≡◌, ℕ, List, [], ◌∷◌, length, refl}
+use Rattle.std.specs.Prelude.{Result, Ok, Err, Some, None}
 use Rattle.exact_num.specs.declared.misfit.Wide.{Wide}
-use Rattle.exact_num.specs.Fraction.{Fraction}
 use Rattle.exact_num.specs.Fits.{after}
-use Rattle.table_run.specs.Choice.{Ratio, least}
-use Rattle.equal_runs.specs.Compact.{CompactTable, remove_insert, place_for}
-use Rattle.equal_runs.specs.CompactTurning.{short_ratios, short_pivoted, short_pivoted_at, without_limit, stopped_by, compact_turn, short_leave, on_short_ratios, on_or_stopped}
-use Rattle.compact_table.specs.Candidates.{apart, best_with, short_leaving_of}
-use Rattle.compact_table.specs.Lists.{lists_after_turn}
-use Rattle.compact_table.proofs.Beside.{basic_beside, pivoted_apart}
+use Rattle.table_run.specs.Table.{Table}
+use Rattle.table_run.specs.Choice.{Ratio, least, ratios}
+use Rattle.table_run.specs.Pivot.{after_pivot}
+use Rattle.table_run.specs.Run.{unlimited, stopped, turn, leave, on_ratios, moved_or_stopped}
+use Rattle.compact_table.specs.Candidates.{best_with, leaving_of}
 
--- ---- the pivot, where l is the variable that leaves
-pub pivoted_by : (L h r k l : ℕ) (kept basics : List ℕ) (lists : List (List Fraction)) (objective : List Fraction) → length basics ≡ length lists → slice_index_or basics r 0 ≡ l → k ≡ place_for l (remove kept h)
-    → short_pivoted L h r (apart kept basics lists objective) ≡ after (lists_after_turn L h k r lists objective) (λ t. Ok (apart (remove_insert h k l kept) (set basics r (get_or kept h 0)) t.0 t.1))
-pivoted_by L h r k l kept basics lists objective same is_l is_k =
-    let basic = basic_beside basics lists r same ∙ is_l in
-    ap (λ b. short_pivoted_at L h (place_for b (remove kept h)) r (apart kept basics lists objective)) basic
-    ∙ ap (λ p. short_pivoted_at L h p r (apart kept basics lists objective)) (sym is_k)
-    ∙ pivoted_apart L h k r kept basics lists objective same
-    ∙ ap (λ b. after (lists_after_turn L h k r lists objective) (λ t. Ok (apart (remove_insert h k b kept) (set basics r (get_or kept h 0)) t.0 t.1))) is_l
-
--- ---- a turn by its leaving row
-pub turn_none : (L h : ℕ) (c : CompactTable) → short_leaving_of L (length c.kept) h c.rows ≡ Ok None → without_limit ≡ compact_turn L h c
-unfolding compact_turn
-turn_none L h c e = step (short_ratios L (length c.kept) h 0 c.rows) e
+pub turn_none : (L c : ℕ) (t : Table) → leaving_of L (length t.labels) c t.rows ≡ Ok None → unlimited ≡ turn L c t
+unfolding turn
+turn_none L c t e = step (ratios L (length t.labels) c 0 t.rows) e
   where
-    step : (s : Result (List Ratio) Wide) → after s (λ qs. Ok (best_with None qs)) ≡ Ok None → without_limit ≡ on_short_ratios s (λ qs. short_leave L h c qs)
+    step : (s : Result (List Ratio) Wide) → after s (λ qs. Ok (best_with None qs)) ≡ Ok None → unlimited ≡ on_ratios s (λ qs. leave L c t qs)
     step (Ok []) k = refl
     step (Ok (q ∷ qs)) k = cc
     step (Err w) k = cc
 
-pub turn_stops : (L h : ℕ) (c : CompactTable) (w : Wide) → short_leaving_of L (length c.kept) h c.rows ≡ Err w → stopped_by w ≡ compact_turn L h c
-unfolding compact_turn
-turn_stops L h c w e = step (short_ratios L (length c.kept) h 0 c.rows) e
+pub turn_stops : (L c : ℕ) (t : Table) (w : Wide) → leaving_of L (length t.labels) c t.rows ≡ Err w → stopped w ≡ turn L c t
+unfolding turn
+turn_stops L c t w e = step (ratios L (length t.labels) c 0 t.rows) e
   where
-    step : (s : Result (List Ratio) Wide) → after s (λ qs. Ok (best_with None qs)) ≡ Err w → stopped_by w ≡ on_short_ratios s (λ qs. short_leave L h c qs)
+    step : (s : Result (List Ratio) Wide) → after s (λ qs. Ok (best_with None qs)) ≡ Err w → stopped w ≡ on_ratios s (λ qs. leave L c t qs)
     step (Ok qs) k = cc
     step (Err v) k = cc
 
-pub turn_pivots : (L h r : ℕ) (c : CompactTable) → short_leaving_of L (length c.kept) h c.rows ≡ Ok (Some r) → compact_turn L h c ≡ on_or_stopped (short_pivoted L h r c)
-unfolding compact_turn
-turn_pivots L h r c e = step (short_ratios L (length c.kept) h 0 c.rows) e
+pub turn_pivots : (L c r : ℕ) (t : Table) → leaving_of L (length t.labels) c t.rows ≡ Ok (Some r) → turn L c t ≡ moved_or_stopped (after_pivot L c r t)
+unfolding turn
+turn_pivots L c r t e = step (ratios L (length t.labels) c 0 t.rows) e
   where
-    step : (s : Result (List Ratio) Wide) → after s (λ qs. Ok (best_with None qs)) ≡ Ok (Some r) → on_short_ratios s (λ qs. short_leave L h c qs) ≡ on_or_stopped (short_pivoted L h r c)
+    step : (s : Result (List Ratio) Wide) → after s (λ qs. Ok (best_with None qs)) ≡ Ok (Some r) → on_ratios s (λ qs. leave L c t qs) ≡ moved_or_stopped (after_pivot L c r t)
     step (Ok []) k = cc
     step (Ok (q ∷ qs)) k = let place : (least q qs).place ≡ r = cc in rw place refl
     step (Err v) k = cc

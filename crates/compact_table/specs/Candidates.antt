@@ -4,10 +4,8 @@ use Rattle.exact_num.specs.declared.misfit.Wide.{Wide}
 use Rattle.exact_num.specs.Fraction.{Fraction}
 use Rattle.exact_num.specs.Fits.{after}
 use Rattle.table_run.specs.Places.{at}
-use Rattle.table_run.specs.Table.{Row, row_of}
-use Rattle.table_run.specs.Choice.{Ratio, ratio_of, lesser, least}
-use Rattle.equal_runs.specs.Compact.{CompactTable}
-use Rattle.equal_runs.specs.CompactTurning.{short_ratios}
+use Rattle.table_run.specs.Table.{Row, Table, row_of}
+use Rattle.table_run.specs.Choice.{Ratio, ratio_of, lesser, least, ratios}
 use Rattle.compact_table.specs.declared.candidate.Candidate.{Candidate}
 
 abbrev pub as_ratio : {A : Type 0} → (A → Fraction) → Candidate A → Ratio
@@ -34,15 +32,16 @@ beside_basics [] rows = []
 beside_basics (b ∷ bs) [] = []
 beside_basics (b ∷ bs) (xs ∷ rows) = row_of b xs ∷ beside_basics bs rows
 
--- the place of the row that leaves where the column at place h enters
-abbrev pub short_leaving_of : ℕ → ℕ → ℕ → List Row → Result (Option ℕ) Wide
-short_leaving_of limit columns h rows = after (short_ratios limit columns h 0 rows) (λ qs. Ok (best_with None qs))
+-- the place of the row that leaves where the column at place c enters
+abbrev pub leaving_of : ℕ → ℕ → ℕ → List Row → Result (Option ℕ) Wide
+leaving_of limit columns c rows = after (ratios limit columns c 0 rows) (λ qs. Ok (best_with None qs))
 
--- the compact table of lists that are kept apart
-abbrev pub apart : List ℕ → List ℕ → List (List Fraction) → List Fraction → CompactTable
-apart kept basics lists objective = record { kept = kept; rows = beside_basics basics lists; objective = objective }
+-- the table of lists that are kept apart
+abbrev pub apart : ℕ → List ℕ → List ℕ → List (List Fraction) → List Fraction → Table
+apart columns labels basics lists objective =
+    record { columns = columns; labels = labels; rows = beside_basics basics lists; objective = objective }
 
--- row r is there, and its entry at place h is not 0
-pub record IsPivot (h r : ℕ) (lists : List (List Fraction)) : Type 0 where
+-- row r is there, and its entry at place c is not 0
+pub record IsPivot (c r : ℕ) (lists : List (List Fraction)) : Type 0 where
   pub row : r < length lists
-  pub nonzero : (at (slice_index_or lists r []) h).numerator ≢ pos 0
+  pub nonzero : (at (slice_index_or lists r []) c).numerator ≢ pos 0

@@ -1,3 +1,4 @@
+pub mod Labels
 pub mod Nonzero
 pub mod Lists
 pub mod Candidates

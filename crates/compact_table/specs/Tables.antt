@@ -5,9 +5,9 @@ use Rattle.exact_num.specs.declared.misfit.Wide.{Wide}
 use Rattle.exact_num.specs.Fraction.{Fraction, whole, negated}
 use Rattle.table_run.specs.Places.{at, fraction_zero, numbers}
 use Rattle.table_run.specs.Program.{LinearProgram}
-use Rattle.table_run.specs.Table.{where_basic}
-use Rattle.equal_runs.specs.Compact.{CompactTable, variable_at}
-use Rattle.equal_runs.specs.CompactTurning.{CompactTurn, moved_on, without_limit, stopped_by}
+use Rattle.table_run.specs.Table.{Table as TableOf, where_basic}
+use Rattle.table_run.specs.Choice.{Column}
+use Rattle.table_run.specs.Run.{Turn, moved, unlimited, stopped}
 use Rattle.compact_table.specs.declared.table.Table.{Table}
 use Rattle.compact_table.specs.Lists.{fronts}
 use Rattle.compact_table.specs.Candidates.{apart}
@@ -15,13 +15,17 @@ use Rattle.compact_table.specs.Programs.{program_of}
 
 -- with `value` the fraction that a number means: the rows and the objective row
 abbrev pub lists_of : {A : Type 0} → (A → Fraction) → Table A → List (List Fraction)
-lists_of value t = fronts value (length t.kept.items + 1) t.rows.rows
+lists_of value t = fronts value (length t.labels.items + 1) t.rows.rows
 
 abbrev pub objective_of : {A : Type 0} → (A → Fraction) → Table A → List Fraction
 objective_of value t = map value t.objective.items
 
-abbrev pub as_compact : {A : Type 0} → (A → Fraction) → Table A → CompactTable
-as_compact value t = apart t.kept.items t.basics.items (lists_of value t) (objective_of value t)
+-- the number of variables, basic or not
+abbrev pub columns_of : {A : Type 0} → Table A → ℕ
+columns_of t = length t.labels.items + length t.basics.items
+
+abbrev pub as_table : {A : Type 0} → (A → Fraction) → Table A → TableOf
+as_table value t = apart (columns_of t) t.labels.items t.basics.items (lists_of value t) (objective_of value t)
 
 -- ---- room
 -- how many rows have room, those there among them
@@ -34,7 +38,7 @@ pub record SameRoom {A : Type 0} (old new : Table A) : Type 0 where
 
 -- as many columns and rows, and the same room
 pub record SameShape {A : Type 0} (old new : Table A) : Type 0 where
-  pub columns : length new.kept.items ≡ length old.kept.items
+  pub columns : length new.labels.items ≡ length old.labels.items
   pub rows : length new.rows.rows ≡ length old.rows.rows
   pub spare : new.rows.spare ≡ old.rows.spare
   pub width : new.rows.width ≡ old.rows.width
@@ -42,22 +46,22 @@ pub record SameShape {A : Type 0} (old new : Table A) : Type 0 where
 -- ---- the program that is given
 abbrev pub program_in : {A : Type 0} → (A → Fraction) → Table A → LinearProgram
 program_in value t =
-    program_of (length t.kept.items) (lists_of value t) (take (length t.kept.items) (objective_of value t))
+    program_of (length t.labels.items) (lists_of value t) (take (length t.labels.items) (objective_of value t))
 
--- a program is being given: the variables are kept, and each row has its own slack
+-- a program is being given: the variables have columns, and each row has its own slack
 pub record IsGiven {A : Type 0} (value : A → Fraction) (t : Table A) : Type 0 where
-  pub kept : t.kept.items ≡ numbers 0 (length t.kept.items)
-  pub basics : t.basics.items ≡ numbers (length t.kept.items) (length t.rows.rows)
+  pub labels : t.labels.items ≡ numbers 0 (length t.labels.items)
+  pub basics : t.basics.items ≡ numbers (length t.labels.items) (length t.rows.rows)
   pub widths : All (λ row. length row ≡ t.rows.width) t.rows.rows
-  pub objective : objective_of value t ≡ take (length t.kept.items) (objective_of value t) ++ (fraction_zero ∷ [])
+  pub objective : objective_of value t ≡ take (length t.labels.items) (objective_of value t) ++ (fraction_zero ∷ [])
 
 -- ---- a turn: whether a row limited the entering variable, and the table after it
-abbrev pub turn_answer : Result Bool Wide → CompactTable → CompactTurn
-turn_answer (Ok true) c = moved_on c
-turn_answer (Ok false) c = without_limit
-turn_answer (Err w) c = stopped_by w
+abbrev pub turn_answer : Result Bool Wide → TableOf → Turn
+turn_answer (Ok true) t = moved t
+turn_answer (Ok false) t = unlimited
+turn_answer (Err w) t = stopped w
 
--- what a step of 1 in the column at place h changes in variable j
-abbrev pub direction_entry : ℕ → CompactTable → ℕ → Fraction
-direction_entry h c j =
-    if nat_eq j (variable_at c h) then whole (pos 1) else where_basic (λ row. negated (at row.entries h)) j c.rows
+-- what a step of 1 in the column that enters changes in variable j
+abbrev pub direction_entry : Column → TableOf → ℕ → Fraction
+direction_entry c t j =
+    if nat_eq j c.label then whole (pos 1) else where_basic (λ row. negated (at row.entries c.place)) j t.rows

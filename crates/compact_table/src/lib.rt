@@ -3,7 +3,7 @@
 #![tactic(auto)]
 
 mod candidate;
-mod columns;
+pub mod columns;
 mod entries;
 pub mod limits;
 mod ratios;
@@ -12,8 +12,10 @@ mod row;
 mod rows;
 pub mod sparse;
 pub mod sparse_entry;
+mod stops;
 pub mod table;
 
+pub use columns::{Entering, with_column};
 pub use entries::is_zero;
 pub use limits::MAX_SIDE;
 pub use sparse::SparseProgram;

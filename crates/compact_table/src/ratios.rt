@@ -2,8 +2,8 @@
 ghost use Rattle.std.specs.Prelude.{◌≡◌, ◌+◌, ◌<◌, ◌≤◌, length, map, unsigned_abs};
 ghost use Rattle.std.specs.Option.{option_map};
 ghost use Rattle.exact_num.specs.Fits.{meaning};
-ghost use Rattle.equal_runs.specs.CompactSteps.{short_ratio_in};
-ghost use Rattle.compact_table.specs.Candidates.{beside_basics, short_leaving_of, IsPivot};
+ghost use Rattle.table_run.specs.Choice.{ratio_in};
+ghost use Rattle.compact_table.specs.Candidates.{beside_basics, leaving_of, IsPivot};
 ghost use Rattle.compact_table.specs.Lists.{fronts};
 
 use crate::candidate::{Candidate, with_ratio};
@@ -11,13 +11,13 @@ use crate::entries::quotient;
 use exact_num::{Exact, Wide};
 use lists::RowArena;
 
-/// The right side over the entry at h, where that is above 0.
-fn ratio<N: Exact>(entries: &[N], columns: usize, h: usize) -> Result<Option<N>, Wide>
-    requires places { (h < length entries.now) × (columns < length entries.now) }
+/// The right side over the entry at c, where that is above 0.
+fn ratio<N: Exact>(entries: &[N], columns: usize, c: usize) -> Result<Option<N>, Wide>
+    requires places { (c < length entries.now) × (columns < length entries.now) }
     ensures { meaning (option_map N.fraction) result
-        ≡ short_ratio_in (unsigned_abs N.LIMIT) columns h (map N.fraction entries.now) }
+        ≡ ratio_in (unsigned_abs N.LIMIT) columns c (map N.fraction entries.now) }
 {
-    let entry = entries[h];
+    let entry = entries[c];
     let right_side = entries[columns];
     if entry.sign() > 0 {
         let ratio = quotient(right_side, entry)?;
@@ -34,19 +34,19 @@ pub fn leaving<N: Exact>(
     basics: &[usize],
     rows: &RowArena<N>,
     columns: usize,
-    h: usize,
+    c: usize,
 ) -> Result<Option<usize>, Wide>
     requires count { length basics.now ≡ length rows.now.rows }
-    requires columns { (h ≤ columns) × (columns < rows.now.width) }
-    ensures place { result ≡ short_leaving_of (unsigned_abs N.LIMIT) columns h
+    requires columns { (c ≤ columns) × (columns < rows.now.width) }
+    ensures place { result ≡ leaving_of (unsigned_abs N.LIMIT) columns c
         (beside_basics basics.now (fronts N.fraction (columns + 1) rows.now.rows)) }
     ensures pivot { (r : _) → result ≡ Ok (Some r)
-        → IsPivot h r (fronts N.fraction (columns + 1) rows.now.rows) }
+        → IsPivot c r (fronts N.fraction (columns + 1) rows.now.rows) }
 {
     let mut best: Option<Candidate<N>> = None;
     for i in 0..rows.len() {
         let entries = &rows.row(i)[..columns + 1];
-        let ratio = ratio(entries, columns, h)?;
+        let ratio = ratio(entries, columns, c)?;
         best = with_ratio(best, i, basics[i], ratio);
     }
     match best {

@@ -1,5 +1,5 @@
 use Rattle.std.proofs.Common.{◌≡◌, ◌∙◌, sym, ap, arith, true, false, ℕ, ◌+◌, List, map, ◌++◌, drop, vec_len, vec_capacity, Vec, Global}
-use Rattle.equal_runs.specs.CompactSteps.{is_zero}
+use Rattle.compact_table.specs.Nonzero.{is_zero}
 use Rattle.compact_table.specs.Nonzero.{nonzero_from}
 use Rattle.compact_table.proofs.Nonzero.{passes_zero, takes_nonzero, all_taken}
 use Rattle.compact_table.proofs.entries.list_nonzero.Goals.{then-not-is_zero, else-not-is_zero}
@@ -8,21 +8,21 @@ use Rattle.compact_table.proofs.entries.list_nonzero.Goals as goal
 pub loop-j-preserved : goal.loop-j-preserved
 loop-j-preserved g c =
     let value = g.N.Exact.fraction in
-    let xs = c.args.pivot.now in
+    let xs = c.args.row.now in
     let j = c.loop-j.j in
     let rest = nonzero_from (j + 1) (drop (j + 1) (map value xs)) in
     elim c.if-not-is_zero.branch [
       | then-not-is_zero w ↦
-          (let test : is_zero (value c.index-pivot-j.result) ≡ false = sym c.is_zero.ensures ∙ w.if-not-is_zero.true in
-          let more = takes_nonzero value xs j c.index-pivot-j.result c.loop-j.places.items _ c.loop-j-test.true c.index-pivot-j.is test c.loop-j.invariant.places in
+          (let test : is_zero (value c.index-row-j.result) ≡ false = sym c.is_zero.ensures ∙ w.if-not-is_zero.true in
+          let more = takes_nonzero value xs j c.index-row-j.result c.loop-j.places.items _ c.loop-j-test.true c.index-row-j.is test c.loop-j.invariant.places in
           record {
             places = ap (λ (v : Vec ℕ Global). v.items ++ rest) w.places-is ∙ ap (λ (l : List ℕ). l ++ rest) w.push_within.ensures.items ∙ more;
             few = omega (arith, ap (λ (v : Vec ℕ Global). vec_len v) w.places-is, w.push_within.ensures.len, c.loop-j.invariant.few);
             room = omega (arith, ap (λ (v : Vec ℕ Global). vec_capacity v) w.places-is, w.push_within.ensures.capacity, c.loop-j.invariant.room);
           })
       | else-not-is_zero w ↦
-          (let test : is_zero (value c.index-pivot-j.result) ≡ true = sym c.is_zero.ensures ∙ w.if-not-is_zero.false in
-          let more = passes_zero value xs j c.index-pivot-j.result c.loop-j.places.items _ c.loop-j-test.true c.index-pivot-j.is test c.loop-j.invariant.places in
+          (let test : is_zero (value c.index-row-j.result) ≡ true = sym c.is_zero.ensures ∙ w.if-not-is_zero.false in
+          let more = passes_zero value xs j c.index-row-j.result c.loop-j.places.items _ c.loop-j-test.true c.index-row-j.is test c.loop-j.invariant.places in
           record {
             places = ap (λ (v : Vec ℕ Global). v.items ++ rest) w.places-is ∙ more;
             few = omega (arith, ap (λ (v : Vec ℕ Global). vec_len v) w.places-is, c.loop-j.invariant.few);
@@ -31,4 +31,4 @@ loop-j-preserved g c =
     ]
 
 pub returns-clause-places : goal.returns-clause-places
-returns-clause-places g c = all_taken g.N.Exact.fraction c.args.pivot.now c.loop-j.j c.loop-j.places.items _ (omega (arith, c.loop-j-test.false)) c.loop-j.invariant.places
+returns-clause-places g c = all_taken g.N.Exact.fraction c.args.row.now c.loop-j.j c.loop-j.places.items _ (omega (arith, c.loop-j-test.false)) c.loop-j.invariant.places

@@ -6,7 +6,7 @@ use Rattle.compact_table.proofs.entries.list_nonzero.Given as goal
 abbrev pub invariant-loop-j : goal.invariant-loop-j
 invariant-loop-j g l = record {
   places :
-      l.places.items ++ nonzero_from l.j (drop l.j (map g.N.Exact.fraction l.pivot)) ≡ nonzero_places (map g.N.Exact.fraction l.pivot);
+      l.places.items ++ nonzero_from l.j (drop l.j (map g.N.Exact.fraction l.row)) ≡ nonzero_places (map g.N.Exact.fraction l.row);
   few : vec_len l.places ≤ l.j;
   room : vec_capacity l.fn.places ≤ vec_capacity l.places;
 }

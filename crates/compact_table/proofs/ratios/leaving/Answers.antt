@@ -4,12 +4,11 @@ use Rattle.std.specs.Option.{option_map}
 use Rattle.std.proofs.lemmas.Result.{err_from_is_err_and}
 use Rattle.std.proofs.lemmas.List.{length-map}
 use Rattle.exact_num.specs.Fits.{meaning}
-use Rattle.table_run.specs.Choice.{least}
-use Rattle.equal_runs.specs.CompactSteps.{short_ratio_in}
+use Rattle.table_run.specs.Choice.{least, ratio_in}
 use Rattle.compact_table.specs.declared.candidate.Candidate.{Candidate}
 use Rattle.compact_table.specs.Candidates.{as_ratio, best_with, beside_basics}
 use Rattle.compact_table.specs.Lists.{front, fronts}
-use Rattle.compact_table.proofs.ArenaSteps.{at_fronts}
+use Rattle.compact_table.proofs.ArenaSteps.{at_fronts, fronts_lowest}
 use Rattle.compact_table.proofs.RatioLoop.{chooses_more, chooses_stop, chooses_end, front_beside, length-beside}
 use Rattle.compact_table.proofs.Leaves.{leaving_pivots}
 use Rattle.compact_table.proofs.ratios.leaving.Goals as goal
@@ -27,8 +26,8 @@ returns-in_err-ratio-clause-place g c =
     let many : length lists ≡ length rows = length-map rows (front value (c.args.columns + 1)) in
     let next_row = front_beside basics lists i (omega (arith, low, c.len-i-end.ensures, c.requires.count)) (omega (arith, low, c.len-i-end.ensures, many)) in
     let row_is = at_fronts value (c.args.columns + 1) rows i ∙ ap (front value (c.args.columns + 1)) (sym c.row.ensures.row) in
-    let stop = ap (short_ratio_in L c.args.columns c.args.h) row_is ∙ sym c.ratio.ensures ∙ ap (meaning (option_map value)) c.in_err-ratio.was in
-    rw (p.1, p.2) (chooses_stop L c.args.columns c.args.h (beside_basics basics lists) i (slice_index_or basics i 0) (slice_index_or lists i []) _ _ next_row stop c.loop-i.invariant)
+    let stop = ap (ratio_in L c.args.columns c.args.c) row_is ∙ sym c.ratio.ensures ∙ ap (meaning (option_map value)) c.in_err-ratio.was in
+    rw (p.1, p.2) (chooses_stop L c.args.columns c.args.c (beside_basics basics lists) i (slice_index_or basics i 0) (slice_index_or lists i []) _ _ next_row stop c.loop-i.invariant)
 
 pub loop-i-preserved : goal.loop-i-preserved
 loop-i-preserved g c =
@@ -42,8 +41,8 @@ loop-i-preserved g c =
     let many : length lists ≡ length rows = length-map rows (front value (c.args.columns + 1)) in
     let next_row = front_beside basics lists i (omega (arith, low, c.len-i-end.ensures, c.requires.count)) (omega (arith, low, c.len-i-end.ensures, many)) in
     let row_is = at_fronts value (c.args.columns + 1) rows i ∙ ap (front value (c.args.columns + 1)) (sym c.row.ensures.row) in
-    let found = ap (short_ratio_in L c.args.columns c.args.h) row_is ∙ sym c.ratio.ensures ∙ ap (meaning (option_map value)) c.in_ok-ratio.was in
-    let next = chooses_more L c.args.columns c.args.h (beside_basics basics lists) i (slice_index_or basics i 0) (slice_index_or lists i []) _ _ next_row found c.loop-i.invariant in
+    let found = ap (ratio_in L c.args.columns c.args.c) row_is ∙ sym c.ratio.ensures ∙ ap (meaning (option_map value)) c.in_ok-ratio.was in
+    let next = chooses_more L c.args.columns c.args.c (beside_basics basics lists) i (slice_index_or basics i 0) (slice_index_or lists i []) _ _ next_row found c.loop-i.invariant in
     rw c.with_ratio-best.ensures next
 
 pub returns-in-None-clause-place : goal.returns-in-None-clause-place
@@ -67,6 +66,7 @@ returns-in-Some-clause-place g c =
 
 pub returns-in-Some-clause-pivot : goal.returns-in-Some-clause-pivot
 returns-in-Some-clause-pivot g c r h =
-    let rows = fronts g.N.Exact.fraction (c.args.columns + 1) c.args.rows.now.rows in
-    let same = c.requires.count ∙ sym (length-map c.args.rows.now.rows (front g.N.Exact.fraction (c.args.columns + 1))) in
-    leaving_pivots _ _ c.args.h r c.args.basics.now rows same (sym (returns-in-Some-clause-place g c) ∙ h)
+    let value = g.N.Exact.fraction in
+    let rows = fronts value (c.args.columns + 1) c.args.rows.now.rows in
+    let same = c.requires.count ∙ sym (length-map c.args.rows.now.rows (front value (c.args.columns + 1))) in
+    leaving_pivots _ _ c.args.c r c.args.basics.now rows same (λ k j. fronts_lowest value g.met.N.Exact.lowest (c.args.columns + 1) c.args.rows.now.rows k j) (sym (returns-in-Some-clause-place g c) ∙ h)

@@ -7,4 +7,4 @@ use Rattle.compact_table.proofs.ratios.leaving.Given as goal
 
 abbrev pub invariant-loop-i : goal.invariant-loop-i
 invariant-loop-i g l =
-    Chooses (unsigned_abs g.N.Exact.LIMIT) l.columns l.h (beside_basics l.basics (fronts g.N.Exact.fraction (l.columns + 1) l.rows.rows)) l.i (option_map (as_ratio g.N.Exact.fraction) l.best)
+    Chooses (unsigned_abs g.N.Exact.LIMIT) l.columns l.c (beside_basics l.basics (fronts g.N.Exact.fraction (l.columns + 1) l.rows.rows)) l.i (option_map (as_ratio g.N.Exact.fraction) l.best)

@@ -1,6 +1,6 @@
 use Rattle.std.proofs.Common.{◌≡◌, ◌+◌, ◌∙◌, refl, sym, ap, subst, arith, true, take, vec_len, vec_capacity, Vec, Global}
-use Rattle.equal_runs.specs.CompactSteps.{is_zero}
-use Rattle.equal_runs.proofs.CompactSteps.{is_zero_true}
+use Rattle.compact_table.specs.Nonzero.{is_zero}
+use Rattle.compact_table.proofs.Skips.{is_zero_true}
 use Rattle.compact_table.specs.declared.sparse_entry.Entry.{Entry}
 use Rattle.compact_table.specs.SparseEntries.{HasAdded}
 use Rattle.compact_table.proofs.Written.{added_none, added_zero, added_number}

@@ -15,7 +15,7 @@ returns-clause-given g c =
     let costs = c.args.costs.now in
     let count : length c.write_numbers.new.numbers.items ≡ length costs = ap length c.write_numbers.ensures.items ∙ listed_count (λ i. i) 0 (length costs) in
     record {
-      kept = c.write_numbers.ensures.items ∙ ap (numbers 0) (sym count);
+      labels = c.write_numbers.ensures.items ∙ ap (numbers 0) (sym count);
       basics = c.clear.ensures.items ∙ ap (λ k. numbers (length c.write_numbers.new.numbers.items) k) (sym (ap length none));
       widths = λ k d low. absurd (omega (arith, low, ap length none));
       objective = begun_objective g.N.Exact.fraction _ c.write_items.new.items.items costs c.zero.result count c.write_items.ensures.items c.zero.ensures;

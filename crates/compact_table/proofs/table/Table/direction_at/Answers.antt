@@ -2,9 +2,10 @@ use Rattle.std.proofs.Common.{◌≡◌, ◌<◌, ◌+◌, ◌∙◌, sym, ap, a
 use Rattle.std.proofs.lemmas.List.{length-map}
 use Rattle.exact_num.specs.Fraction.{negated}
 use Rattle.table_run.specs.Places.{at}
-use Rattle.compact_table.specs.Tables.{as_compact, lists_of}
+use Rattle.compact_table.specs.Labels.{as_column}
+use Rattle.compact_table.specs.Tables.{as_table, lists_of}
 use Rattle.compact_table.specs.Lists.{front}
-use Rattle.compact_table.proofs.ArenaSteps.{any_default, at_fronts}
+use Rattle.compact_table.proofs.ArenaSteps.{at_fronts}
 use Rattle.compact_table.proofs.Reading.{at_front, basic_found, basic_missing, entry_other}
 use Rattle.compact_table.proofs.table.Table.direction_at.Goals as goal
 
@@ -12,10 +13,9 @@ pub returns-in-None : goal.returns-in-None
 returns-in-None g c =
     let value = g.N.Exact.fraction in
     let t = c.args.self.now in
-    let entering = c.index.ensures ∙ any_default t.kept.items c.args.h c.index.result.now 0 c.requires in
     c.zero.ensures
     ∙ sym (
-    entry_other c.args.h c.args.j (as_compact value t) (λ e. c.if-j-index.false (e ∙ sym entering))
+    entry_other (as_column c.args.column) c.args.j (as_table value t) c.if-j-column.false
     ∙ basic_missing _ c.args.j t.basics.items (lists_of value t) c.in-None.ensures
     )
 
@@ -23,18 +23,17 @@ pub returns-in-Some : goal.returns-in-Some
 returns-in-Some g c =
     let value = g.N.Exact.fraction in
     let t = c.args.self.now in
-    let h = c.args.h in
+    let h = c.args.column.place in
     let i = c.in-Some.i in
-    let w = length t.kept.items + 1 in
+    let w = length t.labels.items + 1 in
     let row = c.row.result.now in
-    let entering = c.index.ensures ∙ any_default t.kept.items h c.index.result.now 0 c.requires in
-    let same : length t.basics.items ≡ length (lists_of value t) = omega (arith, length-map t.rows.rows (front value (length t.kept.items + 1)), t.count, t.basics.ok) in
-    let inside : h < length row = omega (arith, c.row.ensures.width, t.width, t.columns, t.kept.ok, c.requires) in
+    let same : length t.basics.items ≡ length (lists_of value t) = omega (arith, length-map t.rows.rows (front value (length t.labels.items + 1)), t.count, t.basics.ok) in
+    let inside : h < length row = omega (arith, c.row.ensures.width, t.width, t.columns, t.labels.ok, c.requires) in
     let entries = at_fronts value w t.rows.rows i ∙ ap (λ xs. front value w xs) (sym c.row.ensures.row) in
     c.neg.ensures
     ∙ sym (
-    entry_other h c.args.j (as_compact value t) (λ e. c.if-j-index.false (e ∙ sym entering))
+    entry_other (as_column c.args.column) c.args.j (as_table value t) c.if-j-column.false
     ∙ basic_found (λ r. negated (at r.entries h)) c.args.j t.basics.items (lists_of value t) i same c.in-Some.ensures
     ∙ ap (λ xs. negated (at xs h)) entries
-    ∙ ap negated (at_front value w row h c.index-row-h.result (omega (arith, c.requires)) inside c.index-row-h.is)
+    ∙ ap negated (at_front value w row h c.index-row-column.result (omega (arith, c.requires)) inside c.index-row-column.is)
     )

@@ -6,5 +6,5 @@ use Rattle.compact_table.proofs.table.Table.leaving.Goals as goal
 pub returns-clause-pivot : goal.returns-clause-pivot
 returns-clause-pivot g c r h =
     let t = c.args.self.now in
-    let count : c.len.result ≡ length t.kept.items = omega (arith, c.len.ensures, t.kept.ok) in
-    subst (λ (k : ℕ). IsPivot c.args.h r (fronts g.N.Exact.fraction (k + 1) t.rows.rows)) count (c.leaving.ensures.pivot r h)
+    let count : c.len.result ≡ length t.labels.items = omega (arith, c.len.ensures, t.labels.ok) in
+    subst (λ (k : ℕ). IsPivot c.args.c r (fronts g.N.Exact.fraction (k + 1) t.rows.rows)) count (c.leaving.ensures.pivot r h)

@@ -1,60 +1,31 @@
-use Rattle.std.proofs.Common.{◌≡◌, ◌<◌, ◌+◌, ◌∙◌, sym, ap, arith, length, set, unsigned_abs, List, ℕ}
+use Rattle.std.proofs.Common.{◌≡◌, ◌+◌, ◌∙◌, sym, ap, arith, length, set, unsigned_abs}
 use Rattle.std.specs.Prelude.{Ok, get_or, slice_index_or}
-use Rattle.std.specs.List.{remove}
-use Rattle.std.proofs.lemmas.Result.{err_from_is_err_and}
-use Rattle.std.proofs.lemmas.List.{length-map}
-use Rattle.exact_num.specs.Fits.{after}
-use Rattle.equal_runs.specs.Compact.{remove_insert, place_for}
+use Rattle.std.proofs.lemmas.List.{length-map, length-set}
+use Rattle.exact_num.specs.Fits.{after, written_back}
+use Rattle.table_run.specs.Table.{with_right}
 use Rattle.compact_table.specs.Candidates.{apart}
-use Rattle.compact_table.specs.Lists.{front}
-use Rattle.compact_table.specs.Tables.{lists_of, objective_of}
-use Rattle.compact_table.proofs.ArenaSteps.{any_default}
-use Rattle.compact_table.proofs.EntrySteps.{step_ok, step_stops}
-use Rattle.compact_table.proofs.Turning.{pivoted_by}
+use Rattle.compact_table.specs.Lists.{front, lists_after_turn}
+use Rattle.compact_table.specs.Tables.{columns_of, lists_of, objective_of}
+use Rattle.compact_table.proofs.Beside.{pivoted_apart, written_apart}
 use Rattle.compact_table.proofs.table.Table.pivot.Goals as goal
-
-pub returns-in_err-turn_rows-clause-table : goal.returns-in_err-turn_rows-clause-table
-returns-in_err-turn_rows-clause-table g c =
-    let p = err_from_is_err_and c.from_residual.result c.from_residual.ensures.1 in
-    let value = g.N.Exact.fraction in
-    let t = c.args.self.now in
-    let h = c.args.h in
-    let r = c.args.r in
-    let k = c.place_without-k.result in
-    let l = c.index.result.now in
-    let lists = lists_of value t in
-    let same : length t.basics.items ≡ length lists = omega (arith, length-map t.rows.rows (front value (length t.kept.items + 1)), t.count, t.basics.ok) in
-    let low : r < length t.basics.items = omega (arith, same, c.requires.pivot.row) in
-    let is_l = any_default t.basics.items r 0 l low ∙ sym c.index.ensures in
-    let is_k = c.place_without-k.ensures.place ∙ ap (λ (ks : List ℕ). place_for l (remove ks h)) c.as_slice.ensures.value in
-    let whole = pivoted_by (unsigned_abs g.N.Exact.LIMIT) h r k l t.kept.items t.basics.items lists (objective_of value t) same is_l is_k in
-    let stop = step_stops c.turn_rows.result _ _ _ c.turn_rows.ensures.turned c.in_err-turn_rows.was in
-    rw (p.1, p.2) (sym (whole ∙ ap (λ z. after z (λ u. Ok (apart (remove_insert h k l t.kept.items) (set t.basics.items r (get_or t.kept.items h 0)) u.0 u.1))) stop))
 
 pub returns-clause-table : goal.returns-clause-table
 returns-clause-table g c =
     let value = g.N.Exact.fraction in
+    let L = unsigned_abs g.N.Exact.LIMIT in
     let t = c.args.self.now in
-    let h = c.args.h in
-    let r = c.args.r in
-    let k = c.place_without-k.result in
-    let l = c.index.result.now in
-    let lists = lists_of value t in
-    let same : length t.basics.items ≡ length lists = omega (arith, length-map t.rows.rows (front value (length t.kept.items + 1)), t.count, t.basics.ok) in
-    let low : r < length t.basics.items = omega (arith, same, c.requires.pivot.row) in
-    let is_l = any_default t.basics.items r 0 l low ∙ sym c.index.ensures in
-    let is_k = c.place_without-k.ensures.place ∙ ap (λ (ks : List ℕ). place_for l (remove ks h)) c.as_slice.ensures.value in
-    let whole = pivoted_by (unsigned_abs g.N.Exact.LIMIT) h r k l t.kept.items t.basics.items lists (objective_of value t) same is_l is_k in
-    let goes = step_ok c.turn_rows.result _ _ _ c.turn_rows.ensures.turned c.in_ok-turn_rows.was in
-    let old_kept = c.turn_rows.ensures.kept in
-    let old_basics = c.turn_rows.ensures.basics in
-    let turned = c.turn_rows.new.self in
-    let kept = c.exchange.ensures.kept
-    ∙ ap (λ (bs : List ℕ). remove_insert h k (slice_index_or bs r 0) turned.kept.items) old_basics
-    ∙ ap (λ (v : ℕ). remove_insert h k v turned.kept.items) is_l
-    ∙ ap (remove_insert h k l) old_kept in
-    let basics = c.exchange.ensures.basics
-    ∙ ap (λ (bs : List ℕ). set bs r (get_or turned.kept.items h 0)) old_basics
-    ∙ ap (λ (ks : List ℕ). set t.basics.items r (get_or ks h 0)) old_kept in
-    (λ i. Ok (apart (kept i) (basics i) (c.exchange.ensures.lists i) (c.exchange.ensures.objective i)))
-    ∙ sym (whole ∙ ap (λ z. after z (λ u. Ok (apart (remove_insert h k l t.kept.items) (set t.basics.items r (get_or t.kept.items h 0)) u.0 u.1))) goes)
+    let u = c.exchange.new.self in
+    let v = c.turn_rows.new.self in
+    let l = slice_index_or t.basics.items c.args.r 0 in
+    let labels = set t.labels.items c.args.c l in
+    let basics = set t.basics.items c.args.r (get_or t.labels.items c.args.c 0) in
+    let same : length t.basics.items ≡ length (lists_of value t) = omega (arith, length-map t.rows.rows (front value (length t.labels.items + 1)), t.count, t.basics.ok) in
+    let columns : columns_of u ≡ columns_of t = (λ i. length (c.exchange.ensures.labels i) + length (c.exchange.ensures.basics i)) ∙ (λ i. length-set t.labels.items c.args.c l i + length-set t.basics.items c.args.r (get_or t.labels.items c.args.c 0) i) in
+    let turned = c.turn_rows.ensures.turned ∙ (λ i. lists_after_turn L c.args.c (with_right (columns i) (c.exchange.ensures.labels i)) c.args.r (c.exchange.ensures.lists i) (c.exchange.ensures.objective i)) in
+    let all_labels = c.turn_rows.ensures.labels ∙ c.exchange.ensures.labels in
+    let all_basics = c.turn_rows.ensures.basics ∙ c.exchange.ensures.basics in
+    let all_columns : columns_of v ≡ columns_of t = (λ i. length (c.turn_rows.ensures.labels i) + length (c.turn_rows.ensures.basics i)) ∙ columns in
+    (λ i. written_back c.turn_rows.result (apart (all_columns i) (all_labels i) (all_basics i) (lists_of value v) (objective_of value v)))
+    ∙ written_apart (columns_of t) labels basics c.turn_rows.result (lists_of value v) (objective_of value v)
+    ∙ ap (λ q. after q (λ o. Ok (apart (columns_of t) labels basics o.0 o.1))) turned
+    ∙ sym (pivoted_apart L c.args.c c.args.r l (columns_of t) t.labels.items t.basics.items (lists_of value t) (objective_of value t) same (λ i. l))

@@ -9,8 +9,8 @@ use Rattle.compact_table.proofs.table.Table.row.Goals as goal
 pub returns-clause-program : goal.returns-clause-program
 returns-clause-program g c =
     let t = c.args.self.now in
-    let n = length t.kept.items in
-    let width : length c.args.a.now ≡ n = omega (arith, c.requires.width, t.kept.ok) in
+    let n = length t.labels.items in
+    let width : length c.args.a.now ≡ n = omega (arith, c.requires.width, t.labels.ok) in
     let was = ap length c.as_mut_slice.ensures.value in
     let written = slice_written c.write_front.new.line t.line.items _ (sym c.as_mut_slice.ensures.len ∙ was) (omega (arith, c.write_front.auto.line, was)) in
     let line = ap (take (length c.args.a.now + 1)) (c.as_slice.ensures.value ∙ written) ∙ c.write_front.ensures in
@@ -19,17 +19,17 @@ returns-clause-program g c =
 pub returns-clause-given : goal.returns-clause-given
 returns-clause-given g c =
     let t = c.args.self.now in
-    let n = length t.kept.items in
+    let n = length t.labels.items in
     let m = length t.rows.rows in
     let line = c.as_slice.result.now in
     let new = c.append.new.self.rows in
     let as_many : length new ≡ m + 1 = ap length c.append.ensures.rows ∙ length-append t.rows.rows (line ∷ []) in
-    let last : length c.args.a.now + c.len.result ≡ n + m = omega (arith, c.requires.width, t.kept.ok, c.len.ensures) in
+    let last : length c.args.a.now + c.len.result ≡ n + m = omega (arith, c.requires.width, t.labels.ok, c.len.ensures) in
     let has_width : List g.row.N.Denot → Type 0 = λ row. length row ≡ t.rows.width in
     let line_width : length line ≡ t.rows.width = omega (arith, c.as_slice.ensures.len, t.line_room) in
     let widths : All has_width new = subst (All has_width) (sym c.append.ensures.rows) (all_more has_width t.rows.rows line c.requires.given.widths line_width) in
     record {
-      kept = c.requires.given.kept;
+      labels = c.requires.given.labels;
       basics =
           c.push_within.ensures.items
           ∙ ap (λ (bs : List ℕ). bs ++ (length c.args.a.now + c.len.result) ∷ []) c.requires.given.basics

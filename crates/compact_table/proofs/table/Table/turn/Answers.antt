@@ -2,8 +2,8 @@ use Rattle.std.proofs.Common.{◌∙◌, sym, ap}
 use Rattle.std.specs.Prelude.{Ok}
 use Rattle.std.proofs.lemmas.Result.{err_from_is_err_and}
 use Rattle.exact_num.specs.Fits.{written_back}
-use Rattle.equal_runs.specs.CompactTurning.{on_or_stopped}
-use Rattle.compact_table.specs.Tables.{as_compact}
+use Rattle.table_run.specs.Run.{moved_or_stopped}
+use Rattle.compact_table.specs.Tables.{as_table}
 use Rattle.compact_table.proofs.Turning.{turn_none, turn_stops, turn_pivots}
 use Rattle.compact_table.proofs.table.Table.turn.Goals as goal
 
@@ -19,8 +19,8 @@ pub returns-in_err-pivot-in-Some-clause-turn : goal.returns-in_err-pivot-in-Some
 returns-in_err-pivot-in-Some-clause-turn g c =
     let p = err_from_is_err_and c.from_residual-in_err-pivot-in-Some.result c.from_residual-in_err-pivot-in-Some.ensures.1 in
     let place = sym c.leaving.ensures.place ∙ c.in_ok-leaving.was ∙ ap Ok c.in-Some.is in
-    let stop = sym c.pivot.ensures.table ∙ ap (λ r. written_back r (as_compact g.N.Exact.fraction c.pivot.new.self)) c.in_err-pivot-in-Some.was in
-    rw (p.1, p.2) (sym (turn_pivots _ _ _ (as_compact g.N.Exact.fraction c.args.self.now) place ∙ ap on_or_stopped stop))
+    let stop = sym c.pivot.ensures.table ∙ ap (λ r. written_back r (as_table g.N.Exact.fraction c.pivot.new.self)) c.in_err-pivot-in-Some.was in
+    rw (p.1, p.2) (sym (turn_pivots _ _ _ (as_table g.N.Exact.fraction c.args.self.now) place ∙ ap moved_or_stopped stop))
 
 pub returns-in-None-clause-turn : goal.returns-in-None-clause-turn
 returns-in-None-clause-turn g c = turn_none _ _ _ (sym c.leaving.ensures.place ∙ c.in_ok-leaving.was ∙ ap Ok c.in-None.is)
@@ -28,5 +28,5 @@ returns-in-None-clause-turn g c = turn_none _ _ _ (sym c.leaving.ensures.place �
 pub returns-in_ok-pivot-in-Some-clause-turn : goal.returns-in_ok-pivot-in-Some-clause-turn
 returns-in_ok-pivot-in-Some-clause-turn g c =
     let place = sym c.leaving.ensures.place ∙ c.in_ok-leaving.was ∙ ap Ok c.in-Some.is in
-    let next = sym c.pivot.ensures.table ∙ ap (λ r. written_back r (as_compact g.N.Exact.fraction c.pivot.new.self)) c.in_ok-pivot-in-Some.was in
-    sym (turn_pivots _ _ _ (as_compact g.N.Exact.fraction c.args.self.now) place ∙ ap on_or_stopped next)
+    let next = sym c.pivot.ensures.table ∙ ap (λ r. written_back r (as_table g.N.Exact.fraction c.pivot.new.self)) c.in_ok-pivot-in-Some.was in
+    sym (turn_pivots _ _ _ (as_table g.N.Exact.fraction c.args.self.now) place ∙ ap moved_or_stopped next)

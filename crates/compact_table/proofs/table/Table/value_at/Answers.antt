@@ -16,12 +16,12 @@ pub returns-in-Some : goal.returns-in-Some
 returns-in-Some g c =
     let value = g.N.Exact.fraction in
     let t = c.args.self.now in
-    let n = length t.kept.items in
+    let n = length t.labels.items in
     let i = c.in-Some.i in
     let row = c.row.result.now in
-    let count : c.len.result ≡ n = omega (arith, c.len.ensures, t.kept.ok) in
-    let same : length t.basics.items ≡ length (lists_of value t) = omega (arith, length-map t.rows.rows (front value (length t.kept.items + 1)), t.count, t.basics.ok) in
-    let inside : n < length row = omega (arith, c.row.ensures.width, t.width, t.columns, t.kept.ok) in
+    let count : c.len.result ≡ n = omega (arith, c.len.ensures, t.labels.ok) in
+    let same : length t.basics.items ≡ length (lists_of value t) = omega (arith, length-map t.rows.rows (front value (length t.labels.items + 1)), t.count, t.basics.ok) in
+    let inside : n < length row = omega (arith, c.row.ensures.width, t.width, t.columns, t.labels.ok) in
     let entries = at_fronts value (n + 1) t.rows.rows i ∙ ap (λ xs. front value (n + 1) xs) (sym c.row.ensures.row) in
     let here = c.index-row-len.is ∙ ap (λ k. slice_index_or row k c.index-row-len.result) count in
     sym (
