@@ -5,32 +5,32 @@ use Rattle.std.specs.Option.{option_map}
 use Rattle.std.proofs.lemmas.List.{drop_all, get_or-take, length-map}
 use Rattle.std.proofs.Math.Seq.{drop-cons}
 use Rattle.exact_num.specs.Fraction.{over}
-use Rattle.table_run.specs.Choice.{Ratio, ratio_of, least}
+use Rattle.table_run.specs.Choice.{Ratio, ratio_of, least, Column, smaller}
 use Rattle.compact_table.specs.Candidates.{better_of, best_with}
 use Rattle.equal_runs.specs.Lines.{Line, WholeRow, no_line, whole_row, number_at}
-use Rattle.equal_runs.specs.WholeTurning.{whole_ratios}
-use Rattle.equal_runs.specs.Labelled.{Column, smaller, least_column}
-use Rattle.whole_solver.specs.declared.columns.Entering.{Entering}
-use Rattle.whole_solver.specs.Choices.{as_column}
-use Rattle.whole_solver.specs.Rows.{line_in, lines_in, row_at, beside_basics, with_column}
+use Rattle.equal_runs.specs.WholeTurning.{whole_ratios, least_column}
+use Rattle.compact_table.specs.declared.columns.Entering.{Entering}
+use Rattle.compact_table.specs.Labels.{as_column}
+use Rattle.whole_solver.specs.Rows.{line_in, lines_in, row_at, beside_basics}
+use Rattle.compact_table.specs.Labels.{with_column}
 use Rattle.whole_solver.proofs.Listed.{IsGap}
 
 -- ---- the entering column
 abbrev pub column : ℕ → ℕ → Column
-column k v = record { place = k; name = v }
+column k v = record { place = k; label = v }
 
-pub column_more : (names : List ℕ) (zs : List ℤ) (k : ℕ) → k < length names → k < length zs
-    → least_column k (drop k names) (drop k zs) ≡ with_column (get_or zs k (pos 0)) (record { place = k; name = get_or names k 0 }) (least_column (k + 1) (drop (k + 1) names) (drop (k + 1) zs))
+pub column_more : (labels : List ℕ) (zs : List ℤ) (k : ℕ) → k < length labels → k < length zs
+    → least_column k (drop k labels) (drop k zs) ≡ with_column (int_lt (get_or zs k (pos 0)) (pos 0)) (record { place = k; label = get_or labels k 0 }) (least_column (k + 1) (drop (k + 1) labels) (drop (k + 1) zs))
 unfolding least_column
-column_more names zs k p q =
-    let a = drop-cons names k 0 p in
+column_more labels zs k p q =
+    let a = drop-cons labels k 0 p in
     let b = drop-cons zs k (pos 0) q in
     let next : k + 1 ≡ suc k = add-one k in
     rw (a, b, next) refl
 
-pub no_column : (names : List ℕ) (zs : List ℤ) (k : ℕ) → length names ≤ k → None ≡ least_column k (drop k names) (drop k zs)
+pub no_column : (labels : List ℕ) (zs : List ℤ) (k : ℕ) → length labels ≤ k → None ≡ least_column k (drop k labels) (drop k zs)
 unfolding least_column
-no_column names zs k h = let none : drop k names ≡ [] = drop_all k names h in rw none refl
+no_column labels zs k h = let none : drop k labels ≡ [] = drop_all k labels h in rw none refl
 
 least_inside : (k : ℕ) (vs : List ℕ) (zs : List ℤ) (d : Column) → least_column k vs zs ≡ Some d → d.place < k + length vs
 unfolding least_column
@@ -38,7 +38,7 @@ least_inside k [] zs d h = absurd cc
 least_inside k (v ∷ vs) [] d h = absurd cc
 least_inside k (v ∷ vs) (z ∷ zs) d h = step (int_lt z (pos 0)) (least_column (k + 1) vs zs) (least_inside (k + 1) vs zs) h
   where
-    inner : (t : Bool) (b : Column) → b.place < k + 1 + length vs → Some (if t then b else record { place = k; name = v }) ≡ Some d → d.place < k + suc (length vs)
+    inner : (t : Bool) (b : Column) → b.place < k + 1 + length vs → Some (if t then b else record { place = k; label = v }) ≡ Some d → d.place < k + suc (length vs)
     inner true b low e =
         let same : b ≡ d = cc in
         let q = ap (λ (x : Column). x.place) same in
@@ -48,17 +48,17 @@ least_inside k (v ∷ vs) (z ∷ zs) d h = step (int_lt z (pos 0)) (least_column
         let q = ap (λ (x : Column). x.place) same in
         omega (arith, q)
 
-    step : (t : Bool) (later : Option Column) → ((b : Column) → later ≡ Some b → b.place < k + 1 + length vs) → (if t then Some (smaller (record { place = k; name = v }) later) else later) ≡ Some d → d.place < k + suc (length vs)
+    step : (t : Bool) (later : Option Column) → ((b : Column) → later ≡ Some b → b.place < k + 1 + length vs) → (if t then Some (smaller (record { place = k; label = v }) later) else later) ≡ Some d → d.place < k + suc (length vs)
     step false later g e = let low = g d e in omega (arith, low)
     step true None g e =
         let same : column k v ≡ d = cc in
         let q = ap (λ (x : Column). x.place) same in
         omega (arith, q)
-    step true (Some b) g e = inner (nat_lt b.name v) b (g b refl) e
+    step true (Some b) g e = inner (nat_lt b.label v) b (g b refl) e
 
-pub inside_of : (r : Option Entering) (names : List ℕ) (zs : List ℤ) → option_map as_column r ≡ least_column 0 names zs → IfSome r (λ c. c.place < length names)
-inside_of None names zs h = tt
-inside_of (Some c) names zs h = let low = least_inside 0 names zs (as_column c) (sym h) in omega (arith, low)
+pub inside_of : (r : Option Entering) (labels : List ℕ) (zs : List ℤ) → option_map as_column r ≡ least_column 0 labels zs → IfSome r (λ c. c.place < length labels)
+inside_of None labels zs h = tt
+inside_of (Some c) labels zs h = let low = least_inside 0 labels zs (as_column c) (sym h) in omega (arith, low)
 
 -- ---- the numbers of a row
 pub in_line : (w : ℕ) (row : List ℤ) (k : ℕ) → k < w → number_at (line_in w row).numbers k ≡ number_at row (k + 1)

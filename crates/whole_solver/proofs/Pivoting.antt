@@ -4,11 +4,10 @@ use Rattle.std.specs.Prelude.{Some, None, int_lt, if◌then◌else◌}
 use Rattle.arithmetic.proofs.Tests.{and_true}
 use Rattle.std.proofs.lemmas.List.{length-map}
 use Rattle.table_run.specs.Choice.{Ratio, least}
-use Rattle.equal_runs.proofs.Columns.{same_test, other_test}
+use Rattle.compact_table.proofs.ArenaSteps.{same_test, other_test}
 use Rattle.compact_table.specs.Candidates.{best_with}
-use Rattle.equal_runs.specs.Lines.{Line, WholeRow, line_of, number_at, line_at, no_line, rows_fit}
-use Rattle.equal_runs.specs.WholeTurning.{cut, whole_ratios, steps_within, row_steps_within, rows_steps_within, lines_steps_within, leaving_fits}
-use Rattle.equal_runs.specs.Labelled.{LabelledTable, basic_of, turned_in, labelled_cleared, labelled_rows_after, labelled_pivoted, labelled_leave, labelled_turn, labelled_turn_fits}
+use Rattle.equal_runs.specs.Lines.{Line, WholeRow, line_of, number_at, line_at, no_line, rows_fit, LineTable, basic_of}
+use Rattle.equal_runs.specs.WholeTurning.{cut, whole_ratios, steps_within, row_steps_within, rows_steps_within, lines_steps_within, leaving_fits, turned_in, line_cleared, whole_rows_after, whole_pivoted, whole_leave, whole_turn, turn_fits}
 use Rattle.equal_runs.proofs.TurnSteps.{AllOf, IsCandidate, candidates, Leaves, leaves}
 use Rattle.whole_solver.specs.Rows.{line_in, lines_in, row_at, beside_basics, lines_after, AreLinesIn, IsTurned, IsPivot}
 use Rattle.whole_solver.specs.Tables.{table_of}
@@ -31,8 +30,8 @@ basic_beside (b ∷ bs) (l ∷ lines) (suc r) e = basic_beside bs lines r (omega
 
 module _ (c e r a : ℕ) (P : List ℤ) where
   -- past the pivot row
-  past : (bs : List ℕ) (lines : List Line) (i : ℕ) → length bs ≡ length lines → r < i → labelled_rows_after c e r a P i (beside_basics bs lines) ≡ beside_basics bs (lines_after c a r P i lines)
-  unfolding labelled_rows_after lines_after
+  past : (bs : List ℕ) (lines : List Line) (i : ℕ) → length bs ≡ length lines → r < i → whole_rows_after c e r a P i (beside_basics bs lines) ≡ beside_basics bs (lines_after c a r P i lines)
+  unfolding whole_rows_after lines_after
   past [] [] i s p = refl
   past [] (l ∷ lines) i s p = absurd (omega (arith, s))
   past (b ∷ bs) [] i s p = absurd (omega (arith, s))
@@ -42,8 +41,8 @@ module _ (c e r a : ℕ) (P : List ℤ) where
       rw (t, later) refl
 
   pub rows_beside : (bs : List ℕ) (lines : List Line) (i j : ℕ) → length bs ≡ length lines → i + j ≡ r
-      → labelled_rows_after c e r a P i (beside_basics bs lines) ≡ beside_basics (set bs j e) (lines_after c a r P i (set lines j (line_of a P)))
-  unfolding labelled_rows_after lines_after
+      → whole_rows_after c e r a P i (beside_basics bs lines) ≡ beside_basics (set bs j e) (lines_after c a r P i (set lines j (line_of a P)))
+  unfolding whole_rows_after lines_after
   rows_beside [] [] i j s p = refl
   rows_beside [] (l ∷ lines) i j s p = absurd (omega (arith, s))
   rows_beside (b ∷ bs) [] i j s p = absurd (omega (arith, s))
@@ -57,111 +56,111 @@ module _ (c e r a : ℕ) (P : List ℤ) where
       rw (t, later) refl
 
 -- ---- the table after a pivot
-abbrev pub table_with : ℕ → List ℕ → List WholeRow → Line → LabelledTable
-table_with columns names rows objective = record { columns = columns; names = names; rows = rows; objective = objective }
+abbrev pub table_with : ℕ → List ℕ → List WholeRow → Line → LineTable
+table_with columns labels rows objective = record { columns = columns; labels = labels; rows = rows; objective = objective }
 
-pub pivoted_table : (names basics : List ℕ) (rows new : List (List ℤ)) (objective last : List ℤ) (c r : ℕ) → length basics ≡ length rows → r < length rows → IsTurned (length names + 1) c r rows objective new last
-    → table_of (set names c (get_or basics r 0)) (set basics r (get_or names c 0)) new last ≡ labelled_pivoted c r (table_of names basics rows objective)
-unfolding labelled_pivoted
-pivoted_table names basics rows new objective last c r same low t =
-    (λ i. table_with (columns i) (set names c v) (rows_are i) (last_is i)) ∙ sym (λ i. by (cut (line i)) (basic i))
+pub pivoted_table : (labels basics : List ℕ) (rows new : List (List ℤ)) (objective last : List ℤ) (c r : ℕ) → length basics ≡ length rows → r < length rows → IsTurned (length labels + 1) c r rows objective new last
+    → table_of (set labels c (get_or basics r 0)) (set basics r (get_or labels c 0)) new last ≡ whole_pivoted c r (table_of labels basics rows objective)
+unfolding whole_pivoted
+pivoted_table labels basics rows new objective last c r same low t =
+    (λ i. table_with (columns i) (set labels c v) (rows_are i) (last_is i)) ∙ sym (λ i. by (cut (line i)) (basic i))
   where
     w : ℕ
-    w = length names + 1
+    w = length labels + 1
 
     v : ℕ
     v = get_or basics r 0
 
     e : ℕ
-    e = get_or names c 0
+    e = get_or labels c 0
 
     l : Line
-    l = cut (line_in (length names + 1) (row_at rows r))
+    l = cut (line_in (length labels + 1) (row_at rows r))
 
     A : Line → ℕ
     A x = unsigned_abs (number_at x.numbers c)
 
-    count : length basics ≡ length (lines_in (length names + 1) rows)
-    count = same ∙ sym (length-map rows (line_in (length names + 1)))
+    count : length basics ≡ length (lines_in (length labels + 1) rows)
+    count = same ∙ sym (length-map rows (line_in (length labels + 1)))
 
-    by : Line → ℕ → LabelledTable
+    by : Line → ℕ → LineTable
     by x u =
-        table_with (length names + length basics) (set names c u) (labelled_rows_after c (get_or names c 0) r (unsigned_abs (number_at x.numbers c)) (turned_in c x) 0 (beside_basics basics (lines_in (length names + 1) rows)))
-        (labelled_cleared c (unsigned_abs (number_at x.numbers c)) (turned_in c x) (line_in (length names + 1) objective))
+        table_with (length labels + length basics) (set labels c u) (whole_rows_after c (get_or labels c 0) r (unsigned_abs (number_at x.numbers c)) (turned_in c x) 0 (beside_basics basics (lines_in (length labels + 1) rows)))
+        (line_cleared c (unsigned_abs (number_at x.numbers c)) (turned_in c x) (line_in (length labels + 1) objective))
 
-    wide : length (set names c (get_or basics r 0)) ≡ length names
-    wide = length-set names c (get_or basics r 0)
+    wide : length (set labels c (get_or basics r 0)) ≡ length labels
+    wide = length-set labels c (get_or basics r 0)
 
-    line : line_at (beside_basics basics (lines_in (length names + 1) rows)) r ≡ line_in (length names + 1) (row_at rows r)
-    line = line_beside basics (lines_in (length names + 1) rows) r count ∙ line_place (length names + 1) rows r no_line low
+    line : line_at (beside_basics basics (lines_in (length labels + 1) rows)) r ≡ line_in (length labels + 1) (row_at rows r)
+    line = line_beside basics (lines_in (length labels + 1) rows) r count ∙ line_place (length labels + 1) rows r no_line low
 
-    basic : basic_of (beside_basics basics (lines_in (length names + 1) rows)) r ≡ get_or basics r 0
-    basic = basic_beside basics (lines_in (length names + 1) rows) r count
+    basic : basic_of (beside_basics basics (lines_in (length labels + 1) rows)) r ≡ get_or basics r 0
+    basic = basic_beside basics (lines_in (length labels + 1) rows) r count
 
-    columns : length (set names c (get_or basics r 0)) + length (set basics r (get_or names c 0)) ≡ length names + length basics
-    columns = omega (arith, wide, length-set basics r (get_or names c 0))
+    columns : length (set labels c (get_or basics r 0)) + length (set basics r (get_or labels c 0)) ≡ length labels + length basics
+    columns = omega (arith, wide, length-set basics r (get_or labels c 0))
 
-    rows_are : beside_basics (set basics r (get_or names c 0)) (lines_in (length (set names c (get_or basics r 0)) + 1) new)
-        ≡ labelled_rows_after c (get_or names c 0) r (unsigned_abs (number_at (cut (line_in (length names + 1) (row_at rows r))).numbers c)) (turned_in c (cut (line_in (length names + 1) (row_at rows r)))) 0 (beside_basics basics (lines_in (length names + 1) rows))
+    rows_are : beside_basics (set basics r (get_or labels c 0)) (lines_in (length (set labels c (get_or basics r 0)) + 1) new)
+        ≡ whole_rows_after c (get_or labels c 0) r (unsigned_abs (number_at (cut (line_in (length labels + 1) (row_at rows r))).numbers c)) (turned_in c (cut (line_in (length labels + 1) (row_at rows r)))) 0 (beside_basics basics (lines_in (length labels + 1) rows))
     rows_are =
-        ap (λ k. beside_basics (set basics r (get_or names c 0)) (lines_in (k + 1) new)) wide
-        ∙ ap (beside_basics (set basics r (get_or names c 0))) t.rows
-        ∙ sym (rows_beside c (get_or names c 0) r (unsigned_abs (number_at (cut (line_in (length names + 1) (row_at rows r))).numbers c)) (turned_in c (cut (line_in (length names + 1) (row_at rows r)))) basics (lines_in (length names + 1) rows) 0 r count (omega arith))
+        ap (λ k. beside_basics (set basics r (get_or labels c 0)) (lines_in (k + 1) new)) wide
+        ∙ ap (beside_basics (set basics r (get_or labels c 0))) t.rows
+        ∙ sym (rows_beside c (get_or labels c 0) r (unsigned_abs (number_at (cut (line_in (length labels + 1) (row_at rows r))).numbers c)) (turned_in c (cut (line_in (length labels + 1) (row_at rows r)))) basics (lines_in (length labels + 1) rows) 0 r count (omega arith))
 
-    last_is : line_in (length (set names c (get_or basics r 0)) + 1) last
-        ≡ labelled_cleared c (unsigned_abs (number_at (cut (line_in (length names + 1) (row_at rows r))).numbers c)) (turned_in c (cut (line_in (length names + 1) (row_at rows r)))) (line_in (length names + 1) objective)
+    last_is : line_in (length (set labels c (get_or basics r 0)) + 1) last
+        ≡ line_cleared c (unsigned_abs (number_at (cut (line_in (length labels + 1) (row_at rows r))).numbers c)) (turned_in c (cut (line_in (length labels + 1) (row_at rows r)))) (line_in (length labels + 1) objective)
     last_is = ap (λ k. line_in (k + 1) last) wide ∙ t.objective
 
 -- ---- a turn by its leaving row
-pub turn_none : (c : ℕ) (t : LabelledTable) → best_with None (whole_ratios (length t.names) c 0 t.rows) ≡ None → labelled_turn c t ≡ None
-unfolding labelled_turn
-turn_none c t h = step (whole_ratios (length t.names) c 0 t.rows) h
+pub turn_none : (c : ℕ) (t : LineTable) → best_with None (whole_ratios (length t.labels) c 0 t.rows) ≡ None → whole_turn c t ≡ None
+unfolding whole_turn
+turn_none c t h = step (whole_ratios (length t.labels) c 0 t.rows) h
   where
-    step : (qs : List Ratio) → best_with None qs ≡ None → labelled_leave c t qs ≡ None
+    step : (qs : List Ratio) → best_with None qs ≡ None → whole_leave c t qs ≡ None
     step [] k = refl
     step (q ∷ qs) k = absurd cc
 
-pub turn_pivots : (c r : ℕ) (t : LabelledTable) → best_with None (whole_ratios (length t.names) c 0 t.rows) ≡ Some r → labelled_turn c t ≡ Some (labelled_pivoted c r t)
-unfolding labelled_turn
-turn_pivots c r t h = step (whole_ratios (length t.names) c 0 t.rows) h
+pub turn_pivots : (c r : ℕ) (t : LineTable) → best_with None (whole_ratios (length t.labels) c 0 t.rows) ≡ Some r → whole_turn c t ≡ Some (whole_pivoted c r t)
+unfolding whole_turn
+turn_pivots c r t h = step (whole_ratios (length t.labels) c 0 t.rows) h
   where
-    step : (qs : List Ratio) → best_with None qs ≡ Some r → labelled_leave c t qs ≡ Some (labelled_pivoted c r t)
+    step : (qs : List Ratio) → best_with None qs ≡ Some r → whole_leave c t qs ≡ Some (whole_pivoted c r t)
     step [] k = absurd cc
     step (q ∷ qs) k = let place : (least q qs).place ≡ r = cc in rw place refl
 
-pub turn_fits : (limit c r : ℕ) (t : LabelledTable) → best_with None (whole_ratios (length t.names) c 0 t.rows) ≡ Some r → lines_steps_within limit c r t.objective t.rows ≡ true → labelled_turn_fits limit c t ≡ true
-unfolding labelled_turn_fits
-turn_fits limit c r t h fits = step (whole_ratios (length t.names) c 0 t.rows) h
+pub turn_has_fit : (limit c r : ℕ) (t : LineTable) → best_with None (whole_ratios (length t.labels) c 0 t.rows) ≡ Some r → lines_steps_within limit c r t.objective t.rows ≡ true → turn_fits limit c t ≡ true
+unfolding turn_fits
+turn_has_fit limit c r t h fits = step (whole_ratios (length t.labels) c 0 t.rows) h
   where
     step : (qs : List Ratio) → best_with None qs ≡ Some r → leaving_fits limit c t.objective t.rows qs ≡ true
     step [] k = absurd cc
     step (q ∷ qs) k = let place : (least q qs).place ≡ r = cc in rw place fits
 
 -- the row of the table at r
-pub line_there : (names basics : List ℕ) (rows : List (List ℤ)) (r : ℕ) → length basics ≡ length rows → r < length rows → line_at (beside_basics basics (lines_in (length names + 1) rows)) r ≡ line_in (length names + 1) (row_at rows r)
-line_there names basics rows r same low =
-    line_beside basics (lines_in (length names + 1) rows) r (same ∙ sym (length-map rows (line_in (length names + 1)))) ∙ line_place (length names + 1) rows r no_line low
+pub line_there : (labels basics : List ℕ) (rows : List (List ℤ)) (r : ℕ) → length basics ≡ length rows → r < length rows → line_at (beside_basics basics (lines_in (length labels + 1) rows)) r ≡ line_in (length labels + 1) (row_at rows r)
+line_there labels basics rows r same low =
+    line_beside basics (lines_in (length labels + 1) rows) r (same ∙ sym (length-map rows (line_in (length labels + 1)))) ∙ line_place (length labels + 1) rows r no_line low
 
-pub pivot_there : (c r : ℕ) (names basics : List ℕ) (rows : List (List ℤ)) (objective : List ℤ) → length basics ≡ length rows
-    → best_with None (whole_ratios (length names) c 0 (beside_basics basics (lines_in (length names + 1) rows))) ≡ Some r → IsPivot (length names + 1) c r rows
-pivot_there c r names basics rows objective same h = step (whole_ratios (length names) c 0 all) (candidates (length names) c 0 all) h
+pub pivot_there : (c r : ℕ) (labels basics : List ℕ) (rows : List (List ℤ)) (objective : List ℤ) → length basics ≡ length rows
+    → best_with None (whole_ratios (length labels) c 0 (beside_basics basics (lines_in (length labels + 1) rows))) ≡ Some r → IsPivot (length labels + 1) c r rows
+pivot_there c r labels basics rows objective same h = step (whole_ratios (length labels) c 0 all) (candidates (length labels) c 0 all) h
   where
     all : List WholeRow
-    all = beside_basics basics (lines_in (length names + 1) rows)
+    all = beside_basics basics (lines_in (length labels + 1) rows)
 
-    count : length basics ≡ length (lines_in (length names + 1) rows)
-    count = same ∙ sym (length-map rows (line_in (length names + 1)))
+    count : length basics ≡ length (lines_in (length labels + 1) rows)
+    count = same ∙ sym (length-map rows (line_in (length labels + 1)))
 
-    many : length (beside_basics basics (lines_in (length names + 1) rows)) ≡ length rows
-    many = length-beside basics (lines_in (length names + 1) rows) count ∙ length-map rows (line_in (length names + 1))
+    many : length (beside_basics basics (lines_in (length labels + 1) rows)) ≡ length rows
+    many = length-beside basics (lines_in (length labels + 1) rows) count ∙ length-map rows (line_in (length labels + 1))
 
-    step : (qs : List Ratio) → AllOf (IsCandidate c 0 (beside_basics basics (lines_in (length names + 1) rows))) qs → best_with None qs ≡ Some r → IsPivot (length names + 1) c r rows
+    step : (qs : List Ratio) → AllOf (IsCandidate c 0 (beside_basics basics (lines_in (length labels + 1) rows))) qs → best_with None qs ≡ Some r → IsPivot (length labels + 1) c r rows
     step [] g k = absurd cc
     step (q ∷ qs) g k =
         let place : (least q qs).place ≡ r = cc in
-        let there = subst (λ i. Leaves c i (beside_basics basics (lines_in (length names + 1) rows))) place (leaves c (beside_basics basics (lines_in (length names + 1) rows)) q qs g) in
+        let there = subst (λ i. Leaves c i (beside_basics basics (lines_in (length labels + 1) rows))) place (leaves c (beside_basics basics (lines_in (length labels + 1) rows)) q qs g) in
         let low : r < length rows = (let p = there.inside in omega (arith, p, many)) in
-        let line = line_beside basics (lines_in (length names + 1) rows) r count ∙ line_place (length names + 1) rows r no_line low in
+        let line = line_beside basics (lines_in (length labels + 1) rows) r count ∙ line_place (length labels + 1) rows r no_line low in
         record { row = low; above = subst (λ (l : Line). int_lt (pos 0) (number_at l.numbers c) ≡ true) line there.above }
 
 -- ---- within the limit

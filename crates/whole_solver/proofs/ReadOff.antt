@@ -10,10 +10,11 @@ use Rattle.exact_num.specs.declared.misfit.Wide.{Wide}
 use Rattle.exact_num.specs.Fits.{div_of, meaning}
 use Rattle.exact_num.proofs.Values.{whole_is_lowest}
 use Rattle.table_run.specs.Places.{fraction_zero}
-use Rattle.compact_table.proofs.Reading.{past}
-use Rattle.equal_runs.specs.Lines.{Line, IsLine, WholeRow, whole_row, number_at, entry_of}
-use Rattle.equal_runs.specs.WholeRunning.{whole_where_basic}
-use Rattle.equal_runs.specs.Labelled.{LabelledTable, Column, number_for, none_of, labels, labelled_price}
+use Rattle.compact_table.proofs.Reading.{past, filled_found, filled_missing}
+use Rattle.equal_runs.specs.Lines.{Line, IsLine, WholeRow, whole_row, number_at, entry_of, LineTable}
+use Rattle.equal_runs.specs.WholeRunning.{whole_where_basic, none_of, whole_price}
+use Rattle.table_run.specs.Choice.{Column}
+use Rattle.table_run.specs.Table.{entry_for, with_right}
 use Rattle.equal_runs.proofs.LineSteps.{reduced_zero}
 use Rattle.equal_runs.proofs.StepsFit.{quotients_fit}
 use Rattle.whole_solver.specs.declared.table.WholeTable.{WholeTable}
@@ -74,45 +75,16 @@ basic_nowhere f j (b ∷ bs) (l ∷ lines) h = step (b == j) h (basic_nowhere f 
 pub basic_missing : (f : WholeRow → Fraction) (j : ℕ) (bs : List ℕ) (lines : List Line) → None ≡ position (λ b. b == j) bs → whole_where_basic f j (beside_basics bs lines) ≡ fraction_zero
 basic_missing f j bs lines h = basic_nowhere f j bs lines (past (λ b. b == j) bs h)
 
--- ---- the number of a variable that has a column
-filled_here : (j N : ℕ) (vs : List ℕ) (zs : List ℤ) (k : ℕ) → k < length vs → length vs ≤ length zs → (get_or vs k 0 == j) ≡ true → ((i : ℕ) → i < k → (get_or vs i 0 == j) ≡ false) → number_for none_of (labels N vs) zs j ≡ number_at zs k
-unfolding number_for
-filled_here j N [] zs k low long here before = absurd (omega (arith, low))
-filled_here j N (v ∷ vs) [] k low long here before = absurd (omega (arith, long))
-filled_here j N (v ∷ vs) (z ∷ zs) zero low long here before = rw here refl
-filled_here j N (v ∷ vs) (z ∷ zs) (suc k) low long here before =
-    let first : (v == j) ≡ false = before 0 (omega arith) in
-    rw first (filled_here j N vs zs k (omega (arith, low)) (omega (arith, long)) here (λ i p. before (suc i) (omega (arith, p))))
+-- ---- the price of a variable that has a column
+pub price_missing : (t : LineTable) (j : ℕ) → 0 < t.objective.denominator → j < t.columns → None ≡ position (λ v. v == j) t.labels → whole_price t j ≡ fraction_zero
+price_missing t j p low e = ap (λ z. reduced z t.objective.denominator) (filled_missing none_of j t.columns t.labels t.objective.numbers low e) ∙ reduced_zero t.objective.denominator p
 
-pub filled_found : (j N : ℕ) (vs : List ℕ) (zs : List ℤ) (k : ℕ) → length vs ≤ length zs → Some k ≡ position (λ v. v == j) vs → number_for none_of (labels N vs) zs j ≡ number_at zs k
-filled_found j N vs zs k long e =
-    let w = position-Some (λ v. v == j) vs k 0 (sym e) in
-    filled_here j N vs zs k w.0 long w.1 w.2
-
-filled_nowhere : (j N : ℕ) (vs : List ℕ) (zs : List ℤ) → j < N → length vs ≤ position_or_len (λ v. v == j) vs → number_for none_of (labels N vs) zs j ≡ pos 0
-unfolding number_for
-filled_nowhere j N [] [] low h = refl
-filled_nowhere j N [] (z ∷ zs) low h = let other : nat_eq N j ≡ false = grind (arith, nat_tests) in rw other refl
-filled_nowhere j N (v ∷ vs) [] low h = refl
-filled_nowhere j N (v ∷ vs) (z ∷ zs) low h = step (v == j) h (filled_nowhere j N vs zs low)
-  where
-    step : (t : Bool) → suc (length vs) ≤ cond (not t) (1 + position_or_len (λ v. v == j) vs) 0 → (length vs ≤ position_or_len (λ v. v == j) vs → number_for none_of (labels N vs) zs j ≡ pos 0)
-        → (if t then z else number_for none_of (labels N vs) zs j) ≡ pos 0
-    step true k later = absurd (omega (arith, k))
-    step false k later = later (omega (arith, k))
-
-pub filled_missing : (j N : ℕ) (vs : List ℕ) (zs : List ℤ) → j < N → None ≡ position (λ v. v == j) vs → number_for none_of (labels N vs) zs j ≡ pos 0
-filled_missing j N vs zs low e = filled_nowhere j N vs zs low (past (λ v. v == j) vs e)
-
-pub price_missing : (t : LabelledTable) (j : ℕ) → 0 < t.objective.denominator → j < t.columns → None ≡ position (λ v. v == j) t.names → labelled_price t j ≡ fraction_zero
-price_missing t j p low e = ap (λ z. reduced z t.objective.denominator) (filled_missing j t.columns t.names t.objective.numbers low e) ∙ reduced_zero t.objective.denominator p
-
-pub price_found : (t : LabelledTable) (j k : ℕ) → length t.names ≤ length t.objective.numbers → Some k ≡ position (λ v. v == j) t.names → labelled_price t j ≡ entry_of t.objective k
-price_found t j k long e = ap (λ z. reduced z t.objective.denominator) (filled_found j t.columns t.names t.objective.numbers k long e)
+pub price_found : (t : LineTable) (j k : ℕ) → length t.labels ≤ length t.objective.numbers → Some k ≡ position (λ v. v == j) t.labels → whole_price t j ≡ entry_of t.objective k
+price_found t j k long e = ap (λ z. reduced z t.objective.denominator) (filled_found (pos 0) none_of j t.columns t.labels t.objective.numbers k long e)
 
 -- ---- one entry of a direction
-pub entry_other : (c : Column) (j : ℕ) (t : LabelledTable) → (j ≡ c.name → ⊥) → direction_entry c t j ≡ whole_where_basic (λ row. reduced (neg_ℤ (number_at row.line.numbers c.place)) row.line.denominator) j t.rows
-entry_other c j t e = let other : nat_eq j c.name ≡ false = grind (arith, nat_tests) in rw other refl
+pub entry_other : (c : Column) (j : ℕ) (t : LineTable) → (j ≡ c.label → ⊥) → direction_entry c t j ≡ whole_where_basic (λ row. reduced (neg_ℤ (number_at row.line.numbers c.place)) row.line.denominator) j t.rows
+entry_other c j t e = let other : nat_eq j c.label ≡ false = grind (arith, nat_tests) in rw other refl
 
 -- a row of a table within the limit
 pub line_within : (limit : ℕ) (t : WholeTable) (i : ℕ) → IsWithin limit t → i < length t.rows.short.rows → IsLine limit (width_of t) (line_in (width_of t) (row_at (rows_in t.rows) i))

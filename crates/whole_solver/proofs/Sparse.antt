@@ -7,8 +7,7 @@ use Rattle.std.proofs.lemmas.Int.{ints}
 use Rattle.std.proofs.lemmas.Bool.{eqb-true, eq-eqb, ne_eqb}
 use Rattle.std.proofs.lemmas.List.{drop_all, take-set, take_more_set}
 use Rattle.exact_num.specs.Fraction.{Fraction, whole}
-use Rattle.equal_runs.specs.CompactSteps.{is_zero}
-use Rattle.compact_table.specs.Nonzero.{nonzero_from}
+use Rattle.compact_table.specs.Nonzero.{is_zero, nonzero_from}
 use Rattle.equal_runs.specs.Lines.{number_at}
 use Rattle.equal_runs.specs.WholeTurning.{cross_difference}
 use Rattle.equal_runs.proofs.LineSteps.{zero_of_size}

@@ -10,13 +10,10 @@ use Rattle.std.proofs.Math.Nat.{mul-le-mul}
 use Rattle.std.proofs.lemmas.Slice.{take-put_mid}
 use borrow.Rule.Slice.PartMut.{put_mid}
 use Rattle.equal_runs.specs.Lines.{Line, IsLine, AreSizes, line_size, line_of, number_at, no_line, line_fits, numbers_fit, widest}
-use Rattle.equal_runs.specs.Labelled.{labelled_cleared, turned_in}
-use Rattle.equal_runs.specs.WholeTurning.{cut, step_size}
-use Rattle.equal_runs.proofs.LineSteps.{cut_within, fit_of_sizes, size_at_most, sizes_bound, sizes_least}
+use Rattle.equal_runs.specs.WholeTurning.{line_cleared, turned_in, cut, step_size}
+use Rattle.equal_runs.proofs.LineSteps.{cut_within, fit_of_sizes, size_at_most, sizes_bound, sizes_least, cleared_lines_fit, set_sizes}
 use Rattle.equal_runs.proofs.TurnSteps.{size_above, cut_above}
-use Rattle.equal_runs.proofs.LabelledFirst.{cleared_lines_fit, set_sizes}
-use Rattle.equal_runs.proofs.Columns.{same_test, other_test}
-use Rattle.compact_table.proofs.ArenaSteps.{at_set_same, set_here}
+use Rattle.compact_table.proofs.ArenaSteps.{same_test, other_test, at_set_same, set_here}
 use Rattle.whole_solver.specs.Clearing.{IsShort}
 use Rattle.whole_solver.specs.Rows.{column_in, line_in, lines_in, nonzero_in, row_at, pivot_line, line_after, lines_after, AreLinesIn, IsPivot}
 use Rattle.whole_solver.proofs.Numbers.{written_more, written_all}
@@ -214,7 +211,7 @@ listed_still w c r a rows y l column p is_pivot above wide =
 pub after_pivot : (c a r i : ℕ) (P : List ℤ) (l : Line) → i ≡ r → line_after c a r P i l ≡ l
 after_pivot c a r i P l e = let t = same_test i r e in rw t refl
 
-pub after_other : (c a r i : ℕ) (P : List ℤ) (l : Line) → (i ≡ r → ⊥) → line_after c a r P i l ≡ labelled_cleared c a P l
+pub after_other : (c a r i : ℕ) (P : List ℤ) (l : Line) → (i ≡ r → ⊥) → line_after c a r P i l ≡ line_cleared c a P l
 after_other c a r i P l ne = let t = other_test i r ne in rw t refl
 
 pub turned_rows : (w c r a : ℕ) (rows new from : List (List ℤ)) (y : List ℤ) (l : Line) → r < length rows → from ≡ set rows r y → line_in w y ≡ pivot_line c a l
@@ -262,7 +259,7 @@ short_denominator w d ns l size g =
 -- the row that is cleared and written
 pub record IsRowWritten (most limit w c a d : ℕ) (row pivot ns : List ℤ) : Type 0 where
   pub fits : step_size (line_size (line_in w row)) (unsigned_abs (number_at (line_in w row).numbers c)) a most ≤ limit
-  pub told : line_of d ns ≡ labelled_cleared c a (line_in w pivot).numbers (line_in w row)
+  pub told : line_of d ns ≡ line_cleared c a (line_in w pivot).numbers (line_in w row)
   pub line : IsLine limit w (line_of d ns)
   pub written : line_in w (set (put_mid 1 (w + 1 - 1) row ns) 0 (to_z w128 d)) ≡ line_of d ns
 
@@ -270,11 +267,11 @@ pub record IsRowWritten (most limit w c a d : ℕ) (row pivot ns : List ℤ) : T
 pub row_written : (most limit w c a b d : ℕ) (row pivot ps ns : List ℤ) → b ≡ unsigned_abs (number_at row 0) → ps ≡ take (w + 1 - 1) (drop 1 pivot)
     → limit ≤ 2 ^ 127 - 1 → w < length row → w < length pivot → IsLine limit w (line_in w row) → AreSizes most (line_in w pivot).numbers → 0 < a
     → step_size (line_size (line_of b (take (w + 1 - 1) (drop 1 row)))) (unsigned_abs (number_at (take (w + 1 - 1) (drop 1 row)) c)) a most ≤ limit
-    → line_of d ns ≡ labelled_cleared c a ps (line_of b (take (w + 1 - 1) (drop 1 row))) → IsRowWritten most limit w c a d row pivot ns
+    → line_of d ns ≡ line_cleared c a ps (line_of b (take (w + 1 - 1) (drop 1 row))) → IsRowWritten most limit w c a d row pivot ns
 row_written most limit w c a b d row pivot ps ns size is held wide_row wide g sizes above fits told =
     let same : w + 1 - 1 ≡ w = omega arith in
     let room : step_size (line_size (line_in w row)) (unsigned_abs (number_at (line_in w row).numbers c)) a most ≤ limit = rw (size, same) at fits in
-    let cleared : line_of d ns ≡ labelled_cleared c a (line_in w pivot).numbers (line_in w row) = rw (size, is, same) at told in
+    let cleared : line_of d ns ≡ line_cleared c a (line_in w pivot).numbers (line_in w row) = rw (size, is, same) at told in
     let count : length (take w (drop 1 pivot)) ≡ w = length-take-le w (drop 1 pivot) (omega (arith, length-drop 1 pivot, wide)) in
     let own = sizes_bound w (line_in w row) (record { positive = g.positive; count = g.count }) in
     let line : IsLine limit w (line_of d ns) = subst (IsLine limit w) (sym cleared) (cleared_lines_fit (line_size (line_in w row)) most limit w c a (line_in w pivot).numbers (line_in w row) room own sizes count above) in

@@ -7,10 +7,8 @@ use Rattle.std.proofs.Math.Decide.{ℕ_discrete}
 use Rattle.std.specs.Int.{int_signum}
 use Rattle.compact_table.proofs.ArenaSteps.{at_set_other}
 use Rattle.equal_runs.specs.Lines.{Line, AreSizes, IsLine, line_size, number_at}
-use Rattle.equal_runs.specs.Labelled.{labelled_cleared}
-use Rattle.equal_runs.specs.WholeTurning.{step_size}
-use Rattle.equal_runs.proofs.LineSteps.{sizes_bound}
-use Rattle.equal_runs.proofs.LabelledFirst.{cleared_lines_fit}
+use Rattle.equal_runs.specs.WholeTurning.{line_cleared, step_size}
+use Rattle.equal_runs.proofs.LineSteps.{sizes_bound, cleared_lines_fit}
 use Rattle.whole_solver.specs.Rows.{AreLinesIn, AreStepsBelow, AreStepsWithin, column_in, line_in, nonzero_in, row_at}
 use Rattle.whole_solver.specs.Stored.{AreStored, IsKnown, IsStored, IsWrittenAt, SameCounts, is_wide_at, rows_in}
 use Rattle.whole_solver.specs.declared.rows.Rows.{Rows}
@@ -141,7 +139,7 @@ steps_passed limit c a most r w i k rows column above lines gap g j low apart = 
         steps_of_none (line_size (line_in w (row_at rows j))) a most limit (number_at (line_in w (row_at rows j)).numbers c) zero above size
 
 -- a line whose steps are within the limit is so when it is cleared
-pub cleared_within : (limit most w c a : ℕ) (pivot : List ℤ) (l : Line) → IsLine limit w l → AreSizes most pivot → length pivot ≡ w → 0 < a → step_size (line_size l) (unsigned_abs (number_at l.numbers c)) a most ≤ limit → IsLine limit w (labelled_cleared c a pivot l)
+pub cleared_within : (limit most w c a : ℕ) (pivot : List ℤ) (l : Line) → IsLine limit w l → AreSizes most pivot → length pivot ≡ w → 0 < a → step_size (line_size l) (unsigned_abs (number_at l.numbers c)) a most ≤ limit → IsLine limit w (line_cleared c a pivot l)
 cleared_within limit most w c a pivot l g sizes count above room =
     cleared_lines_fit (line_size l) most limit w c a pivot l room (sizes_bound w l (record { positive = g.positive; count = g.count })) sizes count above
 

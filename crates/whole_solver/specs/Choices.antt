@@ -2,11 +2,9 @@
 use Rattle.std.specs.Prelude.{ℕ, ℤ}
 use Rattle.exact_num.specs.Fraction.{over}
 use Rattle.table_run.specs.Choice.{Ratio, ratio_of}
-use Rattle.equal_runs.specs.Labelled.{Column}
 use Rattle.whole_solver.specs.declared.ratios.Candidate.{Candidate}
 use Rattle.whole_solver.specs.declared.ratios.RowRatio.{RowRatio}
 use Rattle.whole_solver.specs.declared.ratios.RowRatio.TheVariants.{Short, Wide}
-use Rattle.whole_solver.specs.declared.columns.Entering.{Entering}
 
 -- the two numbers of a ratio
 abbrev pub right_side_of : RowRatio → ℤ
@@ -19,6 +17,3 @@ entry_of (Wide z n) = n
 
 abbrev pub as_ratio : Candidate → Ratio
 as_ratio q = ratio_of q.place q.basic (over (right_side_of q.ratio) (entry_of q.ratio))
-
-abbrev pub as_column : Entering → Column
-as_column c = record { place = c.place; name = c.name }

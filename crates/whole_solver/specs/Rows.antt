@@ -3,8 +3,7 @@ use Rattle.std.specs.Prelude.{◌≡◌, ℕ, ◌+◌, ◌<◌, ◌≤◌, List,
 use Rattle.exact_num.specs.Fraction.{whole}
 use Rattle.compact_table.specs.Nonzero.{nonzero_places}
 use Rattle.equal_runs.specs.Lines.{Line, WholeRow, IsLine, line_of, line_size, whole_row, number_at}
-use Rattle.equal_runs.specs.WholeTurning.{cut, step_size, steps_within}
-use Rattle.equal_runs.specs.Labelled.{Column, smaller, labelled_cleared, turned_in}
+use Rattle.equal_runs.specs.WholeTurning.{cut, step_size, steps_within, line_cleared, turned_in}
 
 -- the line of w numbers at the front of a row
 abbrev pub line_in : ℕ → List ℤ → Line
@@ -44,18 +43,13 @@ AreStepsWithin limit c r pivot w rows = (i : ℕ) → i < length rows → (i ≡
 
 -- ---- the lines of a turn, the pivot row r being there already
 abbrev pub line_after : ℕ → ℕ → ℕ → List ℤ → ℕ → Line → Line
-line_after c a r pivot i l = let other = labelled_cleared c a pivot l in if nat_eq i r then l else other
+line_after c a r pivot i l = let other = line_cleared c a pivot l in if nat_eq i r then l else other
 
 unfoldable pub lines_after : ℕ → ℕ → ℕ → List ℤ → ℕ → List Line → List Line
 lines_after c a r pivot i [] = []
 lines_after c a r pivot i (l ∷ lines) = line_after c a r pivot i l ∷ lines_after c a r pivot (i + 1) lines
 
--- ---- the choice of the column, one more of them
--- this column, where its number is below 0, or the best of later ones
-abbrev pub with_column : ℤ → Column → Option Column → Option Column
-with_column number column later = let here = Some (smaller column later) in if int_lt number (pos 0) then here else later
-
--- the rows and the objective row of a turn where column c enters in row r
+-- ---- the rows and the objective row of a turn where column c enters in row r
 abbrev pub pivot_line : ℕ → ℕ → Line → Line
 pivot_line c a l = line_of a (turned_in c l)
 
@@ -66,7 +60,7 @@ pub record IsTurned (w c r : ℕ) (from : List (List ℤ)) (before : List ℤ) (
       lines_in w new ≡ lines_after c a r (turned_in c l) 0 (slice_set (lines_in w from) r (pivot_line c a l))
   pub objective :
       let l = cut (line_in w (row_at from r)) in
-      line_in w last ≡ labelled_cleared c (unsigned_abs (number_at l.numbers c)) (turned_in c l) (line_in w before)
+      line_in w last ≡ line_cleared c (unsigned_abs (number_at l.numbers c)) (turned_in c l) (line_in w before)
 
 -- each step of the rows but row r, by pivot numbers up to `most` whose own is a, is within the
 -- limit

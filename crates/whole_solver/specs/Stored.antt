@@ -2,8 +2,7 @@
 use Rattle.std.specs.Prelude.{◌≡◌, ℕ, ◌<◌, ◌≤◌, ◌^◌, List, [], ◌∷◌, ℤ, length, slice_index_or, slice_set, unsigned_abs, if◌then◌else◌, Bool, true, false}
 use Rattle.std.specs.Int.{int_signum}
 use Rattle.equal_runs.specs.Lines.{AreSizes, line_size, number_at, widest}
-use Rattle.equal_runs.specs.Labelled.{labelled_cleared}
-use Rattle.equal_runs.specs.WholeTurning.{cut, step_size}
+use Rattle.equal_runs.specs.WholeTurning.{line_cleared, cut, step_size}
 use Rattle.whole_solver.specs.Rows.{AreLinesIn, line_in, nonzero_in, pivot_line, row_at}
 use Rattle.whole_solver.specs.declared.mix.Known.{Known}
 use Rattle.whole_solver.specs.declared.rows.Rows.{Rows}
@@ -79,5 +78,5 @@ pub record IsRowCleared (k : Known) (w i : ℕ) (old new : Rows) : Type 0 where
       step_size (line_size l) (unsigned_abs (number_at l.numbers k.step.c)) k.a k.most ≤ k.step.limit
   pub cleared :
       let pivot = (line_in w (row_at (rows_in old) k.step.r)).numbers in
-      line_in w (row_at (rows_in new) i) ≡ labelled_cleared k.step.c k.a pivot (line_in w (row_at (rows_in old) i))
+      line_in w (row_at (rows_in new) i) ≡ line_cleared k.step.c k.a pivot (line_in w (row_at (rows_in old) i))
   pub written : IsWrittenAt w i old new

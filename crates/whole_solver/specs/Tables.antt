@@ -1,10 +1,10 @@
 -- What the table of the code stands for.
-use Rattle.std.specs.Prelude.{◌≡◌, ℕ, ◌+◌, ◌≤◌, List, [], ◌∷◌, ◌++◌, ℤ, pos, neg_ℤ, length, map, take, if◌then◌else◌, nat_eq, true, Some, None}
+use Rattle.std.specs.Prelude.{◌≡◌, ℕ, ◌+◌, ◌≤◌, List, [], ◌∷◌, ◌++◌, ℤ, pos, neg_ℤ, length, take, if◌then◌else◌, nat_eq, true, Some, None}
 use Rattle.exact_num.specs.Fraction.{Fraction, whole, reduced}
-use Rattle.equal_runs.specs.Compact.{CompactTable}
-use Rattle.equal_runs.specs.Lines.{IsLine, line_size, number_at, taken_in, row_taken_in, widest}
+use Rattle.equal_runs.specs.Lines.{IsLine, line_size, number_at, taken_in, widest, LineTable}
 use Rattle.equal_runs.specs.WholeRunning.{whole_where_basic}
-use Rattle.equal_runs.specs.Labelled.{LabelledTable, Column, labelled_turn, labelled_turn_fits}
+use Rattle.table_run.specs.Choice.{Column}
+use Rattle.equal_runs.specs.WholeTurning.{whole_turn, turn_fits}
 use Rattle.whole_solver.specs.declared.table.WholeTable.{WholeTable}
 use Rattle.whole_solver.specs.declared.turn.Turn.{Turn}
 use Rattle.whole_solver.specs.declared.turn.Turn.TheVariants.{Moved, Unlimited, GivenUp}
@@ -13,19 +13,19 @@ use Rattle.whole_solver.specs.Stored.{AreStored, rows_in}
 
 -- as many numbers a line as there are columns, and the right side
 abbrev pub width_of : WholeTable → ℕ
-width_of t = length t.names.items + 1
+width_of t = length t.labels.items + 1
 
-abbrev pub table_of : List ℕ → List ℕ → List (List ℤ) → List ℤ → LabelledTable
-table_of names basics rows objective =
+abbrev pub table_of : List ℕ → List ℕ → List (List ℤ) → List ℤ → LineTable
+table_of labels basics rows objective =
     record {
-      columns = length names + length basics;
-      names = names;
-      rows = beside_basics basics (lines_in (length names + 1) rows);
-      objective = line_in (length names + 1) objective;
+      columns = length labels + length basics;
+      labels = labels;
+      rows = beside_basics basics (lines_in (length labels + 1) rows);
+      objective = line_in (length labels + 1) objective;
     }
 
-abbrev pub as_whole : WholeTable → LabelledTable
-as_whole t = table_of t.names.items t.basics.items (rows_in t.rows) t.objective.numbers.items
+abbrev pub as_whole : WholeTable → LineTable
+as_whole t = table_of t.labels.items t.basics.items (rows_in t.rows) t.objective.numbers.items
 
 -- each row and the objective row are within the limit, and each is at most the size that is kept
 -- with it
@@ -43,7 +43,7 @@ pub record SameRoom (old new : WholeTable) : Type 0 where
   pub width : new.rows.short.width ≡ old.rows.short.width
 
 pub record SameShape (old new : WholeTable) : Type 0 where
-  pub columns : length new.names.items ≡ length old.names.items
+  pub columns : length new.labels.items ≡ length old.labels.items
   pub rows : length new.basics.items ≡ length old.basics.items
   pub room : SameRoom old new
 
@@ -55,21 +55,11 @@ pub record IsListed (c count : ℕ) (t : WholeTable) : Type 0 where
 -- ---- a turn: the table after it, where it is not given up
 abbrev pub IsTurn : ℕ → ℕ → Turn → WholeTable → WholeTable → Type 0
 IsTurn limit c Moved old new =
-    (labelled_turn c (as_whole old) ≡ Some (as_whole new)) × (labelled_turn_fits limit c (as_whole old) ≡ true) × IsWithin limit new
-IsTurn limit c Unlimited old new = (labelled_turn c (as_whole old) ≡ None) × (as_whole new ≡ as_whole old) × IsWithin limit new
+    (whole_turn c (as_whole old) ≡ Some (as_whole new)) × (turn_fits limit c (as_whole old) ≡ true) × IsWithin limit new
+IsTurn limit c Unlimited old new = (whole_turn c (as_whole old) ≡ None) × (as_whole new ≡ as_whole old) × IsWithin limit new
 IsTurn limit c GivenUp old new = Unit {0}
 
--- ---- the first table: that of a table of fractions whose rows are over common denominators
-abbrev pub taken_from : CompactTable → LabelledTable
-taken_from c =
-    record {
-      columns = length c.kept + length c.rows;
-      names = c.kept;
-      rows = map row_taken_in c.rows;
-      objective = taken_in c.objective;
-    }
-
--- the table with one row more
+-- ---- the table with one row more
 pub record HasRow (entries : List Fraction) (basic : ℕ) (old new : WholeTable) : Type 0 where
   pub basics : new.basics.items ≡ old.basics.items ++ basic ∷ []
   pub row : List ℤ
@@ -78,7 +68,7 @@ pub record HasRow (entries : List Fraction) (basic : ℕ) (old new : WholeTable)
   pub within : IsLine widest (width_of old) (line_in (width_of old) row)
 
 -- what a step of 1 in the column changes in variable j
-abbrev pub direction_entry : Column → LabelledTable → ℕ → Fraction
+abbrev pub direction_entry : Column → LineTable → ℕ → Fraction
 direction_entry c t j =
-    if nat_eq j c.name then whole (pos 1)
+    if nat_eq j c.label then whole (pos 1)
     else whole_where_basic (λ row. reduced (neg_ℤ (number_at row.line.numbers c.place)) row.line.denominator) j t.rows

@@ -2,8 +2,7 @@
 ghost use Rattle.std.specs.Prelude.{◌≡◌, ◌+◌, ◌-◌, ◌*◌, ◌^◌, ◌<◌, ◌≤◌, length, map, pos, true, unsigned_abs, slice_set, take};
 ghost use Rattle.std.specs.Int.{int_signum};
 ghost use Rattle.equal_runs.specs.Lines.{AreSizes, IsLine, line_of, line_size, number_at, numbers_fit, widest};
-ghost use Rattle.equal_runs.specs.Labelled.{labelled_cleared};
-ghost use Rattle.equal_runs.specs.WholeTurning.{cut, step_size};
+ghost use Rattle.equal_runs.specs.WholeTurning.{line_cleared, cut, step_size};
 ghost use Rattle.whole_solver.specs.Clearing.{IfCleared, IsFrontCleared};
 ghost use Rattle.whole_solver.specs.Rows.{line_in, nonzero_in};
 
@@ -124,7 +123,7 @@ pub fn clear_front(
         (unsigned_abs (number_at (line_in (length room.old) row.old).numbers known.entry.step.c))
         known.entry.a known.entry.most ≤ known.entry.step.limit) }
     ensures line { IsFrontCleared result (length room.old)
-        (labelled_cleared known.entry.step.c known.entry.a
+        (line_cleared known.entry.step.c known.entry.a
         (line_in (length room.old) pivot.now).numbers (line_in (length room.old) row.old))
         row.new size.new room.new }
 {
@@ -167,7 +166,7 @@ pub fn clear_wide_front<P: Widen<i128>>(
         (unsigned_abs (number_at (line_in width row.old).numbers known.entry.step.c))
         known.entry.a known.entry.most ≤ known.entry.step.limit }
     ensures cleared { result ≡ true → line_in width row.new
-        ≡ labelled_cleared known.entry.step.c known.entry.a
+        ≡ line_cleared known.entry.step.c known.entry.a
         (line_in width (map P.value pivot.now)).numbers (line_in width row.old) }
     ensures line { result ≡ true → IsLine known.entry.step.limit width (line_in width row.new) }
     ensures size { result ≡ true → line_size (line_in width row.new) ≤ size.new }

@@ -1,8 +1,7 @@
 //! The objective row, of 128 bits, and room for a turn.
 ghost use Rattle.std.specs.Prelude.{◌≡◌, ◌-◌, ◌^◌, ◌<◌, ◌≤◌, length, map, true, unsigned_abs};
 ghost use Rattle.equal_runs.specs.Lines.{AreSizes, IsLine, line_size, number_at};
-ghost use Rattle.equal_runs.specs.Labelled.{labelled_cleared};
-ghost use Rattle.equal_runs.specs.WholeTurning.{step_size};
+ghost use Rattle.equal_runs.specs.WholeTurning.{line_cleared, step_size};
 ghost use Rattle.whole_solver.specs.Rows.{line_in, nonzero_in};
 
 use crate::front::clear_wide_front;
@@ -42,7 +41,7 @@ impl Objective {
             (unsigned_abs (number_at (line_in width self.old.numbers.items).numbers
             known.entry.step.c)) known.entry.a known.entry.most ≤ known.entry.step.limit }
         ensures cleared { result ≡ true → line_in width self.new.numbers.items
-            ≡ labelled_cleared known.entry.step.c known.entry.a
+            ≡ line_cleared known.entry.step.c known.entry.a
             (line_in width (map P.value pivot.now)).numbers
             (line_in width self.old.numbers.items) }
         ensures line { result ≡ true

@@ -2,8 +2,7 @@
 ghost use Rattle.std.specs.Prelude.{◌≡◌, ◌≢◌, ◌+◌, ◌-◌, ◌^◌, ◌<◌, ◌≤◌, ℕ, IfOk, [], ◌∷◌, ◌++◌, false, length, pos, take, true, unsigned_abs, slice_set, vec_len};
 ghost use Rattle.compact_table.specs.Candidates.{best_with};
 ghost use Rattle.equal_runs.specs.Lines.{IsLine, line_of, line_size, number_at, widest};
-ghost use Rattle.equal_runs.specs.Labelled.{labelled_cleared};
-ghost use Rattle.equal_runs.specs.WholeTurning.{cut, step_size, steps_within, whole_ratios};
+ghost use Rattle.equal_runs.specs.WholeTurning.{line_cleared, cut, step_size, steps_within, whole_ratios};
 ghost use Rattle.whole_solver.specs.Choices.{entry_of, right_side_of};
 ghost use Rattle.whole_solver.specs.Rows.{AreStepsBelow, AreStepsWithin, IsPivot, IsTurned, beside_basics, column_in, line_in, lines_after, lines_in, nonzero_in, pivot_line, row_at};
 
@@ -421,7 +420,7 @@ impl Rows {
             (unsigned_abs (number_at (line_in width (row_at self.old.wide.rows i)).numbers
             known.entry.step.c)) known.entry.a known.entry.most ≤ known.entry.step.limit }
         ensures cleared { result ≡ true → line_in width (row_at self.new.wide.rows i)
-            ≡ labelled_cleared known.entry.step.c known.entry.a
+            ≡ line_cleared known.entry.step.c known.entry.a
             (line_in width (row_at (rows_in self.old) known.entry.step.r)).numbers
             (line_in width (row_at self.old.wide.rows i)) }
         ensures line { result ≡ true → IsLine known.entry.step.limit width
@@ -551,7 +550,7 @@ impl Rows {
             (unsigned_abs (number_at (line_in width objective.old.numbers.items).numbers
             known.entry.step.c)) known.entry.a known.entry.most ≤ known.entry.step.limit }
         ensures cleared { result ≡ true → line_in width objective.new.numbers.items
-            ≡ labelled_cleared known.entry.step.c known.entry.a
+            ≡ line_cleared known.entry.step.c known.entry.a
             (line_in width (row_at (rows_in self.now) known.entry.step.r)).numbers
             (line_in width objective.old.numbers.items) }
         ensures line { result ≡ true → IsLine known.entry.step.limit width

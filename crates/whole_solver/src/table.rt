@@ -4,15 +4,13 @@ ghost use Rattle.std.specs.Option.{option_map};
 ghost use Rattle.compact_table.specs.Candidates.{best_with};
 ghost use Rattle.table_run.specs.Places.{numbers};
 ghost use Rattle.compact_table.specs.declared.limits.TheConstants.{MAX_SIDE};
-ghost use Rattle.equal_runs.specs.Compact.{compact_first};
-ghost use Rattle.equal_runs.specs.Labelled.{labelled_entering, labelled_pivoted, labelled_price};
+ghost use Rattle.equal_runs.specs.WholeTurning.{whole_entering, whole_pivoted, lines_steps_within, whole_ratios};
+ghost use Rattle.equal_runs.specs.WholeRunning.{first_whole_table, whole_price, whole_where_basic};
 ghost use Rattle.equal_runs.specs.Lines.{IsLine, entry_of, line_size, taken_in, widest};
-ghost use Rattle.equal_runs.specs.WholeRunning.{whole_where_basic};
-ghost use Rattle.equal_runs.specs.WholeTurning.{lines_steps_within, whole_ratios};
-ghost use Rattle.whole_solver.specs.Choices.{as_column};
+ghost use Rattle.compact_table.specs.Labels.{as_column};
 ghost use Rattle.whole_solver.specs.Rows.{IsPivot, line_in, row_at};
 
-use crate::columns::{Entering, least_column};
+use crate::columns::least_column;
 use crate::fraction::{fraction, take_line};
 use crate::mix::Step;
 use crate::objective::{Objective, Scratch};
@@ -20,8 +18,8 @@ use crate::rows::Rows;
 use crate::turn::Turn;
 use crate::wide::widen;
 use crate::word::WIDEST;
-use compact_table::SparseProgram;
 use compact_table::room::write_numbers;
+use compact_table::{Entering, SparseProgram};
 use exact_num::Exact;
 use lists::push_within;
 use std::alloc::{AllocError, Global};
@@ -31,7 +29,7 @@ use std::alloc::{AllocError, Global};
 #[derive(Drop)]
 pub struct WholeTable {
     // the variables of the columns, and the basic variable of each row
-    names: Vec<usize>,
+    labels: Vec<usize>,
     basics: Vec<usize>,
     // of each row, and of the objective row, the front counts
     rows: Rows,
@@ -41,9 +39,9 @@ pub struct WholeTable {
     column_places: Vec<usize>,
     line: Vec<i64>,
     ghost count: { vec_len basics ≡ length rows.short.rows },
-    ghost columns: { vec_len names + 2 ≤ rows.short.width },
+    ghost columns: { vec_len labels + 2 ≤ rows.short.width },
     ghost objective_width: { vec_len objective.numbers ≡ rows.short.width },
-    ghost names_room: { rows.short.width ≤ vec_capacity names + 2 },
+    ghost labels_room: { rows.short.width ≤ vec_capacity labels + 2 },
     ghost basics_room: { vec_len basics + rows.short.spare ≤ vec_capacity basics },
     ghost places_width: { vec_len scratch.places ≡ rows.short.width },
     ghost room_width: { vec_len scratch.room + 1 ≡ rows.short.width },
@@ -54,7 +52,7 @@ pub struct WholeTable {
 
 impl WholeTable {
     ghost use Rattle.compact_table.specs.SparseRows.{program_in};
-    ghost use Rattle.whole_solver.specs.Tables.{as_whole, direction_entry, width_of, room_of, taken_from, HasRow, IsListed, IsTurn, IsWithin, SameRoom, SameShape};
+    ghost use Rattle.whole_solver.specs.Tables.{as_whole, direction_entry, width_of, room_of, HasRow, IsListed, IsTurn, IsWithin, SameRoom, SameShape};
     ghost use Rattle.whole_solver.specs.Stored.{AreStored, rows_in};
 
     /// A table with room for as many rows of as many columns. It is that of no program yet.
@@ -62,13 +60,13 @@ impl WholeTable {
         requires { columns ≤ MAX_SIDE }
         ensures rows { IfOk result (λ table. rows ≤ room_of table) }
         ensures width { IfOk result (λ table. table.rows.short.width ≡ columns + 2) }
-        ensures empty { IfOk result (λ table. (table.names.items ≡ [])
+        ensures empty { IfOk result (λ table. (table.labels.items ≡ [])
             × (table.rows.short.rows ≡ [])) }
     {
         let width = columns + 2;
         let made = Rows::with_room(alloc, rows, width)?;
         let spare = made.spare();
-        let names = Vec::with_capacity(alloc, columns)?;
+        let labels = Vec::with_capacity(alloc, columns)?;
         let basics = Vec::with_capacity(alloc, spare)?;
         let numbers = vec![in alloc; 0_i128; width]?;
         let places = vec![in alloc; 0_usize; width]?;
@@ -76,7 +74,7 @@ impl WholeTable {
         let column_places = vec![in alloc; 0_usize; spare]?;
         let line = vec![in alloc; 0_i64; width]?;
         Ok(WholeTable {
-            names,
+            labels,
             basics,
             rows: made,
             objective: Objective { numbers, size: 0 },
@@ -100,15 +98,15 @@ impl WholeTable {
     /// Starts a table of the columns 0, 1 and so on, `columns` of them, with no row.
     fn begin(&mut self, columns: usize)
         requires { columns + 2 ≤ self.old.rows.short.width }
-        ensures names { self.new.names.items ≡ numbers 0 columns }
-        ensures columns { length self.new.names.items ≡ columns }
+        ensures labels { self.new.labels.items ≡ numbers 0 columns }
+        ensures columns { length self.new.labels.items ≡ columns }
         ensures basics { self.new.basics.items ≡ [] }
         ensures rows { rows_in self.new.rows ≡ [] }
         ensures room { SameRoom self.old self.new }
     {
         self.rows.clear();
         self.basics.clear();
-        write_numbers(&mut self.names, columns);
+        write_numbers(&mut self.labels, columns);
     }
 
     /// Writes the objective row, and says whether 64 bits hold it.
@@ -121,7 +119,7 @@ impl WholeTable {
             (line_in (width_of self.old) self.new.objective.numbers.items) }
         ensures size { result ≡ true → line_size (line_in (width_of self.old)
             self.new.objective.numbers.items) ≤ self.new.objective.size }
-        ensures names { self.new.names.items ≡ self.old.names.items }
+        ensures labels { self.new.labels.items ≡ self.old.labels.items }
         ensures basics { self.new.basics.items ≡ self.old.basics.items }
         ensures rows { self.new.rows ≡ self.old.rows }
     {
@@ -142,7 +140,7 @@ impl WholeTable {
         ensures stored { (limit : ℕ) → result ≡ true → widest ≤ limit
             → AreStored limit (width_of self.old) self.old.rows
             → AreStored limit (width_of self.old) self.new.rows }
-        ensures names { self.new.names.items ≡ self.old.names.items }
+        ensures labels { self.new.labels.items ≡ self.old.labels.items }
         ensures objective { self.new.objective ≡ self.old.objective }
         ensures room { SameRoom self.old self.new }
     {
@@ -159,7 +157,7 @@ impl WholeTable {
     pub fn take_in<N: Exact>(&mut self, program: &SparseProgram<N>, line: &mut [N]) -> bool
         requires line { length line.old ≡ length program.now.costs.items + 1 }
         ensures table { result ≡ true
-            → as_whole self.new ≡ taken_from (compact_first (program_in N.fraction program.now)) }
+            → as_whole self.new ≡ first_whole_table (program_in N.fraction program.now) }
         ensures within { (limit : ℕ) → result ≡ true → widest ≤ limit → IsWithin limit self.new }
     {
         let columns = program.variables();
@@ -182,18 +180,21 @@ impl WholeTable {
 
     /// The column that enters: of those whose number in the objective row is below 0 that of the
     /// smallest variable.
-    #[tactic(auto, unfolding(equal_runs::specs::Labelled::labelled_entering))]
+    #[tactic(auto, unfolding(equal_runs::specs::WholeTurning::whole_entering))]
     pub fn entering(&self) -> Option<Entering>
-        ensures column { option_map as_column result ≡ labelled_entering (as_whole self.now) }
-        ensures inside { IfSome result (λ c. c.place < length self.now.names.items) }
+        ensures column { option_map as_column result ≡ whole_entering (as_whole self.now) }
+        ensures inside { IfSome result (λ c. c.place < length self.now.labels.items) }
     {
-        let width = self.names.len() + 1;
-        least_column(self.names.as_slice(), &self.objective.numbers[1..width + 1])
+        let width = self.labels.len() + 1;
+        least_column(
+            self.labels.as_slice(),
+            &self.objective.numbers[1..width + 1],
+        )
     }
 
     /// Lists the rows that are not 0 in column `c`, and answers how many they are.
     fn list_column(&mut self, c: usize) -> usize
-        requires column { c < length self.old.names.items }
+        requires column { c < length self.old.labels.items }
         requires within { (limit : ℕ) × IsWithin limit self.old }
         ensures listed { IsListed c result self.new }
         ensures table { as_whole self.new ≡ as_whole self.old }
@@ -206,37 +207,37 @@ impl WholeTable {
     /// The place of the row that leaves where column `c` enters, or None where nothing limits it.
     /// `count` rows are listed: those that are not 0 in the column.
     fn leaving(&self, c: usize, count: usize) -> Option<usize>
-        requires column { c < length self.now.names.items }
+        requires column { c < length self.now.labels.items }
         requires listed { IsListed c count self.now }
         requires within { (limit : ℕ) × IsWithin limit self.now }
-        ensures { result ≡ best_with None (whole_ratios (length self.now.names.items) c 0
+        ensures { result ≡ best_with None (whole_ratios (length self.now.labels.items) c 0
             (as_whole self.now).rows) }
     {
         let places = &self.column_places[..count];
         self.rows
-            .leaving(self.basics.as_slice(), places, self.names.len(), c)
+            .leaving(self.basics.as_slice(), places, self.labels.len(), c)
     }
 
     /// The variable of column `c` becomes basic in row r, whose own gets the column.
     fn exchange(&mut self, c: usize, r: usize)
-        requires column { c < length self.old.names.items }
+        requires column { c < length self.old.labels.items }
         requires row { r < length self.old.basics.items }
-        ensures names { self.new.names.items
-            ≡ slice_set self.old.names.items c (slice_index_or self.old.basics.items r 0) }
+        ensures labels { self.new.labels.items
+            ≡ slice_set self.old.labels.items c (slice_index_or self.old.basics.items r 0) }
         ensures basics { self.new.basics.items
-            ≡ slice_set self.old.basics.items r (slice_index_or self.old.names.items c 0) }
+            ≡ slice_set self.old.basics.items r (slice_index_or self.old.labels.items c 0) }
         ensures rows { self.new.rows ≡ self.old.rows }
         ensures objective { self.new.objective ≡ self.old.objective }
     {
         let leaving = self.basics[r];
-        self.basics[r] = self.names[c];
-        self.names[c] = leaving;
+        self.basics[r] = self.labels[c];
+        self.labels[c] = leaving;
     }
 
     /// The variable of column `c` becomes basic in row r. Says whether each step is within the
     /// limit. `count` rows are listed: those that are not 0 in the column.
     fn pivot(&mut self, c: usize, count: usize, r: usize, limit: u128) -> bool
-        requires column { c < length self.old.names.items }
+        requires column { c < length self.old.labels.items }
         requires listed { IsListed c count self.old }
         requires pivot { IsPivot (width_of self.old) c r (rows_in self.old.rows) }
         requires limit { (widest ≤ limit) × (limit ≤ 2 ^ 127 - 1) }
@@ -244,11 +245,11 @@ impl WholeTable {
         ensures fits { result ≡ true → lines_steps_within limit c r
             (as_whole self.old).objective (as_whole self.old).rows ≡ true }
         ensures table { result ≡ true
-            → as_whole self.new ≡ labelled_pivoted c r (as_whole self.old) }
+            → as_whole self.new ≡ whole_pivoted c r (as_whole self.old) }
         ensures within { result ≡ true → IsWithin limit self.new }
         ensures shape { SameShape self.old self.new }
     {
-        let width = self.names.len() + 1;
+        let width = self.labels.len() + 1;
         let step = Step {
             r,
             c,
@@ -270,7 +271,7 @@ impl WholeTable {
 
     /// One turn: column `c` enters. It is given up where a step may leave the limit.
     pub fn turn(&mut self, c: usize, limit: u128) -> Turn
-        requires column { c < length self.old.names.items }
+        requires column { c < length self.old.labels.items }
         requires limit { (widest ≤ limit) × (limit ≤ 2 ^ 127 - 1) }
         requires within { IsWithin limit self.old }
         ensures turn { IsTurn limit c result self.old self.new }
@@ -296,9 +297,9 @@ impl WholeTable {
 
     /// The number of variables.
     pub fn variables(&self) -> usize
-        ensures { result ≡ length self.now.names.items }
+        ensures { result ≡ length self.now.labels.items }
     {
-        self.names.len()
+        self.labels.len()
     }
 
     /// The place of the row where variable j is basic.
@@ -310,9 +311,9 @@ impl WholeTable {
 
     /// The place of the column of variable j.
     fn column_of(&self, j: usize) -> Option<usize>
-        ensures { result ≡ position (λ name. name == j) self.now.names.items }
+        ensures { result ≡ position (λ name. name == j) self.now.labels.items }
     {
-        self.names.iter().position(|name| *name == j)
+        self.labels.iter().position(|name| *name == j)
     }
 
     /// The number at place k of a row, as a fraction.
@@ -341,12 +342,12 @@ impl WholeTable {
     pub fn value_at<N: Exact>(&self, j: usize) -> N
         requires { IsWithin (unsigned_abs N.LIMIT) self.now }
         ensures { N.fraction result
-            ≡ whole_where_basic (λ row. entry_of row.line (length self.now.names.items)) j
+            ≡ whole_where_basic (λ row. entry_of row.line (length self.now.labels.items)) j
             (as_whole self.now).rows }
     {
         match self.place_of(j) {
             None => N::zero(),
-            Some(i) => self.entry(i, self.names.len()),
+            Some(i) => self.entry(i, self.labels.len()),
         }
     }
 
@@ -354,7 +355,7 @@ impl WholeTable {
     pub fn price_at<N: Exact>(&self, j: usize) -> N
         requires within { IsWithin (unsigned_abs N.LIMIT) self.now }
         requires variable { j < (as_whole self.now).columns }
-        ensures { N.fraction result ≡ labelled_price (as_whole self.now) j }
+        ensures { N.fraction result ≡ whole_price (as_whole self.now) j }
     {
         match self.column_of(j) {
             None => N::zero(),
@@ -365,10 +366,10 @@ impl WholeTable {
     /// What a step of 1 in the column changes in variable j.
     pub fn direction_at<N: Exact>(&self, column: Entering, j: usize) -> N
         requires within { IsWithin (unsigned_abs N.LIMIT) self.now }
-        requires column { column.place < length self.now.names.items }
+        requires column { column.place < length self.now.labels.items }
         ensures { N.fraction result ≡ direction_entry (as_column column) (as_whole self.now) j }
     {
-        if j == column.name {
+        if j == column.label {
             return N::one();
         }
         match self.place_of(j) {
@@ -384,8 +385,8 @@ impl WholeTable {
     pub fn value<N: Exact>(&self) -> N
         requires { IsWithin (unsigned_abs N.LIMIT) self.now }
         ensures { N.fraction result
-            ≡ entry_of (as_whole self.now).objective (length self.now.names.items) }
+            ≡ entry_of (as_whole self.now).objective (length self.now.labels.items) }
     {
-        self.price(self.names.len())
+        self.price(self.labels.len())
     }
 }

@@ -3,9 +3,8 @@
 ghost use Rattle.std.specs.Prelude.{◌≡◌, true, IfSome, ◌<◌, ◌≤◌, ◌+◌, ◌-◌, ◌*◌, ◌/◌, ◌^◌, pos, unsigned_abs, length, map, int_div};
 ghost use Rattle.std.specs.Int.{int_signum};
 ghost use Rattle.arithmetic.specs.Gcd.{gcd as gcd_of};
-ghost use Rattle.equal_runs.specs.Labelled.{labelled_cleared};
+ghost use Rattle.equal_runs.specs.WholeTurning.{line_cleared, cut, cut_where_wide, step_size};
 ghost use Rattle.equal_runs.specs.Lines.{AreSizes, IsLine, line_fits, line_of, line_size, number_at, numbers_fit, widest};
-ghost use Rattle.equal_runs.specs.WholeTurning.{cut, cut_where_wide, step_size};
 ghost use Rattle.whole_solver.specs.Rows.{nonzero_in};
 
 use crate::divisor::{common, common_of_wide, divisor_of, whole_quotient, wide_quotient};
@@ -232,7 +231,7 @@ pub fn clear_wide_line<P: Widen<i128>>(
         (unsigned_abs (number_at numbers.old pivot.entry.known.step.c)) pivot.entry.known.a
         pivot.entry.known.most ≤ pivot.entry.known.step.limit) }
     ensures line { IfSome result (λ d. line_of d numbers.new
-        ≡ labelled_cleared pivot.entry.known.step.c pivot.entry.known.a
+        ≡ line_cleared pivot.entry.known.step.c pivot.entry.known.a
         (map P.value pivot.entry.numbers.now) (line_of denominator numbers.old)) }
     ensures size { IfSome result (λ d. line_size (line_of d numbers.new) ≤ size.new) }
 {

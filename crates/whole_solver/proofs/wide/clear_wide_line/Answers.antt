@@ -5,8 +5,7 @@ use Rattle.std.proofs.Math.Nat.{mul-pos}
 use mir.Syntax.{w128}
 use Rattle.equal_runs.specs.Lines.{AreSizes, line_of, line_size}
 use Rattle.equal_runs.specs.WholeTurning.{cross_difference}
-use Rattle.equal_runs.proofs.LineSteps.{size_at_most, sizes_bound}
-use Rattle.equal_runs.proofs.LabelledFirst.{set_sizes}
+use Rattle.equal_runs.proofs.LineSteps.{size_at_most, sizes_bound, set_sizes}
 use Rattle.whole_solver.proofs.Cleared.{cleared_none, denominator_below, factor_above, steps_of_factors, steps_of_none}
 use Rattle.whole_solver.proofs.Turned.{size_below}
 use Rattle.whole_solver.proofs.Words.{mixed_of_sizes, mixed_room, mixed_words, room_in_words, room_within}

@@ -1,7 +1,6 @@
 use Rattle.std.proofs.Common.{◌≡◌, ◌+◌, ◌<◌, ◌≤◌, ◌∙◌, refl, sym, subst, arith, length, take, slice_index_or, unsigned_abs, ℕ, List, ℤ}
 use Rattle.equal_runs.specs.Lines.{IsLine, line_size, number_at}
-use Rattle.equal_runs.specs.Labelled.{labelled_cleared}
-use Rattle.equal_runs.specs.WholeTurning.{step_size}
+use Rattle.equal_runs.specs.WholeTurning.{line_cleared, step_size}
 use Rattle.whole_solver.specs.Rows.{line_in, lines_in, lines_after, row_at}
 use Rattle.whole_solver.specs.Stored.{IsKnown, IsStored, IsWrittenAt, rows_in}
 use Rattle.whole_solver.specs.declared.rows.Rows.{Rows}
@@ -101,10 +100,10 @@ loop-place-preserved c =
           let told = w.clear_row.ensures.cleared w.if-not-clear_row.false in
           let new = w.clear_row.new.self in
           let g : IsWrittenAt n i s new = subst (λ (q : ℕ). IsWrittenAt q i s new) inv.places told.written in
-          let cleared = subst (λ (q : ℕ). line_in q (row_at (rows_in new) i) ≡ labelled_cleared k.step.c k.a (line_in q (row_at rows r)).numbers (line_in q (row_at rows i))) inv.places told.cleared in
+          let cleared = subst (λ (q : ℕ). line_in q (row_at (rows_in new) i) ≡ line_cleared k.step.c k.a (line_in q (row_at rows r)).numbers (line_in q (row_at rows i))) inv.places told.cleared in
           let fits = subst (λ (q : ℕ). step_size (line_size (line_in q (row_at rows i))) (unsigned_abs (number_at (line_in q (row_at rows i)).numbers k.step.c)) k.a k.most ≤ k.step.limit) inv.places told.fits in
           let first_fits = subst (λ (z : List ℤ). step_size (line_size (line_in n z)) (unsigned_abs (number_at (line_in n z).numbers k.step.c)) k.a k.most ≤ k.step.limit) here fits in
-          let is_line = cleared ∙ (λ q. labelled_cleared k.step.c k.a (line_in n (inv.pivot q)).numbers (line_in n (here q))) ∙ sym (after_other k.step.c k.a r i P (line_in n (row_at old i)) (λ e. apart (sym e))) in
+          let is_line = cleared ∙ (λ q. line_cleared k.step.c k.a (line_in n (inv.pivot q)).numbers (line_in n (here q))) ∙ sym (after_other k.step.c k.a r i P (line_in n (row_at old i)) (λ e. apart (sym e))) in
           let pivot_line = inv.stored.lines r (let p = inv.known.row in omega (arith, p, more)) in
           let line = subst (IsLine k.step.limit n) (sym cleared) (cleared_within k.step.limit k.most n k.step.c k.a (line_in n (row_at rows r)).numbers (line_in n (row_at rows i)) (inv.stored.lines i low) inv.known.sizes pivot_line.count inv.known.above fits) in
           let grown = rows_more n k.step.c k.a r i old rows (row_at (rows_in new) i) P low same is_line done.cleared in

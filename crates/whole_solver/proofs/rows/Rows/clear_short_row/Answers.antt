@@ -3,8 +3,7 @@ use Rattle.std.proofs.lemmas.List.{length-drop, length-take-le, set-get_or}
 use Rattle.lists.specs.Parts.{refit}
 use Rattle.compact_table.proofs.ArenaSteps.{at_set_same}
 use Rattle.equal_runs.specs.Lines.{AreSizes, IsLine, Line, line_size, number_at, widest}
-use Rattle.equal_runs.specs.Labelled.{labelled_cleared}
-use Rattle.equal_runs.specs.WholeTurning.{step_size}
+use Rattle.equal_runs.specs.WholeTurning.{line_cleared, step_size}
 use Rattle.whole_solver.specs.Rows.{line_in, nonzero_in, row_at}
 use Rattle.whole_solver.specs.Stored.{IsWrittenAt, rows_in, size_at}
 use Rattle.whole_solver.proofs.Changed.{row_placed, size_there, stored_short, written, written_after}
@@ -94,7 +93,7 @@ returns-in-Short c =
       cleared = λ done.
           record {
             fits = subst (λ (z : List ℤ). step_size (line_size (line_in w z)) (unsigned_abs (number_at (line_in w z).numbers k.step.c)) k.a k.most ≤ k.step.limit) (sym here) c.in-Short.ensures.fits;
-            cleared = ap (line_in w) standing ∙ line_is ∙ (λ q. labelled_cleared k.step.c k.a (line_in w (sym there q)).numbers (line_in w (sym here q)));
+            cleared = ap (line_in w) standing ∙ line_is ∙ (λ q. line_cleared k.step.c k.a (line_in w (sym there q)).numbers (line_in w (sym here q)));
             written = is_written;
           };
       count = is_written.count;
@@ -128,7 +127,7 @@ returns-in-Wide c =
                 sym (ap (λ (n : ℕ). line_in n grown) count)
                 ∙ c.grow.ensures.line
                 ∙ c.in-Wide.ensures.line
-                ∙ (λ q. labelled_cleared k.step.c k.a (line_in w (sym there q)).numbers (line_in w (sym here q)));
+                ∙ (λ q. line_cleared k.step.c k.a (line_in w (sym there q)).numbers (line_in w (sym here q)));
             written = is_written;
           };
       count = is_written.count;

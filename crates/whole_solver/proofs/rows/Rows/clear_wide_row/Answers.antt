@@ -2,8 +2,7 @@ use Rattle.std.proofs.Common.{rules, ◌<◌, ◌≤◌, [], ◌∙◌, sym, ap,
 use Rattle.std.proofs.lemmas.List.{set-get_or}
 use Rattle.compact_table.proofs.ArenaSteps.{at_set_same}
 use Rattle.equal_runs.specs.Lines.{Line, IsLine, line_size, number_at}
-use Rattle.equal_runs.specs.Labelled.{labelled_cleared}
-use Rattle.equal_runs.specs.WholeTurning.{step_size}
+use Rattle.equal_runs.specs.WholeTurning.{line_cleared, step_size}
 use Rattle.whole_solver.specs.Rows.{line_in, row_at}
 use Rattle.whole_solver.specs.Stored.{rows_in, size_at}
 use Rattle.whole_solver.proofs.Changed.{written_after}
@@ -65,7 +64,7 @@ returns c =
       cleared = λ done.
           record {
             fits = subst (λ (l : Line). step_size (line_size l) (unsigned_abs (number_at l.numbers k.step.c)) k.a k.most ≤ k.step.limit) (sym line) (told.fits passed);
-            cleared = c.settle.ensures.line ∙ ap (line_in w) row ∙ told.cleared passed ∙ (λ q. labelled_cleared k.step.c k.a (line_in w (pivot q)).numbers (sym line q));
+            cleared = c.settle.ensures.line ∙ ap (line_in w) row ∙ told.cleared passed ∙ (λ q. line_cleared k.step.c k.a (line_in w (pivot q)).numbers (sym line q));
             written = written_then w i first s settled wide.written after;
           };
       count = search rules;

@@ -3,7 +3,7 @@ use Rattle.std.proofs.lemmas.List.{map-id}
 use Rattle.lists.proofs.Lists.{refit_is}
 use Rattle.compact_table.proofs.ArenaSteps.{at_set_same}
 use Rattle.equal_runs.specs.Lines.{IsLine, line_size}
-use Rattle.equal_runs.specs.Labelled.{labelled_cleared}
+use Rattle.equal_runs.specs.WholeTurning.{line_cleared}
 use Rattle.whole_solver.specs.Rows.{line_in, row_at}
 use Rattle.whole_solver.specs.Stored.{rows_in, rows_of}
 use Rattle.whole_solver.proofs.Standing.{flag_there, known_words, row_standing_short, row_standing_wide}
@@ -15,11 +15,11 @@ use Rattle.whole_solver.proofs.rows.Rows.mix_wide_row.Goals as goal
 record IsMixed (limit w c a : ℕ) (pivot x : List ℤ) (i : ℕ) (cleared : Bool) (old new : List (List ℤ)) (size : ℕ) : Type 0 where
   rows : new ≡ set old i (row_at new i)
   line : cleared ≡ true → IsLine limit w (line_in w (row_at new i))
-  is : cleared ≡ true → line_in w (row_at new i) ≡ labelled_cleared c a pivot (line_in w x)
+  is : cleared ≡ true → line_in w (row_at new i) ≡ line_cleared c a pivot (line_in w x)
   small : cleared ≡ true → line_size (line_in w (row_at new i)) ≤ size
 
 mixed_by : (limit w c a : ℕ) (pivot x : List ℤ) (i : ℕ) (cleared : Bool) (old new : List (List ℤ)) (ys : List ℤ) (size : ℕ) → i < length old → new ≡ set old i ys → (cleared ≡ true → IsLine limit w (line_in w ys))
-    → (cleared ≡ true → line_in w ys ≡ labelled_cleared c a pivot (line_in w x)) → (cleared ≡ true → line_size (line_in w ys) ≤ size) → IsMixed limit w c a pivot x i cleared old new size
+    → (cleared ≡ true → line_in w ys ≡ line_cleared c a pivot (line_in w x)) → (cleared ≡ true → line_size (line_in w ys) ≤ size) → IsMixed limit w c a pivot x i cleared old new size
 mixed_by limit w c a pivot x i cleared old new ys size low is line told small =
     let here : row_at new i ≡ ys = ap (λ (s : List (List ℤ)). row_at s i) is ∙ at_set_same old i ys [] low in
     record {
@@ -80,7 +80,7 @@ returns c =
           mixed_by k.step.limit w k.step.c k.a P x i c.if-index.is_cleared t.wide.rows c.if-index.self.1.1.0.rows ys c.if-index.size low
           (ap (λ s. s.1.1.0.rows) b.self-is ∙ ap (set t.wide.rows i) (refit_is t.wide.width x ys full))
           (λ e. told.line (sym b.is_cleared-is ∙ e))
-          (λ e. told.cleared (sym b.is_cleared-is ∙ e) ∙ (λ q. labelled_cleared k.step.c k.a (line_in w (pivot q)).numbers (line_in w (b.pair-row.ensures.parts.1 q))))
+          (λ e. told.cleared (sym b.is_cleared-is ∙ e) ∙ (λ q. line_cleared k.step.c k.a (line_in w (pivot q)).numbers (line_in w (b.pair-row.ensures.parts.1 q))))
           (λ e. subst (λ (n : ℕ). line_size (line_in w ys) ≤ n) (sym b.size-is) (told.size (sym b.is_cleared-is ∙ e))))
       | else-index b ↦
           (let told = b.clear_wide_front-is_cleared-else-index.ensures in
@@ -91,7 +91,7 @@ returns c =
           mixed_by k.step.limit w k.step.c k.a P x i c.if-index.is_cleared t.wide.rows c.if-index.self.1.1.0.rows ys c.if-index.size low
           (ap (λ s. s.1.1.0.rows) b.self-is ∙ ap (set t.wide.rows i) (refit_is t.wide.width x ys full))
           (λ e. told.line (sym b.is_cleared-is ∙ e))
-          (λ e. told.cleared (sym b.is_cleared-is ∙ e) ∙ (λ q. labelled_cleared k.step.c k.a (line_in w (pivot q)).numbers (line_in w (b.row_mut.ensures.row q))))
+          (λ e. told.cleared (sym b.is_cleared-is ∙ e) ∙ (λ q. line_cleared k.step.c k.a (line_in w (pivot q)).numbers (line_in w (b.row_mut.ensures.row q))))
           (λ e. subst (λ (n : ℕ). line_size (line_in w ys) ≤ n) (sym b.size-is) (told.size (sym b.is_cleared-is ∙ e))))
     ] in
     let inside : i < length t.sizes.items = omega (arith, c.requires.rows.0, t.sizes_count, t.sizes.ok) in

@@ -2,8 +2,7 @@ use Rattle.std.proofs.Common.{rules, ◌≡◌, ◌<◌, ◌≤◌, ◌∙◌, u
 use Rattle.std.proofs.lemmas.Bool.{le-leb}
 use Rattle.std.proofs.lemmas.List.{length-take-le}
 use Rattle.equal_runs.specs.Lines.{Line, line_size, number_at}
-use Rattle.equal_runs.specs.Labelled.{labelled_cleared, turned_in}
-use Rattle.equal_runs.specs.WholeTurning.{cut, step_size}
+use Rattle.equal_runs.specs.WholeTurning.{line_cleared, turned_in, cut, step_size}
 use Rattle.whole_solver.specs.Rows.{AreStepsBelow, line_in, lines_in, lines_after, pivot_line, row_at}
 use Rattle.whole_solver.specs.Stored.{AreStored, IsKnown, rows_in}
 use Rattle.whole_solver.proofs.Placed.{ready}
@@ -73,7 +72,7 @@ returns c =
           let turned = turned_rows w k r a old new from (row_at from r) pivot c.requires.pivot.row told.written.row told.line cleared in
           record {
             rows = subst (λ (q : ℕ). lines_in w new ≡ lines_after k q r (turned_in k pivot) 0 (set (lines_in w old) r (pivot_line k q pivot))) told.denominator turned;
-            objective = objective.cleared passed ∙ (λ q. labelled_cleared k (told.denominator q) (numbers q) l);
+            objective = objective.cleared passed ∙ (λ q. line_cleared k (told.denominator q) (numbers q) l);
           });
       stored = λ done. subst (λ (n : ℕ). AreStored limit n c.clear_rows.new.self) count (rows.stored done);
       objective = λ done. objective.line passed;

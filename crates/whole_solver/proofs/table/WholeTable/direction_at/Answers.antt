@@ -3,7 +3,7 @@ use Rattle.std.proofs.lemmas.List.{length-map}
 use Rattle.exact_num.specs.Fraction.{negated, reduced}
 use Rattle.equal_runs.specs.Lines.{Line, number_at, no_line}
 use Rattle.whole_solver.specs.Rows.{line_in, lines_in, row_at}
-use Rattle.whole_solver.specs.Choices.{as_column}
+use Rattle.compact_table.specs.Labels.{as_column}
 use Rattle.whole_solver.specs.Stored.{rows_in}
 use Rattle.whole_solver.proofs.Stored.{rows_count}
 use Rattle.whole_solver.specs.Tables.{as_whole, width_of}

@@ -24,12 +24,12 @@ returns-then-fits-clause-table c done =
     let new = c.turn-fits.new.self in
     let last = c.turn-fits.new.objective.numbers.items in
     let same : length t.basics.items ≡ length (rows_in t.rows) = omega (arith, t.count, t.basics.ok, rows_count t.rows.is_wide.items t.rows.short.rows t.rows.wide.rows) in
-    let width : c.len-width.result + 1 ≡ width_of t = omega (arith, c.len-width.ensures, t.names.ok) in
+    let width : c.len-width.result + 1 ≡ width_of t = omega (arith, c.len-width.ensures, t.labels.ok) in
     let turned = subst (λ (w : ℕ). IsTurned w k r (rows_in t.rows) t.objective.numbers.items (rows_in new) last) width (c.turn-fits.ensures.turned c.if-fits.true) in
     let rows = ap rows_in c.exchange.ensures.rows in
     let objective = ap (λ (o : Objective). o.numbers.items) c.exchange.ensures.objective in
-    (λ i. table_of (c.exchange.ensures.names i) (c.exchange.ensures.basics i) (rows i) (objective i))
-    ∙ pivoted_table t.names.items t.basics.items (rows_in t.rows) (rows_in new) t.objective.numbers.items last k r same c.requires.pivot.row turned
+    (λ i. table_of (c.exchange.ensures.labels i) (c.exchange.ensures.basics i) (rows i) (objective i))
+    ∙ pivoted_table t.labels.items t.basics.items (rows_in t.rows) (rows_in new) t.objective.numbers.items last k r same c.requires.pivot.row turned
 
 -- the steps of the objective row and those of the rows
 pub returns-then-fits-clause-fits : goal.returns-then-fits-clause-fits
@@ -41,11 +41,11 @@ returns-then-fits-clause-fits c done =
     let w = width_of t in
     let leaving = cut (line_in w (row_at (rows_in t.rows) r)) in
     let same : length t.basics.items ≡ length (rows_in t.rows) = omega (arith, t.count, t.basics.ok, rows_count t.rows.is_wide.items t.rows.short.rows t.rows.wide.rows) in
-    let width : c.len-width.result + 1 ≡ w = omega (arith, c.len-width.ensures, t.names.ok) in
+    let width : c.len-width.result + 1 ≡ w = omega (arith, c.len-width.ensures, t.labels.ok) in
     let told = c.turn-fits.ensures in
     let each = subst (λ (v : ℕ). AreStepsWithin limit k r (cut (line_in v (row_at (rows_in t.rows) r))) v (rows_in t.rows)) width (told.rows_fit c.if-fits.true) in
     let own = subst (λ (v : ℕ). steps_within limit k (cut (line_in v (row_at (rows_in t.rows) r))) (line_in v t.objective.numbers.items) ≡ true) width (told.objective_fits c.if-fits.true) in
     let rows = rows_steps_in limit w k r 0 leaving t.basics.items (rows_in t.rows) (λ j low apart. each j low (λ e. apart (omega (arith, e)))) in
     let both = and_true (steps_within limit k leaving (as_whole t).objective) (rows_steps_within limit k r leaving 0 (as_whole t).rows) own rows in
     subst (λ (l : Line). (steps_within limit k (cut l) (as_whole t).objective && rows_steps_within limit k r (cut l) 0 (as_whole t).rows) ≡ true)
-    (sym (line_there t.names.items t.basics.items (rows_in t.rows) r same c.requires.pivot.row)) both
+    (sym (line_there t.labels.items t.basics.items (rows_in t.rows) r same c.requires.pivot.row)) both

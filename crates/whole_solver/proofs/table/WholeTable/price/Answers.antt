@@ -16,7 +16,7 @@ fraction-requires-clause-number g c =
     let k = c.args.k in
     let z = c.index.result.now in
     let fits : FitsSigned w128 z = search rules in
-    let inside : k + 1 < length row = omega (arith, c.requires.place, t.columns, t.objective_width, t.objective.numbers.ok, t.names.ok) in
+    let inside : k + 1 < length row = omega (arith, c.requires.place, t.columns, t.objective_width, t.objective.numbers.ok, t.labels.ok) in
     let number : to_z w128 (of_z w128 z) ≡ number_at (line_in (width_of t) row).numbers k = to_z-of_z w128 z fits ∙ c.index.ensures ∙ sym (get_or_default row (k + 1) (pos 0) z inside) ∙ sym (in_line (width_of t) row k c.requires.place) in
     subst (λ (v : ℤ). unsigned_abs v ≤ unsigned_abs g.N.Exact.LIMIT) (sym number) (c.requires.within.objective.sizes k)
 
@@ -40,7 +40,7 @@ returns g c =
     let y = c.index-2.result.now in
     let fz : FitsSigned w128 z = search rules in
     let fy : FitsSigned w128 y = search rules in
-    let inside : k + 1 < length row = omega (arith, c.requires.place, t.columns, t.objective_width, t.objective.numbers.ok, t.names.ok) in
+    let inside : k + 1 < length row = omega (arith, c.requires.place, t.columns, t.objective_width, t.objective.numbers.ok, t.labels.ok) in
     let number : to_z w128 (of_z w128 z) ≡ number_at (line_in (width_of t) row).numbers k = to_z-of_z w128 z fz ∙ c.index.ensures ∙ sym (get_or_default row (k + 1) (pos 0) z inside) ∙ sym (in_line (width_of t) row k c.requires.place) in
     let below : c.unsigned_abs.result ≡ unsigned_abs (number_at row 0) = c.unsigned_abs.ensures.value ∙ ap unsigned_abs (to_z-of_z w128 y fy ∙ c.index-2.ensures ∙ sym (get_or_default row 0 (pos 0) y (omega (arith, inside)))) in
     c.fraction.ensures ∙ (λ i. reduced (number i) (below i))

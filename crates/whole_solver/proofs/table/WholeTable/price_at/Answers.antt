@@ -10,5 +10,5 @@ returns-in-None g c =
 pub returns-in-Some : goal.returns-in-Some
 returns-in-Some g c =
     let t = as_whole c.args.self.now in
-    let long : length t.names ≤ length t.objective.numbers = (let e = c.requires.within.objective.count in omega (arith, e)) in
+    let long : length t.labels ≤ length t.objective.numbers = (let e = c.requires.within.objective.count in omega (arith, e)) in
     c.price.ensures ∙ sym (price_found t c.args.j c.in-Some.k long c.in-Some.ensures)

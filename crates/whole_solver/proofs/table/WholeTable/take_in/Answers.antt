@@ -6,11 +6,12 @@ use Rattle.table_run.proofs.Listed.{listed_count}
 use Rattle.compact_table.proofs.Filling.{numbers_last}
 use Rattle.compact_table.specs.SparseRows.{lists_of}
 use Rattle.compact_table.proofs.Parts.{length-rows, rows_long}
-use Rattle.equal_runs.specs.Lines.{IsLine, line_size, taken_in, widest}
+use Rattle.equal_runs.specs.Lines.{IsLine, line_size, taken_in, table_taken_in, widest}
+use Rattle.equal_runs.specs.WholeRunning.{first_whole_table}
 use Rattle.whole_solver.specs.declared.objective.Objective.{Objective}
 use Rattle.whole_solver.specs.Rows.{line_in, lines_in}
 use Rattle.whole_solver.specs.Stored.{AreStored, rows_in}
-use Rattle.whole_solver.specs.Tables.{table_of, taken_from, width_of}
+use Rattle.whole_solver.specs.Tables.{table_of, width_of}
 use Rattle.whole_solver.proofs.Taken.{taken_more, table_taken, lists_first}
 use Rattle.whole_solver.proofs.Stored.{rows_count}
 use Rattle.whole_solver.proofs.Turned.{line_wider}
@@ -33,7 +34,7 @@ loop-i-preserved g c =
     let told = c.take_row.ensures in
     let h = told.row c.if-not-take_row.false in
     let lists = lists_of f p in
-    let wide : width_of new ≡ w = ap (λ (ns : List ℕ). length ns + 1) told.names in
+    let wide : width_of new ≡ w = ap (λ (ns : List ℕ). length ns + 1) told.labels in
     let many : length lists ≡ length p.ends.items = length-rows f (length p.costs.items + 1) p.entries.items 0 p.ends.items in
     let low : i < length lists = omega (arith, many, c.loop-i-test.true, c.rows-i-end.ensures) in
     let line = h.line ∙ ap taken_in c.write_row.ensures in
@@ -43,8 +44,8 @@ loop-i-preserved g c =
     let fits = inv.room in
     let room = told.room.rows in
     record {
-      names = told.names ∙ inv.names;
-      columns = ap length told.names ∙ inv.columns;
+      labels = told.labels ∙ inv.labels;
+      columns = ap length told.labels ∙ inv.columns;
       basics = h.basics ∙ ap (λ (bs : List ℕ). bs ++ (n + i) ∷ []) inv.basics ∙ sym (numbers_last n i);
       rows = ap (λ (k : ℕ). lines_in k (rows_in new.rows)) wide ∙ ap (lines_in w) h.rows ∙ taken_more w lists (rows_in old.rows) h.row i low inv.rows line;
       objective = ap (λ (k : ℕ). line_in k new.objective.numbers.items) wide ∙ ap (λ (o : Objective). line_in w o.numbers.items) told.objective ∙ inv.objective;
@@ -57,6 +58,7 @@ loop-i-preserved g c =
     }
 
 pub returns-clause-table : goal.returns-clause-table
+unfolding first_whole_table
 returns-clause-table g c done =
     let f = g.N.Exact.fraction in
     let p = c.args.program.now in
@@ -71,18 +73,18 @@ returns-clause-table g c done =
     let reached : i ≤ length p.ends.items = omega (arith, c.loop-i.auto.i-end, c.rows-i-end.ensures) in
     let all : i ≡ length lists = omega (arith, high, reached, many) in
     let cols : n ≡ length p.costs.items = c.variables-columns.ensures in
-    let names = inv.names ∙ ap (numbers 0) cols in
+    let labels = inv.labels ∙ ap (numbers 0) cols in
     let basics = inv.basics ∙ (λ k. numbers (cols k) (all k)) in
     let rows = inv.rows ∙ take_all i (map taken_in lists) (omega (arith, high, many, length-map lists taken_in)) in
     let slacks = numbers (length p.costs.items) (length lists) in
-    let same : length slacks ≡ length lists = listed_count (λ k. k) (length p.costs.items) (length lists) in
+    let count : length (numbers 0 (length p.costs.items)) + length slacks ≡ length p.costs.items + length lists = (λ k. listed_count (λ j. j) 0 (length p.costs.items) k + listed_count (λ j. j) (length p.costs.items) (length lists) k) in
     let objective = map negated costs ++ fraction_zero ∷ [] in
     let long = rows_long f (length p.costs.items) p.entries.items 0 p.ends.items in
-    (λ k. table_of (names k) (basics k) (rows_in self.rows) self.objective.numbers.items)
-    ∙ table_taken (numbers 0 (length p.costs.items)) slacks lists objective (rows_in self.rows) self.objective.numbers.items same
-    (ap (λ (ns : List ℕ). lines_in (length ns + 1) (rows_in self.rows)) (sym names) ∙ rows)
-    (ap (λ (ns : List ℕ). line_in (length ns + 1) self.objective.numbers.items) (sym names) ∙ inv.objective)
-    ∙ ap taken_from (lists_first (length p.costs.items) lists costs long)
+    (λ k. table_of (labels k) (basics k) (rows_in self.rows) self.objective.numbers.items)
+    ∙ table_taken (length p.costs.items + length lists) (numbers 0 (length p.costs.items)) slacks lists objective (rows_in self.rows) self.objective.numbers.items count
+    (ap (λ (ns : List ℕ). lines_in (length ns + 1) (rows_in self.rows)) (sym labels) ∙ rows)
+    (ap (λ (ns : List ℕ). line_in (length ns + 1) self.objective.numbers.items) (sym labels) ∙ inv.objective)
+    ∙ ap table_taken_in (lists_first (length p.costs.items) lists costs long)
 
 pub returns-clause-within : goal.returns-clause-within
 returns-clause-within g c limit done high =

@@ -13,8 +13,8 @@ abbrev pub invariant-loop-i : goal.invariant-loop-i
 invariant-loop-i g l =
     let f = g.N.Exact.fraction in
     record {
-      names : l.self.names.items ≡ numbers 0 l.columns;
-      columns : length l.self.names.items ≡ l.columns;
+      labels : l.self.labels.items ≡ numbers 0 l.columns;
+      columns : length l.self.labels.items ≡ l.columns;
       basics : l.self.basics.items ≡ numbers l.columns l.i;
       rows : lines_in (width_of l.self) (rows_in l.self.rows) ≡ take l.i (map taken_in (lists_of f l.program));
       objective : line_in (width_of l.self) l.self.objective.numbers.items ≡ taken_in (map negated (map f l.program.costs.items) ++ fraction_zero ∷ []);

@@ -1,9 +1,10 @@
 use Rattle.std.proofs.Common.{◌≡◌, ◌∙◌, length, ap, sym, arith}
 use Rattle.std.specs.Prelude.{Some}
-use Rattle.equal_runs.specs.Labelled.{LabelledTable, labelled_turn_fits, labelled_turn}
+use Rattle.equal_runs.specs.Lines.{LineTable}
+use Rattle.equal_runs.specs.WholeTurning.{turn_fits, whole_turn}
 use Rattle.whole_solver.specs.Stored.{rows_in}
 use Rattle.whole_solver.specs.Tables.{as_whole}
-use Rattle.whole_solver.proofs.Pivoting.{pivot_there, turn_fits, turn_none, turn_pivots}
+use Rattle.whole_solver.proofs.Pivoting.{pivot_there, turn_has_fit, turn_none, turn_pivots}
 use Rattle.whole_solver.proofs.Stored.{rows_count}
 use Rattle.whole_solver.proofs.table.WholeTable.turn.Goals as goal
 
@@ -17,7 +18,7 @@ pub pivot-requires-clause-pivot : goal.pivot-requires-clause-pivot
 pivot-requires-clause-pivot c =
     let t = c.list_column-count.new.self in
     let same : length t.basics.items ≡ length (rows_in t.rows) = omega (arith, t.count, t.basics.ok, rows_count t.rows.is_wide.items t.rows.short.rows t.rows.wide.rows) in
-    pivot_there c.args.c c.in-Some.r t.names.items t.basics.items (rows_in t.rows) t.objective.numbers.items same (sym c.leaving.ensures ∙ c.in-Some.is)
+    pivot_there c.args.c c.in-Some.r t.labels.items t.basics.items (rows_in t.rows) t.objective.numbers.items same (sym c.leaving.ensures ∙ c.in-Some.is)
 
 pub pivot-requires-clause-within : goal.pivot-requires-clause-within
 pivot-requires-clause-within c = c.list_column-count.ensures.within c.args.limit c.requires.within
@@ -25,7 +26,7 @@ pivot-requires-clause-within c = c.list_column-count.ensures.within c.args.limit
 pub returns-in-None-clause-turn : goal.returns-in-None-clause-turn
 returns-in-None-clause-turn c =
     let same = c.list_column-count.ensures.table in (
-      ap (labelled_turn c.args.c) (sym same) ∙ turn_none c.args.c (as_whole c.list_column-count.new.self) (sym c.leaving.ensures ∙ c.in-None.is),
+      ap (whole_turn c.args.c) (sym same) ∙ turn_none c.args.c (as_whole c.list_column-count.new.self) (sym c.leaving.ensures ∙ c.in-None.is),
       same,
       c.list_column-count.ensures.within c.args.limit c.requires.within,
     )
@@ -35,7 +36,7 @@ returns-then-pivot-clause-turn c =
     let place = sym c.leaving.ensures ∙ c.in-Some.is in
     let t = c.list_column-count.new.self in
     let same = c.list_column-count.ensures.table in (
-      ap (labelled_turn c.args.c) (sym same) ∙ turn_pivots c.args.c c.in-Some.r (as_whole t) place ∙ ap Some (sym (c.pivot.ensures.table c.if-pivot.true)),
-      ap (λ (u : LabelledTable). labelled_turn_fits c.args.limit c.args.c u) (sym same) ∙ turn_fits c.args.limit c.args.c c.in-Some.r (as_whole t) place (c.pivot.ensures.fits c.if-pivot.true),
+      ap (whole_turn c.args.c) (sym same) ∙ turn_pivots c.args.c c.in-Some.r (as_whole t) place ∙ ap Some (sym (c.pivot.ensures.table c.if-pivot.true)),
+      ap (λ (u : LineTable). turn_fits c.args.limit c.args.c u) (sym same) ∙ turn_has_fit c.args.limit c.args.c c.in-Some.r (as_whole t) place (c.pivot.ensures.fits c.if-pivot.true),
       c.pivot.ensures.within c.if-pivot.true,
     )

@@ -18,10 +18,10 @@ returns-in-None g c =
 pub returns-in-Some : goal.returns-in-Some
 returns-in-Some g c =
     let t = c.args.self.now in
-    let n = length t.names.items in
+    let n = length t.labels.items in
     let i = c.in-Some.i in
     let lines = lines_in (width_of t) (rows_in t.rows) in
-    let count : c.len.result ≡ n = omega (arith, c.len.ensures, t.names.ok) in
+    let count : c.len.result ≡ n = omega (arith, c.len.ensures, t.labels.ok) in
     let same : length t.basics.items ≡ length lines = omega (arith, length-map (rows_in t.rows) (line_in (width_of t)), t.count, t.basics.ok, rows_count t.rows.is_wide.items t.rows.short.rows t.rows.wide.rows) in
     let inside = place_inside c.args.j t.basics.items i c.in-Some.ensures in
     let low : i < length (rows_in t.rows) = omega (arith, inside, t.count, t.basics.ok, rows_count t.rows.is_wide.items t.rows.short.rows t.rows.wide.rows) in
