@@ -4,32 +4,33 @@ use Rattle.std.specs.Prelude.{Some, None, Bool, true, false, nat_lt, if◌then�
 use Rattle.std.proofs.lemmas.Bool.Decides.{nat_tests}
 use Rattle.exact_num.specs.declared.misfit.Wide.{Wide}
 use Rattle.table_run.specs.Ending.{wide_at, no_unit_left, unbounded}
-use Rattle.equal_runs.specs.Compact.{CompactTable, entering_place}
-use Rattle.equal_runs.specs.CompactTurning.{compact_turn, moved_on, without_limit, stopped_by}
-use Rattle.equal_runs.specs.CompactRunning.{compact_read_off, compact_direction, compact_run_from}
+use Rattle.table_run.specs.Table.{Table}
+use Rattle.table_run.specs.Choice.{Column, entering}
+use Rattle.table_run.specs.Run.{turn, moved, unlimited, stopped}
+use Rattle.table_run.specs.Run.{read_off, direction, run_from}
 
-pub run_ends : (limit n m left spent : ℕ) (c : CompactTable) → entering_place c ≡ None → compact_run_from limit n m left spent c ≡ compact_read_off n m c spent
-unfolding compact_run_from
+pub run_ends : (limit n m left spent : ℕ) (c : Table) → entering c ≡ None → run_from limit n m left spent c ≡ read_off n m c spent
+unfolding run_from
 run_ends limit n m zero spent c h = rw h refl
 run_ends limit n m (suc left) spent c h = rw h refl
 
-pub run_is_out : (limit n m left spent : ℕ) (c : CompactTable) (e : ℕ) → entering_place c ≡ Some e → left ≡ 0 → compact_run_from limit n m left spent c ≡ no_unit_left spent
-unfolding compact_run_from
+pub run_is_out : (limit n m left spent : ℕ) (c : Table) (e : Column) → entering c ≡ Some e → left ≡ 0 → run_from limit n m left spent c ≡ no_unit_left spent
+unfolding run_from
 run_is_out limit n m zero spent c e h z = rw h refl
 run_is_out limit n m (suc left) spent c e h z = absurd (omega arith)
 
-pub run_moves : (limit n m left spent : ℕ) (c next : CompactTable) (e : ℕ) → entering_place c ≡ Some e → compact_turn limit e c ≡ moved_on next → 0 < left → compact_run_from limit n m left spent c ≡ compact_run_from limit n m (left - 1) (spent + 1) next
-unfolding compact_run_from
+pub run_moves : (limit n m left spent : ℕ) (c next : Table) (e : Column) → entering c ≡ Some e → turn limit e.place c ≡ moved next → 0 < left → run_from limit n m left spent c ≡ run_from limit n m (left - 1) (spent + 1) next
+unfolding run_from
 run_moves limit n m zero spent c next e h k p = absurd (omega arith)
 run_moves limit n m (suc left) spent c next e h k p = let less : suc left - 1 ≡ left = omega arith in rw (h, k, less) refl
 
-pub run_is_unbounded : (limit n m left spent : ℕ) (c : CompactTable) (e : ℕ) → entering_place c ≡ Some e → compact_turn limit e c ≡ without_limit → 0 < left → compact_run_from limit n m left spent c ≡ unbounded (compact_direction n e c) (spent + 1)
-unfolding compact_run_from
+pub run_is_unbounded : (limit n m left spent : ℕ) (c : Table) (e : Column) → entering c ≡ Some e → turn limit e.place c ≡ unlimited → 0 < left → run_from limit n m left spent c ≡ unbounded (direction n e c) (spent + 1)
+unfolding run_from
 run_is_unbounded limit n m zero spent c e h k p = absurd (omega arith)
 run_is_unbounded limit n m (suc left) spent c e h k p = rw (h, k) refl
 
-pub run_misfits : (limit n m left spent : ℕ) (c : CompactTable) (e : ℕ) (w : Wide) → entering_place c ≡ Some e → compact_turn limit e c ≡ stopped_by w → 0 < left → compact_run_from limit n m left spent c ≡ wide_at (spent + 1) w
-unfolding compact_run_from
+pub run_misfits : (limit n m left spent : ℕ) (c : Table) (e : Column) (w : Wide) → entering c ≡ Some e → turn limit e.place c ≡ stopped w → 0 < left → run_from limit n m left spent c ≡ wide_at (spent + 1) w
+unfolding run_from
 run_misfits limit n m zero spent c e w h k p = absurd (omega arith)
 run_misfits limit n m (suc left) spent c e w h k p = rw (h, k) refl
 

@@ -6,20 +6,16 @@ use Rattle.std.proofs.lemmas.List.{length-map, length-append, take-map, take_mor
 use Rattle.std.proofs.lemmas.Nat.{mul-le}
 use Rattle.exact_num.specs.declared.misfit.Wide.{Wide}
 use Rattle.exact_num.specs.Fraction.{Fraction, IsLowest, IsNotBelowZero}
-use Rattle.exact_num.specs.Laws.{IsWithin}
 use Rattle.exact_num.proofs.Values.{whole_is_lowest}
 use Rattle.table_run.specs.Places.{at, fraction_zero}
 use Rattle.table_run.specs.Program.{LinearProgram}
 use Rattle.table_run.specs.Ending.{Ending, done, unbounded, wide_at, no_unit_left}
-use Rattle.table_run.specs.Run.{Optimum, run}
 use Rattle.table_run.specs.Optimum.{IsProgram}
 use Rattle.table_run.specs.Choose.{bases_of}
 use Rattle.table_run.specs.Units.{units_of}
 use Rattle.table_run.proofs.Suffice.{units_suffice}
-use Rattle.equal_runs.specs.Compact.{CompactTable, compact_first}
-use Rattle.equal_runs.specs.CompactLaws.{IsProgramWithin}
-use Rattle.equal_runs.specs.CompactRunning.{compact_read_off, compact_run, compact_run_from}
-use Rattle.equal_runs.proofs.CompactRuns.{same_runs}
+use Rattle.table_run.specs.Table.{Table as TableOf, first_table}
+use Rattle.table_run.specs.Run.{Optimum, read_off, run, run_from}
 use Rattle.compact_table.specs.Programs.{coefficients_in, empty_program, program_of, with_row}
 use Rattle.compact_table.proofs.EntrySteps.{at-map}
 use Rattle.compact_table.proofs.Starts.{program_more}
@@ -32,13 +28,13 @@ use Rattle.simplex.specs.declared.stop.RunStop.TheVariants.{Wide as RunWide, Bud
 use Rattle.simplex.specs.Ends.{ending_of}
 use Rattle.compact_table.specs.declared.table.Table.{Table}
 use Rattle.compact_table.specs.Lists.{front}
-use Rattle.compact_table.specs.Tables.{as_compact, program_in, SameShape}
+use Rattle.compact_table.specs.Tables.{as_table, program_in, SameShape}
 use Rattle.simplex.specs.declared.stage.Stage.{Stage}
 use Rattle.simplex.specs.declared.stage.Stage.TheVariants.{Empty, Given, Optimal, Unbounded, WholeOptimal, WholeUnbounded, Stopped}
 use Rattle.whole_solver.specs.declared.table.WholeTable.{WholeTable}
-use Rattle.whole_solver.specs.declared.columns.Entering.{Entering}
+use Rattle.compact_table.specs.declared.columns.Entering.{Entering}
 use Rattle.whole_solver.specs.Tables.{as_whole}
-use Rattle.simplex.specs.Spaces.{Contents, found, stopped, answer_of, contents_after, optimum_in, whole_optimum_in, contents_of, program_given, IsProgramGiven, IsFound, IsAt, IsBeingGiven, direction_of}
+use Rattle.simplex.specs.Spaces.{Contents, found, stopped, answer_of, contents_after, optimum_in, whole_optimum_in, contents_of, program_given, IsProgramGiven, IsFound, IsAt, direction_of}
 
 -- ---- numbers of the code
 at_value : {A : Type 0} (P : Fraction → Type 0) (value : A → Fraction) → P fraction_zero → ((a : A) → P (value a)) → (xs : List A) (j : ℕ) → P (at (map value xs) j)
@@ -48,12 +44,6 @@ at_value P value z h (x ∷ xs) (suc j) = at_value P value z h xs j
 
 pub lowest_entries : {A : Type 0} (value : A → Fraction) → ((a : A) → IsLowest (value a)) → (xs : List A) (j : ℕ) → IsLowest (at (map value xs) j)
 lowest_entries value low xs j = at_value IsLowest value (whole_is_lowest (pos 0)) low xs j
-
-zero_within : (limit : ℕ) → 1 ≤ limit → IsWithin limit fraction_zero
-zero_within limit one = record { above = omega arith; below = one }
-
-within_entries : {A : Type 0} (value : A → Fraction) (limit : ℕ) → 1 ≤ limit → ((a : A) → IsWithin limit (value a)) → (xs : List A) (j : ℕ) → IsWithin limit (at (map value xs) j)
-within_entries value limit one h xs j = at_value (IsWithin limit) value (zero_within limit one) h xs j
 
 both_at : (P : Fraction → Type 0) (xs ys : List Fraction) → ((j : ℕ) → P (at xs j)) → ((j : ℕ) → P (at ys j)) → (j : ℕ) → P (at (xs ++ ys) j)
 both_at P [] ys h k j = k j
@@ -79,14 +69,6 @@ empty_is_program value costs low =
       costs = record { count = refl; lowest = lowest_entries value low costs };
     }
 
-pub empty_is_within : {A : Type 0} (value : A → Fraction) (limit : ℕ) (costs : List A) → 1 ≤ limit → ((a : A) → IsWithin limit (value a)) → IsProgramWithin limit (empty_program (map value costs))
-empty_is_within value limit costs one h =
-    record {
-      coefficients = none_at (IsWithin limit) (zero_within limit one);
-      right_sides = none_at (IsWithin limit) (zero_within limit one);
-      costs = within_entries value limit one h costs;
-    }
-
 pub row_is_program : {A : Type 0} (value : A → Fraction) (p : LinearProgram) (a : List A) (b : A) → ((a : A) → IsLowest (value a)) → IsProgram p → length a ≡ p.variables → IsNotBelowZero (value b) → IsProgram (with_row p (map value a) (value b))
 row_is_program value p a b low g width sign =
     record {
@@ -102,27 +84,18 @@ row_is_program value p a b low g width sign =
       costs = g.costs;
     }
 
-pub row_is_within : {A : Type 0} (value : A → Fraction) (limit : ℕ) (p : LinearProgram) (a : List A) (b : A) → 1 ≤ limit → ((a : A) → IsWithin limit (value a)) → IsProgramWithin limit p → IsProgramWithin limit (with_row p (map value a) (value b))
-row_is_within value limit p a b one h w =
-    record {
-      coefficients = both_at (IsWithin limit) p.coefficients (map value a) w.coefficients (within_entries value limit one h a);
-      right_sides = both_at (IsWithin limit) p.right_sides (value b ∷ []) w.right_sides (one_at (IsWithin limit) (value b) (h b) (zero_within limit one));
-      costs = w.costs;
-    }
-
 -- ---- the run over the first table is that of the program
-pub run_is : (limit left spent after n m : ℕ) (p : LinearProgram) (first last : CompactTable) (result : Result End RunStop) → 1 ≤ limit → IsProgram p → IsProgramWithin limit p → n ≡ p.variables → m ≡ p.rows → first ≡ compact_first p
-    → ending_of n m result after last ≡ compact_run_from limit n m left spent first → ending_of n m result after last ≡ run limit p left spent
-unfolding compact_run
-run_is limit left spent after n m p first last result one g w is_n is_m is_first h =
+pub run_is : (limit left spent after n m : ℕ) (p : LinearProgram) (first last : TableOf) (result : Result End RunStop) → n ≡ p.variables → m ≡ p.rows → first ≡ first_table p
+    → ending_of n m result after last ≡ run_from limit n m left spent first → ending_of n m result after last ≡ run limit p left spent
+unfolding run
+run_is limit left spent after n m p first last result is_n is_m is_first h =
     h
-    ∙ ap (λ k. compact_run_from limit k m left spent first) is_n
-    ∙ ap (λ k. compact_run_from limit p.variables k left spent first) is_m
-    ∙ ap (compact_run_from limit p.variables p.rows left spent) is_first
-    ∙ sym (same_runs limit p left spent one g w)
+    ∙ ap (λ k. run_from limit k m left spent first) is_n
+    ∙ ap (λ k. run_from limit p.variables k left spent first) is_m
+    ∙ ap (run_from limit p.variables p.rows left spent) is_first
 
-pub found_is : (n m spent : ℕ) (c : CompactTable) → compact_read_off n m c spent ≡ done (optimum_in n m c) spent
-unfolding compact_read_off
+pub found_is : (n m spent : ℕ) (c : TableOf) → read_off n m c spent ≡ done (optimum_in n m c) spent
+unfolding read_off
 found_is n m spent c = refl
 
 -- want of a unit
@@ -130,7 +103,7 @@ pub out_of_units : (limit left spent after : ℕ) (p : LinearProgram) → IsProg
 out_of_units limit left spent after p g h = units_suffice limit p left spent after g h
 
 -- a stop, by what the run over the table answered
-pub stop_answer : (n m spent : ℕ) (c : CompactTable) (result : Result End RunStop) (stop : RunStop) (E : Ending Optimum) → result ≡ Err stop → ending_of n m result spent c ≡ E → ((unit : ℕ) (wide : Wide) → result ≡ Err (RunWide unit wide) → spent ≡ unit)
+pub stop_answer : (n m spent : ℕ) (c : TableOf) (result : Result End RunStop) (stop : RunStop) (E : Ending Optimum) → result ≡ Err stop → ending_of n m result spent c ≡ E → ((unit : ℕ) (wide : Wide) → result ≡ Err (RunWide unit wide) → spent ≡ unit)
     → (Err stop ≡ answer_of E) × (stopped ≡ contents_after E) × (spent ≡ units_of E)
 stop_answer n m spent c result (RunWide unit wide) E is_err h units =
     let e : wide_at spent wide ≡ E = ap (λ r. ending_of n m r spent c) (sym is_err) ∙ h in
@@ -149,7 +122,7 @@ stop_enough limit left before p (no_unit_left spent) g h e = out_of_units limit 
 -- ---- lists by place
 -- ---- what the contents say of the fields
 pub program_is_given : {A : Type 0} (value : A → Fraction) (limit : ℕ) (stage : Stage) (p : LinearProgram) (t : Table A) (w : WholeTable) (c : Contents) → contents_of value stage p t w ≡ c → IsProgramGiven c → IsAt limit stage p t w
-    → (stage ≡ Given) × (program_given c ≡ p) × IsBeingGiven limit p
+    → (stage ≡ Given) × (program_given c ≡ p) × IsProgram p
 program_is_given value limit Empty p t w c e h at_stage = absurd (subst IsProgramGiven (sym e) h)
 program_is_given value limit Given p t w c e h at_stage = (refl, ap program_given (sym e), at_stage)
 program_is_given value limit Optimal p t w c e h at_stage = absurd (subst IsProgramGiven (sym e) h)
@@ -160,12 +133,12 @@ program_is_given value limit Stopped p t w c e h at_stage = absurd (subst IsProg
 
 -- an optimum of rows of whole numbers
 pub whole_is_there : {A : Type 0} (value : A → Fraction) (stage : Stage) (p : LinearProgram) (t : Table A) (w : WholeTable) (c : Contents) → contents_of value stage p t w ≡ c → stage ≡ WholeOptimal
-    → c ≡ found (whole_optimum_in (length w.names.items) (length w.basics.items) (as_whole w))
+    → c ≡ found (whole_optimum_in (length w.labels.items) (length w.basics.items) (as_whole w))
 whole_is_there value stage p t w c e is = sym e ∙ ap (λ (st : Stage). contents_of value st p t w) is
 
 -- or else one of fractions
 pub optimum_is_there : {A : Type 0} (value : A → Fraction) (stage : Stage) (p : LinearProgram) (t : Table A) (w : WholeTable) (c : Contents) → contents_of value stage p t w ≡ c → IsFound c → (stage ≡ WholeOptimal → ⊥)
-    → c ≡ found (optimum_in (length t.kept.items) (length t.rows.rows) (as_compact value t))
+    → c ≡ found (optimum_in (length t.labels.items) (length t.rows.rows) (as_table value t))
 optimum_is_there value Empty p t w c e h other = absurd (subst IsFound (sym e) h)
 optimum_is_there value Given p t w c e h other = absurd (subst IsFound (sym e) h)
 optimum_is_there value Optimal p t w c e h other = sym e
@@ -179,7 +152,7 @@ no_direction j c d e none low = let q = ap (λ (x : Contents). length (direction
 
 -- a direction is one of fractions or of rows of whole numbers
 pub direction_is_there : {A : Type 0} (value : A → Fraction) (stage : Stage) (p : LinearProgram) (t : Table A) (w : WholeTable) (c : Contents) (j : ℕ) → contents_of value stage p t w ≡ c → j < length (direction_of c)
-    → ((h : ℕ) → stage ≡ Unbounded h → ⊥) → ((k : Entering) → stage ≡ WholeUnbounded k → ⊥) → ⊥
+    → ((h : Entering) → stage ≡ Unbounded h → ⊥) → ((k : Entering) → stage ≡ WholeUnbounded k → ⊥) → ⊥
 direction_is_there value Empty p t w c j e low not_plain not_whole = no_direction j c _ e refl low
 direction_is_there value Given p t w c j e low not_plain not_whole = no_direction j c _ e refl low
 direction_is_there value Optimal p t w c j e low not_plain not_whole = no_direction j c _ e refl low
@@ -189,18 +162,18 @@ direction_is_there value (WholeUnbounded k) p t w c j e low not_plain not_whole 
 direction_is_there value Stopped p t w c j e low not_plain not_whole = no_direction j c _ e refl low
 
 -- ---- the run in a space
-pub ending_is : {A : Type 0} (value : A → Fraction) (limit left spent after : ℕ) (t t1 t2 : Table A) (result : Result End RunStop) → 1 ≤ limit → IsBeingGiven limit (program_in value t)
-    → as_compact value t1 ≡ compact_first (program_in value t) → SameShape t t1 → SameShape t1 t2
-    → ((n m : ℕ) → ending_of n m result after (as_compact value t2) ≡ compact_run_from limit n m left spent (as_compact value t1))
-    → ending_of (length t2.kept.items) (length t2.rows.rows) result after (as_compact value t2) ≡ run limit (program_in value t) left spent
-ending_is value limit left spent after t t1 t2 result one g first s1 s2 h =
+pub ending_is : {A : Type 0} (value : A → Fraction) (limit left spent after : ℕ) (t t1 t2 : Table A) (result : Result End RunStop)
+    → as_table value t1 ≡ first_table (program_in value t) → SameShape t t1 → SameShape t1 t2
+    → ((n m : ℕ) → ending_of n m result after (as_table value t2) ≡ run_from limit n m left spent (as_table value t1))
+    → ending_of (length t2.labels.items) (length t2.rows.rows) result after (as_table value t2) ≡ run limit (program_in value t) left spent
+ending_is value limit left spent after t t1 t2 result first s1 s2 h =
     let p = program_in value t in
-    let n : length t2.kept.items ≡ p.variables = s2.columns ∙ s1.columns in
-    let m : length t2.rows.rows ≡ p.rows = s2.rows ∙ s1.rows ∙ sym (length-map t.rows.rows (front value (length t.kept.items + 1))) in
-    run_is limit left spent after (length t2.kept.items) (length t2.rows.rows) p (as_compact value t1) (as_compact value t2) result one g.program g.within n m first (h (length t2.kept.items) (length t2.rows.rows))
+    let n : length t2.labels.items ≡ p.variables = s2.columns ∙ s1.columns in
+    let m : length t2.rows.rows ≡ p.rows = s2.rows ∙ s1.rows ∙ sym (length-map t.rows.rows (front value (length t.labels.items + 1))) in
+    run_is limit left spent after (length t2.labels.items) (length t2.rows.rows) p (as_table value t1) (as_table value t2) result n m first (h (length t2.labels.items) (length t2.rows.rows))
 
-pub program_stands : (limit : ℕ) (p : LinearProgram) (c : Contents) → IsBeingGiven limit p → program_given c ≡ p → IsProgram (program_given c)
-program_stands limit p c g same = subst IsProgram (sym same) g.program
+pub program_stands : (limit : ℕ) (p : LinearProgram) (c : Contents) → IsProgram p → program_given c ≡ p → IsProgram (program_given c)
+program_stands limit p c g same = subst IsProgram (sym same) g
 
 -- ---- the program, given to a table
 pub none_given : {A : Type 0} (value : A → Fraction) (costs : List A) (lists : List (List Fraction)) → empty_program (map value costs) ≡ program_of (length costs) (take 0 lists) (map value costs)

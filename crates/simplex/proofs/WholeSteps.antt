@@ -3,112 +3,113 @@ use Rattle.std.proofs.Common.{◌≡◌, ℕ, zero, suc, ◌+◌, ◌-◌, ◌<�
 use Rattle.std.specs.Prelude.{Some, None}
 use Rattle.table_run.specs.Program.{LinearProgram}
 use Rattle.table_run.specs.Optimum.{IsProgram}
+use Rattle.table_run.specs.Table.{first_table}
 use Rattle.table_run.specs.Ending.{Ending, no_unit_left, unbounded, done}
 use Rattle.table_run.specs.Run.{Optimum, run}
-use Rattle.equal_runs.specs.Labelled.{LabelledTable, Column, labelled_entering, labelled_turn, labelled_turn_fits, labelled_read_off, labelled_direction, labelled_run_from, labelled_run, first_labelled_table}
-use Rattle.equal_runs.proofs.LabelledFirst.{labelled_runs_end_the_same}
+use Rattle.equal_runs.specs.Lines.{LineTable, rows_fit}
+use Rattle.table_run.specs.Choice.{Column}
+use Rattle.equal_runs.specs.WholeTurning.{whole_entering, whole_turn, turn_fits}
+use Rattle.equal_runs.specs.WholeRunning.{whole_read_off, whole_direction, whole_run_from, whole_run, first_whole_table}
+use Rattle.equal_runs.proofs.RunSteps.{runs_agree}
 use Rattle.whole_solver.specs.declared.table.WholeTable.{WholeTable}
-use Rattle.whole_solver.specs.declared.columns.Entering.{Entering}
-use Rattle.whole_solver.specs.Choices.{as_column}
-use Rattle.equal_runs.specs.Lines.{rows_fit}
+use Rattle.compact_table.specs.declared.columns.Entering.{Entering}
+use Rattle.compact_table.specs.Labels.{as_column}
 use Rattle.whole_solver.specs.Stored.{rows_in}
-use Rattle.whole_solver.specs.Tables.{as_whole, taken_from, IsWithin, SameShape}
+use Rattle.whole_solver.specs.Tables.{as_whole, IsWithin, SameShape}
 use Rattle.whole_solver.proofs.Pivoting.{rows_fit_in}
-use Rattle.whole_solver.proofs.Taken.{first_taken}
-use Rattle.equal_runs.specs.Compact.{compact_first}
 use Rattle.compact_table.specs.declared.table.Table.{Table}
 use Rattle.table_run.proofs.Listed.{listed_count}
 use Rattle.exact_num.specs.Fraction.{Fraction}
 use Rattle.table_run.specs.Units.{units_of}
-use Rattle.simplex.specs.Spaces.{IsBeingGiven, answer_of, contents_after, whole_optimum_in}
+use Rattle.simplex.specs.Spaces.{answer_of, contents_after, whole_optimum_in}
 use Rattle.simplex.specs.Attempts.{IsStageOf, EndsInStop}
 use Rattle.simplex.specs.WholeEnds.{IsWholeEnd}
 use Rattle.simplex.specs.declared.whole_run.WholeEnd.TheVariants.{Optimal as WholeOptimum, Unbounded as WholeRay, NoUnit}
 use Rattle.simplex.specs.declared.stage.Stage.TheVariants.{WholeOptimal, WholeUnbounded}
 use Rattle.simplex.specs.declared.stop.RunStop.TheVariants.{Budget as RunBudget}
 
-pub whole_ends : (limit n m left spent : ℕ) (t : LabelledTable) → labelled_entering t ≡ None → labelled_run_from limit n m left spent t ≡ Some (labelled_read_off n m t spent)
-unfolding labelled_run_from
+pub whole_ends : (limit n m left spent : ℕ) (t : LineTable) → whole_entering t ≡ None → whole_run_from limit n m left spent t ≡ Some (whole_read_off n m t spent)
+unfolding whole_run_from
 whole_ends limit n m zero spent t h = rw h refl
 whole_ends limit n m (suc left) spent t h = rw h refl
 
-pub whole_out : (limit n m left spent : ℕ) (t : LabelledTable) (c : Column) → labelled_entering t ≡ Some c → left ≡ 0 → labelled_run_from limit n m left spent t ≡ Some (no_unit_left spent)
-unfolding labelled_run_from
+pub whole_out : (limit n m left spent : ℕ) (t : LineTable) (c : Column) → whole_entering t ≡ Some c → left ≡ 0 → whole_run_from limit n m left spent t ≡ Some (no_unit_left spent)
+unfolding whole_run_from
 whole_out limit n m zero spent t c h z = rw h refl
 whole_out limit n m (suc left) spent t c h z = absurd (omega (arith, z))
 
-pub whole_moves : (limit n m left spent : ℕ) (t next : LabelledTable) (c : Column) → labelled_entering t ≡ Some c → labelled_turn c.place t ≡ Some next → labelled_turn_fits limit c.place t ≡ true → rows_fit limit next.rows ≡ true → 0 < left
-    → labelled_run_from limit n m left spent t ≡ labelled_run_from limit n m (left - 1) (spent + 1) next
-unfolding labelled_run_from
+pub whole_moves : (limit n m left spent : ℕ) (t next : LineTable) (c : Column) → whole_entering t ≡ Some c → whole_turn c.place t ≡ Some next → turn_fits limit c.place t ≡ true → rows_fit limit next.rows ≡ true → 0 < left
+    → whole_run_from limit n m left spent t ≡ whole_run_from limit n m (left - 1) (spent + 1) next
+unfolding whole_run_from
 whole_moves limit n m zero spent t next c h k o f p = absurd (omega (arith, p))
 whole_moves limit n m (suc left) spent t next c h k o f p = let less : suc left - 1 ≡ left = omega arith in rw (h, k, o, f, less) refl
 
-pub whole_unlimited : (limit n m left spent : ℕ) (t : LabelledTable) (c : Column) → labelled_entering t ≡ Some c → labelled_turn c.place t ≡ None → 0 < left
-    → labelled_run_from limit n m left spent t ≡ Some (unbounded (labelled_direction n c t) (spent + 1))
-unfolding labelled_run_from
+pub whole_unlimited : (limit n m left spent : ℕ) (t : LineTable) (c : Column) → whole_entering t ≡ Some c → whole_turn c.place t ≡ None → 0 < left
+    → whole_run_from limit n m left spent t ≡ Some (unbounded (whole_direction n c t) (spent + 1))
+unfolding whole_run_from
 whole_unlimited limit n m zero spent t c h k p = absurd (omega (arith, p))
 whole_unlimited limit n m (suc left) spent t c h k p = rw (h, k) refl
 
-pub whole_found_is : (n m spent : ℕ) (t : LabelledTable) → length t.names ≡ n → labelled_read_off n m t spent ≡ done (whole_optimum_in n m t) spent
-unfolding labelled_read_off
+pub whole_found_is : (n m spent : ℕ) (t : LineTable) → length t.labels ≡ n → whole_read_off n m t spent ≡ done (whole_optimum_in n m t) spent
+unfolding whole_read_off
 whole_found_is n m spent t e = refl
 
 -- ---- the run of the program
-started : (limit left spent : ℕ) (p : LinearProgram) (t : LabelledTable) → t ≡ first_labelled_table p → rows_fit limit t.rows ≡ true → labelled_run limit p left spent ≡ labelled_run_from limit p.variables p.rows left spent t
-unfolding labelled_run
+started : (limit left spent : ℕ) (p : LinearProgram) (t : LineTable) → t ≡ first_whole_table p → rows_fit limit t.rows ≡ true → whole_run limit p left spent ≡ whole_run_from limit p.variables p.rows left spent t
+unfolding whole_run
 started limit left spent p t first fits =
-    let test : rows_fit limit (first_labelled_table p).rows ≡ true = ap (λ (u : LabelledTable). rows_fit limit u.rows) (sym first) ∙ fits in
-    rw test (ap (labelled_run_from limit p.variables p.rows left spent) (sym first))
+    let test : rows_fit limit (first_whole_table p).rows ≡ true = ap (λ (u : LineTable). rows_fit limit u.rows) (sym first) ∙ fits in
+    rw test (ap (whole_run_from limit p.variables p.rows left spent) (sym first))
 
-pub whole_is_run : (limit left spent : ℕ) (p : LinearProgram) (t : LabelledTable) (E : Ending Optimum) → IsProgram p → t ≡ first_labelled_table p → rows_fit limit t.rows ≡ true
-    → labelled_run_from limit p.variables p.rows left spent t ≡ Some E → run limit p left spent ≡ E
-whole_is_run limit left spent p t E g first fits h = labelled_runs_end_the_same limit p left spent E g (started limit left spent p t first fits ∙ h)
+pub whole_is_run : (limit left spent : ℕ) (p : LinearProgram) (t : LineTable) (E : Ending Optimum) → IsProgram p → t ≡ first_whole_table p → rows_fit limit t.rows ≡ true
+    → whole_run_from limit p.variables p.rows left spent t ≡ Some E → run limit p left spent ≡ E
+whole_is_run limit left spent p t E g first fits h = runs_agree limit p left spent E g (started limit left spent p t first fits ∙ h)
 
 -- ---- a run of the program that was taken in
 pub record IsStarted (limit : ℕ) (p : LinearProgram) (w : WholeTable) : Type 0 where
-  pub given : IsBeingGiven limit p
-  pub first : as_whole w ≡ first_labelled_table p
+  pub given : IsProgram p
+  pub first : as_whole w ≡ first_whole_table p
   pub within : IsWithin limit w
 
-pub started_at : (limit : ℕ) (p : LinearProgram) (w : WholeTable) → IsBeingGiven limit p → as_whole w ≡ taken_from (compact_first p) → IsWithin limit w → IsStarted limit p w
-started_at limit p w g taken within = record { given = g; first = taken ∙ sym (first_taken p); within = within }
+pub started_at : (limit : ℕ) (p : LinearProgram) (w : WholeTable) → IsProgram p → as_whole w ≡ first_whole_table p → IsWithin limit w → IsStarted limit p w
+started_at limit p w g taken within = record { given = g; first = taken; within = within }
 
-first_names : (q : LinearProgram) → length (first_labelled_table q).names ≡ q.variables
-unfolding first_labelled_table
-first_names q = listed_count (λ i. i) 0 q.variables
+first_labels : (q : LinearProgram) → length (first_whole_table q).labels ≡ q.variables
+unfolding first_whole_table first_table
+first_labels q = listed_count (λ i. i) 0 q.variables
 
-first_columns : (q : LinearProgram) → (first_labelled_table q).columns ≡ q.variables + q.rows
-unfolding first_labelled_table
+first_columns : (q : LinearProgram) → (first_whole_table q).columns ≡ q.variables + q.rows
+unfolding first_whole_table first_table
 first_columns q = refl
 
 -- the limit is that of the numbers, as the code holds it
 module _ {A : Type 0} (value : A → Fraction) (limit held left spent after : ℕ) (p : LinearProgram) (t : Table A) (w1 w2 : WholeTable) (g : IsStarted limit p w1) (same : held ≡ limit) (shape : SameShape w1 w2) where
-  is_run : (E : Ending Optimum) → labelled_run_from held p.variables p.rows left spent (as_whole w1) ≡ Some E → run limit p left spent ≡ E
+  is_run : (E : Ending Optimum) → whole_run_from held p.variables p.rows left spent (as_whole w1) ≡ Some E → run limit p left spent ≡ E
   is_run E h =
-      let fits = rows_fit_in limit (length w1.names.items + 1) w1.basics.items (rows_in w1.rows) g.within.rows.lines in
-      let of_limit = ap (λ (l : ℕ). labelled_run_from l p.variables p.rows left spent (as_whole w1)) (sym same) in
-      whole_is_run limit left spent p (as_whole w1) E g.given.program g.first fits (of_limit ∙ h)
+      let fits = rows_fit_in limit (length w1.labels.items + 1) w1.basics.items (rows_in w1.rows) g.within.rows.lines in
+      let of_limit = ap (λ (l : ℕ). whole_run_from l p.variables p.rows left spent (as_whole w1)) (sym same) in
+      whole_is_run limit left spent p (as_whole w1) E g.given g.first fits (of_limit ∙ h)
 
   there : IsWithin held w2 → IsWithin limit w2
   there h = subst (λ (l : ℕ). IsWithin l w2) same h
 
-  variables : length w2.names.items ≡ p.variables
-  variables = shape.columns ∙ ap (λ (x : LabelledTable). length x.names) g.first ∙ first_names p
+  variables : length w2.labels.items ≡ p.variables
+  variables = shape.columns ∙ ap (λ (x : LineTable). length x.labels) g.first ∙ first_labels p
 
   rows : length w2.basics.items ≡ p.rows
   rows =
-      let columns = ap (λ (x : LabelledTable). x.columns) g.first ∙ first_columns p in
-      let names = sym shape.columns ∙ variables in
+      let columns = ap (λ (x : LineTable). x.columns) g.first ∙ first_columns p in
+      let labels = sym shape.columns ∙ variables in
       let many = shape.rows in
-      omega (arith, columns, names, many)
+      omega (arith, columns, labels, many)
 
-  pub whole_optimum : IsWholeEnd held p.variables p.rows WholeOptimum after w2 (labelled_run_from held p.variables p.rows left spent (as_whole w1))
+  pub whole_optimum : IsWholeEnd held p.variables p.rows WholeOptimum after w2 (whole_run_from held p.variables p.rows left spent (as_whole w1))
       → IsStageOf value limit p (run limit p left spent) WholeOptimal after t w2
   whole_optimum h =
-      let found : run limit p left spent ≡ labelled_read_off (length w2.names.items) (length w2.basics.items) (as_whole w2) after =
-      is_run _ h.0 ∙ (λ i. labelled_read_off (sym variables i) (sym rows i) (as_whole w2) after) in
-      let e : done (whole_optimum_in (length w2.names.items) (length w2.basics.items) (as_whole w2)) after ≡ run limit p left spent =
-      sym (whole_found_is (length w2.names.items) (length w2.basics.items) after (as_whole w2) refl) ∙ sym found in
+      let found : run limit p left spent ≡ whole_read_off (length w2.labels.items) (length w2.basics.items) (as_whole w2) after =
+      is_run _ h.0 ∙ (λ i. whole_read_off (sym variables i) (sym rows i) (as_whole w2) after) in
+      let e : done (whole_optimum_in (length w2.labels.items) (length w2.basics.items) (as_whole w2)) after ≡ run limit p left spent =
+      sym (whole_found_is (length w2.labels.items) (length w2.basics.items) after (as_whole w2) refl) ∙ sym found in
       record {
         answer = ap answer_of e;
         contents = ap contents_after e;
@@ -116,11 +117,11 @@ module _ {A : Type 0} (value : A → Fraction) (limit held left spent after : �
         there = there h.1;
       }
 
-  pub whole_ray : (c : Entering) → IsWholeEnd held p.variables p.rows (WholeRay c) after w2 (labelled_run_from held p.variables p.rows left spent (as_whole w1))
+  pub whole_ray : (c : Entering) → IsWholeEnd held p.variables p.rows (WholeRay c) after w2 (whole_run_from held p.variables p.rows left spent (as_whole w1))
       → IsStageOf value limit p (run limit p left spent) (WholeUnbounded c) after t w2
   whole_ray c h =
-      let e : unbounded (labelled_direction (length w2.names.items) (as_column c) (as_whole w2)) after ≡ run limit p left spent =
-      ap (λ n. unbounded (labelled_direction n (as_column c) (as_whole w2)) after) variables ∙ sym (is_run _ h.0) in
+      let e : unbounded (whole_direction (length w2.labels.items) (as_column c) (as_whole w2)) after ≡ run limit p left spent =
+      ap (λ n. unbounded (whole_direction n (as_column c) (as_whole w2)) after) variables ∙ sym (is_run _ h.0) in
       record {
         answer = ap answer_of e;
         contents = ap contents_after e;
@@ -128,7 +129,7 @@ module _ {A : Type 0} (value : A → Fraction) (limit held left spent after : �
         there = (there h.1, h.2);
       }
 
-  pub whole_no_unit : IsWholeEnd held p.variables p.rows NoUnit after w2 (labelled_run_from held p.variables p.rows left spent (as_whole w1))
+  pub whole_no_unit : IsWholeEnd held p.variables p.rows NoUnit after w2 (whole_run_from held p.variables p.rows left spent (as_whole w1))
       → EndsInStop (run limit p left spent) RunBudget after
   whole_no_unit h =
       let e : no_unit_left after ≡ run limit p left spent = sym (is_run _ h) in

@@ -3,26 +3,23 @@ use Rattle.std.specs.Prelude.{◌≡◌, ℕ, ◌+◌, ◌<◌, ◌≤◌, List,
 use Rattle.exact_num.specs.Fraction.{Fraction}
 use Rattle.table_run.specs.Places.{fraction_zero, values_at}
 use Rattle.table_run.specs.Program.{LinearProgram}
-use Rattle.table_run.specs.Table.{right_side}
 use Rattle.table_run.specs.Ending.{Ending, done, unbounded, wide_at, no_unit_left}
-use Rattle.table_run.specs.Run.{Optimum, optimum}
 use Rattle.table_run.specs.Optimum.{IsProgram}
-use Rattle.equal_runs.specs.Compact.{CompactTable}
-use Rattle.equal_runs.specs.CompactLaws.{IsProgramWithin}
-use Rattle.equal_runs.specs.CompactRunning.{compact_solution, compact_direction, price_of}
+use Rattle.table_run.specs.Table.{Table as TableOf}
+use Rattle.table_run.specs.Run.{Optimum, optimum, solution, dual, reduced_costs, value_of as value_in, direction}
 use Rattle.compact_table.specs.declared.table.Table.{Table}
 use Rattle.compact_table.specs.Programs.{empty_program}
-use Rattle.compact_table.specs.Tables.{as_compact, room_of}
+use Rattle.compact_table.specs.Tables.{as_table, room_of}
 use Rattle.compact_table.specs.declared.sparse.SparseProgram.{SparseProgram}
 use Rattle.compact_table.specs.SparseRows.{program_in, HasRoom}
 use Rattle.simplex.specs.declared.stop.RunStop.{RunStop}
 use Rattle.simplex.specs.declared.stop.RunStop.TheVariants.{Wide, Budget}
 use Rattle.simplex.specs.declared.stage.Stage.{Stage}
 use Rattle.simplex.specs.declared.stage.Stage.TheVariants.{Empty, Given, Optimal, Unbounded, WholeOptimal, WholeUnbounded, Stopped}
-use Rattle.equal_runs.specs.Lines.{entry_of}
-use Rattle.equal_runs.specs.Labelled.{LabelledTable, labelled_price, labelled_solution, labelled_direction}
+use Rattle.equal_runs.specs.Lines.{entry_of, LineTable}
+use Rattle.equal_runs.specs.WholeRunning.{whole_price, whole_solution, whole_direction}
 use Rattle.whole_solver.specs.declared.table.WholeTable.{WholeTable}
-use Rattle.whole_solver.specs.Choices.{as_column}
+use Rattle.compact_table.specs.Labels.{as_column}
 use Rattle.whole_solver.specs.Tables.{as_whole, IsWithin}
 
 -- the program given since the last begin; or what the last run since then told: its optimum, a
@@ -123,38 +120,32 @@ contents_after (wide_at spent wide) = stopped
 contents_after (no_unit_left spent) = stopped
 
 -- ---- what the fields of a space stand for
-abbrev pub optimum_in : ℕ → ℕ → CompactTable → Optimum
-optimum_in n m c =
-    optimum (compact_solution n c) (values_at (price_of c) n m) (values_at (price_of c) 0 n) (right_side (length c.kept) c.objective)
+abbrev pub optimum_in : ℕ → ℕ → TableOf → Optimum
+optimum_in n m t = optimum (solution n t) (dual n m t) (reduced_costs n t) (value_in t)
 
-abbrev pub whole_optimum_in : ℕ → ℕ → LabelledTable → Optimum
-whole_optimum_in n m t = optimum (labelled_solution n t) (values_at (labelled_price t) n m) (values_at (labelled_price t) 0 n) (entry_of t.objective (length t.names))
+abbrev pub whole_optimum_in : ℕ → ℕ → LineTable → Optimum
+whole_optimum_in n m t = optimum (whole_solution n t) (values_at (whole_price t) n m) (values_at (whole_price t) 0 n) (entry_of t.objective (length t.labels))
 
 -- p is the program that is given
 abbrev pub contents_of : {A : Type 0} → (A → Fraction) → Stage → LinearProgram → Table A → WholeTable → Contents
 contents_of value Empty p t w = nothing
 contents_of value Given p t w = given p
-contents_of value Optimal p t w = found (optimum_in (length t.kept.items) (length t.rows.rows) (as_compact value t))
-contents_of value (Unbounded h) p t w = rising (compact_direction (length t.kept.items) h (as_compact value t))
-contents_of value WholeOptimal p t w = found (whole_optimum_in (length w.names.items) (length w.basics.items) (as_whole w))
-contents_of value (WholeUnbounded c) p t w = rising (labelled_direction (length w.names.items) (as_column c) (as_whole w))
+contents_of value Optimal p t w = found (optimum_in (length t.labels.items) (length t.rows.rows) (as_table value t))
+contents_of value (Unbounded c) p t w = rising (direction (length t.labels.items) (as_column c) (as_table value t))
+contents_of value WholeOptimal p t w = found (whole_optimum_in (length w.labels.items) (length w.basics.items) (as_whole w))
+contents_of value (WholeUnbounded c) p t w = rising (whole_direction (length w.labels.items) (as_column c) (as_whole w))
 contents_of value Stopped p t w = stopped
 
 abbrev pub workspace_of : {A : Type 0} → (A → Fraction) → ℕ → ℕ → Stage → SparseProgram A → Table A → WholeTable → Workspace
 workspace_of value rows columns stage s t w = workspace rows columns (contents_of value stage (program_in value s) t w)
 
--- the program that is being given is one, of numbers within the limit
-pub record IsBeingGiven (limit : ℕ) (p : LinearProgram) : Type 0 where
-  pub program : IsProgram p
-  pub within : IsProgramWithin limit p
-
 abbrev pub IsAt : {A : Type 0} → ℕ → Stage → LinearProgram → Table A → WholeTable → Type 0
 IsAt limit Empty p t w = Unit {0}
-IsAt limit Given p t w = IsBeingGiven limit p
+IsAt limit Given p t w = IsProgram p
 IsAt limit Optimal p t w = Unit {0}
-IsAt limit (Unbounded h) p t w = h < length t.kept.items
+IsAt limit (Unbounded c) p t w = c.place < length t.labels.items
 IsAt limit WholeOptimal p t w = IsWithin limit w
-IsAt limit (WholeUnbounded c) p t w = IsWithin limit w × (c.place < length w.names.items)
+IsAt limit (WholeUnbounded c) p t w = IsWithin limit w × (c.place < length w.labels.items)
 IsAt limit Stopped p t w = Unit {0}
 
 -- the program has room, and so has the table for a run over fractions; `buffer` is room for one row

@@ -2,9 +2,9 @@
 use Rattle.std.specs.Prelude.{◌≡◌, ℕ, ◌<◌, length, Option, Some}
 use Rattle.table_run.specs.Ending.{Ending, unbounded, no_unit_left}
 use Rattle.table_run.specs.Run.{Optimum}
-use Rattle.equal_runs.specs.Labelled.{labelled_read_off, labelled_direction}
+use Rattle.equal_runs.specs.WholeRunning.{whole_read_off, whole_direction}
 use Rattle.whole_solver.specs.declared.table.WholeTable.{WholeTable}
-use Rattle.whole_solver.specs.Choices.{as_column}
+use Rattle.compact_table.specs.Labels.{as_column}
 use Rattle.whole_solver.specs.Tables.{as_whole, IsWithin}
 use Rattle.simplex.specs.declared.whole_run.WholeEnd.{WholeEnd}
 use Rattle.simplex.specs.declared.whole_run.WholeEnd.TheVariants.{Optimal, Unbounded, NoUnit, GivenUp}
@@ -12,8 +12,8 @@ use Rattle.simplex.specs.declared.whole_run.WholeEnd.TheVariants.{Optimal, Unbou
 -- the run of n variables and m rows, by how it ended, the units spent and the table at the end;
 -- nothing where it is given up
 abbrev pub IsWholeEnd : ℕ → ℕ → ℕ → WholeEnd → ℕ → WholeTable → Option (Ending Optimum) → Type 0
-IsWholeEnd limit n m Optimal spent t run = (run ≡ Some (labelled_read_off n m (as_whole t) spent)) × IsWithin limit t
+IsWholeEnd limit n m Optimal spent t run = (run ≡ Some (whole_read_off n m (as_whole t) spent)) × IsWithin limit t
 IsWholeEnd limit n m (Unbounded c) spent t run =
-    (run ≡ Some (unbounded (labelled_direction n (as_column c) (as_whole t)) spent)) × IsWithin limit t × (c.place < length t.names.items)
+    (run ≡ Some (unbounded (whole_direction n (as_column c) (as_whole t)) spent)) × IsWithin limit t × (c.place < length t.labels.items)
 IsWholeEnd limit n m NoUnit spent t run = run ≡ Some (no_unit_left spent)
 IsWholeEnd limit n m GivenUp spent t run = Unit {0}

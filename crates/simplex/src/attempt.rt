@@ -3,7 +3,7 @@ ghost use Rattle.std.specs.Prelude.{◌≡◌, ◌+◌, ◌-◌, ◌<◌, ◌≤
 ghost use Rattle.table_run.specs.Run.{run as run_of};
 ghost use Rattle.compact_table.specs.Tables.{program_in as program_in_table, room_of, IsGiven, SameRoom, SameShape};
 ghost use Rattle.compact_table.specs.SparseRows.{program_in};
-ghost use Rattle.simplex.specs.Spaces.{IsBeingGiven};
+ghost use Rattle.table_run.specs.Optimum.{IsProgram};
 ghost use Rattle.simplex.specs.Attempts.{IsEndOf, IsTried};
 
 use crate::budget::Budget;
@@ -24,7 +24,7 @@ fn run_whole<N: Exact>(
     budget: &mut Budget,
 ) -> Option<Result<Stage, RunStop>>
     requires { length line.old ≡ length program.now.costs.items + 1 }
-    ensures tried { (t : _) → IsBeingGiven (unsigned_abs N.LIMIT) (program_in N.fraction program.now)
+    ensures tried { (t : _) → IsProgram (program_in N.fraction program.now)
         → IsTried N.fraction (unsigned_abs N.LIMIT) (program_in N.fraction program.now)
         (run_of (unsigned_abs N.LIMIT) (program_in N.fraction program.now)
         (budget.old.limit - budget.old.spent) budget.old.spent)
@@ -75,8 +75,7 @@ fn give<N: Exact>(program: &SparseProgram<N>, line: &mut [N], table: &mut Table<
 /// The run over fractions, of the program that was given to the table.
 fn run_fractions<N: Exact>(table: &mut Table<N>, budget: &mut Budget) -> Result<Stage, RunStop>
     requires { IsGiven N.fraction table.old }
-    ensures ended { (w : _) → IsBeingGiven (unsigned_abs N.LIMIT)
-        (program_in_table N.fraction table.old)
+    ensures ended { (w : _) → IsProgram (program_in_table N.fraction table.old)
         → IsEndOf N.fraction (unsigned_abs N.LIMIT) (program_in_table N.fraction table.old)
         (run_of (unsigned_abs N.LIMIT) (program_in_table N.fraction table.old)
         (budget.old.limit - budget.old.spent) budget.old.spent)
@@ -87,7 +86,7 @@ fn run_fractions<N: Exact>(table: &mut Table<N>, budget: &mut Budget) -> Result<
     table.first();
     match run(table, budget) {
         Ok(End::Optimal) => Ok(Stage::Optimal),
-        Ok(End::Unbounded { place }) => Ok(Stage::Unbounded { place }),
+        Ok(End::Unbounded { column }) => Ok(Stage::Unbounded { column }),
         Err(stop) => Err(stop),
     }
 }
@@ -100,7 +99,7 @@ pub fn run_given<N: Exact>(
     whole: &mut WholeTable,
     budget: &mut Budget,
 ) -> Result<Stage, RunStop>
-    requires given { IsBeingGiven (unsigned_abs N.LIMIT) (program_in N.fraction program.now) }
+    requires given { IsProgram (program_in N.fraction program.now) }
     requires line { length program.now.costs.items < length line.old }
     requires costs { length program.now.costs.items < table.old.rows.width }
     requires rows { length program.now.ends.items ≤ room_of table.old }

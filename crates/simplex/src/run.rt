@@ -1,12 +1,12 @@
 //! The run over a table.
 ghost use Rattle.std.specs.Prelude.{◌≡◌, ◌-◌, ◌<◌, Ok, Err, ℕ, length, unsigned_abs};
-ghost use Rattle.equal_runs.specs.CompactRunning.{compact_run_from};
-ghost use Rattle.compact_table.specs.Tables.{as_compact, SameShape};
+ghost use Rattle.table_run.specs.Run.{run_from};
+ghost use Rattle.compact_table.specs.Tables.{as_table, SameShape};
 ghost use Rattle.simplex.specs.Ends.{ending_of};
 
 use crate::budget::Budget;
 use crate::stop::RunStop;
-use compact_table::Table;
+use compact_table::{Entering, Table};
 use exact_num::Exact;
 
 /// How a run that did not stop ends.
@@ -14,29 +14,30 @@ use exact_num::Exact;
 pub enum End {
     /// No column enters.
     Optimal,
-    /// Nothing limits the column that enters, which is at this place.
-    Unbounded { place: usize },
+    /// Nothing limits this column, which enters.
+    Unbounded { column: Entering },
 }
 
 /// Turns until no column enters, nothing limits the column, a step does not fit or no unit is left.
 pub fn run<N: Exact>(table: &mut Table<N>, budget: &mut Budget) -> Result<End, RunStop>
     ensures run { (n m : ℕ)
-        → ending_of n m result budget.new.spent (as_compact N.fraction table.new)
-        ≡ compact_run_from (unsigned_abs N.LIMIT) n m
-        (budget.old.limit - budget.old.spent) budget.old.spent (as_compact N.fraction table.old) }
+        → ending_of n m result budget.new.spent (as_table N.fraction table.new)
+        ≡ run_from (unsigned_abs N.LIMIT) n m
+        (budget.old.limit - budget.old.spent) budget.old.spent (as_table N.fraction table.old) }
     ensures unit { (unit : _) (wide : _) → result ≡ Err (RunStop.Wide unit wide)
         → budget.new.spent ≡ unit }
-    ensures place { (h : _) → result ≡ Ok (End.Unbounded h) → h < length table.new.kept.items }
+    ensures place { (c : _) → result ≡ Ok (End.Unbounded c)
+        → c.place < length table.new.labels.items }
     ensures shape { SameShape table.old table.new }
     ensures limit { budget.new.limit ≡ budget.old.limit }
 {
-    while let Some(h) = table.entering() {
+    while let Some(column) = table.entering() {
         if !budget.spend() {
             return Err(RunStop::Budget);
         }
-        match table.turn(h) {
+        match table.turn(column.place) {
             Ok(true) => {}
-            Ok(false) => return Ok(End::Unbounded { place: h }),
+            Ok(false) => return Ok(End::Unbounded { column }),
             Err(wide) => {
                 return Err(RunStop::Wide {
                     unit: budget.spent,

@@ -248,7 +248,7 @@ impl<N: Exact> Space<N> {
         ensures { N.fraction result ≡ at (direction_of self.now.contents) j }
     {
         match self.stage {
-            Stage::Unbounded { place } => self.table.direction_at(place, j),
+            Stage::Unbounded { column } => self.table.direction_at(column, j),
             Stage::WholeUnbounded { column } => self.whole.direction_at(column, j),
             _ => N::zero(),
         }

@@ -1,7 +1,7 @@
 //! What stands in a space.
 ghost use Rattle.std.specs.Prelude.{◌≡◌};
 
-use whole_solver::Entering;
+use compact_table::Entering;
 
 /// What stands in a space.
 #[derive(Clone, Copy)]
@@ -12,8 +12,8 @@ pub enum Stage {
     Given,
     /// The optimum of a run over fractions.
     Optimal,
-    /// The end of a run over fractions where nothing limits the column at this place.
-    Unbounded { place: usize },
+    /// The end of a run over fractions where nothing limits this column.
+    Unbounded { column: Entering },
     /// The optimum of a run over rows of whole numbers.
     WholeOptimal,
     /// The end of a run over rows of whole numbers where nothing limits this column.

@@ -1,12 +1,13 @@
 //! The run over rows of whole numbers.
 ghost use Rattle.std.specs.Prelude.{◌≡◌, ◌-◌, ◌^◌, ◌≤◌, ℕ};
-ghost use Rattle.equal_runs.specs.Labelled.{labelled_run_from};
+ghost use Rattle.equal_runs.specs.WholeRunning.{whole_run_from};
 ghost use Rattle.whole_solver.specs.Tables.{as_whole, IsWithin, SameShape};
 ghost use Rattle.equal_runs.specs.Lines.{widest};
 ghost use Rattle.simplex.specs.WholeEnds.{IsWholeEnd};
 
 use crate::budget::Budget;
-use whole_solver::{Entering, Turn, WholeTable};
+use compact_table::Entering;
+use whole_solver::{Turn, WholeTable};
 
 /// How a run over rows of whole numbers ends.
 #[derive(Clone, Copy)]
@@ -31,7 +32,7 @@ pub fn whole_run(table: &mut WholeTable, limit: u128, budget: &mut Budget) -> Wh
     requires limit { (widest ≤ limit) × (limit ≤ 2 ^ 127 - 1) }
     requires within { IsWithin limit table.old }
     ensures run { (n m : ℕ) → IsWholeEnd limit n m result budget.new.spent table.new
-        (labelled_run_from limit n m (budget.old.limit - budget.old.spent) budget.old.spent
+        (whole_run_from limit n m (budget.old.limit - budget.old.spent) budget.old.spent
         (as_whole table.old)) }
     ensures shape { SameShape table.old table.new }
     ensures limit { budget.new.limit ≡ budget.old.limit }

@@ -7,7 +7,7 @@ use Rattle.simplex.specs.declared.budget.Budget.{Budget}
 use Rattle.simplex.specs.declared.stage.Stage.{Stage}
 use Rattle.simplex.specs.declared.stop.RunStop.{RunStop}
 use Rattle.simplex.specs.Attempts.{IsTried, IsEndOf}
-use Rattle.simplex.specs.Spaces.{IsBeingGiven}
+use Rattle.table_run.specs.Optimum.{IsProgram}
 use Rattle.simplex.proofs.attempt.run_given.Goals as goal
 
 pub returns-in-Some-clause-run : goal.returns-in-Some-clause-run
@@ -27,5 +27,5 @@ returns-in-None-clause-run g c =
     let w = c.run_whole.new.whole in
     let same = c.give.ensures.program in
     let ends = λ (q : LinearProgram) (b : Budget). IsEndOf value L q (run L q (b.limit - b.spent) b.spent) c.run_fractions.result c.run_fractions.new.budget.spent c.run_fractions.new.table w in
-    let given = subst (IsBeingGiven L) (sym same) c.requires.given in
+    let given = subst IsProgram (sym same) c.requires.given in
     subst (ends p) (c.run_whole.ensures.given_up c.in-None.is) (subst (λ (q : LinearProgram). ends q c.run_whole.new.budget) same (c.run_fractions.ensures.ended w given))

@@ -2,10 +2,11 @@ use Rattle.std.proofs.Common.{◌≡◌, ◌+◌, ◌-◌, ◌<◌, ℕ, ◌∙�
 use Rattle.std.specs.Prelude.{Option, Some}
 use Rattle.std.specs.Option.{option_map}
 use Rattle.table_run.specs.Ending.{no_unit_left, unbounded}
-use Rattle.equal_runs.specs.Labelled.{LabelledTable, labelled_direction, labelled_run_from}
+use Rattle.equal_runs.specs.Lines.{LineTable}
+use Rattle.equal_runs.specs.WholeRunning.{whole_direction, whole_run_from}
 use Rattle.whole_solver.specs.declared.turn.Turn.{Turn}
-use Rattle.whole_solver.specs.declared.columns.Entering.{Entering}
-use Rattle.whole_solver.specs.Choices.{as_column}
+use Rattle.compact_table.specs.declared.columns.Entering.{Entering}
+use Rattle.compact_table.specs.Labels.{as_column}
 use Rattle.whole_solver.specs.Stored.{rows_in}
 use Rattle.whole_solver.specs.Tables.{as_whole, IsTurn}
 use Rattle.whole_solver.proofs.Pivoting.{rows_fit_in}
@@ -30,12 +31,12 @@ returns-in-Unlimited-clause-run c n m =
     let enters = sym c.entering.ensures.column ∙ ap (λ (e : Option Entering). option_map as_column e) c.in-Some.is in
     let column = c.in-Some.column in
     let told = subst (λ (r : Turn). IsTurn c.args.limit column.place r c.loop-column.table c.turn.new.self) c.in-Unlimited.is c.turn.ensures.turn in
-    let run0 = labelled_run_from c.args.limit n m (c.args.budget.now.limit - c.args.budget.now.spent) c.args.budget.now.spent (as_whole c.args.table.now) in
+    let run0 = whole_run_from c.args.limit n m (c.args.budget.now.limit - c.args.budget.now.spent) c.args.budget.now.spent (as_whole c.args.table.now) in
     let ends = sym (c.loop-column.invariant.rest n m)
     ∙ whole_unlimited c.args.limit n m (c.loop-column.budget.limit - c.loop-column.budget.spent) _ _ _ enters told.0 (omega (arith, s.0))
-    ∙ ap (λ (k : ℕ). Some (unbounded (labelled_direction n (as_column column) (as_whole c.loop-column.table)) k)) (sym s.1) in
-    let inside : column.place < length c.loop-column.table.names.items = search rules in (
-      subst (λ (t : LabelledTable). run0 ≡ Some (unbounded (labelled_direction n (as_column column) t) c.spend.new.self.spent)) (sym told.1) ends,
+    ∙ ap (λ (k : ℕ). Some (unbounded (whole_direction n (as_column column) (as_whole c.loop-column.table)) k)) (sym s.1) in
+    let inside : column.place < length c.loop-column.table.labels.items = search rules in (
+      subst (λ (t : LineTable). run0 ≡ Some (unbounded (whole_direction n (as_column column) t) c.spend.new.self.spent)) (sym told.1) ends,
       told.2,
       omega (arith, inside, c.turn.ensures.shape.columns),
     )
@@ -46,7 +47,7 @@ loop-column-preserved c =
     let enters = sym c.entering.ensures.column ∙ ap (λ (e : Option Entering). option_map as_column e) c.in-Some.is in
     let told = subst (λ (r : Turn). IsTurn c.args.limit c.in-Some.column.place r c.loop-column.table c.turn.new.self) c.in-Moved.is c.turn.ensures.turn in
     let next = c.turn.new.self in
-    let fits = rows_fit_in c.args.limit (length next.names.items + 1) next.basics.items (rows_in next.rows) told.2.rows.lines in
+    let fits = rows_fit_in c.args.limit (length next.labels.items + 1) next.basics.items (rows_in next.rows) told.2.rows.lines in
     let left : c.spend.new.self.limit - c.spend.new.self.spent ≡ c.loop-column.budget.limit - c.loop-column.budget.spent - 1 = omega (arith, s.1, c.spend.ensures.limit) in
     let turned = c.turn.ensures.shape in
     let before = c.loop-column.invariant.shape in
@@ -59,8 +60,8 @@ loop-column-preserved c =
       };
       within = told.2;
       rest = λ n m.
-          ap (λ (k : ℕ). labelled_run_from c.args.limit n m k c.spend.new.self.spent (as_whole next)) left
-          ∙ ap (λ (k : ℕ). labelled_run_from c.args.limit n m (c.loop-column.budget.limit - c.loop-column.budget.spent - 1) k (as_whole next)) s.1
+          ap (λ (k : ℕ). whole_run_from c.args.limit n m k c.spend.new.self.spent (as_whole next)) left
+          ∙ ap (λ (k : ℕ). whole_run_from c.args.limit n m (c.loop-column.budget.limit - c.loop-column.budget.spent - 1) k (as_whole next)) s.1
           ∙ sym (whole_moves c.args.limit n m (c.loop-column.budget.limit - c.loop-column.budget.spent) _ _ _ _ enters told.0 told.1 fits (omega (arith, s.0)))
           ∙ c.loop-column.invariant.rest n m;
     }

@@ -1,5 +1,5 @@
 use Rattle.std.proofs.Common.{◌≡◌, ◌-◌, ℕ}
-use Rattle.equal_runs.specs.Labelled.{labelled_run_from}
+use Rattle.equal_runs.specs.WholeRunning.{whole_run_from}
 use Rattle.whole_solver.specs.Tables.{as_whole, IsWithin, SameShape}
 use Rattle.simplex.proofs.whole_run.whole_run.Given as goal
 
@@ -10,8 +10,8 @@ invariant-loop-column l = record {
   shape : SameShape l.fn.table l.table;
   within : IsWithin l.limit l.table;
   rest :
-      (n m : ℕ) → labelled_run_from l.limit n m (l.budget.limit - l.budget.spent) l.budget.spent (as_whole l.table)
-      ≡ labelled_run_from l.limit n m (l.fn.budget.limit - l.fn.budget.spent) l.fn.budget.spent (as_whole l.fn.table);
+      (n m : ℕ) → whole_run_from l.limit n m (l.budget.limit - l.budget.spent) l.budget.spent (as_whole l.table)
+      ≡ whole_run_from l.limit n m (l.fn.budget.limit - l.fn.budget.spent) l.fn.budget.spent (as_whole l.fn.table);
 }
 
 abbrev pub decreases-loop-column : goal.decreases-loop-column

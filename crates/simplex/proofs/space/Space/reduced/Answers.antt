@@ -1,12 +1,12 @@
 use Rattle.std.proofs.Common.{◌<◌, ◌∙◌, sym, ap, subst, arith, length, unsigned_abs}
 use Rattle.table_run.specs.Places.{at}
 use Rattle.table_run.proofs.Listed.{listed_count, listed_at}
-use Rattle.compact_table.specs.Tables.{as_compact}
+use Rattle.compact_table.specs.Tables.{as_table}
 use Rattle.whole_solver.specs.Tables.{as_whole}
 use Rattle.compact_table.specs.SparseRows.{program_in}
 use Rattle.simplex.specs.declared.stage.Stage.{Stage}
-use Rattle.equal_runs.specs.CompactRunning.{price_of}
-use Rattle.equal_runs.specs.Labelled.{labelled_price}
+use Rattle.table_run.specs.Run.{price_of}
+use Rattle.equal_runs.specs.WholeRunning.{whole_price}
 use Rattle.simplex.specs.Spaces.{Workspace, Contents, reduced_of, IsAt}
 use Rattle.simplex.proofs.SpaceSteps.{optimum_is_there, whole_is_there}
 use Rattle.simplex.proofs.space.Space.reduced.Goals as goal
@@ -17,30 +17,39 @@ price_at-requires g c =
     let r = subst (λ (st : Stage). IsAt (unsigned_abs g.N.Exact.LIMIT) st (program_in g.N.Exact.fraction s.program) s.table s.whole) c.in-WholeOptimal.is c.self.invariant.stage in
     let t = s.whole in
     let there = whole_is_there g.N.Exact.fraction s.stage (program_in g.N.Exact.fraction s.program) s.table t c.args.self.now.contents (ap (λ (w : Workspace). w.contents) c.self.view_is) c.in-WholeOptimal.is in
-    let f = labelled_price (as_whole t) in
+    let f = whole_price (as_whole t) in
     let low = subst (λ (d : Contents). c.args.j < length (reduced_of d)) there c.requires.place in
-    record { within = r; variable = omega (arith, low, listed_count f 0 (length t.names.items)) }
+    record { within = r; variable = omega (arith, low, listed_count f 0 (length t.labels.items)) }
 
 pub returns-in-WholeOptimal : goal.returns-in-WholeOptimal
 returns-in-WholeOptimal g c =
     let value = g.N.Exact.fraction in
     let s = c.self.inside in
     let t = s.whole in
-    let n = length t.names.items in
+    let n = length t.labels.items in
     let j = c.args.j in
     let there = whole_is_there value s.stage (program_in value s.program) s.table t c.args.self.now.contents (ap (λ (w : Workspace). w.contents) c.self.view_is) c.in-WholeOptimal.is in
-    let f = labelled_price (as_whole t) in
+    let f = whole_price (as_whole t) in
     let low = subst (λ (d : Contents). j < length (reduced_of d)) there c.requires.place in
     c.price_at.ensures ∙ sym (ap (λ (d : Contents). at (reduced_of d) j) there ∙ listed_at f n j (omega (arith, low, listed_count f 0 n)))
+
+pub price_at-in_default-requires : goal.price_at-in_default-requires
+price_at-in_default-requires g c =
+    let value = g.N.Exact.fraction in
+    let s = c.self.inside in
+    let t = s.table in
+    let there = optimum_is_there value s.stage (program_in value s.program) t s.whole c.args.self.now.contents (ap (λ (w : Workspace). w.contents) c.self.view_is) c.requires.found c.in_default.not-WholeOptimal in
+    let low = subst (λ (d : Contents). c.args.j < length (reduced_of d)) there c.requires.place in
+    omega (arith, low, listed_count (price_of (as_table value t)) 0 (length t.labels.items))
 
 pub returns-in_default : goal.returns-in_default
 returns-in_default g c =
     let value = g.N.Exact.fraction in
     let s = c.self.inside in
     let t = s.table in
-    let n = length t.kept.items in
+    let n = length t.labels.items in
     let j = c.args.j in
     let there = optimum_is_there value s.stage (program_in value s.program) t s.whole c.args.self.now.contents (ap (λ (w : Workspace). w.contents) c.self.view_is) c.requires.found c.in_default.not-WholeOptimal in
-    let f = price_of (as_compact value t) in
+    let f = price_of (as_table value t) in
     let low = subst (λ (d : Contents). j < length (reduced_of d)) there c.requires.place in
     c.price_at-in_default.ensures ∙ sym (ap (λ (d : Contents). at (reduced_of d) j) there ∙ listed_at f n j (omega (arith, low, listed_count f 0 n)))

@@ -1,13 +1,11 @@
 use Rattle.std.proofs.Common.{◌≡◌, ◌<◌, ◌∙◌, sym, ap, subst, arith, length, map, unsigned_abs, vec_len}
-use Rattle.exact_num.proofs.Units.{limit_at_least_one}
 use Rattle.table_run.specs.Program.{LinearProgram}
 use Rattle.table_run.specs.Optimum.{IsProgram}
-use Rattle.equal_runs.specs.CompactLaws.{IsProgramWithin}
 use Rattle.compact_table.specs.Programs.{with_row}
 use Rattle.compact_table.specs.SparseRows.{program_in}
-use Rattle.simplex.specs.Spaces.{Workspace, workspace, given, contents_of, IsAt, IsBeingGiven}
+use Rattle.simplex.specs.Spaces.{Workspace, workspace, given, contents_of, IsAt}
 use Rattle.simplex.specs.declared.stage.Stage.{Stage}
-use Rattle.simplex.proofs.SpaceSteps.{program_is_given, row_is_program, row_is_within, room_kept, room_for_row, rows_listed}
+use Rattle.simplex.proofs.SpaceSteps.{program_is_given, row_is_program, room_kept, room_for_row, rows_listed}
 use Rattle.simplex.proofs.space.Space.row.Goals as goal
 
 pub row-requires : goal.row-requires
@@ -36,19 +34,14 @@ invariant_of-self g c =
     let p = s.program in
     let inv = c.self.invariant in
     let there = program_is_given value L s.stage (program_in value p) s.table s.whole c.args.self.now.contents (ap (λ (w : Workspace). w.contents) c.self.view_is) c.requires.given inv.stage in
-    let one = limit_at_least_one g.N.Exact.LIMIT laws.limit_positive in
     let few = inv.costs there.0 in
     let program = c.row.ensures.program in
     let width : length c.args.a.now ≡ length p.costs.items = c.requires.width ∙ ap (λ (p : LinearProgram). p.variables) there.1 in
     let given_rows = ap (λ (p : LinearProgram). p.rows) there.1 in
     let variables = ap (λ (p : LinearProgram). p.variables) program in
     let rows = ap (λ (p : LinearProgram). p.rows) program in
-    let more = row_is_program value (program_in value p) c.args.a.now c.args.b laws.lowest there.2.program width c.requires.right_side in
-    let more_within = row_is_within value L (program_in value p) c.args.a.now c.args.b one (λ a. record { above = laws.numerator_fits a; below = laws.denominator_fits a }) there.2.within in
-    let stage : IsBeingGiven L (program_in value c.row.new.self) = record {
-      program = subst IsProgram (sym program) more;
-      within = subst (λ (p : LinearProgram). IsProgramWithin L p) (sym program) more_within;
-    } in
+    let more = row_is_program value (program_in value p) c.args.a.now c.args.b laws.lowest there.2 width c.requires.right_side in
+    let stage : IsProgram (program_in value c.row.new.self) = subst IsProgram (sym program) more in
     record {
       program = room_kept _ _ _ _ inv.program c.row.ensures.room;
       costs = λ e. omega (arith, variables, few);

@@ -1,11 +1,9 @@
-use Rattle.std.proofs.Common.{sym, ap, subst, arith, unsigned_abs}
+use Rattle.std.proofs.Common.{sym, ap, subst, arith}
 use Rattle.std.proofs.lemmas.List.{length-map}
-use Rattle.exact_num.proofs.Units.{limit_at_least_one}
 use Rattle.table_run.specs.Program.{LinearProgram}
 use Rattle.table_run.specs.Optimum.{IsProgram}
-use Rattle.equal_runs.specs.CompactLaws.{IsProgramWithin}
 use Rattle.simplex.specs.Spaces.{Workspace, workspace, given}
-use Rattle.simplex.proofs.SpaceSteps.{empty_is_program, empty_is_within, room_kept, rows_listed}
+use Rattle.simplex.proofs.SpaceSteps.{empty_is_program, room_kept, rows_listed}
 use Rattle.simplex.proofs.space.Space.start.Goals as goal
 
 pub begin-requires : goal.begin-requires
@@ -15,9 +13,7 @@ pub invariant_of-self : goal.invariant_of-self
 invariant_of-self g c =
     let laws = g.met.N.Exact in
     let value = g.N.Exact.fraction in
-    let L = unsigned_abs g.N.Exact.LIMIT in
     let costs = c.args.costs.now in
-    let one = limit_at_least_one g.N.Exact.LIMIT laws.limit_positive in
     let program = c.begin.ensures.program in
     let inv = c.self.invariant in
     let variables = ap (λ (p : LinearProgram). p.variables) program in
@@ -29,10 +25,7 @@ invariant_of-self g c =
       line = inv.line;
       width = inv.width;
       room = inv.room;
-      stage = record {
-        program = subst IsProgram (sym program) (empty_is_program value costs laws.lowest);
-        within = subst (λ (p : LinearProgram). IsProgramWithin L p) (sym program) (empty_is_within value L costs one (λ a. record { above = laws.numerator_fits a; below = laws.denominator_fits a }));
-      };
+      stage = subst IsProgram (sym program) (empty_is_program value costs laws.lowest);
     }
 
 pub returns : goal.returns

@@ -1,7 +1,7 @@
 use Rattle.std.proofs.Common.{◌<◌, ◌∙◌, sym, ap, subst, arith, length, unsigned_abs, ℕ}
 use Rattle.table_run.specs.Places.{at}
 use Rattle.table_run.proofs.Listed.{listed_count, listed_at}
-use Rattle.compact_table.specs.Tables.{as_compact}
+use Rattle.compact_table.specs.Tables.{as_table}
 use Rattle.whole_solver.specs.Tables.{as_whole}
 use Rattle.compact_table.specs.SparseRows.{program_in}
 use Rattle.simplex.specs.declared.stage.Stage.{Stage}
@@ -23,7 +23,7 @@ returns-in-WholeOptimal g c =
     let value = g.N.Exact.fraction in
     let s = c.self.inside in
     let t = s.whole in
-    let n = length t.names.items in
+    let n = length t.labels.items in
     let j = c.args.j in
     let there = whole_is_there value s.stage (program_in value s.program) s.table t c.args.self.now.contents (ap (λ (w : Workspace). w.contents) c.self.view_is) c.in-WholeOptimal.is in
     let f = λ (k : ℕ). whole_where_basic (λ row. entry_of row.line n) k (as_whole t).rows in
@@ -35,9 +35,9 @@ returns-in_default g c =
     let value = g.N.Exact.fraction in
     let s = c.self.inside in
     let t = s.table in
-    let n = length t.kept.items in
+    let n = length t.labels.items in
     let j = c.args.j in
     let there = optimum_is_there value s.stage (program_in value s.program) t s.whole c.args.self.now.contents (ap (λ (w : Workspace). w.contents) c.self.view_is) c.requires.found c.in_default.not-WholeOptimal in
-    let f = λ (k : ℕ). where_basic (λ row. right_side n row.entries) k (as_compact value t).rows in
+    let f = λ (k : ℕ). where_basic (λ row. right_side n row.entries) k (as_table value t).rows in
     let low = subst (λ (d : Contents). j < length (x_of d)) there c.requires.place in
     c.value_at-in_default.ensures ∙ sym (ap (λ (d : Contents). at (x_of d) j) there ∙ listed_at f n j (omega (arith, low, listed_count f 0 n)))

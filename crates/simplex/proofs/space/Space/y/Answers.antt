@@ -1,12 +1,12 @@
 use Rattle.std.proofs.Common.{◌<◌, ◌+◌, ◌∙◌, sym, ap, subst, arith, length, unsigned_abs, ℕ}
 use Rattle.table_run.specs.Places.{at}
 use Rattle.table_run.proofs.Listed.{listed_count, listed_from}
-use Rattle.compact_table.specs.Tables.{as_compact}
+use Rattle.compact_table.specs.Tables.{as_table}
 use Rattle.whole_solver.specs.Tables.{as_whole}
 use Rattle.compact_table.specs.SparseRows.{program_in}
 use Rattle.simplex.specs.declared.stage.Stage.{Stage}
-use Rattle.equal_runs.specs.CompactRunning.{price_of}
-use Rattle.equal_runs.specs.Labelled.{labelled_price}
+use Rattle.table_run.specs.Run.{price_of}
+use Rattle.equal_runs.specs.WholeRunning.{whole_price}
 use Rattle.simplex.specs.Spaces.{Workspace, Contents, y_of, IsAt}
 use Rattle.simplex.proofs.SpaceSteps.{optimum_is_there, whole_is_there}
 use Rattle.simplex.proofs.space.Space.y.Goals as goal
@@ -16,11 +16,11 @@ price_at-requires g c =
     let s = c.self.inside in
     let r = subst (λ (st : Stage). IsAt (unsigned_abs g.N.Exact.LIMIT) st (program_in g.N.Exact.fraction s.program) s.table s.whole) c.in-WholeOptimal.is c.self.invariant.stage in
     let t = s.whole in
-    let n = length t.names.items in
+    let n = length t.labels.items in
     let m = length t.basics.items in
     let i = c.args.i in
     let there = whole_is_there g.N.Exact.fraction s.stage (program_in g.N.Exact.fraction s.program) s.table t c.args.self.now.contents (ap (λ (w : Workspace). w.contents) c.self.view_is) c.in-WholeOptimal.is in
-    let f = labelled_price (as_whole t) in
+    let f = whole_price (as_whole t) in
     let low = subst (λ (d : Contents). i < length (y_of d)) there c.requires.place in
     record { within = r; variable = omega (arith, low, listed_count f n m, c.variables.ensures) }
 
@@ -28,37 +28,48 @@ pub overflow_add-variables : goal.overflow_add-variables
 overflow_add-variables g c =
     let s = c.self.inside in
     let t = s.whole in
-    let n = length t.names.items in
+    let n = length t.labels.items in
     let m = length t.basics.items in
     let i = c.args.i in
     let there = whole_is_there g.N.Exact.fraction s.stage (program_in g.N.Exact.fraction s.program) s.table t c.args.self.now.contents (ap (λ (w : Workspace). w.contents) c.self.view_is) c.in-WholeOptimal.is in
-    let f = labelled_price (as_whole t) in
+    let f = whole_price (as_whole t) in
     let low = subst (λ (d : Contents). i < length (y_of d)) there c.requires.place in
-    omega (arith, low, listed_count f n m, c.variables.ensures, t.count, t.basics.ok, t.basics.small, t.names.ok, t.names.small)
+    omega (arith, low, listed_count f n m, c.variables.ensures, t.count, t.basics.ok, t.basics.small, t.labels.ok, t.labels.small)
 
 pub returns-in-WholeOptimal : goal.returns-in-WholeOptimal
 returns-in-WholeOptimal g c =
     let s = c.self.inside in
     let t = s.whole in
-    let n = length t.names.items in
+    let n = length t.labels.items in
     let m = length t.basics.items in
     let i = c.args.i in
     let there = whole_is_there g.N.Exact.fraction s.stage (program_in g.N.Exact.fraction s.program) s.table t c.args.self.now.contents (ap (λ (w : Workspace). w.contents) c.self.view_is) c.in-WholeOptimal.is in
-    let f = labelled_price (as_whole t) in
+    let f = whole_price (as_whole t) in
     let low = subst (λ (d : Contents). i < length (y_of d)) there c.requires.place in
     c.price_at.ensures ∙ ap (λ (k : ℕ). f (k + i)) c.variables.ensures
     ∙ sym (ap (λ (d : Contents). at (y_of d) i) there ∙ listed_from f n m i (omega (arith, low, listed_count f n m)))
+
+pub price_at-in_default-requires : goal.price_at-in_default-requires
+price_at-in_default-requires g c =
+    let value = g.N.Exact.fraction in
+    let s = c.self.inside in
+    let t = s.table in
+    let n = length t.labels.items in
+    let m = length t.rows.rows in
+    let there = optimum_is_there value s.stage (program_in value s.program) t s.whole c.args.self.now.contents (ap (λ (w : Workspace). w.contents) c.self.view_is) c.requires.found c.in_default.not-WholeOptimal in
+    let low = subst (λ (d : Contents). c.args.i < length (y_of d)) there c.requires.place in
+    omega (arith, low, listed_count (price_of (as_table value t)) n m, c.variables-in_default.ensures, t.count, t.basics.ok)
 
 pub returns-in_default : goal.returns-in_default
 returns-in_default g c =
     let value = g.N.Exact.fraction in
     let s = c.self.inside in
     let t = s.table in
-    let n = length t.kept.items in
+    let n = length t.labels.items in
     let m = length t.rows.rows in
     let i = c.args.i in
     let there = optimum_is_there value s.stage (program_in value s.program) t s.whole c.args.self.now.contents (ap (λ (w : Workspace). w.contents) c.self.view_is) c.requires.found c.in_default.not-WholeOptimal in
-    let f = price_of (as_compact value t) in
+    let f = price_of (as_table value t) in
     let low = subst (λ (d : Contents). i < length (y_of d)) there c.requires.place in
     c.price_at-in_default.ensures ∙ ap (λ (k : ℕ). f (k + i)) c.variables-in_default.ensures
     ∙ sym (ap (λ (d : Contents). at (y_of d) i) there ∙ listed_from f n m i (omega (arith, low, listed_count f n m)))
@@ -68,9 +79,9 @@ overflow_add-variables-in_default g c =
     let value = g.N.Exact.fraction in
     let s = c.self.inside in
     let t = s.table in
-    let n = length t.kept.items in
+    let n = length t.labels.items in
     let m = length t.rows.rows in
     let there = optimum_is_there value s.stage (program_in value s.program) t s.whole c.args.self.now.contents (ap (λ (w : Workspace). w.contents) c.self.view_is) c.requires.found c.in_default.not-WholeOptimal in
-    let f = price_of (as_compact value t) in
+    let f = price_of (as_table value t) in
     let low = subst (λ (d : Contents). c.args.i < length (y_of d)) there c.requires.place in
-    omega (arith, low, listed_count f n m, c.variables-in_default.ensures, t.count, t.basics.ok, t.basics.small, t.kept.ok, t.kept.small)
+    omega (arith, low, listed_count f n m, c.variables-in_default.ensures, t.count, t.basics.ok, t.basics.small, t.labels.ok, t.labels.small)
