@@ -8,9 +8,8 @@ use Rattle.arithmetic.proofs.Lists.{item_first}
 use Rattle.exact_num.specs.declared.misfit.Wide.{Wide as Misfit}
 use Rattle.exact_num.specs.Fraction.{Fraction, IsNotBelowZero, whole, negated}
 use Rattle.exact_num.specs.Fits.{after, meaning, whole_of}
-use Rattle.table_run.specs.Places.{fraction_zero}
+use Rattle.table_run.specs.Places.{fraction_zero, unit_row}
 use Rattle.table_run.specs.Program.{LinearProgram}
-use Rattle.table_run.specs.Table.{unit_row}
 use Rattle.compact_table.specs.Programs.{empty_program, with_row}
 use Rattle.form.specs.declared.orders.Order.{Order}
 use Rattle.form.specs.Vector.{scale_of}

@@ -3,9 +3,8 @@ use Rattle.std.proofs.Common.{◌≡◌, ℕ, zero, suc, ◌+◌, ◌<◌, List,
 use Rattle.std.specs.Prelude.{slice_set}
 use Rattle.std.proofs.lemmas.List.{length-map, map-set}
 use Rattle.exact_num.specs.Fraction.{Fraction, whole}
-use Rattle.table_run.specs.Places.{fraction_zero}
-use Rattle.table_run.specs.Table.{unit_row}
-use Rattle.table_run.proofs.FirstTable.{length-unit}
+use Rattle.table_run.specs.Places.{fraction_zero, unit_row}
+use Rattle.table_run.proofs.UnitRows.{length-unit}
 
 one_on : (n i : ℕ) → suc i < n → slice_set (slice_set (unit_row n i) i fraction_zero) (suc i) (whole (pos 1)) ≡ unit_row n (suc i)
 unfolding unit_row

@@ -7,7 +7,7 @@ ghost use Rattle.frac.specs.Range.{limit};
 ghost use Rattle.form.specs.Payoff.{IsOnCount, option_of};
 ghost use Rattle.form.specs.States.{vector_of};
 ghost use Rattle.form.specs.Vector.{scale_of};
-ghost use Rattle.table_run.specs.Table.{unit_row};
+ghost use Rattle.table_run.specs.Places.{unit_row};
 ghost use Rattle.master_program.specs.Master.{map_steps, cost_steps, entry_steps, order_payoff, payoff_at_zero, quantity_steps, row_steps, signed_for, strike_payoff};
 ghost use Rattle.pricing_oracle.specs.Filled.{HasFilled, HasMade};
 ghost use Rattle.rounds.specs.Entry.{entry_over, put_aside, whole_less};

@@ -1,23 +1,24 @@
 -- The numbers of a run of the simplex method, and the step at which it stops.
-use Rattle.std.proofs.Common.{◌≡◌, ◌≢◌, ℕ, zero, suc, ◌+◌, ◌*◌, ◌<ℤ◌, List, [], ◌∷◌, ◌++◌, map, drop, replicate, ℤ, pos, Bool, true, false, nat_eq, refl, subst, arith}
-use Rattle.std.specs.Prelude.{Option, Some, None, Result, Ok, Err, if◌then◌else◌}
+use Rattle.std.proofs.Common.{◌≡◌, ◌≢◌, ℕ, zero, suc, ◌+◌, ◌*◌, ◌<ℤ◌, List, [], ◌∷◌, ◌++◌, length, map, drop, set, ℤ, pos, Bool, true, false, nat_eq, refl, subst, arith}
+use Rattle.std.specs.Prelude.{Option, Some, None, Result, Ok, Err, if◌then◌else◌, nat_lt}
 use Rattle.std.specs.List.{All}
 use Rattle.std.proofs.lemmas.Int.{ints}
-use Rattle.std.proofs.lemmas.List.Elements.{All-nil, All-cons, All-head, All-tail, All-append, All-drop, All-get_or, All-map, All-replicate, All-take, All-weaker}
+use Rattle.std.proofs.lemmas.List.Elements.{All-nil, All-cons, All-head, All-tail, All-append, All-drop, All-get_or, All-map, All-take, All-weaker}
 use Rattle.arithmetic.proofs.Tests.{int_lt-yes}
 use Rattle.exact_num.specs.declared.misfit.Wide.{Wide}
 use Rattle.exact_num.specs.Fraction.{Fraction, IsLowest, negated, whole}
 use Rattle.exact_num.specs.Fits.{after, div_of, mul_of, sub_of}
 use Rattle.exact_num.specs.Tests.{is_above_zero}
 use Rattle.frac.specs.Range.{limit as largest}
-use Rattle.table_run.specs.Choice.{Ratio, entering, least, ratio_in, ratios}
+use Rattle.table_run.specs.Choice.{Ratio, Column, entering, least, ratio_in, ratios}
 use Rattle.table_run.specs.Ending.{unbounded, wide_at, no_unit_left}
-use Rattle.table_run.specs.Pivot.{less_pivot_row, over_pivot, each, each_pair, less_product, after_pivot, row_after, rows_after}
+use Rattle.table_run.specs.Pivot.{Stop, stop_of, beside, steps_of, told, divided, cleared, less_product, after_pivot, row_after, rows_after}
 use Rattle.table_run.specs.Places.{at, fraction_zero}
 use Rattle.table_run.specs.Program.{LinearProgram, row}
-use Rattle.table_run.specs.Run.{Optimum, optimum, Turn, moved, unlimited, stopped, direction, leave, moved_or_stopped, on_entering, on_ratios, on_turn, read_off, run, run_from, turn}
-use Rattle.table_run.specs.Table.{Row, Table, entries_at, first_row, first_table, right_side, row_of, unit_row, where_basic}
+use Rattle.table_run.specs.Run.{Optimum, optimum, Turn, moved, unlimited, stopped, direction, leave, moved_or_stopped, on_entering, on_ratios, on_turn, price_of, read_off, run, run_from, turn}
+use Rattle.table_run.specs.Table.{Row, Table, label_at, with_right, entries_at, basic_at, no_entry, first_row, first_table, right_side, row_of, where_basic}
 use Rattle.table_run.proofs.Choices.{least_limits}
+use Rattle.table_run.proofs.Entries.{entry_has}
 use Rattle.table_run.proofs.Ends.{holds_at}
 use Rattle.table_run.proofs.Listed.{listed_all}
 use Rattle.run_values.specs.Values.{AreOperands, AreValues, Ends, IsValue}
@@ -28,32 +29,53 @@ use Rattle.run_values.proofs.Numbers.{Has, Nothing, after_has, div_has, mul_has,
 pub at_value : (xs : List Fraction) (i : ℕ) → AreValues xs → IsValue (at xs i)
 at_value xs i are = holds_at IsValue xs zero_value (λ j inside. All-get_or IsValue xs j fraction_zero inside are) i
 
-each_has : (f : Fraction → Result Fraction Wide) → ((x : Fraction) → IsValue x → Has IsValue (f x)) → (xs : List Fraction) → AreValues xs → Has AreValues (each f xs)
-unfolding each
-each_has f h [] are = All-nil IsValue
-each_has f h (x ∷ xs) are =
-    after_has IsValue AreValues (f x) _ (h x (All-head IsValue x xs are))
-    (λ y v. after_has AreValues AreValues (each f xs) _ (each_has f h xs (All-tail IsValue x xs are)) (λ ys vs. All-cons IsValue y ys v vs))
+-- with one of them set
+set_value : (xs : List Fraction) (c : ℕ) (x : Fraction) → IsValue x → AreValues xs → (k : ℕ) → IsValue (at (set xs c x) k)
+set_value [] c x v are k = zero_value
+set_value (y ∷ xs) zero x v are zero = v
+set_value (y ∷ xs) zero x v are (suc k) = at_value xs k (All-tail IsValue y xs are)
+set_value (y ∷ xs) (suc c) x v are zero = All-head IsValue y xs are
+set_value (y ∷ xs) (suc c) x v are (suc k) = set_value xs c x v (All-tail IsValue y xs are) k
 
-pair_has : (f : Fraction → Fraction → Result Fraction Wide) → ((x p : Fraction) → IsValue x → IsValue p → Has IsValue (f x p)) → (xs ps : List Fraction) → AreValues xs → AreValues ps
-    → Has AreValues (each_pair f xs ps)
-unfolding each_pair
-pair_has f h [] ps are also = All-nil IsValue
-pair_has f h (x ∷ xs) [] are also = All-nil IsValue
-pair_has f h (x ∷ xs) (p ∷ ps) are also =
-    after_has IsValue AreValues (f x p) _ (h x p (All-head IsValue x xs are) (All-head IsValue p ps also))
-    (λ y v. after_has AreValues AreValues (each_pair f xs ps) _ (pair_has f h xs ps (All-tail IsValue x xs are) (All-tail IsValue p ps also)) (λ ys vs. All-cons IsValue y ys v vs))
+-- the steps of a row
+abbrev Stops : Result (List Fraction) Stop → Type 0
+Stops (Ok xs) = AreValues xs
+Stops (Err s) = AreOperands s.wide
 
-divided_has : (e : ℕ) (xs : List Fraction) → AreValues xs → (at xs e).numerator ≢ pos 0 → Has AreValues (over_pivot largest e xs)
-unfolding over_pivot
-divided_has e xs are some = each_has (λ x. div_of largest x (at xs e)) (λ x v. div_has x (at xs e) v (at_value xs e are) some) xs are
+steps_has : (f : ℕ → Result Fraction Wide) → ((k : ℕ) → Has IsValue (f k)) → (k : ℕ) (vs : List ℕ) → Stops (steps_of f k vs)
+unfolding steps_of
+steps_has f h k [] = All-nil IsValue
+steps_has f h k (v ∷ vs) = by (f k) (steps_of f (k + 1) vs) (h k) (steps_has f h (k + 1) vs)
+  where
+    choose : (w : Wide) (s : Stop) (b : Bool) → AreOperands w → AreOperands s.wide → AreOperands (if b then s else stop_of v w).wide
+    choose w s true x y = y
+    choose w s false x y = x
 
-cleared_has : (e : ℕ) (pivot xs : List Fraction) → AreValues pivot → AreValues xs → Has AreValues (less_pivot_row largest e pivot xs)
-unfolding less_pivot_row
-cleared_has e pivot xs also are =
-    pair_has (less_product largest (at xs e))
-    (λ x p v w. after_has IsValue IsValue (mul_of largest (at xs e) p) (λ product. sub_of largest x product) (mul_has (at xs e) p (at_value xs e are) w) (λ product h. sub_has x product v h))
-    xs pivot are also
+    by : (r : Result Fraction Wide) (rs : Result (List Fraction) Stop) → Has IsValue r → Stops rs → Stops (beside v r rs)
+    by (Ok x) (Ok xs) here later = All-cons IsValue x xs here later
+    by (Ok x) (Err s) here later = later
+    by (Err w) (Ok xs) here later = here
+    by (Err w) (Err s) here later = choose w s (nat_lt s.label v) here later
+
+told_has : (f : ℕ → Result Fraction Wide) → ((k : ℕ) → Has IsValue (f k)) → (vs : List ℕ) → Has AreValues (told (steps_of f 0 vs))
+told_has f h vs = by (steps_of f 0 vs) (steps_has f h 0 vs)
+  where
+    by : (rs : Result (List Fraction) Stop) → Stops rs → Has AreValues (told rs)
+    by (Ok xs) are = are
+    by (Err s) are = are
+
+divided_has : (c : ℕ) (labels : List ℕ) (xs : List Fraction) → AreValues xs → (at xs c).numerator ≢ pos 0 → Has AreValues (divided largest c labels xs)
+unfolding divided
+divided_has c labels xs are some =
+    told_has (λ k. div_of largest (at (set xs c (whole (pos 1))) k) (at xs c))
+    (λ k. div_has (at (set xs c (whole (pos 1))) k) (at xs c) (set_value xs c (whole (pos 1)) (whole_value (pos 1) (omega arith)) are k) (at_value xs c are) some) labels
+
+cleared_has : (c : ℕ) (labels : List ℕ) (pivot xs : List Fraction) → AreValues pivot → AreValues xs → Has AreValues (cleared largest c labels pivot xs)
+unfolding cleared
+cleared_has c labels pivot xs also are =
+    let x : ℕ → Fraction = at (set xs c fraction_zero) in
+    told_has (λ k. less_product largest (at xs c) (x k) (at pivot k))
+    (λ k. after_has IsValue IsValue (mul_of largest (at xs c) (at pivot k)) (λ product. sub_of largest (x k) product) (mul_has (at xs c) (at pivot k) (at_value xs c are) (at_value pivot k also)) (λ product h. sub_has (x k) product (set_value xs c fraction_zero zero_value are k) h)) labels
 
 -- ---- tables
 abbrev IsRowOf : Row → Type 0
@@ -63,19 +85,19 @@ pub record HasEntries (t : Table) : Type 0 where
   pub rows : All IsRowOf t.rows
   pub objective : AreValues t.objective
 
-row_after_has : (e r : ℕ) (pivot : List Fraction) (i : ℕ) (row : Row) → AreValues pivot → IsRowOf row → Has IsRowOf (row_after largest e r pivot i row)
-row_after_has e r pivot i row also are = by (nat_eq i r)
+row_after_has : (c : ℕ) (labels : List ℕ) (e r : ℕ) (pivot : List Fraction) (i : ℕ) (row : Row) → AreValues pivot → IsRowOf row → Has IsRowOf (row_after largest c labels e r pivot i row)
+row_after_has c labels e r pivot i row also are = by (nat_eq i r)
   where
-    by : (b : Bool) → Has IsRowOf (if b then Ok (row_of e pivot) else after (less_pivot_row largest e pivot row.entries) (λ es. Ok (row_of row.basic es)))
+    by : (b : Bool) → Has IsRowOf (if b then Ok (row_of e pivot) else after (cleared largest c labels pivot row.entries) (λ es. Ok (row_of row.basic es)))
     by true = also
-    by false = after_has AreValues IsRowOf (less_pivot_row largest e pivot row.entries) (λ es. Ok (row_of row.basic es)) (cleared_has e pivot row.entries also are) (λ es vs. vs)
+    by false = after_has AreValues IsRowOf (cleared largest c labels pivot row.entries) (λ es. Ok (row_of row.basic es)) (cleared_has c labels pivot row.entries also are) (λ es vs. vs)
 
-rows_after_has : (e r : ℕ) (pivot : List Fraction) (i : ℕ) (rows : List Row) → AreValues pivot → All IsRowOf rows → Has (All IsRowOf) (rows_after largest e r pivot i rows)
+rows_after_has : (c : ℕ) (labels : List ℕ) (e r : ℕ) (pivot : List Fraction) (i : ℕ) (rows : List Row) → AreValues pivot → All IsRowOf rows → Has (All IsRowOf) (rows_after largest c labels e r pivot i rows)
 unfolding rows_after
-rows_after_has e r pivot i [] also are = All-nil IsRowOf
-rows_after_has e r pivot i (row ∷ rows) also are =
-    after_has IsRowOf (All IsRowOf) (row_after largest e r pivot i row) _ (row_after_has e r pivot i row also (All-head IsRowOf row rows are))
-    (λ first f. after_has (All IsRowOf) (All IsRowOf) (rows_after largest e r pivot (i + 1) rows) _ (rows_after_has e r pivot (i + 1) rows also (All-tail IsRowOf row rows are))
+rows_after_has c labels e r pivot i [] also are = All-nil IsRowOf
+rows_after_has c labels e r pivot i (row ∷ rows) also are =
+    after_has IsRowOf (All IsRowOf) (row_after largest c labels e r pivot i row) _ (row_after_has c labels e r pivot i row also (All-head IsRowOf row rows are))
+    (λ first f. after_has (All IsRowOf) (All IsRowOf) (rows_after largest c labels e r pivot (i + 1) rows) _ (rows_after_has c labels e r pivot (i + 1) rows also (All-tail IsRowOf row rows are))
     (λ others os. All-cons IsRowOf first others f os))
 
 entries_are : (rows : List Row) (r : ℕ) → All IsRowOf rows → AreValues (entries_at rows r)
@@ -83,12 +105,14 @@ entries_are [] r are = All-nil IsValue
 entries_are (row ∷ rows) zero are = All-head IsRowOf row rows are
 entries_are (row ∷ rows) (suc r) are = entries_are rows r (All-tail IsRowOf row rows are)
 
-pivoted_has : (e r : ℕ) (t : Table) → HasEntries t → (at (entries_at t.rows r) e).numerator ≢ pos 0 → Has HasEntries (after_pivot largest e r t)
+pivoted_has : (c r : ℕ) (t : Table) → HasEntries t → (at (entries_at t.rows r) c).numerator ≢ pos 0 → Has HasEntries (after_pivot largest c r t)
 unfolding after_pivot
-pivoted_has e r t has some =
-    after_has AreValues HasEntries (over_pivot largest e (entries_at t.rows r)) _ (divided_has e (entries_at t.rows r) (entries_are t.rows r has.rows) some)
-    (λ pivot p. after_has (All IsRowOf) HasEntries (rows_after largest e r pivot 0 t.rows) _ (rows_after_has e r pivot 0 t.rows p has.rows)
-    (λ rows rs. after_has AreValues HasEntries (less_pivot_row largest e pivot t.objective) _ (cleared_has e pivot t.objective p has.objective)
+pivoted_has c r t has some =
+    let labels = with_right t.columns (set t.labels c (basic_at t.rows r)) in
+    let e = label_at t.labels c in
+    after_has AreValues HasEntries (divided largest c labels (entries_at t.rows r)) _ (divided_has c labels (entries_at t.rows r) (entries_are t.rows r has.rows) some)
+    (λ pivot p. after_has (All IsRowOf) HasEntries (rows_after largest c labels e r pivot 0 t.rows) _ (rows_after_has c labels e r pivot 0 t.rows p has.rows)
+    (λ rows rs. after_has AreValues HasEntries (cleared largest c labels pivot t.objective) _ (cleared_has c labels pivot t.objective p has.objective)
     (λ objective o. record { rows = rs; objective = o })))
 
 -- ---- a turn
@@ -120,7 +144,7 @@ Turns (stopped w) = AreOperands w
 
 turn_has : (e : ℕ) (t : Table) → HasEntries t → Turns (turn largest e t)
 unfolding turn
-turn_has e t has = by (ratios largest t.columns e 0 t.rows) refl (ratios_has t.columns e 0 t.rows has.rows)
+turn_has e t has = by (ratios largest (length t.labels) e 0 t.rows) refl (ratios_has (length t.labels) e 0 t.rows has.rows)
   where
     pivots : (r : Result Table Wide) → Has HasEntries r → Turns (moved_or_stopped r)
     pivots (Ok next) h = h
@@ -129,10 +153,10 @@ turn_has e t has = by (ratios largest t.columns e 0 t.rows) refl (ratios_has t.c
     low : (k j : ℕ) → IsLowest (at (entries_at t.rows k) j)
     low k j = (at_value (entries_at t.rows k) j (entries_are t.rows k has.rows)).lowest
 
-    by : (r : Result (List Ratio) Wide) → ratios largest t.columns e 0 t.rows ≡ r → Has Nothing r → Turns (on_ratios r (λ qs. leave largest e t qs))
+    by : (r : Result (List Ratio) Wide) → ratios largest (length t.labels) e 0 t.rows ≡ r → Has Nothing r → Turns (on_ratios r (λ qs. leave largest e t qs))
     by (Ok []) is h = tt
     by (Ok (q ∷ qs)) is h =
-        let limits = least_limits largest t.columns e t.rows q qs low is in
+        let limits = least_limits largest (length t.labels) e t.rows q qs low is in
         pivots (after_pivot largest e (least q qs).place t) (pivoted_has e (least q qs).place t has (above_some _ limits.1))
     by (Err w) is h = h
 
@@ -152,43 +176,38 @@ basic_value f j (row ∷ rows) h are = by (nat_eq row.basic j) (basic_value f j 
 read_has : (n m : ℕ) (t : Table) (spent : ℕ) → HasEntries t → Ends IsOptimumOf (read_off n m t spent)
 unfolding read_off
 read_has n m t spent has =
-    let solved = listed_all IsValue _ (λ j. basic_value (λ row. right_side t.columns row.entries) j t.rows (λ row are. at_value row.entries t.columns are) has.rows) 0 n in
-    (solved, All-take IsValue m (drop n t.objective) (All-drop IsValue n t.objective has.objective), All-take IsValue n t.objective has.objective, at_value t.objective t.columns has.objective)
+    let w = length t.labels in
+    let solved = listed_all IsValue _ (λ j. basic_value (λ row. right_side w row.entries) j t.rows (λ row are. at_value row.entries w are) has.rows) 0 n in
+    let prices = listed_all IsValue (price_of t) (λ j. entry_has IsValue no_entry (with_right t.columns t.labels) t.objective j zero_value (λ k. at_value t.objective k has.objective)) in
+    (solved, prices n m, prices 0 n, at_value t.objective w has.objective)
 
 -- ---- the run
 run_from_has : (n m left spent : ℕ) (t : Table) → HasEntries t → Ends IsOptimumOf (run_from largest n m left spent t)
 unfolding run_from
 run_from_has n m zero spent t has = by (entering t)
   where
-    by : (o : Option ℕ) → Ends IsOptimumOf (on_entering o (read_off n m t spent) (λ e. no_unit_left spent))
+    by : (o : Option Column) → Ends IsOptimumOf (on_entering o (read_off n m t spent) (λ c. no_unit_left spent))
     by None = read_has n m t spent has
-    by (Some e) = tt
+    by (Some c) = tt
 run_from_has n m (suc left) spent t has = by (entering t) (λ u h. run_from_has n m left (spent + 1) u h)
   where
-    act : (e : ℕ) (w : Turn) → Turns w → ((u : Table) → HasEntries u → Ends IsOptimumOf (run_from largest n m left (spent + 1) u))
-        → Ends IsOptimumOf (on_turn w (λ next. run_from largest n m left (spent + 1) next) (unbounded (direction n e t) (spent + 1)) (λ w. wide_at (spent + 1) w))
-    act e (moved u) h later = later u h
-    act e unlimited h later = tt
-    act e (stopped w) h later = h
+    act : (c : Column) (w : Turn) → Turns w → ((u : Table) → HasEntries u → Ends IsOptimumOf (run_from largest n m left (spent + 1) u))
+        → Ends IsOptimumOf (on_turn w (λ next. run_from largest n m left (spent + 1) next) (unbounded (direction n c t) (spent + 1)) (λ w. wide_at (spent + 1) w))
+    act c (moved u) h later = later u h
+    act c unlimited h later = tt
+    act c (stopped w) h later = h
 
-    by : (o : Option ℕ) → ((u : Table) → HasEntries u → Ends IsOptimumOf (run_from largest n m left (spent + 1) u))
-        → Ends IsOptimumOf (on_entering o (read_off n m t spent) (λ e. on_turn (turn largest e t) (λ next. run_from largest n m left (spent + 1) next) (unbounded (direction n e t) (spent + 1)) (λ w. wide_at (spent + 1) w)))
+    by : (o : Option Column) → ((u : Table) → HasEntries u → Ends IsOptimumOf (run_from largest n m left (spent + 1) u))
+        → Ends IsOptimumOf (on_entering o (read_off n m t spent) (λ c. on_turn (turn largest c.place t) (λ next. run_from largest n m left (spent + 1) next) (unbounded (direction n c t) (spent + 1)) (λ w. wide_at (spent + 1) w)))
     by None later = read_has n m t spent has
-    by (Some e) later = act e (turn largest e t) (turn_has e t has) later
+    by (Some c) later = act c (turn largest c.place t) (turn_has c.place t has) later
 
 -- ---- the first table
-unit_values : (n i : ℕ) → AreValues (unit_row n i)
-unfolding unit_row
-unit_values zero i = All-nil IsValue
-unit_values (suc n) zero = All-cons IsValue (whole (pos 1)) (replicate n fraction_zero) (whole_value (pos 1) (omega arith)) (All-replicate IsValue n fraction_zero zero_value)
-unit_values (suc n) (suc i) = All-cons IsValue fraction_zero (unit_row n i) zero_value (unit_values n i)
-
 first_row_of : (p : LinearProgram) (i : ℕ) → HasValues p → IsRowOf (first_row p i)
 first_row_of p i has =
     let own = All-take IsValue p.variables (drop (i * p.variables) p.coefficients) (All-drop IsValue (i * p.variables) p.coefficients has.coefficients) in
     let right = All-cons IsValue (at p.right_sides i) [] (at_value p.right_sides i has.right_sides) (All-nil IsValue) in
-    let front = row p i ++ unit_row p.rows i in
-    All-append IsValue front (at p.right_sides i ∷ []) (All-append IsValue (row p i) (unit_row p.rows i) own (unit_values p.rows i)) right
+    All-append IsValue (row p i) (at p.right_sides i ∷ []) own right
 
 first_has : (p : LinearProgram) → HasValues p → HasEntries (first_table p)
 unfolding first_table
@@ -196,7 +215,7 @@ first_has p has =
     let turned = All-map IsValue negated p.costs (All-weaker IsValue (λ x. IsValue (negated x)) negated_value p.costs has.costs) in
     record {
       rows = listed_all IsRowOf (first_row p) (λ i. first_row_of p i has) 0 p.rows;
-      objective = All-append IsValue (map negated p.costs) (replicate (p.rows + 1) fraction_zero) turned (All-replicate IsValue (p.rows + 1) fraction_zero zero_value);
+      objective = All-append IsValue (map negated p.costs) (fraction_zero ∷ []) turned (All-cons IsValue fraction_zero [] zero_value (All-nil IsValue));
     }
 
 pub run_has : (p : LinearProgram) (left spent : ℕ) → HasValues p → Ends IsOptimumOf (run largest p left spent)

@@ -1,26 +1,28 @@
 -- Each turn makes at most one more slack a variable that is not basic, and only those have a dual
 -- value above 0.
-use Rattle.std.proofs.Common.{◌≡◌, ℕ, zero, suc, ◌+◌, ◌-◌, ◌≤◌, ◌<◌, List, [], ◌∷◌, take, drop, arith, refl, sym, ◌∙◌, ap, subst, pos, Bool, true, false, nat_eq}
+use Rattle.std.proofs.Common.{◌≡◌, ℕ, zero, suc, ◌+◌, ◌-◌, ◌≤◌, ◌<◌, List, [], ◌∷◌, length, take, arith, refl, sym, ◌∙◌, ap, subst, pos, Bool, true, false, nat_eq}
 use Rattle.std.specs.Prelude.{Option, Some, None, if◌then◌else◌}
 use Rattle.std.proofs.lemmas.Bool.Decides.{nat_tests}
-use Rattle.std.proofs.lemmas.List.{get_or-drop}
+use Rattle.std.proofs.lemmas.List.{take_all}
 use Rattle.arithmetic.proofs.Tests.{int_lt-yes}
-use Rattle.exact_num.specs.Fraction.{Fraction, IsLowest, whole}
+use Rattle.exact_num.specs.Fraction.{Fraction, IsLowest}
 use Rattle.exact_num.specs.Rationals.{0Q, value}
 use Rattle.exact_num.specs.Tests.{is_above_zero}
-use Rattle.exact_num.proofs.Rationals.{zero_has, value_of_lowest}
-use Rattle.table_run.specs.Places.{at}
+use Rattle.exact_num.proofs.Rationals.{zero_has, value_of_lowest, value_zero}
+use Rattle.exact_num.proofs.Values.{whole_is_lowest}
+use Rattle.table_run.specs.Places.{at, fraction_zero}
 use Rattle.table_run.specs.Program.{LinearProgram}
-use Rattle.table_run.specs.Table.{Table, basic_at, first_table, right_side}
-use Rattle.table_run.specs.Choice.{entering, least}
+use Rattle.table_run.specs.Table.{Table, with_right, basic_at, no_entry, first_table, right_side}
+use Rattle.table_run.specs.Choice.{Column, entering, least}
 use Rattle.table_run.specs.Ending.{unbounded, wide_at, no_unit_left}
-use Rattle.table_run.specs.Run.{Turn, moved, unlimited, stopped, turn, on_turn, on_entering, dual, direction, read_off, run_from, run}
+use Rattle.table_run.specs.Run.{Turn, moved, unlimited, stopped, turn, on_turn, on_entering, price_of, dual, direction, read_off, run_from, run}
 use Rattle.table_run.specs.Optimum.{IsProgram}
-use Rattle.table_run.specs.Tableau.{tableau_of, IsAfterPivot, IsPivot}
+use Rattle.table_run.specs.Tableau.{tableau_of}
 use Rattle.table_run.proofs.Bland.{IsIn}
-use Rattle.table_run.proofs.Choices.{moved_out, choice_out, value_above}
-use Rattle.table_run.proofs.Entries.{turn_out}
-use Rattle.table_run.proofs.FirstTable.{basic_first, price_other}
+use Rattle.table_run.proofs.Choices.{moved_out, bland_turn}
+use Rattle.table_run.proofs.Entries.{entry_has}
+use Rattle.table_run.proofs.FirstTable.{basic_first, first_value}
+use Rattle.table_run.proofs.Listed.{listed_count, listed_from}
 use Rattle.table_run.proofs.Optima.{Keeps, keeps_first, keeps_turn, above_apart}
 use Rattle.search_laws.specs.Sizes.{one_if, count_above, IsTurned, RunsAreTurned}
 
@@ -79,10 +81,9 @@ record Turned (p : LinearProgram) (start units : ℕ) (t : Table) : Type 0 where
   marks : ℕ → Bool
   few : start + marked p.rows marks ≤ units
   basic : (i : ℕ) → i < p.rows → marks i ≡ false → IsIn p.rows (tableau_of t) (p.variables + i)
-  risen : is_above_zero (right_side t.columns t.objective) ≡ true → start < units
+  risen : is_above_zero (right_side (length t.labels) t.objective) ≡ true → start < units
 
 first_turned : (p : LinearProgram) (start : ℕ) → IsProgram p → Turned p start start (first_table p)
-unfolding first_table
 first_turned p start g =
     let k = keeps_first p g in
     record {
@@ -90,7 +91,7 @@ first_turned p start g =
       marks = λ i. false;
       few = omega (arith, marked_none p.rows);
       basic = λ i lt none. (i, lt, basic_first p i lt);
-      risen = λ above. absurd (zero_is_not_above (at (first_table p).objective (p.variables + p.rows)) (k.table.lowest_price (p.variables + p.rows)) (price_other p g p.rows) above);
+      risen = λ above. absurd (zero_is_not_above fraction_zero (whole_is_lowest (pos 0)) value_zero (ap is_above_zero (sym (ap (at (first_table p).objective) k.table.labels ∙ first_value p g)) ∙ above));
     }
 
 -- the variable that leaves is one more
@@ -111,20 +112,18 @@ mark_out n leaves i marks h = by (nat_eq (n + i) leaves) refl h
     by true e h = cc
     by false e h = (h, λ same. grind (arith, nat_tests))
 
-next_turned : (limit : ℕ) (p : LinearProgram) (start units : ℕ) (t u : Table) (e : ℕ) → Turned p start units t → entering t ≡ Some e → turn limit e t ≡ moved u → Turned p start (units + 1) u
-next_turned limit p start units t u e h enters turns =
+next_turned : (limit : ℕ) (p : LinearProgram) (start units : ℕ) (t u : Table) (c : Column) → Turned p start units t → entering t ≡ Some c → turn limit c.place t ≡ moved u → Turned p start (units + 1) u
+next_turned limit p start units t u c h enters turns =
     let m = p.rows in
-    let N = p.variables + p.rows in
     let k = h.keeps in
-    let w = moved_out limit e t u turns in
+    let w = moved_out limit c.place t u turns in
     let r = (least w.0 w.1).place in
-    let c : IsPivot m N e r (tableau_of t) = choice_out limit m N e t w.0 w.1 k.table enters w.2 in
-    let after : IsAfterPivot m N e r (tableau_of t) (tableau_of u) = (turn_out limit m N e r t u k.table c.row (above_apart _ (value_above _ (k.table.lowest r e) c.above)) w.3).1 in
+    let after = (bland_turn limit p.variables m t u c w.0 w.1 k.table enters w.2 w.3).1.turn in
     let leaves = basic_at t.rows r in
     let marks = with_mark p.variables leaves h.marks in
     let more : marked m marks ≤ marked m h.marks + 1 = marked_more m (leaves - p.variables) marks h.marks (λ i is ne. mark_in p.variables leaves i h.marks is ne) in
     record {
-      keeps = keeps_turn p limit t u e k enters turns;
+      keeps = keeps_turn p limit t u c k enters turns;
       marks = marks;
       few = omega (arith, h.few, more);
       basic = λ i lt none.
@@ -137,16 +136,18 @@ next_turned limit p start units t u e h enters turns =
 -- ---- the end
 dual_few : (p : LinearProgram) (start units : ℕ) (t : Table) → Turned p start units t → start + count_above (dual p.variables p.rows t) ≤ units
 dual_few p start units t h =
-    let slacks : List Fraction = drop p.variables t.objective in
-    omega (arith, h.few, above_marked p.rows slacks h.marks (λ i lt above. by i lt above (h.marks i) refl))
+    let slacks : List Fraction = dual p.variables p.rows t in
+    let all : take p.rows slacks ≡ slacks = take_all p.rows slacks (omega (arith, listed_count (price_of t) p.variables p.rows)) in
+    subst (λ (fs : List Fraction). start + count_above fs ≤ units) all (omega (arith, h.few, above_marked p.rows slacks h.marks (λ i lt above. by i lt above (h.marks i) refl)))
   where
-    by : (i : ℕ) → i < p.rows → is_above_zero (at (drop p.variables t.objective) i) ≡ true → (b : Bool) → h.marks i ≡ b → h.marks i ≡ true
+    by : (i : ℕ) → i < p.rows → is_above_zero (at (dual p.variables p.rows t) i) ≡ true → (b : Bool) → h.marks i ≡ b → h.marks i ≡ true
     by i lt above true e = e
     by i lt above false e =
         let is = h.basic i lt e in
-        let zero : value (at t.objective (p.variables + i)) ≡ 0Q = ap (λ j. value (at t.objective j)) (sym is.2) ∙ h.keeps.good.priced is.0 is.1 in
-        let place : at (drop p.variables t.objective) i ≡ at t.objective (p.variables + i) = get_or-drop p.variables t.objective i (whole (pos 0)) in
-        absurd (zero_is_not_above (at t.objective (p.variables + i)) (h.keeps.table.lowest_price (p.variables + i)) zero (subst (λ (f : Fraction). is_above_zero f ≡ true) place above))
+        let x = price_of t (p.variables + i) in
+        let zero : value x ≡ 0Q = ap (tableau_of t).price (sym is.2) ∙ h.keeps.good.priced is.0 is.1 in
+        let low = entry_has IsLowest no_entry (with_right t.columns t.labels) t.objective (p.variables + i) (whole_is_lowest (pos 0)) h.keeps.table.lowest_price in
+        absurd (zero_is_not_above x low zero (subst (λ (f : Fraction). is_above_zero f ≡ true) (listed_from (price_of t) p.variables p.rows i lt) above))
 
 read_turned : (p : LinearProgram) (start units : ℕ) (t : Table) → Turned p start units t → IsTurned start (read_off p.variables p.rows t units)
 unfolding read_off
@@ -156,9 +157,9 @@ from_turned : (limit : ℕ) (p : LinearProgram) (start left units : ℕ) (t : Ta
 unfolding run_from
 from_turned limit p start zero units t h = step (entering t)
   where
-    step : (o : Option ℕ) → IsTurned start (on_entering o (read_off p.variables p.rows t units) (λ e. no_unit_left units))
+    step : (o : Option Column) → IsTurned start (on_entering o (read_off p.variables p.rows t units) (λ c. no_unit_left units))
     step None = read_turned p start units t h
-    step (Some e) = tt
+    step (Some c) = tt
 from_turned limit p start (suc left) units t h = step (entering t) refl (λ u k. from_turned limit p start left (units + 1) u k)
   where
     n : ℕ
@@ -167,16 +168,16 @@ from_turned limit p start (suc left) units t h = step (entering t) refl (λ u k.
     m : ℕ
     m = p.rows
 
-    act : (e : ℕ) → entering t ≡ Some e → ((u : Table) → Turned p start (units + 1) u → IsTurned start (run_from limit n m left (units + 1) u)) → (w : Turn) → turn limit e t ≡ w
-        → IsTurned start (on_turn w (λ next. run_from limit n m left (units + 1) next) (unbounded (direction n e t) (units + 1)) (λ w. wide_at (units + 1) w))
-    act e enters later (moved u) turns = later u (next_turned limit p start units t u e h enters turns)
-    act e enters later unlimited turns = tt
-    act e enters later (stopped w) turns = tt
+    act : (c : Column) → entering t ≡ Some c → ((u : Table) → Turned p start (units + 1) u → IsTurned start (run_from limit n m left (units + 1) u)) → (w : Turn) → turn limit c.place t ≡ w
+        → IsTurned start (on_turn w (λ next. run_from limit n m left (units + 1) next) (unbounded (direction n c t) (units + 1)) (λ w. wide_at (units + 1) w))
+    act c enters later (moved u) turns = later u (next_turned limit p start units t u c h enters turns)
+    act c enters later unlimited turns = tt
+    act c enters later (stopped w) turns = tt
 
-    step : (o : Option ℕ) → entering t ≡ o → ((u : Table) → Turned p start (units + 1) u → IsTurned start (run_from limit n m left (units + 1) u))
-        → IsTurned start (on_entering o (read_off n m t units) (λ e. on_turn (turn limit e t) (λ next. run_from limit n m left (units + 1) next) (unbounded (direction n e t) (units + 1)) (λ w. wide_at (units + 1) w)))
+    step : (o : Option Column) → entering t ≡ o → ((u : Table) → Turned p start (units + 1) u → IsTurned start (run_from limit n m left (units + 1) u))
+        → IsTurned start (on_entering o (read_off n m t units) (λ c. on_turn (turn limit c.place t) (λ next. run_from limit n m left (units + 1) next) (unbounded (direction n c t) (units + 1)) (λ w. wide_at (units + 1) w)))
     step None enters later = read_turned p start units t h
-    step (Some e) enters later = act e enters later (turn limit e t) refl
+    step (Some c) enters later = act c enters later (turn limit c.place t) refl
 
 pub runs_are_turned : RunsAreTurned
 unfolding run

@@ -1,7 +1,7 @@
 use Rattle.std.proofs.Common.{ℕ, ◌≡◌, ◌+◌, ◌-◌, ◌∙◌, suc, drop, arith, ap, sym, subst, refl, length, map, unsigned_abs}
 use Rattle.std.proofs.lemmas.Result.{err_from_is_err_and}
 use Rattle.compact_table.specs.Programs.{with_row}
-use Rattle.table_run.specs.Table.{unit_row}
+use Rattle.table_run.specs.Places.{unit_row}
 use Rattle.simplex.specs.Spaces.{Workspace, given, program_given}
 use Rattle.master_program.specs.Master.{map_steps, quantity_steps}
 use Rattle.pricing_oracle.specs.Programs.{IsOpen}

@@ -1,7 +1,7 @@
 use Rattle.std.specs.Prelude.{vec_capacity}
 use Rattle.std.proofs.Common.{◌≡◌, ◌+◌, ◌-◌, ◌≤◌, drop, length, map, unsigned_abs}
 use Rattle.simplex.specs.Spaces.{program_given}
-use Rattle.table_run.specs.Table.{unit_row}
+use Rattle.table_run.specs.Places.{unit_row}
 use Rattle.master_program.specs.Master.{map_steps, quantity_steps}
 use Rattle.pricing_oracle.specs.Programs.{HasSameSize, IsOpen}
 use Rattle.rounds.specs.Parts.{units_given}

@@ -1,7 +1,6 @@
 use Rattle.std.proofs.Common.{◌≡◌, ◌<◌, ◌≤◌, ◌∙◌, [], sym, ap, length, arith}
-use Rattle.table_run.specs.Table.{unit_row}
-use Rattle.table_run.specs.Places.{at}
-use Rattle.table_run.proofs.FirstTable.{length-unit, at-own, at-other}
+use Rattle.table_run.specs.Places.{unit_row, at}
+use Rattle.table_run.proofs.UnitRows.{length-unit, at-own, at-other}
 use Rattle.simplex.proofs.FillSteps.{pushed, all_pushed}
 use Rattle.rounds.proofs.master.write_unit_row.Goals as goal
 use Rattle.rounds.proofs.master.write_unit_row.Goals.{then-k-own, else-k-own}

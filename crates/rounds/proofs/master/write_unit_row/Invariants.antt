@@ -1,6 +1,6 @@
 use Rattle.std.specs.Prelude.{vec_capacity, vec_len}
 use Rattle.std.proofs.Common.{◌≡◌, ◌≤◌, map, take}
-use Rattle.table_run.specs.Table.{unit_row}
+use Rattle.table_run.specs.Places.{unit_row}
 use Rattle.rounds.proofs.master.write_unit_row.Given as goal
 
 abbrev pub invariant-loop-k : goal.invariant-loop-k
