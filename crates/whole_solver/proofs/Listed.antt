@@ -1,8 +1,8 @@
 -- The rows that are listed for a column, and those between them.
-use Rattle.std.proofs.Common.{◌≡◌, ℕ, zero, suc, ◌+◌, ◌<◌, ◌≤◌, List, [], ◌∷◌, length, map, ℤ, pos, arith, refl, sym, ◌∙◌, ap, subst, slice_index_or}
+use Rattle.std.proofs.Common.{◌≡◌, ℕ, zero, suc, ◌+◌, ◌<◌, ◌≤◌, List, [], ◌∷◌, length, ℤ, pos, arith, refl, sym, ◌∙◌, ap, subst, slice_index_or}
 use Rattle.std.proofs.lemmas.List.{length-map, get_or_default}
 use Rattle.exact_num.specs.Fraction.{whole}
-use Rattle.compact_table.proofs.Nonzero.{place_inside}
+use Rattle.compact_table.proofs.Nonzero.{place_below}
 use Rattle.equal_runs.specs.Lines.{number_at}
 use Rattle.whole_solver.specs.Rows.{column_in, nonzero_in, row_at}
 use Rattle.whole_solver.proofs.Sparse.{rising, zero_first, zero_between}
@@ -42,10 +42,7 @@ module _ (c : ℕ) (rows : List (List ℤ)) (places : List ℕ) (is : places ≡
   count = length-map rows (λ row. number_at row (c + 1))
 
   pub row_inside : (t : ℕ) → t < length places → slice_index_or places t 0 < length rows
-  row_inside t low =
-      let zs = column_in c rows in
-      let inside = place_inside (map whole zs) t (rw is at low) in
-      rw is (omega (arith, inside, length-map zs whole, count))
+  row_inside t low = place_below whole (column_in c rows) places (length rows) is count t low
 
   pub row_is : (t : ℕ) → t < length places → next_row places t rows ≡ slice_index_or places t 0
   row_is t low = get_or_default places t (length rows) 0 low

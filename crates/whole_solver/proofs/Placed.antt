@@ -1,5 +1,5 @@
 -- The pivot row of a turn, once it is placed.
-use Rattle.std.proofs.Common.{◌≡◌, ℕ, ◌+◌, ◌^◌, ◌<◌, ◌≤◌, List, length, drop, refl, sym, ◌∙◌, ap, subst, arith, Bool, true, false, ℤ, pos, unsigned_abs}
+use Rattle.std.proofs.Common.{◌≡◌, ℕ, ◌+◌, ◌<◌, ◌≤◌, List, length, drop, refl, sym, ◌∙◌, ap, subst, arith, Bool, true, false, ℤ, pos}
 use Rattle.std.specs.Prelude.{nat_le}
 use Rattle.std.specs.Int.{int_signum}
 use Rattle.std.proofs.lemmas.Bool.{leb-true, leb-false}
@@ -7,7 +7,7 @@ use Rattle.std.proofs.lemmas.List.{get_or_past, length-drop, length-take-le}
 use Rattle.equal_runs.specs.Lines.{Line, AreSizes, IsLine, line_size, number_at}
 use Rattle.equal_runs.specs.WholeTurning.{cut}
 use Rattle.equal_runs.proofs.LineSteps.{cut_within, sizes_bound}
-use Rattle.whole_solver.specs.Rows.{IsPivot, column_in, line_in, nonzero_in, pivot_line, row_at}
+use Rattle.whole_solver.specs.Rows.{IsPivot, column_in, line_in, nonzero_in, row_at}
 use Rattle.whole_solver.specs.Stored.{AreStored, HasSigns, IsKnown, IsPlacedAt, is_wide_at, rows_in}
 use Rattle.whole_solver.specs.declared.rows.Rows.{Rows}
 use Rattle.whole_solver.proofs.Choosing.{in_line}

@@ -14,7 +14,6 @@ use Rattle.compact_table.proofs.Reading.{past, filled_found, filled_missing}
 use Rattle.equal_runs.specs.Lines.{Line, IsLine, WholeRow, whole_row, number_at, entry_of, LineTable}
 use Rattle.equal_runs.specs.WholeRunning.{whole_where_basic, none_of, whole_price}
 use Rattle.table_run.specs.Choice.{Column}
-use Rattle.table_run.specs.Table.{entry_for, with_right}
 use Rattle.equal_runs.proofs.LineSteps.{reduced_zero}
 use Rattle.equal_runs.proofs.StepsFit.{quotients_fit}
 use Rattle.whole_solver.specs.declared.table.WholeTable.{WholeTable}

@@ -1,5 +1,5 @@
 -- The rows of an arena as lines: the denominator first, then the numbers, the right side last.
-use Rattle.std.specs.Prelude.{◌≡◌, ℕ, ◌+◌, ◌<◌, ◌≤◌, List, [], ◌∷◌, ◌++◌, take, drop, map, length, ℤ, pos, unsigned_abs, slice_index_or, slice_set, if◌then◌else◌, nat_eq, int_lt, Option, Some, true}
+use Rattle.std.specs.Prelude.{◌≡◌, ℕ, ◌+◌, ◌<◌, ◌≤◌, List, [], ◌∷◌, ◌++◌, take, drop, map, length, ℤ, pos, unsigned_abs, slice_index_or, slice_set, if◌then◌else◌, nat_eq, int_lt, true}
 use Rattle.exact_num.specs.Fraction.{whole}
 use Rattle.compact_table.specs.Nonzero.{nonzero_places}
 use Rattle.equal_runs.specs.Lines.{Line, WholeRow, IsLine, line_of, line_size, whole_row, number_at}

@@ -1,9 +1,8 @@
 use Rattle.std.proofs.Common.{◌<◌, ◌≤◌, ◌+◌, ◌*◌, ◌∙◌, ap, sym, subst, arith, ℤ, List, ℕ, length, length-set, map, slice_index_or, unsigned_abs, pos}
 use Rattle.std.proofs.lemmas.List.{length-map, get_or-set_other}
 use Rattle.exact_num.specs.Fraction.{whole}
-use Rattle.compact_table.proofs.Nonzero.{place_inside}
+use Rattle.compact_table.proofs.Nonzero.{place_below}
 use Rattle.equal_runs.specs.Lines.{number_at}
-use Rattle.whole_solver.specs.Rows.{nonzero_in}
 use Rattle.whole_solver.proofs.Sparse.{less_at, less_is, less_more, less_end, rising}
 use Rattle.whole_solver.proofs.mix.subtract_multiple.Goals as goal
 
@@ -11,12 +10,9 @@ pub subtract_at-requires-clause-inside : goal.subtract_at-requires-clause-inside
 subtract_at-requires-clause-inside g c =
     let qs = map g.P.Word.value c.args.pivot.now in
     let t = c.loop-place.place-index in
-    let places = c.requires.places in
-    let low : t < length (nonzero_in qs) = (rw places at c.loop-place-test.true) in
-    let here : slice_index_or (nonzero_in qs) t 0 < length (map whole qs) = place_inside (map whole qs) t low in
-    let count = length-map qs whole in
+    let places = c.args.places.now in
     let many = length-map c.args.pivot.now g.P.Word.value in
-    let inside : slice_index_or c.args.places.now t 0 < length c.args.pivot.now = rw places (omega (arith, here, count, many)) in
+    let inside : slice_index_or places t 0 < length c.args.pivot.now = place_below whole qs places (length c.args.pivot.now) c.requires.places many t c.loop-place-test.true in
     let same = c.loop-place.invariant.width in
     (omega (arith, inside, c.requires.width, same), inside)
 

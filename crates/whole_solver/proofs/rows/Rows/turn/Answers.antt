@@ -1,4 +1,4 @@
-use Rattle.std.proofs.Common.{rules, ◌≡◌, ◌<◌, ◌≤◌, ◌∙◌, unsigned_abs, sym, ap, subst, arith, length, set, take, ℕ}
+use Rattle.std.proofs.Common.{rules, ◌≡◌, ◌≤◌, ◌∙◌, unsigned_abs, sym, ap, subst, arith, length, set, take, ℕ}
 use Rattle.std.proofs.lemmas.Bool.{le-leb}
 use Rattle.std.proofs.lemmas.List.{length-take-le}
 use Rattle.equal_runs.specs.Lines.{Line, line_size, number_at}
