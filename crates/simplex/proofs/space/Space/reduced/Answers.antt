@@ -33,8 +33,8 @@ returns-in-WholeOptimal g c =
     let low = subst (λ (d : Contents). j < length (reduced_of d)) there c.requires.place in
     c.price_at.ensures ∙ sym (ap (λ (d : Contents). at (reduced_of d) j) there ∙ listed_at f n j (omega (arith, low, listed_count f 0 n)))
 
-pub price_at-in_default-requires : goal.price_at-in_default-requires
-price_at-in_default-requires g c =
+pub price_at-requires-in_default : goal.price_at-requires-in_default
+price_at-requires-in_default g c =
     let value = g.N.Exact.fraction in
     let s = c.self.inside in
     let t = s.table in

@@ -49,8 +49,8 @@ returns-in-WholeOptimal g c =
     c.price_at.ensures ∙ ap (λ (k : ℕ). f (k + i)) c.variables.ensures
     ∙ sym (ap (λ (d : Contents). at (y_of d) i) there ∙ listed_from f n m i (omega (arith, low, listed_count f n m)))
 
-pub price_at-in_default-requires : goal.price_at-in_default-requires
-price_at-in_default-requires g c =
+pub price_at-requires-in_default : goal.price_at-requires-in_default
+price_at-requires-in_default g c =
     let value = g.N.Exact.fraction in
     let s = c.self.inside in
     let t = s.table in
