@@ -14,7 +14,7 @@ use Rattle.quote_lines.specs.Laws.{TellsPrices, TellsQuote}
 use Rattle.quote_lines.proofs.Thresholds.{priced_lines_are_thresholds, quoted_lines_are_thresholds}
 use Rattle.proposal_lines.specs.Laws.{IsSound}
 use Rattle.proposal_lines.specs.Output.{proposing_line, served_line}
-use Rattle.proposal_lines.specs.Promises.{TellsAsked}
+use Rattle.proposal_lines.specs.Answers.{TellsAsked}
 use Rattle.proposal_lines.specs.ProposingState.{ProposingState}
 
 -- what is written, and the exchange after it

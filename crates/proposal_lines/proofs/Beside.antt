@@ -13,7 +13,7 @@ use Rattle.lists.specs.Refusals.{first_of}
 use Rattle.proposal_text.specs.declared.replies.ProposalReply.TheVariants as told
 use Rattle.reply_print.specs.ReplyPieces.{reply_line}
 use Rattle.proposal_lines.specs.Output.{proposing_reply_line}
-use Rattle.proposal_lines.specs.Promises.{TakesNothing, IsBesideProposals}
+use Rattle.proposal_lines.specs.Answers.{TakesNothing, IsBesideProposals}
 use Rattle.proposal_lines.specs.Reads.{book_refusals, book_reply, positions_refusals, positions_reply, refused_by, refused_by_fault, unless_refused}
 use Rattle.proposal_lines.specs.declared.replies.ProposingReply.{ProposingReply}
 use Rattle.proposal_lines.specs.declared.replies.ProposingReply.TheVariants.{Plain, Told}

@@ -11,6 +11,8 @@ use Rattle.cert_check.proofs.Proposals.{proposals_are_decided}
 use Rattle.clearing.specs.Outcome.{fallback, has_values, optimal_outcome, outcome_at, outcome_of, run_of}
 use Rattle.exact_num.specs.Fraction.{AtMost, Fraction}
 use Rattle.exact_num.specs.Tests.{is_at_most}
+use Rattle.command_text.specs.declared.command.Command.TheVariants.{Clear}
+use Rattle.exchange_core.specs.Refusals.{refusal_of}
 use Rattle.exchange_core.specs.Step.{batch_in}
 use Rattle.exchange_core.proofs.FirstRefusal.{batch_none}
 use Rattle.form.specs.declared.orders.Batch.{Batch}
@@ -29,7 +31,7 @@ use Rattle.rounds.specs.Run.{Solution}
 use Rattle.table_run.specs.Ending.{Ending, done, no_unit_left, unbounded, wide_at}
 use Rattle.proposal_lines.specs.Clears.{better_in, reference_in}
 use Rattle.proposal_lines.specs.KeptByMarket.{KeptProposals, best_in, bounded_by, bounded_in, if_above, stop_of}
-use Rattle.proposal_lines.specs.Laws.{ClearsAreAtLeast, ClearsAreProved, IsBetter, IsClearedAs, IsMatch, charged_surplus, counted_in}
+use Rattle.proposal_lines.specs.Laws.{ClearsAreAtLeast, ClearsAreProved, IsBetter, IsClearedAs, IsMatch, IsSound, charged_surplus, counted_in}
 use Rattle.proposal_lines.specs.ProposingState.{ProposingState}
 use Rattle.proposal_lines.specs.Proved.{AreProvedIn}
 use Rattle.proposal_lines.proofs.Kept.{best_proved}
@@ -156,6 +158,12 @@ clears_are_proved state market budget sound accepted = by (better_in state marke
         let (m, found, more, unsettled) = finishable state.exchange.book market (batch_none state.exchange.book market accepted) in
         let proves = batch_proves state.exchange.book market m found state.kept sound.proved batch (batch_is state market m found) outcome better e in
         is_better batch outcome (counted_in state market) better proves (matched batch budget) e
+
+-- what takes the place of the run's outcome is better
+pub better_is : (state : ProposingState) (market budget : ℕ) → IsSound state → refusal_of state.exchange (Clear market budget) ≡ None
+    → (better : BoundedOutcome) → better_in state market budget ≡ Some better → IsBetter (batch_in state.exchange market) (reference_in state market budget) better
+better_is state market budget sound accepted better is =
+    subst (IsClearedAs state market (reference_in state market budget)) is (clears_are_proved state market budget sound accepted)
 
 -- ---- it is never below that of the reference run
 pub at_least : (outcome : Outcome) (run : Option RunStop) (best : Option Best)

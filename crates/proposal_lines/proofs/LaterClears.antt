@@ -36,7 +36,7 @@ use Rattle.proposal_lines.specs.KeptByMarket.{KeptProposals, best_in, if_above, 
 use Rattle.proposal_lines.specs.LaterClears.{IsNoClearOf, IsUnharmed, LeaveOrders, ProposalsLowerNothing}
 use Rattle.proposal_lines.specs.Laws.{cleared_surplus}
 use Rattle.proposal_lines.specs.Output.{other_line, proposing_line, served_line, written_reply}
-use Rattle.proposal_lines.specs.Promises.{state_by_lines}
+use Rattle.proposal_lines.specs.Answers.{state_by_lines}
 use Rattle.proposal_lines.specs.Proposed.{after_proposed, judged_effect, kept_by, offered, proposed_by, proposed_of, proposed_reply, stale_effect, unproved_effect}
 use Rattle.proposal_lines.specs.ProposingState.{ProposingState, state_of}
 use Rattle.proposal_lines.specs.Reads.{refused_by}

@@ -6,6 +6,7 @@ pub mod SaidProved
 pub mod Kept
 pub mod Clearing
 pub mod Sound
+pub mod SoundAfter
 pub mod SaidKinds
 pub mod Beside
 pub mod Taking
@@ -17,3 +18,4 @@ pub mod LaterClears
 pub mod Ends
 pub mod Without
 pub mod Charging
+pub mod UsingBest

@@ -23,7 +23,7 @@ use Rattle.proposal_lines.proofs.Clearing.{at_least, is_above, is_below, is_most
 use Rattle.proposal_lines.proofs.Kept.{offered_orders}
 
 -- ---- the greater of what is kept, and an outcome
-at_most_trans : (x y z : Fraction) → 0 < y.denominator → AtMost x y → AtMost y z → AtMost x z
+pub at_most_trans : (x y z : Fraction) → 0 < y.denominator → AtMost x y → AtMost y z → AtMost x z
 at_most_trans x y z some first second =
     let one = *ℤ_mono_left z.denominator (x.numerator *ℤ pos y.denominator) (y.numerator *ℤ pos x.denominator) first in
     let two = *ℤ_mono_left x.denominator (y.numerator *ℤ pos z.denominator) (z.numerator *ℤ pos y.denominator) second in
@@ -96,7 +96,7 @@ module _ (orders : List ℕ) (proposal : Proposal) (bound : Frac128) where
   abbrev new : Best
   new = best_of orders proposal bound
 
-  no_less_than_new : (kept : Option Best) → AtMost (surplus_of new.covered) (surplus_of (after kept).covered)
+  pub no_less_than_new : (kept : Option Best) → AtMost (surplus_of new.covered) (surplus_of (after kept).covered)
   no_less_than_new None = omega (arith, ints)
   no_less_than_new (Some kept) =
       elim (are_same_orders kept.orders orders) as (λ t. AtMost (surplus_of new.covered) (surplus_of (if t then joined kept new else new).covered)) [

@@ -4,13 +4,11 @@ use Rattle.std.specs.Option.{option_map_or}
 use Rattle.cert_check.specs.Proposals.{proposal_bound}
 use Rattle.cert_check.specs.declared.outcome.Unproved.{Unproved as Reason}
 use Rattle.clearing.proofs.Values.{fraction_is}
-use Rattle.command_text.specs.declared.asked.Fault.{Fault}
 use Rattle.exact_num.specs.Fraction.{Fraction}
 use Rattle.exact_num.specs.Tests.{is_lowest}
 use Rattle.exchange_core.specs.Refusals.{by_book}
 use Rattle.exchange_core.specs.Step.{batch_in}
 use Rattle.exchange_core.specs.declared.refusal.Refusal.{Refusal}
-use Rattle.exchange_core.proofs.FirstRefusal.{live_none}
 use Rattle.form.specs.declared.orders.Batch.{Batch}
 use Rattle.frac.specs.Range.{limit}
 use Rattle.frac.specs.ValueOf.{has_128_bits, value_from, value_of}
@@ -20,20 +18,18 @@ use Rattle.order_book.specs.Kept.{IsBookKept}
 use Rattle.order_book.specs.Markets.{MarketState}
 use Rattle.order_book.specs.Numbers.{numbers_of}
 use Rattle.order_book.specs.Refusals.{live_refusals}
-use Rattle.order_book.proofs.Accepting.{listing_live}
 use Rattle.proposal_text.specs.declared.replies.Failed.TheVariants as failed
 use Rattle.proposal_text.specs.declared.replies.ProposalReply.{ProposalReply}
 use Rattle.proposals.specs.Best.{are_same_orders}
 use Rattle.lists.specs.Refusals.{first_of}
 use Rattle.proposal_lines.specs.KeptByMarket.{KeptProposals}
-use Rattle.proposal_lines.specs.Laws.{IsRefused, IsSound, RefusedChangeNothing}
-use Rattle.proposal_lines.specs.Proposed.{after_proposed, judged_effect, kept_by, offered, proposed_by, proposed_reply, stale_effect, unproved_effect}
-use Rattle.proposal_lines.specs.ProposingState.{ProposingState, state_of}
+use Rattle.proposal_lines.specs.Laws.{IsRefused, RefusedChangeNothing}
+use Rattle.proposal_lines.specs.Proposed.{after_proposed, judged_effect, kept_by, offered, proposed_by, stale_effect, unproved_effect}
+use Rattle.proposal_lines.specs.ProposingState.{state_of}
 use Rattle.proposal_lines.specs.Proved.{AreProvedIn}
 use Rattle.proposal_lines.specs.Reads.{refused_by}
 use Rattle.proposal_lines.specs.declared.proposed.Proposed.{Proposed}
 use Rattle.proposal_lines.specs.declared.replies.ProposingReply.TheVariants.{Told}
-use Rattle.proposal_lines.proofs.Clearing.{batch_is}
 use Rattle.proposal_lines.proofs.Kept.{offered_proved, with_proved}
 
 module _ (book : BookState) (is_kept : IsBookKept book) (kept : KeptProposals) (are : AreProvedIn book kept) (proposed : Proposed)
@@ -62,18 +58,6 @@ offer_proved book is_kept kept are proposed m found batch is =
     by : (t : Bool) → are_same_orders proposed.submission.orders (numbers_of m.live) ≡ t → AreProvedIn book (if t then judged_effect kept proposed bound else stale_effect kept).1
     by true same = judged_proved book is_kept kept are proposed m found same bound refl
     by false same = are
-
--- a line that proposes
-pub proposed_proved : (state : ProposingState) → IsSound state → (said : Result Proposed Fault) → AreProvedIn state.exchange.book (proposed_reply state said).1.kept
-proposed_proved state sound (Err fault) = sound.proved
-proposed_proved state sound (Ok proposed) = by (first_of (by_book (live_refusals state.exchange.book proposed.market))) refl
-  where
-    by : (r : Option Refusal) → first_of (by_book (live_refusals state.exchange.book proposed.market)) ≡ r
-        → AreProvedIn state.exchange.book (option_map_or (λ first. (refused_by first, state)) r (proposed_by state proposed)).1.kept
-    by (Some first) none = sound.proved
-    by None none =
-        let (m, found, unsettled) = listing_live state.exchange.book proposed.market (live_none state.exchange.book proposed.market none) in
-        offer_proved state.exchange.book sound.kept.orders.book state.kept sound.proved proposed m found (batch_in state.exchange proposed.market) (batch_is state proposed.market m found)
 
 -- ---- one that is refused changes nothing
 module _ (kept : KeptProposals) (proposed : Proposed) where

@@ -26,7 +26,7 @@ use Rattle.proposals.specs.Laws.{IsProvedBest}
 use Rattle.proposals.proofs.Offers.{offers_stay_proved}
 use Rattle.proposal_lines.specs.KeptByMarket.{KeptProposals, best_in, kept_in}
 use Rattle.proposal_lines.specs.Laws.{IsSound}
-use Rattle.proposal_lines.specs.Promises.{TakesNothing}
+use Rattle.proposal_lines.specs.Answers.{TakesNothing}
 use Rattle.proposal_lines.specs.Proposed.{after_proposed, judged_effect, kept_by, offered, stale_effect, unproved_effect}
 use Rattle.proposal_lines.specs.ProposingState.{ProposingState}
 use Rattle.proposal_lines.specs.declared.proposed.Proposed.{Proposed}

@@ -35,14 +35,13 @@ use Rattle.command_text.specs.Lines.{raw_lines_in}
 use Rattle.command_text.proofs.ReadWithin.{lines_are_within}
 use Rattle.exchange_core.specs.declared.refusal.Refusal.{Refusal}
 use Rattle.exchange_core.specs.ExchangeState.{ExchangeState, empty_exchange}
-use Rattle.exchange_core.specs.Kept.{IsKept}
 use Rattle.exchange_core.specs.LineReplies.{reply_to}
 use Rattle.exchange_core.specs.Refusals.{refusal_of}
-use Rattle.exchange_core.specs.Step.{batch_in, clear_effect, cleared_with, refusal_effect, step}
-use Rattle.exchange_core.proofs.Keeping.{clears_keep, empty_is_kept}
+use Rattle.exchange_core.specs.Step.{batch_in, clear_effect, refusal_effect, step}
+use Rattle.exchange_core.proofs.Keeping.{empty_is_kept}
 use Rattle.exchange_lines.specs.LineSteps.{InputLine, input_line, input_lines, line_of}
 use Rattle.exchange_lines.specs.Replies.{answer_to}
-use Rattle.exchange_lines.proofs.Answered.{answer_keeps, promises_kept}
+use Rattle.exchange_lines.proofs.Answered.{promises_kept}
 use Rattle.form.specs.declared.orders.Batch.{Batch}
 use Rattle.exchange_lines.specs.Moves.{AreMoves, Move, clears, move, says}
 use Rattle.exchange_lines.specs.GainRuns.{HouseGains, replies_by}
@@ -53,22 +52,22 @@ use Rattle.proposal_text.specs.declared.replies.BoundedOutcome.{BoundedOutcome}
 use Rattle.reply_print.specs.ReplyPieces.{reply_line}
 use Rattle.reply_print.specs.declared.replies.Reply.{Reply}
 use Rattle.proposal_lines.specs.Clears.{better_in, bounded_effect, clear_reply, cleared_by, reference_in}
-use Rattle.proposal_lines.specs.KeptByMarket.{KeptProposals, without_kept}
+use Rattle.proposal_lines.specs.KeptByMarket.{KeptProposals}
 use Rattle.proposal_lines.specs.Laws.{IsBetter, IsClearedAs, IsSound}
 use Rattle.proposal_lines.specs.Output.{other_line, proposing_line, served_line, written_reply}
-use Rattle.proposal_lines.specs.Promises.{AreToldFor, IsBesideProposals, IsToldFor, KeepsProposalPromises, OutputsTellProposals, ProposalAnswer, TellsAsked, TellsBy, beside, bounded, charged, replied, replies_in, state_by, taken, told_text, told_texts}
+use Rattle.proposal_lines.specs.Answers.{AreToldFor, BoundedAnswer, IsBesideFor, IsBesideProposals, IsBoundedFor, IsRepliedFor, IsTakenFor, IsToldFor, ProposalAnswer, TakenAnswer, TellsAsked, beside, bounded, replied, state_by, taken, told_text, told_texts}
+use Rattle.proposal_lines.specs.Promises.{KeepsProposalPromises, OutputsTellProposals, TellsBy, charged, replies_in}
 use Rattle.proposal_lines.specs.Proposed.{after_proposed, kept_by, offered, proposed_by, proposed_of, proposed_reply}
 use Rattle.proposal_lines.specs.ProposingState.{ProposingState, empty_state}
-use Rattle.proposal_lines.specs.Proved.{AreProvedIn, IsEntryProved}
+use Rattle.proposal_lines.specs.Proved.{IsEntryProved}
 use Rattle.proposal_lines.specs.Reads.{book_reply, positions_reply, refused_by, refused_by_fault}
 use Rattle.proposal_lines.proofs.AskedLines.{asked_told}
 use Rattle.proposal_lines.proofs.Beside.{IsBeside, beside_text, book_beside, fault_beside, positions_beside, refusal_beside}
 use Rattle.proposal_lines.proofs.Clearing.{clears_are_proved}
-use Rattle.proposal_lines.proofs.Kept.{without_proved}
 use Rattle.proposal_lines.proofs.SaidKinds.{IsOther, IsUnbeaten, by_kind}
-use Rattle.proposal_lines.proofs.Moving.{after_batch_proved, entries_moved, reply_proved}
-use Rattle.proposal_lines.proofs.Sound.{proposed_proved}
+use Rattle.proposal_lines.proofs.SoundAfter.{beside_sound, bounded_sound, replied_sound, taken_sound}
 use Rattle.proposal_lines.proofs.Taking.{offer_becomes, taken_is_proved}
+use Rattle.proposal_lines.proofs.UsingBest.{uses_the_best}
 
 pub empty_is_sound : IsSound empty_state
 empty_is_sound = record { kept = empty_is_kept; proved = All-nil (IsEntryProved empty_exchange.book) }
@@ -92,20 +91,19 @@ module _ (state : ProposingState) (line : InputLine) (sound : IsSound state) whe
   Told = IsTold state line
 
   pub beside_told : (now : List ℕ × ProposingState) → IsBesideProposals line.number now.0 → now.1.exchange ≡ state.exchange → now.1.kept ≡ state.kept → Told now
-  beside_told now text same kept = record {
-    answer = beside line.number now.0;
-    told = record { of_line = refl; of_kind = text; exchange = same; kept = kept };
-    text = refl;
-    promise = tt;
-    sound = record {
-      kept = subst IsKept (sym same) sound.kept;
-      proved = subst (λ (e : ExchangeState). AreProvedIn e.book now.1.kept) (sym same) (subst (AreProvedIn state.exchange.book) (sym kept) sound.proved);
-    };
-    moves = [];
-    may = tt;
-    replies = λ more. refl;
-    end = same;
-  }
+  beside_told now text same kept =
+      let told : IsBesideFor state line line.number now.0 now.1 = record { of_line = refl; of_kind = text; exchange = same; kept = kept } in
+      record {
+        answer = beside line.number now.0;
+        told = told;
+        text = refl;
+        promise = tt;
+        sound = beside_sound state now.1 line sound line.number now.0 told;
+        moves = [];
+        may = tt;
+        replies = λ more. refl;
+        end = same;
+      }
 
   -- ---- a proposal
   module _ (request : ProposeRequest) (says_it : said_in SERVED line.bytes ≡ Ok (asks.Propose request)) (proposed : Proposed) (proposes : proposed_of line.bytes request ≡ Ok proposed)
@@ -117,35 +115,42 @@ module _ (state : ProposingState) (line : InputLine) (sound : IsSound state) whe
     by_offer now = written_reply line.number (reply_of.Told now.0, record state { kept = now.1 })
 
     taken_told : (bound : Frac128) → proposed.submission.orders ≡ numbers_of live.orders → proposal_bound limit live proposed.submission.proposal ≡ Ok (fraction_of bound)
-        → AreProvedIn state.exchange.book (kept_by state.kept proposed bound).1 → Told (by_offer (kept_by state.kept proposed bound))
-    taken_told bound orders judged are =
+        → Told (by_offer (kept_by state.kept proposed bound))
+    taken_told bound orders judged =
         let best = after_proposed state.kept proposed bound in
+        let answer : TakenAnswer = record { line = line.number; proposed = proposed; batch = live; bound = bound; best = best } in
+        let told : IsTakenFor state line answer (by_offer (kept_by state.kept proposed bound)).1 = record {
+          of_line = refl;
+          request = request;
+          says = says_it;
+          proposes = proposes;
+          accepted = none;
+          batch = refl;
+          orders = orders;
+          judged = judged;
+          best = refl;
+          exchange = refl;
+          kept = refl;
+        } in
         record {
-          answer = taken (record { line = line.number; proposed = proposed; batch = live; bound = bound; best = best });
-          told = record { of_line = refl; request = request; says = says_it; proposes = proposes; batch = refl; orders = orders; judged = judged; best = refl; exchange = refl; kept = refl };
+          answer = taken answer;
+          told = told;
           text = refl;
           promise = record {
             proposed = (proposals_are_decided live proposed.submission.proposal).proved (fraction_of bound) judged;
             kept = (proposals_are_decided live (as_proposal best)).proved (fraction_of best.bounded.bound) (taken_is_proved state sound proposed none bound orders judged);
           };
-          sound = record { kept = sound.kept; proved = are };
+          sound = taken_sound state (by_offer (kept_by state.kept proposed bound)).1 line sound answer told;
           moves = [];
           may = tt;
           replies = λ more. refl;
           end = refl;
         }
 
-    offered_proved : AreProvedIn state.exchange.book (offered state.kept proposed live).1
-    offered_proved =
-        subst (λ (r : Option Refusal). AreProvedIn state.exchange.book (option_map_or (λ first. (refused_by first, state)) r (proposed_by state proposed)).1.kept) none
-        (proposed_proved state sound (Ok proposed))
-
     offer_told : Told (by_offer (offered state.kept proposed live))
     offer_told = elim (offer_becomes state.kept proposed live) [
       | inl nothing ↦ beside_told (by_offer (offered state.kept proposed live)) (beside_text line.number (reply_of.Told (offered state.kept proposed live).0) nothing.0) refl nothing.1
-      | inr took ↦
-          subst (λ (now : ProposalReply × KeptProposals). Told (by_offer now)) (sym took.is)
-          (taken_told took.bound took.orders took.judged (subst (λ (now : ProposalReply × KeptProposals). AreProvedIn state.exchange.book now.1) took.is offered_proved))
+      | inr took ↦ subst (λ (now : ProposalReply × KeptProposals). Told (by_offer now)) (sym took.is) (taken_told took.bound took.orders took.judged)
     ]
 
   proposal_told : (request : ProposeRequest) → said_in SERVED line.bytes ≡ Ok (asks.Propose request) → (said : Result Proposed Fault) → proposed_of line.bytes request ≡ said
@@ -164,19 +169,16 @@ module _ (state : ProposingState) (line : InputLine) (sound : IsSound state) whe
   replied_told : (now : List ℕ × ProposingState) → now.0 ≡ reply_line line.number run_reply.0 ++ 10 ∷ [] → now.1.exchange ≡ run_reply.1 → now.1.kept ≡ state.kept
       → IsUnbeaten state run_reply.0 → Told now
   replied_told now text same kept unbeaten =
-      let within = lines_are_within line.bytes in
-      let are = entries_moved state.exchange.book run_reply.1.book (λ market best is. reply_proved state.exchange market best is (body_of_line line.bytes)) state.kept sound.proved in
+      let answer = answer_to state.exchange (line_of line) in
+      let told : IsRepliedFor state line answer now.1 = record { reply = refl; unbeaten = unbeaten; exchange = same; kept = kept } in
       record {
-        answer = replied (answer_to state.exchange (line_of line));
-        told = record { reply = refl; unbeaten = unbeaten; exchange = same; kept = kept };
+        answer = replied answer;
+        told = told;
         text = text;
         promise = promises_kept state.exchange (line_of line) sound.kept;
-        sound = record {
-          kept = subst IsKept (sym same) (answer_keeps state.exchange (body_of_line line.bytes) sound.kept within);
-          proved = subst (λ (e : ExchangeState). AreProvedIn e.book now.1.kept) (sym same) (subst (AreProvedIn run_reply.1.book) (sym kept) are);
-        };
+        sound = replied_sound state now.1 line sound answer told;
         moves = says (body_of_line line.bytes) ∷ [];
-        may = (within, tt);
+        may = (lines_are_within line.bytes, tt);
         replies = λ more. refl;
         end = same;
       }
@@ -189,28 +191,32 @@ module _ (state : ProposingState) (line : InputLine) (sound : IsSound state) whe
       → better_in state market budget ≡ Some better → IsBetter (batch_in state.exchange market) (reference_in state market budget) better
       → Told (written_reply line.number (bounded_effect state market better))
   bounded_told market budget better clears_market accepted kept is =
-      let batch = batch_in state.exchange market in
-      let covered = charged_covered batch better is.proves.covered in
+      let answer : BoundedAnswer = record {
+        line = line.number;
+        market = market;
+        budget = budget;
+        number = state.exchange.book.finished + 1;
+        batch = batch_in state.exchange market;
+        better = better;
+      } in
+      let told : IsBoundedFor state line answer (bounded_effect state market better).1 = record {
+        of_line = refl;
+        says = clears_market;
+        accepted = accepted;
+        number = refl;
+        batch = refl;
+        better = kept;
+        exchange = refl;
+        kept = refl;
+      } in
       record {
-        answer = bounded (record {
-          line = line.number;
-          market = market;
-          budget = budget;
-          number = state.exchange.book.finished + 1;
-          batch = batch;
-          better = better;
-        });
-        told = record { of_line = refl; says = clears_market; accepted = accepted; number = refl; batch = refl; better = kept; exchange = refl; kept = refl };
+        answer = bounded answer;
+        told = told;
         text = refl;
         promise = is;
-        sound = record {
-          kept = clears_keep state.exchange market better.proposal.fills sound.kept accepted covered.covers.are_fills;
-          proved = entries_moved state.exchange.book (cleared_with state.exchange market better.proposal.fills).book
-              (λ q best proved. after_batch_proved state.exchange.book q best proved market) (without_kept market state.kept)
-              (without_proved state.exchange.book market state.kept sound.proved);
-        };
+        sound = bounded_sound state (bounded_effect state market better).1 line sound answer told;
         moves = clears market (charged better) ∷ [];
-        may = ((accepted, covered), tt);
+        may = ((accepted, charged_covered (batch_in state.exchange market) better is.proves.covered), tt);
         replies = λ more. refl;
         end = refl;
       }
@@ -353,6 +359,7 @@ module _ {S : Type 0} (proposing : S → ProposingState) (step : ℕ → S → L
           to_lines = told.to_lines;
           text = texts_told input (raw_lines_in input) first told.answers told.to_lines;
           promises = told.promises;
+          best = uses_the_best proposing step first (input_lines input) told.answers (subst IsSound (sym empty) empty_is_sound) told.to_lines;
           gains = subst (λ (e : ExchangeState). HouseGains e.entries (replies_in told.answers)) (sym end)
               (subst (HouseGains (gains.state_by move empty_exchange told.moves).entries) (sym replies) (moves_gain told.moves may));
           kept = told.sound;

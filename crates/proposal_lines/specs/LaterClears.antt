@@ -9,7 +9,7 @@ use Rattle.exchange_core.specs.Step.{batch_in}
 use Rattle.exchange_lines.specs.LineSteps.{InputLine}
 use Rattle.proposal_lines.specs.Laws.{cleared_surplus}
 use Rattle.proposal_lines.specs.Output.{proposing_line}
-use Rattle.proposal_lines.specs.Promises.{state_by_lines}
+use Rattle.proposal_lines.specs.Answers.{state_by_lines}
 use Rattle.proposal_lines.specs.Proposed.{proposed_reply}
 use Rattle.proposal_lines.specs.ProposingState.{ProposingState}
 use Rattle.proposal_lines.specs.declared.proposed.Proposed.{Proposed}

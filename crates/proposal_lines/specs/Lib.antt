@@ -8,5 +8,7 @@ pub mod Clears
 pub mod Output
 pub mod Proved
 pub mod Laws
+pub mod Answers
+pub mod UsesBest
 pub mod Promises
 pub mod LaterClears

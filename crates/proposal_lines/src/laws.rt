@@ -2,6 +2,7 @@
 ghost use Rattle.proposal_lines.specs.LaterClears.{ProposalsLowerNothing};
 ghost use Rattle.proposal_lines.specs.Laws.{ClearsAreAtLeast, ClearsAreProved, RefusedChangeNothing};
 ghost use Rattle.proposal_lines.specs.Promises.{OutputsTellProposals, WithoutProposals};
+ghost use Rattle.proposal_lines.specs.UsesBest.{BestIsUsed};
 
 /// In each state that an exchange which takes proposals may be in: what is charged in place of the
 /// reference run's outcome proves its bound for the batch, so its fills cover its surplus at every
@@ -24,6 +25,13 @@ pub fn proposals_lower_nothing()
     ensures { ProposalsLowerNothing }
 {}
 
+/// The best proposal is used. After a proposal that is taken, the next clear of its market tells at
+/// least its surplus and at most its bound, whatever the budget, and where it is marked bounded no
+/// bound above that one, whatever lines come between, for as long as the market's live orders stay.
+pub fn best_is_used()
+    ensures { BestIsUsed }
+{}
+
 /// A line that proposes and is refused, stale or unproved changes nothing: neither the exchange nor
 /// what is kept.
 pub fn refused_change_nothing()
@@ -32,11 +40,11 @@ pub fn refused_change_nothing()
 
 /// What is written for an input is the text of the answers to its lines, each of which keeps what
 /// is promised: a run's, batches that were cleared as proposals had it, proposals that were judged
-/// a bound with just the numbers that are told, and texts beside them that change nothing. A batch
-/// that is not marked optimal nor cleared as proposals had it is matched where nothing that counts
-/// covers more. Quotes and prices are those from which on a further order raises the greatest
-/// surplus. The answers leave the house its gains: of each batch at least the surplus that is told,
-/// batches that were cleared as proposals had it among them.
+/// a bound with just the numbers that are told, and texts beside them that change nothing. Each
+/// such proposal is used. A batch that is not marked optimal nor cleared as proposals had it is
+/// matched where nothing that counts covers more. Quotes and prices are those from which on a
+/// further order raises the greatest surplus. The answers leave the house its gains: of each batch
+/// at least the surplus that is told, batches that were cleared as proposals had it among them.
 pub fn outputs_tell_proposals()
     ensures { OutputsTellProposals }
 {}

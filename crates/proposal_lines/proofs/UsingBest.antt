@@ -1,0 +1,328 @@
+-- A better proposal is used.
+use Rattle.std.proofs.Common.{◌≡◌, ℕ, List, [], ◌∷◌, Bool, true, false, map, nat_eq, if◌then◌else◌, Option, Some, None, refl, sym, ap, ◌∙◌, subst, arith}
+use Rattle.std.specs.Prelude.{IfSome}
+use Rattle.std.specs.Option.{option_map_or}
+use Rattle.std.proofs.lemmas.Int.{ints}
+use Rattle.cert_check.specs.Conditions.{IfOptimal}
+use Rattle.cert_check.specs.Laws.{IsCovered, IsMeasured, IsProved}
+use Rattle.cert_check.specs.ProposalLaws.{Proves}
+use Rattle.cert_check.specs.Proposals.{as_optimal}
+use Rattle.cert_check.specs.declared.outcome.Mark.{Mark}
+use Rattle.cert_check.specs.declared.outcome.Mark.TheVariants.{Optimal, Wide, Budget}
+use Rattle.cert_check.specs.declared.outcome.Outcome.{Outcome}
+use Rattle.cert_check.specs.declared.outcome.Proposal.{Proposal}
+use Rattle.cert_check.proofs.Proposals.{proposals_are_decided}
+use Rattle.command_text.specs.declared.command.Body.{Body}
+use Rattle.command_text.specs.declared.command.Body.TheVariants as body
+use Rattle.command_text.specs.declared.command.Command.{Command}
+use Rattle.command_text.specs.declared.command.Command.TheVariants as command
+use Rattle.exact_num.specs.Fraction.{AtMost, Fraction}
+use Rattle.exact_num.specs.Tests.{is_at_most}
+use Rattle.exchange_core.specs.declared.refusal.Refusal.{Refusal}
+use Rattle.exchange_core.specs.Covered.{IfCleared, IsProvedGreatest, OfEachCleared}
+use Rattle.exchange_core.specs.ExchangeState.{ExchangeState}
+use Rattle.exchange_core.specs.Kept.{IsKept}
+use Rattle.exchange_core.specs.LineReplies.{reply_to}
+use Rattle.exchange_core.specs.Refusals.{refusal_of}
+use Rattle.exchange_core.specs.Step.{batch_in, effect, refusal_effect, step}
+use Rattle.exchange_core.proofs.Covered.{step_is_covered, step_is_optimal}
+use Rattle.exchange_lines.specs.GainRuns.{IfClears}
+use Rattle.exchange_lines.specs.LineSteps.{InputLine, line_of}
+use Rattle.exchange_lines.specs.Replies.{Answer}
+use Rattle.form.specs.declared.orders.Batch.{Batch}
+use Rattle.frac.specs.Value.{fraction_of}
+use Rattle.frac.specs.declared.frac128.Frac128.{Frac128}
+use Rattle.order_book.specs.Numbers.{numbers_of}
+use Rattle.order_book.proofs.MarketLists.{same_number}
+use Rattle.proposals.specs.Best.{after_offer, are_same_orders, best_for, best_of, better_measure, joined, surplus_of}
+use Rattle.proposals.specs.Laws.{IsNoWorse}
+use Rattle.proposals.specs.declared.best.Best.{Best}
+use Rattle.proposals.specs.declared.best.BoundedMeasure.{BoundedMeasure}
+use Rattle.proposals.proofs.Offers.{offers_lose_nothing}
+use Rattle.proposal_text.specs.declared.replies.BoundedOutcome.{BoundedOutcome}
+use Rattle.reply_print.specs.declared.replies.Reply.{Reply}
+use Rattle.reply_print.specs.declared.replies.Reply.TheVariants.{Opened, Deposited, Withdrawn, Listed, Placed, Cancelled, Cleared, Settled, Balance, Refused}
+use Rattle.proposal_lines.specs.Answers.{AreToldFor, BoundedAnswer, IsBoundedFor, IsRepliedFor, IsTakenFor, IsToldFor, ProposalAnswer, TakenAnswer, beside, bounded, replied, taken}
+use Rattle.proposal_lines.specs.Clears.{reference_in}
+use Rattle.proposal_lines.specs.KeptByMarket.{kept_in, stop_of}
+use Rattle.proposal_lines.specs.Laws.{IsMatch, IsSound, NoneIsAbove, counted_in}
+use Rattle.proposal_lines.specs.Output.{proposing_line}
+use Rattle.proposal_lines.specs.Proposed.{after_proposed}
+use Rattle.proposal_lines.specs.ProposingState.{ProposingState}
+use Rattle.proposal_lines.specs.UsesBest.{BestIsUsed, IfTaken, IsAsGood, IsUsedBy, ToldClear, UsesTheBest, clear_in, cleared_in, clears_or, told_clear}
+use Rattle.proposal_lines.proofs.ByMarket.{other_way, others_kept, others_removed, own_counts}
+use Rattle.proposal_lines.proofs.Clearing.{better_is, chosen, is_most}
+use Rattle.proposal_lines.proofs.Lowering.{after_counts, at_most_trans, no_less_than_new}
+use Rattle.proposal_lines.proofs.SoundAfter.{told_sound}
+
+-- ---- a bound that is kept is at most the new one
+new_no_more : (kept new : BoundedMeasure) → AtMost (fraction_of (better_measure kept new).bound) (fraction_of new.bound)
+new_no_more kept new = by (is_at_most (fraction_of kept.bound) (fraction_of new.bound)) refl
+  where
+    by : (t : Bool) → is_at_most (fraction_of kept.bound) (fraction_of new.bound) ≡ t → AtMost (fraction_of (if t then kept else new).bound) (fraction_of new.bound)
+    by true is = is_most (fraction_of kept.bound) (fraction_of new.bound) is
+    by false is = omega (arith, ints)
+
+no_more_than_new : (orders : List ℕ) (proposal : Proposal) (bound : Frac128) (kept : Option Best)
+    → AtMost (fraction_of (after_offer kept orders proposal bound).bounded.bound) (fraction_of bound)
+no_more_than_new orders proposal bound None = omega (arith, ints)
+no_more_than_new orders proposal bound (Some kept) =
+    elim (are_same_orders kept.orders orders) as (λ t.
+    AtMost (fraction_of (if t then joined kept (best_of orders proposal bound) else best_of orders proposal bound).bounded.bound) (fraction_of bound)) [
+      | true ↦ new_no_more kept.bounded (best_of orders proposal bound).bounded
+      | false ↦ omega (arith, ints)
+    ]
+
+-- ---- what counts for the live orders of a market is as good
+abbrev claimed : Proposal → Fraction
+claimed offer = fraction_of offer.claim.surplus
+
+-- as good as this proposal, which proves this bound for their batch
+record Counts (market : ℕ) (offer : Proposal) (bound : Fraction) (state : ProposingState) : Type 0 where
+  best : Best
+  counted : counted_in state market ≡ Some best
+  no_less : AtMost (claimed offer) (surplus_of best.covered)
+  no_more : AtMost (fraction_of best.bounded.bound) bound
+  proves : Proves (batch_in state.exchange market) offer bound
+
+-- where the same is kept for it, and its live orders stay
+stay_counted : (market : ℕ) (offer : Proposal) (bound : Fraction) (state next : ProposingState) → Counts market offer bound state → kept_in market next.kept ≡ kept_in market state.kept
+    → batch_in next.exchange market ≡ batch_in state.exchange market → Counts market offer bound next
+stay_counted market offer bound state next counts kept same = record {
+  best = counts.best;
+  counted =
+      ap (λ (b : Batch). best_for (kept_in market next.kept) (numbers_of b.orders)) same
+      ∙ ap (λ k. best_for k (numbers_of (batch_in state.exchange market).orders)) kept ∙ counts.counted;
+  no_less = counts.no_less;
+  no_more = counts.no_more;
+  proves = subst (λ (b : Batch). Proves b offer bound) (sym same) counts.proves;
+}
+
+-- ---- a batch that a run clears
+-- what holds of it is said of the batch of its market
+abbrev IsClearOf : (Batch → Outcome → Type 0) → ExchangeState → Reply → Type 0
+IsClearOf P state reply = IfClears (λ number market batch outcome. P (batch_in state market) outcome) reply
+
+module _ (P : Batch → Outcome → Type 0) (each : OfEachCleared P) (state : ExchangeState) (kept : IsKept state) where
+  effect_clears : (c : Command) → refusal_of state c ≡ None → IsClearOf P state (effect state c).0
+  effect_clears (command.Open account) none = tt
+  effect_clears (command.Deposit account amount) none = tt
+  effect_clears (command.Withdraw account amount) none = tt
+  effect_clears (command.Market market underlyings) none = tt
+  effect_clears (command.Trade side account market kind strike price quantity count weights) none = tt
+  effect_clears (command.Bundle side account market price quantity bundle) none = tt
+  effect_clears (command.Cancel account order) none = tt
+  effect_clears (command.Clear market budget) none =
+      subst (λ r. IfCleared P (option_map_or (refusal_effect state) r (effect state (command.Clear market budget))).0) none
+      (each state (command.Clear market budget) kept)
+  effect_clears (command.Settle market count prices) none = tt
+  effect_clears (command.Balance account) none = tt
+
+  step_clears : (c : Command) → IsClearOf P state (step state c).0
+  step_clears c = by (refusal_of state c) refl
+    where
+      by : (refused : Option Refusal) → refusal_of state c ≡ refused → IsClearOf P state (option_map_or (refusal_effect state) refused (effect state c)).0
+      by None none = effect_clears c none
+      by (Some refusal) is = tt
+
+  reply_clears : (said : Body) → IsClearOf P state (reply_to state said).0
+  reply_clears (body.Command c) = step_clears c
+  reply_clears body.Syntax = tt
+  reply_clears (body.Range field) = tt
+
+-- ---- a proposal that is taken
+module _ (state next : ProposingState) (line : InputLine) (answer : TakenAnswer) (is : IsTakenFor state line answer next) where
+  abbrev own : ℕ
+  own = answer.proposed.market
+
+  abbrev new : Proposal
+  new = answer.proposed.submission.proposal
+
+  abbrev orders : List ℕ
+  orders = answer.proposed.submission.orders
+
+  live : orders ≡ numbers_of (batch_in state.exchange own).orders
+  live = is.orders ∙ ap (λ (b : Batch). numbers_of b.orders) is.batch
+
+  -- it is what counts
+  taken_counted : counted_in next own ≡ Some answer.best
+  taken_counted =
+      ap (λ k. best_for k (numbers_of (batch_in next.exchange own).orders)) (ap (kept_in own) is.kept ∙ own_counts own answer.best state.kept)
+      ∙ ap (best_for (Some answer.best)) (ap (λ (e : ExchangeState). numbers_of (batch_in e own).orders) is.exchange ∙ sym live)
+      ∙ subst (λ best. best_for (Some best) orders ≡ Some best) (sym is.best) (after_counts orders new answer.bound (kept_in own state.kept))
+
+  -- as good as the proposal itself
+  taken_counts : Counts own new (fraction_of answer.bound) next
+  taken_counts = record {
+    best = answer.best;
+    counted = taken_counted;
+    no_less = subst (λ best. AtMost (claimed new) (surplus_of best.covered)) (sym is.best) (no_less_than_new orders new answer.bound (kept_in own state.kept));
+    no_more = subst (λ best. AtMost (fraction_of best.bounded.bound) (fraction_of answer.bound)) (sym is.best) (no_more_than_new orders new answer.bound (kept_in own state.kept));
+    proves =
+        subst (λ (b : Batch). Proves b new (fraction_of answer.bound)) (is.batch ∙ ap (λ (e : ExchangeState). batch_in e own) (sym is.exchange))
+        ((proposals_are_decided answer.batch new).proved (fraction_of answer.bound) is.judged);
+  }
+
+  -- and as what counted before
+  taken_better : (market : ℕ) → market ≡ own → (offer : Proposal) (bound : Fraction) → Counts market offer bound state → batch_in next.exchange market ≡ batch_in state.exchange market
+      → Counts market offer bound next
+  taken_better market here offer bound counts same =
+      let counted : best_for (kept_in own state.kept) orders ≡ Some counts.best = ap (best_for (kept_in own state.kept)) live ∙ ap (counted_in state) (sym here) ∙ counts.counted in
+      let no_worse : IsNoWorse counts.best answer.best =
+      subst (IsNoWorse counts.best) (sym is.best)
+      (subst (λ o. IfSome o (λ best. IsNoWorse best (after_proposed state.kept answer.proposed answer.bound))) counted (offers_lose_nothing (kept_in own state.kept) orders new answer.bound)) in
+      record {
+        best = answer.best;
+        counted = ap (counted_in next) here ∙ taken_counted;
+        no_less = at_most_trans (claimed offer) (surplus_of counts.best.covered) (surplus_of answer.best.covered) counts.best.covered.claim.surplus.lowest.positive counts.no_less no_worse.surplus;
+        no_more = at_most_trans (fraction_of answer.best.bounded.bound) (fraction_of counts.best.bounded.bound) bound counts.best.bounded.bound.lowest.positive no_worse.bound counts.no_more;
+        proves = subst (λ (b : Batch). Proves b offer bound) (sym same) counts.proves;
+      }
+
+-- ---- one line
+module _ (market : ℕ) (offer : Proposal) (bound : Fraction) (state next : ProposingState) (line : InputLine) (sound : IsSound state) (counts : Counts market offer bound state) where
+  abbrev Later : Type 0
+  Later = batch_in next.exchange market ≡ batch_in state.exchange market → Counts market offer bound next
+
+  abbrev IsUsed : Option ToldClear → Type 0
+  IsUsed told = clears_or (claimed offer) bound told Later
+
+  same_kept : next.kept ≡ state.kept → Later
+  same_kept kept same = stay_counted market offer bound state next counts (ap (kept_in market) kept) same
+
+  -- a surplus that fills of the live orders cover
+  covered_within : (outcome : Outcome) → IsCovered (batch_in state.exchange market) outcome → AtMost (fraction_of outcome.claim.surplus) bound
+  covered_within outcome covered =
+      counts.proves.bounds.none_above (map fraction_of outcome.fills) (fraction_of outcome.claim.surplus) outcome.claim.surplus.lowest.positive covered.covers
+
+  -- that of a run, by its mark
+  abbrev IsNotAbove : Outcome → Type 0
+  IsNotAbove outcome = IfSome (counted_in state market) (λ best. AtMost (surplus_of best.covered) (fraction_of outcome.claim.surplus))
+
+  run_no_less : (outcome : Outcome) → IsProvedGreatest (batch_in state.exchange market) outcome → NoneIsAbove state market outcome → AtMost (claimed offer) (fraction_of outcome.claim.surplus)
+  run_no_less outcome greatest none = by outcome.mark greatest none
+    where
+      stopped : IsNotAbove outcome → AtMost (claimed offer) (fraction_of outcome.claim.surplus)
+      stopped above =
+          at_most_trans (claimed offer) (surplus_of counts.best.covered) (fraction_of outcome.claim.surplus) counts.best.covered.claim.surplus.lowest.positive counts.no_less
+          (subst (λ o. IfSome o (λ best. AtMost (surplus_of best.covered) (fraction_of outcome.claim.surplus))) counts.counted above)
+
+      by : (mark : Mark) → IfOptimal mark (λ cover measure. IsProved (batch_in state.exchange market) outcome × IsMeasured (batch_in state.exchange market) outcome measure)
+          → IfSome (stop_of mark) (λ run. IsMatch (batch_in state.exchange market) outcome × IsNotAbove outcome) → AtMost (claimed offer) (fraction_of outcome.claim.surplus)
+      by (Optimal cover measure) proved above = (counts.proves.bounds.between (fraction_of outcome.claim.surplus) proved.0.greatest).0
+      by (Wide wide) proved above = stopped above.1
+      by Budget proved above = stopped above.1
+
+  run_used : (outcome : Outcome) → IsCovered (batch_in state.exchange market) outcome → IsProvedGreatest (batch_in state.exchange market) outcome → NoneIsAbove state market outcome
+      → IsAsGood (claimed offer) bound (told_clear (fraction_of outcome.claim.surplus) None)
+  run_used outcome covered greatest none = record { no_less = run_no_less outcome greatest none; within = covered_within outcome covered; no_more = tt }
+
+  replied_used : (answer : Answer) → IsRepliedFor state line answer next → IsUsed (clear_in market (replied answer))
+  replied_used answer is = by answer.reply (has IsCovered step_is_covered) (has IsProvedGreatest step_is_optimal) is.unbeaten
+    where
+      has : (P : Batch → Outcome → Type 0) → OfEachCleared P → IsClearOf P state.exchange answer.reply
+      has P each = subst (λ (a : Answer). IsClearOf P state.exchange a.reply) (sym is.reply) (reply_clears P each state.exchange sound.kept (line_of line).body)
+
+      cleared : (other : ℕ) (outcome : Outcome) → IsCovered (batch_in state.exchange other) outcome → IsProvedGreatest (batch_in state.exchange other) outcome
+          → NoneIsAbove state other outcome → (b : Bool) → nat_eq other market ≡ b → IsUsed (if b then Some (told_clear (fraction_of outcome.claim.surplus) None) else None)
+      cleared other outcome covered greatest none true is_it =
+          let here = same_number other market is_it in
+          run_used outcome (subst (λ (q : ℕ). IsCovered (batch_in state.exchange q) outcome) here covered)
+          (subst (λ (q : ℕ). IsProvedGreatest (batch_in state.exchange q) outcome) here greatest) (subst (λ (q : ℕ). NoneIsAbove state q outcome) here none)
+      cleared other outcome covered greatest none false apart = same_kept is.kept
+
+      by : (reply : Reply) → IsClearOf IsCovered state.exchange reply → IsClearOf IsProvedGreatest state.exchange reply
+          → IfClears (λ number other batch outcome. NoneIsAbove state other outcome) reply → IsUsed (cleared_in market reply)
+      by (Opened account) covered greatest none = same_kept is.kept
+      by (Deposited account balance) covered greatest none = same_kept is.kept
+      by (Withdrawn account balance) covered greatest none = same_kept is.kept
+      by (Listed other underlyings) covered greatest none = same_kept is.kept
+      by (Placed order) covered greatest none = same_kept is.kept
+      by (Cancelled order) covered greatest none = same_kept is.kept
+      by (Cleared number other batch outcome) covered greatest none = cleared other outcome covered greatest none (nat_eq other market) refl
+      by (Settled other lapsed payouts) covered greatest none = same_kept is.kept
+      by (Balance account balance reserved) covered greatest none = same_kept is.kept
+      by (Refused number field) covered greatest none = same_kept is.kept
+
+  bounded_used : (answer : BoundedAnswer) → IsBoundedFor state line answer next → IsUsed (clear_in market (bounded answer))
+  bounded_used answer is = by (nat_eq answer.market market) refl
+    where
+      reference : Outcome
+      reference = reference_in state answer.market answer.budget
+
+      by : (b : Bool) → nat_eq answer.market market ≡ b
+          → IsUsed (if b then Some (told_clear (fraction_of answer.better.proposal.claim.surplus) (Some (fraction_of answer.better.bound))) else None)
+      by true is_it =
+          let here = same_number answer.market market is_it in
+          let c = chosen reference (stop_of reference.mark) (counted_in state answer.market) answer.better is.better in
+          let counted : Some c.kept ≡ Some counts.best = sym c.is_kept ∙ ap (counted_in state) here ∙ counts.counted in
+          let same : c.kept ≡ counts.best = cc in
+          let better = better_is state answer.market answer.budget sound is.accepted answer.better is.better in
+          record {
+            no_less = subst (λ (b : BoundedOutcome). AtMost (claimed offer) (fraction_of b.proposal.claim.surplus)) (sym c.is)
+                (subst (λ (best : Best). AtMost (claimed offer) (surplus_of best.covered)) (sym same) counts.no_less);
+            within = covered_within (as_optimal answer.better.proposal)
+                (subst (λ (q : ℕ). IsCovered (batch_in state.exchange q) (as_optimal answer.better.proposal)) here better.proves.covered);
+            no_more = subst (λ (b : BoundedOutcome). AtMost (fraction_of b.bound) bound) (sym c.is)
+                (subst (λ (best : Best). AtMost (fraction_of best.bounded.bound) bound) (sym same) counts.no_more);
+          }
+      by false apart =
+          λ same. stay_counted market offer bound state next counts (ap (kept_in market) is.kept ∙ others_removed answer.market market (other_way answer.market market apart) state.kept) same
+
+  taken_used : (answer : TakenAnswer) → IsTakenFor state line answer next → IsUsed (clear_in market (taken answer))
+  taken_used answer is = by (nat_eq market answer.proposed.market) refl
+    where
+      by : (b : Bool) → nat_eq market answer.proposed.market ≡ b → Later
+      by true is_it = λ same. taken_better state next line answer is market (same_number market answer.proposed.market is_it) offer bound counts same
+      by false apart =
+          λ same. stay_counted market offer bound state next counts (ap (kept_in market) is.kept ∙ others_kept answer.proposed.market market apart answer.best state.kept) same
+
+  line_used : (answer : ProposalAnswer) → IsToldFor state line answer next → IsUsed (clear_in market answer)
+  line_used (replied answer) is = replied_used answer is
+  line_used (bounded answer) is = bounded_used answer is
+  line_used (taken answer) is = taken_used answer is
+  line_used (beside number text) is = same_kept is.kept
+
+-- ---- all lines
+-- what follows a line follows by what it clears
+follows : (surplus bound : Fraction) (told : Option ToldClear) (First Then : Type 0) → (First → Then) → clears_or surplus bound told First → clears_or surplus bound told Then
+follows surplus bound None First Then later used = later used
+follows surplus bound (Some told) First Then later used = used
+
+module _ {S : Type 0} (proposing : S → ProposingState) (step : ℕ → S → List ℕ → List ℕ × S) where
+  abbrev Stays : ℕ → S → S → Type 0
+  Stays market state next = batch_in (proposing next).exchange market ≡ batch_in (proposing state).exchange market
+
+  used_later : (market : ℕ) (offer : Proposal) (bound : Fraction) (lines : List InputLine) (answers : List ProposalAnswer) (state : S) → IsSound (proposing state)
+      → Counts market offer bound (proposing state) → AreToldFor proposing step state lines answers → IsUsedBy proposing step market (claimed offer) bound state lines answers
+  used_later market offer bound [] answers state sound counts are = tt
+  used_later market offer bound (line ∷ lines) [] state sound counts are = tt
+  used_later market offer bound (line ∷ lines) (answer ∷ answers) state sound counts are =
+      let next = (step line.number state line.bytes).1 in
+      let after = told_sound (proposing state) (proposing next) line sound answer are.0 in
+      follows (claimed offer) bound (clear_in market answer) (Stays market state next → Counts market offer bound (proposing next))
+      (Stays market state next → IsUsedBy proposing step market (claimed offer) bound next lines answers)
+      (λ later same. used_later market offer bound lines answers next after (later same) are.3)
+      (line_used market offer bound (proposing state) (proposing next) line sound counts answer are.0)
+
+  taken_is_used : (state next : S) (line : InputLine) (lines : List InputLine) (answers : List ProposalAnswer) → IsSound (proposing next)
+      → AreToldFor proposing step next lines answers → (answer : ProposalAnswer) → IsToldFor (proposing state) line answer (proposing next)
+      → IfTaken (λ t. IsUsedBy proposing step t.proposed.market (fraction_of t.proposed.submission.proposal.claim.surplus) (fraction_of t.bound) next lines answers) answer
+  taken_is_used state next line lines answers sound are (replied answer) is = tt
+  taken_is_used state next line lines answers sound are (bounded answer) is = tt
+  taken_is_used state next line lines answers sound are (taken answer) is =
+      used_later answer.proposed.market answer.proposed.submission.proposal (fraction_of answer.bound) lines answers next sound
+      (taken_counts (proposing state) (proposing next) line answer is) are
+  taken_is_used state next line lines answers sound are (beside number text) is = tt
+
+  pub uses_the_best : UsesTheBest proposing step
+  uses_the_best state [] answers sound are = tt
+  uses_the_best state (line ∷ lines) [] sound are = tt
+  uses_the_best state (line ∷ lines) (answer ∷ answers) sound are =
+      let next = (step line.number state line.bytes).1 in
+      let after = told_sound (proposing state) (proposing next) line sound answer are.0 in
+      (taken_is_used state next line lines answers after are.3 answer are.0, uses_the_best next lines answers after are.3)
+
+-- an exchange that takes proposals, and no more
+pub best_is_used : BestIsUsed
+best_is_used = uses_the_best (λ state. state) proposing_line
