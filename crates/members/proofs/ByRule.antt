@@ -1,0 +1,260 @@
+-- What an account has changes by its owner, and by the operator's deposits, clears and settlements.
+use Rattle.std.proofs.Common.{◌≡◌, ℕ, ◌+◌, Bool, true, false, not, List, [], ◌∷◌, ◌++◌, append-nil, nat_eq, take, All, Contains, ◌⊎◌, inl, inr, Option, Some, None, is_some, if◌then◌else◌, refl, sym, subst, arith}
+use Rattle.std.specs.Option.{option_map_or}
+use Rattle.std.proofs.lemmas.Bool.Decides.{nat_tests}
+use Rattle.std.proofs.lemmas.List.Elements.{All-nil, All-cons, All-push, All-weaker, All-contains_itself, Contains-append_left}
+use Rattle.cash_ledger.specs.declared.entry.Entry.{Entry}
+use Rattle.cash_ledger.specs.Entries.{deposit_of, withdrawal_of}
+use Rattle.cash_ledger.specs.Refusals.{account_refusals}
+use Rattle.clearing.specs.Outcome.{outcome_of}
+use Rattle.form.specs.declared.orders.Order.{Order}
+use Rattle.form.specs.declared.orders.Side.{Side}
+use Rattle.form.specs.declared.orders.Side.TheVariants.{Buy, Sell}
+use Rattle.frac.specs.declared.frac128.Frac128.{Frac128}
+use Rattle.command_text.specs.declared.command.Command.{Command}
+use Rattle.command_text.specs.declared.command.Command.TheVariants.{Open, Deposit, Withdraw, Market, Trade, Bundle, Cancel, Clear, Settle, Balance}
+use Rattle.command_text.specs.declared.requests.Request.TheVariants as asks
+use Rattle.lists.specs.Refusals.{first_of}
+use Rattle.lists.proofs.FirstRefusal.{none_in_both, none_unnamed}
+use Rattle.order_book.specs.declared.new_order.NewOrder.{NewOrder}
+use Rattle.order_book.specs.declared.refusal.BookRefusal.TheVariants.{NoOrder, NotOwner}
+use Rattle.order_book.specs.Book.{BookState, live_of, order_of, with_number}
+use Rattle.order_book.specs.Markets.{settled_market, with_live}
+use Rattle.order_book.specs.Refusals.{cancel_refusals}
+use Rattle.order_book.proofs.AllLive.{live-with_market}
+use Rattle.settlement.specs.Positions.{payouts_of}
+use Rattle.exchange_core.specs.declared.refusal.Refusal.{Refusal}
+use Rattle.exchange_core.specs.ExchangeState.{ExchangeState, all_live}
+use Rattle.exchange_core.specs.Kept.{IsKept}
+use Rattle.exchange_core.specs.Orders.{order_by, order_for}
+use Rattle.exchange_core.specs.Payoffs.{payoff_entries}
+use Rattle.exchange_core.specs.Premiums.{premium_entries}
+use Rattle.exchange_core.specs.Refusals.{book_name, by_book, by_ledger, refusal_of}
+use Rattle.exchange_core.specs.Step.{batch_in, cleared_with, effect, place_effect, refusal_effect, step, with_entry}
+use Rattle.exchange_core.proofs.Keeping.{clears_keep, step_keeps}
+use Rattle.exchange_core.proofs.LiveAccounts.{All-live_in, All-replaced, All-without_in_each}
+use Rattle.members.specs.Laws.{AddsEntries, Event, Said, Charged, IsByRule, IsEnding, IsEntryBy, IsOperator, IsOwner, Managed, MayCome, MovesAreByRule, after_event, after_passed, command_in, refusal_to, session_in}
+use Rattle.members.specs.Members.{Owned, is_allowed, is_over, owns}
+use Rattle.members.specs.Rule.{is_among, sender_of, side_word}
+use Rattle.members.specs.declared.refusal.MemberRefusal.{MemberRefusal}
+use Rattle.members.specs.declared.refusal.MemberRefusal.TheVariants.{NotAllowed, Quota}
+use Rattle.members.proofs.EntryCauses.{all_payoffs_by, all_premiums_by}
+use Rattle.members.proofs.Listings.{listing-with_live_in, listing-without_in_each}
+use Rattle.members.proofs.LiveMoves.{all_but_found, all_stay}
+use Rattle.members.proofs.OwnerLists.{owner_is}
+
+-- ---- the order that is cancelled is the account's
+record IsCancelled (book : BookState) (account number : ℕ) : Type 0 where
+  order : Order
+  found : order_of book number ≡ Some order
+  own : order.account ≡ account
+
+cancelled : (book : BookState) (account number : ℕ) → first_of (cancel_refusals book account number) ≡ None → IsCancelled book account number
+cancelled book account number none = by (order_of book number) refl none
+  where
+    own : (order : Order) (b : Bool) → nat_eq account order.account ≡ b → (if not b then Some NotOwner else None) ≡ None → order.account ≡ account
+    own order true is h = grind (arith, nat_tests)
+    own order false is h = cc
+
+    by : (there : Option Order) → order_of book number ≡ there
+        → (if not (is_some there) then Some NoOrder else if option_map_or (λ (order : Order). not (nat_eq account order.account)) there false then Some NotOwner else None) ≡ None
+        → IsCancelled book account number
+    by None at h = absurd (cc)
+    by (Some order) at h = record { order = order; found = at; own = own order (nat_eq account order.account) refl h }
+
+cancel_none : (state : ExchangeState) (account number : ℕ) → refusal_of state (Cancel account number) ≡ None → first_of (cancel_refusals state.book account number) ≡ None
+cancel_none state account number none =
+    let book = cancel_refusals state.book account number in
+    none_unnamed book_name book (refl, (refl, tt)) (none_in_both (by_ledger (account_refusals state.accounts account)) (by_book book) none).1
+
+-- both sides of an order for one option are its owner's
+pub of_side : (owners : Owned) (session : ℕ) (side : Side) (account : ℕ) → is_among (sender_of (side_word side)) session (owns owners session account) ≡ true → owns owners session account ≡ true
+of_side owners session Buy account allowed = allowed
+of_side owners session Sell account allowed = allowed
+
+-- ---- what a session does
+module _ (owners : Owned) (session : ℕ) (state : ExchangeState) where
+  abbrev live : List Order
+  live = all_live state
+
+  abbrev ByRule : Command → ExchangeState → Type 0
+  ByRule command after = IsByRule owners session command state after
+
+  -- an order is live before, or the session's
+  abbrev Placed : Order → Type 0
+  Placed order = Contains live order ⊎ IsOwner owners session order.account
+
+  -- an order is live after, or the session's, or ended
+  abbrev Gone : Command → ExchangeState → Order → Type 0
+  Gone command after order = Contains (all_live after) order ⊎ (IsOwner owners session order.account ⊎ IsEnding session command)
+
+  were_live : All Placed live
+  were_live = All-weaker (Contains live) Placed (λ order at. inl at) live (All-contains_itself live)
+
+  still_live : (command : Command) (after : ExchangeState) → All (Contains (all_live after)) live → All (Gone command after) live
+  still_live command after still = All-weaker (Contains (all_live after)) (Gone command after) (λ order at. inl at) live still
+
+  ended : (command : Command) (after : ExchangeState) → IsEnding session command → All (Gone command after) live
+  ended command after is = All-weaker (Contains live) (Gone command after) (λ order at. inr (inr is)) live (All-contains_itself live)
+
+  no_entries : AddsEntries owners session state.entries state.entries
+  no_entries = record { added = []; joined = sym (append-nil state.entries); each = All-nil (IsEntryBy owners session) }
+
+  one_entry : (entry : Entry) → IsEntryBy owners session entry → AddsEntries owners session state.entries (state.entries ++ entry ∷ [])
+  one_entry entry may = record { added = entry ∷ []; joined = refl; each = All-cons (IsEntryBy owners session) entry [] may (All-nil (IsEntryBy owners session)) }
+
+  -- nothing is changed, or an account is opened
+  unmoved : (command : Command) → ByRule command state
+  unmoved command = record {
+    entries = no_entries;
+    placed = were_live;
+    gone = still_live command state (All-contains_itself live);
+    markets = inl refl;
+    positions = inl refl;
+  }
+
+  account_opened : (account : ℕ) → ByRule (Open account) (effect state (Open account)).1
+  account_opened account = record {
+    entries = no_entries;
+    placed = were_live;
+    gone = still_live (Open account) state (All-contains_itself live);
+    markets = inl refl;
+    positions = inl refl;
+  }
+
+  -- an entry more
+  entered : (command : Command) (entry : Entry) → IsEntryBy owners session entry → ByRule command (with_entry state entry)
+  entered command entry may = record {
+    entries = one_entry entry may;
+    placed = were_live;
+    gone = still_live command state (All-contains_itself live);
+    markets = inl refl;
+    positions = inl refl;
+  }
+
+  market_listed : (market underlyings : ℕ) → IsOperator session → ByRule (Market market underlyings) (effect state (Market market underlyings)).1
+  market_listed market underlyings operator =
+      let same = live-with_market market underlyings state.book.markets in
+      record {
+        entries = no_entries;
+        placed = subst (All Placed) (sym same) were_live;
+        gone = still_live (Market market underlyings) (effect state (Market market underlyings)).1 (subst (λ now. All (Contains now) live) (sym same) (All-contains_itself live));
+        markets = inr operator;
+        positions = inl refl;
+      }
+
+  order_placed : (command : Command) (order : NewOrder) → IsOwner owners session order.account → ByRule command (place_effect state order).1
+  order_placed command order own =
+      let market = order.market in
+      let before = live_of state.book market in
+      let new = with_number (state.book.accepted + 1) order in
+      let now = before ++ new ∷ [] in
+      let in_market = All-live_in Placed market state.book.markets were_live in
+      let stay = all_stay market now state.book.markets (All-weaker (Contains before) (Contains now) (λ x at. Contains-append_left before (new ∷ []) x at) before (All-contains_itself before)) in
+      record {
+        entries = no_entries;
+        placed = All-replaced Placed market (λ m. with_live m now) now (λ m. refl) state.book.markets were_live (All-push Placed before new in_market (inr own));
+        gone = still_live command (place_effect state order).1 stay;
+        markets = inl (listing-with_live_in market now state.book.markets);
+        positions = inl refl;
+      }
+
+  order_cancelled : (account number : ℕ) → IsKept state → refusal_of state (Cancel account number) ≡ None → IsOwner owners session account → ByRule (Cancel account number) (effect state (Cancel account number)).1
+  order_cancelled account number kept none own =
+      let markets = state.book.markets in
+      let is = cancelled state.book account number (cancel_none state account number none) in
+      let Ours : Order → Type 0 = λ order. IsOwner owners session order.account ⊎ IsEnding session (Cancel account number) in
+      record {
+        entries = no_entries;
+        placed = All-without_in_each Placed number markets were_live;
+        gone = all_but_found number Ours markets is.order (kept.orders.book.numbers number) is.found (inl (subst (IsOwner owners session) (sym is.own) own));
+        markets = inl (listing-without_in_each number markets);
+        positions = inl refl;
+      }
+
+  batch_charged : (command : Command) (market : ℕ) (fills : List Frac128) → IsOperator session → IsEnding session command → ByRule command (cleared_with state market fills)
+  batch_charged command market fills operator ending =
+      let batch = batch_in state market in
+      record {
+        entries = record { added = premium_entries (state.book.finished + 1) batch.orders fills; joined = refl; each = all_premiums_by owners session operator (state.book.finished + 1) batch.orders fills };
+        placed = All-replaced Placed market (λ m. with_live m []) [] (λ m. refl) state.book.markets were_live (All-nil Placed);
+        gone = ended command (cleared_with state market fills) ending;
+        markets = inr operator;
+        positions = inr operator;
+      }
+
+  market_settled : (market count : ℕ) (prices : List ℕ) → IsOperator session → ByRule (Settle market count prices) (effect state (Settle market count prices)).1
+  market_settled market count prices operator = record {
+    entries = record { added = payoff_entries (payouts_of market (take count prices) state.positions); joined = refl; each = all_payoffs_by owners session operator (payouts_of market (take count prices) state.positions) };
+    placed = All-replaced Placed market settled_market [] (λ m. refl) state.book.markets were_live (All-nil Placed);
+    gone = ended (Settle market count prices) (effect state (Settle market count prices)).1 (operator, refl);
+    markets = inr operator;
+    positions = inr operator;
+  }
+
+  -- a command that the rule allows and the exchange accepts
+  accepted : (command : Command) → IsKept state → is_allowed owners session (asks.Command command) ≡ true → refusal_of state command ≡ None → ByRule command (effect state command).1
+  accepted (Open account) kept allowed none = account_opened account
+  accepted (Deposit account amount) kept allowed none = entered (Deposit account amount) (deposit_of account amount) allowed
+  accepted (Withdraw account amount) kept allowed none = entered (Withdraw account amount) (withdrawal_of account amount) (owner_is owners session account allowed)
+  accepted (Market market underlyings) kept allowed none = market_listed market underlyings allowed
+  accepted (Trade side account market kind strike price quantity count weights) kept allowed none =
+      order_placed (Trade side account market kind strike price quantity count weights) (order_by side account market kind strike price quantity count weights)
+      (owner_is owners session account (of_side owners session side account allowed))
+  accepted (Bundle side account market price quantity bundle) kept allowed none =
+      order_placed (Bundle side account market price quantity bundle) (order_for side account market price quantity bundle) (owner_is owners session account allowed)
+  accepted (Cancel account number) kept allowed none = order_cancelled account number kept none (owner_is owners session account allowed)
+  accepted (Clear market budget) kept allowed none = batch_charged (Clear market budget) market (outcome_of (batch_in state market) budget).fills allowed (allowed, refl)
+  accepted (Settle market count prices) kept allowed none = market_settled market count prices allowed
+  accepted (Balance account) kept allowed none = unmoved (Balance account)
+
+  -- and whether the exchange accepts it or not
+  stepped : (command : Command) → IsKept state → is_allowed owners session (asks.Command command) ≡ true → ByRule command (step state command).1
+  stepped command kept allowed = by (refusal_of state command) refl
+    where
+      by : (refused : Option Refusal) → refusal_of state command ≡ refused → ByRule command (option_map_or (refusal_effect state) refused (effect state command)).1
+      by None none = accepted command kept allowed none
+      by (Some refusal) told = unmoved command
+
+-- ---- events
+module _ (state : Managed) (event : Event) where
+  pub allowed_if : refusal_to state event ≡ None → is_allowed state.members.owners (session_in event) (asks.Command (command_in event)) ≡ true
+  allowed_if none = by (is_allowed state.members.owners (session_in event) (asks.Command (command_in event))) none
+    where
+      over : Bool
+      over = is_over state.members state.exchange (session_in event) (asks.Command (command_in event))
+
+      by : (b : Bool) → (if not b then Some NotAllowed else if over then Some Quota else None) ≡ None → b ≡ true
+      by true h = refl
+      by false h = cc
+
+pub record Moves (state : Managed) (event : Event) (after : Managed) : Type 0 where
+  pub rule : IsByRule state.members.owners (session_in event) (command_in event) state.exchange after.exchange
+  pub keeps : IsKept after.exchange
+
+passed : (state : Managed) (event : Event) → IsKept state.exchange → MayCome state event → is_allowed state.members.owners (session_in event) (asks.Command (command_in event)) ≡ true
+    → Moves state event (after_passed state event)
+passed state (Said session command) kept may allowed = record {
+  rule = stepped state.members.owners session state.exchange command kept allowed;
+  keeps = step_keeps state.exchange command kept may;
+}
+passed state (Charged session market budget fills) kept may allowed = record {
+  rule = batch_charged state.members.owners session state.exchange (Clear market budget) market fills allowed (allowed, refl);
+  keeps = clears_keep state.exchange market fills kept may.0 may.1;
+}
+
+pub moved : (state : Managed) (event : Event) → IsKept state.exchange → MayCome state event → Moves state event (after_event state event)
+moved state event kept may = by (refusal_to state event) refl
+  where
+    by : (refused : Option MemberRefusal) → refusal_to state event ≡ refused → Moves state event (option_map_or (λ refusal. state) refused (after_passed state event))
+    by None none = passed state event kept may (allowed_if state event none)
+    by (Some refusal) told = record {
+      rule = unmoved state.members.owners (session_in event) state.exchange (command_in event);
+      keeps = kept;
+    }
+
+pub moves_are_by_rule : MovesAreByRule
+moves_are_by_rule state [] kept come = tt
+moves_are_by_rule state (event ∷ events) kept come =
+    let first = moved state event kept come.0 in
+    (first.rule, moves_are_by_rule (after_event state event) events first.keeps come.1)

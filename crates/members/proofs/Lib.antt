@@ -1,0 +1,10 @@
+pub mod ByRule
+pub mod Counting
+pub mod EntryCauses
+pub mod FewLive
+pub mod Listings
+pub mod LiveMoves
+pub mod LiveQuota
+pub mod OwnLive
+pub mod OwnerLists
+pub mod ToldNothing

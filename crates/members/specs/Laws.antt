@@ -1,0 +1,196 @@
+-- What is promised of owners, and of what an account has.
+use Rattle.std.specs.Prelude.{ℕ, ◌≡◌, ◌≤◌, ⊤, ◌⊎◌, Bool, true, false, List, [], ◌∷◌, ◌++◌, map, Option, Some, None}
+use Rattle.std.specs.List.{All, Contains}
+use Rattle.std.specs.Option.{option_map_or}
+use Rattle.cash_ledger.specs.declared.entry.Cause.{Cause}
+use Rattle.cash_ledger.specs.declared.entry.Cause.TheVariants as cause
+use Rattle.cash_ledger.specs.declared.entry.Entry.{Entry}
+use Rattle.clearing_model.specs.Certificate.{AreFractionFills}
+use Rattle.form.specs.declared.orders.Order.{Order}
+use Rattle.command_text.specs.declared.command.Command.{Command}
+use Rattle.command_text.specs.declared.command.Command.TheVariants.{Open, Deposit, Withdraw, Market, Trade, Bundle, Cancel, Clear, Settle, Balance}
+use Rattle.command_text.specs.declared.requests.MarginRequest.{MarginRequest}
+use Rattle.command_text.specs.declared.requests.Request.{Request}
+use Rattle.command_text.specs.declared.requests.Request.TheVariants as asks
+use Rattle.command_text.specs.Within.{IsWithin}
+use Rattle.frac.specs.declared.frac128.Frac128.{Frac128}
+use Rattle.frac.specs.Value.{fraction_of}
+use Rattle.lists.specs.Refusals.{first_of}
+use Rattle.order_book.specs.Markets.{Markets, MarketState}
+use Rattle.order_book.specs.Refusals.{batch_refusals}
+use Rattle.exchange_core.specs.ExchangeState.{ExchangeState, all_live}
+use Rattle.exchange_core.specs.Kept.{IsKept}
+use Rattle.exchange_core.specs.Refusals.{by_book}
+use Rattle.exchange_core.specs.Step.{batch_in, cleared_with, step}
+use Rattle.members.specs.Members.{MembersState, Owned, after_reply, counted_of, is_allowed, may_ask, own_live, owner_of, owns}
+use Rattle.members.specs.Refusals.{rule_refusals}
+use Rattle.members.specs.Rule.{is_operator}
+use Rattle.members.specs.declared.counts.Counted.{Counted}
+use Rattle.members.specs.declared.quota.TheConstants.{MAX_OPENED, MAX_OWN_LIVE, MAX_PLACED}
+use Rattle.members.specs.declared.refusal.MemberRefusal.{MemberRefusal}
+
+-- an exchange, and its members
+pub record Managed : Type 0 where
+  pub exchange : ExchangeState
+  pub members : MembersState
+
+abbrev pub managed : ExchangeState → MembersState → Managed
+managed exchange members = record { exchange = exchange; members = members }
+
+-- what a session may say: a command; a clear of a market within a budget, whose fills others found
+pub data Event : Type 0 where
+  Said : ℕ → Command → Event
+  Charged : ℕ → ℕ → ℕ → List Frac128 → Event
+
+abbrev pub session_in : Event → ℕ
+session_in (Said session command) = session
+session_in (Charged session market budget fills) = session
+
+abbrev pub command_in : Event → Command
+command_in (Said session command) = command
+command_in (Charged session market budget fills) = Clear market budget
+
+-- ---- what each does
+-- the rule's refusal
+abbrev pub refusal_to : Managed → Event → Option MemberRefusal
+refusal_to state event = first_of (rule_refusals state.members state.exchange (session_in event) (asks.Command (command_in event)))
+
+-- what the rule lets through is carried out by the exchange, or refused by it
+abbrev pub after_passed : Managed → Event → Managed
+after_passed state (Said session command) =
+    let done = step state.exchange command in
+    managed done.1 (after_reply state.members session done.0)
+after_passed state (Charged session market budget fills) = managed (cleared_with state.exchange market fills) state.members
+
+abbrev pub after_event : Managed → Event → Managed
+after_event state event = option_map_or (λ refusal. state) (refusal_to state event) (after_passed state event)
+
+abbrev pub after_events : Managed → List Event → Managed
+after_events state [] = state
+after_events state (event ∷ events) = after_events (after_event state event) events
+
+-- the numbers of a command are within the limits; fills are those of a market that may be cleared
+abbrev pub MayCome : Managed → Event → Type 0
+MayCome state (Said session command) = IsWithin command
+MayCome state (Charged session market budget fills) =
+    (first_of (by_book (batch_refusals state.exchange.book market)) ≡ None)
+    × AreFractionFills (batch_in state.exchange market).orders (map fraction_of fills)
+
+abbrev pub AreToCome : Managed → List Event → Type 0
+AreToCome state [] = ⊤
+AreToCome state (event ∷ events) = MayCome state event × AreToCome (after_event state event) events
+
+-- ---- owners
+-- an account that has an owner keeps it
+abbrev pub OwnersStay : Type 0
+OwnersStay =
+    (state : Managed) (events : List Event) (account owner : ℕ) → owner_of state.members.owners account ≡ Some owner
+    → owner_of (after_events state events).members.owners account ≡ Some owner
+
+-- what the rule refuses changes neither exchange nor members
+abbrev pub RefusedChangesNothing : Type 0
+RefusedChangesNothing = (state : Managed) (event : Event) (refusal : MemberRefusal) → refusal_to state event ≡ Some refusal → after_event state event ≡ state
+
+-- ---- quotas
+abbrev pub IsWithinQuota : Counted → Type 0
+IsWithinQuota counted = (counted.opened ≤ MAX_OPENED) × (counted.placed ≤ MAX_PLACED)
+
+-- a session that is not the operator's stays within its part of what all share
+abbrev pub QuotasHold : Type 0
+QuotasHold =
+    (state : Managed) (events : List Event) (session : ℕ) → is_operator session ≡ false → IsWithinQuota (counted_of state.members.counts session)
+    → IsWithinQuota (counted_of (after_events state events).members.counts session)
+
+-- in each market the accounts of a session have at most 64 live orders
+abbrev pub HasFewLive : Managed → ℕ → Type 0
+HasFewLive state session =
+    All (λ (m : ℕ × MarketState). own_live state.members.owners session m.1.live ≤ MAX_OWN_LIVE) state.exchange.book.markets
+
+-- those of a session that is not the operator's stay few
+abbrev pub LiveOrdersAreFew : Type 0
+LiveOrdersAreFew =
+    (state : Managed) (events : List Event) (session : ℕ) → is_operator session ≡ false → IsKept state.exchange → AreToCome state events
+    → HasFewLive state session → HasFewLive (after_events state events) session
+
+-- ---- what is told
+-- a session may say this neither as a message nor as a question
+abbrev pub MayNotSay : Owned → ℕ → Request → Type 0
+MayNotSay owners session request = (is_allowed owners session request ≡ false) × (may_ask owners session request ≡ false)
+
+-- nor any line that tells of the account
+pub record IsToldNothing (owners : Owned) (session account : ℕ) : Type 0 where
+  pub balance : MayNotSay owners session (asks.Command (Balance account))
+  pub positions : (market : ℕ) → MayNotSay owners session (asks.Positions account market)
+  pub margin : (request : MarginRequest) → request.account ≡ account → MayNotSay owners session (asks.Margin request)
+
+-- of an account its owner is told, and the operator, and no other
+abbrev pub OthersAreToldNothing : Type 0
+OthersAreToldNothing =
+    (owners : Owned) (session account : ℕ) → owns owners session account ≡ false → is_operator session ≡ false → IsToldNothing owners session account
+
+-- ---- what an account has
+abbrev pub IsOperator : ℕ → Type 0
+IsOperator session = is_operator session ≡ true
+
+abbrev pub IsOwner : Owned → ℕ → ℕ → Type 0
+IsOwner owners session account = owner_of owners account ≡ Some session
+
+-- deposits, premiums and payoffs are the operator's doing, and a withdrawal its owner's
+abbrev pub MayCause : Owned → ℕ → ℕ → Cause → Type 0
+MayCause owners session account cause.Deposit = IsOperator session
+MayCause owners session account cause.Withdraw = IsOwner owners session account
+MayCause owners session account (cause.Premium batch) = IsOperator session
+MayCause owners session account (cause.Payoff batch) = IsOperator session
+
+abbrev pub IsEntryBy : Owned → ℕ → Entry → Type 0
+IsEntryBy owners session entry = MayCause owners session entry.account entry.cause
+
+-- a clear or a settlement, by which live orders lapse
+abbrev pub is_ending : Command → Bool
+is_ending (Open account) = false
+is_ending (Deposit account amount) = false
+is_ending (Withdraw account amount) = false
+is_ending (Market market underlyings) = false
+is_ending (Trade side account market kind strike price quantity count weights) = false
+is_ending (Bundle side account market price quantity bundle) = false
+is_ending (Cancel account order) = false
+is_ending (Clear market budget) = true
+is_ending (Settle market count prices) = true
+is_ending (Balance account) = false
+
+abbrev pub IsEnding : ℕ → Command → Type 0
+IsEnding session command = IsOperator session × (is_ending command ≡ true)
+
+-- the markets that there are, each with its underlyings and whether it is settled
+abbrev pub listing_of : Markets → List (ℕ × (ℕ × Bool))
+listing_of markets = map (λ (m : ℕ × MarketState). (m.0, (m.1.underlyings, m.1.settled))) markets
+
+-- the entries that are new are such as the session may cause
+pub record AddsEntries (owners : Owned) (session : ℕ) (before after : List Entry) : Type 0 where
+  pub added : List Entry
+  pub joined : after ≡ before ++ added
+  pub each : All (IsEntryBy owners session) added
+
+-- what a session said changed this: from before to after, where these were the owners
+pub record IsByRule (owners : Owned) (session : ℕ) (command : Command) (before after : ExchangeState) : Type 0 where
+  pub entries : AddsEntries owners session before.entries after.entries
+  -- a live order was live before, or is of an account of the session
+  pub placed : All (λ (order : Order). Contains (all_live before) order ⊎ IsOwner owners session order.account) (all_live after)
+  -- an order that was live is live, or is of an account of the session, or the operator cleared or
+  -- settled
+  pub gone : All (λ (order : Order). Contains (all_live after) order ⊎ (IsOwner owners session order.account ⊎ IsEnding session command)) (all_live before)
+  -- markets are listed and settled, and positions come and go, by the operator alone
+  pub markets : (listing_of after.book.markets ≡ listing_of before.book.markets) ⊎ IsOperator session
+  pub positions : (after.positions ≡ before.positions) ⊎ IsOperator session
+
+-- each event of a list, in the state that stands before it
+abbrev pub AreByRule : Managed → List Event → Type 0
+AreByRule state [] = ⊤
+AreByRule state (event ∷ events) =
+    IsByRule state.members.owners (session_in event) (command_in event) state.exchange (after_event state event).exchange
+    × AreByRule (after_event state event) events
+
+-- what an account has changes by its owner's will, and by the operator's deposits, clears and
+-- settlements
+abbrev pub MovesAreByRule : Type 0
+MovesAreByRule = (state : Managed) (events : List Event) → IsKept state.exchange → AreToCome state events → AreByRule state events

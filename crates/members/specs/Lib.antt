@@ -1,0 +1,5 @@
+pub mod Laws
+pub mod Members
+pub mod Refusals
+pub mod Rule
+pub mod Worked
