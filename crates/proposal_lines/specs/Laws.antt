@@ -84,8 +84,8 @@ IsRefused (Told (told.Positions account market positions)) = ⊥
 IsRefused (Told (told.Bounded number market batch outcome)) = ⊥
 IsRefused (Told (told.Closed market orders)) = ⊥
 IsRefused (Told (told.Reopened market)) = ⊥
-IsRefused (Told told.MarketIsClosed) = ⊥
-IsRefused (Told told.MarketIsOpen) = ⊥
+IsRefused (Told told.MarketIsClosed) = ⊤
+IsRefused (Told told.MarketIsOpen) = ⊤
 
 -- by such a proposal nothing changes
 abbrev pub RefusedChangeNothing : Type 0
