@@ -3,6 +3,7 @@
 from __future__ import annotations
 
 import os
+import shutil
 import subprocess
 
 from ragvismo_tools.places import TOP
@@ -20,7 +21,7 @@ class Others(Folder):
             self.refused(run(tool, "--program", "none"))
         told = run("check-many", JOURNALS[0], "--program", "none")
         self.refused(told)
-        self.assertIn(b"./build", told.stderr)
+        self.assertIn(b"./build" if shutil.which("parallel") else b"tools/setup", told.stderr)
 
     def test_all_python_tools_are_of_one_python(self) -> None:
         for tool in TOOLS:
