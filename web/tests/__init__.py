@@ -18,9 +18,14 @@ class Together(unittest.TestCase):
     """Tests that share what their class sets up, and so run one after another."""
 
 
+def missing(*programs: str, modules: tuple[str, ...] = ()) -> list[str]:
+    """Which of these are missing."""
+    unfound = [name for name in programs if not shutil.which(name)]
+    return unfound + [name for name in modules if not importlib.util.find_spec(name)]
+
+
 def wants(*programs: str, modules: tuple[str, ...] = ()) -> Callable[[Tested], Tested]:
     """Skips a test, or a class of them, where one of these is missing."""
-    missing = [name for name in programs if not shutil.which(name)]
-    missing += [name for name in modules if not importlib.util.find_spec(name)]
-    told = f"{' and '.join(missing)} is missing; tools/setup installs it"
-    return unittest.skipIf(missing, told)
+    unfound = missing(*programs, modules=modules)
+    told = f"{' and '.join(unfound)} is missing; tools/setup installs it"
+    return unittest.skipIf(unfound, told)

@@ -5,11 +5,9 @@ from __future__ import annotations
 import os
 import re
 import subprocess
-import sys
-import tempfile
 import unittest
 
-from tests import TOP, WEB, wants
+from tests import WEB, wants
 
 # Modules of the recheck, which know whole numbers alone, and those that draw.
 DRAWING = {"batch_page", "batch_tables", "curve", "map", "picture_view", "seen", "svg", "tables"}
@@ -42,29 +40,3 @@ class Style(unittest.TestCase):
             self.assertEqual(found, [], file.name)
             imported = re.findall(r'^(?:import|export).* from "([^"]*)"', file.read_text(), re.M)
             self.assertTrue(all(name.startswith("./") for name in imported), file.name)
-
-    @wants(modules=("mypy",))
-    def test_types_of_python(self) -> None:
-        with tempfile.TemporaryDirectory() as kept:
-            words = [sys.executable, "-m", "mypy", "--strict", "--cache-dir", kept]
-            ran = subprocess.run(
-                [*words, "--config-file", "web/mypy.ini", "web/tests"],
-                cwd=TOP,
-                capture_output=True,
-                text=True,
-            )
-        self.assertEqual(ran.returncode, 0, ran.stdout)
-
-    @wants("black")
-    def test_format_of_python(self) -> None:
-        words = [
-            "black",
-            "--quiet",
-            "--check",
-            "--config",
-            "pyproject.toml",
-            "web/tests",
-            "web/test",
-        ]
-        ran = subprocess.run(words, cwd=TOP, capture_output=True)
-        self.assertEqual((ran.returncode, ran.stderr), (0, b""))

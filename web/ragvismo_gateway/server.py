@@ -1,0 +1,380 @@
+"""The gateway over HTTP: who asks, whether they may, and the answers."""
+
+from __future__ import annotations
+
+import asyncio
+import collections
+import json
+import logging
+import pathlib
+from collections.abc import Awaitable, Callable
+from typing import Any
+
+from aiohttp import web
+from ragvismo_gateway import rule
+from ragvismo_gateway.desks import Answer, Desks
+from ragvismo_gateway.feeds import Lines, tell
+from ragvismo_gateway.limits import Buckets, Limits
+from ragvismo_gateway.members import LOGIN_DAYS, Member, Members, is_password
+from ragvismo_gateway.refusals import Reason, Refusal
+from ragvismo_gateway.routes import Handler, Table, openapi
+from ragvismo_gateway.view import compact, reply_text
+from ragvismo_service.places import Keys
+from ragvismo_service.store import Store
+
+PAGE = pathlib.Path(__file__).resolve().parents[1] / "page"
+KINDS = {
+    ".html": "text/html",
+    ".mjs": "text/javascript",
+    ".css": "text/css",
+    ".replies": "text/plain",
+}
+COOKIE = "ragvismo"
+SMALL = 1024
+HEADERS = {
+    "Cache-Control": "no-store",
+    "Content-Security-Policy": "default-src 'none'; script-src 'self'; style-src 'self';"
+    " img-src data:; connect-src 'self'; base-uri 'none'; form-action 'none';"
+    " frame-ancestors 'none'",
+    "Cross-Origin-Opener-Policy": "same-origin",
+    "Cross-Origin-Resource-Policy": "same-origin",
+    "Referrer-Policy": "no-referrer",
+    "X-Content-Type-Options": "nosniff",
+}
+TABLE = Table()
+# How an argon2 hash is computed: so many at once, since each takes 64 MB.
+HASHES = 2
+HTTP_REASONS = {404: Reason.UNKNOWN, 405: Reason.METHOD, 413: Reason.LONG}
+
+
+def answered(told: object, status: int = 200) -> web.Response:
+    text = compact(told)
+    return web.Response(text=text, status=status, content_type="application/json")
+
+
+def refused(refusal: Refusal) -> web.Response:
+    return answered(refusal.answer(), refusal.status)
+
+
+def status_of(answer: Answer) -> int:
+    """What the exchange refuses is 422."""
+    return 422 if answer.reply["reply"] == "refused" else 200
+
+
+async def body_of(request: web.Request, most: int) -> bytes:
+    """The body of a request, of which no more is read than may be; raises Refusal."""
+    told = Refusal(Reason.LONG, f"at most {most} bytes are taken")
+    if (request.content_length or 0) > most:
+        raise told
+    pieces, size = [], 0
+    async for piece in request.content.iter_any():
+        size += len(piece)
+        if size > most:
+            raise told
+        pieces.append(piece)
+    return b"".join(pieces)
+
+
+def named(request: web.Request, part: str) -> int:
+    """The number in a path; raises Refusal."""
+    text = request.match_info[part]
+    if not rule.PLAIN.fullmatch(text):
+        raise Refusal(Reason.FORM, f"{part} is no number")
+    return int(text)
+
+
+class Gateway:
+    """What stands behind the paths."""
+
+    def __init__(
+        self, desks: Desks, members: Members, store: Store, hosts: set[str], limits: Limits
+    ) -> None:
+        self.desks, self.view, self.members, self.limits = desks, desks.view, members, limits
+        self.store, self.hosts, self.is_secure = store, hosts, False
+        self.lines, self.asked = Buckets(limits.lines), Buckets(limits.asked)
+        self.logins, self.names = Buckets(limits.logins), Buckets(limits.logins_of_name)
+        self.hashing, self.reading = asyncio.Semaphore(HASHES), asyncio.Lock()
+        self.sockets: dict[str, list[tuple[str, web.WebSocketResponse]]] = collections.defaultdict(
+            list
+        )
+
+    # ---- who asks
+
+    def check_origin(self, request: web.Request) -> None:
+        """No other page may speak for who is logged in here; raises Refusal."""
+        if request.host not in self.hosts:
+            raise Refusal(Reason.ORIGIN, "this gateway has another name")
+        origin, site = request.headers.get("Origin"), request.headers.get("Sec-Fetch-Site")
+        if origin is not None and origin != f"{request.scheme}://{request.host}":
+            raise Refusal(Reason.ORIGIN, "another page asks")
+        is_asking = request.method in ("GET", "HEAD") and request.path != "/feed"
+        if not is_asking and site not in (None, "same-origin", "none"):
+            raise Refusal(Reason.ORIGIN, "another page asks")
+        if not is_asking and origin is None and COOKIE in request.cookies:
+            raise Refusal(Reason.ORIGIN, "with a cookie the page that asks has to be told")
+
+    def known(self, request: web.Request) -> Member | None:
+        """Who asks, by a token or a login."""
+        kind, _, token = request.headers.get("Authorization", "").partition(" ")
+        if token:
+            return self.members.known_by(token, "token") if kind == "Bearer" else None
+        return self.members.known_by(request.cookies.get(COOKIE, ""), "login")
+
+    def member_of(self, request: web.Request) -> Member:
+        member = self.known(request)
+        if member is None:
+            raise Refusal(Reason.LOGIN, "log in first")
+        self.asked.take(member.name)
+        return member
+
+    @TABLE.add("POST", "/login", True, '{"name":..,"password":..}', s200="a cookie for 7 days")
+    async def login(self, request: web.Request) -> web.StreamResponse:
+        """Logs in."""
+        self.logins.take(request.remote)
+        try:
+            told = json.loads(await body_of(request, SMALL))
+            name, password = told["name"], told["password"]
+            assert isinstance(name, str) and isinstance(password, str)
+        except (ValueError, KeyError, TypeError, AssertionError, RecursionError):
+            raise Refusal(Reason.FORM, 'a login is {"name":..,"password":..}') from None
+        self.names.take((request.remote, name[:64]))
+        async with self.hashing:
+            hashed = self.members.password_hash(name)
+            holds = await asyncio.to_thread(is_password, hashed, password)
+        member = self.members.named(name)
+        if member is None or not holds:
+            raise Refusal(Reason.LOGIN, "no member has this name and password")
+        token = self.members.give_token(member, "login", LOGIN_DAYS)
+        response = answered(self.told_of(member))
+        more: dict[str, Any] = {"httponly": True, "samesite": "Strict", "path": "/"}
+        response.set_cookie(COOKIE, token, secure=self.is_secure, **more)
+        return response
+
+    @TABLE.add("POST", "/logout", s200="the login is gone, and its feeds are closed")
+    async def logout(self, request: web.Request) -> web.StreamResponse:
+        """Logs out."""
+        member, token = self.member_of(request), request.cookies.get(COOKIE, "")
+        self.members.take_token(token)
+        for login, socket in list(self.sockets[member.name]):
+            if login == token:
+                await socket.close()
+        response = answered({})
+        response.del_cookie(COOKIE, path="/")
+        return response
+
+    def told_of(self, member: Member) -> dict[str, Any]:
+        accounts = self.view.accounts.get(member.session, [])
+        return {"name": member.name, "role": member.role, "accounts": accounts}
+
+    @TABLE.add("GET", "/me", s200='{"name":..,"role":..,"accounts":[..]}')
+    async def me(self, request: web.Request) -> web.StreamResponse:
+        """Who is logged in, and the accounts that are theirs."""
+        return answered(self.told_of(self.member_of(request)))
+
+    # ---- lines
+
+    async def take(self, member: Member, line: str, key: str) -> Answer:
+        """The reply to a line; raises Refusal."""
+        self.lines.take(member.name)
+        if len(key) > 64 or not key.isascii() or not key.isprintable():
+            raise Refusal(Reason.FORM, "a key has at most 64 letters, digits and signs")
+        body = line.removesuffix("\n").encode()
+        rule.check(self.view, member, body)
+        return await self.desks.say(member, body, key, self.limits.waiting)
+
+    async def ask(self, member: Member, line: str) -> web.Response:
+        """The reply to what changes nothing. It is a message as any; where the exchange knows
+        questions, a follower is asked here."""
+        answer = await self.take(member, line, "")
+        return answered({"at": answer.at, **answer.reply}, status_of(answer))
+
+    @TABLE.add(
+        "POST",
+        "/lines",
+        takes="one line; the header Idempotency-Key has a key of yours, under which the line may"
+        " be sent again and counts once",
+        s200='{"at":..,"key":..,"line":..,"reply":REPLY}',
+        s422="the same, where the exchange refuses",
+    )
+    async def post_line(self, request: web.Request) -> web.StreamResponse:
+        """Sends a line to the exchange, and tells its reply."""
+        member = self.member_of(request)
+        body = await body_of(request, rule.PROPOSAL if member.may_propose else rule.LINE)
+        try:
+            line = body.decode()
+        except UnicodeDecodeError:
+            raise Refusal(Reason.FORM, "a line is UTF-8") from None
+        answer = await self.take(member, line, request.headers.get("Idempotency-Key", ""))
+        return answered(answer.told(), status_of(answer))
+
+    # ---- what is seen
+
+    @TABLE.add("GET", "/markets", s200='{"at":..,"markets":[..]}')
+    async def markets(self, request: web.Request) -> web.StreamResponse:
+        """The markets; one that is settled has its prices."""
+        self.member_of(request)
+        told = [
+            {
+                "market": number,
+                "orders": len(market.orders),
+                "prices": market.prices,
+                "underlyings": market.underlyings,
+            }
+            for number, market in sorted(self.view.markets.items())
+        ]
+        return answered({"at": self.view.count, "markets": told})
+
+    @TABLE.add("GET", "/book/{market}", s200='{"at":..,"market":..,"orders":[..]}')
+    async def book(self, request: web.Request) -> web.StreamResponse:
+        """The live orders of a market; just one's own, and for the operator all, have accounts."""
+        member, number = self.member_of(request), named(request, "market")
+        if number not in self.view.markets:
+            raise Refusal(Reason.UNKNOWN, "there is no such market")
+        market, owners = self.view.markets[number], self.view.owners
+        told = [
+            order.told(member.is_operator or owners.get(order.account) == member.session)
+            for order in market.orders.values()
+        ]
+        more = {"market": number, "underlyings": market.underlyings}
+        return answered({"at": self.view.count, **more, "orders": told})
+
+    @TABLE.add("GET", "/batches", s200='{"batches":[..]}')
+    async def batches(self, request: web.Request) -> web.StreamResponse:
+        """The last 200 batches that were cleared, in short."""
+        self.member_of(request)
+        last = list(self.view.batches.values())[-200:]
+        return answered({"batches": [batch.said for batch in last]})
+
+    @TABLE.add("GET", "/batches/{batch}", s200="the line, byte for byte, to be rechecked")
+    async def batch(self, request: web.Request) -> web.StreamResponse:
+        """The line that cleared a batch."""
+        self.member_of(request)
+        batch = self.view.batches.get(named(request, "batch"))
+        if batch is None:
+            raise Refusal(Reason.UNKNOWN, "there is no such batch")
+        key = Keys.of(self.store.place.name).answers
+        async with self.reading:
+            words = b"XRANGE", key, batch.entry, batch.entry
+            [[_, fields]] = await asyncio.to_thread(self.store.say, *words)
+        return web.Response(body=reply_text(fields[1]) + b"\n", content_type="text/plain")
+
+    @TABLE.add("GET", "/balance/{account}", s200="the reply `balance`")
+    async def balance(self, request: web.Request) -> web.StreamResponse:
+        """The balance of an account of one's own."""
+        account = named(request, "account")
+        return await self.ask(self.member_of(request), f"balance,{account}")
+
+    @TABLE.add("GET", "/positions/{account}/{market}", s200="the reply `positions`")
+    async def positions(self, request: web.Request) -> web.StreamResponse:
+        """The positions of an account of one's own in a market."""
+        account, market = named(request, "account"), named(request, "market")
+        return await self.ask(self.member_of(request), f"positions,{account},{market}")
+
+    @TABLE.add("GET", "/history", s200='{"lines":[{"at":..,"line":..,"reply":REPLY},..]}')
+    async def history(self, request: web.Request) -> web.StreamResponse:
+        """One's own last 200 lines with their replies."""
+        member = self.member_of(request)
+        last = list(self.view.spoken.get(member.session, {}).values())[-200:]
+        told = ",".join(
+            f'{{"at":{it.at},"line":{json.dumps(it.body.decode())},"reply":{it.reply.decode()}}}'
+            for it in last
+        )
+        return web.Response(text=f'{{"lines":[{told}]}}', content_type="application/json")
+
+    @TABLE.add("GET", "/members", s200='{"members":[{"name":..,"role":..,"accounts":[..]},..]}')
+    async def all_members(self, request: web.Request) -> web.StreamResponse:
+        """All members, for the operator."""
+        if not self.member_of(request).is_operator:
+            raise Refusal(Reason.NOT_ALLOWED, "the operator sees who the members are")
+        return answered({"members": [self.told_of(member) for member in self.members.all()]})
+
+    # ---- the feed
+
+    @TABLE.add(
+        "GET",
+        "/feed",
+        takes="",
+        s101='a WebSocket. Frames {"at":..,"events":[..]} tell what all may see and your own'
+        ' answers, after the place in ?since=AT where it is given; {"key":..,"line":..} sends a'
+        " line, and is answered as by /lines, with the status",
+    )
+    async def feed(self, request: web.Request) -> web.StreamResponse:
+        """Tells what comes as it comes, and takes lines."""
+        member, since = self.member_of(request), request.query.get("since", "")
+        if len(self.sockets[member.name]) >= self.limits.feeds:
+            told = f"a member has at most {self.limits.feeds} feeds"
+            raise Refusal(Reason.OFTEN, told)
+        longest = 2 * rule.PROPOSAL if member.may_propose else 2 * rule.LINE
+        socket = web.WebSocketResponse(heartbeat=20, max_msg_size=longest)
+        held = request.cookies.get(COOKIE, ""), socket
+        self.sockets[member.name].append(held)
+        try:
+            await socket.prepare(request)
+            place = int(since) if rule.PLAIN.fullmatch(since) else self.view.count
+            telling = asyncio.create_task(tell(socket, self.desks, member, place))
+            try:
+                await Lines(socket, lambda key, line: self.take_told(member, key, line)).run()
+            finally:
+                telling.cancel()
+        finally:
+            self.sockets[member.name].remove(held)
+        return socket
+
+    async def take_told(self, member: Member, key: str, line: str) -> tuple[int, dict[str, Any]]:
+        answer = await self.take(member, line, key)
+        return status_of(answer), answer.told()
+
+    @TABLE.add("GET", "/openapi.json", True, s200="OpenAPI 3.1")
+    async def interface(self, request: web.Request) -> web.StreamResponse:
+        """Tells this interface."""
+        return answered(openapi(TABLE.routes))
+
+
+Next = Callable[[web.Request], Awaitable[web.StreamResponse]]
+
+
+def application(gateway: Gateway) -> web.Application:
+    """The gateway with its page."""
+
+    @web.middleware
+    async def guarded(request: web.Request, handler: Next) -> web.StreamResponse:
+        try:
+            gateway.check_origin(request)
+            response = await handler(request)
+        except Refusal as refusal:
+            response = refused(refusal)
+        except web.HTTPException as fault:
+            reason = HTTP_REASONS.get(fault.status, Reason.FORM)
+            response = refused(Refusal(reason, fault.reason))
+        except asyncio.CancelledError:
+            raise
+        except Exception:
+            logging.exception("%s %s", request.method, request.path)
+            response = refused(Refusal(Reason.FAULT, "a fault of the gateway"))
+        if not response.prepared:
+            response.headers.update(HEADERS)
+        return response
+
+    app = web.Application(middlewares=[guarded])
+    for route in TABLE.routes:
+        app.router.add_route(route.method, route.path, bound(route.handler, gateway))
+    for file in sorted(PAGE.iterdir()):
+        for path in (f"/{file.name}", "/") if file.name == "index.html" else (f"/{file.name}",):
+            app.router.add_get(path, file_handler(file))
+    return app
+
+
+def bound(handler: Handler, gateway: Gateway) -> Next:
+    async def handle(request: web.Request) -> web.StreamResponse:
+        return await handler(gateway, request)
+
+    return handle
+
+
+def file_handler(file: pathlib.Path) -> Next:
+    body, kind = file.read_bytes(), KINDS.get(file.suffix, "application/octet-stream")
+
+    async def handle(request: web.Request) -> web.StreamResponse:
+        return web.Response(body=body, content_type=kind, charset="utf-8")
+
+    return handle

@@ -1,0 +1,133 @@
+"""The gateway of an exchange: members log in, by a page or by programs, and trade for their own
+accounts alone.
+
+    web/gateway FOLDER [--listen HOST:PORT] [--certificate FILE --key FILE] [--host NAME]
+                [--at PLACE] [--password FILE]
+
+FOLDER has the members (web/members adds them) and the messages that are not answered yet. Without a
+certificate it listens on the loopback address alone (127.0.0.1:8000, if not given). --host, once
+for each, tells by which names it is reached beside that. docs/WEB.md says what it does.
+
+It runs until it is stopped, or ends with one line on standard error and status
+"""
+
+from __future__ import annotations
+
+import asyncio
+import ipaddress
+import pathlib
+import signal
+import ssl
+from argparse import Namespace
+from typing import NamedTuple
+
+from aiohttp import web
+from ragvismo_gateway.desks import Desks
+from ragvismo_gateway.limits import Limits
+from ragvismo_gateway.members import Members
+from ragvismo_gateway.server import Gateway, application
+from ragvismo_gateway.view import View
+from ragvismo_service import files
+from ragvismo_service.statuses import BadUse, Status, table
+from ragvismo_service.store import Store
+from ragvismo_service.watchdog import ready
+from ragvismo_service.words import Words, place_of, status_of
+
+MEMBERS = "members.sqlite"
+STATUSES = (
+    Status.BAD_USE,
+    Status.NO_REDIS,
+    Status.LOST,
+    Status.CUT,
+    Status.FORGED,
+    Status.CHANGED,
+    Status.HELD,
+    Status.FILE_FAULT,
+)
+
+
+class Listen(NamedTuple):
+    """Where it listens."""
+
+    host: str
+    port: int
+
+    @staticmethod
+    def of(text: str) -> Listen:
+        """The host and the port of a text; raises BadUse."""
+        host, _, port = text.rpartition(":")
+        if not port.isdecimal() or not 0 < int(port) < 65536:
+            raise BadUse(f"{text} is no HOST:PORT")
+        return Listen(host.strip("[]") or "127.0.0.1", int(port))
+
+    @property
+    def is_loopback(self) -> bool:
+        try:
+            return ipaddress.ip_address(self.host).is_loopback
+        except ValueError:
+            return self.host == "localhost"
+
+    def names(self) -> set[str]:
+        host = f"[{self.host}]" if ":" in self.host else self.host
+        local = {f"localhost:{self.port}"} if self.is_loopback else set()
+        return {f"{host}:{self.port}", *local}
+
+
+def security(given: Namespace) -> ssl.SSLContext | None:
+    """How a connection is kept secret; raises BadUse."""
+    if bool(given.certificate) != bool(given.key):
+        raise BadUse("a certificate has a key, and a key a certificate")
+    if given.certificate:
+        context = ssl.create_default_context(ssl.Purpose.CLIENT_AUTH)
+        try:
+            context.load_cert_chain(given.certificate, given.key)
+        except (OSError, ssl.SSLError) as fault:
+            raise BadUse(f"{given.certificate} is no certificate with its key: {fault}") from None
+        return context
+    if not given.listen.is_loopback:
+        raise BadUse("without a certificate it listens on the loopback address alone")
+    return None
+
+
+async def serve(given: Namespace, context: ssl.SSLContext | None) -> None:
+    """Serves until a signal comes; Ended where the log cannot be read or written."""
+    path: pathlib.Path = given.folder / MEMBERS
+    members, stores = Members(path), [
+        Store(place_of(given), given.patience, "gateway") for _ in range(3)
+    ]
+    desks = Desks(View(), (stores[0], stores[1]), lambda: Members(path))
+    desks.begin(members)
+    hosts = given.listen.names() | set(given.host)
+    gateway = Gateway(desks, members, stores[2], hosts, Limits())
+    gateway.is_secure = context is not None
+    runner = web.AppRunner(application(gateway), access_log=None, lingering_time=1.0)
+    await runner.setup()
+    site = web.TCPSite(runner, *given.listen, ssl_context=context, shutdown_timeout=2.0)
+    await site.start()
+    print(f"{site.name} is open", flush=True)
+    ready()
+    for number in (signal.SIGTERM, signal.SIGINT):
+        desks.loop.add_signal_handler(number, desks.stop)
+    try:
+        fault = await desks.ended
+    finally:
+        await runner.cleanup()
+    if fault is not None:
+        raise fault
+
+
+def run() -> None:
+    words = Words(f"{__doc__}{table(*STATUSES)}")
+    words.add_argument("folder", type=pathlib.Path, metavar="FOLDER")
+    words.add_argument("--listen", type=Listen.of, default="127.0.0.1:8000", metavar="HOST:PORT")
+    words.add_argument("--certificate", metavar="FILE")
+    words.add_argument("--key", metavar="FILE")
+    words.add_argument("--host", action="append", default=[], metavar="NAME")
+    given = words.parse_args()
+    context = security(given)
+    with files.lock(given.folder, 5):
+        asyncio.run(serve(given, context))
+
+
+def main() -> int:
+    return status_of(run)

@@ -1,0 +1,209 @@
+"""What the log tells of an exchange: markets, live orders, who opened which account, batches, and
+what each session was answered."""
+
+from __future__ import annotations
+
+import collections
+import json
+from collections.abc import Callable
+from typing import Any, NamedTuple
+
+from ragvismo_gateway.members import KEPT
+from ragvismo_service.chain import Answered
+
+# How many events can be told again to who lost the connection.
+EVENTS = 10_000
+ORDERS = {"buy", "sell", "bundle"}
+
+
+class Order(NamedTuple):
+    """A live order."""
+
+    number: int
+    account: int
+    market: int
+    side: str
+    price: int
+    quantity: int
+    legs: list[dict[str, Any]]
+
+    def told(self, names_account: bool) -> dict[str, Any]:
+        """The order as `book` tells it, with its account where that may be seen."""
+        told = {
+            "legs": self.legs,
+            "order": self.number,
+            "price": self.price,
+            "quantity": self.quantity,
+            "side": self.side,
+        }
+        return {"account": self.account, **told} if names_account else told
+
+
+class Market(NamedTuple):
+    """A market; its prices are none until it is settled."""
+
+    underlyings: int
+    orders: dict[int, Order]
+    prices: list[int]
+
+
+class Batch(NamedTuple):
+    """Which entry has the answer that cleared a batch, and what it says in short."""
+
+    entry: bytes
+    said: dict[str, Any]
+
+
+class Event(NamedTuple):
+    """What came to pass: the text for all, that for who may see whose account it is, the account,
+    and of a settlement what each account is paid."""
+
+    at: int
+    text: str
+    named: str
+    account: int
+    payouts: list[dict[str, Any]]
+
+
+class Spoken(NamedTuple):
+    """What a session said, and the reply."""
+
+    at: int
+    body: bytes
+    reply: bytes
+
+
+def compact(told: object) -> str:
+    return json.dumps(told, separators=(",", ":"))
+
+
+def fields_of(body: bytes) -> list[str]:
+    """The fields of a line that was accepted: none has a comma or a quotation mark within."""
+    return [field.strip('"') for field in body.decode().split(",")]
+
+
+def form_of(kind: str, strike: str, weights: list[str]) -> list[int]:
+    """The option as a vector: the strike's entry and the weights."""
+    sign = 1 if kind == "call" else -1
+    return [-sign * int(strike), *(sign * int(weight) for weight in weights)]
+
+
+def order_of(number: int, body: bytes, underlyings: Callable[[int], int]) -> Order:
+    """The order that an accepted line placed."""
+    word, account, market, *rest = fields_of(body)
+    if word != "bundle":
+        kind, strike, price, quantity, *weights = rest
+        legs = [{"count": 1, "form": form_of(kind, strike, weights)}]
+        side = word
+    else:
+        side, price, quantity, _, *parts = rest
+        size = underlyings(int(market)) + 3
+        legs = []
+        for at in range(0, len(parts), size):
+            count, kind, strike, *weights = parts[at : at + size]
+            legs.append({"count": int(count), "form": form_of(kind, strike, weights)})
+    return Order(number, int(account), int(market), side, int(price), int(quantity), legs)
+
+
+def reply_text(answer: bytes) -> bytes:
+    """The reply in an answer, byte for byte."""
+    begin, end = answer.find(b'"of":'), answer.rfind(b',"session":')
+    return answer[begin + 5 : end] if answer.startswith(b'{"number":') and begin > 0 else answer
+
+
+class View:
+    """Takes each entry of the log with its answer, in order."""
+
+    def __init__(self) -> None:
+        self.count = 0
+        self.markets: dict[int, Market] = {}
+        self.market_of: dict[int, int] = {}
+        self.owners: dict[int, int] = {}
+        self.accounts: dict[int, list[int]] = collections.defaultdict(list)
+        self.placed: collections.Counter[int] = collections.Counter()
+        self.batches: dict[int, Batch] = {}
+        self.spoken: dict[int, dict[int, Spoken]] = collections.defaultdict(dict)
+        self.last: dict[int, int] = {}
+        self.events: collections.deque[Event] = collections.deque(maxlen=EVENTS)
+
+    def take(self, answered: Answered) -> tuple[int, int] | None:
+        """Takes an entry; tells session and number of what was a message."""
+        self.count += 1
+        if answered.entry.fault:
+            return None
+        *names, body = answered.entry.text.split(b",", 2)
+        if not all(map(bytes.isdigit, names)):
+            return None
+        session, number = map(int, names)
+        if not answered.answer.startswith(b'{"number":'):
+            return session, number
+        reply = json.loads(answered.answer)["of"]
+        if self.last.get(session, 0) < number:
+            self.last[session] = number
+            self._speak(session, number, Spoken(self.count, body, reply_text(answered.answer)))
+            kind: Any = getattr(self, f"_{reply['reply']}", None)
+            if kind:
+                kind(session, body, reply, answered.entry.id)
+        return session, number
+
+    def _speak(self, session: int, number: int, spoken: Spoken) -> None:
+        said = self.spoken[session]
+        said[number] = spoken
+        said.pop(number - KEPT, None)
+
+    def _tell(self, account: int, payouts: list[dict[str, Any]], **said: Any) -> None:
+        said["at"] = self.count
+        text = compact(said)
+        named = compact({"account": account, **said}) if account else text
+        self.events.append(Event(self.count, text, named, account, payouts))
+
+    def live(self, session: int, market: int) -> int:
+        """How many live orders a session has in a market."""
+        orders = self.markets[market].orders.values() if market in self.markets else ()
+        return sum(self.owners.get(order.account) == session for order in orders)
+
+    # ---- what each reply changes
+
+    def _opened(self, session: int, body: bytes, reply: dict[str, Any], id: bytes) -> None:
+        self.owners[reply["account"]] = session
+        self.accounts[session].append(reply["account"])
+
+    def _listed(self, session: int, body: bytes, reply: dict[str, Any], id: bytes) -> None:
+        self.markets[reply["market"]] = Market(reply["underlyings"], {}, [])
+        told = {"market": reply["market"], "underlyings": reply["underlyings"]}
+        self._tell(0, [], event="listed", **told)
+
+    def _placed(self, session: int, body: bytes, reply: dict[str, Any], id: bytes) -> None:
+        order = order_of(reply["order"], body, lambda market: self.markets[market].underlyings)
+        self.markets[order.market].orders[order.number] = order
+        self.market_of[order.number] = order.market
+        self.placed[session] += 1
+        told = {"market": order.market, "order": order.told(False)}
+        self._tell(order.account, [], event="placed", **told)
+
+    def _cancelled(self, session: int, body: bytes, reply: dict[str, Any], id: bytes) -> None:
+        market = self.market_of.pop(reply["order"])
+        order = self.markets[market].orders.pop(reply["order"])
+        told = {"market": market, "order": order.number}
+        self._tell(order.account, [], event="cancelled", **told)
+
+    def _cleared(self, session: int, body: bytes, reply: dict[str, Any], id: bytes) -> None:
+        kept = "batch", "bound", "line", "mark", "market", "surplus", "underlyings", "units"
+        said = {key: reply[key] for key in kept if key in reply}
+        said["orders"] = len(reply["orders"])
+        said["filled"] = sum(fill != "0" for fill in reply["fills"])
+        self.batches[reply["batch"]] = Batch(id, said)
+        self._take_orders(reply["market"])
+        self._tell(0, [], event="cleared", **said)
+
+    def _settled(self, session: int, body: bytes, reply: dict[str, Any], id: bytes) -> None:
+        prices = [int(field) for field in fields_of(body)[2:]]
+        self.markets[reply["market"]].prices.extend(prices)
+        self._take_orders(reply["market"])
+        told = {"market": reply["market"], "prices": prices, "lapsed": reply["lapsed"]}
+        self._tell(0, reply["payouts"], event="settled", **told)
+
+    def _take_orders(self, market: int) -> None:
+        for number in self.markets[market].orders:
+            del self.market_of[number]
+        self.markets[market].orders.clear()

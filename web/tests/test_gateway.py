@@ -1,0 +1,255 @@
+"""The gateway by REST and WebSocket: members trade, and nobody reaches what is another's."""
+
+from __future__ import annotations
+
+import asyncio
+import http.client
+import json
+import subprocess
+from typing import Any
+
+from tests import TOP, WEB
+from tests.trading import SECRET, Trading, Visitor
+
+SCRIPT = "<script>alert(1)</script>"
+
+
+class Gateway(Trading):
+    """Tests beside one another; each has markets and accounts of its own."""
+
+    @classmethod
+    def setUpClass(cls) -> None:
+        super().setUpClass()
+        cls.say(ana="open,101 open,111", ben="open,102", eva="open,103")
+        deposits = " ".join(f"deposit,{account},1000" for account in (101, 102, 103, 111))
+        cls.say(operator=f"market,1,1 market,2,2 market,3,1 {deposits}")
+
+    def test_the_butterfly_from_login_to_settlement(self) -> None:
+        ana, eva, operator = map(self.visitor, ("ana", "eva", "operator"))
+        since = ana.get("/markets")["at"]
+        self.assertEqual(eva.reply("sell,103,1,call,5,8,1,1")["reply"], "placed")
+        eva.line("sell,103,1,call,12,4,1,1")
+        bought = ana.reply("buy,101,1,call,10,6,1,1")["order"]
+        own = [order for order in ana.get("/book/1")["orders"] if "account" in order]
+        self.assertEqual([order["order"] for order in own], [bought])
+        self.assertEqual(len(ana.get("/book/1")["orders"]), 3)
+        told = [order["account"] for order in operator.get("/book/1")["orders"]]
+        self.assertEqual(told, [103, 103, 101])
+        cleared = operator.reply("clear,1,100")
+        self.assertEqual((cleared["mark"], cleared["surplus"]), ("optimal", "6/7"))
+        self.assertEqual(ana.get("/book/1")["orders"], [])
+        line = ana.ask("GET", f"/batches/{cleared['batch']}").body
+        self.assertEqual(json.loads(line), cleared)
+        self.assertEqual(audit(line), {"batches": 1, "bounded": 0, "lines": 1, "optimal": 1})
+        self.assertEqual(ana.get("/balance/101")["balance"], "994")
+        self.assertEqual(len(ana.get("/positions/101/1")["positions"]), 1)
+        operator.line("settle,1,11")
+        self.assertEqual(ana.get("/balance/101")["balance"], "995")
+        told = self.events(ana, since)
+        kinds = [it["event"] for it in told if it["event"] != "answer"]
+        self.assertEqual(kinds, [*["placed"] * 3, "cleared", "settled"])
+        self.assertEqual(
+            told[-2]["payouts"], [{"account": 101, "amount": "1", "batch": 1, "order": bought}]
+        )
+
+    def events(self, visitor: Visitor, since: int) -> list[Any]:
+        async def first(socket: Any) -> list[Any]:
+            return list((await socket.receive_json())["events"])
+
+        return visitor.over_socket(first, f"/feed?since={since}")
+
+    def test_a_book_is_that_of_the_exchange(self) -> None:
+        ben, operator = self.visitor("ben"), self.visitor("operator")
+        for line in (
+            "buy,102,2,call,20,6,1,1,1",
+            "bundle,102,2,sell,3,2,2,1,put,8,1,0,-1,put,12,0,-1",
+            "sell,102,2,put,7,4,1,-1,2",
+        ):
+            self.assertEqual(ben.line(line).status, 200)
+        ben.line(f"cancel,102,{ben.get('/book/2')['orders'][0]['order']}")
+        told = operator.reply("book,2")
+        self.assertEqual(operator.get("/book/2")["orders"], told["orders"])
+        self.assertEqual(len(told["orders"]), 2)
+
+    def test_lines_over_a_socket(self) -> None:
+        ben = self.visitor("ben")
+
+        async def talk(socket: Any) -> dict[str, Any]:
+            for key, line in (("a", "buy,102,3,call,1,1,1,1"), ("b", "buy,101,3,call,1,1,1,1")):
+                await socket.send_json({"key": key, "line": line})
+            await socket.send_json({"key": "a", "line": "buy,102,3,call,1,1,1,1"})
+            await socket.send_str("[1")
+            answers: list[Any] = []
+            while len(answers) < 4:
+                told = await socket.receive_json()
+                answers += [told] if "status" in told else []
+            return {f"{it['key']}{at}": it for at, it in enumerate(sorted(answers, key=str))}
+
+        told = list(ben.over_socket(talk).values())
+        statuses = sorted((it["key"], it["status"]) for it in told)
+        self.assertEqual(statuses, [("", 400), ("a", 200), ("a", 200), ("b", 403)])
+        orders = {it["reply"]["order"] for it in told if it["key"] == "a"}
+        self.assertEqual(len(orders), 1)
+
+    def test_nobody_touches_what_is_anothers(self) -> None:
+        ana, ben = self.visitor("ana"), self.visitor("ben")
+        number = ana.reply("buy,111,3,call,10,1,1,1")["order"]
+        before = ana.get("/balance/111")
+        refused = [
+            "buy,111,3,call,10,1,1,1",
+            "sell,111,3,call,10,1,1,1",
+            "bundle,111,3,buy,1,1,1,1,call,1,1",
+            f"cancel,111,{number}",
+            "withdraw,111,1",
+            "balance,111",
+            "positions,111,3",
+            "balance,0",
+            "deposit,102,1",
+            "market,4,1",
+            "clear,3,100",
+            "settle,3,1",
+            "book,3",
+            "price,3,1,1,call,10,1",
+            "margin,102,3,1",
+            "propose,3,{}",
+        ]
+        for line in refused:
+            with self.subTest(line):
+                told = ben.line(line)
+                self.assertEqual((told.status, told.json()["reason"]), (403, "NotAllowed"))
+        for path in ("/balance/111", "/balance/0", "/positions/111/3", "/members"):
+            self.assertEqual(ben.ask("GET", path).status, 403, path)
+        # The exchange would read what the gateway does not.
+        for line in (
+            'buy,"111",3,call,10,1,1,1',
+            '"withdraw",111,1',
+            "?balance,111",
+            "withdraw,0111,1",
+        ):
+            self.assertEqual(ben.line(line).status, 400, line)
+        self.assertEqual(ben.line("withdraw,102,1\nwithdraw,111,1").status, 400)
+        after = ana.get("/balance/111")
+        self.assertEqual(after["balance"], before["balance"])
+        self.assertEqual(after["reserved"], "1")
+
+    def test_quotas(self) -> None:
+        eva = self.visitor("eva")
+        statuses = [eva.line(f"open,{500 + each}").status for each in range(16)]
+        self.assertEqual(statuses, [200] * 15 + [429])
+
+    def test_a_key_counts_once(self) -> None:
+        ana = self.visitor("ana")
+        first, again = ana.line("withdraw,111,5", "once"), ana.line("withdraw,111,5", "once")
+        self.assertEqual(first.json(), again.json())
+        other = ana.line("withdraw,111,6", "once")
+        self.assertEqual((other.status, other.json()["reason"]), (409, "KeyUsed"))
+        self.assertEqual(ana.line("withdraw,111,2000", "more").status, 422)
+
+    def test_who_is_none(self) -> None:
+        somebody = self.visitor()
+        paths = "/me", "/markets", "/book/1", "/batches", "/history", "/feed", "/balance/101"
+        for path in paths:
+            self.assertEqual(somebody.ask("GET", path).status, 401, path)
+        self.assertEqual(somebody.line("open,7").status, 401)
+        self.assertEqual(somebody.ask("GET", "/me", Authorization="Bearer none").status, 401)
+        for name, secret in (("ana", "wrong"), ("nobody", SECRET), (SCRIPT, SECRET), ("", "")):
+            told = somebody.login(name, secret)
+            self.assertEqual((told.status, told.json()["reason"]), (401, "Login"))
+            self.assertEqual(somebody.cookie, "")
+        for body in ("", "[]", '{"name":1,"password":2}', "[" * 900):
+            self.assertEqual(somebody.ask("POST", "/login", body).status, 400)
+
+    def test_a_name_is_plain(self) -> None:
+        words = [str(WEB / "members"), str(self.folder), "add", SCRIPT]
+        ran = subprocess.run(words, capture_output=True, text=True)
+        self.assertEqual((ran.returncode, ran.stdout, ran.stderr.count("\n")), (2, "", 1))
+
+    def test_tokens(self) -> None:
+        words = [str(WEB / "members"), str(self.folder), "token", "ana"]
+        token = subprocess.run(words, capture_output=True, text=True, check=True).stdout.strip()
+        program = self.visitor()
+        program.origin = ""
+        told = program.ask("GET", "/me", Authorization=f"Bearer {token}")
+        self.assertEqual(told.json()["name"], "ana")
+        said = program.ask("POST", "/lines", b"balance,101", Authorization=f"Bearer {token}")
+        self.assertEqual(said.status, 200)
+        # A token is no cookie.
+        self.assertEqual(program.ask("GET", "/me", Cookie=f"ragvismo={token}").status, 401)
+
+    def test_other_pages(self) -> None:
+        ana = self.visitor("ana")
+        for headers in (
+            {"Origin": "https://evil.example"},
+            {"Origin": "null"},
+            {"Origin": ""},
+            {"Sec_Fetch_Site": "cross-site"},
+            {"Host": "evil.example"},
+        ):
+            told = ana.ask("POST", "/lines", b"withdraw,101,1", **headers)
+            self.assertEqual((told.status, told.json()["reason"]), (403, "Origin"), headers)
+            self.assertEqual(ana.ask("GET", "/feed", **headers).status, 403, headers)
+        told = ana.login("ana")
+        self.assertIn("HttpOnly", told.headers["Set-Cookie"])
+        self.assertIn("SameSite=Strict", told.headers["Set-Cookie"])
+        self.assertIn("frame-ancestors 'none'", told.headers["Content-Security-Policy"])
+
+    def test_too_much(self) -> None:
+        ana = self.visitor("ana")
+        self.assertEqual(ana.line("9" * 5000).status, 413)
+        connection = http.client.HTTPConnection("127.0.0.1", self.port, timeout=60)
+        headers = {"Cookie": ana.cookie, "Origin": ana.origin, "Content-Length": str(100 << 20)}
+        connection.request("POST", "/lines", headers=headers)
+        answer = connection.getresponse()
+        self.assertEqual((answer.status, json.loads(answer.read())["reason"]), (413, "Long"))
+        connection.close()
+        pieces = (b"9" * 65536 for _ in range(1600))
+        connection = http.client.HTTPConnection("127.0.0.1", self.port, timeout=60)
+        try:
+            connection.request("POST", "/lines", pieces, {**headers, "Content-Length": ""})
+        except OSError:
+            pass
+        connection.close()
+        self.assertEqual(ana.ask("GET", "/me").status, 200)
+
+    def test_unknown_paths(self) -> None:
+        ana = self.visitor("ana")
+        for method, path, status in (
+            ("GET", "/none", 404),
+            ("GET", "/../members.sqlite", 404),
+            ("GET", "/book/9", 404),
+            ("GET", "/book/x", 400),
+            ("GET", "/batches/99999", 404),
+            ("DELETE", "/lines", 405),
+        ):
+            told = ana.ask(method, path)
+            self.assertEqual((told.status, told.json()["reply"]), (status, "gateway"), path)
+
+    def test_the_interface_is_told(self) -> None:
+        told = self.visitor().get("/openapi.json")
+        self.assertEqual(told["openapi"], "3.1.0")
+        self.assertEqual(set(told["paths"]["/book/{market}"]), {"get"})
+
+    def test_many_feeds(self) -> None:
+        ben = self.visitor("ben")
+
+        async def none(socket: Any) -> None:
+            await socket.receive_json()
+
+        def more(left: int) -> int:
+            async def talk(socket: Any) -> int:
+                return left and await asyncio.to_thread(more, left - 1)
+
+            if not left:
+                return ben.ask("GET", "/feed").status
+            return ben.over_socket(talk)
+
+        self.assertEqual(more(4), 429)
+        ben.over_socket(none)
+
+
+def audit(line: bytes) -> dict[str, Any]:
+    """The report of the plain check, less its yes."""
+    words = [str(TOP / "tools/plain-check"), "audit"]
+    told = json.loads(subprocess.run(words, input=line, capture_output=True).stdout)
+    assert told.pop("verdict") == "yes", told
+    return dict(told)

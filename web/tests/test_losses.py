@@ -1,0 +1,101 @@
+"""What is killed comes again, and nothing is lost or counted twice."""
+
+from __future__ import annotations
+
+import http.client
+import threading
+import time
+from typing import Any
+
+from tests.trading import Trading, Visitor
+
+
+class Sender(threading.Thread):
+    """A member who sends lines, each under its key until it is answered."""
+
+    def __init__(self, visitor: Visitor, lines: int) -> None:
+        super().__init__(daemon=True)
+        self.visitor, self.lines, self.done, self.repeats = visitor, lines, 0, 0
+        self.told: list[Any] = []
+
+    def run(self) -> None:
+        for number in range(self.lines):
+            while not self.is_answered(f"key-{number}"):
+                self.repeats += 1
+                time.sleep(0.05)
+            self.done += 1
+
+    def is_answered(self, key: str) -> bool:
+        try:
+            reply = self.visitor.line("withdraw,101,1", key)
+        except (OSError, http.client.HTTPException):
+            return False
+        if reply.status == 200:
+            self.told.append(reply.json()["reply"])
+        return reply.status == 200
+
+
+class Losses(Trading):
+    LINES = 40
+
+    def sent(self, account: int, parts: tuple[str, ...]) -> None:
+        """Each part is killed while lines are sent, and started again; each line counts once."""
+        ana = self.visitor("ana")
+        before = int(ana.get("/balance/101")["balance"])
+        sender = Sender(ana, self.LINES)
+        sender.start()
+        for at, part in enumerate(parts, 1):
+            while sender.done < at * self.LINES // (len(parts) + 1):
+                time.sleep(0.005)
+            self.kill(part)
+            time.sleep(0.2)
+            self.start(part)
+        sender.join(60)
+        self.assertEqual(sender.done, self.LINES)
+        self.assertGreater(sender.repeats, 0)
+        after = int(ana.get("/balance/101")["balance"])
+        self.assertEqual(before - after, self.LINES)
+        balances = [int(reply["balance"]) for reply in sender.told]
+        self.assertEqual(balances, list(range(before - 1, after - 1, -1)))
+
+    def test_parts_are_killed(self) -> None:
+        self.say(ana="open,101", operator="deposit,101,1000")
+        self.sent(101, ("gateway", "gateway", "redis", "gateway"))
+
+
+class Floods(Trading):
+    @classmethod
+    def setUpClass(cls) -> None:
+        super().setUpClass()
+        for name in ("ana", "ben", "eva"):
+            cls.visitor(name)
+
+    def test_a_thousand_logins(self) -> None:
+        """They are refused, and who is logged in does not notice."""
+        ana, somebody = self.visitor("ana"), self.visitor()
+        statuses: list[int] = []
+
+        def flood(each: int) -> None:
+            for number in range(250):
+                statuses.append(somebody.login(f"name{each}-{number}", "wrong").status)
+
+        floods = [threading.Thread(target=flood, args=(each,)) for each in range(4)]
+        for each in floods:
+            each.start()
+        longest, since = 0.0, time.monotonic()
+        while any(each.is_alive() for each in floods):
+            since = time.monotonic()
+            self.assertEqual(ana.ask("GET", "/me").status, 200)
+            longest = max(longest, time.monotonic() - since)
+            time.sleep(0.05)
+        self.assertEqual(set(statuses), {401, 429})
+        self.assertLess(statuses.count(401), 100)
+        self.assertLess(longest, 5)
+
+    def test_many_lines(self) -> None:
+        """Who sends too often is refused, and not the others."""
+        ana, ben = self.visitor("ana"), self.visitor("ben")
+        ana.line("open,101")
+        statuses = [ana.line("withdraw,101,1").status for _ in range(200)]
+        self.assertIn(429, statuses)
+        self.assertEqual(ben.line("open,102").status, 200)

@@ -1,0 +1,184 @@
+"""An exchange of its own for tests: a Redis, a sequencer and a gateway, which may be killed."""
+
+from __future__ import annotations
+
+import asyncio
+import http.client
+import json
+import os
+import pathlib
+import socket
+import subprocess
+import sys
+import tempfile
+import time
+import unittest
+from collections.abc import Awaitable, Callable
+from typing import Any, NamedTuple, TypeVar
+
+from tests import TOP, WEB, Together, missing
+
+sys.path.insert(0, str(TOP / "service"))
+PROGRAM = pathlib.Path(
+    os.environ.get("RAGVISMO_EXCHANGE", TOP / "crates/exchange_cli/out/exchange_cli")
+)
+WANTED = missing("redis-server", modules=("redis", "aiohttp", "argon2"))
+if not WANTED:
+    import aiohttp
+    from ragvismo_gateway.members import Members
+    from ragvismo_gateway.serving import MEMBERS
+WHY = f"{' and '.join(WANTED)} is missing; tools/setup installs it"
+if not WANTED and not PROGRAM.exists():
+    WHY = "the program is not built"
+IS_SKIPPED = bool(WANTED) or not PROGRAM.exists()
+Told = TypeVar("Told")
+SECRET = "correct horse"
+
+
+class Reply(NamedTuple):
+    """What an answer of HTTP says."""
+
+    status: int
+    body: bytes
+    headers: dict[str, str]
+
+    def json(self) -> Any:
+        return json.loads(self.body)
+
+
+def free_port() -> int:
+    with socket.socket() as one:
+        one.bind(("127.0.0.1", 0))
+        return int(one.getsockname()[1])
+
+
+class Visitor:
+    """Who speaks to a gateway as a page does."""
+
+    def __init__(self, port: int) -> None:
+        self.port, self.cookie = port, ""
+        self.origin = f"http://127.0.0.1:{port}"
+
+    def ask(self, method: str, path: str, body: Any = None, **headers: str) -> Reply:
+        """One request; a header given as "" is left out."""
+        given = {"Origin": self.origin, "Cookie": self.cookie}
+        given |= {name.replace("_", "-"): value for name, value in headers.items()}
+        connection = http.client.HTTPConnection("127.0.0.1", self.port, timeout=60)
+        try:
+            sent = {name: value for name, value in given.items() if value}
+            connection.request(method, path, body, sent)
+            answer = connection.getresponse()
+            return Reply(answer.status, answer.read(), dict(answer.getheaders()))
+        finally:
+            connection.close()
+
+    def get(self, path: str) -> Any:
+        return self.ask("GET", path).json()
+
+    def login(self, name: str, password: str = SECRET) -> Reply:
+        reply = self.ask("POST", "/login", json.dumps({"name": name, "password": password}))
+        self.cookie = reply.headers.get("Set-Cookie", "").partition(";")[0]
+        return reply
+
+    def line(self, line: str, key: str = "") -> Reply:
+        return self.ask("POST", "/lines", line.encode(), Idempotency_Key=key)
+
+    def reply(self, line: str) -> Any:
+        return self.line(line).json()["reply"]
+
+    def over_socket(self, talk: Callable[[Any], Awaitable[Told]], path: str = "/feed") -> Told:
+        """What comes of a talk over a WebSocket."""
+
+        async def run() -> Told:
+            headers = {"Origin": self.origin, "Cookie": self.cookie}
+            async with aiohttp.ClientSession() as session:
+                url = f"http://127.0.0.1:{self.port}{path}"
+                async with session.ws_connect(url, headers=headers) as talked:
+                    return await talk(talked)
+
+        return asyncio.run(run())
+
+
+@unittest.skipIf(IS_SKIPPED, WHY)
+class Trading(Together):
+    """A Redis, a sequencer and a gateway with an operator and three traders."""
+
+    folder: pathlib.Path
+    running: dict[str, subprocess.Popen[bytes]]
+    cookies: dict[str, str]
+    redis_port: int
+    port: int
+
+    @classmethod
+    def setUpClass(cls) -> None:
+        held = tempfile.TemporaryDirectory(prefix="ragvismo-web-", ignore_cleanup_errors=True)
+        cls.addClassCleanup(held.cleanup)
+        cls.folder, cls.running, cls.cookies = pathlib.Path(held.name), {}, {}
+        cls.redis_port, cls.port = free_port(), free_port()
+        cls.addClassCleanup(cls.stop)
+        members = Members(cls.folder / MEMBERS)
+        for name in ("operator", "ana", "ben", "eva"):
+            members.add(name, "operator" if name == "operator" else "trader", SECRET)
+        members.close()
+        for part in ("redis", "sequencer", "gateway"):
+            cls.start(part)
+
+    @classmethod
+    def words(cls, part: str) -> list[object]:
+        at = "--at", cls.redis_port
+        if part == "redis":
+            log = "--appendonly", "yes", "--appendfsync", "always", "--save", ""
+            where = "--port", cls.redis_port, "--bind", "127.0.0.1", "--dir", cls.folder
+            return ["redis-server", *where, *log]
+        if part == "sequencer":
+            return [TOP / "service/sequencer", *at, "--program", PROGRAM]
+        return [WEB / "gateway", cls.folder, *at, "--listen", f"127.0.0.1:{cls.port}"]
+
+    @classmethod
+    def start(cls, part: str) -> None:
+        with open(cls.folder / f"{part}.log", "ab") as log:
+            words = [str(word) for word in cls.words(part)]
+            cls.running[part] = subprocess.Popen(words, stdout=log, stderr=log)
+        if part != "sequencer":
+            wait_for(cls.port if part == "gateway" else cls.redis_port)
+
+    @classmethod
+    def kill(cls, part: str) -> None:
+        cls.running[part].kill()
+        cls.running[part].wait()
+
+    @classmethod
+    def stop(cls) -> None:
+        for part in reversed(cls.running):
+            cls.kill(part)
+
+    @classmethod
+    def visitor(cls, name: str = "") -> Visitor:
+        """Somebody, who is logged in where a name is told."""
+        visitor = Visitor(cls.port)
+        if name and name not in cls.cookies:
+            reply = visitor.login(name)
+            assert reply.status == 200, reply
+            cls.cookies[name] = visitor.cookie
+        visitor.cookie = cls.cookies[name] if name else ""
+        return visitor
+
+    @classmethod
+    def say(cls, **lines: str) -> None:
+        """Has members say lines, which are taken."""
+        for name, text in lines.items():
+            visitor = cls.visitor(name)
+            for line in text.split():
+                reply = visitor.line(line)
+                assert reply.status == 200, (line, reply)
+
+
+def wait_for(port: int) -> None:
+    """Waits until somebody listens at a port."""
+    until = time.monotonic() + 120
+    while time.monotonic() < until:
+        with socket.socket() as one:
+            if one.connect_ex(("127.0.0.1", port)) == 0:
+                return
+        time.sleep(0.02)
+    raise TimeoutError(f"nobody listens at {port}")
