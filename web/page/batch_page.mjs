@@ -172,5 +172,17 @@ part("example", HTMLButtonElement).addEventListener("click", async () => {
     lines.value = await (await fetch("example.replies")).text();
     read(new TextEncoder().encode(lines.value));
 });
+/** Behind a gateway the page's place names a batch of its exchange. */
+async function openNamed() {
+    const number = location.hash.slice(1);
+    if (/^[1-9][0-9]*$/.test(number)) {
+        const answer = await fetch(`batches/${number}`);
+        lines.value = await answer.text();
+        read(new TextEncoder().encode(lines.value));
+    }
+}
+
 batches.addEventListener("change", pick);
+window.addEventListener("hashchange", openNamed);
+openNamed();
 button.addEventListener("click", recheck);

@@ -99,9 +99,10 @@ export function keptWords(batch, state) {
 }
 
 /** The settlements along one price at which an order bends, the other prices as they are.
- * @param {Batch} batch @param {number} axis @param {number[]} prices @param {number} greatest
+ * @param {{orders: Order[]}} batch @param {number} axis @param {number[]} prices
+ * @param {number} greatest
  * @returns {State[]} */
-function bendsOn({orders}, axis, prices, greatest) {
+export function bendsOn({orders}, axis, prices, greatest) {
     const base = settlement(prices);
     const forms = orders.flatMap(order => order.legs.map(leg => leg.form));
     const ends = [0n, BigInt(Math.round(greatest))].map(price => [1n, price]);

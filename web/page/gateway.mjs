@@ -1,0 +1,117 @@
+// The gateway, as the page speaks to it: what is asked, lines that are sent until they are
+// answered, and the feed, which goes on where it was lost.
+
+/** @typedef {{[key: string]: any}} Told */
+
+const PAUSE = 700;
+const KEPT = "ragvismo-line";
+
+/** Why something was refused, in a sentence. */
+export class Refused extends Error {
+    /** @param {number} status @param {string} reason @param {string} told */
+    constructor(status, reason, told) {
+        super(told);
+        this.status = status;
+        this.reason = reason;
+    }
+}
+
+/** @param {number} milliseconds */
+const pause = milliseconds => new Promise(go => setTimeout(go, milliseconds));
+
+/** @param {string} path @param {RequestInit} [more]
+ * @returns {Promise<Told>} */
+async function ask(path, more = {}) {
+    const answer = await fetch(path, {credentials: "same-origin", ...more});
+    const told = await answer.json();
+    if (told.reply === "gateway") {
+        throw new Refused(answer.status, told.reason, told.told);
+    }
+    return told;
+}
+
+/** @param {string} path */
+export const get = path => ask(path);
+
+/** @param {string} path @param {Told} [body] */
+export const post = (path, body = {}) =>
+    ask(path, {method: "POST", body: JSON.stringify(body)});
+
+/** Whether a fault goes by itself: nobody answers, or not yet.
+ * @param {unknown} fault */
+const isPassing = fault => !(fault instanceof Refused) || fault.reason === "Unanswered";
+
+/** Sends a line under its key until it is answered, so that it counts once.
+ * @param {{key: string, line: string}} kept @param {() => void} onWait
+ * @returns {Promise<Told>} the reply of the exchange */
+async function sendKept({key, line}, onWait) {
+    for (;;) {
+        try {
+            const headers = {"Idempotency-Key": key};
+            const told = await ask("lines", {method: "POST", body: line, headers});
+            sessionStorage.removeItem(KEPT);
+            return told.reply;
+        } catch (fault) {
+            if (!isPassing(fault)) {
+                sessionStorage.removeItem(KEPT);
+                throw fault;
+            }
+            onWait();
+            await pause(PAUSE);
+        }
+    }
+}
+
+/** @param {string} line @param {() => void} onWait */
+export function send(line, onWait) {
+    const kept = {key: crypto.randomUUID(), line};
+    sessionStorage.setItem(KEPT, JSON.stringify(kept));
+    return sendKept(kept, onWait);
+}
+
+/** The line that this page sent before it was loaded anew, without an answer.
+ * @returns {{key: string, line: string} | null} */
+export const keptLine = () => JSON.parse(sessionStorage.getItem(KEPT) || "null");
+
+/** Sends again what was kept.
+ * @param {{key: string, line: string}} kept @param {() => void} onWait */
+export const sendAgain = (kept, onWait) => sendKept(kept, onWait);
+
+/** Tells what comes, and whether there is a connection. */
+export class Feed {
+    /** @param {(events: Told[]) => void} onEvents @param {(isThere: boolean) => void} onState */
+    constructor(onEvents, onState) {
+        this.onEvents = onEvents;
+        this.onState = onState;
+        this.at = -1;
+        this.isClosed = false;
+        this.connect();
+    }
+
+    connect() {
+        const place = new URL("feed", location.href);
+        place.protocol = place.protocol === "https:" ? "wss:" : "ws:";
+        place.hash = "";
+        place.search = this.at < 0 ? "" : `?since=${this.at}`;
+        this.socket = new WebSocket(place);
+        this.socket.addEventListener("message", event => {
+            const told = JSON.parse(event.data);
+            this.at = told.at;
+            this.onState(true);
+            this.onEvents(told.events);
+        });
+        this.socket.addEventListener("close", () => {
+            if (!this.isClosed) {
+                this.onState(false);
+                setTimeout(() => this.connect(), PAUSE);
+            }
+        });
+    }
+
+    close() {
+        this.isClosed = true;
+        if (this.socket) {
+            this.socket.close();
+        }
+    }
+}

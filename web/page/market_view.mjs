@@ -1,0 +1,71 @@
+// The market: its live orders, one's own marked, and what one holds and ordered over the price.
+import {bundleWords} from "./words.mjs";
+import {button, choice, field, setOptions} from "./forms.mjs";
+import {element, tableElement} from "./tables.mjs";
+import {orderOf, positionOf} from "./stakes.mjs";
+import {WorthPicture} from "./worth_picture.mjs";
+
+/** @typedef {import("./gateway.mjs").Told} Told */
+/** @typedef {import("./trading_state.mjs").TradingState} TradingState */
+
+/** How a market is chosen.
+ * @param {Told} market
+ * @returns {[value: string, told: string]} */
+function optionOf({market, underlyings, orders, prices}) {
+    const phase = prices.length > 0 ? `settled at ${prices.join(", ")}` : `live orders: ${orders}`;
+    return [`${market}`, `${market} (underlyings: ${underlyings}; ${phase})`];
+}
+
+export class MarketView {
+    /** @param {HTMLElement} place @param {() => void} onMarket
+     * @param {(line: string) => void} onLine */
+    constructor(place, onMarket, onLine) {
+        this.onLine = onLine;
+        this.select = choice([], onMarket);
+        this.phase = element("p", {class: "says", id: "phase"});
+        this.book = element("div", {id: "book"});
+        this.picture = new WorthPicture("What I hold and ordered is worth");
+        const stakes = element("div", {}, element("h3", {}, "What I hold and ordered"),
+            this.picture.place);
+        place.append(element("div", {class: "fields"}, field("Market", this.select)), this.phase,
+            element("div", {class: "two"},
+                element("div", {}, element("h3", {}, "Live orders"), this.book), stakes));
+    }
+
+    /** @param {TradingState} state */
+    show(state) {
+        setOptions(this.select, state.markets.map(optionOf));
+        this.select.value = state.market;
+        const market = state.chosen();
+        const isOpen = market !== undefined && market.prices.length === 0;
+        this.phase.textContent = market === undefined ? "No market is listed yet."
+            : isOpen ? "Open: orders wait for the next clear, which takes all of them at once."
+                : `Settled at ${market.prices.join(", ")}, for good.`;
+        this.showBook(state);
+        const own = state.orders.filter(order => state.accounts.includes(order.account));
+        this.picture.show([
+            {told: "held now", kind: "held", stakes: state.positions.map(positionOf)},
+            {told: "with my orders, if all are filled at their limits", kind: "ordered",
+                stakes: [...state.positions.map(positionOf), ...own.map(orderOf)]},
+        ], state.count());
+    }
+
+    /** @param {TradingState} state */
+    showBook(state) {
+        const rows = state.orders.map(order => {
+            const isOwn = state.accounts.includes(order.account);
+            const cancel = button("Cancel",
+                () => this.onLine(`cancel,${order.account},${order.order}`), "quiet");
+            cancel.setAttribute("aria-label", `Cancel order ${order.order}`);
+            const whose = order.account === undefined ? "" : `${order.account}`;
+            return [`${order.order}`, `${order.side}`, bundleWords(orderOf(order)),
+                `${order.price}`, `${order.quantity}`, isOwn ? `★ mine: ${whose}` : whose,
+                isOwn ? cancel : ""];
+        });
+        const table = tableElement({caption: "Live orders, by number",
+            head: ["order", "side", "bundle", "limit", "quantity", "account", ""], rows});
+        table.querySelectorAll("tbody tr").forEach((row, at) =>
+            row.classList.toggle("own", state.accounts.includes(state.orders[at].account)));
+        this.book.replaceChildren(table);
+    }
+}

@@ -1,0 +1,82 @@
+// What the page knows of the exchange, asked anew when something happened.
+import {get} from "./gateway.mjs";
+
+/** @typedef {import("./gateway.mjs").Told} Told */
+
+export class TradingState {
+    /** @param {Told} me */
+    constructor(me) {
+        this.name = String(me.name);
+        this.isOperator = me.role === "operator";
+        /** @type {number[]} */
+        this.accounts = me.accounts;
+        /** @type {Told[]} */
+        this.markets = [];
+        /** @type {Told[]} the live orders of the market that is looked at */
+        this.orders = [];
+        /** @type {Told[]} */
+        this.batches = [];
+        /** @type {Told[]} the balance of each account */
+        this.balances = [];
+        /** @type {Told[]} the positions in that market, of all accounts */
+        this.positions = [];
+        /** @type {Told[]} */
+        this.history = [];
+        /** @type {Told[]} */
+        this.members = [];
+        this.market = "";
+    }
+
+    /** The market that is looked at.
+     * @returns {Told | undefined} */
+    chosen() {
+        return this.markets.find(each => `${each.market}` === this.market);
+    }
+
+    /** How many underlyings it has. */
+    count() {
+        const market = this.chosen();
+        return market === undefined ? 1 : Number(market.underlyings);
+    }
+
+    /** What all may see. */
+    async loadPublic() {
+        this.markets = (await get("markets")).markets;
+        if (this.chosen() === undefined && this.markets.length > 0) {
+            this.market = `${this.markets[0].market}`;
+        }
+        const isThere = this.chosen() !== undefined;
+        this.orders = isThere ? (await get(`book/${this.market}`)).orders : [];
+        this.batches = (await get("batches")).batches.slice().reverse();
+    }
+
+    /** What is one's own. */
+    async loadOwn() {
+        this.accounts = (await get("me")).accounts;
+        this.balances = [];
+        this.positions = [];
+        const market = this.chosen();
+        for (const account of this.accounts) {
+            this.balances.push(await get(`balance/${account}`));
+            if (market !== undefined && market.prices.length === 0) {
+                const told = await get(`positions/${account}/${this.market}`);
+                this.positions.push(...told.positions.map((/** @type {Told} */ each) =>
+                    ({...each, account})));
+            }
+        }
+        this.history = (await get("history")).lines.filter((/** @type {Told} */ each) =>
+            !["balance", "positions"].includes(each.reply.reply)).reverse();
+        this.members = this.isOperator ? (await get("members")).members : [];
+    }
+}
+
+const OWN = ["placed", "cancelled", "opened", "deposited", "withdrawn"];
+
+/** What is to be asked anew after events: all's, and one's own.
+ * @param {Told[]} events */
+export function asksFor(events) {
+    const answers = events.filter(each => each.event === "answer");
+    const isOwn = answers.some(each => OWN.includes(each.reply.reply))
+        || events.some(each => ["cleared", "settled", "deposited", "gap"].includes(each.event));
+    return {isPublic: events.length > answers.length, isOwn};
+}

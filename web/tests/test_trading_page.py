@@ -1,0 +1,237 @@
+"""The page of members in a browser without a window: the butterfly from login to recheck."""
+
+from __future__ import annotations
+
+import base64
+import time
+from collections.abc import Callable
+from typing import Any
+
+from tests import wants
+from tests.test_page import SCREEN, SHOTS, TELEPHONE, open_browser
+from tests.trading import SECRET, Trading
+
+try:
+    from selenium.common.exceptions import StaleElementReferenceException
+    from selenium.webdriver import ActionChains
+    from selenium.webdriver.common.by import By
+    from selenium.webdriver.common.keys import Keys
+    from selenium.webdriver.support.ui import Select
+except ImportError:
+    pass
+
+
+@wants("chromium", "chromedriver", modules=("selenium",))
+class TradingPage(Trading):
+    browser: Any
+
+    @classmethod
+    def setUpClass(cls) -> None:
+        super().setUpClass()
+        SHOTS.mkdir(exist_ok=True)
+        cls.say(ana="open,101 open,111", eva="open,103")
+        cls.say(operator="market,1,1 market,2,2 deposit,101,1000 deposit,111,1000")
+        cls.browser = open_browser()
+        cls.addClassCleanup(cls.browser.quit)
+
+    def setUp(self) -> None:
+        self.resize(SCREEN)
+
+    # ---- what a member does
+
+    def resize(self, size: tuple[int, int]) -> None:
+        given = {"width": size[0], "height": size[1], "deviceScaleFactor": 1}
+        mobile = {"mobile": size == TELEPHONE}
+        self.browser.execute_cdp_cmd("Emulation.setDeviceMetricsOverride", {**given, **mobile})
+
+    def part(self, name: str) -> Any:
+        return self.browser.find_element(By.ID, name)
+
+    def text(self, name: str) -> str:
+        return str(self.part(name).text)
+
+    def until(self, holds: Callable[[], bool], told: str = "") -> None:
+        end = time.monotonic() + 60
+        while True:
+            try:
+                if holds():
+                    return
+            except StaleElementReferenceException:
+                pass
+            if time.monotonic() > end:
+                self.fail(told or self.browser.find_element(By.TAG_NAME, "body").text)
+            time.sleep(0.05)
+
+    def login(self, name: str, secret: str = SECRET) -> None:
+        self.browser.delete_all_cookies()
+        self.browser.get(f"http://127.0.0.1:{self.port}/")
+        self.until(lambda: bool(self.part("login").is_displayed()))
+        self.part("name").send_keys(name)
+        self.part("password").send_keys(secret + Keys.ENTER)
+
+    def enter(self, name: str) -> None:
+        self.login(name)
+        self.until(lambda: self.text("line-state") == "connected")
+        self.until(lambda: "live orders" in self.text("market"))
+
+    def view(self, name: str) -> None:
+        self.browser.find_element(By.CSS_SELECTOR, f'nav a[href="#{name}"]').click()
+        self.until(lambda: bool(self.part(name).is_displayed()))
+
+    def field(self, section: str, name: str, place: int = 0) -> Any:
+        path = f"//section[@id='{section}']//label[text()='{name}']/following-sibling::*"
+        return self.browser.find_elements(By.XPATH, path)[place]
+
+    def set(self, section: str, place: int = 0, **values: str) -> None:
+        for name, value in values.items():
+            field = self.field(section, name.replace("_", " "), place)
+            if field.tag_name == "select":
+                Select(field).select_by_visible_text(value)
+            else:
+                field.clear()
+                field.send_keys(value)
+
+    def order(self, side: str, strike: str, price: str) -> None:
+        """Sends the order for a call."""
+        self.view("ticket")
+        self.set("ticket", Side=side, Kind="call")
+        self.set("ticket", Strike=strike, Limit_price=price)
+        line = self.text("ticket-line")
+        self.part("ticket-send").click()
+        self.until(lambda: self.text("told") == f"✓ {line}: placed.")
+
+    def press(self, section: str, name: str) -> None:
+        path = f"//section[@id='{section}']//button[text()='{name}']"
+        self.browser.find_element(By.XPATH, path).click()
+
+    def shot(self, name: str) -> None:
+        """The whole page as a picture, and that nothing of it is wider than the screen."""
+        script = (
+            "return [document.documentElement.scrollWidth, innerWidth, document.body.scrollHeight]"
+        )
+        wide, width, height = self.browser.execute_script(script)
+        self.assertLessEqual(wide, width, name)
+        clip = {"x": 0, "y": 0, "width": width, "height": height, "scale": 1}
+        given = {"captureBeyondViewport": True, "clip": clip}
+        told = self.browser.execute_cdp_cmd("Page.captureScreenshot", given)
+        (SHOTS / f"{name}.png").write_bytes(base64.b64decode(told["data"]))
+
+    # ---- tests
+
+    def test_the_butterfly(self) -> None:
+        self.enter("eva")
+        self.order("sell", "5", "8")
+        self.order("sell", "12", "4")
+        self.enter("ana")
+        self.order("buy", "10", "6")
+        self.shot("ticket")
+        self.view("market")
+        self.until(lambda: "★ mine: 101" in self.text("book"))
+        self.assertEqual(self.text("book").count("call"), 3)
+        self.assertNotIn("103", self.text("book"))
+        self.shot("market")
+        self.enter("operator")
+        self.view("operator")
+        self.until(lambda: "eva" in self.text("members"))
+        for field, value in (("Market", "1"), ("Budget of units", "100")):
+            self.set_in("Clear", field, value)
+        self.press("operator", "Clear")
+        self.until(lambda: self.text("told") == "✓ clear,1,100: cleared.")
+        self.shot("operator")
+        self.enter("ana")
+        self.view("batches")
+        self.until(lambda: "6/7" in self.text("batch-list"))
+        self.shot("batches")
+        self.view("account")
+        self.until(lambda: "994" in self.text("balances") and "call 10" in self.text("positions"))
+        self.shot("account")
+        self.resize(TELEPHONE)
+        for view in ("market", "ticket", "batches", "account"):
+            self.view(view)
+            self.shot(f"telephone-{view}")
+        self.resize(SCREEN)
+        self.view("batches")
+        self.browser.find_element(By.PARTIAL_LINK_TEXT, "Recheck batch").click()
+        self.until(lambda: bool(self.part("recheck").is_displayed()))
+        self.part("recheck").click()
+        self.until(lambda: self.text("verdict").startswith("✓ Yes"))
+        self.shot("batch")
+
+    def set_in(self, form: str, name: str, value: str) -> None:
+        path = f"//button[text()='{form}']/..//label[text()='{name}']/following-sibling::input"
+        field = self.browser.find_element(By.XPATH, path)
+        field.clear()
+        field.send_keys(value)
+
+    def test_a_ticket_is_said_and_drawn(self) -> None:
+        self.enter("ana")
+        self.view("ticket")
+        self.set("ticket", Kind="butterfly")
+        said = "Buy 1 of: +1 call 8, −2 call 10, +1 call 12, for at most 6 each."
+        self.assertIn(said, self.text("ticket-says"))
+        line = "bundle,101,1,buy,6,1,3,1,call,8,1,-2,call,10,1,1,call,12,1"
+        self.assertEqual(self.text("ticket-line"), line)
+        self.browser.find_element(By.CSS_SELECTOR, "#ticket summary").click()
+        self.assertIn("8 -6\n10 -4\n12 -6", self.text("ticket"))
+        self.set("ticket", Strike="nine")
+        self.assertEqual(self.text("ticket-says"), "Each field is a whole number.")
+        self.assertFalse(self.part("ticket-send").is_enabled())
+        self.shot("ticket-butterfly")
+
+    def test_two_underlyings(self) -> None:
+        self.enter("ana")
+        Select(self.field("market", "Market")).select_by_index(1)
+        self.view("ticket")
+        self.until(lambda: "Weight of S2" in self.text("ticket"))
+        self.set("ticket", Weight_of_S2="-1")
+        self.assertIn("call 10 on S1 − S2", self.text("ticket-says"))
+        self.assertTrue(self.text("ticket-line").startswith("buy,101,2,call,10,6,1,1,-1"))
+        self.shot("ticket-two")
+
+    def test_keys_alone(self) -> None:
+        pressed = ActionChains(self.browser)
+        self.enter("ana")
+
+        def tab_to(holds: Callable[[Any], bool]) -> None:
+            for _ in range(40):
+                if holds(self.browser.switch_to.active_element):
+                    return
+                pressed.send_keys(Keys.TAB).perform()
+            self.fail("no way by keys")
+
+        tab_to(lambda it: bool(it.text == "Ticket"))
+        pressed.send_keys(Keys.ENTER).perform()
+        self.until(lambda: bool(self.part("ticket").is_displayed()))
+        tab_to(lambda it: bool(it.get_attribute("id") == "ticket-send"))
+        pressed.send_keys(Keys.ENTER).perform()
+        self.until(lambda: self.text("told").startswith("✓"))
+        self.until(lambda: "★ mine" in str(self.part("book").get_attribute("textContent")))
+        self.view("market")
+        tab_to(lambda it: bool(it.text == "Cancel"))
+        pressed.send_keys(Keys.ENTER).perform()
+        self.until(lambda: self.text("told").endswith("cancelled."))
+
+    def test_a_lost_gateway(self) -> None:
+        self.enter("ana")
+        self.view("account")
+        self.kill("gateway")
+        self.until(lambda: self.text("line-state").startswith("connection lost"))
+        self.set_in("Withdraw", "Account", "111")
+        self.set_in("Withdraw", "Ticks", "7")
+        self.press("account", "Withdraw")
+        self.until(lambda: "counts once" in self.text("told"))
+        self.shot("lost")
+        self.browser.refresh()
+        self.start("gateway")
+        self.browser.get(f"http://127.0.0.1:{self.port}/#account")
+        self.until(lambda: self.text("told") == "✓ withdraw,111,7: withdrawn.")
+        self.until(lambda: self.text("line-state") == "connected")
+        history = self.visitor("ana").get("/history")["lines"]
+        self.assertEqual([it["line"] for it in history].count("withdraw,111,7"), 1)
+
+    def test_a_wrong_password(self) -> None:
+        self.login("ben", "wrong")
+        self.until(lambda: self.text("login-told") == "no member has this name and password")
+        self.login("<script>alert(1)</script>", "wrong")
+        self.until(lambda: self.text("login-told") == "no member has this name and password")
+        self.shot("login")
