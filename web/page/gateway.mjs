@@ -96,9 +96,11 @@ export class Feed {
         this.socket = new WebSocket(place);
         this.socket.addEventListener("message", event => {
             const told = JSON.parse(event.data);
+            // What came before the first frame is not told.
+            const first = this.at < 0 ? [{event: "gap"}] : [];
             this.at = told.at;
             this.onState(true);
-            this.onEvents(told.events);
+            this.onEvents([...first, ...told.events]);
         });
         this.socket.addEventListener("close", () => {
             if (!this.isClosed) {

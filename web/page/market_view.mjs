@@ -45,7 +45,7 @@ export class MarketView {
         const own = state.orders.filter(order => state.accounts.includes(order.account));
         this.picture.show([
             {told: "held now", kind: "held", stakes: state.positions.map(positionOf)},
-            {told: "with my orders, if all are filled at their limits", kind: "ordered",
+            {told: "with my orders, all filled", kind: "ordered",
                 stakes: [...state.positions.map(positionOf), ...own.map(orderOf)]},
         ], state.count());
     }

@@ -56,11 +56,15 @@ export function worth(stakes, state) {
     return sum;
 }
 
-/** A price up to which a picture goes: past all bends.
- * @param {Order[]} stakes @param {number} axis */
-export function reach(stakes, axis) {
-    const forms = stakes.flatMap(stake => stake.legs.map(leg => leg.form));
-    const bends = forms.map(form => -Number(form[0]) / Number(form[axis + 1]));
+/** A price up to which a picture goes: past all bends, the other prices as they are.
+ * @param {Order[]} stakes @param {number} axis @param {number[]} prices */
+export function reach(stakes, axis, prices) {
+    const forms = stakes.flatMap(stake => stake.legs.map(leg => leg.form.map(Number)));
+    const bends = forms.map(([strike, ...weights]) => {
+        const others = weights.reduce((sum, weight, at) =>
+            at === axis ? sum : sum + weight * prices[at], strike);
+        return -others / weights[axis];
+    });
     const known = bends.filter(price => price > 0 && price <= 1e9);
     return Math.ceil(Math.max(8, ...known) * 2);
 }

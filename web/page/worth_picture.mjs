@@ -99,7 +99,7 @@ export class WorthPicture {
 
     redraw() {
         const {heaps, axis, prices} = this;
-        const greatest = reach(heaps.flatMap(heap => heap.stakes), axis);
+        const greatest = reach(heaps.flatMap(heap => heap.stakes), axis, prices);
         const width = Math.max(280, Math.min(this.place.clientWidth || 560, 620));
         const name = underlying(axis, prices.length);
         const curves = curvesOf(heaps, axis, prices, greatest);

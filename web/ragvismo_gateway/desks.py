@@ -17,7 +17,7 @@ import threading
 from collections.abc import Callable
 from typing import Any, NamedTuple
 
-from ragvismo_gateway.members import Member, Members, Message
+from ragvismo_gateway.members import KEPT, Member, Members, Message
 from ragvismo_gateway.refusals import Reason, Refusal
 from ragvismo_gateway.view import Spoken, View
 from ragvismo_service.chain import Answered
@@ -221,7 +221,7 @@ class Desks:
         message = Message(session, self.view.last.get(session, 0) + 1, key, line)
         desk.pending = Pending(message, asyncio.Event())
         desk.numbers[key] = message.number
-        if len(desk.numbers) > 1000:
+        if len(desk.numbers) > KEPT:
             desk.numbers.popitem(last=False)
         self.writer.put(message, True)
         return message.number
@@ -238,7 +238,7 @@ class Desks:
     def _answer(self, session: int, number: int, line: bytes, key: str) -> Answer:
         spoken: Spoken | None = self.view.spoken[session].get(number)
         if spoken is None:
-            raise Refusal(Reason.FAULT, "something else than this gateway speaks in your session")
+            raise Refusal(Reason.FAULT, "its reply is not kept, or another speaks in your session")
         if spoken.body != line:
             raise Refusal(Reason.KEY_USED, "another line was sent under this key")
         return Answer(key, spoken.at, line.decode(), json.loads(spoken.reply))

@@ -4,6 +4,7 @@ from __future__ import annotations
 
 import asyncio
 import json
+import logging
 from collections.abc import Awaitable, Callable, Iterator
 from typing import Any
 
@@ -92,6 +93,10 @@ class Lines:
             status, told = await self.take(key, line)
         except Refusal as refusal:
             status, told = refusal.status, refusal.answer()
+        except Exception:
+            logging.exception("a line over a feed")
+            fault = Refusal(Reason.FAULT, "a fault of the gateway")
+            status, told = fault.status, fault.answer()
         if not self.socket.closed:
             await self.socket.send_str(compact({**told, "key": key, "status": status}))
 

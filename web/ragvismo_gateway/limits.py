@@ -23,10 +23,10 @@ class Limits(NamedTuple):
 
     lines: Rate = Rate(40, 20)
     asked: Rate = Rate(200, 50)
-    logins: Rate = Rate(10, 0.2)
+    logins: Rate = Rate(20, 0.5)
     logins_of_name: Rate = Rate(5, 0.05)
     waiting: int = 16
-    feeds: int = 4
+    feeds: int = 8
 
 
 class Buckets:

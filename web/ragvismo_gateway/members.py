@@ -104,6 +104,12 @@ class Members:
             raise
         return Member(name, session, role)
 
+    def change(self, name: str, password: str) -> None:
+        """Gives a member another password; who was logged in, or had a token, is not any more."""
+        hashed = argon2.PasswordHasher().hash(password)
+        self.file.execute("UPDATE members SET hash = ? WHERE name = ?", (hashed, name))
+        self.file.execute("DELETE FROM tokens WHERE name = ?", (name,))
+
     def all(self) -> list[Member]:
         rows = self.file.execute("SELECT name, session, role FROM members ORDER BY session")
         return [Member(*row) for row in rows]
@@ -148,6 +154,10 @@ class Members:
             self.file.execute("INSERT OR IGNORE INTO messages VALUES (?, ?, ?, ?)", message)
             past = message.session, message.number - KEPT
             self.file.execute("DELETE FROM messages WHERE session = ? AND number <= ?", past)
+            # The one before is answered, and just its key is wanted.
+            before = message.session, message.number - 1
+            blank = "UPDATE messages SET body = x'' WHERE session = ? AND number = ?"
+            self.file.execute(blank, before)
         self.file.execute("COMMIT")
 
     def kept(self, session: int) -> list[Message]:

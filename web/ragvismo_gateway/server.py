@@ -61,6 +61,14 @@ def status_of(answer: Answer) -> int:
     return 422 if answer.reply["reply"] == "refused" else 200
 
 
+def encoded(text: str) -> bytes:
+    """A text as UTF-8; raises Refusal where it has half a character."""
+    try:
+        return text.encode()
+    except UnicodeEncodeError:
+        raise Refusal(Reason.FORM, "a text is UTF-8") from None
+
+
 async def body_of(request: web.Request, most: int) -> bytes:
     """The body of a request, of which no more is read than may be; raises Refusal."""
     told = Refusal(Reason.LONG, f"at most {most} bytes are taken")
@@ -93,6 +101,7 @@ class Gateway:
         self.store, self.hosts, self.is_secure = store, hosts, False
         self.lines, self.asked = Buckets(limits.lines), Buckets(limits.asked)
         self.logins, self.names = Buckets(limits.logins), Buckets(limits.logins_of_name)
+        self.answers: dict[str, Answer] = {}
         self.hashing, self.reading = asyncio.Semaphore(HASHES), asyncio.Lock()
         self.sockets: dict[str, list[tuple[str, web.WebSocketResponse]]] = collections.defaultdict(
             list
@@ -130,13 +139,13 @@ class Gateway:
     @TABLE.add("POST", "/login", True, '{"name":..,"password":..}', s200="a cookie for 7 days")
     async def login(self, request: web.Request) -> web.StreamResponse:
         """Logs in."""
-        self.logins.take(request.remote)
         try:
             told = json.loads(await body_of(request, SMALL))
             name, password = told["name"], told["password"]
-            assert isinstance(name, str) and isinstance(password, str)
-        except (ValueError, KeyError, TypeError, AssertionError, RecursionError):
+            encoded(name + password)
+        except (ValueError, KeyError, TypeError, AttributeError, RecursionError):
             raise Refusal(Reason.FORM, 'a login is {"name":..,"password":..}') from None
+        self.logins.take(request.remote)
         self.names.take((request.remote, name[:64]))
         async with self.hashing:
             hashed = self.members.password_hash(name)
@@ -178,14 +187,17 @@ class Gateway:
         self.lines.take(member.name)
         if len(key) > 64 or not key.isascii() or not key.isprintable():
             raise Refusal(Reason.FORM, "a key has at most 64 letters, digits and signs")
-        body = line.removesuffix("\n").encode()
+        body = encoded(line.removesuffix("\n"))
         rule.check(self.view, member, body)
         return await self.desks.say(member, body, key, self.limits.waiting)
 
-    async def ask(self, member: Member, line: str) -> web.Response:
-        """The reply to what changes nothing. It is a message as any; where the exchange knows
-        questions, a follower is asked here."""
-        answer = await self.take(member, line, "")
+    async def ask(self, member: Member, line: str, account: int) -> web.Response:
+        """The reply to what changes nothing, told again until the account is touched. It is a
+        message as any; where the exchange knows questions, a follower is asked here."""
+        rule.check(self.view, member, line.encode())
+        answer = self.answers.get(line)
+        if answer is None or answer.at < self.view.touched.get(account, 0):
+            self.answers[line] = answer = await self.take(member, line, "")
         return answered({"at": answer.at, **answer.reply}, status_of(answer))
 
     @TABLE.add(
@@ -262,13 +274,14 @@ class Gateway:
     async def balance(self, request: web.Request) -> web.StreamResponse:
         """The balance of an account of one's own."""
         account = named(request, "account")
-        return await self.ask(self.member_of(request), f"balance,{account}")
+        return await self.ask(self.member_of(request), f"balance,{account}", account)
 
     @TABLE.add("GET", "/positions/{account}/{market}", s200="the reply `positions`")
     async def positions(self, request: web.Request) -> web.StreamResponse:
         """The positions of an account of one's own in a market."""
         account, market = named(request, "account"), named(request, "market")
-        return await self.ask(self.member_of(request), f"positions,{account},{market}")
+        line = f"positions,{account},{market}"
+        return await self.ask(self.member_of(request), line, account)
 
     @TABLE.add("GET", "/history", s200='{"lines":[{"at":..,"line":..,"reply":REPLY},..]}')
     async def history(self, request: web.Request) -> web.StreamResponse:

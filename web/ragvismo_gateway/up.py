@@ -21,6 +21,7 @@ import pathlib
 import secrets
 import shutil
 import signal
+import socket
 import subprocess
 import sys
 import time
@@ -165,6 +166,13 @@ class Exchange:
                 sessions[name].answer(numbers[name], line)
 
 
+def check_free(number: int) -> None:
+    """Raises BadUse where somebody listens at a port."""
+    with socket.socket() as one:
+        if one.connect_ex(("127.0.0.1", number)) == 0:
+            raise BadUse(f"somebody listens at port {number} already; --port takes another")
+
+
 def run() -> None:
     words = Words(f"{__doc__}{table(*STATUSES)}", is_placed=False)
     folder = pathlib.Path("ragvismo-web")
@@ -176,6 +184,7 @@ def run() -> None:
     given = words.parse_args()
     if not shutil.which("redis-server"):
         raise BadUse("redis-server is missing; tools/setup installs it")
+    check_free(given.port.port)
     signal.signal(signal.SIGTERM, lambda *_: sys.exit(128 + signal.SIGTERM))
     exchange = Exchange(given.folder.resolve(), given.redis, given.port.port, given.program)
     with files.lock(exchange.log, ENDING) as lock:

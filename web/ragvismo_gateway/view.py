@@ -13,6 +13,8 @@ from ragvismo_service.chain import Answered
 
 # How many events can be told again to who lost the connection.
 EVENTS = 10_000
+# How much of what a session said, and was answered, is kept.
+KEPT_BYTES = 4 << 20
 ORDERS = {"buy", "sell", "bundle"}
 
 
@@ -72,6 +74,9 @@ class Spoken(NamedTuple):
     body: bytes
     reply: bytes
 
+    def size(self) -> int:
+        return len(self.body) + len(self.reply)
+
 
 def compact(told: object) -> str:
     return json.dumps(told, separators=(",", ":"))
@@ -123,7 +128,10 @@ class View:
         self.placed: collections.Counter[int] = collections.Counter()
         self.batches: dict[int, Batch] = {}
         self.spoken: dict[int, dict[int, Spoken]] = collections.defaultdict(dict)
+        self.sizes: collections.Counter[int] = collections.Counter()
         self.last: dict[int, int] = {}
+        # Where in the log the balance or the positions of an account may have changed last.
+        self.touched: dict[int, int] = {}
         self.events: collections.deque[Event] = collections.deque(maxlen=EVENTS)
 
     def take(self, answered: Answered) -> tuple[int, int] | None:
@@ -147,9 +155,12 @@ class View:
         return session, number
 
     def _speak(self, session: int, number: int, spoken: Spoken) -> None:
+        """Keeps what a session said last, so many lines and bytes, and that one anyway."""
         said = self.spoken[session]
         said[number] = spoken
-        said.pop(number - KEPT, None)
+        self.sizes[session] += spoken.size()
+        while len(said) > KEPT or (self.sizes[session] > KEPT_BYTES and len(said) > 1):
+            self.sizes[session] -= said.pop(next(iter(said))).size()
 
     def _tell(
         self, account: int, payouts: list[dict[str, Any]], is_for_all: bool = True, **said: Any
@@ -164,9 +175,14 @@ class View:
         orders = self.markets[market].orders.values() if market in self.markets else ()
         return sum(self.owners.get(order.account) == session for order in orders)
 
+    def _touch(self, *accounts: int) -> None:
+        """What moves money of an account may move the house's."""
+        self.touched.update(dict.fromkeys((0, *accounts), self.count))
+
     # ---- what each reply changes
 
     def _opened(self, session: int, body: bytes, reply: dict[str, Any], id: bytes) -> None:
+        self._touch(reply["account"])
         self.owners[reply["account"]] = session
         self.accounts[session].append(reply["account"])
 
@@ -174,6 +190,9 @@ class View:
         self._tell(
             reply["account"], [], is_for_all=False, event="deposited", balance=reply["balance"]
         )
+
+    def _withdrawn(self, session: int, body: bytes, reply: dict[str, Any], id: bytes) -> None:
+        self._touch(reply["account"])
 
     def _listed(self, session: int, body: bytes, reply: dict[str, Any], id: bytes) -> None:
         self.markets[reply["market"]] = Market(reply["underlyings"], {}, [])
@@ -183,6 +202,7 @@ class View:
     def _placed(self, session: int, body: bytes, reply: dict[str, Any], id: bytes) -> None:
         order = order_of(reply["order"], body, lambda market: self.markets[market].underlyings)
         self.markets[order.market].orders[order.number] = order
+        self._touch(order.account)
         self.market_of[order.number] = order.market
         self.placed[session] += 1
         told: dict[str, Any] = {"market": order.market, "order": order.told(False)}
@@ -191,6 +211,7 @@ class View:
     def _cancelled(self, session: int, body: bytes, reply: dict[str, Any], id: bytes) -> None:
         market = self.market_of.pop(reply["order"])
         order = self.markets[market].orders.pop(reply["order"])
+        self._touch(order.account)
         told: dict[str, Any] = {"market": market, "order": order.number}
         self._tell(order.account, [], event="cancelled", **told)
 
@@ -206,12 +227,14 @@ class View:
     def _settled(self, session: int, body: bytes, reply: dict[str, Any], id: bytes) -> None:
         prices = [int(field) for field in fields_of(body)[2:]]
         self.markets[reply["market"]].prices.extend(prices)
+        self._touch(*(payout["account"] for payout in reply["payouts"]))
         self._take_orders(reply["market"])
         told: dict[str, Any] = {"market": reply["market"], "prices": prices}
         told["lapsed"] = reply["lapsed"]
         self._tell(0, reply["payouts"], event="settled", **told)
 
     def _take_orders(self, market: int) -> None:
-        for number in self.markets[market].orders:
+        for number, order in self.markets[market].orders.items():
+            self._touch(order.account)
             del self.market_of[number]
         self.markets[market].orders.clear()

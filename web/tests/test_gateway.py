@@ -79,15 +79,16 @@ class Gateway(Trading):
                 await socket.send_json({"key": key, "line": line})
             await socket.send_json({"key": "a", "line": "buy,102,3,call,1,1,1,1"})
             await socket.send_str("[1")
+            await socket.send_str('{"key":"c","line":"\\ud800"}')
             answers: list[Any] = []
-            while len(answers) < 4:
+            while len(answers) < 5:
                 told = await socket.receive_json()
                 answers += [told] if "status" in told else []
             return {f"{it['key']}{at}": it for at, it in enumerate(sorted(answers, key=str))}
 
         told = list(ben.over_socket(talk).values())
         statuses = sorted((it["key"], it["status"]) for it in told)
-        self.assertEqual(statuses, [("", 400), ("a", 200), ("a", 200), ("b", 403)])
+        self.assertEqual(statuses, [("", 400), ("a", 200), ("a", 200), ("b", 403), ("c", 400)])
         orders = {it["reply"]["order"] for it in told if it["key"] == "a"}
         self.assertEqual(len(orders), 1)
 
@@ -156,7 +157,8 @@ class Gateway(Trading):
             told = somebody.login(name, secret)
             self.assertEqual((told.status, told.json()["reason"]), (401, "Login"))
             self.assertEqual(somebody.cookie, "")
-        for body in ("", "[]", '{"name":1,"password":2}', "[" * 900):
+        half = '{"name":"\\ud800","password":"a"}'
+        for body in ("", "[]", '{"name":1,"password":2}', "[" * 900, half):
             self.assertEqual(somebody.ask("POST", "/login", body).status, 400)
 
     def test_a_name_is_plain(self) -> None:
@@ -175,6 +177,35 @@ class Gateway(Trading):
         self.assertEqual(said.status, 200)
         # A token is no cookie.
         self.assertEqual(program.ask("GET", "/me", Cookie=f"ragvismo={token}").status, 401)
+
+    def test_a_login_ends(self) -> None:
+        """By a logout, which closes its feeds, and by another password."""
+        eva = Visitor(self.port)
+        eva.login("eva")
+
+        async def leave(socket: Any) -> bool:
+            await socket.receive_json()
+            await asyncio.to_thread(eva.ask, "POST", "/logout")
+            return bool((await socket.receive()).type.name.startswith("CLOS"))
+
+        self.assertTrue(eva.over_socket(leave, "/feed"))
+        self.assertEqual(eva.ask("GET", "/me").status, 401)
+        eva.login("eva")
+        words = [str(WEB / "members"), str(self.folder), "password", "eva"]
+        told = subprocess.run(words, capture_output=True, text=True, check=True).stdout.strip()
+        self.assertEqual(eva.ask("GET", "/me").status, 401)
+        self.assertEqual(eva.login("eva").status, 401)
+        self.assertEqual(eva.login("eva", told).status, 200)
+        type(self).cookies["eva"] = eva.cookie
+
+    def test_what_is_asked_is_a_message_once(self) -> None:
+        """Until the account is touched."""
+        ana = self.visitor("ana")
+        ana.line("withdraw,111,1")
+        told = [ana.get(path)["at"] for path in ("/balance/111", "/positions/111/1") * 3]
+        self.assertEqual(len(set(told)), 2)
+        ana.line("withdraw,111,1")
+        self.assertGreater(ana.get("/balance/111")["at"], max(told))
 
     def test_other_pages(self) -> None:
         ana = self.visitor("ana")
@@ -243,7 +274,7 @@ class Gateway(Trading):
                 return ben.ask("GET", "/feed").status
             return ben.over_socket(talk)
 
-        self.assertEqual(more(4), 429)
+        self.assertEqual(more(8), 429)
         ben.over_socket(none)
 
 

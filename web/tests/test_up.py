@@ -33,7 +33,8 @@ class Up(unittest.TestCase):
         for line in process.stdout:
             if line.startswith("the page is at"):
                 break
-            told.update([line.split()])
+            name, secret = line.split()
+            told[name] = secret
         wait_for(self.port)
         return process, told
 

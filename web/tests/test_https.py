@@ -1,0 +1,40 @@
+"""The gateway with a certificate, and what it does not do without one."""
+
+from __future__ import annotations
+
+import http.client
+import json
+import ssl
+import subprocess
+
+from tests import WEB, wants
+from tests.trading import SECRET, Trading
+
+
+@wants("openssl")
+class Secure(Trading):
+    @classmethod
+    def words(cls, part: str) -> list[object]:
+        if part != "gateway":
+            return super().words(part)
+        files = cls.folder / "certificate", cls.folder / "key"
+        form = "-x509", "-newkey", "rsa:2048", "-nodes", "-subj", "/CN=localhost", "-days", "2"
+        made = ["openssl", "req", *form, "-out", str(files[0]), "-keyout", str(files[1])]
+        subprocess.run(made, check=True, capture_output=True)
+        return [*super().words(part), "--certificate", files[0], "--key", files[1]]
+
+    def test_a_cookie_is_sent_by_https_alone(self) -> None:
+        context = ssl.create_default_context(cafile=str(self.folder / "certificate"))
+        connection = http.client.HTTPSConnection("localhost", self.port, context=context)
+        said = json.dumps({"name": "ana", "password": SECRET})
+        connection.request("POST", "/login", said, {"Origin": f"https://localhost:{self.port}"})
+        answer = connection.getresponse()
+        self.assertEqual((answer.status, json.loads(answer.read())["name"]), (200, "ana"))
+        self.assertIn("Secure", answer.headers["Set-Cookie"])
+        connection.close()
+
+    def test_without_a_certificate_nobody_else_reaches_it(self) -> None:
+        for more in (["0.0.0.0:9000"], ["[::]:9000"], ["127.0.0.1:9000", "--key", "none"]):
+            words = [str(WEB / "gateway"), str(self.folder / "other"), "--listen", *more]
+            ran = subprocess.run(words, capture_output=True, text=True)
+            self.assertEqual((ran.returncode, ran.stderr.count("\n")), (2, 1), ran.stderr)
