@@ -17,7 +17,7 @@ export class Refused extends Error {
 }
 
 /** @param {number} milliseconds */
-const pause = milliseconds => new Promise(go => setTimeout(go, milliseconds));
+export const pause = milliseconds => new Promise(go => setTimeout(go, milliseconds));
 
 /** @param {string} path @param {RequestInit} [more]
  * @returns {Promise<Told>} */
@@ -41,19 +41,35 @@ export const post = (path, body = {}) =>
  * @param {unknown} fault */
 const isPassing = fault => !(fault instanceof Refused) || fault.reason === "Unanswered";
 
-/** Sends a line under its key until it is answered, so that it counts once.
- * @param {{key: string, line: string}} kept @param {() => void} onWait
+/** @typedef {{key: string, line: string}} Kept a line, and the key under which it counts once */
+
+/** A line of a member, kept until it is answered.
+ * @param {string} name @param {string} line
+ * @returns {Kept} */
+export function keep(name, line) {
+    const kept = {key: crypto.randomUUID(), line};
+    sessionStorage.setItem(`${KEPT}-${name}`, JSON.stringify(kept));
+    return kept;
+}
+
+/** The line that a member sent before the page was loaded anew, without an answer.
+ * @param {string} name
+ * @returns {Kept | null} */
+export const keptLine = name => JSON.parse(sessionStorage.getItem(`${KEPT}-${name}`) || "null");
+
+/** Sends what is kept until it is answered.
+ * @param {string} name @param {Kept} kept @param {() => void} onWait
  * @returns {Promise<Told>} the reply of the exchange */
-async function sendKept({key, line}, onWait) {
+export async function send(name, {key, line}, onWait) {
     for (;;) {
         try {
             const headers = {"Idempotency-Key": key};
             const told = await ask("lines", {method: "POST", body: line, headers});
-            sessionStorage.removeItem(KEPT);
+            sessionStorage.removeItem(`${KEPT}-${name}`);
             return told.reply;
         } catch (fault) {
             if (!isPassing(fault)) {
-                sessionStorage.removeItem(KEPT);
+                sessionStorage.removeItem(`${KEPT}-${name}`);
                 throw fault;
             }
             onWait();
@@ -61,21 +77,6 @@ async function sendKept({key, line}, onWait) {
         }
     }
 }
-
-/** @param {string} line @param {() => void} onWait */
-export function send(line, onWait) {
-    const kept = {key: crypto.randomUUID(), line};
-    sessionStorage.setItem(KEPT, JSON.stringify(kept));
-    return sendKept(kept, onWait);
-}
-
-/** The line that this page sent before it was loaded anew, without an answer.
- * @returns {{key: string, line: string} | null} */
-export const keptLine = () => JSON.parse(sessionStorage.getItem(KEPT) || "null");
-
-/** Sends again what was kept.
- * @param {{key: string, line: string}} kept @param {() => void} onWait */
-export const sendAgain = (kept, onWait) => sendKept(kept, onWait);
 
 /** Tells what comes, and whether there is a connection. */
 export class Feed {

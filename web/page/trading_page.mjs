@@ -1,6 +1,6 @@
 // The page of a member: login, views, lines that are sent, and what is told of them.
 import {AccountView, BatchesView, OperatorView} from "./account_view.mjs";
-import {Feed, Refused, get, keptLine, post, send, sendAgain} from "./gateway.mjs";
+import {Feed, Refused, get, keep, keptLine, pause, post, send} from "./gateway.mjs";
 import {TradingState, asksFor} from "./trading_state.mjs";
 import {MarketView} from "./market_view.mjs";
 import {TicketView} from "./ticket_view.mjs";
@@ -22,6 +22,8 @@ function part(id, kind) {
 
 const section = (/** @type {string} */ id) => part(id, HTMLElement);
 const NAMES = ["market", "ticket", "batches", "account", "operator"];
+// So long nothing is asked anew after it was, in milliseconds.
+const REST = 250;
 const lineState = part("line-state", HTMLParagraphElement);
 const loginTold = part("login-told", HTMLParagraphElement);
 
@@ -65,6 +67,7 @@ class Trading {
         this.isLoading = true;
         while (this.asks.isPublic || this.asks.isOwn) {
             await this.load();
+            await pause(REST);
         }
         this.isLoading = false;
     }
@@ -80,18 +83,18 @@ class Trading {
             if (fault instanceof Refused && fault.status === 401) {
                 location.reload();
             }
-            await new Promise(go => setTimeout(go, 1000));
+            await pause(1000);
             this.asks = {isPublic: true, isOwn: true};
         }
     }
 
-    /** @param {string} line @param {{key: string, line: string}} [kept] */
+    /** @param {string} line @param {import("./gateway.mjs").Kept} [kept] */
     async send(line, kept) {
         const wait = () => this.tell("", `${line}: no answer yet; it is sent again, and counts`
             + " once.");
         this.tell("", `${line}: sent …`);
         try {
-            const reply = await (kept ? sendAgain(kept, wait) : send(line, wait));
+            const reply = await send(this.state.name, kept || keep(this.state.name, line), wait);
             const isRefused = reply.reply === "refused";
             const told = isRefused ? `refused, ${reply.reason}` : reply.reply;
             this.tell(isRefused ? "no" : "yes", `${isRefused ? "✗" : "✓"} ${line}: ${told}.`);
@@ -148,7 +151,7 @@ function begin(me) {
     });
     showView(false);
     trading.want({isPublic: true, isOwn: true});
-    const kept = keptLine();
+    const kept = keptLine(me.name);
     if (kept !== null) {
         trading.send(kept.line, kept);
     }

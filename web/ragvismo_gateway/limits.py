@@ -48,6 +48,11 @@ class Buckets:
             raise Refusal(Reason.OFTEN, f"too often: wait {(1 - left) / each_second:.0f} s")
         self.left[key] = left - 1, now
 
+    def give(self, key: Hashable) -> None:
+        """Gives one back."""
+        left, since = self.left.get(key, (self.rate.burst, 0.0))
+        self.left[key] = left + 1, since
+
     def _forget_full(self, now: float) -> None:
         burst, each_second = self.rate
         full = [

@@ -153,6 +153,9 @@ class Gateway:
         member = self.members.named(name)
         if member is None or not holds:
             raise Refusal(Reason.LOGIN, "no member has this name and password")
+        # Those that fail are counted.
+        self.logins.give(request.remote)
+        self.names.give((request.remote, name[:64]))
         token = self.members.give_token(member, "login", LOGIN_DAYS)
         response = answered(self.told_of(member))
         more: dict[str, Any] = {"httponly": True, "samesite": "Strict", "path": "/"}

@@ -51,7 +51,7 @@ class TradingPage(Trading):
         return str(self.part(name).text)
 
     def until(self, holds: Callable[[], bool], told: str = "") -> None:
-        end = time.monotonic() + 60
+        end = time.monotonic() + 180
         while True:
             try:
                 if holds():
@@ -59,6 +59,7 @@ class TradingPage(Trading):
             except StaleElementReferenceException:
                 pass
             if time.monotonic() > end:
+                self.shot("failed")
                 self.fail(told or self.browser.find_element(By.TAG_NAME, "body").text)
             time.sleep(0.05)
 
