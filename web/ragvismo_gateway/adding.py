@@ -18,15 +18,23 @@ from __future__ import annotations
 
 import argparse
 import pathlib
+import re
 import secrets
 
 from ragvismo_gateway.members import ROLES, Members
-from ragvismo_gateway.serving import MEMBERS
+from ragvismo_gateway.members_file import FILE, told_faults
 from ragvismo_service import files
 from ragvismo_service.statuses import BadUse, Status, table
-from ragvismo_service.words import Words, password, seconds, status_of
+from ragvismo_service.words import Words, password, status_of
 
 STATUSES = Status.BAD_USE, Status.FILE_FAULT
+
+
+def days(text: str) -> int:
+    """A number of days; raises BadUse."""
+    if re.fullmatch("[1-9][0-9]{0,3}", text):
+        return int(text)
+    raise BadUse(f"{text} is no number of days: 1 to 9999")
 
 
 def run() -> None:
@@ -37,7 +45,7 @@ def run() -> None:
         task = tasks.add_parser(name)
         task.add_argument("name", metavar="NAME")
         if name == "token":
-            task.add_argument("--days", type=seconds, default=365.0, metavar="N")
+            task.add_argument("--days", type=days, default=365, metavar="N")
         else:
             task.add_argument("--secret", type=password, metavar="FILE")
         if name == "add":
@@ -45,7 +53,8 @@ def run() -> None:
     tasks.add_parser("list")
     given = words.parse_args()
     files.make(given.folder)
-    do(given, Members(given.folder / MEMBERS))
+    with told_faults():
+        do(given, Members(given.folder / FILE))
 
 
 def do(given: argparse.Namespace, members: Members) -> None:

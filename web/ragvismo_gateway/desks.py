@@ -17,7 +17,8 @@ import threading
 from collections.abc import Callable
 from typing import Any, NamedTuple
 
-from ragvismo_gateway.members import KEPT, Member, Members, Message
+from ragvismo_gateway.keeping import KEPT, Kept, Message
+from ragvismo_gateway.members_file import told_faults
 from ragvismo_gateway.refusals import Reason, Refusal
 from ragvismo_gateway.view import Spoken, View
 from ragvismo_service.chain import Answered
@@ -64,9 +65,9 @@ class Writer(threading.Thread):
     """Keeps messages on the disk and appends them to the log, in order; `fail` is told how it
     ended."""
 
-    def __init__(self, store: Store, members: Callable[[], Members], fail: Failing) -> None:
+    def __init__(self, store: Store, kept: Callable[[], Kept], fail: Failing) -> None:
         super().__init__(daemon=True, name="writer")
-        self.store, self.members, self.fail = store, members, fail
+        self.store, self.kept, self.fail = store, kept, fail
         self.queue: queue.Queue[tuple[Message, bool]] = queue.Queue()
 
     def put(self, message: Message, is_new: bool) -> None:
@@ -74,18 +75,19 @@ class Writer(threading.Thread):
 
     def run(self) -> None:
         try:
-            self._run(self.members())
+            with told_faults():
+                self._run(self.kept())
         except Exception as fault:
             self.fail(fault)
 
-    def _run(self, members: Members) -> None:
+    def _run(self, kept: Kept) -> None:
         key = Keys.of(self.store.place.name).taken
         while True:
             together = [self.queue.get()]
             while len(together) < TOGETHER and not self.queue.empty():
                 together.append(self.queue.get())
             if new := [message for message, is_new in together if is_new]:
-                members.keep(new)
+                kept.keep(new)
             commands = [appending(key, message) for message, _ in together]
             self.store.ask(lambda: commands)
 
@@ -121,35 +123,43 @@ class Reader(threading.Thread):
 class Desks:
     """The sessions of all members, between the log and those who speak."""
 
-    def __init__(
-        self, view: View, stores: tuple[Store, Store], members: Callable[[], Members]
-    ) -> None:
-        self.view = view
+    def __init__(self, view: View, stores: tuple[Store, Store], kept: Callable[[], Kept]) -> None:
+        self.view, self.kept = view, kept
         self.desks: dict[int, Desk] = collections.defaultdict(Desk)
         self.changed = asyncio.Event()
         self.ended: asyncio.Future[Exception | None] = asyncio.Future()
         self.loop = asyncio.get_running_loop()
         self.follower = Follower(stores[0], lambda answered, _: self._take(answered))
         self.reader = Reader(self.follower, self._from_thread(self._send_again), self._fail)
-        self.writer = Writer(stores[1], members, self._fail)
+        self.writer = Writer(stores[1], kept, self._fail)
         self.is_reading = False
 
     # ---- beginning
 
-    def begin(self, members: Members) -> None:
+    def begin(self) -> None:
         """Reads the whole log, and sends again what was kept and is not answered."""
         self.follower.begin()
         self.is_reading = True
-        for member in members.all():
-            kept, desk = members.kept(member.session), self.desks[member.session]
-            for message in kept:
-                desk.numbers[message.key] = message.number
-            if kept and kept[-1].number > self.view.last.get(member.session, 0):
-                logging.info("a message of session %s is sent again", member.session)
-                desk.pending = Pending(kept[-1], asyncio.Event())
-                self.writer.put(kept[-1], False)
+        kept = self.kept()
+        for session in kept.sessions():
+            self._begin_desk(session, kept)
+        kept.close()
         self.reader.start()
         self.writer.start()
+
+    def _begin_desk(self, session: int, kept: Kept) -> None:
+        """Takes the keys of a session; its newest message, if it is the next, is sent again."""
+        last, newest = self.view.last.get(session, 0), kept.of(session)[-1]
+        if newest.number > last + 1:
+            told = "the log no longer has messages of session %s after its message %s"
+            logging.warning(told, session, last)
+            kept.forget(session, last)
+        elif newest.number > last:
+            logging.info("a message of session %s is sent again", session)
+            self.desks[session].pending = Pending(newest, asyncio.Event())
+            self.writer.put(newest, False)
+        for message in kept.of(session):
+            self.desks[session].numbers[message.key] = message.number
 
     # ---- what comes from threads
 

@@ -23,8 +23,10 @@ from typing import NamedTuple
 
 from aiohttp import web
 from ragvismo_gateway.desks import Desks
+from ragvismo_gateway.keeping import Kept
 from ragvismo_gateway.limits import Limits
 from ragvismo_gateway.members import Members
+from ragvismo_gateway.members_file import FILE, told_faults
 from ragvismo_gateway.server import Gateway, application
 from ragvismo_gateway.view import View
 from ragvismo_service import files
@@ -33,7 +35,6 @@ from ragvismo_service.store import Store
 from ragvismo_service.watchdog import ready
 from ragvismo_service.words import Words, place_of, status_of
 
-MEMBERS = "members.sqlite"
 STATUSES = (
     Status.BAD_USE,
     Status.NO_REDIS,
@@ -91,12 +92,10 @@ def security(given: Namespace) -> ssl.SSLContext | None:
 
 async def serve(given: Namespace, context: ssl.SSLContext | None) -> None:
     """Serves until a signal comes; Ended where the log cannot be read or written."""
-    path: pathlib.Path = given.folder / MEMBERS
-    members, stores = Members(path), [
-        Store(place_of(given), given.patience, "gateway") for _ in range(3)
-    ]
-    desks = Desks(View(), (stores[0], stores[1]), lambda: Members(path))
-    desks.begin(members)
+    path, place = given.folder / FILE, place_of(given)
+    members, stores = Members(path), [Store(place, given.patience, "gateway") for _ in range(3)]
+    desks = Desks(View(), (stores[0], stores[1]), lambda: Kept(path, place.name))
+    desks.begin()
     hosts = given.listen.names() | set(given.host)
     gateway = Gateway(desks, members, stores[2], hosts, Limits())
     gateway.is_secure = context is not None
@@ -125,7 +124,7 @@ def run() -> None:
     words.add_argument("--host", action="append", default=[], metavar="NAME")
     given = words.parse_args()
     context = security(given)
-    with files.lock(given.folder, 5):
+    with files.lock(given.folder, 5), told_faults():
         asyncio.run(serve(given, context))
 
 

@@ -29,7 +29,7 @@ from typing import NamedTuple
 
 from client import Session
 from ragvismo_gateway.members import Members
-from ragvismo_gateway.serving import MEMBERS
+from ragvismo_gateway.members_file import FILE, told_faults
 from ragvismo_service import files, users
 from ragvismo_service.places import Place
 from ragvismo_service.starting import ENDING, port, redis_words, started, wait_for, words_of
@@ -144,14 +144,15 @@ class Exchange:
         """Adds members and sends what they say; a second time nothing changes."""
         done, told = self.folder / "demonstrated", self.passwords()
         files.make(self.folder / "gateway")
-        members = Members(self.folder / "gateway" / MEMBERS)
-        for name, secret in told.items():
-            if not members.named(name):
-                members.add(name, "operator" if name == OPERATOR else "trader", secret)
-        if not done.exists():
-            self.look_after(self.parts()[0])
-            self.say_all(members)
-            files.write(done, b"")
+        with told_faults():
+            members = Members(self.folder / "gateway" / FILE)
+            for name, secret in told.items():
+                if not members.named(name):
+                    members.add(name, "operator" if name == OPERATOR else "trader", secret)
+            if not done.exists():
+                self.look_after(self.parts()[0])
+                self.say_all(members)
+                files.write(done, b"")
         print("\n".join(f"{name:10} {secret}" for name, secret in told.items()), flush=True)
 
     def say_all(self, members: Members) -> None:

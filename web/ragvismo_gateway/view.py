@@ -8,7 +8,7 @@ import json
 from collections.abc import Callable
 from typing import Any, NamedTuple
 
-from ragvismo_gateway.members import KEPT
+from ragvismo_gateway.keeping import KEPT
 from ragvismo_service.chain import Answered
 
 # How many events can be told again to who lost the connection.

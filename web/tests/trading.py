@@ -26,7 +26,7 @@ WANTED = missing("redis-server", modules=("redis", "aiohttp", "argon2"))
 if not WANTED:
     import aiohttp
     from ragvismo_gateway.members import Members
-    from ragvismo_gateway.serving import MEMBERS
+    from ragvismo_gateway.members_file import FILE
 WHY = f"{' and '.join(WANTED)} is missing; tools/setup installs it"
 if not WANTED and not PROGRAM.exists():
     WHY = "the program is not built"
@@ -116,7 +116,7 @@ class Trading(Together):
         cls.folder, cls.running, cls.cookies = pathlib.Path(held.name), {}, {}
         cls.redis_port, cls.port = free_port(), free_port()
         cls.addClassCleanup(cls.stop)
-        members = Members(cls.folder / MEMBERS)
+        members = Members(cls.folder / FILE)
         for name in ("operator", "ana", "ben", "eva"):
             members.add(name, "operator" if name == "operator" else "trader", SECRET)
         members.close()
