@@ -209,10 +209,12 @@ class Desks:
 
     # ---- speaking
 
-    async def say(self, member: Member, line: bytes, key: str, waiting: int) -> Answer:
-        """The reply to a line, which counts once however often it is sent under its key; raises
-        Refusal."""
-        desk, key = self.desks[member.session], key or secrets.token_hex(8)
+    async def say(
+        self, session: int, line: bytes, key: str, waiting: int, check: Callable[[], None]
+    ) -> Answer:
+        """The reply to a line, which counts once however often it is sent under its key; whether
+        it may be sent is checked when all before it is answered. Raises Refusal."""
+        desk, key = self.desks[session], key or secrets.token_hex(8)
         if desk.waiting >= waiting:
             raise Refusal(Reason.OFTEN, f"{waiting} lines of yours wait already")
         desk.waiting += 1
@@ -221,9 +223,10 @@ class Desks:
                 number = desk.numbers.get(key)
                 if number is None:
                     await self._wait(desk, "it was not taken")
-                    number = self._send(desk, member.session, line, key)
+                    check()
+                    number = self._send(desk, session, line, key)
                 await self._wait(desk, "it may count yet: send it again under its key")
-                return self._answer(member.session, number, line, key)
+                return self._answer(session, number, line, key)
         finally:
             desk.waiting -= 1
 

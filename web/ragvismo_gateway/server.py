@@ -4,6 +4,7 @@ from __future__ import annotations
 
 import asyncio
 import collections
+import functools
 import json
 import logging
 import pathlib
@@ -191,8 +192,8 @@ class Gateway:
         if len(key) > 64 or not key.isascii() or not key.isprintable():
             raise Refusal(Reason.FORM, "a key has at most 64 letters, digits and signs")
         body = encoded(line.removesuffix("\n"))
-        rule.check(self.view, member, body)
-        return await self.desks.say(member, body, key, self.limits.waiting)
+        check = functools.partial(rule.check, self.view, member, body)
+        return await self.desks.say(member.session, body, key, self.limits.waiting, check)
 
     async def ask(self, member: Member, line: str, account: int) -> web.Response:
         """The reply to what changes nothing, told again until the account is touched. It is a
@@ -327,9 +328,10 @@ class Gateway:
         try:
             await socket.prepare(request)
             place = int(since) if rule.PLAIN.fullmatch(since) else self.view.count
-            telling = asyncio.create_task(tell(socket, self.desks, member, place))
+            known = functools.partial(self.known, request)
+            telling = asyncio.create_task(tell(socket, self.desks, known, place))
             try:
-                await Lines(socket, lambda key, line: self.take_told(member, key, line)).run()
+                await Lines(socket, lambda key, line: self.take_told(request, key, line)).run()
             finally:
                 telling.cancel()
         finally:

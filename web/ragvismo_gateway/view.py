@@ -187,6 +187,7 @@ class View:
         self.accounts[session].append(reply["account"])
 
     def _deposited(self, session: int, body: bytes, reply: dict[str, Any], id: bytes) -> None:
+        self._touch(reply["account"])
         self._tell(
             reply["account"], [], is_for_all=False, event="deposited", balance=reply["balance"]
         )

@@ -135,8 +135,10 @@ class Gateway(Trading):
 
     def test_quotas(self) -> None:
         eva = self.visitor("eva")
-        statuses = [eva.line(f"open,{500 + each}").status for each in range(16)]
+        statuses = [eva.line(f"open,{500 + each}", f"open-{each}").status for each in range(16)]
         self.assertEqual(statuses, [200] * 15 + [429])
+        # What counted is told again, though one more is too many.
+        self.assertEqual(eva.line("open,514", "open-14").json()["reply"]["reply"], "opened")
 
     def test_a_key_counts_once(self) -> None:
         ana = self.visitor("ana")
@@ -205,7 +207,11 @@ class Gateway(Trading):
         told = [ana.get(path)["at"] for path in ("/balance/111", "/positions/111/1") * 3]
         self.assertEqual(len(set(told)), 2)
         ana.line("withdraw,111,1")
-        self.assertGreater(ana.get("/balance/111")["at"], max(told))
+        withdrawn = ana.get("/balance/111")
+        self.assertGreater(withdrawn["at"], max(told))
+        self.visitor("operator").line("deposit,111,2")
+        left = int(withdrawn["balance"])
+        self.assertEqual(ana.get("/balance/111")["balance"], str(left + 2))
 
     def test_other_pages(self) -> None:
         ana = self.visitor("ana")
