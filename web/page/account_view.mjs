@@ -80,6 +80,8 @@ export class OperatorView {
             lineForm("List a market", "market",
                 [["Market", input()], ["Underlyings", input("1")]], onLine),
             lineForm("Deposit", "deposit", [["Account", input()], ["Ticks", input()]], onLine),
+            lineForm("Close", "close", [["Market", input()]], onLine),
+            lineForm("Reopen", "reopen", [["Market", input()]], onLine),
             lineForm("Clear", "clear", [["Market", input()], ["Budget of units", input("10000")]],
                 onLine),
             lineForm("Settle for good", "settle",

@@ -11,9 +11,23 @@ import {WorthPicture} from "./worth_picture.mjs";
 /** How a market is chosen.
  * @param {Told} market
  * @returns {[value: string, told: string]} */
-function optionOf({market, underlyings, orders, prices}) {
-    const phase = prices.length > 0 ? `settled at ${prices.join(", ")}` : `live orders: ${orders}`;
-    return [`${market}`, `${market} (underlyings: ${underlyings}; ${phase})`];
+function optionOf({market, underlyings, orders, phase, prices}) {
+    const told = prices.length > 0 ? `settled at ${prices.join(", ")}`
+        : `${phase}; live orders: ${orders}`;
+    return [`${market}`, `${market} (underlyings: ${underlyings}; ${told})`];
+}
+
+/** What the phase of a market means.
+ * @param {Told | undefined} market */
+function phaseWords(market) {
+    if (market === undefined) {
+        return "No market is listed yet.";
+    }
+    return market.phase === "open"
+        ? "Open: orders wait for the next clear, which takes all of them at once."
+        : market.phase === "closed"
+            ? "Closed: no order comes or goes until the next clear, which takes all of them at once."
+            : `Settled at ${market.prices.join(", ")}, for good.`;
 }
 
 export class MarketView {
@@ -36,11 +50,7 @@ export class MarketView {
     show(state) {
         setOptions(this.select, state.markets.map(optionOf));
         this.select.value = state.market;
-        const market = state.chosen();
-        const isOpen = market !== undefined && market.prices.length === 0;
-        this.phase.textContent = market === undefined ? "No market is listed yet."
-            : isOpen ? "Open: orders wait for the next clear, which takes all of them at once."
-                : `Settled at ${market.prices.join(", ")}, for good.`;
+        this.phase.textContent = phaseWords(state.chosen());
         this.showBook(state);
         const own = state.orders.filter(order => state.accounts.includes(order.account));
         this.picture.show([
@@ -52,6 +62,7 @@ export class MarketView {
 
     /** @param {TradingState} state */
     showBook(state) {
+        const isOpen = state.phase() === "open";
         const rows = state.orders.map(order => {
             const isOwn = state.accounts.includes(order.account);
             const cancel = button("Cancel",
@@ -60,7 +71,7 @@ export class MarketView {
             const whose = order.account === undefined ? "" : `${order.account}`;
             return [`${order.order}`, `${order.side}`, bundleWords(orderOf(order)),
                 `${order.price}`, `${order.quantity}`, isOwn ? `★ mine: ${whose}` : whose,
-                isOwn ? cancel : ""];
+                isOwn && isOpen ? cancel : ""];
         });
         const table = tableElement({caption: "Live orders, by number",
             head: ["order", "side", "bundle", "limit", "quantity", "account", ""], rows});

@@ -33,6 +33,7 @@ export class TicketView {
         this.rows = [];
         this.count = 0;
         this.market = "";
+        this.phase = "";
         this.lay(place);
     }
 
@@ -58,6 +59,7 @@ export class TicketView {
         const isNew = count !== this.count || this.rows.length === 0;
         this.count = count;
         this.market = state.market;
+        this.phase = state.phase();
         if (isNew) {
             this.fill();
         } else {
@@ -114,9 +116,15 @@ export class TicketView {
             price: this.price.value.trim(), quantity: this.quantity.value.trim(), legs};
     }
 
+    /** @param {Ticket} ticket */
+    fault(ticket) {
+        return ["closed", "settled"].includes(this.phase)
+            ? `Market ${this.market} is ${this.phase}: it takes no orders.` : faultOf(ticket);
+    }
+
     redraw() {
         const ticket = this.ticket();
-        const fault = faultOf(ticket);
+        const fault = this.fault(ticket);
         this.send.toggleAttribute("disabled", fault !== "");
         this.says.textContent = fault;
         this.line.textContent = "";
@@ -131,7 +139,7 @@ export class TicketView {
 
     submit() {
         const ticket = this.ticket();
-        if (faultOf(ticket) === "") {
+        if (this.fault(ticket) === "") {
             this.onLine(lineOf(ticket));
         }
     }

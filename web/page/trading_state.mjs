@@ -33,6 +33,12 @@ export class TradingState {
         return this.markets.find(each => `${each.market}` === this.market);
     }
 
+    /** Whether orders come and go in it: open, closed or settled; nothing where there is none. */
+    phase() {
+        const market = this.chosen();
+        return market === undefined ? "" : String(market.phase);
+    }
+
     /** How many underlyings it has. */
     count() {
         const market = this.chosen();

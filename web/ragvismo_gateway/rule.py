@@ -32,6 +32,8 @@ class Who(enum.Enum):
 
 WORDS = {
     "market": Who.OPERATOR,
+    "close": Who.OPERATOR,
+    "reopen": Who.OPERATOR,
     "clear": Who.OPERATOR,
     "settle": Who.OPERATOR,
     "deposit": Who.OPERATOR,

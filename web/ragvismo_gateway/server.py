@@ -227,12 +227,14 @@ class Gateway:
 
     @TABLE.add("GET", "/markets", s200='{"at":..,"markets":[..]}')
     async def markets(self, request: web.Request) -> web.StreamResponse:
-        """The markets; one that is settled has its prices."""
+        """The markets, of which each is open, closed or settled; one that is settled has its
+        prices."""
         self.member_of(request)
         told = [
             {
                 "market": number,
                 "orders": len(market.orders),
+                "phase": market.phase,
                 "prices": market.prices,
                 "underlyings": market.underlyings,
             }

@@ -47,6 +47,13 @@ class Market(NamedTuple):
     underlyings: int
     orders: dict[int, Order]
     prices: list[int]
+    is_closed: bool = False
+
+    @property
+    def phase(self) -> str:
+        if self.prices:
+            return "settled"
+        return "closed" if self.is_closed else "open"
 
 
 class Batch(NamedTuple):
@@ -200,6 +207,14 @@ class View:
         told: dict[str, Any] = {"market": reply["market"], "underlyings": reply["underlyings"]}
         self._tell(0, [], event="listed", **told)
 
+    def _closed(self, session: int, body: bytes, reply: dict[str, Any], id: bytes) -> None:
+        self._set_closed(reply["market"], True)
+        self._tell(0, [], event="closed", market=reply["market"])
+
+    def _reopened(self, session: int, body: bytes, reply: dict[str, Any], id: bytes) -> None:
+        self._set_closed(reply["market"], False)
+        self._tell(0, [], event="reopened", market=reply["market"])
+
     def _placed(self, session: int, body: bytes, reply: dict[str, Any], id: bytes) -> None:
         order = order_of(reply["order"], body, lambda market: self.markets[market].underlyings)
         self.markets[order.market].orders[order.number] = order
@@ -222,6 +237,7 @@ class View:
         said["orders"] = len(reply["orders"])
         said["filled"] = sum(fill != "0" for fill in reply["fills"])
         self.batches[reply["batch"]] = Batch(id, said)
+        self._set_closed(reply["market"], False)
         self._take_orders(reply["market"])
         self._tell(0, [], event="cleared", **said)
 
@@ -233,6 +249,9 @@ class View:
         told: dict[str, Any] = {"market": reply["market"], "prices": prices}
         told["lapsed"] = reply["lapsed"]
         self._tell(0, reply["payouts"], event="settled", **told)
+
+    def _set_closed(self, market: int, is_closed: bool) -> None:
+        self.markets[market] = self.markets[market]._replace(is_closed=is_closed)
 
     def _take_orders(self, market: int) -> None:
         for number, order in self.markets[market].orders.items():

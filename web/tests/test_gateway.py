@@ -22,7 +22,8 @@ class Gateway(Trading):
         super().setUpClass()
         cls.say(ana="open,101 open,111", ben="open,102", eva="open,103")
         deposits = " ".join(f"deposit,{account},1000" for account in (101, 102, 103, 111))
-        cls.say(operator=f"market,1,1 market,2,2 market,3,1 {deposits}")
+        markets = "market,1,1 market,2,2 market,3,1 market,5,1"
+        cls.say(operator=f"{markets} {deposits}")
 
     def test_the_butterfly_from_login_to_settlement(self) -> None:
         ana, eva, operator = map(self.visitor, ("ana", "eva", "operator"))
@@ -70,6 +71,26 @@ class Gateway(Trading):
         told = operator.reply("book,2")
         self.assertEqual(operator.get("/book/2")["orders"], told["orders"])
         self.assertEqual(len(told["orders"]), 2)
+
+    def test_a_closed_market_stands_still(self) -> None:
+        ben, operator = self.visitor("ben"), self.visitor("operator")
+        since, order = ben.get("/markets")["at"], "buy,102,5,call,10,1,1,1"
+        number = ben.reply(order)["order"]
+        self.assertEqual(ben.line("close,5").status, 403)
+        self.assertEqual(operator.reply("close,5")["orders"], 1)
+        phases = {it["market"]: it["phase"] for it in ben.get("/markets")["markets"]}
+        self.assertEqual((phases[5], phases[3]), ("closed", "open"))
+        for line in (order, f"cancel,102,{number}"):
+            told = ben.line(line)
+            self.assertEqual((told.status, told.json()["reply"]["reason"]), (422, "Closed"))
+        operator.line("reopen,5")
+        self.assertEqual(ben.line(f"cancel,102,{number}").status, 200)
+        operator.line("close,5")
+        self.assertEqual(operator.reply("clear,5,100")["market"], 5)
+        self.assertEqual(ben.line(order).status, 200)
+        told = [it["event"] for it in self.events(ben, since) if it.get("market") == 5]
+        kinds = "placed closed reopened cancelled closed cleared placed"
+        self.assertEqual(" ".join(told), kinds)
 
     def test_lines_over_a_socket(self) -> None:
         ben = self.visitor("ben")

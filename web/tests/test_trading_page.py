@@ -179,6 +179,23 @@ class TradingPage(Trading):
         self.assertFalse(self.part("ticket-send").is_enabled())
         self.shot("ticket-butterfly")
 
+    def test_a_closed_market(self) -> None:
+        self.say(operator="market,3,1", ana="buy,101,3,call,10,1,1,1")
+        self.enter("operator")
+        self.view("operator")
+        self.set_in("Close", "Market", "3")
+        self.press("operator", "Close")
+        self.until(lambda: self.text("told") == "✓ close,3: closed.")
+        self.enter("ana")
+        Select(self.field("market", "Market")).select_by_index(2)
+        self.until(lambda: self.text("phase").startswith("Closed"))
+        self.assertIn("★ mine: 101", self.text("book"))
+        self.assertNotIn("Cancel", self.text("book"))
+        self.shot("closed")
+        self.view("ticket")
+        self.until(lambda: self.text("ticket-says") == "Market 3 is closed: it takes no orders.")
+        self.assertFalse(self.part("ticket-send").is_enabled())
+
     def test_two_underlyings(self) -> None:
         self.enter("ana")
         Select(self.field("market", "Market")).select_by_index(1)
