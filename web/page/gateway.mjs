@@ -85,7 +85,6 @@ export class Feed {
         this.onEvents = onEvents;
         this.onState = onState;
         this.at = -1;
-        this.isClosed = false;
         this.connect();
     }
 
@@ -94,8 +93,8 @@ export class Feed {
         place.protocol = place.protocol === "https:" ? "wss:" : "ws:";
         place.hash = "";
         place.search = this.at < 0 ? "" : `?since=${this.at}`;
-        this.socket = new WebSocket(place);
-        this.socket.addEventListener("message", event => {
+        const socket = new WebSocket(place);
+        socket.addEventListener("message", event => {
             const told = JSON.parse(event.data);
             // What came before the first frame is not told.
             const first = this.at < 0 ? [{event: "gap"}] : [];
@@ -103,18 +102,9 @@ export class Feed {
             this.onState(true);
             this.onEvents([...first, ...told.events]);
         });
-        this.socket.addEventListener("close", () => {
-            if (!this.isClosed) {
-                this.onState(false);
-                setTimeout(() => this.connect(), PAUSE);
-            }
+        socket.addEventListener("close", () => {
+            this.onState(false);
+            setTimeout(() => this.connect(), PAUSE);
         });
-    }
-
-    close() {
-        this.isClosed = true;
-        if (this.socket) {
-            this.socket.close();
-        }
     }
 }

@@ -132,7 +132,6 @@ function showView(isFocused) {
     if (isFocused) {
         section(`${name}-title`).focus();
     }
-    window.dispatchEvent(new Event("resize"));
 }
 
 /** @param {Told} me */
