@@ -6,6 +6,7 @@ import time
 from collections.abc import Hashable
 from typing import NamedTuple
 
+from ragvismo_gateway.connections import Most
 from ragvismo_gateway.refusals import Reason, Refusal
 
 MOST_BUCKETS = 10_000
@@ -27,6 +28,7 @@ class Limits(NamedTuple):
     logins_of_name: Rate = Rate(5, 0.05)
     waiting: int = 16
     feeds: int = 8
+    connections: Most = Most()
 
 
 class Buckets:

@@ -13,13 +13,15 @@ from typing import Any
 
 from aiohttp import web
 from ragvismo_gateway import rule
+from ragvismo_gateway.answers import HEADERS, answered, refused
+from ragvismo_gateway.connections import Connection, Connections, network_of
 from ragvismo_gateway.desks import Answer, Desks
 from ragvismo_gateway.feeds import Lines, tell
 from ragvismo_gateway.limits import Buckets, Limits
 from ragvismo_gateway.members import LOGIN_DAYS, Member, Members, is_password
 from ragvismo_gateway.refusals import Reason, Refusal
 from ragvismo_gateway.routes import Handler, Table, openapi
-from ragvismo_gateway.view import compact, reply_text
+from ragvismo_gateway.view import reply_text
 from ragvismo_service.places import Keys
 from ragvismo_service.store import Store
 
@@ -31,30 +33,15 @@ KINDS = {
     ".replies": "text/plain",
 }
 COOKIE = "ragvismo"
+# A browser takes a cookie of this name from HTTPS alone, and from no neighbour of the gateway.
+SECURE_COOKIE = "__Host-ragvismo"
 SMALL = 1024
-HEADERS = {
-    "Cache-Control": "no-store",
-    "Content-Security-Policy": "default-src 'none'; script-src 'self'; style-src 'self';"
-    " img-src data:; connect-src 'self'; base-uri 'none'; form-action 'none';"
-    " frame-ancestors 'none'",
-    "Cross-Origin-Opener-Policy": "same-origin",
-    "Cross-Origin-Resource-Policy": "same-origin",
-    "Referrer-Policy": "no-referrer",
-    "X-Content-Type-Options": "nosniff",
-}
 TABLE = Table()
-# How an argon2 hash is computed: so many at once, since each takes 64 MB.
+# So many passwords are tried at once, since each takes 64 MB.
 HASHES = 2
+# So many answers to what is asked are kept.
+ASKED = 10_000
 HTTP_REASONS = {404: Reason.UNKNOWN, 405: Reason.METHOD, 413: Reason.LONG}
-
-
-def answered(told: object, status: int = 200) -> web.Response:
-    text = compact(told)
-    return web.Response(text=text, status=status, content_type="application/json")
-
-
-def refused(refusal: Refusal) -> web.Response:
-    return answered(refusal.answer(), refusal.status)
 
 
 def status_of(answer: Answer) -> int:
@@ -100,6 +87,7 @@ class Gateway:
     ) -> None:
         self.desks, self.view, self.members, self.limits = desks, desks.view, members, limits
         self.store, self.hosts, self.is_secure = store, hosts, False
+        self.connections = Connections(limits.connections)
         self.lines, self.asked = Buckets(limits.lines), Buckets(limits.asked)
         self.logins, self.names = Buckets(limits.logins), Buckets(limits.logins_of_name)
         self.answers: dict[str, Answer] = {}
@@ -110,17 +98,22 @@ class Gateway:
 
     # ---- who asks
 
+    @property
+    def cookie(self) -> str:
+        return SECURE_COOKIE if self.is_secure else COOKIE
+
     def check_origin(self, request: web.Request) -> None:
         """No other page may speak for who is logged in here; raises Refusal."""
-        if request.host not in self.hosts:
+        host = request.headers.get("Host")
+        if host not in self.hosts:
             raise Refusal(Reason.ORIGIN, "this gateway has another name")
         origin, site = request.headers.get("Origin"), request.headers.get("Sec-Fetch-Site")
-        if origin is not None and origin != f"{request.scheme}://{request.host}":
+        if origin is not None and origin != f"{request.scheme}://{host}":
             raise Refusal(Reason.ORIGIN, "another page asks")
         is_asking = request.method in ("GET", "HEAD") and request.path != "/feed"
         if not is_asking and site not in (None, "same-origin", "none"):
             raise Refusal(Reason.ORIGIN, "another page asks")
-        if not is_asking and origin is None and COOKIE in request.cookies:
+        if not is_asking and origin is None and self.cookie in request.cookies:
             raise Refusal(Reason.ORIGIN, "with a cookie the page that asks has to be told")
 
     def known(self, request: web.Request) -> Member | None:
@@ -128,14 +121,20 @@ class Gateway:
         kind, _, token = request.headers.get("Authorization", "").partition(" ")
         if token:
             return self.members.known_by(token, "token") if kind == "Bearer" else None
-        return self.members.known_by(request.cookies.get(COOKIE, ""), "login")
+        return self.members.known_by(request.cookies.get(self.cookie, ""), "login")
 
     def member_of(self, request: web.Request) -> Member:
         member = self.known(request)
         if member is None:
             raise Refusal(Reason.LOGIN, "log in first")
+        self.know(request, member)
         self.asked.take(member.name)
         return member
+
+    def know(self, request: web.Request, member: Member) -> None:
+        """The connection of a request is a member's; raises Refusal."""
+        if isinstance(request.protocol, Connection):
+            self.connections.know(request.protocol, member.name)
 
     @TABLE.add("POST", "/login", True, '{"name":..,"password":..}', s200="a cookie for 7 days")
     async def login(self, request: web.Request) -> web.StreamResponse:
@@ -146,33 +145,36 @@ class Gateway:
             encoded(name + password)
         except (ValueError, KeyError, TypeError, AttributeError, RecursionError):
             raise Refusal(Reason.FORM, 'a login is {"name":..,"password":..}') from None
-        self.logins.take(request.remote)
-        self.names.take((request.remote, name[:64]))
+        network = network_of(request.remote)
+        self.logins.take(network)
+        self.names.take((network, name[:64]))
         async with self.hashing:
             hashed = self.members.password_hash(name)
             holds = await asyncio.to_thread(is_password, hashed, password)
         member = self.members.named(name)
-        if member is None or not holds:
+        # Meanwhile another password may have been given.
+        if member is None or not holds or self.members.password_hash(name) != hashed:
             raise Refusal(Reason.LOGIN, "no member has this name and password")
         # Those that fail are counted.
-        self.logins.give(request.remote)
-        self.names.give((request.remote, name[:64]))
+        self.logins.give(network)
+        self.names.give((network, name[:64]))
+        self.know(request, member)
         token = self.members.give_token(member, "login", LOGIN_DAYS)
         response = answered(self.told_of(member))
         more: dict[str, Any] = {"httponly": True, "samesite": "Strict", "path": "/"}
-        response.set_cookie(COOKIE, token, secure=self.is_secure, **more)
+        response.set_cookie(self.cookie, token, secure=self.is_secure, **more)
         return response
 
     @TABLE.add("POST", "/logout", s200="the login is gone, and its feeds are closed")
     async def logout(self, request: web.Request) -> web.StreamResponse:
         """Logs out."""
-        member, token = self.member_of(request), request.cookies.get(COOKIE, "")
+        member, token = self.member_of(request), request.cookies.get(self.cookie, "")
         self.members.take_token(token)
         for login, socket in list(self.sockets[member.name]):
             if login == token:
                 await socket.close()
         response = answered({})
-        response.del_cookie(COOKIE, path="/")
+        response.set_cookie(self.cookie, "", max_age=0, path="/", secure=self.is_secure)
         return response
 
     def told_of(self, member: Member) -> dict[str, Any]:

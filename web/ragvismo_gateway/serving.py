@@ -16,12 +16,14 @@ from __future__ import annotations
 import asyncio
 import ipaddress
 import pathlib
+import resource
 import signal
 import ssl
 from argparse import Namespace
 from typing import NamedTuple
 
 from aiohttp import web
+from ragvismo_gateway.connections import Connection
 from ragvismo_gateway.desks import Desks
 from ragvismo_gateway.keeping import Kept
 from ragvismo_gateway.limits import Limits
@@ -35,6 +37,8 @@ from ragvismo_service.store import Store
 from ragvismo_service.watchdog import ready
 from ragvismo_service.words import Words, place_of, status_of
 
+# How long a connection may take to become secret, in seconds.
+HANDSHAKE = 10.0
 STATUSES = (
     Status.BAD_USE,
     Status.NO_REDIS,
@@ -68,10 +72,17 @@ class Listen(NamedTuple):
         except ValueError:
             return self.host == "localhost"
 
-    def names(self) -> set[str]:
+    @property
+    def name(self) -> str:
         host = f"[{self.host}]" if ":" in self.host else self.host
-        local = {f"localhost:{self.port}"} if self.is_loopback else set()
-        return {f"{host}:{self.port}", *local}
+        return f"{host}:{self.port}"
+
+    def names(self) -> set[str]:
+        """As browsers name it."""
+        return {self.name, f"localhost:{self.port}"} if self.is_loopback else {self.name}
+
+    def url(self, is_secure: bool) -> str:
+        return f"http{'s' * is_secure}://{self.name}"
 
 
 def security(given: Namespace) -> ssl.SSLContext | None:
@@ -99,20 +110,45 @@ async def serve(given: Namespace, context: ssl.SSLContext | None) -> None:
     hosts = given.listen.names() | set(given.host)
     gateway = Gateway(desks, members, stores[2], hosts, Limits())
     gateway.is_secure = context is not None
-    runner = web.AppRunner(application(gateway), access_log=None, lingering_time=1.0)
+    runner = web.AppRunner(application(gateway))
     await runner.setup()
-    site = web.TCPSite(runner, *given.listen, ssl_context=context, shutdown_timeout=2.0)
-    await site.start()
-    print(f"{site.name} is open", flush=True)
+    listening = await listen(given.listen, context, runner, gateway)
+    print(f"{given.listen.url(context is not None)} is open", flush=True)
     ready()
     for number in (signal.SIGTERM, signal.SIGINT):
         desks.loop.add_signal_handler(number, desks.stop)
     try:
         fault = await desks.ended
     finally:
+        listening.close()
+        if runner.server:
+            await runner.server.shutdown(2.0)
         await runner.cleanup()
     if fault is not None:
         raise fault
+
+
+async def listen(
+    at: Listen, context: ssl.SSLContext | None, runner: web.AppRunner, gateway: Gateway
+) -> asyncio.Server:
+    """Takes connections; raises BadUse where that is not possible."""
+
+    def connection() -> Connection:
+        assert runner.server
+        return Connection(runner.server, gateway.connections)
+
+    more = {"ssl": context, "ssl_handshake_timeout": HANDSHAKE} if context else {}
+    loop = asyncio.get_running_loop()
+    try:
+        return await loop.create_server(connection, at.host, at.port, **more)
+    except OSError as fault:
+        raise BadUse(f"it cannot listen at {at.host}:{at.port}: {fault.strerror}") from None
+
+
+def have_many_files() -> None:
+    """Each connection is a file: as many as this process may have."""
+    _, most = resource.getrlimit(resource.RLIMIT_NOFILE)
+    resource.setrlimit(resource.RLIMIT_NOFILE, (most, most))
 
 
 def run() -> None:
@@ -124,6 +160,7 @@ def run() -> None:
     words.add_argument("--host", action="append", default=[], metavar="NAME")
     given = words.parse_args()
     context = security(given)
+    have_many_files()
     with files.lock(given.folder, 5), told_faults():
         asyncio.run(serve(given, context))
 

@@ -5,11 +5,15 @@ from __future__ import annotations
 import asyncio
 import http.client
 import json
+import socket
 import subprocess
 from typing import Any
 
 from tests import TOP, WEB
-from tests.trading import SECRET, Trading, Visitor
+from tests.trading import IS_SKIPPED, SECRET, Trading, Visitor
+
+if not IS_SKIPPED:
+    from ragvismo_gateway.connections import Most
 
 SCRIPT = "<script>alert(1)</script>"
 
@@ -269,6 +273,35 @@ class Gateway(Trading):
         connection.close()
         self.assertEqual(ana.ask("GET", "/me").status, 200)
 
+    def test_what_is_no_http(self) -> None:
+        """It is refused as all else is, and so is a request without a host."""
+        for said, status in (
+            (b"open,7\r\n\r\n", 400),
+            (b"GET /me HTTP/1.1\r\nHost 1\r\n\r\n", 400),
+            (b"GET /" + b"9" * 9000 + b" HTTP/1.1\r\n\r\n", 400),
+            (b"GET /me HTTP/1.0\r\n\r\n", 403),
+        ):
+            with socket.create_connection(("127.0.0.1", self.port), 60) as one:
+                one.sendall(said)
+                answer = http.client.HTTPResponse(one)
+                answer.begin()
+                self.assertEqual(answer.status, status, said[:40])
+                self.assertEqual(json.loads(answer.read())["reply"], "gateway")
+                self.assertEqual(answer.headers["X-Content-Type-Options"], "nosniff")
+
+    def test_connections_of_nobody(self) -> None:
+        """The oldest of many ends, and so does one that asks and asks and reads nothing."""
+        most = Most()
+        held = [socket.create_connection(("127.0.0.1", self.port), 60) for _ in range(60)]
+        for one in held:
+            self.addCleanup(one.close)
+        self.assertTrue(has_ended(held[0]))
+        self.assertEqual(self.visitor().ask("GET", "/").status, 200)
+        self.assertTrue(has_ended(held[-most.of_network]))
+        asked = f"GET /batch.css HTTP/1.1\r\nHost: 127.0.0.1:{self.port}\r\n\r\n"
+        held[-1].sendall(asked.encode() * 4 * most.waiting)
+        self.assertTrue(has_ended(held[-1]))
+
     def test_unknown_paths(self) -> None:
         ana = self.visitor("ana")
         for method, path, status in (
@@ -303,6 +336,18 @@ class Gateway(Trading):
 
         self.assertEqual(more(8), 429)
         ben.over_socket(none)
+
+
+def has_ended(one: socket.socket) -> bool:
+    """Whether a connection ends before it says nothing for a minute."""
+    try:
+        while one.recv(1 << 16):
+            pass
+    except ConnectionError:
+        pass
+    except TimeoutError:
+        return False
+    return True
 
 
 def audit(line: bytes) -> dict[str, Any]:

@@ -30,7 +30,9 @@ class Secure(Trading):
         connection.request("POST", "/login", said, {"Origin": f"https://localhost:{self.port}"})
         answer = connection.getresponse()
         self.assertEqual((answer.status, json.loads(answer.read())["name"]), (200, "ana"))
-        self.assertIn("Secure", answer.headers["Set-Cookie"])
+        cookie = answer.headers["Set-Cookie"]
+        self.assertTrue(cookie.startswith("__Host-ragvismo="), cookie)
+        self.assertIn("Secure", cookie)
         connection.close()
 
     def test_without_a_certificate_nobody_else_reaches_it(self) -> None:

@@ -1,0 +1,120 @@
+"""Connections: of who is not known yet few are open, and none for long."""
+
+from __future__ import annotations
+
+import asyncio
+import collections
+import ipaddress
+import logging
+from typing import Any, NamedTuple
+
+from aiohttp import web
+from ragvismo_gateway.answers import HEADERS, refused
+from ragvismo_gateway.refusals import Reason, Refusal
+
+
+class Most(NamedTuple):
+    """How many connections are open of one network and of all whose members are not known, for how
+    many seconds each, and of one member; how many requests wait in one."""
+
+    of_network: int = 32
+    unknown: int = 512
+    seconds: float = 60.0
+    of_member: int = 64
+    waiting: int = 16
+
+
+def network_of(address: str | None) -> str:
+    """An address of IPv4, or of IPv6 the 64 bits that one house has."""
+    host = (address or "").partition("%")[0]
+    try:
+        known = ipaddress.ip_address(host)
+    except ValueError:
+        return host
+    return host if known.version == 4 else str(ipaddress.ip_network(f"{host}/64", strict=False))
+
+
+class Connections:
+    """What is open, by network where nobody is known, and by member."""
+
+    def __init__(self, most: Most) -> None:
+        self.most = most
+        # In the order in which they came.
+        self.unknown: dict[Connection, str] = {}
+        self.members: collections.Counter[str] = collections.Counter()
+
+    def begin(self, connection: Connection, network: str) -> None:
+        """Takes a connection; the oldest one ends where there are too many."""
+        of_network = [it for it, other in self.unknown.items() if other == network]
+        if len(of_network) >= self.most.of_network:
+            self.abort(of_network[0])
+        if len(self.unknown) >= self.most.unknown:
+            self.abort(next(iter(self.unknown)))
+        self.unknown[connection] = network
+        asyncio.get_running_loop().call_later(self.most.seconds, self.abort, connection)
+
+    def abort(self, connection: Connection) -> None:
+        """Ends a connection of which nobody is known."""
+        if self.unknown.pop(connection, None) is not None and connection.transport:
+            connection.transport.abort()
+
+    def know(self, connection: Connection, name: str) -> None:
+        """A connection that is open is a member's; raises Refusal where there are too many."""
+        if connection.member == name or connection.transport is None:
+            return
+        if self.members[name] >= self.most.of_member:
+            told = f"a member has at most {self.most.of_member} connections"
+            raise Refusal(Reason.OFTEN, told)
+        self.end(connection)
+        connection.member = name
+        self.members[name] += 1
+
+    def end(self, connection: Connection) -> None:
+        """A connection is no more."""
+        self.unknown.pop(connection, None)
+        if connection.member:
+            self.members[connection.member] -= 1
+
+
+class Connection(web.RequestHandler):
+    """A connection by which requests come. What is no HTTP is refused as all else is, and nothing
+    of it is written down."""
+
+    def __init__(self, server: web.Server, connections: Connections) -> None:
+        # What is taken is counted as it comes, so it may not be compressed.
+        more: dict[str, Any] = {"lingering_time": 1.0, "auto_decompress": False}
+        loop = asyncio.get_running_loop()
+        super().__init__(server, loop=loop, access_log=None, **more)
+        self.connections, self.member = connections, ""
+
+    def connection_made(self, transport: asyncio.BaseTransport) -> None:
+        super().connection_made(transport)
+        peer = transport.get_extra_info("peername")
+        self.connections.begin(self, network_of(peer[0] if peer else None))
+
+    def connection_lost(self, exc: BaseException | None) -> None:
+        self.connections.end(self)
+        super().connection_lost(exc)
+
+    def data_received(self, data: bytes) -> None:
+        super().data_received(data)
+        if len(self._messages) > self.connections.most.waiting and self.transport:
+            self.transport.abort()
+
+    def handle_error(
+        self,
+        request: web.BaseRequest,
+        status: int = 500,
+        exc: BaseException | None = None,
+        message: str | None = None,
+    ) -> web.StreamResponse:
+        if request.writer.output_size > 0:
+            raise ConnectionError("an answer has begun already")
+        if status < 500:
+            response = refused(Refusal(Reason.FORM, "this is no request of HTTP"))
+        else:
+            logging.error("a connection", exc_info=exc)
+            response = refused(Refusal(Reason.FAULT, "a fault of the gateway"))
+        response.headers.update(HEADERS)
+        response.force_close()
+        return response
