@@ -3,6 +3,7 @@
 from __future__ import annotations
 
 import asyncio
+import contextlib
 import json
 import logging
 from collections.abc import Awaitable, Callable, Iterator
@@ -16,6 +17,8 @@ from ragvismo_gateway.view import Event, View, compact
 
 # What comes within so many seconds is told in one frame.
 TOGETHER = 0.1
+# So many lines of one feed are not answered yet.
+AT_ONCE = 32
 
 
 def event_text(view: View, member: Member, event: Event) -> str:
@@ -43,7 +46,7 @@ def news(view: View, member: Member, since: int) -> Iterator[tuple[int, str]]:
         spoken = said[number]
         if spoken.at <= since:
             break
-        reply, line = spoken.reply.decode(), json.dumps(spoken.body.decode())
+        line, reply = spoken.line(), spoken.reply.decode()
         yield spoken.at, f'{{"at":{spoken.at},"event":"answer","line":{line},"reply":{reply}}}'
 
 
@@ -51,18 +54,31 @@ def frame(view: View, member: Member, since: int) -> str:
     """All that came after a place in the log; where not all of it is kept the first says so."""
     told = [text for _, text in sorted(news(view, member, since), key=lambda it: it[0])]
     kept_all = len(view.events) < (view.events.maxlen or 0) or view.events[0].at <= since + 1
-    gap = [] if kept_all else ['{"event":"gap"}']
+    gap = [] if kept_all and view.dropped[member.session] <= since else ['{"event":"gap"}']
     return f'{{"at":{view.count},"events":[{",".join(gap + told)}]}}'
 
 
-async def tell(socket: web.WebSocketResponse, desks: Desks, member: Member, since: int) -> None:
-    """Tells what comes, until the socket is closed."""
+async def send(socket: web.WebSocketResponse, text: str) -> None:
+    """Sends a frame, unless the connection ended meanwhile."""
+    if not socket.closed:
+        with contextlib.suppress(ConnectionError):
+            await socket.send_str(text)
+
+
+async def tell(
+    socket: web.WebSocketResponse, desks: Desks, known: Callable[[], Member | None], since: int
+) -> None:
+    """Tells what comes, until the socket is closed, or nobody is known by it any more."""
     view, is_first = desks.view, True
     while not socket.closed:
         changed = desks.changed
         if is_first or view.count > since:
+            member = known()
+            if member is None:
+                await socket.close()
+                return
             told, since, is_first = frame(view, member, since), view.count, False
-            await socket.send_str(told)
+            await send(socket, told)
             await asyncio.sleep(TOGETHER)
         else:
             await changed.wait()
@@ -72,7 +88,8 @@ Taking = Callable[[str, str], Awaitable[tuple[int, dict[str, Any]]]]
 
 
 class Lines:
-    """Takes the lines that come over a socket, in order, and answers each under its key."""
+    """Takes the lines that come over a socket, in order and no more at once than may wait, and
+    answers each under its key."""
 
     def __init__(self, socket: web.WebSocketResponse, take: Taking) -> None:
         self.socket, self.take = socket, take
@@ -82,6 +99,8 @@ class Lines:
         async for message in self.socket:
             if message.type is not WSMsgType.TEXT:
                 break
+            while len(self.tasks) >= AT_ONCE:
+                await asyncio.wait(self.tasks, return_when=asyncio.FIRST_COMPLETED)
             task = asyncio.create_task(self._answer(message.data))
             self.tasks.add(task)
             task.add_done_callback(self.tasks.discard)
@@ -97,8 +116,7 @@ class Lines:
             logging.exception("a line over a feed")
             fault = Refusal(Reason.FAULT, "a fault of the gateway")
             status, told = fault.status, fault.answer()
-        if not self.socket.closed:
-            await self.socket.send_str(compact({**told, "key": key, "status": status}))
+        await send(self.socket, compact({**told, "key": key, "status": status}))
 
 
 def parts_of(text: str) -> tuple[str, str]:

@@ -16,6 +16,8 @@ from ragvismo_gateway.view import View
 
 LINE, PROPOSAL = 4096, 16_777_000
 ACCOUNTS, LIVE_ORDERS, PLACED = 16, 64, 50_000
+# The greatest number of a session's messages.
+MESSAGES = 1_000_000
 PLAIN = re.compile("0|[1-9][0-9]{0,8}")
 
 
@@ -93,9 +95,11 @@ def check_owner(view: View, member: Member, account: int, or_operator: bool) -> 
 
 def check_quota(view: View, member: Member, fields: list[str]) -> None:
     """No member uses up what all share; raises Refusal."""
+    session = member.session
+    if view.last.get(session, 0) >= MESSAGES:
+        raise Refusal(Reason.QUOTA, f"a member sends at most {MESSAGES} lines to an exchange")
     if member.is_operator:
         return
-    session = member.session
     if fields[0] == "open" and len(view.accounts[session]) >= ACCOUNTS:
         raise Refusal(Reason.QUOTA, f"a member has at most {ACCOUNTS} accounts")
     if fields[0] in PLACING:

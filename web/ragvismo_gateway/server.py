@@ -203,7 +203,10 @@ class Gateway:
         rule.check(self.view, member, line.encode())
         answer = self.answers.get(line)
         if answer is None or answer.at < self.view.touched.get(account, 0):
-            self.answers[line] = answer = await self.take(member, line, "")
+            answer = await self.take(member, line, "")
+            if len(self.answers) >= ASKED:
+                self.answers.clear()
+            self.answers[line] = answer
         return answered({"at": answer.at, **answer.reply}, status_of(answer))
 
     @TABLE.add(
@@ -297,8 +300,7 @@ class Gateway:
         member = self.member_of(request)
         last = list(self.view.spoken.get(member.session, {}).values())[-200:]
         told = ",".join(
-            f'{{"at":{it.at},"line":{json.dumps(it.body.decode())},"reply":{it.reply.decode()}}}'
-            for it in last
+            f'{{"at":{it.at},"line":{it.line()},"reply":{it.reply.decode()}}}' for it in last
         )
         return web.Response(text=f'{{"lines":[{told}]}}', content_type="application/json")
 
@@ -327,7 +329,7 @@ class Gateway:
             raise Refusal(Reason.OFTEN, told)
         longest = 2 * rule.PROPOSAL if member.may_propose else 2 * rule.LINE
         socket = web.WebSocketResponse(heartbeat=20, max_msg_size=longest)
-        held = request.cookies.get(COOKIE, ""), socket
+        held = request.cookies.get(self.cookie, ""), socket
         self.sockets[member.name].append(held)
         try:
             await socket.prepare(request)
@@ -342,8 +344,11 @@ class Gateway:
             self.sockets[member.name].remove(held)
         return socket
 
-    async def take_told(self, member: Member, key: str, line: str) -> tuple[int, dict[str, Any]]:
-        answer = await self.take(member, line, key)
+    async def take_told(
+        self, request: web.Request, key: str, line: str
+    ) -> tuple[int, dict[str, Any]]:
+        """A line over a feed, whose login may have ended since; raises Refusal."""
+        answer = await self.take(self.member_of(request), line, key)
         return status_of(answer), answer.told()
 
     @TABLE.add("GET", "/openapi.json", True, s200="OpenAPI 3.1")
@@ -371,7 +376,8 @@ def application(gateway: Gateway) -> web.Application:
         except asyncio.CancelledError:
             raise
         except Exception:
-            logging.exception("%s %s", request.method, request.path)
+            # Nothing of what was asked is written down but which path it is.
+            logging.exception("%s %s", request.method, request.match_info.route.resource)
             response = refused(Refusal(Reason.FAULT, "a fault of the gateway"))
         if not response.prepared:
             response.headers.update(HEADERS)

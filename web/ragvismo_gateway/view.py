@@ -84,6 +84,10 @@ class Spoken(NamedTuple):
     def size(self) -> int:
         return len(self.body) + len(self.reply)
 
+    def line(self) -> str:
+        """What was said, as JSON."""
+        return json.dumps(self.body.decode(errors="replace"))
+
 
 def compact(told: object) -> str:
     return json.dumps(told, separators=(",", ":"))
@@ -136,6 +140,8 @@ class View:
         self.batches: dict[int, Batch] = {}
         self.spoken: dict[int, dict[int, Spoken]] = collections.defaultdict(dict)
         self.sizes: collections.Counter[int] = collections.Counter()
+        # Where in the log a session said the newest of what is kept no more.
+        self.dropped: collections.Counter[int] = collections.Counter()
         self.last: dict[int, int] = {}
         # Where in the log the balance or the positions of an account may have changed last.
         self.touched: dict[int, int] = {}
@@ -167,7 +173,9 @@ class View:
         said[number] = spoken
         self.sizes[session] += spoken.size()
         while len(said) > KEPT or (self.sizes[session] > KEPT_BYTES and len(said) > 1):
-            self.sizes[session] -= said.pop(next(iter(said))).size()
+            oldest = said.pop(next(iter(said)))
+            self.sizes[session] -= oldest.size()
+            self.dropped[session] = oldest.at
 
     def _tell(
         self, account: int, payouts: list[dict[str, Any]], is_for_all: bool = True, **said: Any

@@ -58,8 +58,8 @@ class Gateway(Trading):
         )
 
     def events(self, visitor: Visitor, since: int) -> list[Any]:
-        async def first(socket: Any) -> list[Any]:
-            return list((await socket.receive_json())["events"])
+        async def first(feed: Any) -> list[Any]:
+            return list((await feed.receive_json())["events"])
 
         return visitor.over_socket(first, f"/feed?since={since}")
 
@@ -99,15 +99,15 @@ class Gateway(Trading):
     def test_lines_over_a_socket(self) -> None:
         ben = self.visitor("ben")
 
-        async def talk(socket: Any) -> dict[str, Any]:
+        async def talk(feed: Any) -> dict[str, Any]:
             for key, line in (("a", "buy,102,3,call,1,1,1,1"), ("b", "buy,101,3,call,1,1,1,1")):
-                await socket.send_json({"key": key, "line": line})
-            await socket.send_json({"key": "a", "line": "buy,102,3,call,1,1,1,1"})
-            await socket.send_str("[1")
-            await socket.send_str('{"key":"c","line":"\\ud800"}')
+                await feed.send_json({"key": key, "line": line})
+            await feed.send_json({"key": "a", "line": "buy,102,3,call,1,1,1,1"})
+            await feed.send_str("[1")
+            await feed.send_str('{"key":"c","line":"\\ud800"}')
             answers: list[Any] = []
             while len(answers) < 5:
-                told = await socket.receive_json()
+                told = await feed.receive_json()
                 answers += [told] if "status" in told else []
             return {f"{it['key']}{at}": it for at, it in enumerate(sorted(answers, key=str))}
 
@@ -206,20 +206,31 @@ class Gateway(Trading):
         self.assertEqual(program.ask("GET", "/me", Cookie=f"ragvismo={token}").status, 401)
 
     def test_a_login_ends(self) -> None:
-        """By a logout, which closes its feeds, and by another password."""
+        """By a logout, and by another password; its feeds end too."""
         eva = Visitor(self.port)
         eva.login("eva")
 
-        async def leave(socket: Any) -> bool:
-            await socket.receive_json()
+        async def leave(feed: Any) -> bool:
+            await feed.receive_json()
             await asyncio.to_thread(eva.ask, "POST", "/logout")
-            return bool((await socket.receive()).type.name.startswith("CLOS"))
+            return bool((await feed.receive()).type.name.startswith("CLOS"))
 
         self.assertTrue(eva.over_socket(leave, "/feed"))
         self.assertEqual(eva.ask("GET", "/me").status, 401)
         eva.login("eva")
         words = [str(WEB / "members"), str(self.folder), "password", "eva"]
-        told = subprocess.run(words, capture_output=True, text=True, check=True).stdout.strip()
+
+        def change() -> str:
+            return subprocess.run(words, capture_output=True, text=True, check=True).stdout.strip()
+
+        async def stay(feed: Any) -> tuple[str, int]:
+            await feed.receive_json()
+            told = await asyncio.to_thread(change)
+            await feed.send_json({"key": "a", "line": "open,599"})
+            return told, (await feed.receive_json())["status"]
+
+        told, status = eva.over_socket(stay)
+        self.assertEqual(status, 401)
         self.assertEqual(eva.ask("GET", "/me").status, 401)
         self.assertEqual(eva.login("eva").status, 401)
         self.assertEqual(eva.login("eva", told).status, 200)
@@ -323,11 +334,11 @@ class Gateway(Trading):
     def test_many_feeds(self) -> None:
         ben = self.visitor("ben")
 
-        async def none(socket: Any) -> None:
-            await socket.receive_json()
+        async def none(feed: Any) -> None:
+            await feed.receive_json()
 
         def more(left: int) -> int:
-            async def talk(socket: Any) -> int:
+            async def talk(feed: Any) -> int:
                 return left and await asyncio.to_thread(more, left - 1)
 
             if not left:
