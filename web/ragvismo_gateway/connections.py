@@ -82,9 +82,8 @@ class Connection(web.RequestHandler):
 
     def __init__(self, server: web.Server, connections: Connections) -> None:
         # What is taken is counted as it comes, so it may not be compressed.
-        more: dict[str, Any] = {"lingering_time": 1.0, "auto_decompress": False}
-        loop = asyncio.get_running_loop()
-        super().__init__(server, loop=loop, access_log=None, **more)
+        more: dict[str, Any] = {"access_log": None, "auto_decompress": False, "lingering_time": 1.0}
+        super().__init__(server, loop=asyncio.get_running_loop(), **more)
         self.connections, self.member = connections, ""
 
     def connection_made(self, transport: asyncio.BaseTransport) -> None:

@@ -29,8 +29,6 @@ CREATE TABLE IF NOT EXISTS tokens (
 """
 # The second choice of RFC 9106: argon2id with 64 MiB, which is a tenth of a second.
 HASHER = argon2.PasswordHasher(time_cost=3, memory_cost=1 << 16, parallelism=4)
-# A password of nobody, so that a name that is none takes as long as one that is.
-NOBODY: str = HASHER.hash(secrets.token_hex())
 
 
 class Member(NamedTuple):
@@ -69,7 +67,7 @@ class Members:
         """A new member with the next session of its role; raises BadUse."""
         if not NAME.fullmatch(name):
             raise BadUse(f"{name!r} is no name: 1 to 32 letters, digits, and . _ - after the first")
-        hashed = HASHER.hash(password)
+        hashed = hashed_password(password)
         limits = (1, LAST_OF_OPERATOR) if role == "operator" else (LAST_OF_OPERATOR + 1, 999_999)
         asked = "SELECT coalesce(max(session), ?) + 1 FROM members WHERE session BETWEEN ? AND ?"
         with together(self.file):
@@ -84,7 +82,7 @@ class Members:
 
     def change(self, name: str, password: str) -> None:
         """Gives a member another password; who was logged in, or had a token, is not any more."""
-        hashed = HASHER.hash(password)
+        hashed = hashed_password(password)
         with together(self.file):
             self.file.execute("UPDATE members SET hash = ? WHERE name = ?", (hashed, name))
             self.file.execute("DELETE FROM tokens WHERE name = ?", (name,))
@@ -98,10 +96,9 @@ class Members:
         row = self.file.execute(asked, (name,)).fetchone()
         return Member(*row) if row else None
 
-    def password_hash(self, name: str) -> str:
-        """That of a member, or of nobody."""
+    def password_hash(self, name: str) -> str | None:
         row = self.file.execute("SELECT hash FROM members WHERE name = ?", (name,)).fetchone()
-        return str(row[0] if row else NOBODY)
+        return str(row[0]) if row else None
 
     # ---- logins and tokens
 
@@ -127,6 +124,11 @@ class Members:
 
     def take_token(self, token: str) -> None:
         self.file.execute("DELETE FROM tokens WHERE hash = ?", (hash_of(token),))
+
+
+def hashed_password(password: str) -> str:
+    """The hash of a password; it takes a while."""
+    return str(HASHER.hash(password))
 
 
 def is_password(hashed: str, password: str) -> bool:

@@ -8,6 +8,7 @@ import functools
 import json
 import logging
 import pathlib
+import secrets
 from collections.abc import Awaitable, Callable
 from typing import Any
 
@@ -18,7 +19,7 @@ from ragvismo_gateway.connections import Connection, Connections, network_of
 from ragvismo_gateway.desks import Answer, Desks
 from ragvismo_gateway.feeds import Lines, tell
 from ragvismo_gateway.limits import Buckets, Limits
-from ragvismo_gateway.members import LOGIN_DAYS, Member, Members, is_password
+from ragvismo_gateway.members import LOGIN_DAYS, Member, Members, hashed_password, is_password
 from ragvismo_gateway.refusals import Reason, Refusal
 from ragvismo_gateway.routes import Handler, Table, openapi
 from ragvismo_gateway.view import reply_text
@@ -88,6 +89,8 @@ class Gateway:
         self.desks, self.view, self.members, self.limits = desks, desks.view, members, limits
         self.store, self.hosts, self.is_secure = store, hosts, False
         self.connections = Connections(limits.connections)
+        # A password of nobody, so that a name that is none takes as long as one that is.
+        self.nobody = hashed_password(secrets.token_hex())
         self.lines, self.asked = Buckets(limits.lines), Buckets(limits.asked)
         self.logins, self.names = Buckets(limits.logins), Buckets(limits.logins_of_name)
         self.answers: dict[str, Answer] = {}
@@ -149,7 +152,7 @@ class Gateway:
         self.logins.take(network)
         self.names.take((network, name[:64]))
         async with self.hashing:
-            hashed = self.members.password_hash(name)
+            hashed = self.members.password_hash(name) or self.nobody
             holds = await asyncio.to_thread(is_password, hashed, password)
         member = self.members.named(name)
         # Meanwhile another password may have been given.
@@ -206,7 +209,9 @@ class Gateway:
             answer = await self.take(member, line, "")
             if len(self.answers) >= ASKED:
                 self.answers.clear()
-            self.answers[line] = answer
+            # What is refused now may hold when a market is listed.
+            if status_of(answer) == 200:
+                self.answers[line] = answer
         return answered({"at": answer.at, **answer.reply}, status_of(answer))
 
     @TABLE.add(

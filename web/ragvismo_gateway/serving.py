@@ -20,7 +20,7 @@ import resource
 import signal
 import ssl
 from argparse import Namespace
-from typing import NamedTuple
+from typing import Any, NamedTuple
 
 from aiohttp import web
 from ragvismo_gateway.connections import Connection
@@ -137,8 +137,9 @@ async def listen(
         assert runner.server
         return Connection(runner.server, gateway.connections)
 
-    more = {"ssl": context, "ssl_handshake_timeout": HANDSHAKE} if context else {}
-    loop = asyncio.get_running_loop()
+    loop, more = asyncio.get_running_loop(), dict[str, Any]()
+    if context:
+        more = {"ssl": context, "ssl_handshake_timeout": HANDSHAKE}
     try:
         return await loop.create_server(connection, at.host, at.port, **more)
     except OSError as fault:
