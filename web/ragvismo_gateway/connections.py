@@ -100,6 +100,11 @@ class Connection(web.RequestHandler):
         if len(self._messages) > self.connections.most.waiting and self.transport:
             self.transport.abort()
 
+    def log_exception(self, *args: Any, **more: Any) -> None:
+        """What comes of the end of a connection is no fault."""
+        if self.transport is not None:
+            super().log_exception(*args, **more)
+
     def handle_error(
         self,
         request: web.BaseRequest,

@@ -205,13 +205,11 @@ class Gateway:
         message as any; where the exchange knows questions, a follower is asked here."""
         rule.check(self.view, member, line.encode())
         answer = self.answers.get(line)
-        if answer is None or answer.at < self.view.touched.get(account, 0):
+        if answer is None or answer.at < self.view.changed(account):
             answer = await self.take(member, line, "")
             if len(self.answers) >= ASKED:
                 self.answers.clear()
-            # What is refused now may hold when a market is listed.
-            if status_of(answer) == 200:
-                self.answers[line] = answer
+            self.answers[line] = answer
         return answered({"at": answer.at, **answer.reply}, status_of(answer))
 
     @TABLE.add(

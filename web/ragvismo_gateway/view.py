@@ -143,8 +143,10 @@ class View:
         # Where in the log a session said the newest of what is kept no more.
         self.dropped: collections.Counter[int] = collections.Counter()
         self.last: dict[int, int] = {}
-        # Where in the log the balance or the positions of an account may have changed last.
+        # Where in the log the balance or the positions of an account may have changed last, and
+        # where a market was listed or settled last.
         self.touched: dict[int, int] = {}
+        self.markets_changed = 0
         self.events: collections.deque[Event] = collections.deque(maxlen=EVENTS)
 
     def take(self, answered: Answered) -> tuple[int, int] | None:
@@ -194,6 +196,10 @@ class View:
         """What moves money of an account may move the house's."""
         self.touched.update(dict.fromkeys((0, *accounts), self.count))
 
+    def changed(self, account: int) -> int:
+        """Where in the log what is told of an account may have changed last."""
+        return max(self.touched.get(account, 0), self.markets_changed)
+
     # ---- what each reply changes
 
     def _opened(self, session: int, body: bytes, reply: dict[str, Any], id: bytes) -> None:
@@ -212,6 +218,7 @@ class View:
 
     def _listed(self, session: int, body: bytes, reply: dict[str, Any], id: bytes) -> None:
         self.markets[reply["market"]] = Market(reply["underlyings"], {}, [])
+        self.markets_changed = self.count
         told: dict[str, Any] = {"market": reply["market"], "underlyings": reply["underlyings"]}
         self._tell(0, [], event="listed", **told)
 
@@ -252,6 +259,7 @@ class View:
     def _settled(self, session: int, body: bytes, reply: dict[str, Any], id: bytes) -> None:
         prices = [int(field) for field in fields_of(body)[2:]]
         self.markets[reply["market"]].prices.extend(prices)
+        self.markets_changed = self.count
         self._touch(*(payout["account"] for payout in reply["payouts"]))
         self._take_orders(reply["market"])
         told: dict[str, Any] = {"market": reply["market"], "prices": prices}

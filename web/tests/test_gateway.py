@@ -14,6 +14,8 @@ from tests.trading import IS_SKIPPED, SECRET, Trading, Visitor
 
 if not IS_SKIPPED:
     from ragvismo_gateway.connections import Most
+    from ragvismo_gateway.members import Members
+    from ragvismo_gateway.members_file import FILE
 
 SCRIPT = "<script>alert(1)</script>"
 
@@ -53,9 +55,8 @@ class Gateway(Trading):
         told = self.events(ana, since)
         kinds = [it["event"] for it in told if it["event"] != "answer"]
         self.assertEqual(kinds, [*["placed"] * 3, "cleared", "settled"])
-        self.assertEqual(
-            told[-2]["payouts"], [{"account": 101, "amount": "1", "batch": 1, "order": bought}]
-        )
+        payout = {"account": 101, "amount": "1", "batch": cleared["batch"], "order": bought}
+        self.assertEqual(told[-2]["payouts"], [payout])
 
     def events(self, visitor: Visitor, since: int) -> list[Any]:
         async def first(feed: Any) -> list[Any]:
@@ -218,20 +219,17 @@ class Gateway(Trading):
         self.assertTrue(eva.over_socket(leave, "/feed"))
         self.assertEqual(eva.ask("GET", "/me").status, 401)
         eva.login("eva")
-        words = [str(WEB / "members"), str(self.folder), "password", "eva"]
 
-        def change() -> str:
-            return subprocess.run(words, capture_output=True, text=True, check=True).stdout.strip()
-
-        async def stay(feed: Any) -> tuple[str, int]:
+        async def stay(feed: Any) -> int:
             await feed.receive_json()
-            told = await asyncio.to_thread(change)
+            Members(self.folder / FILE).change("eva", "another")
             await feed.send_json({"key": "a", "line": "open,599"})
-            return told, (await feed.receive_json())["status"]
+            return int((await feed.receive_json())["status"])
 
-        told, status = eva.over_socket(stay)
-        self.assertEqual(status, 401)
+        self.assertEqual(eva.over_socket(stay), 401)
         self.assertEqual(eva.ask("GET", "/me").status, 401)
+        words = [str(WEB / "members"), str(self.folder), "password", "eva"]
+        told = subprocess.run(words, capture_output=True, text=True, check=True).stdout.strip()
         self.assertEqual(eva.login("eva").status, 401)
         self.assertEqual(eva.login("eva", told).status, 200)
         type(self).cookies["eva"] = eva.cookie
@@ -240,7 +238,7 @@ class Gateway(Trading):
         """Until the account is touched."""
         ana = self.visitor("ana")
         ana.line("withdraw,111,1")
-        told = [ana.get(path)["at"] for path in ("/balance/111", "/positions/111/1") * 3]
+        told = [ana.get(path)["at"] for path in ("/balance/111", "/positions/111/3") * 3]
         self.assertEqual(len(set(told)), 2)
         ana.line("withdraw,111,1")
         withdrawn = ana.get("/balance/111")
