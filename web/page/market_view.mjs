@@ -62,6 +62,11 @@ export class MarketView {
 
     /** @param {TradingState} state */
     showBook(state) {
+        if (state.orders.length === 0) {
+            this.book.replaceChildren(element("p", {},
+                state.isKnown ? "There are none." : "They are asked for …"));
+            return;
+        }
         const isOpen = state.phase() === "open";
         const rows = state.orders.map(order => {
             const isOwn = state.accounts.includes(order.account);

@@ -48,7 +48,8 @@ class Trading {
     }
 
     choose() {
-        this.state.market = this.market.select.value;
+        this.state.look(this.market.select.value);
+        this.views.forEach(view => view.show(this.state));
         this.want({isPublic: true, isOwn: true});
     }
 
@@ -118,11 +119,12 @@ function showState(isThere) {
 
 // ---- views
 
-/** @param {boolean} isFocused */
-function showView(isFocused) {
-    const [first] = NAMES;
+/** Shows the view that the address names, where the member has it.
+ * @param {string[]} names @param {boolean} isFocused */
+function showView(names, isFocused) {
+    const [first] = names;
     const asked = location.hash.slice(1);
-    const name = NAMES.includes(asked) ? asked : first;
+    const name = names.includes(asked) ? asked : first;
     NAMES.forEach(each => {
         section(each).hidden = each !== name;
     });
@@ -145,10 +147,10 @@ function begin(me) {
     part("who", HTMLParagraphElement).replaceChildren(`${me.name} (${me.role}) `, leave);
     const trading = new Trading(me);
     window.addEventListener("hashchange", () => {
-        showView(true);
+        showView(names, true);
         trading.views.forEach(view => view.show(trading.state));
     });
-    showView(false);
+    showView(names, false);
     trading.want({isPublic: true, isOwn: true});
     const kept = keptLine(me.name);
     if (kept !== null) {

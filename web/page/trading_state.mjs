@@ -25,6 +25,16 @@ export class TradingState {
         /** @type {Told[]} */
         this.members = [];
         this.market = "";
+        this.isKnown = false;
+    }
+
+    /** Looks at a market, whose orders and positions are not known yet.
+     * @param {string} market */
+    look(market) {
+        this.market = market;
+        this.orders = [];
+        this.positions = [];
+        this.isKnown = false;
     }
 
     /** The market that is looked at.
@@ -45,31 +55,41 @@ export class TradingState {
         return market === undefined ? 1 : Number(market.underlyings);
     }
 
-    /** What all may see. */
+    /** What all may see. Of a market that is not looked at any more nothing is taken. */
     async loadPublic() {
         this.markets = (await get("markets")).markets;
         if (this.chosen() === undefined && this.markets.length > 0) {
             this.market = `${this.markets[0].market}`;
         }
+        const {market} = this;
         const isThere = this.chosen() !== undefined;
-        this.orders = isThere ? (await get(`book/${this.market}`)).orders : [];
+        const orders = isThere ? (await get(`book/${market}`)).orders : [];
+        if (market === this.market) {
+            this.orders = orders;
+            this.isKnown = true;
+        }
         this.batches = (await get("batches")).batches.slice().reverse();
     }
 
     /** What is one's own. */
     async loadOwn() {
         this.accounts = (await get("me")).accounts;
-        this.balances = [];
-        this.positions = [];
-        const market = this.chosen();
+        const {market} = this;
+        const listed = this.chosen();
+        /** @type {Told[]} */
+        const balances = [];
+        /** @type {Told[]} */
+        const positions = [];
         for (const account of this.accounts) {
-            this.balances.push(await get(`balance/${account}`));
-            if (market !== undefined && market.prices.length === 0) {
-                const told = await get(`positions/${account}/${this.market}`);
-                this.positions.push(...told.positions.map((/** @type {Told} */ each) =>
+            balances.push(await get(`balance/${account}`));
+            if (listed !== undefined && listed.prices.length === 0) {
+                const told = await get(`positions/${account}/${market}`);
+                positions.push(...told.positions.map((/** @type {Told} */ each) =>
                     ({...each, account})));
             }
         }
+        this.balances = balances;
+        this.positions = market === this.market ? positions : [];
         this.history = (await get("history")).lines.filter((/** @type {Told} */ each) =>
             !["balance", "positions"].includes(each.reply.reply)).reverse();
         this.members = this.isOperator ? (await get("members")).members : [];

@@ -64,7 +64,8 @@ class TradingPage(Trading):
             time.sleep(0.05)
 
     def login(self, name: str, secret: str = SECRET) -> None:
-        self.browser.delete_all_cookies()
+        self.browser.get("about:blank")
+        self.browser.execute_cdp_cmd("Network.clearBrowserCookies", {})
         self.browser.get(f"http://127.0.0.1:{self.port}/")
         self.until(lambda: bool(self.part("login").is_displayed()))
         self.part("name").send_keys(name)
@@ -189,7 +190,7 @@ class TradingPage(Trading):
         self.enter("ana")
         Select(self.field("market", "Market")).select_by_index(2)
         self.until(lambda: self.text("phase").startswith("Closed"))
-        self.assertIn("★ mine: 101", self.text("book"))
+        self.until(lambda: "★ mine: 101" in self.text("book"))
         self.assertNotIn("Cancel", self.text("book"))
         self.shot("closed")
         self.view("ticket")
