@@ -26,7 +26,7 @@ function phaseWords(market) {
     return market.phase === "open"
         ? "Open: orders wait for the next clear, which takes all of them at once."
         : market.phase === "closed"
-            ? "Closed: no order comes or goes until the next clear, which takes all of them at once."
+            ? "Closed: no order comes or goes until the next clear, which takes all at once."
             : `Settled at ${market.prices.join(", ")}, for good.`;
 }
 
