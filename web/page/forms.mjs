@@ -30,9 +30,14 @@ export function choice(options, onChange) {
     return select;
 }
 
-/** Sets what can be chosen; what was chosen stays so where it is still there.
+/** Sets what can be chosen; what was chosen stays so where it is still there. Where nothing is
+ * new, the options stay, since they may be looked at.
  * @param {HTMLSelectElement} select @param {[value: string, told: string][]} options */
 export function setOptions(select, options) {
+    const there = Array.from(select.options, each => [each.value, each.text]);
+    if (JSON.stringify(there) === JSON.stringify(options)) {
+        return;
+    }
     const chosen = select.value;
     select.replaceChildren(
         ...options.map(([value, told]) => element("option", {value}, told)));

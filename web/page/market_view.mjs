@@ -38,6 +38,7 @@ export class MarketView {
         this.select = choice([], onMarket);
         this.phase = element("p", {class: "says", id: "phase"});
         this.book = element("div", {id: "book"});
+        this.shown = "";
         this.picture = new WorthPicture("What I hold and ordered is worth");
         const stakes = element("div", {}, element("h3", {}, "What I hold and ordered"),
             this.picture.place);
@@ -60,8 +61,23 @@ export class MarketView {
         ], state.count());
     }
 
-    /** @param {TradingState} state */
+    /** The book stays where nothing in it is new, and so does the button that has the focus.
+     * @param {TradingState} state */
     showBook(state) {
+        const shown = JSON.stringify([state.orders, state.accounts, state.phase(), state.isKnown]);
+        if (shown === this.shown) {
+            return;
+        }
+        this.shown = shown;
+        const focused = this.book.contains(document.activeElement)
+            ? document.activeElement?.getAttribute("aria-label") : null;
+        this.drawBook(state);
+        Array.from(this.book.querySelectorAll("button"))
+            .find(each => each.getAttribute("aria-label") === focused)?.focus();
+    }
+
+    /** @param {TradingState} state */
+    drawBook(state) {
         if (state.orders.length === 0) {
             this.book.replaceChildren(element("p", {},
                 state.isKnown ? "There are none." : "They are asked for …"));

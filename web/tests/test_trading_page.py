@@ -93,6 +93,15 @@ class TradingPage(Trading):
                 field.clear()
                 field.send_keys(value)
 
+    def choose(self, place: int) -> None:
+        """Looks at a market, by its place among all."""
+
+        def is_chosen() -> bool:
+            Select(self.field("market", "Market")).select_by_index(place)
+            return True
+
+        self.until(is_chosen)
+
     def order(self, side: str, strike: str, price: str) -> None:
         """Sends the order for a call."""
         self.view("ticket")
@@ -188,7 +197,7 @@ class TradingPage(Trading):
         self.press("operator", "Close")
         self.until(lambda: self.text("told") == "✓ close,3: closed.")
         self.enter("ana")
-        Select(self.field("market", "Market")).select_by_index(2)
+        self.choose(2)
         self.until(lambda: self.text("phase").startswith("Closed"))
         self.until(lambda: "★ mine: 101" in self.text("book"))
         self.assertNotIn("Cancel", self.text("book"))
@@ -199,7 +208,7 @@ class TradingPage(Trading):
 
     def test_two_underlyings(self) -> None:
         self.enter("ana")
-        Select(self.field("market", "Market")).select_by_index(1)
+        self.choose(1)
         self.view("ticket")
         self.until(lambda: "Weight of S2" in self.text("ticket"))
         self.set("ticket", Weight_of_S2="-1")
@@ -213,8 +222,11 @@ class TradingPage(Trading):
 
         def tab_to(holds: Callable[[Any], bool]) -> None:
             for _ in range(40):
-                if holds(self.browser.switch_to.active_element):
-                    return
+                try:
+                    if holds(self.browser.switch_to.active_element):
+                        return
+                except StaleElementReferenceException:
+                    pass
                 pressed.send_keys(Keys.TAB).perform()
             self.fail("no way by keys")
 
