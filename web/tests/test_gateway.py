@@ -93,9 +93,9 @@ class Gateway(Trading):
         operator.line("close,5")
         self.assertEqual(operator.reply("clear,5,100")["market"], 5)
         self.assertEqual(ben.line(order).status, 200)
-        told = [it["event"] for it in self.events(ben, since) if it.get("market") == 5]
+        events = [it["event"] for it in self.events(ben, since) if it.get("market") == 5]
         kinds = "placed closed reopened cancelled closed cleared placed"
-        self.assertEqual(" ".join(told), kinds)
+        self.assertEqual(" ".join(events), kinds)
 
     def test_lines_over_a_socket(self) -> None:
         ben = self.visitor("ben")
