@@ -1,5 +1,5 @@
 -- What is taken out of a text or a line is within its ranges.
-use Rattle.std.proofs.Common.{◌≡◌, ℕ, ◌≤◌, ◌≤ℤ◌, ℤ, pos, int_le, List, length, true, false, Bool, ◌==◌, nat_le, Option, option_and_then, codes, refl, if◌then◌else◌}
+use Rattle.std.proofs.Common.{◌≡◌, ℕ, ◌≤◌, ◌≤ℤ◌, pos, int_le, List, length, true, false, Bool, ◌==◌, nat_le, Option, option_and_then, codes, refl, if◌then◌else◌}
 use Rattle.std.specs.Prelude.{⊤}
 use Rattle.std.specs.List.{AllByRecursion}
 use Rattle.std.specs.Str.{bytes_eq}
