@@ -16,7 +16,7 @@ use Rattle.exchange_core.specs.declared.refusal.Refusal.{Refusal}
 use Rattle.exchange_lines.specs.LineSteps.{InputLine}
 use Rattle.form.specs.declared.orders.Batch.{Batch}
 use Rattle.form.specs.declared.orders.Order.{Order}
-use Rattle.order_book.specs.Book.{BookState, batch_of, info_of, live_of, market_of}
+use Rattle.order_book.specs.Book.{batch_of, info_of, live_of, market_of}
 use Rattle.order_book.specs.Markets.{MarketState, settled_market, with_live}
 use Rattle.proposal_lines.specs.Laws.{IsSound}
 use Rattle.proposal_lines.specs.Promises.{IsToldFor, ProposalAnswer, beside, bounded, replied, taken}

@@ -1,5 +1,5 @@
 -- A closed market stands still, whatever lines come.
-use Rattle.std.proofs.Common.{◌≡◌, ℕ, Bool, true, false, List, [], ◌∷◌, Option, Some, None, nat_eq, Result, Ok, Err, if◌then◌else◌, refl, sym, ap, ◌∙◌}
+use Rattle.std.proofs.Common.{◌≡◌, ℕ, Bool, true, false, List, [], ◌∷◌, Option, Some, None, nat_eq, Result, Ok, Err, if◌then◌else◌, refl, ap, ◌∙◌}
 use Rattle.std.specs.Option.{option_map_or}
 use Rattle.command_text.specs.declared.asked.Fault.{Fault}
 use Rattle.command_text.specs.declared.command.Command.{Command}
@@ -13,7 +13,6 @@ use Rattle.exchange_core.specs.ExchangeState.{ExchangeState}
 use Rattle.exchange_core.specs.Refusals.{by_book, refusal_of}
 use Rattle.exchange_core.specs.Step.{step}
 use Rattle.exchange_core.specs.declared.refusal.Refusal.{Refusal}
-use Rattle.exchange_lines.specs.LineSteps.{InputLine}
 use Rattle.guarded_lines.specs.Replies.{plain_reply_to}
 use Rattle.guarded_lines.specs.Withdrawals.{uncovered_by}
 use Rattle.guarded_lines.specs.declared.replies.GuardedReply.TheVariants as guarded_reply
@@ -25,7 +24,7 @@ use Rattle.order_book.specs.Refusals.{live_refusals}
 use Rattle.proposal_text.specs.declared.replies.BoundedOutcome.{BoundedOutcome}
 use Rattle.proposal_text.specs.declared.replies.ProposalReply.TheVariants as told
 use Rattle.auction_phases.specs.Laws.{StandsStill}
-use Rattle.auction_phases.specs.Phases.{bars, ended_by, ended_in, is_closed, unless_refused, with_closed, with_open}
+use Rattle.auction_phases.specs.Phases.{bars, ended_in, is_closed, unless_refused}
 use Rattle.auction_phases.specs.Refusals.{close_refusals, reopen_refusals}
 use Rattle.auction_phases.specs.declared.refusal.PhaseRefusal.{PhaseRefusal}
 use Rattle.auction_phases.proofs.ClosedLists.{closed_more, stays_closed}
@@ -42,7 +41,7 @@ use Rattle.proposal_lines.specs.Reads as reads
 use Rattle.proposal_lines.specs.declared.proposed.Proposed.{Proposed}
 use Rattle.proposal_lines.specs.declared.replies.ProposingReply.TheVariants.{Told}
 use Rattle.proposal_lines.proofs.AsRun.{said_beside}
-use Rattle.serve_lines.specs.Laws.{AreMeanwhile, ClosedMarketsStandStill, ended_by_said, phased_of}
+use Rattle.serve_lines.specs.Laws.{ClosedMarketsStandStill, ended_by_said, phased_of}
 use Rattle.serve_lines.specs.Output.{handed_on, serving_line, serving_said, written_reply}
 use Rattle.serve_lines.specs.Phased.{closed_effect, exchange_of, refused_by, reopened_effect, with_phases}
 use Rattle.serve_lines.specs.ServingState.{ServingState}

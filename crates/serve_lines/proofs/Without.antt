@@ -1,5 +1,5 @@
 -- Where no market is closed, the replies are those of an exchange without phases.
-use Rattle.std.proofs.Common.{◌≡◌, ℕ, List, [], ◌∷◌, ◌++◌, Bool, false, ◌&&◌, All, map, Option, Some, None, is_none, Result, Ok, Err, if◌then◌else◌, refl, sym, ap, ◌∙◌}
+use Rattle.std.proofs.Common.{◌≡◌, ℕ, List, [], ◌∷◌, ◌++◌, Bool, false, ◌&&◌, All, map, Option, Some, None, is_none, Result, Ok, Err, if◌then◌else◌, refl, ap, ◌∙◌}
 use Rattle.std.specs.Option.{option_map_or}
 use Rattle.std.proofs.lemmas.List.Elements.{All-head, All-tail}
 use Rattle.command_text.specs.declared.asked.Fault.{Fault}
@@ -13,7 +13,7 @@ use Rattle.command_text.specs.Said.{said_in}
 use Rattle.exchange_core.specs.Refusals.{refusal_of}
 use Rattle.exchange_lines.specs.LineSteps.{InputLine, input_line}
 use Rattle.live_lines.specs.Output.{places_output}
-use Rattle.auction_phases.specs.Phases.{after_end, bars, ended_in, is_closed, touched_by, with_open}
+use Rattle.auction_phases.specs.Phases.{after_end, bars, ended_in, is_closed, touched_by}
 use Rattle.proposal_text.specs.declared.replies.ProposalReply.TheVariants as told
 use Rattle.proposal_lines.specs.Output.{proposing_line, served_line}
 use Rattle.proposal_lines.specs.ProposingState.{ProposingState, empty_state}
