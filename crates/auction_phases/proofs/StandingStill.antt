@@ -6,6 +6,7 @@ use Rattle.command_text.specs.declared.command.Command.{Command}
 use Rattle.command_text.specs.declared.command.Command.TheVariants.{Open, Deposit, Withdraw, Market, Trade, Bundle, Cancel, Clear, Settle, Balance}
 use Rattle.order_book.specs.Book.{live_of}
 use Rattle.order_book.specs.Markets.{holder_of, settled_market, with_live}
+use Rattle.order_book.proofs.LiveElsewhere.{live-cancelled, live-changed, live-listed}
 use Rattle.exchange_core.specs.declared.refusal.Refusal.{Refusal}
 use Rattle.exchange_core.specs.ExchangeState.{ExchangeState}
 use Rattle.exchange_core.specs.Kept.{IsKept}
@@ -18,7 +19,6 @@ use Rattle.auction_phases.specs.Refusals.{close_refusals, reopen_refusals}
 use Rattle.auction_phases.specs.declared.refusal.PhaseRefusal.{PhaseRefusal}
 use Rattle.lists.specs.Refusals.{first_of}
 use Rattle.auction_phases.proofs.ClosedLists.{closed_more, stays_closed}
-use Rattle.auction_phases.proofs.LiveElsewhere.{live-cancelled, live-changed, live-listed}
 
 module _ (market : ℕ) (closed : List ℕ) (shut : is_closed closed market ≡ true) where
   -- ---- the closed markets

@@ -67,7 +67,7 @@ taken_market accepted number m k =
       settled = λ is. ap (without number) (k.settled is);
     }
 
-keys_taken : (number : ℕ) (markets : Markets) → keys_of (without_in_each number markets) ≡ keys_of markets
+pub keys_taken : (number : ℕ) (markets : Markets) → keys_of (without_in_each number markets) ≡ keys_of markets
 keys_taken number [] = refl
 keys_taken number (m ∷ markets) = ap (λ (ks : List ℕ). m.0 ∷ ks) (keys_taken number markets)
 

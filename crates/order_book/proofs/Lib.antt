@@ -8,3 +8,4 @@ pub mod BookKept
 pub mod Cancelling
 pub mod Boxes
 pub mod Placed
+pub mod LiveElsewhere

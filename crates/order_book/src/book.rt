@@ -1,4 +1,5 @@
 ghost use Rattle.std.specs.Prelude.{◌≡◌, ◌+◌, ◌≤◌, ◌<◌, ◌≢◌, length, true, Some, Err, slice_get, IfOk, IfSome, OnOk, OnErr};
+ghost use Rattle.std.specs.Map.{keys_of};
 ghost use Rattle.std.specs.Option.{option_map};
 ghost use Rattle.form.specs.declared.limits.TheConstants.{MAX_ORDERS, MAX_UNDERLYINGS};
 ghost use Rattle.form.specs.Limits.{IsOrderWithin, IsWithinLimits};
@@ -100,6 +101,13 @@ impl Book {
         Some(self.markets.get(market)?.info())
     }
 
+    /// The numbers of the markets, in the order in which they were listed.
+    pub fn numbers(&self) -> Result<Vec<u32>, AllocError>
+        ensures { IfOk result (λ numbers. numbers.items ≡ keys_of self.now.markets) }
+    {
+        self.markets.numbers(self.alloc)
+    }
+
     /// Looks whether an order's market is there, not settled and for the order's bundle.
     ///
     /// The first of these: `NoMarket` where no market has the number; `Settled` where it is
@@ -145,6 +153,13 @@ impl Book {
     {
         self.check_order(order)?;
         self.check_room(order.market)
+    }
+
+    /// The order as it is live if it is placed now, under the next number. Takes no memory.
+    pub fn as_live(&self, order: &NewOrder) -> Order
+        ensures { result ≡ with_number (self.now.accepted + 1) order.now }
+    {
+        with_number(order, self.accepted + 1)
     }
 
     /// Accepts an order whose options, price and quantity are within the limits, and answers its

@@ -1,7 +1,7 @@
 // The markets in the order in which they were listed, found by their numbers.
-ghost use Rattle.std.specs.Prelude.{◌≡◌, ◌≤◌, ◌++◌, [], ◌∷◌, ℕ, nat_eq, length, is_some, false, None, IsSome, OnOk, OnErr};
+ghost use Rattle.std.specs.Prelude.{◌≡◌, ◌≤◌, ◌++◌, [], ◌∷◌, ℕ, nat_eq, length, is_some, false, None, IfOk, IsSome, OnOk, OnErr};
 ghost use Rattle.std.specs.List.{find};
-ghost use Rattle.std.specs.Map.{lookup};
+ghost use Rattle.std.specs.Map.{keys_of, lookup};
 ghost use Rattle.std.specs.Option.{option_copied};
 ghost use Rattle.order_book.specs.Markets.{settled_market, has_number, changed_in, live_in, live_orders, with_live_in, without, holder_of};
 ghost use Rattle.order_book.specs.Numbers.{number_count};
@@ -62,6 +62,17 @@ impl Markets {
         self.by_number
             .insert(market, Market::new(alloc, underlyings))?;
         Ok(())
+    }
+
+    // The numbers, in the order in which the markets were listed.
+    pub(crate) fn numbers(&self, alloc: Global) -> Result<Vec<u32>, AllocError>
+        ensures { IfOk result (λ numbers. numbers.items ≡ keys_of self.now) }
+    {
+        let mut numbers = Vec::new(alloc);
+        for (market, _) in self.by_number.iter() {
+            numbers.push(*market)?;
+        }
+        Ok(numbers)
     }
 
     // Puts an order last in a market that is there, whose number no other order of the market has.

@@ -42,7 +42,7 @@ module _ (market : ℕ) where
       ]
 
   -- an order is taken out
-  live-without : (number : ℕ) (markets : Markets) → live_in market (without_in_each number markets) ≡ without number (live_in market markets)
+  pub live-without : (number : ℕ) (markets : Markets) → live_in market (without_in_each number markets) ≡ without number (live_in market markets)
   live-without number [] = refl
   live-without number (m ∷ markets) =
       elim (nat_eq market m.0) as (λ c. live_found (cond c (Some (with_live m.1 (without number m.1.live))) (lookup (nat_eq market) (without_in_each number markets)))
