@@ -90,7 +90,7 @@ cost_open Sell accounts account free cost none =
     let Goal : Bool → Type 0 = λ b. (if not b then Some from_ledger.NoAccount else None) ≡ None → b ≡ true in
     (elim (is_open accounts account) as Goal [ true ↦ λ h. refl | false ↦ λ h. cc ]) none
 
-cost_unnamed : (side : Side) (accounts : List ℕ) (account : ℕ) (free : ℤ) (cost : ℕ) → first_of (by_ledger (cost_refusals side accounts account free cost)) ≡ None → first_of (cost_refusals side accounts account free cost) ≡ None
+pub cost_unnamed : (side : Side) (accounts : List ℕ) (account : ℕ) (free : ℤ) (cost : ℕ) → first_of (by_ledger (cost_refusals side accounts account free cost)) ≡ None → first_of (cost_refusals side accounts account free cost) ≡ None
 cost_unnamed Buy accounts account free cost none = none_unnamed ledger_name (cost_refusals Buy accounts account free cost) (refl, (refl, tt)) none
 cost_unnamed Sell accounts account free cost none = none_unnamed ledger_name (cost_refusals Sell accounts account free cost) (refl, tt) none
 

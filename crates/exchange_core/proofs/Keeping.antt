@@ -175,7 +175,7 @@ clears_keep state market fills kept none allowed =
 
 -- ---- the step
 module _ (state : ExchangeState) (kept : IsKept state) where
-  kept-trade : (order : NewOrder) → IsNewOrderWithin order → first_of (place_refusals state order) ≡ None → IsKept (place_effect state order).1
+  pub kept-trade : (order : NewOrder) → IsNewOrderWithin order → first_of (place_refusals state order) ≡ None → IsKept (place_effect state order).1
   kept-trade order within none =
       let parts = place_none state order none in
       record {

@@ -8,3 +8,6 @@ pub mod Settled
 pub mod Keeping
 pub mod LiveAccounts
 pub mod ReserveSums
+mod HeldOrders
+pub mod HeldPositions
+pub mod SettledBalances

@@ -139,7 +139,7 @@ with_batch_kept accounts book positions kept held market number none batch charg
     (subst (λ l. All After (positions_in market number l fills)) (own ∙ sym same) (subst (λ l. All After (positions_in market number m.live l)) (sym are) new))
 
 -- the live orders of a market that is there, as its batch
-live_batch : (found : Option MarketState) → option_map_or (λ (m : MarketState). m.live) found [] ≡ (option_map_or batch_of found (record { underlyings = 0; orders = [] })).orders
+pub live_batch : (found : Option MarketState) → option_map_or (λ (m : MarketState). m.live) found [] ≡ (option_map_or batch_of found (record { underlyings = 0; orders = [] })).orders
 live_batch None = refl
 live_batch (Some m) = refl
 

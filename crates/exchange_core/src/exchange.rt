@@ -7,7 +7,7 @@ ghost use Rattle.clearing.specs.Outcome.{IsMarked, outcome_of};
 ghost use Rattle.clearing_model.specs.Certificate.{AreFractionFills};
 ghost use Rattle.frac.specs.Value.{fraction_of};
 ghost use Rattle.form.specs.Limits.{IsWithinLimits};
-ghost use Rattle.order_book.specs.Book.{batch_of, info_in, is_trading, market_of};
+ghost use Rattle.order_book.specs.Book.{batch_of, info_in, is_trading, market_of, with_number};
 ghost use Rattle.order_book.specs.Markets.{holder_of};
 ghost use Rattle.order_book.specs.Refusals.{batch_refusals, close_refusals, live_refusals, unless_memory as unless_no_memory};
 ghost use Rattle.order_book.specs.Within.{IsNewOrderWithin};
@@ -19,7 +19,7 @@ ghost use Rattle.exchange_core.specs.ExchangeState.{empty_exchange};
 ghost use Rattle.exchange_core.specs.Kept.{IsKept};
 ghost use Rattle.exchange_core.specs.Failures.{unless_memory};
 ghost use Rattle.exchange_core.specs.Refusals.{by_book, by_ledger, refusals, place_refusals};
-ghost use Rattle.exchange_core.specs.Held.{markets_of, positions_of};
+ghost use Rattle.exchange_core.specs.Held.{market_numbers, markets_of, orders_of, positions_of, underlyings_in};
 ghost use Rattle.exchange_core.specs.Reserves.{reserve_in};
 ghost use Rattle.exchange_core.specs.Step.{step, effect, place_effect, clear_effect, cleared_with, Does};
 ghost use Rattle.exchange_core.specs.Orders.{order_of};
@@ -30,7 +30,7 @@ ghost use Rattle.form.specs.declared.limits.TheConstants.{MAX_ORDERS, MAX_UNDERL
 use crate::checks::{check_cancel, check_clear, check_place, check_settlement, check_withdrawal};
 use crate::clear::charge_fills;
 use crate::failure::{Failure, refusal_of};
-use crate::held::in_order;
+use crate::held::{in_order, market_numbers, orders_of};
 use crate::place::{cancel, place};
 use crate::settle::settle;
 use crate::trade::order_of;
@@ -38,7 +38,7 @@ use crate::{Refusal, Reply};
 use cash_ledger::{Ledger, LedgerRefusal};
 use cert_check::{Fills, Outcome};
 use command_text::Command;
-use form::Batch;
+use form::{Batch, Order};
 use order_book::{Book, BookRefusal, MarketInfo, NewOrder};
 use settlement::{Position, Positions};
 use std::alloc::{AllocError, Global};
@@ -282,6 +282,42 @@ impl Exchange {
             }
         }
         in_order(self.alloc, &markets)
+    }
+
+    /// The live orders of an account in a market, in rising number.
+    pub fn orders_of(&self, account: u32, market: u32) -> Result<Vec<Order>, AllocError>
+        ensures orders { IfOk result (λ orders.
+            orders.items ≡ orders_of account market self.now.book) }
+        ensures kept { IsKept self.now }
+    {
+        orders_of(self.alloc, &self.book, account, market)
+    }
+
+    /// The numbers of all markets, in rising order.
+    pub fn markets(&self) -> Result<Vec<u32>, AllocError>
+        ensures { IfOk result (λ numbers. numbers.items ≡ market_numbers self.now.book) }
+    {
+        market_numbers(self.alloc, &self.book)
+    }
+
+    /// The number of underlyings of a market; 1 where there is no such market, in which no account
+    /// has anything. Takes no memory.
+    pub fn underlyings_in(&self, market: u32) -> u8
+        ensures value { result ≡ underlyings_in self.now.book market }
+        ensures some { 1 ≤ result }
+        ensures few { result ≤ MAX_UNDERLYINGS }
+    {
+        match self.info(market) {
+            Some(info) => info.underlyings,
+            None => 1,
+        }
+    }
+
+    /// The order as it is live if it is placed now, under the next number. Takes no memory.
+    pub fn as_live(&self, order: &NewOrder) -> Order
+        ensures { result ≡ with_number (self.now.book.accepted + 1) order.now }
+    {
+        self.book.as_live(order)
     }
 
     fn open(&mut self, account: u32) -> Result<Reply, Failure>

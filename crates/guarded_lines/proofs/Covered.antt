@@ -15,7 +15,7 @@ use Rattle.frac.specs.Range.{limit as largest}
 use Rattle.table_run.specs.Ending.{Ending, done, unbounded, wide_at, no_unit_left}
 use Rattle.exchange_core.specs.declared.refusal.Refusal.{Refusal}
 use Rattle.exchange_core.specs.ExchangeState.{ExchangeState}
-use Rattle.exchange_core.specs.Held.{markets_of}
+use Rattle.exchange_core.specs.Held.{markets_of, underlyings_in}
 use Rattle.exchange_core.specs.Kept.{IsKept}
 use Rattle.exchange_core.specs.Refusals.{refusal_of}
 use Rattle.exchange_core.specs.Reserves.{reserve_in}
@@ -35,11 +35,11 @@ use Rattle.reply_print.specs.declared.replies.Reply.TheVariants.{Withdrawn}
 use Rattle.guarded_lines.specs.declared.replies.GuardedReply.{GuardedReply}
 use Rattle.guarded_lines.specs.declared.replies.GuardedReply.TheVariants as reply
 use Rattle.guarded_lines.specs.Laws.{WithdrawalsAreCovered}
-use Rattle.guarded_lines.specs.Margins.{are_many, held_by, run_in, underlyings_in}
+use Rattle.guarded_lines.specs.Margins.{are_many, held_by, run_in}
 use Rattle.guarded_lines.specs.Needs.{demand_in, demands_in, liability_in, liability_of, margin_budget, need_as, need_in}
 use Rattle.guarded_lines.specs.Settlements.{after_settling}
 use Rattle.guarded_lines.specs.Withdrawals.{covers, left_in}
-use Rattle.guarded_lines.proofs.HeldPositions.{held_are_held, underlyings_few}
+use Rattle.exchange_core.proofs.HeldPositions.{held_are_held, underlyings_few}
 use Rattle.guarded_lines.proofs.Rising.{markets_rise}
 use Rattle.guarded_lines.proofs.Settled.{balance_after, gain_of_market}
 

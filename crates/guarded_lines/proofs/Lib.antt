@@ -2,7 +2,6 @@ pub mod PlainLines
 pub mod AsRun
 pub mod ToldMargins
 pub mod MarginReplies
-pub mod HeldPositions
 pub mod DemandSums
 pub mod Leaving
 pub mod Rising

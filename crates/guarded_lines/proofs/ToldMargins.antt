@@ -15,7 +15,8 @@ use Rattle.portfolio_margin.specs.declared.least_margin.LeastMargin.TheVariants.
 use Rattle.portfolio_margin.specs.Answers.{IsMarginOf}
 use Rattle.portfolio_margin.specs.Need.{liability_or_word}
 use Rattle.portfolio_margin.specs.Run.{MarginQuestion, Margin, asked_for, margin_run}
-use Rattle.guarded_lines.specs.Margins.{IsMarginIn, held_by, run_in, told_by, told_of, underlyings_in}
+use Rattle.exchange_core.specs.Held.{underlyings_in}
+use Rattle.guarded_lines.specs.Margins.{IsMarginIn, held_by, run_in, told_by, told_of}
 use Rattle.guarded_lines.specs.Needs.{liability_in, liability_of, margin_budget, liability_or_need}
 
 pub told_is : (ending : Ending Margin) (margin : LeastMargin) → IsMarginOf ending margin → told_by margin ≡ told_of ending

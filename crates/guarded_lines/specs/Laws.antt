@@ -3,7 +3,7 @@ use Rattle.std.specs.Prelude.{◌≡◌, ◌≤◌, ℕ, ℤ, pos, ◌≤ℤ◌,
 use Rattle.cash_ledger.specs.Entries.{balance_of}
 use Rattle.command_text.specs.declared.command.Command.TheVariants.{Withdraw}
 use Rattle.exchange_core.specs.ExchangeState.{ExchangeState}
-use Rattle.exchange_core.specs.Held.{markets_of}
+use Rattle.exchange_core.specs.Held.{markets_of, underlyings_in}
 use Rattle.exchange_core.specs.Kept.{IsKept}
 use Rattle.exchange_lines.specs.LineSteps.{AnswersAsRun}
 use Rattle.exchange_lines.specs.Promises.{OutputTells}
@@ -11,7 +11,6 @@ use Rattle.command_text.specs.declared.requests.Request.TheVariants as asks
 use Rattle.reply_print.specs.declared.replies.Reply.TheVariants.{Withdrawn}
 use Rattle.guarded_lines.specs.declared.replies.GuardedReply.{GuardedReply}
 use Rattle.guarded_lines.specs.declared.replies.GuardedReply.TheVariants.{Plain}
-use Rattle.guarded_lines.specs.Margins.{underlyings_in}
 use Rattle.guarded_lines.specs.Output.{IsMarginText, guarded_line}
 use Rattle.guarded_lines.specs.Replies.{guarded_reply_to}
 use Rattle.guarded_lines.specs.Settlements.{after_settling}

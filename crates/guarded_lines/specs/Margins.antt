@@ -7,14 +7,14 @@ use Rattle.form.specs.declared.limits.TheConstants.{MAX_ORDERS}
 use Rattle.frac.specs.Range.{limit as largest}
 use Rattle.frac.specs.ValueOf.{value_of}
 use Rattle.order_book.specs.declared.market.MarketInfo.{MarketInfo}
-use Rattle.order_book.specs.Book.{BookState, info_in}
+use Rattle.order_book.specs.Book.{info_in}
 use Rattle.lists.specs.Refusals.{first_of}
 use Rattle.settlement.specs.declared.position.Position.{Position}
 use Rattle.table_run.specs.Ending.{Ending, done, unbounded, wide_at, no_unit_left}
 use Rattle.exchange_core.specs.declared.refusal.Refusal.{Refusal}
 use Rattle.exchange_core.specs.declared.refusal.Refusal.TheVariants.{NoMarket, Settled, NoAccount, TooMany}
 use Rattle.exchange_core.specs.ExchangeState.{ExchangeState}
-use Rattle.exchange_core.specs.Held.{positions_of}
+use Rattle.exchange_core.specs.Held.{positions_of, underlyings_in}
 use Rattle.exchange_core.specs.Reply.{refused_with}
 use Rattle.guarded_lines.specs.declared.told.ToldMargin.{ToldMargin}
 use Rattle.guarded_lines.specs.declared.told.ToldMargin.TheVariants as told
@@ -30,10 +30,6 @@ use Rattle.guarded_lines.specs.declared.replies.GuardedReply.TheVariants as repl
 -- the positions that an account has in a market
 abbrev pub held_by : ExchangeState → ℕ → ℕ → List Position
 held_by state account market = positions_of account market state.positions
-
--- the underlyings of a market; 1 where there is no such market, in which no account has positions
-abbrev pub underlyings_in : BookState → ℕ → ℕ
-underlyings_in book market = option_map_or (λ (info : MarketInfo). info.underlyings) (info_in book market) 1
 
 -- the run of the margin of an account in a market, of at most so many units
 abbrev pub run_in : ExchangeState → ℕ → ℕ → ℕ → Ending Margin

@@ -1,12 +1,11 @@
 // The margin of an account in a market.
-ghost use Rattle.std.specs.Prelude.{◌≡◌, ◌≤◌, ◌+◌, IfOk};
+ghost use Rattle.std.specs.Prelude.{◌≡◌, ◌+◌, IfOk};
 ghost use Rattle.std.specs.List.{All};
 ghost use Rattle.form.specs.Payoff.{IsOnCount};
-ghost use Rattle.form.specs.declared.limits.TheConstants.{MAX_UNDERLYINGS};
 ghost use Rattle.lists.specs.Refusals.{first_of};
 ghost use Rattle.settlement.specs.Positions.{IsHeldPosition};
-ghost use Rattle.exchange_core.specs.Held.{positions_of};
-ghost use Rattle.guarded_lines.specs.Margins.{IsMarginIn, market_refusals, margin_reply, told_by, underlyings_in};
+ghost use Rattle.exchange_core.specs.Held.{positions_of, underlyings_in};
+ghost use Rattle.guarded_lines.specs.Margins.{IsMarginIn, market_refusals, margin_reply, told_by};
 
 use crate::replies::GuardedReply;
 use crate::told::ToldMargin;
@@ -17,19 +16,6 @@ use order_book::MarketInfo;
 use portfolio_margin::{LeastMargin, margin};
 use settlement::Position;
 use std::alloc::{AllocError, Global};
-
-// The number of underlyings of a market; 1 where there is no such market, in which no account has
-// positions.
-fn underlyings_in(exchange: &Exchange, market: u32) -> u8
-    ensures value { result ≡ underlyings_in exchange.now.book market }
-    ensures some { 1 ≤ result }
-    ensures few { result ≤ MAX_UNDERLYINGS }
-{
-    match exchange.info(market) {
-        Some(info) => info.underlyings,
-        None => 1,
-    }
-}
 
 // The positions that an account has in a market.
 fn positions_in(exchange: &Exchange, account: u32, market: u32) -> Result<Vec<Position>, AllocError>
@@ -59,7 +45,7 @@ pub(crate) fn margin_in(
     if positions.len() > MAX_ORDERS {
         return Ok(None);
     }
-    let underlyings = underlyings_in(exchange, market);
+    let underlyings = exchange.underlyings_in(market);
     let count = positions.len() as u32;
     let margin = margin(alloc, &positions, underlyings, limit)?;
     Ok(Some((margin, count)))

@@ -8,7 +8,7 @@ use Rattle.std.proofs.lemmas.List.Elements.{All-nil, All-cons, All-head, All-tai
 use Rattle.exact_num.specs.Fraction.{Fraction, whole}
 use Rattle.exact_num.specs.Fits.{div_of}
 use Rattle.exchange_core.specs.ExchangeState.{ExchangeState}
-use Rattle.exchange_core.specs.Held.{is_held_by, markets_of}
+use Rattle.exchange_core.specs.Held.{is_held_by, markets_of, underlyings_in}
 use Rattle.form.specs.declared.orders.Order.{Order}
 use Rattle.form.specs.Limits.{IsOrderWithin}
 use Rattle.form.specs.Payoff.{bundle_of, scale_of}
@@ -26,7 +26,7 @@ use Rattle.portfolio_margin.specs.Owed.{fill_of, fills_of}
 use Rattle.portfolio_margin.specs.Run.{MarginQuestion, Margin, Turn, at_state, endless, ends, goes, least, margin_run, net_at, on_found, on_turn, order_of, orders_of, question_of, turn_at, turns_from, wanted_at}
 use Rattle.guarded_lines.specs.declared.told.Need.{Need}
 use Rattle.guarded_lines.specs.declared.told.Need.TheVariants as need
-use Rattle.guarded_lines.specs.Margins.{are_many, held_by, run_in, told_of, underlyings_in}
+use Rattle.guarded_lines.specs.Margins.{are_many, held_by, run_in, told_of}
 use Rattle.guarded_lines.specs.Needs.{demand_in, demands_in, liability_in, liability_of, margin_budget, need_as, need_in}
 use Rattle.journal_audit.specs.AskedLines.{IsMarginWithin, IsNeedWithin}
 use Rattle.reply_print.specs.OutcomePieces.{state_entries}

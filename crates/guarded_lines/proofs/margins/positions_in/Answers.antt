@@ -3,8 +3,8 @@ use Rattle.std.proofs.lemmas.Result.{IfOk-weaker}
 use Rattle.form.specs.Payoff.{IsOnCount}
 use Rattle.settlement.specs.declared.position.Position.{Position}
 use Rattle.settlement.specs.Positions.{IsHeldPosition}
-use Rattle.guarded_lines.specs.Margins.{underlyings_in}
-use Rattle.guarded_lines.proofs.HeldPositions.{held_are_held, held_are_on}
+use Rattle.exchange_core.specs.Held.{underlyings_in}
+use Rattle.exchange_core.proofs.HeldPositions.{held_are_held, held_are_on}
 use Rattle.guarded_lines.proofs.margins.positions_in.Goals as goal
 
 pub returns-clause-forms : goal.returns-clause-forms

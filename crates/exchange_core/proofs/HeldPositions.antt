@@ -1,5 +1,4 @@
--- The positions that an account has in a market are on its underlyings, and may be asked for a
--- margin.
+-- The positions that an account has in a market are on its underlyings.
 use Rattle.std.proofs.Common.{◌≡◌, ℕ, ◌+◌, ◌≤◌, List, [], ◌∷◌, Bool, true, false, nat_eq, if◌then◌else◌, Option, Some, None, option_map, refl, sym, ap, ◌∙◌, subst, lit≤}
 use Rattle.std.specs.List.{All}
 use Rattle.std.specs.Map.{lookup}
@@ -15,9 +14,8 @@ use Rattle.order_book.proofs.MarketLists.{same_number}
 use Rattle.settlement.specs.declared.position.Position.{Position}
 use Rattle.settlement.specs.Positions.{IsHeldPosition}
 use Rattle.exchange_core.specs.ExchangeState.{ExchangeState}
-use Rattle.exchange_core.specs.Held.{is_held_by, positions_of}
+use Rattle.exchange_core.specs.Held.{is_held_by, positions_of, underlyings_in}
 use Rattle.exchange_core.specs.Kept.{IsKept, IsPositionKept, on_if_trading, trading_on}
-use Rattle.guarded_lines.specs.Margins.{held_by, underlyings_in}
 
 -- a fact of each position of the market that is kept
 pub held_have : (K P : Position → Type 0) (account market : ℕ) → ((p : Position) → K p → p.market ≡ market → P p)
@@ -45,18 +43,18 @@ trading_underlyings book market n = by (lookup (nat_eq market) book.markets)
     by None h = cc
     by (Some m) h = is m m.settled h
 
-position_is_on : (accounts : List ℕ) (book : BookState) (market : ℕ) (p : Position) → IsPositionKept accounts book.markets p → p.market ≡ market
+pub position_is_on : (accounts : List ℕ) (book : BookState) (market : ℕ) (p : Position) → IsPositionKept accounts book.markets p → p.market ≡ market
     → IsOnCount (underlyings_in book market + 1) p.bundle
 position_is_on accounts book market p kept own =
     let there : trading_on book.markets market ≡ Some kept.underlyings = ap (trading_on book.markets) (sym own) ∙ kept.trading in
     subst (λ (n : ℕ). IsOnCount (n + 1) p.bundle) (sym (trading_underlyings book market kept.underlyings there)) kept.forms
 
-pub held_are_on : (state : ExchangeState) (account market : ℕ) → IsKept state → All (λ (p : Position). IsOnCount (underlyings_in state.book market + 1) p.bundle) (held_by state account market)
+pub held_are_on : (state : ExchangeState) (account market : ℕ) → IsKept state → All (λ (p : Position). IsOnCount (underlyings_in state.book market + 1) p.bundle) (positions_of account market state.positions)
 held_are_on state account market kept =
     held_have (IsPositionKept state.accounts state.book.markets) (λ (p : Position). IsOnCount (underlyings_in state.book market + 1) p.bundle) account market
     (λ p one own. position_is_on state.accounts state.book market p one own) state.positions kept.positions
 
-pub held_are_held : (state : ExchangeState) (account market : ℕ) → IsKept state → All IsHeldPosition (held_by state account market)
+pub held_are_held : (state : ExchangeState) (account market : ℕ) → IsKept state → All IsHeldPosition (positions_of account market state.positions)
 held_are_held state account market kept =
     held_have (IsPositionKept state.accounts state.book.markets) IsHeldPosition account market (λ p one own. one.held) state.positions kept.positions
 
