@@ -8,7 +8,7 @@ use Rattle.account_need.specs.Moves.{MovesKeepSecured, SecuredCanPay, MoreIsSecu
 abbrev sum_of : List ℤ → ℤ
 sum_of parts = total (λ part. part) parts
 
-enough_not_below : (p : Portfolio) (balance : ℤ) → IsEnough p balance → pos 0 ≤ℤ balance
+pub enough_not_below : (p : Portfolio) (balance : ℤ) → IsEnough p balance → pos 0 ≤ℤ balance
 enough_not_below p balance e = omega (arith, ints, e.asked)
 
 all_not_below : (ps : List Portfolio) (parts : List ℤ) → AreEnough ps parts → pos 0 ≤ℤ sum_of parts

@@ -35,7 +35,7 @@ not_below p prices balance on within e =
     let gains = gained (owed_over D p.positions (1 ∷ prices)) e.bound (total (gain_at prices) p.positions) D (losses_at (1 ∷ prices) p.live) (length p.positions) some most (all_lose D prices p.positions parts) in
     left (reserve_of p.live) (length p.live) (length p.positions) e.bound (total (gain_at prices) p.positions) balance e.asked gains
 
-nothing_left : (n : ℕ) (balance : ℤ) → pos 0 ≤ℤ balance → IsEnough (portfolio n [] []) balance
+pub nothing_left : (n : ℕ) (balance : ℤ) → pos 0 ≤ℤ balance → IsEnough (portfolio n [] []) balance
 nothing_left n balance le = record {
   bound = pos 0;
   covers = λ t s box D is. omega (arith, ints);

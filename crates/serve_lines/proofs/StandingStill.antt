@@ -21,6 +21,7 @@ use Rattle.lists.specs.Refusals.{first_of}
 use Rattle.order_book.specs.Book.{live_of}
 use Rattle.order_book.specs.Markets.{with_live}
 use Rattle.order_book.specs.Refusals.{live_refusals}
+use Rattle.order_book.proofs.LiveElsewhere.{live-changed}
 use Rattle.proposal_text.specs.declared.replies.BoundedOutcome.{BoundedOutcome}
 use Rattle.proposal_text.specs.declared.replies.ProposalReply.TheVariants as told
 use Rattle.auction_phases.specs.Laws.{StandsStill}
@@ -29,7 +30,6 @@ use Rattle.auction_phases.specs.Refusals.{close_refusals, reopen_refusals}
 use Rattle.auction_phases.specs.declared.refusal.PhaseRefusal.{PhaseRefusal}
 use Rattle.auction_phases.proofs.ClosedLists.{closed_more, stays_closed}
 use Rattle.auction_phases.proofs.Ends.{ends_are_told}
-use Rattle.auction_phases.proofs.LiveElsewhere.{live-changed}
 use Rattle.auction_phases.proofs.StandingStill.{live_stepped, open_other}
 use Rattle.proposal_lines.specs.AllKinds.{said_line}
 use Rattle.proposal_lines.specs.Clears.{better_in, cleared_by}
