@@ -51,7 +51,7 @@ owing_nothing batch outcome fills leaves owes =
     balanced_fills_cover batch.underlyings batch.orders fs S fills owes.1 (subst (λ L. IsPremiumLessLiability batch.orders fs L S) owes.0 leaves.left)
 
 -- where the shape, the fills and the cover are as they should be the fills cover
-fills_cover : (batch : Batch) (outcome : Outcome) (mark : Mark) → AreFractionFills batch.orders (map fraction_of outcome.fills) → LeavesSurplus batch outcome → IfOptimal mark (AreOnTheSame batch.underlyings)
+pub fills_cover : (batch : Batch) (outcome : Outcome) (mark : Mark) → AreFractionFills batch.orders (map fraction_of outcome.fills) → LeavesSurplus batch outcome → IfOptimal mark (AreOnTheSame batch.underlyings)
     → IsEnough batch.underlyings batch.orders (map fraction_of outcome.fills) (fraction_of outcome.claim.liability) mark
     → FillsCover batch.underlyings batch.orders (map fraction_of outcome.fills) (fraction_of outcome.claim.surplus)
 fills_cover batch outcome (Optimal Line measure) fills leaves on holds =

@@ -51,7 +51,7 @@ fills_not_below [] (f ∷ fs) len are = absurd (omega arith)
 fills_not_below (o ∷ os) (f ∷ fs) len are =
     All-cons IsNotBelowZero f fs (All-head IsFill (o, f) (zip os fs) are).1 (fills_not_below os fs (omega arith) (All-tail IsFill (o, f) (zip os fs) are))
 
-enough : (batch : Batch) (fs : List Frac128) (L : Frac128) (mark : Mark) → AreFractionFills batch.orders (map fraction_of fs)
+pub enough : (batch : Batch) (fs : List Frac128) (L : Frac128) (mark : Mark) → AreFractionFills batch.orders (map fraction_of fs)
     → mark_covers limit batch.underlyings batch.orders (map fraction_of fs) (fraction_of L) mark ≡ Ok true
     → IsEnough batch.underlyings batch.orders (map fraction_of fs) (fraction_of L) mark
 enough batch fs L (Optimal Line measure) are h =
@@ -62,7 +62,7 @@ enough batch fs L (Optimal (Tree tree) measure) are h =
 enough batch fs L (Wide w) are h = fallback_is batch.orders (map fraction_of fs) (fraction_of L) are (lowest_of fs) L.lowest h
 enough batch fs L Budget are h = fallback_is batch.orders (map fraction_of fs) (fraction_of L) are (lowest_of fs) L.lowest h
 
-not_enough : (batch : Batch) (fs : List Frac128) (L : Frac128) (mark : Mark) → AreFractionFills batch.orders (map fraction_of fs)
+pub not_enough : (batch : Batch) (fs : List Frac128) (L : Frac128) (mark : Mark) → AreFractionFills batch.orders (map fraction_of fs)
     → mark_covers limit batch.underlyings batch.orders (map fraction_of fs) (fraction_of L) mark ≡ Ok false
     → ¬ (IsEnough batch.underlyings batch.orders (map fraction_of fs) (fraction_of L) mark)
 not_enough batch fs L (Optimal Line measure) are h =

@@ -33,7 +33,7 @@ use Rattle.cert_check.specs.Tests.{AreSigns, HasSigns}
 use Rattle.cert_check.specs.Shape.{IsMarkOn, forms_have, states_have, cover_fits, mark_fits, has_shape, is_fill, are_fills}
 use Rattle.exact_num.specs.Tests.{is_at_most, is_not_below_zero}
 
-equal_is_true : (a b : ℕ) → a ≡ b → (a == b) ≡ true
+pub equal_is_true : (a b : ℕ) → a ≡ b → (a == b) ≡ true
 equal_is_true a b h = grind (arith, nat_tests)
 
 less_is_true : (a b : ℕ) → a < b → nat_lt a b ≡ true
@@ -50,10 +50,10 @@ count_of_order n o is =
     let each = All-of_map P leg_of (legs_in o.bundle) is.2 in
     λ k d lt. sym (length-option_of (get_or (legs_in o.bundle) k d).form) ∙ (each k d lt).1
 
-forms_all : (n : ℕ) (os : List Order) → forms_have n os ≡ true → All (λ (order : Order). IsOnCount n order.bundle) os
+pub forms_all : (n : ℕ) (os : List Order) → forms_have n os ≡ true → All (λ (order : Order). IsOnCount n order.bundle) os
 forms_all n os h = λ k d lt. on_count-from n (get_or os k d).bundle (AllPass-from_list_all (λ (order : Order). is_on_count n order.bundle) os h k d lt)
 
-forms_pass : (n : ℕ) (os : List Order) → AreOn n os → forms_have (n + 1) os ≡ true
+pub forms_pass : (n : ℕ) (os : List Order) → AreOn n os → forms_have (n + 1) os ≡ true
 forms_pass n os on =
     list_all-from_AllPass (λ (order : Order). is_on_count (n + 1) order.bundle) os (λ k d lt. on_count-true (n + 1) (get_or os k d).bundle (count_of_order n _ (on k d lt)))
 
@@ -61,26 +61,26 @@ forms_pass n os on =
 abbrev HasEntries : ℕ → Weighted → Type 0
 HasEntries n point = point.state.count ≡ n
 
-states_all : (n : ℕ) (points : List Weighted) → states_have n points ≡ true → All (HasEntries n) points
+pub states_all : (n : ℕ) (points : List Weighted) → states_have n points ≡ true → All (HasEntries n) points
 states_all n points h = λ k d lt. eqb-true _ n (AllPass-from_list_all (λ (point : Weighted). point.state.count == n) points h k d lt)
 
 -- the states of the code are states of n underlyings
 abbrev IsOnState : ℕ → Point → Type 0
 IsOnState n point = IsState n point.0
 
-states_are : (n : ℕ) (points : List Weighted) → All (HasEntries (n + 1)) points → All (IsOnState n) (map point_of points)
+pub states_are : (n : ℕ) (points : List Weighted) → All (HasEntries (n + 1)) points → All (IsOnState n) (map point_of points)
 states_are n points have = All-to_map (IsOnState n) point_of points (λ k d lt. (length-vector_of (get_or points k d).state ∙ have k d lt, (get_or points k d).state.not_all_zero))
 
-states_pass : (n : ℕ) (points : List Weighted) → All (IsOnState n) (map point_of points) → states_have (n + 1) points ≡ true
+pub states_pass : (n : ℕ) (points : List Weighted) → All (IsOnState n) (map point_of points) → states_have (n + 1) points ≡ true
 states_pass n points are =
     list_all-from_AllPass (λ (point : Weighted). point.state.count == n + 1) points
     (λ k d lt. equal_is_true _ (n + 1) (sym (length-vector_of (get_or points k d).state) ∙ (All-of_map (IsOnState n) point_of points are k d lt).0))
 
-cover_is_on : (n : ℕ) (cover : Cover) → cover_fits n cover ≡ true → IsCoverOn n cover
+pub cover_is_on : (n : ℕ) (cover : Cover) → cover_fits n cover ≡ true → IsCoverOn n cover
 cover_is_on n Line h = eqb-true n 1 h
 cover_is_on n (Tree tree) h = true_is_less 1 n h
 
-cover_passes : (n : ℕ) (cover : Cover) → IsCoverOn n cover → cover_fits n cover ≡ true
+pub cover_passes : (n : ℕ) (cover : Cover) → IsCoverOn n cover → cover_fits n cover ≡ true
 cover_passes n Line is = equal_is_true n 1 is
 cover_passes n (Tree tree) is = less_is_true 1 n is
 

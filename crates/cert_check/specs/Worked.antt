@@ -25,7 +25,7 @@ use Rattle.cert_check.specs.declared.outcome.Unproved.TheVariants as unproved
 use Rattle.cert_check.specs.Events.{verdict_of}
 use Rattle.cert_check.specs.Proposals.{proposal_bound, bounded_verdict_of}
 
-abbrev batch : Batch
+abbrev pub batch : Batch
 batch = record {
   underlyings = 1;
   orders =
@@ -35,17 +35,17 @@ batch = record {
       ∷ [];
 }
 
-abbrev point : Fraction → ℕ → ℕ → Weighted
+abbrev pub point : Fraction → ℕ → ℕ → Weighted
 point weight t s = record { state = state_of (t ∷ s ∷ []); weight = value_of weight }
 
 -- with these weights of the price 0, the price 12 and the slope beyond
-abbrev weighted : Fraction → Fraction → Fraction → Measure
+abbrev pub weighted : Fraction → Fraction → Fraction → Measure
 weighted a b slope = record { points = point a 1 0 ∷ point b 1 12 ∷ point slope 0 1 ∷ [] }
 
 abbrev optimal : Fraction → Fraction → Fraction → Mark
 optimal a b slope = Optimal Line (weighted a b slope)
 
-abbrev sevenths : ℕ → Fraction
+abbrev pub sevenths : ℕ → Fraction
 sevenths n = over (pos n) 7
 
 -- the outcome of these fills, with liability 0, this surplus and this mark
@@ -84,10 +84,10 @@ proposed fills surplus measure = proposal_bound limit batch (proposal fills surp
 abbrev pub told : Fraction → List Fraction → Fraction → Measure → Judgement
 told bound fills surplus measure = bounded_verdict_of limit batch (proposal fills surplus measure) bound
 
-abbrev half : Fraction
+abbrev pub half : Fraction
 half = over (pos 1) 2
 
-abbrev fills : List Fraction
+abbrev pub fills : List Fraction
 fills = whole (pos 1) ∷ sevenths 2 ∷ sevenths 5 ∷ []
 
 abbrev certificate : Mark

@@ -12,8 +12,9 @@ use exact_num::{Exact, Wide};
 use form::{Bundle, Order, Side, is_same_bundle};
 use frac::Frac128;
 
-// Whether the liability is 0 and as much is bought as sold of each bundle.
-pub(crate) fn fallback_holds(
+/// Whether the liability is 0 and as much is bought as sold of each bundle. There are as many fills
+/// as orders. `Wide` comes exactly where a step does not fit before it fails. Takes no memory.
+pub fn fallback_holds(
     orders: &[Order],
     fills: &[Frac128],
     liability: &Frac128,

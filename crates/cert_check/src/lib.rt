@@ -18,6 +18,7 @@ pub mod prices;
 pub mod proposal;
 mod shape;
 
+pub use balance::fallback_holds;
 pub use bounds::bound;
 pub use checks::{bound_holds, cover_holds, measure_holds, surplus_holds};
 pub use judging::verdict;
@@ -26,3 +27,4 @@ pub use measures::{Measure, Points, Weighted};
 pub use outcome::{Claim, Cover, Fills, Judgement, Mark, No, Outcome, Proposal, Unproved};
 pub use prices::price_of;
 pub use proposal::{bounded_verdict, judge_proposal};
+pub use shape::{are_fills, cover_fits, has_fills, states_have};

@@ -27,8 +27,9 @@ pub(crate) fn has_proposal_shape(batch: &Batch, proposal: &Proposal) -> bool
         && certificate_fits(batch.underlyings, &proposal.cover, &proposal.measure)
 }
 
-// Whether there are as many fills as orders, and the forms are those of the batch's underlyings.
-fn has_fills(batch: &Batch, fills: &[Frac128]) -> bool
+/// Whether there are as many fills as orders, and the forms are those of the batch's underlyings.
+/// Takes no memory.
+pub fn has_fills(batch: &Batch, fills: &[Frac128]) -> bool
     ensures { result ≡ has_fills batch.now fills.now }
 {
     fills.len() == batch.orders.as_slice().len()
@@ -42,8 +43,8 @@ fn are_on(underlyings: u8, orders: &[Order]) -> bool
     orders.iter().all(|order| order.bundle.is_on(underlyings))
 }
 
-// Whether each state has so many entries.
-fn states_have(entries: u16, points: &[Weighted]) -> bool
+/// Whether each state has so many entries. Takes no memory.
+pub fn states_have(entries: u16, points: &[Weighted]) -> bool
     ensures { result ≡ states_have entries points.now }
 {
     points
@@ -69,8 +70,8 @@ fn certificate_fits(underlyings: u8, cover: &Cover, measure: &Measure) -> bool
         && states_have(u16::from(underlyings) + 1, measure.points.as_slice())
 }
 
-// Whether a line is the cover of one underlying, and a tree of several.
-fn cover_fits(underlyings: u8, cover: &Cover) -> bool
+/// Whether a line is the cover of one underlying, and a tree of several. Takes no memory.
+pub fn cover_fits(underlyings: u8, cover: &Cover) -> bool
     ensures { result ≡ cover_fits underlyings cover.now }
 {
     match cover {
@@ -79,8 +80,9 @@ fn cover_fits(underlyings: u8, cover: &Cover) -> bool
     }
 }
 
-// Whether each fill is from 0 to its order's quantity.
-pub(crate) fn are_fills(orders: &[Order], fills: &[Frac128]) -> bool
+/// Whether each fill is from 0 to its order's quantity. There are as many fills as orders. Takes no
+/// memory.
+pub fn are_fills(orders: &[Order], fills: &[Frac128]) -> bool
     requires { length fills.now ≡ length orders.now }
     ensures { result ≡ are_fills orders.now fills.now }
 {
