@@ -7,11 +7,11 @@ use Rattle.serve_lines.specs.Output.{serving_line, serving_output}
 use Rattle.serve_lines.specs.Promises.{TellServing}
 use Rattle.serve_lines.specs.ServingState.{empty_serving}
 use Rattle.session_lines.specs.Served.{reply_by}
-use Rattle.session_lines.specs.Sessions.{new_sessions, session_step}
+use Rattle.session_lines.specs.Sessions.{any_session, new_sessions, session_step}
 
 -- what is written for messages, of which no bytes are skipped
 abbrev pub all_sessions_output : List ℕ → List ℕ
-all_sessions_output input = output_of (session_step serving_line) false (new_sessions empty_serving) input
+all_sessions_output input = output_of (session_step (any_session serving_line)) false (new_sessions empty_serving) input
 
 -- bytes tell each message once, and the bodies are answered as lines of any kind
 abbrev pub TellAllOnce : List ℕ → List ℕ → Type 0

@@ -25,7 +25,7 @@ use Rattle.session_gate.proofs.KnownBefore.{kept_of-keep}
 use Rattle.session_lines.specs.Answers.{kept_reply, reply_of}
 use Rattle.session_lines.specs.Messages.{at_comma, message_in, message_with, number_to, value_read}
 use Rattle.session_lines.specs.Served.{without_feed}
-use Rattle.session_lines.specs.Sessions.{SessionsState, after_answered, after_as, new_sessions, said_step, session_step}
+use Rattle.session_lines.specs.Sessions.{SessionsState, after_answered, after_as, any_session, new_sessions, said_step, session_step}
 use Rattle.session_lines.specs.Texts.{accepted_text, answer_text, expecting_text, malformed_text, sessions_text}
 use Rattle.journal_audit.specs.declared.gate_lines.GateLine.{GateLine}
 use Rattle.journal_audit.specs.declared.gate_lines.GateLine.TheVariants as gate
@@ -205,7 +205,7 @@ module _ (number : ℕ) (state : SessionsState ServingState) (few : number ≤ M
 
   abbrev told_as : Message → Answer → List ℕ × SessionsState ServingState
   told_as message answer =
-      let next = after_as serving_line answer state message in (answer_text number message answer (kept_reply next.0 message.session), next)
+      let next = after_as (any_session serving_line) answer state message in (answer_text number message answer (kept_reply next.0 message.session), next)
 
   -- a message that is accepted
   first_told : (message : Message) → IsMessage message → IsTold (told_as message First)
@@ -224,7 +224,7 @@ module _ (number : ℕ) (state : SessionsState ServingState) (few : number ≤ M
         served = subst (λ t. IsServedLineOf t own.reply) (sym same) own.served;
         one = subst HasNoFeed (sym same) own.one;
       } in
-      let next = after_answered serving_line state message in
+      let next = after_answered (any_session serving_line) state message in
       let stands : StandsBefore (number + 1) next = record { served = omega (arith, lt); stands = answer.1; kept = kept_after state.0.sessions message.session new before.kept kept } in
       subst (λ r. IsTold (accepted_text message.session message.number r, next)) (sym (ap reply_of (kept_itself state.0.sessions message.session new)))
       (reply_told message is reply own.reply kept.served kept.one next stands)
@@ -246,10 +246,10 @@ module _ (number : ℕ) (state : SessionsState ServingState) (few : number ≤ M
       gate_told (gate.Expecting message.session expected why.Changed) (is.0, expects) _ (expecting_is number message.session expected why.Changed)
   answer_told message is Sessions e expects = gate_told (gate.Sessions message.session) is.0 _ (sessions_is number message.session)
 
-  said_told : (said : Option Message) → IfSome said IsMessage → IsTold (said_step serving_line number state said)
+  said_told : (said : Option Message) → IfSome said IsMessage → IsTold (said_step (any_session serving_line) number state said)
   said_told None is = gate_told gate.Malformed tt _ (malformed_is number)
   said_told (Some message) is =
       answer_told message is (answer_to state.0 message) refl (answer_expected (kept_of state.0.sessions message.session) state.0.sessions message (before.kept message.session))
 
-  pub answers_messages : (line : List ℕ) → IsTold (session_step serving_line number state line)
+  pub answers_messages : (line : List ℕ) → IsTold (session_step (any_session serving_line) number state line)
   answers_messages line = said_told (message_in line) (message_within line)

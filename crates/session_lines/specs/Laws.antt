@@ -11,7 +11,7 @@ use Rattle.session_lines.specs.Answers.{Told, LineAnswer, told_of, after_said, a
 use Rattle.session_lines.specs.Lines.{NumberedLine, lines_in}
 use Rattle.session_lines.specs.Messages.{message_in}
 use Rattle.session_lines.specs.Served.{EndsLines, reply_by}
-use Rattle.session_lines.specs.Sessions.{new_sessions, session_step}
+use Rattle.session_lines.specs.Sessions.{any_session, new_sessions, session_step}
 
 abbrev pub is_first : Answer → Bool
 is_first First = true
@@ -98,11 +98,11 @@ pub record TellOnce (reply : Replies) (output : List ℕ → List ℕ) (input by
 -- What is written for an input is the text of the answers to it.
 abbrev pub OutputsAreAnswers : {S : Type 0} → (ℕ → S → List ℕ → List ℕ × S) → Type 0
 OutputsAreAnswers {S} step =
-    (start : S) (input : List ℕ) → output_of (session_step step) false (new_sessions start) input ≡ answers_text (answers_by (reply_by step start) input)
+    (start : S) (input : List ℕ) → output_of (session_step (any_session step)) false (new_sessions start) input ≡ answers_text (answers_by (reply_by step start) input)
 
 -- Where each answer to a body is the text of lines, what is written tells each message once; a mark
 -- is skipped at the start of the bodies as one input, or is not, since no body begins with one.
 abbrev pub OutputsTellOnce : {S : Type 0} → (ℕ → S → List ℕ → List ℕ × S) → Type 0
 OutputsTellOnce {S} step =
     EndsLines step → (skips : Bool) (start : S) (input : List ℕ)
-    → TellOnce (reply_by step start) (output_of step skips start) input (output_of (session_step step) false (new_sessions start) input)
+    → TellOnce (reply_by step start) (output_of step skips start) input (output_of (session_step (any_session step)) false (new_sessions start) input)

@@ -1,10 +1,12 @@
-//! Messages of many sessions to one way of answering lines: each line of an input is a message or
-//! none, and has one answer.
+//! Messages of many sessions to one way of answering their bodies: each line of an input is a
+//! message or none, and has one answer.
 #![tactic(auto)]
 
+mod bodies;
 pub mod laws;
 pub mod messages;
 mod sessions;
 pub mod texts;
 
+pub use bodies::AnswersMessages;
 pub use sessions::{SessionLines, kept_reply, without_feed};

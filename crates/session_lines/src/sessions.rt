@@ -10,6 +10,7 @@ ghost use Rattle.session_lines.specs.Served.{without_feed};
 ghost use Rattle.session_lines.specs.Sessions.{after_answered, after_message, new_sessions, said_step, session_step};
 ghost use Rattle.session_lines.specs.Standing.{StandsBefore, stands_behind};
 
+use crate::bodies::AnswersMessages;
 use crate::messages::{Sent, message};
 use crate::texts::{print_malformed, print_told};
 use live_lines::{LineAnswers, LineSteps};
@@ -20,12 +21,12 @@ use std::marker::Model;
 /// The known sessions, and what answers the bodies of their messages, each as the next line of one
 /// input.
 #[derive(Drop)]
-pub struct SessionLines<A: LineSteps> {
+pub struct SessionLines<A: AnswersMessages> {
     gate: Gate,
     bodies: A,
 }
 
-impl<A: LineSteps> Model for SessionLines<A> {
+impl<A: AnswersMessages> Model for SessionLines<A> {
     ghost use Rattle.session_lines.specs.Sessions.{SessionsState};
 
     ghost Value = { SessionsState A };
@@ -52,7 +53,7 @@ pub fn kept_reply(gate: &Gate, session: u32) -> &[u8]
     }
 }
 
-impl<A: LineSteps> SessionLines<A> {
+impl<A: AnswersMessages> SessionLines<A> {
     /// No session is known; what answers the bodies stands before its first line. Takes no memory.
     pub fn new(alloc: Global, bodies: A) -> Self
         ensures { result ≡ new_sessions bodies }
@@ -66,15 +67,16 @@ impl<A: LineSteps> SessionLines<A> {
     // Has the body of a message answered, and keeps the reply.
     fn take(&mut self, alloc: Global, sent: &Sent) -> Result<(), AllocError>
         requires few { self.old.0.served < MAX_LINES }
-        requires next { A.stands (self.old.0.served + 1) self.old.1 }
+        requires next { A.ready (self.old.0.served + 1) self.old.1 }
         requires number { IsNumber sent.now.number }
         requires body { IsTrue (is_body sent.now.body.now) }
-        ensures { OnOk result (self.new ≡ after_answered A.step self.old
+        ensures { OnOk result (self.new ≡ after_answered A.body_step self.old
             (message_of sent.now.session sent.now.number sent.now.body.now)) }
     {
+        let number = self.gate.served() + 1;
         let text = self
             .bodies
-            .answer(alloc, self.gate.served() + 1, sent.body)?;
+            .answer_body(alloc, sent.session, number, sent.body)?;
         self.gate
             .keep(sent.session, sent.number, sent.body, without_feed(text))
     }
@@ -87,10 +89,10 @@ impl<A: LineSteps> SessionLines<A> {
         sent: &Sent,
     ) -> Result<Vec<u8>, AllocError>
         requires few { self.old.0.served < MAX_LINES }
-        requires next { A.stands (self.old.0.served + 1) self.old.1 }
+        requires next { A.ready (self.old.0.served + 1) self.old.1 }
         requires number { IsNumber sent.now.number }
         requires body { IsTrue (is_body sent.now.body.now) }
-        ensures { IfOk result (λ text. (text.items, self.new) ≡ said_step A.step line self.old
+        ensures { IfOk result (λ text. (text.items, self.new) ≡ said_step A.body_step line self.old
             (Some (message_of sent.now.session sent.now.number sent.now.body.now))) }
     {
         let answer = self.gate.answer(sent.session, sent.number, sent.body);
@@ -107,10 +109,10 @@ impl<A: LineSteps> SessionLines<A> {
     }
 }
 
-impl<A: LineSteps> LineAnswers for SessionLines<A> {
-    ghost answers = { by_step (session_step A.step) };
+impl<A: AnswersMessages> LineAnswers for SessionLines<A> {
+    ghost answers = { by_step (session_step A.body_step) };
 
-    ghost stands = { StandsBefore A.stands };
+    ghost stands = { StandsBefore A.ready };
 
     fn answer(&mut self, alloc: Global, number: u32, line: &[u8]) -> Result<Vec<u8>, AllocError> {
         match message(line) {
@@ -119,11 +121,11 @@ impl<A: LineSteps> LineAnswers for SessionLines<A> {
         }
     }
 
-    ghost goes_on = { stands_behind A.answers A.step A.steps A.stands A.goes_on };
+    ghost goes_on = { stands_behind A.body_step A.ready A.stays_ready };
 }
 
-impl<A: LineSteps> LineSteps for SessionLines<A> {
-    ghost step = { session_step A.step };
+impl<A: AnswersMessages> LineSteps for SessionLines<A> {
+    ghost step = { session_step A.body_step };
 
     ghost steps = { λ _ _ _ _ _. (λ is. is, λ is. is) };
 }

@@ -7,7 +7,7 @@ use Rattle.program_words.specs.declared.requests.Served.{Served}
 use Rattle.program_words.specs.declared.requests.Served.TheVariants as served
 use Rattle.serve_lines.specs.Output.{serving_line}
 use Rattle.serve_lines.specs.ServingState.{ServingState, empty_serving}
-use Rattle.session_lines.specs.Sessions.{SessionsState, new_sessions, session_step}
+use Rattle.session_lines.specs.Sessions.{SessionsState, any_session, new_sessions, session_step}
 use Rattle.exchange_program.specs.Live.{WroteAnswers, WroteAnswersFront, served_output, skips_mark}
 use Rattle.exchange_program.proofs.AnsweredLive.{wrote, wrote_first, wrote_some}
 use Rattle.exchange_program.proofs.live.answer_live.Goals as goal
@@ -16,8 +16,8 @@ lines_are : (start : ServingState) → start ≡ empty_serving → (input : List
 lines_are start is input = ap (λ s. output_of serving_line true s input) is
 
 messages_are : (start : SessionsState ServingState) → start ≡ new_sessions empty_serving → (input : List ℕ)
-    → output_of (session_step serving_line) false start input ≡ served_output served.Sessions input
-messages_are start is input = ap (λ s. output_of (session_step serving_line) false s input) is
+    → output_of (session_step (any_session serving_line)) false start input ≡ served_output served.Sessions input
+messages_are start is input = ap (λ s. output_of (session_step (any_session serving_line)) false s input) is
 
 pub serve-requires-in-Sessions : goal.serve-requires-in-Sessions
 serve-requires-in-Sessions g c = (omega (arith, ap (λ (s : SessionsState ServingState). s.0.served) c.new-messages.ensures), tt)
@@ -43,7 +43,7 @@ pub returns-in-Sessions-clause-in_time : goal.returns-in-Sessions-clause-in_time
 returns-in-Sessions-clause-in_time g c =
     let Of : Served → Type 0 = λ kind. IsServedInTime (WroteAnswers kind) (skips_mark kind) (g.S.Source.left c.args.source.now) (g.K.Sink.written c.args.sink.now) (g.S.Source.last_read c.serve-in-Sessions.new.source) in
     subst Of (sym c.in-Sessions.is) (in_time_so false (g.S.Source.left c.args.source.now) (g.K.Sink.written c.args.sink.now) (g.S.Source.last_read c.serve-in-Sessions.new.source)
-    (λ known bytes. wrote (by_step (session_step serving_line)) (session_step serving_line) (λ number old line text new is. is) false c.new-messages.result served.Sessions (messages_are c.new-messages.result (c.new-messages.ensures ∙ ap new_sessions c.new-lines.ensures)) known bytes) c.serve-in-Sessions.ensures.in_time)
+    (λ known bytes. wrote (by_step (session_step (any_session serving_line))) (session_step (any_session serving_line)) (λ number old line text new is. is) false c.new-messages.result served.Sessions (messages_are c.new-messages.result (c.new-messages.ensures ∙ ap new_sessions c.new-lines.ensures)) known bytes) c.serve-in-Sessions.ensures.in_time)
 
 pub returns-in-Sessions-clause-served : goal.returns-in-Sessions-clause-served
 returns-in-Sessions-clause-served g c =
@@ -52,6 +52,6 @@ returns-in-Sessions-clause-served g c =
     (g.S.Source.taken c.args.source.now) (g.S.Source.taken c.serve-in-Sessions.new.source) in
     let Of : Served → Type 0 = λ kind. IsServed (WroteAnswers kind) (WroteAnswersFront kind) (WroteAnswersFront kind) (skips_mark kind) known counts c.serve-in-Sessions.result in
     subst Of (sym c.in-Sessions.is) (served_so false known counts c.serve-in-Sessions.result
-    (λ known bytes. wrote (by_step (session_step serving_line)) (session_step serving_line) (λ number old line text new is. is) false c.new-messages.result served.Sessions (messages_are c.new-messages.result (c.new-messages.ensures ∙ ap new_sessions c.new-lines.ensures)) known bytes)
-    (λ known bytes. wrote_some (by_step (session_step serving_line)) (session_step serving_line) (λ number old line text new is. is) false c.new-messages.result served.Sessions (messages_are c.new-messages.result (c.new-messages.ensures ∙ ap new_sessions c.new-lines.ensures)) known bytes)
-    (λ known bytes. wrote_first (by_step (session_step serving_line)) (session_step serving_line) (λ number old line text new is. is) false c.new-messages.result served.Sessions (messages_are c.new-messages.result (c.new-messages.ensures ∙ ap new_sessions c.new-lines.ensures)) known bytes) c.serve-in-Sessions.ensures.served)
+    (λ known bytes. wrote (by_step (session_step (any_session serving_line))) (session_step (any_session serving_line)) (λ number old line text new is. is) false c.new-messages.result served.Sessions (messages_are c.new-messages.result (c.new-messages.ensures ∙ ap new_sessions c.new-lines.ensures)) known bytes)
+    (λ known bytes. wrote_some (by_step (session_step (any_session serving_line))) (session_step (any_session serving_line)) (λ number old line text new is. is) false c.new-messages.result served.Sessions (messages_are c.new-messages.result (c.new-messages.ensures ∙ ap new_sessions c.new-lines.ensures)) known bytes)
+    (λ known bytes. wrote_first (by_step (session_step (any_session serving_line))) (session_step (any_session serving_line)) (λ number old line text new is. is) false c.new-messages.result served.Sessions (messages_are c.new-messages.result (c.new-messages.ensures ∙ ap new_sessions c.new-lines.ensures)) known bytes) c.serve-in-Sessions.ensures.served)

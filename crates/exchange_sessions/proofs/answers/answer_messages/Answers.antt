@@ -4,14 +4,14 @@ use Rattle.port_io.specs.Writes.{AppendsFront}
 use Rattle.exchange_core.specs.ExchangeState.{ExchangeState, empty_exchange}
 use Rattle.exchange_lines.specs.Output.{line_output}
 use Rattle.live_lines.specs.Output.{output_of}
-use Rattle.session_lines.specs.Sessions.{SessionsState, new_sessions, session_step}
+use Rattle.session_lines.specs.Sessions.{SessionsState, any_session, new_sessions, session_step}
 use Rattle.session_lines.proofs.SessionOutputs.{outputs_are_answers}
 use Rattle.exchange_sessions.specs.Answers.{sessions_output}
 use Rattle.exchange_sessions.proofs.answers.answer_messages.Goals as goal
 
 output_is : (start : SessionsState ExchangeState) (input : List ℕ) → start ≡ new_sessions empty_exchange
-    → output_of (session_step line_output) false start input ≡ sessions_output input
-output_is start input is = ap (λ s. output_of (session_step line_output) false s input) is ∙ outputs_are_answers line_output empty_exchange input
+    → output_of (session_step (any_session line_output)) false start input ≡ sessions_output input
+output_is start input is = ap (λ s. output_of (session_step (any_session line_output)) false s input) is ∙ outputs_are_answers line_output empty_exchange input
 
 pub answer_whole-requires-clause-first : goal.answer_whole-requires-clause-first
 answer_whole-requires-clause-first g c = (omega (arith, ap (λ (s : SessionsState ExchangeState). s.0.served) c.new-messages.ensures), tt)
