@@ -4,7 +4,7 @@ use Rattle.std.specs.Prelude.{Ok}
 use Rattle.std.specs.List.{All}
 use Rattle.std.proofs.lemmas.List.Elements.{All-cons, All-take, All-drop, All-from_get_or}
 use Rattle.arithmetic.proofs.Lists.{All-zip_right}
-use Rattle.exact_num.specs.Fraction.{Fraction, IsLowest, whole}
+use Rattle.exact_num.specs.Fraction.{Fraction, IsLowest}
 use Rattle.exact_num.proofs.After.{after_value}
 use Rattle.table_run.specs.Places.{at, fraction_zero}
 use Rattle.table_run.specs.Program.{LinearProgram}
