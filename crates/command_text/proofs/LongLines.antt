@@ -19,7 +19,7 @@ use Rattle.command_text.specs.Bundles.{side_in, fields_each, fault_or_syntax, bu
 use Rattle.command_text.specs.Fields.{first_of_many}
 use Rattle.command_text.specs.Numbers.{number_in, IsWithin as IsRead}
 use Rattle.command_text.specs.Trades.{balance_command, cancel_command, clear_command, deposit_command, market_command, open_command, settle_command, trade_command, with_some, withdraw_command}
-use Rattle.command_text.specs.Requests.{as_price, as_quote, book_request, close_request, margin_request, positions_request, price_request, quote_request, reopen_request}
+use Rattle.command_text.specs.Requests.{as_price, as_quote, book_request, close_request, margin_request, need_request, positions_request, price_request, quote_request, reopen_request, secure_request}
 use Rattle.command_text.specs.Said.{as_command, said_by, said_by_fields}
 use Rattle.command_text.specs.Words.{word_among}
 use Rattle.command_text.specs.declared.requests.Request.{Request}
@@ -133,6 +133,8 @@ same_by word.Price fields = same_read price_request (λ f many. ap (as_price (na
 same_by word.Margin fields = same_read margin_request (λ f many. exactly (length f) 4 _ (omega arith) many) fields
 same_by word.Book fields = same_read book_request (λ f many. exactly (length f) 2 _ (omega arith) many) fields
 same_by word.Positions fields = same_read positions_request (λ f many. exactly (length f) 3 _ (omega arith) many) fields
+same_by word.Secure fields = same_read secure_request (λ f many. exactly (length f) 2 _ (omega arith) many) fields
+same_by word.Need fields = same_read need_request (λ f many. exactly (length f) 2 _ (omega arith) many) fields
 same_by word.Close fields = same_read close_request (λ f many. exactly (length f) 2 _ (omega arith) many) fields
 same_by word.Reopen fields = same_read reopen_request (λ f many. exactly (length f) 2 _ (omega arith) many) fields
 same_by word.Propose fields = refl

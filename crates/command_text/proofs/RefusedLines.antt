@@ -290,6 +290,8 @@ word_is_refused word.Price fields = of_price (natural_in fields PRICED_QUANTITY)
 word_is_refused word.Margin fields = plain_is (length fields == 4) (ACCOUNT ∷ LISTED ∷ MARGIN_BUDGET ∷ []) fields _
 word_is_refused word.Book fields = plain_is (length fields == 2) (MARKET ∷ []) fields _
 word_is_refused word.Positions fields = plain_is (length fields == 3) (ACCOUNT ∷ LISTED ∷ []) fields _
+word_is_refused word.Secure fields = plain_is (length fields == 2) (ACCOUNT ∷ []) fields _
+word_is_refused word.Need fields = plain_is (length fields == 2) (ACCOUNT ∷ []) fields _
 word_is_refused word.Close fields = plain_is (length fields == 2) (MARKET ∷ []) fields _
 word_is_refused word.Reopen fields = plain_is (length fields == 2) (MARKET ∷ []) fields _
 word_is_refused word.Propose fields = refl

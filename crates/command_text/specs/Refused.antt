@@ -123,6 +123,8 @@ shape_by word.Price fields = option_shape 5 PRICED fields
 shape_by word.Margin fields = plain_shape 4 (ACCOUNT ∷ LISTED ∷ MARGIN_BUDGET ∷ []) fields
 shape_by word.Book fields = plain_shape 2 (MARKET ∷ []) fields
 shape_by word.Positions fields = plain_shape 3 (ACCOUNT ∷ LISTED ∷ []) fields
+shape_by word.Secure fields = plain_shape 2 (ACCOUNT ∷ []) fields
+shape_by word.Need fields = plain_shape 2 (ACCOUNT ∷ []) fields
 shape_by word.Close fields = plain_shape 2 (MARKET ∷ []) fields
 shape_by word.Reopen fields = plain_shape 2 (MARKET ∷ []) fields
 shape_by word.Propose fields = record { sized = false; reads = []; beyond = None }

@@ -71,6 +71,16 @@ positions_request fields =
     then unless (fault_in 0 (ACCOUNT ∷ LISTED ∷ []) fields) (request.Positions (natural_in fields ACCOUNT) (natural_in fields LISTED))
     else Err Syntax
 
+-- secure,ACCOUNT
+abbrev pub secure_request : List (List ℕ) → Result Request Fault
+secure_request fields =
+    if length fields == 2 then unless (fault_in 0 (ACCOUNT ∷ []) fields) (request.Secure (natural_in fields ACCOUNT)) else Err Syntax
+
+-- need,ACCOUNT
+abbrev pub need_request : List (List ℕ) → Result Request Fault
+need_request fields =
+    if length fields == 2 then unless (fault_in 0 (ACCOUNT ∷ []) fields) (request.Need (natural_in fields ACCOUNT)) else Err Syntax
+
 -- close,MARKET
 abbrev pub close_request : List (List ℕ) → Result Request Fault
 close_request fields =

@@ -2,7 +2,7 @@
 use Rattle.std.specs.Prelude.{ℕ, List, [], ◌∷◌, codes, Bool, true, false, Option, Some, None, if◌then◌else◌}
 use Rattle.std.specs.Str.{bytes_eq}
 use Rattle.command_text.specs.declared.words.LineWord.{LineWord}
-use Rattle.command_text.specs.declared.words.LineWord.TheVariants.{Open, Deposit, Withdraw, Market, Buy, Sell, Bundle, Cancel, Clear, Settle, Balance, Quote, Price, Margin, Book, Positions, Close, Reopen, Propose}
+use Rattle.command_text.specs.declared.words.LineWord.TheVariants.{Open, Deposit, Withdraw, Market, Buy, Sell, Bundle, Cancel, Clear, Settle, Balance, Quote, Price, Margin, Book, Positions, Secure, Need, Close, Reopen, Propose}
 
 abbrev pub word_text : LineWord → List ℕ
 word_text Open = codes "open"
@@ -21,6 +21,8 @@ word_text Price = codes "price"
 word_text Margin = codes "margin"
 word_text Book = codes "book"
 word_text Positions = codes "positions"
+word_text Secure = codes "secure"
+word_text Need = codes "need"
 word_text Close = codes "close"
 word_text Reopen = codes "reopen"
 word_text Propose = codes "propose"

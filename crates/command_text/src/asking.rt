@@ -3,7 +3,7 @@ ghost use Rattle.std.specs.Prelude.{◌≡◌, ◌≤◌, ◌<◌, ◌+◌, ◌=
 ghost use Rattle.std.specs.List.{All};
 ghost use Rattle.command_text.specs.Asked.{IsAsked};
 ghost use Rattle.command_text.specs.Numbers.{IsWithin};
-ghost use Rattle.command_text.specs.Requests.{book_request, close_request, margin_request, option_request, positions_request, price_request, propose_request, proposed_for, proposed_text, quote_request, reopen_request, strike_at};
+ghost use Rattle.command_text.specs.Requests.{book_request, close_request, margin_request, need_request, option_request, positions_request, price_request, propose_request, proposed_for, proposed_text, quote_request, reopen_request, secure_request, strike_at};
 
 use crate::asked::{Asked, Fault, first_fault, first_of, natural, text_at, value};
 use crate::numbers::{NumberRead, number};
@@ -110,6 +110,20 @@ pub(crate) fn positions_request(fields: &[&[u8]]) -> Result<Request, Fault>
             market: natural(fields, LISTED) as u32,
         }),
     }
+}
+
+pub(crate) fn secure_request(fields: &[&[u8]]) -> Result<Request, Fault>
+    ensures { result ≡ secure_request (map (λ f. f.now) fields.now) }
+{
+    let account = one_number(fields, ACCOUNT)? as u32;
+    Ok(Request::Secure { account })
+}
+
+pub(crate) fn need_request(fields: &[&[u8]]) -> Result<Request, Fault>
+    ensures { result ≡ need_request (map (λ f. f.now) fields.now) }
+{
+    let account = one_number(fields, ACCOUNT)? as u32;
+    Ok(Request::Need { account })
 }
 
 pub(crate) fn close_request(fields: &[&[u8]]) -> Result<Request, Fault>

@@ -61,6 +61,10 @@ pub enum Request {
     Book { market: u32 },
     /// The positions of an account in a market.
     Positions { account: u32, market: u32 },
+    /// That an account is secured from here on.
+    Secure { account: u32 },
+    /// What an account needs.
+    Need { account: u32 },
     /// That no order of a market comes or goes before it is cleared.
     Close { market: u32 },
     /// That they may again.

@@ -8,8 +8,8 @@ ghost use Rattle.command_text.specs.Within.{IsInside, RequestIsWithin};
 
 use crate::asked::{Fault, text_at};
 use crate::asking::{
-    book_request, close_request, margin_request, positions_request, price_request, propose_request,
-    proposed_text, quote_request, reopen_request,
+    book_request, close_request, margin_request, need_request, positions_request, price_request,
+    propose_request, proposed_text, quote_request, reopen_request, secure_request,
 };
 use crate::bundles::bundle;
 use crate::command::Command;
@@ -55,6 +55,8 @@ fn said_by(
         LineWord::Margin => margin_request(fields),
         LineWord::Book => book_request(fields),
         LineWord::Positions => positions_request(fields),
+        LineWord::Secure => secure_request(fields),
+        LineWord::Need => need_request(fields),
         LineWord::Close => close_request(fields),
         LineWord::Reopen => reopen_request(fields),
         LineWord::Propose => Err(Fault::Syntax),

@@ -5,8 +5,8 @@ ghost use Rattle.std.specs.List.{list_any};
 ghost use Rattle.command_text.specs.Words.{is_propose, word_among, word_text};
 
 use LineWord::{
-    Balance, Book, Bundle, Buy, Cancel, Clear, Close, Deposit, Margin, Market, Open, Positions,
-    Price, Propose, Quote, Reopen, Sell, Settle, Withdraw,
+    Balance, Book, Bundle, Buy, Cancel, Clear, Close, Deposit, Margin, Market, Need, Open,
+    Positions, Price, Propose, Quote, Reopen, Secure, Sell, Settle, Withdraw,
 };
 
 /// The word of a line.
@@ -28,6 +28,8 @@ pub enum LineWord {
     Margin,
     Book,
     Positions,
+    Secure,
+    Need,
     Close,
     Reopen,
     Propose,
@@ -49,9 +51,9 @@ pub const GUARDED: [LineWord; 12] = [
 ];
 
 /// Those that `serve` takes.
-pub const SERVED: [LineWord; 19] = [
+pub const SERVED: [LineWord; 21] = [
     Open, Deposit, Withdraw, Market, Buy, Sell, Bundle, Cancel, Clear, Settle, Balance, Quote,
-    Price, Margin, Book, Positions, Close, Reopen, Propose,
+    Price, Margin, Book, Positions, Secure, Need, Close, Reopen, Propose,
 ];
 
 impl LineWord {
@@ -76,6 +78,8 @@ impl LineWord {
             Margin => b"margin",
             Book => b"book",
             Positions => b"positions",
+            Secure => b"secure",
+            Need => b"need",
             Close => b"close",
             Reopen => b"reopen",
             Propose => b"propose",

@@ -48,6 +48,8 @@ module _ (number : ℕ) (state : ExchangeState) (heard : Body) where
   said_as_run (Ok (asks.Margin request)) is = by_margin (Ok (asks.Margin request)) is
   said_as_run (Ok (asks.Book market)) is = by_margin (Ok (asks.Book market)) is
   said_as_run (Ok (asks.Positions account market)) is = by_margin (Ok (asks.Positions account market)) is
+  said_as_run (Ok (asks.Secure account)) is = by_margin (Ok (asks.Secure account)) is
+  said_as_run (Ok (asks.Need account)) is = by_margin (Ok (asks.Need account)) is
   said_as_run (Ok (asks.Close market)) is = by_margin (Ok (asks.Close market)) is
   said_as_run (Ok (asks.Reopen market)) is = by_margin (Ok (asks.Reopen market)) is
   said_as_run (Ok (asks.Propose request)) is = by_margin (Ok (asks.Propose request)) is

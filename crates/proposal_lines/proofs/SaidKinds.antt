@@ -75,6 +75,10 @@ module _ (P : Result Request Fault → Type 0)
       other (Ok (asks.Price request)) (record { served = λ number state line. refl; reading = λ number exchange. refl; says = inr (λ c e. cc) })
   by_kind (Ok (asks.Margin request)) =
       other (Ok (asks.Margin request)) (record { served = λ number state line. refl; reading = λ number exchange. refl; says = inr (λ c e. cc) })
+  by_kind (Ok (asks.Secure account)) =
+      other (Ok (asks.Secure account)) (record { served = λ number state line. refl; reading = λ number exchange. refl; says = inr (λ c e. cc) })
+  by_kind (Ok (asks.Need account)) =
+      other (Ok (asks.Need account)) (record { served = λ number state line. refl; reading = λ number exchange. refl; says = inr (λ c e. cc) })
   by_kind (Ok (asks.Close market)) =
       other (Ok (asks.Close market)) (record { served = λ number state line. refl; reading = λ number exchange. refl; says = inr (λ c e. cc) })
   by_kind (Ok (asks.Reopen market)) =

@@ -189,6 +189,8 @@ shapes_have word.Price fields = option_places 5 _ fields (omega arith, omega ari
 shapes_have word.Margin fields = places_are (shape_by word.Margin fields) (second, (third, (fourth, tt))) tt
 shapes_have word.Book fields = places_are (shape_by word.Book fields) (second, tt) tt
 shapes_have word.Positions fields = places_are (shape_by word.Positions fields) (second, (third, tt)) tt
+shapes_have word.Secure fields = places_are (shape_by word.Secure fields) (second, tt) tt
+shapes_have word.Need fields = places_are (shape_by word.Need fields) (second, tt) tt
 shapes_have word.Close fields = places_are (shape_by word.Close fields) (second, tt) tt
 shapes_have word.Reopen fields = places_are (shape_by word.Reopen fields) (second, tt) tt
 shapes_have word.Propose fields = record { reads = All-nil IsRead; beyond = tt }
@@ -269,6 +271,8 @@ said_has (Ok (asks.Price request)) h = tt
 said_has (Ok (asks.Margin request)) h = tt
 said_has (Ok (asks.Book market)) h = tt
 said_has (Ok (asks.Positions account market)) h = tt
+said_has (Ok (asks.Secure account)) h = tt
+said_has (Ok (asks.Need account)) h = tt
 said_has (Ok (asks.Close market)) h = tt
 said_has (Ok (asks.Reopen market)) h = tt
 said_has (Ok (asks.Propose request)) h = tt

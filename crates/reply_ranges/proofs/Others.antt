@@ -226,6 +226,8 @@ module _ (lines number : ℕ) (few : lines + 1 ≤ MAX_LINES) (is_line : IsLine 
   said_served (Ok (asks.Margin request)) within placed = margin_served request within
   said_served (Ok (asks.Book market)) within placed = plain_served body.Syntax tt tt
   said_served (Ok (asks.Positions account market)) within placed = plain_served body.Syntax tt tt
+  said_served (Ok (asks.Secure account)) within placed = plain_served body.Syntax tt tt
+  said_served (Ok (asks.Need account)) within placed = plain_served body.Syntax tt tt
   said_served (Ok (asks.Close market)) within placed = plain_served body.Syntax tt tt
   said_served (Ok (asks.Reopen market)) within placed = plain_served body.Syntax tt tt
   said_served (Ok (asks.Propose request)) within placed = plain_served body.Syntax tt tt

@@ -122,6 +122,8 @@ module _ (number : ℕ) (state : ServingState) (few : number ≤ MAX_LINES) (sta
     said_serving (Ok (asks.Quote request)) is within = handed_served (Ok (asks.Quote request)) is None
     said_serving (Ok (asks.Price request)) is within = handed_served (Ok (asks.Price request)) is None
     said_serving (Ok (asks.Margin request)) is within = handed_served (Ok (asks.Margin request)) is None
+    said_serving (Ok (asks.Secure account)) is within = handed_served (Ok (asks.Secure account)) is None
+    said_serving (Ok (asks.Need account)) is within = handed_served (Ok (asks.Need account)) is None
     said_serving (Ok (asks.Book market)) is within = handed_served (Ok (asks.Book market)) is None
     said_serving (Ok (asks.Positions account market)) is within = handed_served (Ok (asks.Positions account market)) is None
     said_serving (Ok (asks.Propose request)) is within = handed_served (Ok (asks.Propose request)) is None

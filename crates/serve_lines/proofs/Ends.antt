@@ -41,6 +41,8 @@ module _ (number : ℕ) (state : ServingState) (line : List ℕ) where
   said_ends (Ok (asks.Quote request)) is = handed_ends (Ok (asks.Quote request)) is None
   said_ends (Ok (asks.Price request)) is = handed_ends (Ok (asks.Price request)) is None
   said_ends (Ok (asks.Margin request)) is = handed_ends (Ok (asks.Margin request)) is None
+  said_ends (Ok (asks.Secure account)) is = handed_ends (Ok (asks.Secure account)) is None
+  said_ends (Ok (asks.Need account)) is = handed_ends (Ok (asks.Need account)) is None
   said_ends (Ok (asks.Book market)) is = handed_ends (Ok (asks.Book market)) is None
   said_ends (Ok (asks.Positions account market)) is = handed_ends (Ok (asks.Positions account market)) is None
   said_ends (Ok (asks.Propose request)) is = handed_ends (Ok (asks.Propose request)) is None

@@ -156,6 +156,10 @@ module _ (market : ℕ) (state : ServingState) (sound : IsSound state.proposing)
       left_stands number line (Ok (asks.Price request)) (other_leaves number exchange (Ok (asks.Price request)) (λ c e. cc))
   said_line_stands number line (Ok (asks.Margin request)) elsewhere =
       left_stands number line (Ok (asks.Margin request)) (other_leaves number exchange (Ok (asks.Margin request)) (λ c e. cc))
+  said_line_stands number line (Ok (asks.Secure account)) elsewhere =
+      left_stands number line (Ok (asks.Secure account)) (other_leaves number exchange (Ok (asks.Secure account)) (λ c e. cc))
+  said_line_stands number line (Ok (asks.Need account)) elsewhere =
+      left_stands number line (Ok (asks.Need account)) (other_leaves number exchange (Ok (asks.Need account)) (λ c e. cc))
   said_line_stands number line (Ok (asks.Book other)) elsewhere = left_stands number line (Ok (asks.Book other)) refl
   said_line_stands number line (Ok (asks.Positions account other)) elsewhere = left_stands number line (Ok (asks.Positions account other)) refl
   said_line_stands number line (Ok (asks.Propose request)) elsewhere =

@@ -112,6 +112,8 @@ module _ (line : InputLine) (state : ServingState) (sound : IsSound state.propos
   said_told (Ok (asks.Quote request)) is = handed_told (Ok (asks.Quote request)) is None
   said_told (Ok (asks.Price request)) is = handed_told (Ok (asks.Price request)) is None
   said_told (Ok (asks.Margin request)) is = handed_told (Ok (asks.Margin request)) is None
+  said_told (Ok (asks.Secure account)) is = handed_told (Ok (asks.Secure account)) is None
+  said_told (Ok (asks.Need account)) is = handed_told (Ok (asks.Need account)) is None
   said_told (Ok (asks.Book market)) is = handed_told (Ok (asks.Book market)) is None
   said_told (Ok (asks.Positions account market)) is = handed_told (Ok (asks.Positions account market)) is None
   said_told (Ok (asks.Propose request)) is = handed_told (Ok (asks.Propose request)) is None

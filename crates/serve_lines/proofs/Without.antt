@@ -58,6 +58,8 @@ module _ (number : ℕ) (state : ProposingState) (line : List ℕ) where
   said_alone (Ok (asks.Quote request)) closes reopens = handed_alone (Ok (asks.Quote request)) None
   said_alone (Ok (asks.Price request)) closes reopens = handed_alone (Ok (asks.Price request)) None
   said_alone (Ok (asks.Margin request)) closes reopens = handed_alone (Ok (asks.Margin request)) None
+  said_alone (Ok (asks.Secure account)) closes reopens = handed_alone (Ok (asks.Secure account)) None
+  said_alone (Ok (asks.Need account)) closes reopens = handed_alone (Ok (asks.Need account)) None
   said_alone (Ok (asks.Book market)) closes reopens = handed_alone (Ok (asks.Book market)) None
   said_alone (Ok (asks.Positions account market)) closes reopens = handed_alone (Ok (asks.Positions account market)) None
   said_alone (Ok (asks.Propose request)) closes reopens = handed_alone (Ok (asks.Propose request)) None
