@@ -104,7 +104,7 @@ module _ (owners : Owned) (session : ℕ) (state : ExchangeState) where
   one_entry entry may = record { added = entry ∷ []; joined = refl; each = All-cons (IsEntryBy owners session) entry [] may (All-nil (IsEntryBy owners session)) }
 
   -- nothing is changed, or an account is opened
-  unmoved : (command : Command) → ByRule command state
+  pub unmoved : (command : Command) → ByRule command state
   unmoved command = record {
     entries = no_entries;
     placed = were_live;

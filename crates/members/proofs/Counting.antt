@@ -22,7 +22,7 @@ use Rattle.members.specs.declared.refusal.MemberRefusal.{MemberRefusal}
 use Rattle.members.specs.declared.refusal.MemberRefusal.TheVariants.{NotAllowed, Quota}
 
 -- what is counted of each session, as something else is counted of one
-counted_after : (session : ℕ) (new : Counted) (q : ℕ) (counts : AllCounted) → counted_of (insert_entry nat_eq counts session new) q ≡ cond (nat_eq q session) new (counted_of counts q)
+pub counted_after : (session : ℕ) (new : Counted) (q : ℕ) (counts : AllCounted) → counted_of (insert_entry nat_eq counts session new) q ≡ cond (nat_eq q session) new (counted_of counts q)
 counted_after session new q counts =
     ap (λ (found : Option Counted). unwrap_or found none_counted) (lookup-insert_entry {X = Counted} session new counts q) ∙ by (nat_eq q session)
   where

@@ -14,4 +14,5 @@ others_are_told_nothing owners session account other member =
       balance = (no, no);
       positions = λ market. (no, no);
       margin = λ request is. (refl, subst (λ a. (owns owners session a || is_operator session) ≡ false) (sym is) no);
+      need = (refl, no);
     }

@@ -122,6 +122,7 @@ pub record IsToldNothing (owners : Owned) (session account : ℕ) : Type 0 where
   pub balance : MayNotSay owners session (asks.Command (Balance account))
   pub positions : (market : ℕ) → MayNotSay owners session (asks.Positions account market)
   pub margin : (request : MarginRequest) → request.account ≡ account → MayNotSay owners session (asks.Margin request)
+  pub need : MayNotSay owners session (asks.Need account)
 
 -- of an account its owner is told, and the operator, and no other
 abbrev pub OthersAreToldNothing : Type 0

@@ -73,6 +73,14 @@ pub record RuleByHand : Type 0 where
   pub margin : is_allowed placed.members.owners 12 (asks.Margin own_margin) ≡ false
   pub margin_asked : may_ask placed.members.owners 12 (asks.Margin own_margin) ≡ true
   pub margin_of_another : may_ask placed.members.owners 13 (asks.Margin own_margin) ≡ false
+  pub need : is_allowed placed.members.owners 12 (asks.Need 7) ≡ false
+  pub need_asked : may_ask placed.members.owners 12 (asks.Need 7) ≡ true
+  pub need_of_another : may_ask placed.members.owners 13 (asks.Need 7) ≡ false
+  pub need_by_operator : may_ask placed.members.owners 1 (asks.Need 7) ≡ true
+  -- an account is secured by its owner
+  pub secure : is_allowed placed.members.owners 12 (asks.Secure 7) ≡ true
+  pub secure_another : is_allowed placed.members.owners 13 (asks.Secure 7) ≡ false
+  pub secure_by_operator : is_allowed placed.members.owners 1 (asks.Secure 7) ≡ false
   -- one operator's session more than there are
   pub tenth : refusal_to placed (Said 10 (Clear 1 100)) ≡ Some NotAllowed
 

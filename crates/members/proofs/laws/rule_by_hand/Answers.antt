@@ -32,5 +32,12 @@ returns c = record {
   margin = refl;
   margin_asked = refl;
   margin_of_another = refl;
+  need = refl;
+  need_asked = refl;
+  need_of_another = refl;
+  need_by_operator = refl;
+  secure = refl;
+  secure_another = refl;
+  secure_by_operator = refl;
   tenth = refl;
 }
