@@ -10,7 +10,7 @@ use Rattle.limits.specs.declared.TheConstants.{MAX_SESSION, MAX_MESSAGE}
 use Rattle.reply_print.specs.declared.replies.Reply.{Reply}
 use Rattle.reply_print.specs.declared.replies.Reply.TheVariants.{Opened, Deposited, Withdrawn, Listed, Placed, Cancelled, Cleared as ClearedReply, Settled, Balance, Refused}
 use Rattle.reply_print.specs.BatchPieces.{natural}
-use Rattle.reply_print.specs.Piece.{Piece, Fields, whole, words, list, object, no_fields, field, comma_after, piece_text, fields_text}
+use Rattle.reply_print.specs.Piece.{Piece, Fields, whole, words, truth, list, object, no_fields, field, comma_after, piece_text, fields_text}
 use Rattle.reply_print.specs.PieceData.{piece_data}
 use Rattle.reply_print.specs.ReplyPieces.{reply_piece}
 use Rattle.reply_print.specs.Written.{IsWritten}
@@ -146,6 +146,7 @@ abbrev IsObject : Piece → Type 0
 IsObject (object fs) = Unit {0}
 IsObject (whole z) = ⊥
 IsObject (words text) = ⊥
+IsObject (truth yes) = ⊥
 IsObject (list ps) = ⊥
 
 run_object : (line : ℕ) (reply : Reply) → IsObject (reply_piece line reply)
@@ -185,6 +186,7 @@ object_data : (p : Piece) → IsObject p → is_object (piece_data p) ≡ true
 object_data (object fs) h = refl
 object_data (whole z) h = absurd h
 object_data (words text) h = absurd h
+object_data (truth yes) h = absurd h
 object_data (list ps) h = absurd h
 
 -- the last byte is a closing brace
@@ -210,6 +212,7 @@ object_braced : (p : Piece) → IsObject p → is_braced (piece_text p) ≡ true
 object_braced (object fs) h = last_is (fields_text false fs) (fields_end false fs)
 object_braced (whole z) h = absurd h
 object_braced (words text) h = absurd h
+object_braced (truth yes) h = absurd h
 object_braced (list ps) h = absurd h
 
 -- ---- lines of `serve`

@@ -11,7 +11,7 @@ use Rattle.reply_print.specs.ReplyPieces.{reply_piece, reply_line}
 use Rattle.reply_print.specs.Within.{IsWithin}
 use Rattle.reply_print.proofs.WrittenReplies.{written}
 use Rattle.json.proofs.Printed.Utf8.{are_ascii, IsUtf8-are_ascii}
-use Rattle.reply_print.specs.Piece.{Piece, whole, words, list, object, Pieces, no_pieces, piece, Fields, no_fields, field, piece_text, pieces_text, fields_text, comma_after}
+use Rattle.reply_print.specs.Piece.{Piece, whole, words, truth, list, object, Pieces, no_pieces, piece, Fields, no_fields, field, piece_text, pieces_text, fields_text, comma_after}
 use Rattle.reply_print.specs.Written.{is_plain, is_plain_byte, IsWritten, AreWritten, HasWritten}
 use Rattle.std.specs.Fmt.{signed_decimal}
 use Rattle.reply_print.proofs.Digits.{plain-signed_decimal}
@@ -42,6 +42,8 @@ mutual
   printed-piece : (n : ℕ) (p : Piece) → IsWritten n p → are_printed (piece_text p) ≡ true
   printed-piece n (whole z) h = printed-plain (signed_decimal z) (plain-signed_decimal z)
   printed-piece n (words s) h = printed-append s (34 ∷ []) (printed-plain s h) refl
+  printed-piece n (truth true) h = refl
+  printed-piece n (truth false) h = refl
   printed-piece zero (list ps) h = absurd h
   printed-piece (suc n) (list ps) h = printed-pieces n false ps h
   printed-piece zero (object fs) h = absurd h

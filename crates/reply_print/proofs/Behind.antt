@@ -5,7 +5,7 @@ use Rattle.sign_tree.specs.declared.trees.Node.{Node}
 use Rattle.sign_tree.specs.declared.trees.Multiplier.{Multiplier}
 use Rattle.reply_print.specs.BatchPieces.{pieces_of}
 use Rattle.reply_print.specs.OutcomePieces.{count_of, node_piece, node_pieces}
-use Rattle.reply_print.specs.Piece.{Piece, whole, words, list, object, Pieces, no_pieces, piece, Fields, no_fields, field, comma_after, piece_text, pieces_text, fields_text}
+use Rattle.reply_print.specs.Piece.{Piece, whole, words, truth, list, object, Pieces, no_pieces, piece, Fields, no_fields, field, comma_after, piece_text, pieces_text, fields_text}
 
 -- what stands ahead of a key
 opened : (old key : List ℕ) (later : Bool) (rest : List ℕ)
@@ -58,6 +58,7 @@ all_items f xs i old start mid new later all s m n =
 abbrev pub fields_of : Piece → Fields
 fields_of (whole z) = no_fields
 fields_of (words s) = no_fields
+fields_of (truth b) = no_fields
 fields_of (list ps) = no_fields
 fields_of (object fs) = fs
 

@@ -1,7 +1,7 @@
 -- The compact text of the value of a piece is its text.
 use Rattle.std.proofs.Common.{◌≡◌, ℕ, pos, negsuc, List, [], ◌∷◌, ◌++◌, Bool, true, false, refl, ap}
 use Rattle.serde_json.specs.Written.{compact_text, items_text, members_text}
-use Rattle.reply_print.specs.Piece.{Piece, whole, words, list, object, Pieces, no_pieces, piece, Fields, no_fields, field, comma_after, piece_text, pieces_text, fields_text}
+use Rattle.reply_print.specs.Piece.{Piece, whole, words, truth, list, object, Pieces, no_pieces, piece, Fields, no_fields, field, comma_after, piece_text, pieces_text, fields_text}
 use Rattle.reply_print.specs.PieceData.{piece_data, pieces_data, fields_data}
 use Rattle.reply_print.proofs.Plain.{escape-plain}
 use Rattle.reply_print.proofs.PlainPieces.{HasPlainTexts, HavePlainTexts, HasPlainFields}
@@ -11,6 +11,8 @@ mutual
   compact-piece (whole (pos z)) h = refl
   compact-piece (whole (negsuc z)) h = refl
   compact-piece (words s) h = ap (λ (l : List ℕ). 34 ∷ (l ++ 34 ∷ [])) (escape-plain s h)
+  compact-piece (truth true) h = refl
+  compact-piece (truth false) h = refl
   compact-piece (list ps) h = ap (λ (l : List ℕ). 91 ∷ l) (compact-pieces false ps h)
   compact-piece (object fs) h = ap (λ (l : List ℕ). 123 ∷ l) (compact-fields false fs h)
 

@@ -4,7 +4,7 @@ use Rattle.serde_json.specs.Read.{read}
 use Rattle.serde_json.specs.Written.{compact_text, has_float, items_have_float, members_have_float}
 use Rattle.reply_print.specs.declared.replies.Reply.{Reply}
 use Rattle.serde_json.specs.Data.{Data}
-use Rattle.reply_print.specs.Piece.{Piece, whole, words, list, object, Pieces, no_pieces, piece, Fields, no_fields, field, piece_text}
+use Rattle.reply_print.specs.Piece.{Piece, whole, words, truth, list, object, Pieces, no_pieces, piece, Fields, no_fields, field, piece_text}
 use Rattle.reply_print.specs.PieceData.{piece_data, pieces_data, fields_data}
 use Rattle.reply_print.specs.ReplyPieces.{reply_piece, reply_line}
 use Rattle.reply_print.specs.Within.{IsWithin}
@@ -27,6 +27,7 @@ mutual
   no_float (whole (pos n)) = refl
   no_float (whole (negsuc n)) = refl
   no_float (words s) = refl
+  no_float (truth b) = refl
   no_float (list ps) = no_floats ps
   no_float (object fs) = no_member_float fs
 

@@ -28,7 +28,7 @@ use Rattle.reply_print.specs.declared.replies.Reply.{Reply}
 use Rattle.reply_print.specs.declared.replies.Reply.TheVariants.{Opened, Deposited, Withdrawn, Listed, Placed, Cancelled, Cleared, Settled, Balance, Refused}
 use Rattle.reply_print.specs.BatchPieces.{whole_words, fraction, pieces_of, leg_piece, order_with, order_piece, are_single}
 use Rattle.reply_print.specs.OutcomePieces.{state_entries, point_piece, multiplier_piece, node_piece, node_pieces, cover_piece, certificate_piece, wide_piece, wide_field, count_of}
-use Rattle.reply_print.specs.Piece.{Piece, whole, words, list, object, Pieces, no_pieces, piece, Fields, no_fields, field}
+use Rattle.reply_print.specs.Piece.{Piece, whole, words, truth, list, object, Pieces, no_pieces, piece, Fields, no_fields, field}
 use Rattle.reply_print.specs.ReplyPieces.{reply_piece, signed_amount, paid_piece, refused_with, cleared_with, cleared_middle, cleared_end}
 use Rattle.reply_print.specs.Words.{reason_word, mark_word, operator_word}
 use Rattle.form.specs.Sides.{side_word}
@@ -40,6 +40,7 @@ abbrev mutual
   pub HasPlainTexts : Piece → Type 0
   HasPlainTexts (whole z) = Unit {0}
   HasPlainTexts (words s) = is_plain s ≡ true
+  HasPlainTexts (truth b) = Unit {0}
   HasPlainTexts (list ps) = HavePlainTexts ps
   HasPlainTexts (object fs) = HasPlainFields fs
 

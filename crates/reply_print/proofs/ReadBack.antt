@@ -18,7 +18,7 @@ use Rattle.serde_json.specs.Read.{read, max_depth, of_json, of_items, of_members
 use Rattle.serde_json.specs.Written.{outline, items_outline, members_outline}
 use Rattle.serde_json.proofs.Numbers.{number_of-decimal, number_of-negative}
 use Rattle.serde_json.proofs.Texts.{print-outline}
-use Rattle.reply_print.specs.Piece.{Piece, whole, words, list, object, Pieces, no_pieces, piece, Fields, no_fields, field, piece_text}
+use Rattle.reply_print.specs.Piece.{Piece, whole, words, truth, list, object, Pieces, no_pieces, piece, Fields, no_fields, field, piece_text}
 use Rattle.reply_print.specs.PieceData.{piece_data, pieces_data, fields_data}
 use Rattle.reply_print.specs.Written.{is_after, are_rising, IsWritten, AreWritten, HasWritten}
 use Rattle.reply_print.proofs.Compact.{compact-piece}
@@ -64,6 +64,7 @@ mutual
   has_numbers n (whole (pos z)) h = IsNumber-decimal z (omega (arith, ltb-true z (2 ^ 63) h))
   has_numbers n (whole (negsuc z)) h = IsNumber-signed_decimal (negsuc z) (omega (arith, ltb-true (suc z) (2 ^ 63) h))
   has_numbers n (words s) h = tt
+  has_numbers n (truth b) h = tt
   has_numbers zero (list ps) h = absurd h
   has_numbers (suc n) (list ps) h = items_have_numbers n ps h
   has_numbers zero (object fs) h = absurd h
@@ -82,6 +83,7 @@ mutual
   levels n (whole (pos z)) h = omega arith
   levels n (whole (negsuc z)) h = omega arith
   levels n (words s) h = omega arith
+  levels n (truth b) h = omega arith
   levels zero (list ps) h = absurd h
   levels (suc n) (list ps) h = omega (arith, items_levels n ps h)
   levels zero (object fs) h = absurd h
@@ -100,6 +102,7 @@ mutual
   of_outline n (whole (pos z)) h = ap (option_map number) (number_of-decimal z (omega (arith, ltb-true z (2 ^ 63) h)))
   of_outline n (whole (negsuc z)) h = ap (option_map number) (number_of-negative z (omega (arith, ltb-true (suc z) (2 ^ 63) h)))
   of_outline n (words s) h = refl
+  of_outline n (truth b) h = refl
   of_outline zero (list ps) h = absurd h
   of_outline (suc n) (list ps) h = ap (option_map array) (of_items_outline n ps h)
   of_outline zero (object fs) h = absurd h

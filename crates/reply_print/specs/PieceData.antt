@@ -1,5 +1,5 @@
 -- The JSON value of what a line is made of.
-use Rattle.serde_json.specs.Data.{Data, number, string, array, object, Items, no_items, item, Members, no_members, member}
+use Rattle.serde_json.specs.Data.{Data, boolean, number, string, array, object, Items, no_items, item, Members, no_members, member}
 use Rattle.serde_json.specs.Find.{of_integer}
 use Rattle.reply_print.specs.Piece as piece
 use Rattle.reply_print.specs.Piece.{Piece, Pieces, Fields}
@@ -8,6 +8,7 @@ abbrev mutual
   pub piece_data : Piece → Data
   piece_data (piece.whole z) = number (of_integer z)
   piece_data (piece.words s) = string s
+  piece_data (piece.truth b) = boolean b
   piece_data (piece.list ps) = array (pieces_data ps)
   piece_data (piece.object fs) = object (fields_data fs)
 

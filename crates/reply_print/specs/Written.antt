@@ -3,7 +3,7 @@ use Rattle.std.specs.Prelude.{◌≡◌, ℕ, zero, suc, ◌^◌, ℤ, pos, negs
 use Rattle.std.specs.List.{list_all}
 use Rattle.std.specs.Ordering.{nat_cmp, match_ordering}
 use Rattle.std.specs.Cmp.Lexicographic.{slice_cmp}
-use Rattle.reply_print.specs.Piece.{Piece, whole, words, list, object, Pieces, no_pieces, piece, Fields, no_fields, field}
+use Rattle.reply_print.specs.Piece.{Piece, whole, words, truth, list, object, Pieces, no_pieces, piece, Fields, no_fields, field}
 
 -- a byte of ASCII that stands for itself in a text
 abbrev pub is_plain_byte : ℕ → Bool
@@ -30,6 +30,7 @@ abbrev mutual
   pub IsWritten : ℕ → Piece → Type 0
   IsWritten n (whole z) = is_short z ≡ true
   IsWritten n (words s) = is_plain s ≡ true
+  IsWritten n (truth b) = ⊤
   IsWritten zero (list ps) = ⊥
   IsWritten (suc n) (list ps) = AreWritten n ps
   IsWritten zero (object fs) = ⊥

@@ -5,7 +5,7 @@ ghost use Rattle.std.specs.Prelude.{true, ◌≡◌, ◌++◌, ◌∷◌, [], �
 ghost use Rattle.exact_num.specs.Fraction.{over};
 ghost use Rattle.reply_print.specs.BatchPieces.{each, fraction, natural, pieces_of, whole_words};
 ghost use Rattle.reply_print.specs.Numbers.{fraction_text};
-ghost use Rattle.reply_print.specs.Piece.{Fields, Piece, Pieces, comma_after, field, fields_text, piece, piece_text, pieces_text, whole, words};
+ghost use Rattle.reply_print.specs.Piece.{Fields, Piece, Pieces, comma_after, field, fields_text, piece, piece_text, pieces_text, truth, truth_word, whole, words};
 
 use exact_num::Exact;
 use frac::Frac128;
@@ -42,6 +42,20 @@ impl Printed for i64 {
 
     fn print(&self, line: &mut Vec<u8>) -> Result<(), AllocError> {
         append(line, Buffer::new().format(*self))
+    }
+}
+
+fn truth_text(value: bool) -> &'static str
+    ensures { result.now ≡ truth_word value }
+{
+    if value { "true" } else { "false" }
+}
+
+impl Printed for bool {
+    ghost piece = { truth };
+
+    fn print(&self, line: &mut Vec<u8>) -> Result<(), AllocError> {
+        append(line, truth_text(*self))
     }
 }
 
