@@ -1,0 +1,15 @@
+pub mod AllMarkets
+pub mod Batches
+pub mod Effects
+pub mod Enough
+pub mod InOrder
+pub mod ListsOfOne
+pub mod Markets
+pub mod OwnFills
+pub mod PartsFound
+pub mod Placing
+pub mod Promised
+pub mod Ruled
+pub mod StayingSafe
+pub mod Told
+pub mod WorkedRules
